@@ -1,0 +1,53 @@
+-- Signed words: one letter a qubit, and a sign. The product of two words is taken qubit by qubit; its power of i
+-- is the product of the qubits' powers, and -1 for each minus sign. Two words commute exactly when an even
+-- number of qubits clash. Of two commuting words the power is 1 or -1, so their product is a signed word.
+-- (Aaronson and Gottesman, Phys. Rev. A 70, 052328 (2004), section II.)
+use Rattle.std.specs.Prelude.{Bool, false, ℕ, List, [], ◌∷◌, replicate, slice_set, slice_index_or}
+use Rattle.std.specs.Bool.{xor}
+use Rattle.pauli_word.specs.declared.letter.Letter.{Letter}
+use Rattle.pauli_word.specs.declared.letter.Letter.TheVariants.{I}
+use Rattle.pauli_word.specs.Letters.{Power, one, power_product, is_minus, letter_product, letter_power, letters_clash}
+
+-- a signed word: its letters, qubit 0 first, and whether its sign is minus
+pub record Signed : Type 0 where
+  pub letters : List Letter
+  pub negative : Bool
+
+-- the letters of the product of two words
+abbrev pub letters_product : List Letter → List Letter → List Letter
+letters_product (a ∷ p) (b ∷ q) = letter_product a b ∷ letters_product p q
+letters_product p q = []
+
+-- the power of i of the product of two words, their signs left out
+abbrev pub letters_power : List Letter → List Letter → Power
+letters_power (a ∷ p) (b ∷ q) = power_product (letter_power a b) (letters_power p q)
+letters_power p q = one
+
+-- whether an odd number of places clash
+abbrev pub anticommute : List Letter → List Letter → Bool
+anticommute (a ∷ p) (b ∷ q) = xor (letters_clash a b) (anticommute p q)
+anticommute p q = false
+
+-- the product of two commuting words
+abbrev pub product : Signed → Signed → Signed
+product p q =
+    record {
+      letters = letters_product p.letters q.letters;
+      negative = xor (xor p.negative q.negative) (is_minus (letters_power p.letters q.letters));
+    }
+
+-- n letters I
+abbrev pub no_letters : ℕ → List Letter
+no_letters n = replicate n I
+
+-- the identity on n qubits, of sign plus
+abbrev pub identity_word : ℕ → Signed
+identity_word n = record { letters = no_letters n; negative = false }
+
+-- the letter of a word at a qubit
+abbrev pub letter_at : List Letter → ℕ → Letter
+letter_at p q = slice_index_or p q I
+
+-- on n qubits, this letter at qubit q and I elsewhere
+abbrev pub lone_letter : ℕ → ℕ → Letter → List Letter
+lone_letter n q a = slice_set (no_letters n) q a

@@ -1,0 +1,8 @@
+//! Signed Pauli words: letters of I, X, Y and Z with a sign, their products, and which of them commute.
+#![tactic(auto)]
+
+mod letter;
+mod word;
+
+pub use letter::Letter;
+pub use word::Word;
