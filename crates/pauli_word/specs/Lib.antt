@@ -1,2 +1,4 @@
 pub mod Letters
+pub mod Parity
+pub mod Powers
 pub mod Words

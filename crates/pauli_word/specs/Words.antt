@@ -3,7 +3,7 @@
 -- number of qubits clash. Of two commuting words the power is 1 or -1, so their product is a signed word.
 -- (Aaronson and Gottesman, Phys. Rev. A 70, 052328 (2004), section II.)
 use Rattle.std.specs.Prelude.{Bool, false, ℕ, List, [], ◌∷◌, replicate, slice_set, slice_index_or}
-use Rattle.std.specs.Bool.{xor}
+use Rattle.pauli_word.specs.Parity.{exclusive_or}
 use Rattle.pauli_word.specs.declared.letter.Letter.{Letter}
 use Rattle.pauli_word.specs.declared.letter.Letter.TheVariants.{I}
 use Rattle.pauli_word.specs.Letters.{Power, one, power_product, is_minus, letter_product, letter_power, letters_clash}
@@ -25,7 +25,7 @@ letters_power p q = one
 
 -- whether an odd number of places clash
 abbrev pub anticommute : List Letter → List Letter → Bool
-anticommute (a ∷ p) (b ∷ q) = xor (letters_clash a b) (anticommute p q)
+anticommute (a ∷ p) (b ∷ q) = exclusive_or (letters_clash a b) (anticommute p q)
 anticommute p q = false
 
 -- the product of two commuting words
@@ -33,7 +33,7 @@ abbrev pub product : Signed → Signed → Signed
 product p q =
     record {
       letters = letters_product p.letters q.letters;
-      negative = xor (xor p.negative q.negative) (is_minus (letters_power p.letters q.letters));
+      negative = exclusive_or (exclusive_or p.negative q.negative) (is_minus (letters_power p.letters q.letters));
     }
 
 -- n letters I

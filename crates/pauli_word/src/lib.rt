@@ -2,6 +2,7 @@
 #![tactic(auto)]
 
 mod letter;
+mod power;
 mod word;
 
 pub use letter::Letter;

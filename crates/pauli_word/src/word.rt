@@ -1,7 +1,9 @@
-ghost use Rattle.std.specs.Prelude.{◌≡◌, ◌<◌, length, false, slice_set, IfOk};
-ghost use Rattle.pauli_word.specs.Words.{identity_word, letter_at};
+ghost use Rattle.std.specs.Prelude.{◌≡◌, ◌<◌, length, false, slice_set, not, IfOk};
+ghost use Rattle.pauli_word.specs.Letters.{is_minus, letters_clash};
+ghost use Rattle.pauli_word.specs.Words.{identity_word, letter_at, anticommute, letters_power, letters_product, product};
 
 use crate::letter::Letter;
+use crate::power::Power;
 use std::alloc::{AllocError, Allocator};
 use std::marker::Model;
 
@@ -73,4 +75,52 @@ impl<A: Allocator + Copy> Word<A> {
     {
         self.negative = negative;
     }
+
+    /// Whether the two words commute.
+    pub fn commutes(&self, other: &Word<A>) -> bool
+        requires { length self.now.letters ≡ length other.now.letters }
+        ensures { result ≡ not (anticommute self.now.letters other.now.letters) }
+    {
+        !anticommute(self.letters.as_slice(), other.letters.as_slice())
+    }
+
+    /// Multiplies by a commuting word from the right, and answers whether the product of the letters brought
+    /// a factor -1.
+    pub fn times(&mut self, other: &Word<A>) -> bool
+        requires lengths { length self.old.letters ≡ length other.now.letters }
+        requires commuting { anticommute self.old.letters other.now.letters ≡ false }
+        ensures product { self.new ≡ product self.old other.now }
+        ensures brings_minus { result ≡ is_minus (letters_power self.old.letters other.now.letters) }
+    {
+        let minus = multiply(self.letters.as_mut_slice(), other.letters.as_slice());
+        self.negative = self.negative ^ other.negative ^ minus;
+        minus
+    }
+}
+
+// Multiplies the letters from the right, and answers whether that brings a minus sign.
+fn multiply(first: &mut [Letter], second: &[Letter]) -> bool
+    requires { length first.old ≡ length second.now }
+    ensures product { first.new ≡ letters_product first.old second.now }
+    ensures brings_minus { result ≡ is_minus (letters_power first.old second.now) }
+{
+    let mut power = Power::One;
+    for qubit in 0..second.len() {
+        let letter = first[qubit];
+        power = power.times(Power::between(letter, second[qubit]));
+        first[qubit] = letter.times(second[qubit]);
+    }
+    power.is_minus()
+}
+
+// Whether an odd number of places clash.
+fn anticommute(first: &[Letter], second: &[Letter]) -> bool
+    requires { length first.now ≡ length second.now }
+    ensures { result ≡ anticommute first.now second.now }
+{
+    let mut odd = false;
+    for qubit in 0..first.len() {
+        odd ^= first[qubit].clashes(second[qubit]);
+    }
+    odd
 }

@@ -1,0 +1,5 @@
+pub mod Parities
+pub mod PowerLaws
+pub mod LetterLaws
+pub mod WordLaws
+pub mod SignedLaws
