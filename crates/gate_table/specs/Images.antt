@@ -15,23 +15,25 @@ abbrev pub sign_power : Bool → Power
 sign_power false = one
 sign_power true = minus_one
 
--- the product of two signed letters, times a power of i: it is a signed letter only where the powers come to 1 or -1
-abbrev pub signed_product : Power → SignedLetter → SignedLetter → SignedLetter
-signed_product p a b = (
-  letter_product a.0 b.0,
-  is_minus (power_product p (power_product (power_product (sign_power a.1) (sign_power b.1)) (letter_power a.0 b.0))),
-)
+-- the product of two signs, as a power of i
+abbrev pub signs_power : Bool → Bool → Power
+signs_power a b = power_product (sign_power a) (sign_power b)
 
--- the same for signed pairs
+-- the product of two signed letters, times a power of i: where all powers come to 1 or -1, a signed letter
+abbrev pub signed_product : Power → SignedLetter → SignedLetter → SignedLetter
+signed_product p a b =
+    let power = power_product p (power_product (signs_power a.1 b.1) (letter_power a.0 b.0))
+    in (letter_product a.0 b.0, is_minus power)
+
+-- the power of i of the product of two pairs of letters
+abbrev pub pair_power : Letter → Letter → Letter → Letter → Power
+pair_power a b c d = power_product (letter_power a c) (letter_power b d)
+
+-- the product of two signed pairs, times a power of i
 abbrev pub signed_pair_product : Power → SignedPair → SignedPair → SignedPair
-signed_pair_product p a b = (
-  letter_product a.0 b.0,
-  letter_product a.1 b.1,
-  is_minus
-      (power_product p
-      (power_product (power_product (sign_power a.2) (sign_power b.2))
-      (power_product (letter_power a.0 b.0) (letter_power a.1 b.1)))),
-)
+signed_pair_product p a b =
+    let power = power_product p (power_product (signs_power a.2 b.2) (pair_power a.0 a.1 b.0 b.1))
+    in (letter_product a.0 b.0, letter_product a.1 b.1, is_minus power)
 
 -- the image of a letter, from those of X and Z
 abbrev pub letter_image : SignedLetter → SignedLetter → Letter → SignedLetter

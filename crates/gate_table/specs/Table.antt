@@ -29,7 +29,7 @@ pub data Row : Type 0 where
   two_qubit : SignedPair → SignedPair → SignedPair → SignedPair → Gate → Row
 
 abbrev pub row_of : Gate → Row
---                                   image of X  image of Z  inverse
+-- the images of X and Z, and the inverse
 row_of gate.I = one_qubit (X, plus) (Z, plus) gate.I
 row_of gate.X = one_qubit (X, plus) (Z, minus) gate.X
 row_of gate.Y = one_qubit (X, minus) (Z, minus) gate.Y
@@ -45,7 +45,7 @@ row_of gate.SqrtY = one_qubit (Z, minus) (X, plus) gate.SqrtYDag
 row_of gate.SqrtYDag = one_qubit (Z, plus) (X, minus) gate.SqrtY
 row_of gate.CXYZ = one_qubit (Y, plus) (X, plus) gate.CZYX
 row_of gate.CZYX = one_qubit (Z, plus) (Y, plus) gate.CXYZ
---                                   first  second
+-- the letter on the first qubit, and on the second
 row_of gate.CX = controlled Z X
 row_of gate.CY = controlled Z Y
 row_of gate.CZ = controlled Z Z
@@ -55,7 +55,7 @@ row_of gate.XCZ = controlled X Z
 row_of gate.YCX = controlled Y X
 row_of gate.YCY = controlled Y Y
 row_of gate.YCZ = controlled Y Z
---                                   image of X I   image of Z I   image of I X   image of I Z   inverse
+-- the images of X I, Z I, I X and I Z, and the inverse
 row_of gate.Swap = two_qubit (I, X, plus) (I, Z, plus) (X, I, plus) (Z, I, plus) gate.Swap
 row_of gate.ISwap = two_qubit (Z, Y, plus) (I, Z, plus) (Y, Z, plus) (Z, I, plus) gate.ISwapDag
 row_of gate.ISwapDag = two_qubit (Z, Y, minus) (I, Z, plus) (Y, Z, minus) (Z, I, plus) gate.ISwap

@@ -2,5 +2,7 @@
 #![tactic(auto)]
 
 mod gate;
+mod names;
+mod table;
 
 pub use gate::Gate;
