@@ -1,0 +1,9 @@
+pub mod ErrorModels
+pub mod Frames
+pub mod Images
+pub mod Listing
+pub mod Probabilities
+pub mod Runs
+pub mod Sensitivities
+pub mod Targets
+pub mod WellFormed

@@ -1,0 +1,6 @@
+//! What a circuit does, as definitions: programs of steps, their runs, and what a fault changes in them.
+#![tactic(auto)]
+
+mod step;
+
+pub use step::{Place, Step, Term};
