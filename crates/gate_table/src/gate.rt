@@ -1,3 +1,6 @@
+ghost use Rattle.std.specs.Prelude.{◌≡◌};
+ghost use Rattle.gate_table.specs.Names.{named_in_rows};
+
 use pauli_word::Letter;
 
 use crate::names::NAMES;
@@ -42,7 +45,6 @@ pub enum Gate {
 }
 
 impl Gate {
-    ghost use Rattle.std.specs.Prelude.{◌≡◌};
     ghost use Rattle.gate_table.specs.Images.{arity_of, image1, image2, inverse_of};
     ghost use Rattle.gate_table.specs.Names.{gate_named};
 
@@ -50,10 +52,7 @@ impl Gate {
     pub fn named(name: &[u8]) -> Option<Gate>
         ensures { result ≡ gate_named name.now }
     {
-        NAMES
-            .iter()
-            .find(|entry| entry.0.eq_ignore_ascii_case(name))
-            .map(|entry| entry.1)
+        look_up(&NAMES, name)
     }
 
     /// How many qubits the gate acts on, 1 or 2.
@@ -103,4 +102,14 @@ impl Gate {
             own_inverse => own_inverse,
         }
     }
+}
+
+/// The gate of the first row whose name is the text, in any case.
+#[tactic(auto, unfolding(crate::specs::Names::named_in_rows))]
+fn look_up(rows: &[(&[u8], Gate)], text: &[u8]) -> Option<Gate>
+    ensures { result ≡ named_in_rows rows.now text.now }
+{
+    rows.iter()
+        .find(|row| row.0.eq_ignore_ascii_case(text))
+        .map(|row| row.1)
 }
