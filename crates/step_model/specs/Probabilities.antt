@@ -4,7 +4,8 @@
 -- trailing zeros and its other digits make a number S, and the value is S * 10^(e - f + t). A text is accepted where S
 -- has at most 18 digits, the power of ten is at least -38 and the value is at most 1. All is in whole numbers: the
 -- bound of a probability is floor of its value times 2^64.
-use Rattle.std.specs.Prelude.{ℕ, ◌+◌, ◌-◌, ◌*◌, ◌/◌, ◌^◌, ◌==◌, nat_le, Bool, true, false, ◌&&◌, ◌||◌, if◌then◌else◌, List, [], ◌∷◌, ◌++◌, length, drop, reverse, fold, take_while, is_ascii_digit, Option, None, Some, option_and_then}
+use Rattle.std.specs.Prelude.{ℕ, ◌+◌, ◌-◌, ◌*◌, ◌/◌, ◌^◌, ◌==◌, nat_le, Bool, true, false, ◌&&◌, ◌||◌, if◌then◌else◌, List, [], ◌∷◌, ◌++◌, length, drop, reverse, fold, take_while, Option, None, Some, option_and_then}
+use Rattle.std.specs.Char.{is_ascii_digit}
 use Rattle.std.specs.List.{list_all}
 
 -- a number text taken apart: the digits before the exponent without the point, how many of them stand after the point,
