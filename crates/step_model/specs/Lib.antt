@@ -2,8 +2,10 @@ pub mod ErrorModels
 pub mod Frames
 pub mod Images
 pub mod Listing
+pub mod Made
 pub mod Probabilities
 pub mod Runs
 pub mod Sensitivities
+pub mod States
 pub mod Targets
 pub mod WellFormed

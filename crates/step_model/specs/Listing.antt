@@ -1,6 +1,6 @@
 -- A program, as a list of steps with what they name: the unrolled circuit. Faults, collapses and records are
 -- numbered from 0 in the order of the steps.
-use Rattle.std.specs.Prelude.{ℕ, ℤ, List, [], ◌∷◌, Bool, false, slice_index_or}
+use Rattle.std.specs.Prelude.{ℕ, ℤ, List, [], ◌∷◌, Option, None, Some, slice_index_or}
 use Rattle.step_model.specs.declared.step.Step.{Step}
 use Rattle.step_model.specs.declared.step.Term.{Term}
 use Rattle.pauli_word.specs.declared.letter.Letter.{Letter}
@@ -42,5 +42,16 @@ effect_word n (Flips r) = no_letters n
 abbrev pub no_effect : ListedFault
 no_effect = record { text = []; bound = 0; effect = Applies [] }
 
+abbrev pub fault_at : Listing → ℕ → ListedFault
+fault_at program f = slice_index_or program.faults f no_effect
+
+abbrev pub effect_at : Listing → ℕ → Effect
+effect_at program f = (fault_at program f).effect
+
 abbrev pub fault_word : Listing → ℕ → List Letter
-fault_word program f = effect_word program.qubits (slice_index_or program.faults f no_effect).effect
+fault_word program f = effect_word program.qubits (effect_at program f)
+
+-- the record that a fault flips
+abbrev pub flipped_record : Effect → Option ℕ
+flipped_record (Applies terms) = None
+flipped_record (Flips r) = Some r

@@ -1,7 +1,7 @@
 -- What a program's type keeps: all that its steps name is there, gates have the step's number of qubits, the two
 -- qubits of a gate differ, no collapse is of I; collapses, records and faults are numbered from 0 in the order of the
 -- steps, each once; each probability text is accepted and has its bound; and the targets are within the limits.
-use Rattle.std.specs.Prelude.{⊤, ◌≡◌, ◌≤◌, ◌<◌, ◌==◌, ◌^◌, nat_lt, ℕ, ℤ, nat_abs, Bool, true, false, not, ◌&&◌, List, [], ◌∷◌, ◌++◌, length, All, Option, None, Some, slice_index_or}
+use Rattle.std.specs.Prelude.{⊤, ◌≡◌, ◌≤◌, ◌<◌, ◌==◌, ◌^◌, nat_lt, ℕ, ℤ, nat_abs, Bool, true, false, not, ◌&&◌, List, [], ◌∷◌, ◌++◌, length, All, Option, None, Some}
 use Rattle.std.specs.List.{list_all, range_with_len, AllPass}
 use Rattle.std.specs.Option.{option_to_list}
 use Rattle.gate_table.specs.declared.gate.Gate.{Gate}
@@ -10,7 +10,7 @@ use Rattle.pauli_word.specs.declared.letter.Letter.{Letter}
 use Rattle.pauli_word.specs.declared.letter.Letter.TheVariants.{I, X, Y, Z}
 use Rattle.step_model.specs.declared.step.Step.{Step}
 use Rattle.step_model.specs.declared.step.Step.TheVariants.{One, Two, Collapse, Fault}
-use Rattle.step_model.specs.Listing.{Listing, ListedFault, Effect, Applies, Flips, no_effect}
+use Rattle.step_model.specs.Listing.{Listing, ListedFault, Effect, Applies, Flips, effect_at}
 use Rattle.step_model.specs.Probabilities.{probability_bound}
 use Rattle.step_model.specs.Sensitivities.{collapse_count}
 
@@ -28,9 +28,6 @@ applies_word (Flips r) = false
 abbrev pub flips_record : ℕ → Effect → Bool
 flips_record r (Applies terms) = false
 flips_record r (Flips s) = r == s
-
-abbrev pub effect_at : Listing → ℕ → Effect
-effect_at program f = (slice_index_or program.faults f no_effect).effect
 
 -- a recorded flip belongs to a collapse with a record, and its fault flips that record
 abbrev pub flip_fits : Listing → Option ℕ → Option ℕ → Bool

@@ -5,9 +5,16 @@ use pauli_word::Letter;
 #[derive(Clone, Copy, Debug, PartialEq, Eq)]
 pub enum Step {
     /// A gate of one qubit.
-    One { gate: Gate, q: u32 },
+    One {
+        gate: Gate,
+        q: u32,
+    },
     /// A gate of two different qubits, the first `a`.
-    Two { gate: Gate, a: u32, b: u32 },
+    Two {
+        gate: Gate,
+        a: u32,
+        b: u32,
+    },
     /// Measures a letter of a qubit: its outcome goes into the record `rec`, if there is one, inverted where
     /// `inverted` and where the fault `flip` happens. Where `reset`, an outcome of 1 is then corrected.
     Collapse {
