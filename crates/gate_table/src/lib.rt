@@ -2,6 +2,7 @@
 #![tactic(auto)]
 
 mod gate;
+pub mod laws;
 mod names;
 mod table;
 
