@@ -7,7 +7,7 @@ use Rattle.gate_table.specs.declared.gate.Gate.{Gate}
 use Rattle.gate_table.specs.declared.gate.Gate.TheVariants as gate
 use Rattle.gate_table.specs.Images.{image1, image2}
 use Rattle.gate_table.specs.Laws.{KeepsClash, KeepsPairClash}
-use Rattle.gate_table.proofs.Tests.{each_two, each_four, at_two, at_four, same_test, same_test-≡}
+use Rattle.gate_table.proofs.EachLetter.{each_two, each_four, at_two, at_four, same_test, same_test-≡}
 
 abbrev keeps_clash : Gate → Letter → Letter → Bool
 keeps_clash g a b = same_test (letters_clash (image1 g a).0 (image1 g b).0) (letters_clash a b)

@@ -6,7 +6,7 @@ use Rattle.gate_table.specs.declared.gate.Gate.{Gate}
 use Rattle.gate_table.specs.declared.gate.Gate.TheVariants as gate
 use Rattle.gate_table.specs.Images.{arity_of, image1, image2, inverse_of}
 use Rattle.gate_table.specs.Laws.{Undoes, UndoesPair, IsUndoneByInverse}
-use Rattle.gate_table.proofs.Tests.{each_letter, each_two, at_letter, at_two, same_letter, same_test, same_letter-≡, same_test-≡, first, second}
+use Rattle.gate_table.proofs.EachLetter.{each_letter, each_two, at_letter, at_two, same_letter, same_test, same_letter-≡, same_test-≡, first, second}
 
 -- the laws as tests, for the images x under the first gate and y of x under the second
 abbrev is_undone : Letter → Letter × Bool → Letter × Bool → Bool

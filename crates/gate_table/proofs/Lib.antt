@@ -1,5 +1,5 @@
 pub mod Search
-pub mod Tests
+pub mod EachLetter
 pub mod Products
 pub mod Clashes
 pub mod Inverses

@@ -7,7 +7,7 @@ use Rattle.gate_table.specs.declared.gate.Gate.{Gate}
 use Rattle.gate_table.specs.declared.gate.Gate.TheVariants as gate
 use Rattle.gate_table.specs.Images.{image1, image2, sign_power, pair_power}
 use Rattle.gate_table.specs.Laws.{KeepsProduct, KeepsPairProduct}
-use Rattle.gate_table.proofs.Tests.{each_two, each_four, at_two, at_four, same_letter, same_power, same_letter-≡, same_power-≡, first, second}
+use Rattle.gate_table.proofs.EachLetter.{each_two, each_four, at_two, at_four, same_letter, same_power, same_letter-≡, same_power-≡, first, second}
 
 -- the law as a test, for given images of the product and of the factors
 abbrev is_product : Letter → Letter → Letter × Bool → Letter × Bool → Letter × Bool → Bool

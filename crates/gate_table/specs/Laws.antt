@@ -12,16 +12,16 @@ use Rattle.gate_table.specs.Images.{arity_of, image1, image2, inverse_of, sign_p
 pub record KeepsProduct (g : Gate) (a b : Letter) : Type 0 where
   pub letter : (image1 g (letter_product a b)).0 ≡ letter_product (image1 g a).0 (image1 g b).0
   pub power :
-    power_product (letter_power a b) (sign_power (image1 g (letter_product a b)).1)
-    ≡ power_product (sign_power (xor (image1 g a).1 (image1 g b).1)) (letter_power (image1 g a).0 (image1 g b).0)
+      power_product (letter_power a b) (sign_power (image1 g (letter_product a b)).1)
+      ≡ power_product (sign_power (xor (image1 g a).1 (image1 g b).1)) (letter_power (image1 g a).0 (image1 g b).0)
 
 -- the same for two pairs, a b and c d
 pub record KeepsPairProduct (g : Gate) (a b c d : Letter) : Type 0 where
   pub first : (image2 g (letter_product a c) (letter_product b d)).0 ≡ letter_product (image2 g a b).0 (image2 g c d).0
   pub second : (image2 g (letter_product a c) (letter_product b d)).1 ≡ letter_product (image2 g a b).1 (image2 g c d).1
   pub power :
-    power_product (pair_power a b c d) (sign_power (image2 g (letter_product a c) (letter_product b d)).2)
-    ≡ power_product (sign_power (xor (image2 g a b).2 (image2 g c d).2))
+      power_product (pair_power a b c d) (sign_power (image2 g (letter_product a c) (letter_product b d)).2)
+      ≡ power_product (sign_power (xor (image2 g a b).2 (image2 g c d).2))
       (pair_power (image2 g a b).0 (image2 g a b).1 (image2 g c d).0 (image2 g c d).1)
 
 -- the images of two letters clash exactly where the letters do

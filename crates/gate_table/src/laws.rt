@@ -10,26 +10,22 @@ ghost use Rattle.gate_table.specs.Laws.{KeepsProduct, KeepsPairProduct, KeepsCla
 pub fn images_keep_products()
     ensures letters { (g : Gate) (a b : Letter) → KeepsProduct g a b }
     ensures pairs { (g : Gate) (a b c d : Letter) → KeepsPairProduct g a b c d }
-{
-}
+{}
 
 /// The images of two letters, or of two pairs, anticommute exactly where the two do.
 pub fn images_keep_clashes()
     ensures letters { (g : Gate) (a b : Letter) → KeepsClash g a b }
     ensures pairs { (g : Gate) (a b c d : Letter) → KeepsPairClash g a b c d }
-{
-}
+{}
 
 /// A gate after its inverse, and before it, leaves every letter and every pair as it is, sign and all. The
 /// inverse acts on as many qubits, and its inverse is the gate.
 pub fn inverses_undo()
     ensures { (g : Gate) → IsUndoneByInverse g }
-{
-}
+{}
 
 /// The image of I is I, of sign plus, and so for the pair of two I.
 pub fn images_keep_identity()
     ensures letter { (g : Gate) → image1 g I ≡ (I, false) }
     ensures pair { (g : Gate) → image2 g I I ≡ (I, I, false) }
-{
-}
+{}
