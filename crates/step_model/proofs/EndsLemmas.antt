@@ -1,7 +1,8 @@
 -- One call of a byte end after another.
-use Rattle.std.proofs.Common.{◌≡◌, ℕ, ◌+◌, ◌-◌, ◌<◌, ◌^◌, ◌↔◌, List, [], ◌∷◌, ◌++◌, length, take, drop, Option, Some, None, IfSome, refl, sym, ap, ◌∙◌, append_assoc, append-nil, true, cond, ltb, arith}
+use Rattle.std.proofs.Common.{◌≡◌, ℕ, ◌+◌, ◌-◌, ◌<◌, ◌≤◌, ◌^◌, List, [], ◌++◌, length, take, drop, Option, Some, None, IfSome, refl, sym, ap, ◌∙◌, append_assoc, append-nil, arith}
 use Rattle.std.proofs.lemmas.Bool.Decides.{nat_tests}
 use Rattle.std.proofs.lemmas.Grind.{common_steps}
+use Rattle.std.proofs.lemmas.Option.{none-some, same_Some}
 use Rattle.std.proofs.Math.Seq.{take-add}
 use Rattle.step_model.specs.Ends.{HandsOut, HandsOutSome, IsAtEnd, Takes, next_count}
 
@@ -23,6 +24,15 @@ HandsOut-kept a b c xs p q = (xs, rw q p)
 pub HandsOut-end : (a b : Option (List ℕ)) → HandsOut a b [] → IfSome a (λ bytes. bytes ≡ []) → IsAtEnd b
 HandsOut-end a None p e = tt
 HandsOut-end a (Some z) p e = rw p at e
+
+-- what a source that tells handed out: the first of its bytes, and the others are left
+pub HandsOut-told : (bs : List ℕ) (new : Option (List ℕ)) (buffer : List ℕ) (n : ℕ) → n ≤ length buffer
+    → HandsOut (Some bs) new (take n buffer) → (n ≤ length bs) × (take n buffer ≡ take n bs) × (new ≡ Some (drop n bs))
+HandsOut-told bs None buffer n within p = absurd (none-some _ (sym p))
+HandsOut-told bs (Some rest) buffer n within p =
+    let all = same_Some _ _ p in
+    let count : length (take n buffer) ≡ n = grind (arith, common_steps) in
+    (grind (arith, common_steps), grind (arith, common_steps), ap Some (grind (arith, common_steps)))
 
 -- nothing was taken yet
 pub Takes-nil : (a : Option (List ℕ)) → Takes a a []
