@@ -48,11 +48,10 @@ impl<T: Copy, A: Allocator + Copy> FlatLists<T, A> {
     }
 
     /// Whether there are no lists. One empty list is a list.
-    #[tactic(auto, using(crate::proofs::CutLemmas::counts))]
     pub fn is_empty(&self) -> bool
         ensures { result ≡ (length self.now == 0) }
     {
-        self.ends.is_empty()
+        self.len() == 0
     }
 
     /// Appends a copy of the list. It may fail only where memory runs out.
