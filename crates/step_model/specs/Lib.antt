@@ -8,6 +8,7 @@ pub mod Made
 pub mod Probabilities
 pub mod Runs
 pub mod Sensitivities
+pub mod Shifts
 pub mod States
 pub mod Targets
 pub mod WellFormed

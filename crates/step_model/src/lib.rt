@@ -6,10 +6,12 @@ mod ends;
 mod fault;
 mod memory;
 mod program;
+mod shift;
 mod step;
 
 pub use ends::{Sink, Source, read_all, write_all};
 pub use fault::{Cause, Fault};
 pub use memory::{MemorySink, MemorySource};
 pub use program::{FaultPart, Parts, Program};
+pub use shift::{frames_shift_runs, pair_disagrees, place_makes_random};
 pub use step::{Place, Step, Term};
