@@ -5,3 +5,5 @@ pub mod BorrowedForShift
 pub mod ShiftLists
 pub mod ShiftWords
 pub mod ShiftCollapse
+pub mod ShiftSteps
+pub mod ShiftRuns

@@ -1,5 +1,6 @@
 -- Lists of truth values changed by flips, and the parities of records that are changed by flips.
 use Rattle.std.proofs.Common.{◌≡◌, ℕ, zero, suc, ◌==◌, ◌&&◌, Bool, true, false, List, [], ◌∷◌, ◌++◌, length, get_or, drop, replicate, refl, ap, ap₂, sym, ◌∙◌, arith}
+use Rattle.std.proofs.Math.Dec.{eqb-suc-zero, eqb-zero-suc, eqb-suc-suc}
 use Rattle.pauli_word.specs.Parity.{exclusive_or}
 use Rattle.pauli_word.proofs.Parities.{exclusive_or-false, exclusive_or_middle}
 use Rattle.step_model.specs.Shifts.{joined}
@@ -54,9 +55,11 @@ parity-zeros (r ∷ named) n = ap₂ exclusive_or (get_or-zeros n r) (parity-zer
 
 get_or-split : (n r : ℕ) (b : Bool) (rest : List Bool) → get_or (replicate n false ++ b ∷ rest) r false ≡ exclusive_or ((r == n) && b) (get_or (replicate (suc n) false ++ rest) r false)
 get_or-split zero zero b rest = sym (exclusive_or-false b)
-get_or-split zero (suc r) b rest = refl
-get_or-split (suc n) zero b rest = refl
-get_or-split (suc n) (suc r) b rest = get_or-split n r b rest
+get_or-split zero (suc r) b rest = ap (λ e. exclusive_or (e && b) (get_or rest r false)) (sym (eqb-suc-zero r))
+get_or-split (suc n) zero b rest = ap (λ e. exclusive_or (e && b) false) (sym (eqb-zero-suc n))
+get_or-split (suc n) (suc r) b rest =
+    get_or-split n r b rest
+    ∙ ap (λ e. exclusive_or (e && b) (get_or (replicate (suc n) false ++ rest) r false)) (sym (eqb-suc-suc r n))
 
 and-exclusive_or : (c d b : Bool) → exclusive_or (c && b) (d && b) ≡ exclusive_or c d && b
 and-exclusive_or false d b = refl
