@@ -7,3 +7,8 @@ pub mod ShiftWords
 pub mod ShiftCollapse
 pub mod ShiftSteps
 pub mod ShiftRuns
+pub mod PairParity
+pub mod PairStates
+pub mod PairPlaces
+pub mod PairRuns
+pub mod PairLaws

@@ -48,13 +48,13 @@ frames_shift_runs program these those (step ∷ steps) v earlier m m' fit differ
         (append_assoc earlier now (record_flips program these those w steps)) shift.ends;
     }
 
-same-carried : (program : Listing) (faults : List Bool) (v : List Letter) (step : Step) → carried_with program faults faults step v ≡ carried step v
+pub same-carried : (program : Listing) (faults : List Bool) (v : List Letter) (step : Step) → carried_with program faults faults step v ≡ carried step v
 same-carried program faults v (One gate q) = refl
 same-carried program faults v (Two gate a b) = refl
 same-carried program faults v (Collapse letter q rec reset inverted flip) = refl
 same-carried program faults v (Fault f) = ap (λ b. multiplied b (fault_word program f) v) (exclusive_or_self (happens faults f))
 
-same-flips : (program : Listing) (faults : List Bool) (v : List Letter) (steps : List Step) → flips_with program faults faults v steps ≡ flips_from program.qubits v steps
+pub same-flips : (program : Listing) (faults : List Bool) (v : List Letter) (steps : List Step) → flips_with program faults faults v steps ≡ flips_from program.qubits v steps
 same-flips program faults v [] = refl
 same-flips program faults v (step ∷ steps) =
     ap (λ flips. flip_at program.qubits v step ++ flips)
