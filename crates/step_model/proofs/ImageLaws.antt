@@ -21,7 +21,7 @@ use Rattle.step_model.specs.Images.{image_at, image_at_two, preimage_at, preimag
 use Rattle.step_model.specs.Runs.{signed, changed}
 
 -- the sign that a real factor brings
-is_minus-sign_power : (s : Bool) (p : Power) → is_minus (power_product (sign_power s) p) ≡ exclusive_or s (is_minus p)
+pub is_minus-sign_power : (s : Bool) (p : Power) → is_minus (power_product (sign_power s) p) ≡ exclusive_or s (is_minus p)
 is_minus-sign_power false p = refl
 is_minus-sign_power true one = refl
 is_minus-sign_power true i = refl
@@ -29,7 +29,7 @@ is_minus-sign_power true minus_one = refl
 is_minus-sign_power true minus_i = refl
 
 -- where u and v differ by signs, so do their products with another power
-minus_moved : (u v rest : Power) (s t : Bool) → power_product u (sign_power s) ≡ power_product (sign_power t) v → exclusive_or (is_minus (power_product u rest)) s ≡ exclusive_or t (is_minus (power_product v rest))
+pub minus_moved : (u v rest : Power) (s t : Bool) → power_product u (sign_power s) ≡ power_product (sign_power t) v → exclusive_or (is_minus (power_product u rest)) s ≡ exclusive_or t (is_minus (power_product v rest))
 minus_moved u v rest s t h =
     exclusive_or_comm (is_minus (power_product u rest)) s
     ∙ sym (is_minus-sign_power s (power_product u rest))
@@ -39,7 +39,7 @@ minus_moved u v rest s t h =
        ∙ power_product_assoc (sign_power t) v rest)
     ∙ is_minus-sign_power t (power_product v rest)
 
-signs_regrouped : (p r m s t u n : Bool) → exclusive_or m s ≡ exclusive_or (exclusive_or t u) n → exclusive_or (exclusive_or (exclusive_or p r) m) s ≡ exclusive_or (exclusive_or (exclusive_or p t) (exclusive_or r u)) n
+pub signs_regrouped : (p r m s t u n : Bool) → exclusive_or m s ≡ exclusive_or (exclusive_or t u) n → exclusive_or (exclusive_or (exclusive_or p r) m) s ≡ exclusive_or (exclusive_or (exclusive_or p t) (exclusive_or r u)) n
 signs_regrouped p r m s t u n h =
     exclusive_or_assoc (exclusive_or p r) m s
     ∙ ap (exclusive_or (exclusive_or p r)) h
@@ -52,7 +52,7 @@ letter_at-none zero q = refl
 letter_at-none (suc n) zero = refl
 letter_at-none (suc n) (suc q) = letter_at-none n q
 
-none_set : (n q : ℕ) (a : Letter) → a ≡ I → set (no_letters n) q a ≡ no_letters n
+pub none_set : (n q : ℕ) (a : Letter) → a ≡ I → set (no_letters n) q a ≡ no_letters n
 none_set n q a h = ap (set (no_letters n) q) (h ∙ sym (letter_at-none n q)) ∙ set-get_or (no_letters n) q I
 
 -- one qubit
