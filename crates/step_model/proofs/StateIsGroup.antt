@@ -1,10 +1,11 @@
 -- The words of the state of a run form a commutative group without minus the identity, after every step: a map of words
 -- that keeps length, products, what anticommutes and the identity carries it over gates and applied words, and a
 -- collapse keeps it, random or not. (IsGroup.)
-use Rattle.std.proofs.Common.{◌≡◌, ◌≢◌, ◌<◌, ◌⊎◌, inl, inr, ℕ, zero, suc, Bool, true, false, not, ◌&&◌, ◌||◌, cond, List, [], ◌∷◌, length, replicate, refl, ap, ap₂, sym, subst, ◌∙◌, arith, eqb, ltb, Option, None, Some, length-set}
+use Rattle.std.proofs.Common.{◌≡◌, ◌≢◌, ◌<◌, ◌⊎◌, inl, inr, ℕ, zero, suc, Bool, true, false, not, ◌&&◌, ◌||◌, cond, List, [], ◌∷◌, length, replicate, refl, ap, ap₂, sym, subst, ◌∙◌, arith, eqb, ltb, Option, None, Some, length-set, take}
 use Rattle.std.proofs.lemmas.List.{length-replicate}
 use Rattle.std.proofs.lemmas.Bool.{and_parts, and_from, or_cases, or_left, or_right, or_parts, not-true, not_from_false, ltb-true, eqb-true, eqb-false, cases_Bool}
-use Rattle.std.specs.List.{list_all}
+use Rattle.std.specs.List.{list_all, AllPass}
+use Rattle.std.proofs.lemmas.List.Elements.{recursion_from_All, All-from_recursion}
 use Rattle.gate_table.specs.declared.gate.Gate.{Gate}
 use Rattle.gate_table.specs.Images.{arity_of, inverse_of}
 use Rattle.pauli_word.specs.declared.letter.Letter.{Letter}
@@ -22,9 +23,9 @@ use Rattle.step_model.specs.declared.step.Step.{Step}
 use Rattle.step_model.specs.declared.step.Step.TheVariants.{One, Two, Collapse, Fault}
 use Rattle.step_model.specs.Images.{preimage_at, preimage_at_two}
 use Rattle.step_model.specs.Listing.{Listing, fault_word}
-use Rattle.step_model.specs.Runs.{State, Moment, signed, changed, is_I_or_Z, start_state, applied, is_decided, collapsed, correcting, outcome, next_coin, happens, next, run_from}
+use Rattle.step_model.specs.Runs.{State, Moment, signed, changed, is_I_or_Z, start_state, applied, is_decided, collapsed, correcting, outcome, next_coin, happens, next, run_from, start, moment_after}
 use Rattle.step_model.specs.States.{IsMember, IsGroup}
-use Rattle.step_model.specs.WellFormed.{step_fits}
+use Rattle.step_model.specs.WellFormed.{IsWellFormed, step_fits}
 
 -- a map of words that keeps what makes a group
 pub record KeepsWords (n : ℕ) (f : Signed → Signed) : Type 0 where
@@ -367,3 +368,23 @@ IsGroup-run_from program faults [] m fits group = group
 IsGroup-run_from program faults (step ∷ steps) m fits group =
     let parts = and_parts (step_fits program step) (list_all (step_fits program) steps) fits in
     IsGroup-run_from program faults steps (next program faults step m) parts.1 (IsGroup-next program faults step m parts.0 group)
+
+-- a test that passes at each element passes at each of the first k
+list_all-take : {X : Type 0} (test : X → Bool) (k : ℕ) (xs : List X) → list_all test xs ≡ true → list_all test (take k xs) ≡ true
+list_all-take test zero xs h = refl
+list_all-take test (suc k) [] h = refl
+list_all-take test (suc k) (x ∷ xs) h =
+    let parts = and_parts (test x) (list_all test xs) h in
+    and_from (test x) (list_all test (take k xs)) parts.0 (list_all-take test k xs parts.1)
+
+pub list_all-pass : {X : Type 0} (test : X → Bool) (xs : List X) → AllPass test xs → list_all test xs ≡ true
+list_all-pass test [] h = refl
+list_all-pass test (x ∷ xs) h =
+    let parts = recursion_from_All (λ y. test y ≡ true) (x ∷ xs) h in
+    and_from (test x) (list_all test xs) parts.0 (list_all-pass test xs (All-from_recursion (λ y. test y ≡ true) xs parts.1))
+
+pub IsGroup-moment_after : (program : Listing) (faults coins : List Bool) (k : ℕ) → IsWellFormed program → IsGroup program.qubits (moment_after program faults coins k).state
+IsGroup-moment_after program faults coins k well =
+    IsGroup-run_from program faults (take k program.steps) (start coins)
+    (list_all-take (step_fits program) k program.steps (list_all-pass (step_fits program) program.steps well.steps_fit))
+    (IsGroup-start program.qubits)

@@ -4,6 +4,7 @@
 
 mod ends;
 mod fault;
+pub mod laws;
 mod memory;
 mod program;
 mod step;
