@@ -4,32 +4,34 @@ use Rattle.std.specs.Prelude.{slice_range}
 use Rattle.std.proofs.lemmas.List.{drop_at, drop-append-le, take-append-le, take_all, length-drop, get_or_read}
 use Rattle.flat_lists.specs.Cuts.{cut, AreEnds}
 
+-- as many pieces as ends
 pub length-cut : {X : Type 0} → (start : ℕ) (ends : List ℕ) (items : List X) → length (cut start ends items) ≡ length ends
 length-cut start [] items = refl
 length-cut start (end ∷ ends) items = ap suc (length-cut end ends items)
 
 -- the piece at an index
-pub slice_get-cut : {X : Type 0} → (start : ℕ) (ends : List ℕ) (items : List X) (k : ℕ) → k < length ends → slice_get (cut start ends items) k ≡ Some (slice_range items (get_or (start ∷ ends) k 0) (get_or ends k 0))
+slice_get-cut : {X : Type 0} → (start : ℕ) (ends : List ℕ) (items : List X) (k : ℕ) → k < length ends → slice_get (cut start ends items) k ≡ Some (slice_range items (get_or (start ∷ ends) k 0) (get_or ends k 0))
 slice_get-cut start [] items k h = absurd (omega arith)
 slice_get-cut start (end ∷ ends) items zero h = refl
 slice_get-cut start (end ∷ ends) items (suc k) h = slice_get-cut end ends items k (omega arith)
 
-pub get_or-cut : {X : Type 0} → (start : ℕ) (ends : List ℕ) (items : List X) (k : ℕ) → k < length ends → get_or (cut start ends items) k [] ≡ slice_range items (get_or (start ∷ ends) k 0) (get_or ends k 0)
+get_or-cut : {X : Type 0} → (start : ℕ) (ends : List ℕ) (items : List X) (k : ℕ) → k < length ends → get_or (cut start ends items) k [] ≡ slice_range items (get_or (start ∷ ends) k 0) (get_or ends k 0)
 get_or-cut start [] items k h = absurd (omega arith)
 get_or-cut start (end ∷ ends) items zero h = refl
 get_or-cut start (end ∷ ends) items (suc k) h = get_or-cut end ends items k (omega arith)
 
 -- no end is past the count
-pub start_le_count : (start : ℕ) (ends : List ℕ) (count : ℕ) → AreEnds start ends count → start ≤ count
+start_le_count : (start : ℕ) (ends : List ℕ) (count : ℕ) → AreEnds start ends count → start ≤ count
 start_le_count start [] count h = omega arith
 start_le_count start (end ∷ ends) count h = omega (arith, start_le_count end ends count h.1)
 
 -- each piece is a part of the list
-pub piece_in_range : (start : ℕ) (ends : List ℕ) (count k : ℕ) → AreEnds start ends count → k < length ends → (get_or (start ∷ ends) k 0 ≤ get_or ends k 0) × (get_or ends k 0 ≤ count)
+piece_in_range : (start : ℕ) (ends : List ℕ) (count k : ℕ) → AreEnds start ends count → k < length ends → (get_or (start ∷ ends) k 0 ≤ get_or ends k 0) × (get_or ends k 0 ≤ count)
 piece_in_range start [] count k h below = absurd (omega arith)
 piece_in_range start (end ∷ ends) count zero h below = (h.0, start_le_count end ends count h.1)
 piece_in_range start (end ∷ ends) count (suc k) h below = piece_in_range end ends count k h.1 (omega arith)
 
+-- one more end, which is the new count
 pub AreEnds-push : (start : ℕ) (ends : List ℕ) (count end total : ℕ) → AreEnds start ends count → count ≤ end → end ≡ total → AreEnds start (ends ++ end ∷ []) total
 AreEnds-push start [] count end total are le e = (omega arith, e)
 AreEnds-push start (next ∷ ends) count end total are le e =
@@ -47,6 +49,7 @@ slice_range-append_right : {X : Type 0} → (xs ys : List X) (i j : ℕ) → i �
 slice_range-append_right xs ys i j at_end total =
     ap (take (j - i)) (drop_at xs ys i (sym at_end)) ∙ take_all (j - i) ys (omega arith)
 
+-- one more piece, which is all that came behind the last end
 pub cut-push : {X : Type 0} → (start : ℕ) (ends : List ℕ) (items list : List X) (count : ℕ) → AreEnds start ends (length items) → count ≡ length items + length list → cut start (ends ++ count ∷ []) (items ++ list) ≡ cut start ends items ++ list ∷ []
 cut-push start [] items list count h e =
     ap (λ piece. piece ∷ []) (slice_range-append_right items list start count h e)
@@ -74,3 +77,10 @@ IsPieceAt-read ends items {lists} {index} {start} {end} view are below start_is 
       item = rw (← view, ← part) (slice_get-cut 0 ends items index below_ends);
       value = rw (← view, ← part) (sym (get_or-cut 0 ends items index below_ends));
     }
+
+-- what each method's goals take
+pub ruleset counts = (length-cut)
+
+pub ruleset pushes = (length-append, AreEnds-push, cut-push)
+
+pub ruleset pieces = (length-cut, IsPieceAt-read)

@@ -40,6 +40,7 @@ impl<T: Copy, A: Allocator + Copy> FlatLists<T, A> {
     }
 
     /// How many lists there are.
+    #[tactic(auto, using(crate::proofs::CutLemmas::counts))]
     pub fn len(&self) -> usize
         ensures { result ≡ length self.now }
     {
@@ -50,10 +51,11 @@ impl<T: Copy, A: Allocator + Copy> FlatLists<T, A> {
     pub fn is_empty(&self) -> bool
         ensures { result ≡ (length self.now == 0) }
     {
-        self.ends.is_empty()
+        self.len() == 0
     }
 
     /// Appends a copy of the list. It may fail only where memory runs out.
+    #[tactic(auto, using(crate::proofs::CutLemmas::pushes))]
     pub fn push(&mut self, list: &[T]) -> Result<(), AllocError>
         ensures ok { OnOk result (self.new ≡ self.old ++ list.now ∷ []) }
         ensures err { OnErr result (self.new ≡ self.old) }
@@ -66,6 +68,7 @@ impl<T: Copy, A: Allocator + Copy> FlatLists<T, A> {
     }
 
     /// The list at an index.
+    #[tactic(auto, using(crate::proofs::CutLemmas::pieces))]
     pub fn get(&self, index: usize) -> &[T]
         requires { index < length self.now }
         ensures item { slice_get self.now index ≡ Some result.now }

@@ -15,5 +15,5 @@ named_in_rows-named_in [] text = refl
 named_in_rows-named_in (row ∷ rows) text =
     elim (str_eq_ignore_ascii_case row.0.now text)
     as (λ found. option_map (λ r. r.1) (cond found (Some row) (find (λ r. str_eq_ignore_ascii_case r.0.now text) rows))
-       ≡ option_map (λ e. e.1) (cond found (Some (entry_of row)) (find (λ e. str_eq_ignore_ascii_case e.0 text) (map entry_of rows))))
+    ≡ option_map (λ e. e.1) (cond found (Some (entry_of row)) (find (λ e. str_eq_ignore_ascii_case e.0 text) (map entry_of rows))))
     [ true ↦ refl | false ↦ named_in_rows-named_in rows text ]

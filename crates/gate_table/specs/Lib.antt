@@ -1,3 +1,4 @@
 pub mod Table
 pub mod Images
 pub mod Names
+pub mod Laws

@@ -1,10 +1,9 @@
 ghost use Rattle.std.specs.Prelude.{◌≡◌};
 ghost use Rattle.gate_table.specs.Names.{named_in_rows};
 
-use pauli_word::Letter;
-
 use crate::names::NAMES;
 use crate::table::{ONE_QUBIT_GATES, ONE_QUBIT_IMAGES, TWO_QUBIT_IMAGES};
+use pauli_word::Letter;
 
 /// A unitary gate. Names, matrices and images follow Stim's gate reference.
 #[derive(Clone, Copy, Debug, PartialEq, Eq)]
@@ -59,7 +58,11 @@ impl Gate {
     pub fn arity(self) -> u8
         ensures { result ≡ arity_of self }
     {
-        if (self as usize) < ONE_QUBIT_GATES { 1 } else { 2 }
+        if (self as usize) < ONE_QUBIT_GATES {
+            1
+        } else {
+            2
+        }
     }
 
     /// The image of a letter, U P U-dagger, and whether its sign is minus.

@@ -2,7 +2,10 @@
 #![tactic(auto)]
 
 mod gate;
+pub mod laws;
 mod names;
 mod table;
+#[cfg(test)]
+mod tests;
 
 pub use gate::Gate;

@@ -1,1 +1,3 @@
+pub mod EndsLemmas
 pub mod MadeLemmas
+pub mod MemoryLemmas

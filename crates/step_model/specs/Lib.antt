@@ -1,4 +1,6 @@
+pub mod Ends
 pub mod ErrorModels
+pub mod Faults
 pub mod Frames
 pub mod Images
 pub mod Listing
@@ -9,3 +11,4 @@ pub mod Sensitivities
 pub mod States
 pub mod Targets
 pub mod WellFormed
+pub mod Written

@@ -4,7 +4,7 @@
 -- collapsed letter where the target names the record an odd number of times; over a fault it stays.
 -- The place of a target is the latest collapse whose letter anticommutes with the sensitivity just after it; else
 -- the start, at the lowest qubit at which the sensitivity there has X or Y; else there is none.
-use Rattle.std.specs.Prelude.{◌≡◌, ◌+◌, ℕ, suc, Bool, true, false, if◌then◌else◌, List, [], ◌∷◌, Option, None, Some, option_map, slice_set}
+use Rattle.std.specs.Prelude.{◌+◌, ℕ, suc, Bool, true, false, if◌then◌else◌, List, [], ◌∷◌, Option, None, Some, option_map, slice_set}
 use Rattle.pauli_word.specs.declared.letter.Letter.{Letter}
 use Rattle.pauli_word.specs.declared.letter.Letter.TheVariants.{I, X, Y, Z}
 use Rattle.pauli_word.specs.Words.{letters_product, no_letters, lone_letter, anticommute}

@@ -2,9 +2,8 @@
 -- qubits of a gate differ, no collapse is of I; collapses, records and faults are numbered from 0 in the order of the
 -- steps, each once; each probability text is accepted and has its bound; and the targets are within the limits.
 use Rattle.std.specs.Prelude.{⊤, ◌≡◌, ◌≤◌, ◌<◌, ◌==◌, ◌^◌, nat_lt, ℕ, ℤ, nat_abs, Bool, true, false, not, ◌&&◌, List, [], ◌∷◌, ◌++◌, length, All, Option, None, Some}
-use Rattle.std.specs.List.{list_all, range_with_len, AllPass}
+use Rattle.std.specs.List.{range_with_len, AllPass}
 use Rattle.std.specs.Option.{option_to_list}
-use Rattle.gate_table.specs.declared.gate.Gate.{Gate}
 use Rattle.gate_table.specs.Images.{arity_of}
 use Rattle.pauli_word.specs.declared.letter.Letter.{Letter}
 use Rattle.pauli_word.specs.declared.letter.Letter.TheVariants.{I, X, Y, Z}

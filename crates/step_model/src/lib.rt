@@ -1,8 +1,15 @@
-//! What a circuit does, as definitions: programs of steps, their runs, and what a fault changes in them.
+//! What a circuit does, as definitions: programs of steps, their runs, and what a fault changes in them. Beside
+//! these the causes for which a text is refused, and the byte ends that texts are read from and written to.
 #![tactic(auto)]
 
+mod ends;
+mod fault;
+mod memory;
 mod program;
 mod step;
 
+pub use ends::{Sink, Source, read_all, write_all};
+pub use fault::{Cause, Fault};
+pub use memory::{MemorySink, MemorySource};
 pub use program::{FaultPart, Parts, Program};
 pub use step::{Place, Step, Term};

@@ -59,7 +59,7 @@ impl<'a, A: Allocator + Copy> Program<'a, A> {
     pub fn new(parts: Parts<'a, A>) -> Self
         requires well_formed { IsWellFormed (listing_of parts) }
         requires each_fault { length parts.faults.items ≡ length parts.terms }
-        ensures { result ≡ listing_of parts }
+        ensures { result ≡ listing_of parts.entry }
     {
         Program { parts }
     }

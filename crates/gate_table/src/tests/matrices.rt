@@ -1,0 +1,101 @@
+//! Every gate against its matrix U, as Stim's gate reference prints it: U P is the image of P times U, for every
+//! letter or pair of letters P. The factor before the matrix, 1/2 or the square root of 1/2, stands on both
+//! sides and is left out; the other numbers are whole. The first qubit is the lowest bit of a row's number.
+use crate::Gate;
+use pauli_word::Letter::{self, I, X, Y, Z};
+use std::process::Abort;
+
+mod printed;
+
+use printed::{Complex, Matrix, ONE_QUBIT, Small, TWO_QUBIT};
+
+fn sum(a: Complex, b: Complex) -> Complex {
+    (a.0.wrapping_add(b.0), a.1.wrapping_add(b.1))
+}
+
+fn product(a: Complex, b: Complex) -> Complex {
+    let real = a.0.wrapping_mul(b.0).wrapping_sub(a.1.wrapping_mul(b.1));
+    let imaginary = a.0.wrapping_mul(b.1).wrapping_add(a.1.wrapping_mul(b.0));
+    (real, imaginary)
+}
+
+/// The matrix of a letter.
+fn letter_matrix(letter: Letter) -> Small {
+    match letter {
+        I => [[(1, 0), (0, 0)], [(0, 0), (1, 0)]],
+        X => [[(0, 0), (1, 0)], [(1, 0), (0, 0)]],
+        Y => [[(0, 0), (0, -1)], [(0, 1), (0, 0)]],
+        Z => [[(1, 0), (0, 0)], [(0, 0), (-1, 0)]],
+    }
+}
+
+/// The matrix of one matrix on the first qubit and one on the second.
+fn pair_matrix(first: Small, second: Small) -> Matrix {
+    let mut matrix = [[(0, 0); 4]; 4];
+    for row in 0..4 {
+        for column in 0..4 {
+            matrix[row][column] = product(first[row % 2][column % 2], second[row / 2][column / 2]);
+        }
+    }
+    matrix
+}
+
+/// The product of two matrices, times a number.
+fn matrix_product(factor: Complex, a: Matrix, b: Matrix) -> Matrix {
+    let mut matrix = [[(0, 0); 4]; 4];
+    for row in 0..4 {
+        for column in 0..4 {
+            for k in 0..4 {
+                let term = product(factor, product(a[row][k], b[k][column]));
+                matrix[row][column] = sum(matrix[row][column], term);
+            }
+        }
+    }
+    matrix
+}
+
+/// The image of a pair of letters, of which a one-qubit gate sees the first.
+fn image_of(gate: Gate, a: Letter, b: Letter) -> (Letter, Letter, bool) {
+    if gate.arity() == 1 {
+        let (a, minus) = gate.image1(a);
+        (a, b, minus)
+    } else if gate.arity() == 2 {
+        gate.image2(a, b)
+    } else {
+        (a, b, false)
+    }
+}
+
+fn check_gate(rt: &impl Abort, gate: Gate, u: Matrix) {
+    for a in [I, X, Y, Z] {
+        for b in [I, X, Y, Z] {
+            let (c, d, minus) = image_of(gate, a, b);
+            let sign = if minus { (-1, 0) } else { (1, 0) };
+            let before = pair_matrix(letter_matrix(a), letter_matrix(b));
+            let after = pair_matrix(letter_matrix(c), letter_matrix(d));
+            let left = matrix_product((1, 0), u, before);
+            let right = matrix_product(sign, after, u);
+            assert_eq!(rt; left, right, "{gate:?} of {a:?} {b:?}");
+        }
+    }
+}
+
+#[test]
+fn one_qubit_gates(rt: HostRuntime) {
+    let matrices = ONE_QUBIT;
+    for (place, (gate, u)) in matrices.iter().enumerate() {
+        assert_eq!(rt; *gate as usize, place);
+        assert_eq!(rt; gate.arity(), 1);
+        check_gate(&rt, *gate, pair_matrix(*u, letter_matrix(I)));
+    }
+}
+
+#[test]
+fn two_qubit_gates(rt: HostRuntime) {
+    let matrices = TWO_QUBIT;
+    for (place, (gate, u)) in matrices.iter().enumerate() {
+        assert_eq!(rt; *gate as usize, ONE_QUBIT.len() + place);
+        assert_eq!(rt; gate.arity(), 2);
+        check_gate(&rt, *gate, *u);
+    }
+}
