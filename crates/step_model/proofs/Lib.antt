@@ -1,3 +1,10 @@
+pub mod Borrowed
+pub mod ConstancyCollapses
+pub mod ConstancyRecords
+pub mod ConstancyRuns
+pub mod ConstancySteps
+pub mod Duality
 pub mod EndsLemmas
+pub mod LoneLetters
 pub mod MadeLemmas
 pub mod MemoryLemmas
