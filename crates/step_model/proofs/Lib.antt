@@ -4,6 +4,7 @@ pub mod ConstancyRecords
 pub mod ConstancyRuns
 pub mod ConstancySteps
 pub mod Duality
+pub mod DualitySums
 pub mod EndsLemmas
 pub mod LoneLetters
 pub mod MadeLemmas
