@@ -28,8 +28,8 @@ seen_after n s w coin g h = by_cases (s (signed w false)) (s (signed w true)) re
 
     by_cases : (plus minus : Bool) → s (signed w false) ≡ plus → s (signed w true) ≡ minus
         → cond (plus || minus)
-          (s (signed w (cond plus false (cond minus true coin))))
-          (not (anticommute w w) && (s (signed w (cond plus false (cond minus true coin))) || s (product (signed w coin) (signed w (cond plus false (cond minus true coin))))))
+        (s (signed w (cond plus false (cond minus true coin))))
+        (not (anticommute w w) && (s (signed w (cond plus false (cond minus true coin))) || s (product (signed w coin) (signed w (cond plus false (cond minus true coin))))))
         ≡ true
     by_cases true minus p m = p
     by_cases false true p m = m
@@ -65,8 +65,8 @@ twice_sign n w v h k c =
     equal_from_sum (is_minus (letters_power w v)) (is_minus (letters_power w (letters_product w v)))
     (sym (is_minus-power_product (letters_power w v) (letters_power w (letters_product w v)) (is_real-letters_power w v ∙ ap not c))
     ∙ ap is_minus
-      (sym (letters_power_cocycle w w v refl (h ∙ sym k))
-      ∙ ap₂ power_product (letters_power_self w) (ap (λ x. letters_power x v) (letters_product_self w) ∙ letters_power_of_none (length w) v)))
+    (sym (letters_power_cocycle w w v refl (h ∙ sym k))
+    ∙ ap₂ power_product (letters_power_self w) (ap (λ x. letters_power x v) (letters_product_self w) ∙ letters_power_of_none (length w) v)))
 
 -- the sign of v where w times v is in a state with the sign b and w with the sign seen
 abbrev pub divided_sign : List Letter → List Letter → Bool → Bool → Bool
@@ -76,8 +76,8 @@ pub divided : (n : ℕ) (t : State) (w v : List Letter) (seen b : Bool) → IsGr
 divided n t w v seen b g h k c p q =
     ap t (sym quotient)
     ∙ g.closed (signed w seen) (signed (letters_product w v) b)
-      (record { size = h; member = p })
-      (record { size = length-letters_product w v (h ∙ sym k) ∙ h; member = q })
+    (record { size = h; member = p })
+    (record { size = length-letters_product w v (h ∙ sym k) ∙ h; member = q })
   where
     quotient : product (signed w seen) (signed (letters_product w v) b) ≡ signed v (divided_sign w v seen b)
     quotient =
@@ -157,5 +157,5 @@ through_reset n t q a w seen b g i k h c p m = by_letter (only_two a (letter_at 
         ∙ ap (λ x. t (signed w (exclusive_or x b))) (and-true seen)
         ∙ ap t (sym (restored e))
         ∙ g.closed (signed (lone_letter n q a) seen) (signed (set w q I) b)
-          (record { size = length-lone_letter n q a; member = p })
-          (record { size = length-set w q I ∙ h; member = m })
+        (record { size = length-lone_letter n q a; member = p })
+        (record { size = length-set w q I ∙ h; member = m })

@@ -65,7 +65,7 @@ parity-run program faults named (step ∷ steps) m b k fits order none g member 
     let w : List Letter = sensitivity program.qubits named steps in
     let here : step_fits program step ≡ true = fits 0 step (omega arith) in
     let later : (j : ℕ) × (records_made steps ≡ range_with_len (length (next program faults step m).records) j) =
-        in_order-next program faults step (records_made steps) m k order in
+    in_order-next program faults step (records_made steps) m k order in
     let apart : anticommute (collapse_word program.qubits step) w ≡ false = none_here step (latest_place program.qubits named steps) _ none in
     parity-run program faults named steps (next program faults step m) (sign_after program faults named step m w b) later.0
     (λ j d h. fits (suc j) d (omega arith))
@@ -74,7 +74,7 @@ parity-run program faults named (step ∷ steps) m b k fits order none g member 
     (IsGroup-next program faults step m here g)
     (member-next program faults named step m w b here g (length-sensitivity program.qubits named steps) apart member)
     ∙ ap (λ x. exclusive_or x (exclusive_or (sign_after program faults named step m w b) (offset program faults named steps)))
-      (parity-next program faults named step (records_made steps) m k order)
+    (parity-next program faults named step (records_made steps) m k order)
     ∙ add_up (parity named m.records) (record_change program faults named step m) b (step_offset program faults named step w) (offset program faults named steps)
 
 -- no X and no Y: all letters are I and Z

@@ -68,7 +68,7 @@ from_not true h = cc
 CollapseFits-from : (program : Listing) (letter : Letter) (qubit : ℕ) (rec : Option ℕ) (flip : Option ℕ) → (not (is_I letter) && nat_lt qubit program.qubits && flip_fits program rec flip) ≡ true → CollapseFits program.qubits qubit letter
 CollapseFits-from program letter qubit rec flip h =
     let both : (not (is_I letter) ≡ true) × (nat_lt qubit program.qubits ≡ true) =
-        and_parts (not (is_I letter)) (nat_lt qubit program.qubits) (and_parts (not (is_I letter) && nat_lt qubit program.qubits) (flip_fits program rec flip) h).0
+    and_parts (not (is_I letter)) (nat_lt qubit program.qubits) (and_parts (not (is_I letter) && nat_lt qubit program.qubits) (flip_fits program rec flip) h).0
     in record { letter_fits = from_not (is_I letter) both.0; qubit_fits = ltb-true qubit program.qubits both.1 }
 
 -- a collapse alone keeps the state a group
@@ -119,8 +119,8 @@ member-next program faults named (Collapse letter qubit rec reset inverted flip)
     after_reset program faults letter qubit rec reset inverted flip m w sign g after_is_group here h c
     (ap (λ x. after (signed v (exclusive_or b x))) (collapse_sign counts (is_minus (letters_power lone v)) (exclusive_or inverted (flip_happens faults flip)) seen)
     ∙ through_collapse program.qubits m.state lone v counts (next_coin m.coins) b g after_is_group
-      (length-lone_letter program.qubits qubit letter) (length-cleared reset qubit w ∙ h)
-      (commutes_cleared program.qubits qubit letter reset w h here.qubit_fits c) k)
+    (length-lone_letter program.qubits qubit letter) (length-cleared reset qubit w ∙ h)
+    (commutes_cleared program.qubits qubit letter reset w h here.qubit_fits c) k)
   where
     lone : List Letter
     lone = lone_letter program.qubits qubit letter

@@ -110,8 +110,8 @@ hits_in_all program happening named (step ∷ steps) fits =
     (λ f. and_exclusive_or (happens happening f) (hits_at program named f step w) (hits_among program named f steps))
     (range_with_len 0 (length program.faults))
     ∙ ap₂ exclusive_or
-      (hits_at_step program happening named step w (fits 0 step (omega arith)))
-      (hits_in_all program happening named steps (λ k d h. fits (suc k) d (omega arith)))
+    (hits_at_step program happening named step w (fits 0 step (omega arith)))
+    (hits_in_all program happening named steps (λ k d h. fits (suc k) d (omega arith)))
   where
     w : List Letter
     w = sensitivity program.qubits named steps
