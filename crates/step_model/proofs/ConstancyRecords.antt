@@ -1,5 +1,5 @@
 -- What a step does to the parity of a target's records: it changes by the step's own record, where that counts.
-use Rattle.std.proofs.Common.{◌≡◌, ℕ, zero, suc, ◌+◌, ◌==◌, Bool, true, false, ◌&&◌, List, [], ◌∷◌, ◌++◌, length, get_or, Some, None, refl, ap, ap₂, sym, ◌∙◌, length-append, arith}
+use Rattle.std.proofs.Common.{◌≡◌, ℕ, zero, suc, ◌+◌, ◌==◌, Bool, false, ◌&&◌, List, [], ◌∷◌, ◌++◌, length, get_or, Some, None, refl, ap, ap₂, sym, ◌∙◌, length-append}
 use Rattle.std.specs.List.{range_with_len}
 use Rattle.std.proofs.Math.Dec.{eqb-suc-suc, eqb-suc-zero, eqb-zero-suc}
 use Rattle.pauli_word.specs.Parity.{exclusive_or}
@@ -11,7 +11,7 @@ use Rattle.step_model.specs.Listing.{Listing}
 use Rattle.step_model.specs.Runs.{Moment, next, next_coin, outcome, flip_happens}
 use Rattle.step_model.specs.Sensitivities.{record_counts}
 use Rattle.step_model.specs.Targets.{parity, is_listed}
-use Rattle.step_model.specs.WellFormed.{step_records, records_made}
+use Rattle.step_model.specs.WellFormed.{step_records}
 
 -- no record gives every target the parity false
 pub parity-none : (named : List ℕ) → parity named [] ≡ false

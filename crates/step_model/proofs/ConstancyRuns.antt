@@ -1,7 +1,7 @@
 -- A target without a place has the same parity under all coins. Going through a run, the sensitivity of the steps that
 -- are left stays in the state, with a sign that takes in the records made and the offsets of the steps. In the
 -- end the sensitivity is the identity, whose sign is plus.
-use Rattle.std.proofs.Common.{◌≡◌, ℕ, zero, suc, ◌+◌, ◌<◌, Bool, true, false, not, ◌&&◌, List, [], ◌∷◌, length, Option, Some, None, option_map, refl, ap, ap₂, sym, ◌∙◌, arith}
+use Rattle.std.proofs.Common.{◌≡◌, ℕ, suc, Bool, true, false, List, [], ◌∷◌, length, Option, Some, None, option_map, refl, ap, sym, ◌∙◌, arith}
 use Rattle.std.specs.List.{range_with_len, AllPass, list_all}
 use Rattle.std.proofs.lemmas.Bool.{and_from}
 use Rattle.std.proofs.lemmas.List.{length-replicate}
@@ -14,11 +14,11 @@ use Rattle.step_model.specs.declared.step.Step.{Step}
 use Rattle.step_model.specs.declared.step.Place.TheVariants.{Start}
 use Rattle.step_model.specs.Hits.{IsConstant}
 use Rattle.step_model.specs.Listing.{Listing}
-use Rattle.step_model.specs.Runs.{State, Moment, signed, next, run_from, records_of, start, start_state, is_I_or_Z}
+use Rattle.step_model.specs.Runs.{State, Moment, signed, next, run_from, records_of, start, is_I_or_Z}
 use Rattle.step_model.specs.Sensitivities.{sensitivity, collapse_word, latest_place, later_or_here, lowest_X_or_Y, place_of, after_or_start}
 use Rattle.step_model.specs.States.{IsGroup}
 use Rattle.step_model.specs.Targets.{parity, target_at}
-use Rattle.step_model.specs.WellFormed.{IsWellFormed, step_fits, step_records, records_made}
+use Rattle.step_model.specs.WellFormed.{IsWellFormed, step_fits, records_made}
 use Rattle.step_model.proofs.Borrowed.{IsGroup-next, IsGroup-start}
 use Rattle.step_model.proofs.ConstancyRecords.{parity-none, parity-next, in_order-next, record_change}
 use Rattle.step_model.proofs.ConstancySteps.{step_offset, length-sensitivity_before, sign_after, member-next}
@@ -77,19 +77,15 @@ parity-run program faults named (step ∷ steps) m b k fits order none g member 
     (parity-next program faults named step (records_made steps) m k order)
     ∙ add_up (parity named m.records) (record_change program faults named step m) b (step_offset program faults named step w) (offset program faults named steps)
 
+none_further : (o : Option ℕ) → option_map suc o ≡ None → o ≡ None
+none_further None e = refl
+none_further (Some k) e = cc
+
 -- no X and no Y: all letters are I and Z
 all_I_or_Z : (w : List Letter) → lowest_X_or_Y w ≡ None → list_all is_I_or_Z w ≡ true
 all_I_or_Z [] h = refl
-all_I_or_Z (I ∷ w) h = all_I_or_Z w (none_before (lowest_X_or_Y w) h)
-  where
-    none_before : (o : Option ℕ) → option_map suc o ≡ None → o ≡ None
-    none_before None e = refl
-    none_before (Some k) e = cc
-all_I_or_Z (Z ∷ w) h = all_I_or_Z w (none_before (lowest_X_or_Y w) h)
-  where
-    none_before : (o : Option ℕ) → option_map suc o ≡ None → o ≡ None
-    none_before None e = refl
-    none_before (Some k) e = cc
+all_I_or_Z (I ∷ w) h = all_I_or_Z w (none_further (lowest_X_or_Y w) h)
+all_I_or_Z (Z ∷ w) h = all_I_or_Z w (none_further (lowest_X_or_Y w) h)
 all_I_or_Z (X ∷ w) h = cc
 all_I_or_Z (Y ∷ w) h = cc
 

@@ -1,14 +1,14 @@
 -- One step of a run: where the sensitivity before a step is in the state, that after it is in the next state. Its
 -- sign changes by the step's offset, which depends on the faults alone, and by what the step's record changes in
 -- the parity.
-use Rattle.std.proofs.Common.{◌≡◌, ℕ, ◌<◌, Bool, true, false, not, ◌&&◌, List, [], ◌∷◌, length, set, nat_lt, Option, Some, None, refl, ap, ap₂, sym, ◌∙◌, length-set}
+use Rattle.std.proofs.Common.{◌≡◌, ℕ, ◌<◌, Bool, true, false, not, ◌&&◌, List, length, set, nat_lt, Option, None, refl, ap, sym, ◌∙◌, length-set}
 use Rattle.std.proofs.lemmas.Bool.{and_parts, ltb-true, and_from}
 use Rattle.pauli_word.specs.declared.letter.Letter.{Letter}
 use Rattle.pauli_word.specs.declared.letter.Letter.TheVariants.{I}
 use Rattle.pauli_word.specs.Letters.{is_minus}
 use Rattle.pauli_word.specs.Parity.{exclusive_or}
-use Rattle.pauli_word.specs.Words.{letters_product, letters_power, anticommute, lone_letter, letter_at}
-use Rattle.pauli_word.proofs.Parities.{exclusive_or-false, same_truth, same_truth-true, at_four_truths, at_two_truths}
+use Rattle.pauli_word.specs.Words.{letters_power, anticommute, lone_letter, letter_at}
+use Rattle.pauli_word.proofs.Parities.{same_truth, same_truth-true, at_four_truths, at_two_truths}
 use Rattle.pauli_word.proofs.WordLaws.{length-letters_product}
 use Rattle.gate_table.specs.Images.{image1, image2, inverse_of}
 use Rattle.step_model.specs.declared.step.Step.{Step}
@@ -20,7 +20,7 @@ use Rattle.step_model.specs.Sensitivities.{cleared, record_counts, multiplied, s
 use Rattle.step_model.specs.States.{IsGroup}
 use Rattle.step_model.specs.WellFormed.{is_I, flip_fits, step_fits}
 use Rattle.step_model.proofs.Borrowed.{IsGroup-next}
-use Rattle.step_model.proofs.ConstancyCollapses.{seen_after, through_collapse, through_reset, change_at}
+use Rattle.step_model.proofs.ConstancyCollapses.{seen_after, through_collapse, through_reset}
 use Rattle.step_model.proofs.ConstancyRecords.{record_change}
 use Rattle.step_model.proofs.LoneLetters.{length-lone_letter, anticommute-cleared}
 

@@ -1,6 +1,6 @@
 -- Faults change a target without a place by the exclusive sum of those that hit it: its parity is the offset of the
 -- steps, to which each fault that happens adds where it hits.
-use Rattle.std.proofs.Common.{◌≡◌, ◌≢◌, ℕ, zero, suc, ◌<◌, ◌==◌, nat_lt, Bool, true, false, ◌&&◌, List, [], ◌∷◌, length, Option, Some, None, refl, ap, ap₂, sym, ◌∙◌, arith}
+use Rattle.std.proofs.Common.{◌≡◌, ◌≢◌, ℕ, suc, ◌<◌, ◌==◌, nat_lt, Bool, true, false, ◌&&◌, List, [], ◌∷◌, length, Option, Some, None, refl, ap, ap₂, sym, ◌∙◌, arith}
 use Rattle.std.specs.List.{range_with_len, AllPass}
 use Rattle.std.proofs.lemmas.Bool.{and_parts, and_right, ltb-true, eq-eqb, ne_eqb}
 use Rattle.pauli_word.specs.declared.letter.Letter.{Letter}

@@ -6,6 +6,7 @@ pub mod ConstancySteps
 pub mod Duality
 pub mod DualitySums
 pub mod EndsLemmas
+pub mod ImageLaws
 pub mod LoneLetters
 pub mod MadeLemmas
 pub mod MemoryLemmas
