@@ -1,5 +1,13 @@
+pub mod Borrowed
+pub mod ConstancyCollapses
+pub mod ConstancyRecords
+pub mod ConstancyRuns
+pub mod ConstancySteps
+pub mod Duality
+pub mod DualitySums
 pub mod EndsLemmas
 pub mod ImageLaws
+pub mod LoneLetters
 pub mod MadeLemmas
 pub mod MemoryLemmas
 pub mod PairImageLaws
