@@ -19,7 +19,7 @@ use Rattle.step_model.specs.Sensitivities.{sensitivity, collapse_word, latest_pl
 use Rattle.step_model.specs.States.{IsGroup}
 use Rattle.step_model.specs.Targets.{parity, target_at}
 use Rattle.step_model.specs.WellFormed.{IsWellFormed, step_fits, records_made}
-use Rattle.step_model.proofs.Borrowed.{IsGroup-next, IsGroup-start}
+use Rattle.step_model.proofs.StateIsGroup.{IsGroup-next, IsGroup-start}
 use Rattle.step_model.proofs.ConstancyRecords.{parity-none, parity-next, in_order-next, record_change}
 use Rattle.step_model.proofs.ConstancySteps.{step_offset, length-sensitivity_before, sign_after, member-next}
 

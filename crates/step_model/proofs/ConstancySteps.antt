@@ -19,7 +19,7 @@ use Rattle.step_model.specs.Runs.{State, Moment, signed, collapsed, outcome, nex
 use Rattle.step_model.specs.Sensitivities.{cleared, record_counts, multiplied, sensitivity_before, collapse_word}
 use Rattle.step_model.specs.States.{IsGroup}
 use Rattle.step_model.specs.WellFormed.{is_I, flip_fits, step_fits}
-use Rattle.step_model.proofs.Borrowed.{IsGroup-next}
+use Rattle.step_model.proofs.StateIsGroup.{IsGroup-next}
 use Rattle.step_model.proofs.ConstancyCollapses.{seen_after, through_collapse, through_reset}
 use Rattle.step_model.proofs.ConstancyRecords.{record_change}
 use Rattle.step_model.proofs.LoneLetters.{length-lone_letter, anticommute-cleared}

@@ -1,13 +1,13 @@
 -- The image of a word under a gate: it keeps length, products and what anticommutes, leaves the identity as it is,
 -- and is undone by the image under the inverse gate. Carried to words from the laws of the gate table.
-use Rattle.std.proofs.Common.{◌≡◌, ◌≢◌, ◌<◌, ℕ, zero, suc, Bool, true, false, List, [], ◌∷◌, length, get_or, set, replicate, refl, ap, ap₂, sym, ◌∙◌, arith, length-set, get_or-set_same, get_or-set_other, set-set}
-use Rattle.std.proofs.lemmas.List.{set_comm, set-get_or}
+use Rattle.std.proofs.Common.{◌≡◌, ◌<◌, ℕ, zero, suc, Bool, true, false, List, length, set, refl, ap, ap₂, sym, ◌∙◌, arith, length-set, get_or-set_same, set-set}
+use Rattle.std.proofs.lemmas.List.{set-get_or}
 use Rattle.gate_table.specs.declared.gate.Gate.{Gate}
-use Rattle.gate_table.specs.Images.{image1, image2, inverse_of, pair_power}
-use Rattle.gate_table.specs.Laws.{Undoes, UndoesPair}
-use Rattle.gate_table.proofs.Products.{image1-product, image2-product}
-use Rattle.gate_table.proofs.Clashes.{image1-clash, image2-clash}
-use Rattle.gate_table.proofs.Identity.{image1-I, image2-I}
+use Rattle.gate_table.specs.Images.{image1, inverse_of}
+use Rattle.gate_table.specs.Laws.{Undoes}
+use Rattle.gate_table.proofs.Products.{image1-product}
+use Rattle.gate_table.proofs.Clashes.{image1-clash}
+use Rattle.gate_table.proofs.Identity.{image1-I}
 use Rattle.gate_table.proofs.Inverses.{undone_by_inverse}
 use Rattle.pauli_word.specs.declared.letter.Letter.{Letter}
 use Rattle.pauli_word.specs.declared.letter.Letter.TheVariants.{I}
@@ -17,7 +17,7 @@ use Rattle.pauli_word.specs.Words.{Signed, letters_product, letters_power, antic
 use Rattle.pauli_word.proofs.Parities.{exclusive_or_assoc, exclusive_or_comm, exclusive_or_middle, exclusive_or-false}
 use Rattle.pauli_word.proofs.PowerLaws.{power_product_assoc, power_product_comm}
 use Rattle.pauli_word.proofs.WordPlaces.{letters_power_at, anticommute_at, letters_product-set, letter_at-product}
-use Rattle.step_model.specs.Images.{image_at, image_at_two, preimage_at, preimage_at_two}
+use Rattle.step_model.specs.Images.{image_at, preimage_at}
 use Rattle.step_model.specs.Runs.{signed, changed}
 
 -- the sign that a real factor brings

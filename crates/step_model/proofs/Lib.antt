@@ -1,4 +1,3 @@
-pub mod Borrowed
 pub mod ConstancyCollapses
 pub mod ConstancyRecords
 pub mod ConstancyRuns

@@ -1,5 +1,5 @@
 -- The image of a word under a two-qubit gate: the same laws as under a one-qubit gate, at two qubits that differ.
-use Rattle.std.proofs.Common.{◌≡◌, ◌≢◌, ◌<◌, ℕ, Bool, true, false, List, length, get_or, set, refl, ap, ap₂, sym, subst, ◌∙◌, arith, length-set, get_or-set_same, get_or-set_other, set-set}
+use Rattle.std.proofs.Common.{◌≡◌, ◌≢◌, ◌<◌, ℕ, Bool, List, length, set, refl, ap, ap₂, sym, subst, ◌∙◌, arith, length-set, get_or-set_same, get_or-set_other, set-set}
 use Rattle.std.proofs.lemmas.List.{set_comm, set-get_or}
 use Rattle.gate_table.specs.declared.gate.Gate.{Gate}
 use Rattle.gate_table.specs.Images.{image2, inverse_of, pair_power}
@@ -10,7 +10,7 @@ use Rattle.gate_table.proofs.Identity.{image2-I}
 use Rattle.gate_table.proofs.Inverses.{undone_by_inverse}
 use Rattle.pauli_word.specs.declared.letter.Letter.{Letter}
 use Rattle.pauli_word.specs.declared.letter.Letter.TheVariants.{I}
-use Rattle.pauli_word.specs.Letters.{Power, power_product, is_minus, letter_product, letter_power, letters_clash}
+use Rattle.pauli_word.specs.Letters.{power_product, is_minus, letter_product, letter_power, letters_clash}
 use Rattle.pauli_word.specs.Parity.{exclusive_or}
 use Rattle.pauli_word.specs.Words.{Signed, letters_product, letters_power, anticommute, product, no_letters, letter_at}
 use Rattle.pauli_word.proofs.Parities.{exclusive_or_assoc, exclusive_or_comm, exclusive_or-false}

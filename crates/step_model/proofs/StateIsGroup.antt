@@ -1,23 +1,24 @@
 -- The words of the state of a run form a commutative group without minus the identity, after every step: a map of words
 -- that keeps length, products, what anticommutes and the identity carries it over gates and applied words, and a
 -- collapse keeps it, random or not. (IsGroup.)
-use Rattle.std.proofs.Common.{◌≡◌, ◌≢◌, ◌<◌, ◌⊎◌, inl, inr, ℕ, zero, suc, Bool, true, false, not, ◌&&◌, ◌||◌, cond, List, [], ◌∷◌, length, replicate, refl, ap, ap₂, sym, subst, ◌∙◌, arith, eqb, ltb, Option, None, Some, length-set, take}
+use Rattle.std.proofs.Common.{◌≡◌, ◌≢◌, ◌<◌, ◌⊎◌, inl, inr, ℕ, zero, suc, Bool, true, false, not, ◌&&◌, ◌||◌, cond, List, [], ◌∷◌, length, refl, ap, ap₂, sym, subst, ◌∙◌, eqb, ltb, length-set, take}
 use Rattle.std.proofs.lemmas.List.{length-replicate}
-use Rattle.std.proofs.lemmas.Bool.{and_parts, and_from, or_cases, or_left, or_right, or_parts, not-true, not_from_false, ltb-true, eqb-true, eqb-false, cases_Bool}
+use Rattle.std.proofs.lemmas.Bool.{and_parts, and_from, or_cases, or_left, or_right, or_parts, not-true, ltb-true, eqb-true, eqb-false}
 use Rattle.std.specs.List.{list_all, AllPass}
 use Rattle.std.proofs.lemmas.List.Elements.{recursion_from_All, All-from_recursion}
 use Rattle.gate_table.specs.declared.gate.Gate.{Gate}
 use Rattle.gate_table.specs.Images.{arity_of, inverse_of}
 use Rattle.pauli_word.specs.declared.letter.Letter.{Letter}
 use Rattle.pauli_word.specs.declared.letter.Letter.TheVariants.{I, X, Y, Z}
-use Rattle.pauli_word.specs.Letters.{Power, one, power_product, is_minus, sign_power, letter_product, letter_power, letters_clash}
+use Rattle.pauli_word.specs.Letters.{one, power_product, is_minus, sign_power, letter_product, letter_power, letters_clash}
 use Rattle.pauli_word.specs.Parity.{exclusive_or}
-use Rattle.pauli_word.specs.Words.{Signed, letters_product, letters_power, anticommute, product, no_letters, identity_word, lone_letter}
-use Rattle.pauli_word.proofs.Parities.{exclusive_or-false, exclusive_or_middle, exclusive_or_assoc, exclusive_or_self}
+use Rattle.pauli_word.specs.Words.{Signed, letters_product, letters_power, anticommute, product, no_letters, lone_letter}
+use Rattle.pauli_word.proofs.Parities.{exclusive_or-false, exclusive_or_assoc}
 use Rattle.pauli_word.proofs.LetterLaws.{letter_power_of_I, letters_clash_of_I}
 use Rattle.pauli_word.proofs.WordLaws.{length-letters_product, letters_product_comm, letters_product_of_none, letters_power_of_none, letters_power_swap, anticommute_comm, anticommute_self, anticommute_of_none, anticommute-product}
 use Rattle.pauli_word.proofs.SignedLaws.{product_assoc, product_comm, product_self, product_of_identity, product-changed_left, product-changed_right}
 use Rattle.step_model.proofs.ImageLaws.{length-image_at, image_at-none, image_at-anticommute, image_at-product}
+use Rattle.step_model.proofs.LoneLetters.{length-lone_letter}
 use Rattle.step_model.proofs.PairImageLaws.{length-image_at_two, image_at_two-none, image_at_two-anticommute, image_at_two-product}
 use Rattle.step_model.specs.declared.step.Step.{Step}
 use Rattle.step_model.specs.declared.step.Step.TheVariants.{One, Two, Collapse, Fault}
@@ -342,9 +343,6 @@ two_fits program g a b h =
       second = ltb-true b n second.1;
       differ = eqb-false a b (not-true (eqb a b) last.1);
     }
-
-pub length-lone_letter : (n q : ℕ) (a : Letter) → length (lone_letter n q a) ≡ n
-length-lone_letter n q a = length-set (no_letters n) q a ∙ length-replicate n I
 
 -- every step keeps the group
 pub IsGroup-next : (program : Listing) (faults : List Bool) (step : Step) (m : Moment) → step_fits program step ≡ true → IsGroup program.qubits m.state → IsGroup program.qubits (next program faults step m).state

@@ -2,7 +2,7 @@
 //! these the causes for which a text is refused, and the byte ends that texts are read from and written to.
 #![tactic(auto)]
 
-mod constancy;
+pub mod constancy;
 mod ends;
 mod fault;
 pub mod laws;
@@ -10,7 +10,6 @@ mod memory;
 mod program;
 mod step;
 
-pub use constancy::{faults_add_up, parity_is_constant};
 pub use ends::{Sink, Source, read_all, write_all};
 pub use fault::{Cause, Fault};
 pub use memory::{MemorySink, MemorySource};
