@@ -11,16 +11,17 @@ use Rattle.step_model.specs.Frames.{flips_from, zero_coins, pair_coins, first_wo
 use Rattle.step_model.specs.Listing.{Listing}
 use Rattle.step_model.specs.Runs.{start}
 use Rattle.step_model.specs.Sensitivities.{after_or_start, latest_place, sensitivity, lowest_X_or_Y, place_of}
-use Rattle.step_model.specs.Shifts.{joined, Disagrees, PairLaw, PlaceLaw}
+use Rattle.step_model.specs.Shifts.{joined, Disagrees, PairLaw, PlaceLaw, RandomLaw}
 use Rattle.step_model.specs.Targets.{target_at, noiseless_parity}
 use Rattle.step_model.specs.WellFormed.{IsWellFormed}
-use Rattle.step_model.proofs.BorrowedForShift.{IsGroup-start}
-use Rattle.step_model.proofs.PairParity.{length-sensitivity}
+use Rattle.step_model.proofs.StateIsGroup.{IsGroup-start}
+use Rattle.step_model.proofs.ConstancyRuns.{length-sensitivity, parity_is_constant}
 use Rattle.step_model.proofs.PairPlaces.{option_either, place_inside, length-flips_from, length-flips_after, lowest-clash}
 use Rattle.step_model.proofs.PairRuns.{frame_disagrees, place_disagrees}
 use Rattle.step_model.proofs.PairStates.{start-shifted, lone_letter-I_or_Z}
 use Rattle.step_model.proofs.ShiftLists.{joined-zeros}
-use Rattle.step_model.proofs.ShiftWords.{length-lone_letter, anticommute-lone_letter}
+use Rattle.step_model.proofs.LoneLetters.{length-lone_letter}
+use Rattle.step_model.proofs.ShiftWords.{anticommute-lone}
 
 not_same : (a b : Bool) → b ≡ not a → a ≢ b
 not_same false false h k = cc
@@ -63,7 +64,7 @@ start_disagrees program d q fit place =
         (program.records, fit.records_in_order) (length-lone_letter n q Z) (IsGroup-start n)
         (start-shifted n v (lone_letter-I_or_Z n q)) (from_zeros coins program.collapses long)
         (anticommute_comm v w
-        ∙ anticommute-lone_letter w n q Z (length-sensitivity n named program.steps) (subst (λ m. q < m) (length-sensitivity n named program.steps) clash.0)
+        ∙ anticommute-lone w n q Z (length-sensitivity n named program.steps) (subst (λ m. q < m) (length-sensitivity n named program.steps) clash.0)
         ∙ clash.1));
     }
 
@@ -92,3 +93,11 @@ pub place_makes_random : PlaceLaw
 place_makes_random program d place fit h =
     let pair = pair_disagrees program d place fit h in
     (zero_coins program, pair_coins program place, pair.first, pair.second, pair.parities)
+
+pub random_exactly_with_place : RandomLaw
+random_exactly_with_place program d fit =
+    ( (λ random. elim (option_either (place_of program d)) [
+          inl none ↦ absurd (random.4 (parity_is_constant program d fit none [] random.0 random.1))
+        | inr x ↦ x
+      ])
+    , (λ x. place_makes_random program d x.0 fit x.1) )

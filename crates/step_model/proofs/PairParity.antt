@@ -19,11 +19,13 @@ use Rattle.step_model.specs.Sensitivities.{cleared, multiplied, record_counts, s
 use Rattle.step_model.specs.Shifts.{carried_with, record_flips}
 use Rattle.step_model.specs.Targets.{parity, is_listed}
 use Rattle.step_model.specs.WellFormed.{step_fits, records_made}
-use Rattle.step_model.proofs.BorrowedForShift.{image_of_preimage, image_of_preimage_two, anticommute-images, anticommute-images_two}
+use Rattle.step_model.proofs.ShiftGates.{image_of_preimage, image_of_preimage_two, anticommute-images, anticommute-images_two}
 use Rattle.step_model.proofs.ShiftLists.{parity-zeros, parity-split}
 use Rattle.step_model.proofs.ShiftRuns.{same-carried}
 use Rattle.step_model.proofs.ShiftSteps.{length-multiplied, length-cleared, length-carried_with, anticommute-multiplied}
-use Rattle.step_model.proofs.ShiftWords.{length-lone_letter, anticommute-none, anticommute-cleared}
+use Rattle.step_model.proofs.ShiftWords.{anticommute-none, anticommute-cleared}
+use Rattle.step_model.proofs.ConstancyRuns.{length-sensitivity}
+use Rattle.step_model.proofs.LoneLetters.{length-lone_letter}
 
 -- the flip of a step, where its record counts
 abbrev pub counted_flip : ℕ → List ℕ → List Letter → Step → Bool
@@ -36,17 +38,6 @@ counted_flip n named v (Fault f) = false
 abbrev pub flip_sum : ℕ → List ℕ → List Letter → List Step → Bool
 flip_sum n named v [] = false
 flip_sum n named v (step ∷ steps) = exclusive_or (counted_flip n named v step) (flip_sum n named (carried step v) steps)
-
-length-sensitivity_before : (n : ℕ) (named : List ℕ) (step : Step) (w : List Letter) → length w ≡ n → length (sensitivity_before n named step w) ≡ n
-length-sensitivity_before n named (One gate q) w size = length-set w q _ ∙ size
-length-sensitivity_before n named (Two gate a b) w size = length-set _ b _ ∙ length-set w a _ ∙ size
-length-sensitivity_before n named (Collapse letter q rec reset inverted flip) w size =
-    length-multiplied n (record_counts named rec) (lone_letter n q letter) (cleared reset q w) (length-lone_letter n q letter) (length-cleared n reset q w size)
-length-sensitivity_before n named (Fault f) w size = size
-
-pub length-sensitivity : (n : ℕ) (named : List ℕ) (steps : List Step) → length (sensitivity n named steps) ≡ n
-length-sensitivity n named [] = length-replicate n I
-length-sensitivity n named (step ∷ steps) = length-sensitivity_before n named step (sensitivity n named steps) (length-sensitivity n named steps)
 
 cleared-either : (b : Bool) (q : ℕ) (v w : List Letter) → anticommute (cleared b q v) w ≡ anticommute v (cleared b q w)
 cleared-either true q v w = anticommute-cleared v w q

@@ -17,13 +17,14 @@ use Rattle.step_model.specs.Shifts.{joined, flips_with, record_flips, IsShifted,
 use Rattle.step_model.specs.States.{IsGroup}
 use Rattle.step_model.specs.Targets.{parity}
 use Rattle.step_model.specs.WellFormed.{step_fits, records_made}
-use Rattle.step_model.proofs.BorrowedForShift.{IsGroup-next}
-use Rattle.step_model.proofs.PairParity.{Numbered, numbered-record, flip_sum-sensitivity, parity-record_flips}
+use Rattle.step_model.proofs.StateIsGroup.{IsGroup-next}
+use Rattle.step_model.proofs.ConstancyRecords.{in_order-next}
+use Rattle.step_model.proofs.PairParity.{Numbered, flip_sum-sensitivity, parity-record_flips}
 use Rattle.step_model.proofs.PairPlaces.{later_only, later_or_this}
 use Rattle.step_model.proofs.PairStates.{collapse-shifted}
 use Rattle.step_model.proofs.ShiftLists.{joined-no_flips, parity-joined}
 use Rattle.step_model.proofs.ShiftRuns.{frames_shift_runs, same-flips}
-use Rattle.step_model.proofs.ShiftWords.{length-lone_letter}
+use Rattle.step_model.proofs.LoneLetters.{length-lone_letter}
 
 -- a moment with other coins to come
 abbrev pub with_coins : Moment → List Bool → Moment
@@ -52,15 +53,6 @@ frame_disagrees program named steps v m coins fit numbered size group shifted fl
       (parity-record_flips program [] named steps v (length m.records) numbered
       ∙ flip_sum-sensitivity program named steps v fit size
       ∙ clashes)
-
-numbered-next : (program : Listing) (faults : List Bool) (step : Step) (steps : List Step) (m : Moment) → Numbered (length m.records) (step ∷ steps) → Numbered (length (next program faults step m).records) steps
-numbered-next program faults (One gate q) steps m h = h
-numbered-next program faults (Two gate a b) steps m h = h
-numbered-next program faults (Collapse letter q None reset inverted flip) steps m h = h
-numbered-next program faults (Collapse letter q (Some s) reset inverted flip) steps m h =
-    subst (λ r. Numbered r steps) (sym (length-append m.records _ ∙ add-one (length m.records)))
-    (numbered-record (length m.records) s steps letter q reset inverted flip h).1
-numbered-next program faults (Fault f) steps m h = h
 
 -- a moment of its parts
 abbrev moment : State → List Bool → List Bool → Moment
@@ -103,7 +95,7 @@ place_disagrees program named (Collapse letter q rec reset inverted flip ∷ ste
     let fits : step_fits program step ≡ true = All-head (λ x. step_fits program x ≡ true) step steps fit in
     let fit_after : AllPass (step_fits program) steps = All-tail (λ x. step_fits program x ≡ true) step steps fit in
     let group_after : IsGroup n (next program [] step m).state = IsGroup-next program [] step m fits group in
-    let numbered_after : Numbered (length (next program [] step m).records) steps = numbered-next program [] step steps m numbered in
+    let numbered_after : Numbered (length (next program [] step m).records) steps = in_order-next program [] step (records_made steps) m numbered.0 numbered.1 in
     let after = λ (c : Moment). parity named (run_from program [] steps c).records in
     elim (later_or_this step (latest_place n named steps) (anticommute w (sensitivity n named steps)) k refl place) [
         inl x ↦

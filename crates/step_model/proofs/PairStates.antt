@@ -16,7 +16,7 @@ use Rattle.step_model.specs.Runs.{State, Moment, changed, is_I_or_Z, start_state
 use Rattle.step_model.specs.Shifts.{IsShifted}
 use Rattle.step_model.specs.States.{IsGroup}
 use Rattle.step_model.proofs.ShiftCollapse.{collapsed-none}
-use Rattle.step_model.proofs.ShiftWords.{length-lone_letter}
+use Rattle.step_model.proofs.LoneLetters.{length-lone_letter}
 
 no_clash : (a b : Letter) → is_I_or_Z a ≡ true → is_I_or_Z b ≡ true → letters_clash a b ≡ false
 no_clash a b h k =

@@ -16,7 +16,8 @@ use Rattle.step_model.specs.Sensitivities.{cleared}
 use Rattle.step_model.specs.Shifts.{IsShifted}
 use Rattle.step_model.specs.States.{IsGroup, IsMember}
 use Rattle.step_model.specs.WellFormed.{is_I}
-use Rattle.step_model.proofs.ShiftWords.{length-lone_letter, anticommute-lone_letter, anticommute-parts}
+use Rattle.step_model.proofs.LoneLetters.{length-lone_letter}
+use Rattle.step_model.proofs.ShiftWords.{anticommute-lone, anticommute-parts}
 
 -- two changes of a sign are one
 changed-changed : (a b : Bool) (p : Signed) → changed a (changed b p) ≡ changed (exclusive_or a b) p
@@ -148,8 +149,8 @@ reset-frame : (n q : ℕ) (letter : Letter) (v p : List Letter) → is_I letter 
 reset-frame n q letter v p some inside size size' commutes =
     anticommute-parts p v q
     ∙ ap (λ d. exclusive_or d (anticommute p (slice_set v q I)))
-    (corrected_clash (letter_at p q) (letter_at v q) letter some (sym (anticommute-lone_letter p n q letter size' inside) ∙ commutes)
-    ∙ ap₂ (λ x y. x && y) (sym (anticommute-lone_letter v n q letter size inside)) (sym (anticommute-lone_letter p n q (correcting letter) size' inside)))
+    (corrected_clash (letter_at p q) (letter_at v q) letter some (sym (anticommute-lone p n q letter size' inside) ∙ commutes)
+    ∙ ap₂ (λ x y. x && y) (sym (anticommute-lone v n q letter size inside)) (sym (anticommute-lone p n q (correcting letter) size' inside)))
 
 -- after a reset the states differ by the frame with the qubit's letter dropped
 pub reset-shifted : (n q : ℕ) (letter : Letter) (v : List Letter) (s t : State) (seen coin : Bool)

@@ -15,7 +15,7 @@ use Rattle.step_model.specs.Sensitivities.{multiplied, is_collapse, collapse_wor
 use Rattle.step_model.specs.Shifts.{joined, outcomes_from, carried_with, carried_over, flip_at, flips_with, record_flip_at, record_flips, IsShifted, DifferByFrame, IsShift, ShiftLaw, SameFaults, SameFaultsLaw}
 use Rattle.step_model.specs.WellFormed.{step_fits}
 use Rattle.step_model.proofs.ShiftSteps.{next-differ, outcome-next}
-use Rattle.step_model.proofs.ShiftWords.{length-lone_letter}
+use Rattle.step_model.proofs.LoneLetters.{length-lone_letter}
 
 -- the outcomes of a step and of those after it
 step-outcomes : (program : Listing) (these those : List Bool) (step : Step) (steps : List Step) (v : List Letter) (rest earlier : List Bool) (m m' : Moment)

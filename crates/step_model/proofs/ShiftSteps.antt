@@ -16,10 +16,12 @@ use Rattle.step_model.specs.Sensitivities.{cleared, multiplied, is_collapse, col
 use Rattle.step_model.specs.Shifts.{joined, carried_with, flip_at, record_flip_at, IsShifted, DifferByFrame}
 use Rattle.step_model.specs.States.{IsGroup}
 use Rattle.step_model.specs.WellFormed.{step_fits, is_I, flip_fits}
-use Rattle.step_model.proofs.BorrowedForShift.{IsGroup-next, image_of_preimage, image_of_preimage_two, anticommute-images, anticommute-images_two}
+use Rattle.step_model.proofs.ShiftGates.{image_of_preimage, image_of_preimage_two, anticommute-images, anticommute-images_two}
+use Rattle.step_model.proofs.StateIsGroup.{IsGroup-next}
 use Rattle.step_model.proofs.ShiftCollapse.{outcome-shifted, collapsed-shifted, reset-shifted}
 use Rattle.step_model.proofs.ShiftLists.{joined-append}
-use Rattle.step_model.proofs.ShiftWords.{length-lone_letter, length-effect_word}
+use Rattle.step_model.proofs.LoneLetters.{length-lone_letter}
+use Rattle.step_model.proofs.ShiftWords.{length-effect_word}
 
 first_of_three : (a b c : Bool) → a && b && c ≡ true → a ≡ true
 first_of_three true b c h = refl

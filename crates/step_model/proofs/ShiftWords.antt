@@ -11,15 +11,10 @@ use Rattle.pauli_word.proofs.LetterLaws.{letters_clash_comm, letters_clash_of_I}
 use Rattle.pauli_word.proofs.WordLaws.{anticommute_comm, anticommute_of_none, length-letters_product}
 use Rattle.step_model.specs.declared.step.Term.{Term}
 use Rattle.step_model.specs.Listing.{Effect, Applies, Flips, word_of_terms, effect_word}
-
-suc_injective : (m n : ℕ) → suc m ≡ suc n → m ≡ n
-suc_injective m n h = cc
+use Rattle.step_model.proofs.LoneLetters.{length-lone_letter, anticommute-lone_letter}
 
 letters_clash-I : (a : Letter) → letters_clash a I ≡ false
 letters_clash-I a = letters_clash_comm a I ∙ letters_clash_of_I a
-
-pub length-lone_letter : (n q : ℕ) (a : Letter) → length (lone_letter n q a) ≡ n
-length-lone_letter n q a = length-set (no_letters n) q a ∙ length-replicate n I
 
 length-word_of_terms : (n : ℕ) (terms : List Term) → length (word_of_terms n terms) ≡ n
 length-word_of_terms n [] = length-replicate n I
@@ -37,13 +32,9 @@ pub anticommute-none : (p : List Letter) (n : ℕ) → anticommute p (no_letters
 anticommute-none p n = anticommute_comm p (no_letters n) ∙ anticommute_of_none n p
 
 -- a word anticommutes with a lone letter where its letter there clashes
-pub anticommute-lone_letter : (p : List Letter) (n q : ℕ) (a : Letter) → length p ≡ n → q < n → anticommute p (lone_letter n q a) ≡ letters_clash (letter_at p q) a
-anticommute-lone_letter p zero q a h k = absurd (omega arith)
-anticommute-lone_letter [] (suc n) q a h k = cc
-anticommute-lone_letter (x ∷ p) (suc n) zero a h k =
-    ap (exclusive_or (letters_clash x a)) (anticommute-none p n) ∙ exclusive_or-false (letters_clash x a)
-anticommute-lone_letter (x ∷ p) (suc n) (suc q) a h k =
-    ap₂ exclusive_or (letters_clash-I x) (anticommute-lone_letter p n q a (suc_injective _ _ h) (omega arith))
+pub anticommute-lone : (p : List Letter) (n q : ℕ) (a : Letter) → length p ≡ n → q < n → anticommute p (lone_letter n q a) ≡ letters_clash (letter_at p q) a
+anticommute-lone p n q a size inside =
+    anticommute_comm p (lone_letter n q a) ∙ anticommute-lone_letter n p q a size inside ∙ letters_clash_comm a (letter_at p q)
 
 -- the part at a qubit, and that at the other qubits
 pub anticommute-parts : (p v : List Letter) (q : ℕ) → anticommute p v ≡ exclusive_or (letters_clash (letter_at p q) (letter_at v q)) (anticommute p (slice_set v q I))

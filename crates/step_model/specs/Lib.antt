@@ -2,6 +2,8 @@ pub mod Ends
 pub mod ErrorModels
 pub mod Faults
 pub mod Frames
+pub mod HitModels
+pub mod Hits
 pub mod Images
 pub mod Listing
 pub mod Made

@@ -5,7 +5,7 @@
 -- multiplies the frame, and a record that is flipped in one run and not in the other is changed besides.
 -- So the two coin lists of a place give its target different parities, and the target is random.
 -- (Knill, Quantum computing with realistically noisy devices, Nature 434, 39 (2005): Pauli frames.)
-use Rattle.std.specs.Prelude.{◌≡◌, ◌≢◌, ℕ, Bool, if◌then◌else◌, List, [], ◌∷◌, ◌++◌, length, drop, Some}
+use Rattle.std.specs.Prelude.{◌≡◌, ◌≢◌, ◌↔◌, ℕ, Bool, if◌then◌else◌, List, [], ◌∷◌, ◌++◌, length, drop, Some}
 use Rattle.std.specs.List.{AllPass}
 use Rattle.pauli_word.specs.Parity.{exclusive_or}
 use Rattle.pauli_word.specs.declared.letter.Letter.{Letter}
@@ -124,3 +124,6 @@ PairLaw = (program : Listing) (d : ℕ) (place : Place) → IsWellFormed program
 
 abbrev pub PlaceLaw : Type 0
 PlaceLaw = (program : Listing) (d : ℕ) (place : Place) → IsWellFormed program → place_of program d ≡ Some place → IsRandom program d
+
+abbrev pub RandomLaw : Type 0
+RandomLaw = (program : Listing) (d : ℕ) → IsWellFormed program → IsRandom program d ↔ (place : Place) × (place_of program d ≡ Some place)

@@ -2,16 +2,17 @@
 //! these the causes for which a text is refused, and the byte ends that texts are read from and written to.
 #![tactic(auto)]
 
+pub mod constancy;
 mod ends;
 mod fault;
+pub mod laws;
 mod memory;
 mod program;
-mod shift;
+pub mod shift;
 mod step;
 
 pub use ends::{Sink, Source, read_all, write_all};
 pub use fault::{Cause, Fault};
 pub use memory::{MemorySink, MemorySource};
 pub use program::{FaultPart, Parts, Program};
-pub use shift::{frames_shift_runs, pair_disagrees, place_makes_random};
 pub use step::{Place, Step, Term};

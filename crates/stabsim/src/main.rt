@@ -1,0 +1,4 @@
+//! The program: reads a circuit from standard input, does what its command line asks, and writes to standard output.
+#![tactic(auto)]
+
+fn main() {}
