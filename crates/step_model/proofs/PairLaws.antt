@@ -1,9 +1,9 @@
 -- The coin pair of a place gives its target different parities, so the target is random.
-use Rattle.std.proofs.Common.{◌≡◌, ◌≢◌, ℕ, ◌<◌, ◌⊎◌, inl, inr, not, Bool, true, false, List, [], length, replicate, Option, None, Some, refl, ap, sym, ◌∙◌, subst}
+use Rattle.std.proofs.Common.{◌≡◌, ◌≢◌, ℕ, ◌<◌, inl, inr, not, Bool, true, false, List, [], length, replicate, Option, None, Some, ap, sym, ◌∙◌, subst}
 use Rattle.std.proofs.lemmas.List.{length-replicate}
 use Rattle.std.specs.Option.{option_map}
 use Rattle.pauli_word.specs.declared.letter.Letter.TheVariants.{Z}
-use Rattle.pauli_word.specs.Words.{anticommute, lone_letter}
+use Rattle.pauli_word.specs.Words.{lone_letter}
 use Rattle.pauli_word.proofs.WordLaws.{anticommute_comm}
 use Rattle.step_model.specs.declared.step.Place.{Place}
 use Rattle.step_model.specs.declared.step.Place.TheVariants.{Start, After}
@@ -12,7 +12,7 @@ use Rattle.step_model.specs.Listing.{Listing}
 use Rattle.step_model.specs.Runs.{start}
 use Rattle.step_model.specs.Sensitivities.{after_or_start, latest_place, sensitivity, lowest_X_or_Y, place_of}
 use Rattle.step_model.specs.Shifts.{joined, Disagrees, PairLaw, PlaceLaw, RandomLaw}
-use Rattle.step_model.specs.Targets.{target_at, noiseless_parity}
+use Rattle.step_model.specs.Targets.{target_at}
 use Rattle.step_model.specs.WellFormed.{IsWellFormed}
 use Rattle.step_model.proofs.StateIsGroup.{IsGroup-start}
 use Rattle.step_model.proofs.ConstancyRuns.{length-sensitivity, parity_is_constant}
@@ -38,13 +38,13 @@ after_disagrees : (program : Listing) (d k : ℕ) → IsWellFormed program → l
 after_disagrees program d k fit place =
     let coins = pair_coins program (After k) in
     let long : length coins ≡ program.collapses =
-      length-flips_after program.qubits (first_word program (After k)) program.steps k (place_inside program.qubits (target_at program d) program.steps k place)
-      ∙ fit.collapses_counted in
+    length-flips_after program.qubits (first_word program (After k)) program.steps k (place_inside program.qubits (target_at program d) program.steps k place)
+    ∙ fit.collapses_counted in
     record {
       first = length-replicate program.collapses false;
       second = long;
       parities = not_same _ _ (place_disagrees program (target_at program d) program.steps k (start (zero_coins program)) coins fit.steps_fit
-        (program.records, fit.records_in_order) (IsGroup-start program.qubits) place (from_zeros coins program.collapses long));
+          (program.records, fit.records_in_order) (IsGroup-start program.qubits) place (from_zeros coins program.collapses long));
     }
 
 -- a target whose place is in the start
@@ -61,11 +61,11 @@ start_disagrees program d q fit place =
       first = length-replicate program.collapses false;
       second = long;
       parities = not_same _ _ (frame_disagrees program named program.steps v (start (zero_coins program)) coins fit.steps_fit
-        (program.records, fit.records_in_order) (length-lone_letter n q Z) (IsGroup-start n)
-        (start-shifted n v (lone_letter-I_or_Z n q)) (from_zeros coins program.collapses long)
-        (anticommute_comm v w
-        ∙ anticommute-lone w n q Z (length-sensitivity n named program.steps) (subst (λ m. q < m) (length-sensitivity n named program.steps) clash.0)
-        ∙ clash.1));
+          (program.records, fit.records_in_order) (length-lone_letter n q Z) (IsGroup-start n)
+          (start-shifted n v (lone_letter-I_or_Z n q)) (from_zeros coins program.collapses long)
+          (anticommute_comm v w
+          ∙ anticommute-lone w n q Z (length-sensitivity n named program.steps) (subst (λ m. q < m) (length-sensitivity n named program.steps) clash.0)
+          ∙ clash.1));
     }
 
 pub pair_disagrees : PairLaw
@@ -73,10 +73,10 @@ pair_disagrees program d place fit h =
     let latest = latest_place program.qubits (target_at program d) program.steps in
     let w = sensitivity program.qubits (target_at program d) program.steps in
     elim (option_either latest) [
-        inl none ↦
+      | inl none ↦
           (let e : option_map Start (lowest_X_or_Y w) ≡ Some place = sym (ap (λ o. after_or_start o w) none) ∙ h in
           elim (option_either (lowest_X_or_Y w)) [
-              inl nowhere ↦ (let f : ◌≡◌ {A = Option Place} None (Some place) = sym (ap (option_map Start) nowhere) ∙ e in cc)
+            | inl nowhere ↦ (let f : ◌≡◌ {A = Option Place} None (Some place) = sym (ap (option_map Start) nowhere) ∙ e in cc)
             | inr x ↦
                 (let f : ◌≡◌ {A = Option Place} (Some (Start x.0)) (Some place) = sym (ap (option_map Start) x.1) ∙ e in
                 subst (Disagrees program d) (some_place _ _ f) (start_disagrees program d x.0 fit x.1))
@@ -95,9 +95,10 @@ place_makes_random program d place fit h =
     (zero_coins program, pair_coins program place, pair.first, pair.second, pair.parities)
 
 pub random_exactly_with_place : RandomLaw
-random_exactly_with_place program d fit =
-    ( (λ random. elim (option_either (place_of program d)) [
-          inl none ↦ absurd (random.4 (parity_is_constant program d fit none [] random.0 random.1))
-        | inr x ↦ x
-      ])
-    , (λ x. place_makes_random program d x.0 fit x.1) )
+random_exactly_with_place program d fit = (
+  (λ random. elim (option_either (place_of program d)) [
+    | inl none ↦ absurd (random.4 (parity_is_constant program d fit none [] random.0 random.1))
+    | inr x ↦ x
+  ]),
+  (λ x. place_makes_random program d x.0 fit x.1),
+)

@@ -1,28 +1,26 @@
 -- The flips of a frame over the records that a target names: their parity says whether the frame anticommutes with the
 -- target's sensitivity where the frame begins.
-use Rattle.std.proofs.Common.{◌≡◌, ℕ, zero, suc, ◌+◌, ◌&&◌, Bool, true, false, List, [], ◌∷◌, ◌++◌, length, length-append, length-set, append-nil, replicate, Option, None, Some, refl, ap, ap₂, sym, ◌∙◌, add-one}
-use Rattle.std.proofs.lemmas.List.{length-replicate}
+use Rattle.std.proofs.Common.{◌≡◌, ℕ, zero, suc, ◌+◌, ◌&&◌, Bool, true, false, List, [], ◌∷◌, ◌++◌, length, length-set, append-nil, replicate, Option, None, Some, refl, ap, ap₂, sym, ◌∙◌, add-one}
 use Rattle.std.proofs.lemmas.List.Elements.{All-head, All-tail}
 use Rattle.std.specs.List.{AllPass, range_with_len}
 use Rattle.pauli_word.specs.declared.letter.Letter.{Letter}
-use Rattle.pauli_word.specs.declared.letter.Letter.TheVariants.{I}
 use Rattle.pauli_word.specs.Parity.{exclusive_or}
-use Rattle.pauli_word.specs.Words.{Signed, anticommute, no_letters, lone_letter}
+use Rattle.pauli_word.specs.Words.{Signed, anticommute, lone_letter}
 use Rattle.pauli_word.proofs.Parities.{exclusive_or-false, exclusive_or_self}
 use Rattle.step_model.specs.declared.step.Step.{Step}
 use Rattle.step_model.specs.declared.step.Step.TheVariants.{One, Two, Collapse, Fault}
 use Rattle.step_model.specs.Frames.{carried}
 use Rattle.step_model.specs.Images.{image_at, image_at_two, preimage_at, preimage_at_two}
 use Rattle.step_model.specs.Listing.{Listing}
-use Rattle.step_model.specs.Runs.{Moment, signed, flip_happens, next}
-use Rattle.step_model.specs.Sensitivities.{cleared, multiplied, record_counts, sensitivity_before, sensitivity}
+use Rattle.step_model.specs.Runs.{signed, flip_happens}
+use Rattle.step_model.specs.Sensitivities.{cleared, record_counts, sensitivity_before, sensitivity}
 use Rattle.step_model.specs.Shifts.{carried_with, record_flips}
 use Rattle.step_model.specs.Targets.{parity, is_listed}
 use Rattle.step_model.specs.WellFormed.{step_fits, records_made}
 use Rattle.step_model.proofs.ShiftGates.{image_of_preimage, image_of_preimage_two, anticommute-images, anticommute-images_two}
 use Rattle.step_model.proofs.ShiftLists.{parity-zeros, parity-split}
 use Rattle.step_model.proofs.ShiftRuns.{same-carried}
-use Rattle.step_model.proofs.ShiftSteps.{length-multiplied, length-cleared, length-carried_with, anticommute-multiplied}
+use Rattle.step_model.proofs.ShiftSteps.{length-cleared, length-carried_with, anticommute-multiplied}
 use Rattle.step_model.proofs.ShiftWords.{anticommute-none, anticommute-cleared}
 use Rattle.step_model.proofs.ConstancyRuns.{length-sensitivity}
 use Rattle.step_model.proofs.LoneLetters.{length-lone_letter}
@@ -70,7 +68,7 @@ flip_sum-sensitivity program named (step ∷ steps) v fit size =
     ap (exclusive_or (counted_flip program.qubits named v step))
     (flip_sum-sensitivity program named steps (carried step v) (All-tail (λ x. step_fits program x ≡ true) step steps fit) (length-carried program step v size))
     ∙ step-balance program named step v (sensitivity program.qubits named steps) (All-head (λ x. step_fits program x ≡ true) step steps fit) size
-      (length-sensitivity program.qubits named steps)
+    (length-sensitivity program.qubits named steps)
 
 -- these steps make the records from number r on
 abbrev pub Numbered : ℕ → List Step → Type 0
@@ -94,9 +92,9 @@ parity-record_flips program faults named (Collapse letter q (Some s) reset inver
     let u = lone_letter program.qubits q letter in
     parity-split named r _ (record_flips program faults faults (cleared reset q v) steps)
     ∙ ap₂ exclusive_or
-      (ap₂ (λ k b. is_listed named k && b) (sym numbered.0)
-      (ap (exclusive_or (anticommute v u)) (exclusive_or_self (flip_happens faults flip)) ∙ exclusive_or-false (anticommute v u)))
-      (parity-record_flips program faults named steps (cleared reset q v) (suc r) numbered.1)
+    (ap₂ (λ k b. is_listed named k && b) (sym numbered.0)
+    (ap (exclusive_or (anticommute v u)) (exclusive_or_self (flip_happens faults flip)) ∙ exclusive_or-false (anticommute v u)))
+    (parity-record_flips program faults named steps (cleared reset q v) (suc r) numbered.1)
 parity-record_flips program faults named (Fault f ∷ steps) v r h =
     parity-record_flips program faults named steps (carried_with program faults faults (Fault f) v) r h
     ∙ ap (λ w. flip_sum program.qubits named w steps) (same-carried program faults v (Fault f))

@@ -1,17 +1,16 @@
 -- Where the place of a target is, and how many flips the frame begun there has.
-use Rattle.std.proofs.Common.{◌≡◌, ℕ, zero, suc, ◌+◌, ◌<◌, ◌⊎◌, inl, inr, if◌then◌else◌, Bool, true, false, List, [], ◌∷◌, ◌++◌, length, replicate, get_or, length-append, Option, None, Some, refl, ap, ap₂, sym, ◌∙◌, subst, arith, add-one}
-use Rattle.std.proofs.lemmas.List.{length-replicate}
+use Rattle.std.proofs.Common.{◌≡◌, ℕ, zero, suc, ◌+◌, ◌<◌, ◌⊎◌, inl, inr, if◌then◌else◌, Bool, true, false, List, [], ◌∷◌, ◌++◌, length, replicate, get_or, Option, None, Some, refl, ap, sym, ◌∙◌, subst, arith}
 use Rattle.std.proofs.lemmas.Bool.{cases_Bool}
 use Rattle.std.specs.Option.{option_map}
 use Rattle.pauli_word.specs.declared.letter.Letter.{Letter}
 use Rattle.pauli_word.specs.declared.letter.Letter.TheVariants.{I, X, Y, Z}
 use Rattle.pauli_word.specs.Letters.{letters_clash}
-use Rattle.pauli_word.specs.Words.{letter_at, anticommute, no_letters}
+use Rattle.pauli_word.specs.Words.{letter_at}
 use Rattle.pauli_word.proofs.WordLaws.{anticommute_of_none}
 use Rattle.step_model.specs.declared.step.Step.{Step}
 use Rattle.step_model.specs.declared.step.Step.TheVariants.{One, Two, Collapse, Fault}
-use Rattle.step_model.specs.Frames.{carried, flips_from, steps_after_each}
-use Rattle.step_model.specs.Sensitivities.{is_collapse, collapse_word, collapse_count, later_or_here, latest_place, sensitivity, has_X_or_Y, lowest_X_or_Y}
+use Rattle.step_model.specs.Frames.{flips_from, steps_after_each}
+use Rattle.step_model.specs.Sensitivities.{is_collapse, collapse_count, later_or_here, latest_place, sensitivity, has_X_or_Y, lowest_X_or_Y}
 
 pub option_either : {T : Type 0} → (o : Option T) → (o ≡ None) ⊎ ((x : T) × (o ≡ Some x))
 option_either None = inl refl
@@ -63,7 +62,7 @@ place_inside n named (Two gate a b ∷ steps) k h =
     omega arith
 place_inside n named (Collapse letter q rec reset inverted flip ∷ steps) k h =
     elim (later_or_this (Collapse letter q rec reset inverted flip) (latest_place n named steps) _ k refl h) [
-        inl x ↦ (let e : x.0 < collapse_count steps = place_inside n named steps x.0 x.1 in omega arith)
+      | inl x ↦ (let e : x.0 < collapse_count steps = place_inside n named steps x.0 x.1 in omega arith)
       | inr x ↦ omega arith
     ]
 place_inside n named (Fault f ∷ steps) k h =
@@ -90,14 +89,14 @@ pub lowest-clash : (w : List Letter) (q : ℕ) → lowest_X_or_Y w ≡ Some q �
 lowest-clash [] q h = cc
 lowest-clash (a ∷ w) q h =
     elim (cases_Bool (has_X_or_Y a)) [
-        inl k ↦
+      | inl k ↦
           (let e : ◌≡◌ {A = Option ℕ} (Some 0) (Some q) = sym (ap (λ b. if b then Some 0 else option_map suc (lowest_X_or_Y w)) k) ∙ h in
           let z : 0 ≡ q = some_injective _ _ e in
           subst (λ i. (i < length (a ∷ w)) × (letters_clash (letter_at (a ∷ w) i) Z ≡ true)) z (omega arith, clash-Z a k))
       | inr k ↦
           (let e : option_map suc (lowest_X_or_Y w) ≡ Some q = sym (ap (λ b. if b then Some 0 else option_map suc (lowest_X_or_Y w)) k) ∙ h in
           elim (option_either (lowest_X_or_Y w)) [
-              inl none ↦ (let f = sym (ap (option_map suc) none) ∙ e in cc)
+            | inl none ↦ (let f = sym (ap (option_map suc) none) ∙ e in cc)
             | inr some ↦
                 (let f : ◌≡◌ {A = Option ℕ} (Some (suc some.0)) (Some q) = sym (ap (option_map suc) some.1) ∙ e in
                 let z : suc some.0 ≡ q = some_injective _ _ f in

@@ -1,8 +1,8 @@
 -- The two runs of a coin pair: up to the place they are one, and from there on they differ by the frame begun there.
-use Rattle.std.proofs.Common.{◌≡◌, ℕ, zero, suc, ◌+◌, ◌⊎◌, inl, inr, not, if◌then◌else◌, is_some, Bool, true, false, List, [], ◌∷◌, ◌++◌, length, drop, get_or, replicate, length-append, Option, None, Some, refl, ap, ap₂, sym, ◌∙◌, subst, add-one}
+use Rattle.std.proofs.Common.{◌≡◌, ℕ, suc, inl, inr, not, if◌then◌else◌, is_some, Bool, true, false, List, [], ◌∷◌, ◌++◌, length, drop, get_or, replicate, Option, None, Some, refl, ap, sym, ◌∙◌}
 use Rattle.std.proofs.lemmas.List.{length-replicate}
 use Rattle.std.proofs.lemmas.List.Elements.{All-head, All-tail}
-use Rattle.std.specs.List.{AllPass, range_with_len}
+use Rattle.std.specs.List.{AllPass}
 use Rattle.pauli_word.specs.declared.letter.Letter.{Letter}
 use Rattle.pauli_word.specs.Parity.{exclusive_or}
 use Rattle.pauli_word.specs.Words.{anticommute, no_letters, lone_letter}
@@ -12,7 +12,7 @@ use Rattle.step_model.specs.declared.step.Step.TheVariants.{One, Two, Collapse, 
 use Rattle.step_model.specs.Frames.{flips_from, steps_after_each, words_collapsed}
 use Rattle.step_model.specs.Listing.{Listing}
 use Rattle.step_model.specs.Runs.{State, Moment, correcting, corrected, outcome, collapsed, flip_happens, next_coin, next, run_from}
-use Rattle.step_model.specs.Sensitivities.{is_collapse, collapse_word, latest_place, sensitivity}
+use Rattle.step_model.specs.Sensitivities.{latest_place, sensitivity}
 use Rattle.step_model.specs.Shifts.{joined, flips_with, record_flips, IsShifted, DifferByFrame, IsShift}
 use Rattle.step_model.specs.States.{IsGroup}
 use Rattle.step_model.specs.Targets.{parity}
@@ -50,9 +50,9 @@ frame_disagrees program named steps v m coins fit numbered size group shifted fl
     ap (parity named) shift.ends.records
     ∙ parity-joined named (earlier ++ record_flips program [] [] v steps) (run_from program [] steps m).records
     ∙ ap (λ b. exclusive_or b (parity named (run_from program [] steps m).records))
-      (parity-record_flips program [] named steps v (length m.records) numbered
-      ∙ flip_sum-sensitivity program named steps v fit size
-      ∙ clashes)
+    (parity-record_flips program [] named steps v (length m.records) numbered
+    ∙ flip_sum-sensitivity program named steps v fit size
+    ∙ clashes)
 
 -- a moment of its parts
 abbrev moment : State → List Bool → List Bool → Moment
@@ -68,7 +68,7 @@ same-collapse program faults letter q rec reset inverted flip m coins h =
     let changes = exclusive_or inverted (flip_happens faults flip) in
     ap
     (λ (coin : Bool). moment (corrected correction (outcome m.state w coin) (collapsed w coin m.state)) (drop 1 coins)
-      (if is_some rec then m.records ++ exclusive_or (outcome m.state w coin) changes ∷ [] else m.records))
+    (if is_some rec then m.records ++ exclusive_or (outcome m.state w coin) changes ∷ [] else m.records))
     h
 
 -- the coins of a pair, whose frame begins after collapse k of these steps
@@ -98,7 +98,7 @@ place_disagrees program named (Collapse letter q rec reset inverted flip ∷ ste
     let numbered_after : Numbered (length (next program [] step m).records) steps = in_order-next program [] step (records_made steps) m numbered.0 numbered.1 in
     let after = λ (c : Moment). parity named (run_from program [] steps c).records in
     elim (later_or_this step (latest_place n named steps) (anticommute w (sensitivity n named steps)) k refl place) [
-        inl x ↦
+      | inl x ↦
           (let e : coins ≡ joined (flips_after n (step ∷ steps) (suc x.0)) m.coins = flipped ∙ ap (λ i. joined (flips_after n (step ∷ steps) i) m.coins) x.2 in
           ap after (same-collapse program [] letter q rec reset inverted flip m coins (ap next_coin e))
           ∙ place_disagrees program named steps x.0 (next program [] step m) (drop 1 coins) fit_after numbered_after group_after x.1 (ap (drop 1) e))
@@ -106,7 +106,7 @@ place_disagrees program named (Collapse letter q rec reset inverted flip ∷ ste
           (let e : coins ≡ joined (flips_after n (step ∷ steps) 0) m.coins = flipped ∙ ap (λ i. joined (flips_after n (step ∷ steps) i) m.coins) x.2 in
           ap after (same-collapse program [] letter q rec reset inverted flip m coins (ap next_coin e))
           ∙ frame_disagrees program named steps w (next program [] step m) (drop 1 coins) fit_after numbered_after (length-lone_letter n q letter) group_after
-            (collapse-shifted program [] letter q rec reset inverted flip m group) (ap (drop 1) e) x.1)
+          (collapse-shifted program [] letter q rec reset inverted flip m group) (ap (drop 1) e) x.1)
     ]
 place_disagrees program named (Fault f ∷ steps) k m coins fit numbered group place flipped =
     place_disagrees program named steps k (next program [] (Fault f) m) coins (All-tail (λ x. step_fits program x ≡ true) (Fault f) steps fit) numbered

@@ -1,21 +1,21 @@
 -- Frames that change no sign of a state: at the start those of I and Z, and after a collapse that of its word.
-use Rattle.std.proofs.Common.{◌≡◌, ℕ, zero, suc, ◌<◌, not, ◌&&◌, ◌||◌, Bool, true, false, inl, inr, List, [], ◌∷◌, length, Option, refl, ap, ap₂, sym, ◌∙◌}
+use Rattle.std.proofs.Common.{◌≡◌, ℕ, zero, suc, not, ◌&&◌, ◌||◌, Bool, true, false, inl, inr, List, [], ◌∷◌, length, Option, refl, ap, ap₂, sym, ◌∙◌}
 use Rattle.std.proofs.lemmas.Bool.{cases_Bool, and_parts}
 use Rattle.std.specs.List.{list_all}
 use Rattle.pauli_word.specs.declared.letter.Letter.{Letter}
-use Rattle.pauli_word.specs.declared.letter.Letter.TheVariants.{I, Z}
+use Rattle.pauli_word.specs.declared.letter.Letter.TheVariants.{Z}
 use Rattle.pauli_word.specs.Letters.{letters_clash}
 use Rattle.pauli_word.specs.Parity.{exclusive_or}
-use Rattle.pauli_word.specs.Words.{Signed, anticommute, no_letters, lone_letter}
+use Rattle.pauli_word.specs.Words.{Signed, anticommute, letters_product, no_letters, lone_letter}
 use Rattle.pauli_word.proofs.Parities.{same_truth, same_truth-true}
 use Rattle.pauli_word.proofs.LetterLaws.{at_letters}
-use Rattle.step_model.specs.declared.step.Step.{Step}
 use Rattle.step_model.specs.declared.step.Step.TheVariants.{Collapse}
 use Rattle.step_model.specs.Listing.{Listing}
-use Rattle.step_model.specs.Runs.{State, Moment, changed, is_I_or_Z, start_state, next_coin, outcome, next}
+use Rattle.step_model.specs.Runs.{State, Moment, changed, is_I_or_Z, start_state, next_coin, next}
 use Rattle.step_model.specs.Shifts.{IsShifted}
 use Rattle.step_model.specs.States.{IsGroup}
-use Rattle.step_model.proofs.ShiftCollapse.{collapsed-none}
+use Rattle.step_model.proofs.ShiftCollapse.{changed-changed, collapsed-none}
+use Rattle.step_model.proofs.ShiftSteps.{anticommute-multiplied}
 use Rattle.step_model.proofs.LoneLetters.{length-lone_letter}
 
 no_clash : (a b : Letter) → is_I_or_Z a ≡ true → is_I_or_Z b ≡ true → letters_clash a b ≡ false
@@ -36,7 +36,7 @@ I_or_Z-commute (a ∷ p) (b ∷ v) h k =
 pub start-shifted : (n : ℕ) (v : List Letter) → list_all is_I_or_Z v ≡ true → IsShifted n v start_state start_state
 start-shifted n v h p size =
     elim (cases_Bool (list_all is_I_or_Z p.letters)) [
-        inl k ↦ ap (λ b. start_state (changed b p)) (sym (I_or_Z-commute p.letters v k h))
+      | inl k ↦ ap (λ b. start_state (changed b p)) (sym (I_or_Z-commute p.letters v k h))
       | inr k ↦ ap (λ b. b && not p.negative) k ∙ sym (ap (λ b. b && not (exclusive_or (anticommute p.letters v) p.negative)) k)
     ]
 
@@ -66,8 +66,16 @@ collapse-shifted program faults letter q rec reset inverted flip m group p size 
     let w = lone_letter program.qubits q letter in
     let s = (next program faults (Collapse letter q rec reset inverted flip) m).state in
     elim (cases_Bool (anticommute p.letters w)) [
-        inl h ↦
+      | inl h ↦
           next-none program faults letter q rec reset inverted flip m p group size h
           ∙ sym (next-none program faults letter q rec reset inverted flip m (changed (anticommute p.letters w) p) group size h)
       | inr h ↦ ap (λ b. s (changed b p)) (sym h)
     ]
+
+-- a frame may be multiplied by one that changes no sign of the first state
+pub shifted-times : (n : ℕ) (v w : List Letter) (s t : State) → length w ≡ length v → IsShifted n v s t → IsShifted n w s s → IsShifted n (letters_product w v) s t
+shifted-times n v w s t sizes shifted same p size =
+    shifted p size
+    ∙ same (changed (anticommute p.letters v) p) size
+    ∙ ap s (changed-changed (anticommute p.letters w) (anticommute p.letters v) p)
+    ∙ ap (λ b. s (changed b p)) (sym (anticommute-multiplied true p.letters w v sizes))

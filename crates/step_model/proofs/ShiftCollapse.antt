@@ -1,26 +1,25 @@
 -- A collapse, and a reset after it, where two states differ by a frame: the outcomes differ by the collapse's flip, and
 -- the states after it differ by the frame, cleared where there is a reset.
-use Rattle.std.proofs.Common.{◌≡◌, ℕ, Bool, true, false, not, ◌&&◌, ◌||◌, if◌then◌else◌, ◌⊎◌, inl, inr, ◌<◌, List, length, slice_set, refl, ap, ap₂, sym, ◌∙◌, subst}
+use Rattle.std.proofs.Common.{◌≡◌, ℕ, Bool, true, false, not, ◌&&◌, ◌||◌, if◌then◌else◌, inl, inr, ◌<◌, List, length, slice_set, refl, ap, ap₂, sym, ◌∙◌}
 use Rattle.std.proofs.lemmas.Bool.{cases_Bool, or_cases}
 use Rattle.pauli_word.specs.declared.letter.Letter.{Letter}
 use Rattle.pauli_word.specs.declared.letter.Letter.TheVariants.{I}
 use Rattle.pauli_word.specs.Letters.{letters_clash, is_minus}
 use Rattle.pauli_word.specs.Parity.{exclusive_or}
-use Rattle.pauli_word.specs.Words.{Signed, anticommute, product, no_letters, lone_letter, letter_at, letters_product, letters_power}
-use Rattle.pauli_word.proofs.Parities.{exclusive_or-false, exclusive_or_self, exclusive_or_assoc, exclusive_or_comm, same_truth, same_truth-true, at_six_truths}
+use Rattle.pauli_word.specs.Words.{Signed, anticommute, product, no_letters, lone_letter, letter_at}
+use Rattle.pauli_word.proofs.Parities.{exclusive_or_assoc, same_truth, same_truth-true, at_six_truths}
 use Rattle.pauli_word.proofs.LetterLaws.{at_three_letters}
 use Rattle.pauli_word.proofs.WordLaws.{anticommute_comm, anticommute-product, length-letters_product, letters_product_self, letters_power_self}
 use Rattle.pauli_word.proofs.SignedLaws.{product-changed_left, product-changed_right}
 use Rattle.step_model.specs.Runs.{State, signed, changed, outcome, is_decided, collapsed, applied, correcting}
-use Rattle.step_model.specs.Sensitivities.{cleared}
 use Rattle.step_model.specs.Shifts.{IsShifted}
-use Rattle.step_model.specs.States.{IsGroup, IsMember}
+use Rattle.step_model.specs.States.{IsGroup}
 use Rattle.step_model.specs.WellFormed.{is_I}
 use Rattle.step_model.proofs.LoneLetters.{length-lone_letter}
 use Rattle.step_model.proofs.ShiftWords.{anticommute-lone, anticommute-parts}
 
 -- two changes of a sign are one
-changed-changed : (a b : Bool) (p : Signed) → changed a (changed b p) ≡ changed (exclusive_or a b) p
+pub changed-changed : (a b : Bool) (p : Signed) → changed a (changed b p) ≡ changed (exclusive_or a b) p
 changed-changed a b p = ap (signed p.letters) (sym (exclusive_or_assoc a b p.negative))
 
 -- a state doesn't have both a word and minus the word
@@ -88,12 +87,12 @@ product-shifted n v w s t coin p shifted size size' =
     let c = anticommute p.letters v in
     shifted (product (signed w (exclusive_or b coin)) p) (length-letters_product w p.letters (size ∙ sym size') ∙ size)
     ∙ ap₂ (λ x y. s (changed x y))
-      (anticommute-product w p.letters v (size ∙ sym size') ∙ ap (λ x. exclusive_or x c) (anticommute_comm w v))
-      (product-changed_left b (signed w coin) p)
+    (anticommute-product w p.letters v (size ∙ sym size') ∙ ap (λ x. exclusive_or x c) (anticommute_comm w v))
+    (product-changed_left b (signed w coin) p)
     ∙ ap s
-      (changed-changed (exclusive_or b c) b (product (signed w coin) p)
-      ∙ ap (λ x. changed x (product (signed w coin) p)) (cancel b c)
-      ∙ sym (product-changed_right c (signed w coin) p))
+    (changed-changed (exclusive_or b c) b (product (signed w coin) p)
+    ∙ ap (λ x. changed x (product (signed w coin) p)) (cancel b c)
+    ∙ sym (product-changed_right c (signed w coin) p))
 
 -- whether a word is in the state after a collapse
 abbrev chosen_test : Bool → Bool → Bool → Bool → Bool
@@ -110,14 +109,14 @@ collapsed-shifted n v w s t coin shifted size p size' =
 decided-commutes : (n : ℕ) (w : List Letter) (s : State) (p : Signed) → IsGroup n s → length w ≡ n → length p.letters ≡ n → is_decided s w ≡ true → s p ≡ true → anticommute p.letters w ≡ false
 decided-commutes n w s p group size size' decided member =
     elim (or_cases (s (signed w false)) (s (signed w true)) decided) [
-        inl h ↦ group.commuting p (signed w false) (record { size = size'; member = member }) (record { size = size; member = h })
+      | inl h ↦ group.commuting p (signed w false) (record { size = size'; member = member }) (record { size = size; member = h })
       | inr h ↦ group.commuting p (signed w true) (record { size = size'; member = member }) (record { size = size; member = h })
     ]
 
 decided-none : (n : ℕ) (w : List Letter) (s : State) (p : Signed) → IsGroup n s → length w ≡ n → length p.letters ≡ n → is_decided s w ≡ true → anticommute p.letters w ≡ true → s p ≡ false
 decided-none n w s p group size size' decided clash =
     elim (cases_Bool (s p)) [
-        inl h ↦ (let e = decided-commutes n w s p group size size' decided h in cc)
+      | inl h ↦ (let e = decided-commutes n w s p group size size' decided h in cc)
       | inr h ↦ h
     ]
 
@@ -126,7 +125,7 @@ pub collapsed-none : (n : ℕ) (w : List Letter) (s : State) (coin : Bool) (p : 
 collapsed-none n w s coin p group size size' clash =
     let there = s (product (signed w coin) p) in
     elim (cases_Bool (is_decided s w)) [
-        inl h ↦ ap (λ d. chosen_test d (s p) (anticommute p.letters w) there) h ∙ decided-none n w s p group size size' h clash
+      | inl h ↦ ap (λ d. chosen_test d (s p) (anticommute p.letters w) there) h ∙ decided-none n w s p group size size' h clash
       | inr h ↦ ap₂ (λ d x. chosen_test d (s p) x there) h clash
     ]
 
@@ -156,9 +155,9 @@ reset-frame n q letter v p some inside size size' commutes =
 pub reset-shifted : (n q : ℕ) (letter : Letter) (v : List Letter) (s t : State) (seen coin : Bool)
     → is_I letter ≡ false → q < n → length v ≡ n → IsGroup n s → IsShifted n v s t
     → IsShifted n (slice_set v q I)
-      (applied seen (lone_letter n q (correcting letter)) (collapsed (lone_letter n q letter) coin s))
-      (applied (exclusive_or (anticommute v (lone_letter n q letter)) seen) (lone_letter n q (correcting letter))
-      (collapsed (lone_letter n q letter) (exclusive_or (anticommute v (lone_letter n q letter)) coin) t))
+    (applied seen (lone_letter n q (correcting letter)) (collapsed (lone_letter n q letter) coin s))
+    (applied (exclusive_or (anticommute v (lone_letter n q letter)) seen) (lone_letter n q (correcting letter))
+    (collapsed (lone_letter n q letter) (exclusive_or (anticommute v (lone_letter n q letter)) coin) t))
 reset-shifted n q letter v s t seen coin some inside size group shifted p size' =
     let w = lone_letter n q letter in
     let b = anticommute v w in
@@ -167,7 +166,7 @@ reset-shifted n q letter v s t seen coin some inside size group shifted p size' 
     let long : length w ≡ n = length-lone_letter n q letter in
     collapsed-shifted n v w s t coin shifted long (changed (exclusive_or b seen && k) p) size'
     ∙ elim (cases_Bool (anticommute p.letters w)) [
-        inl h ↦
+      | inl h ↦
           collapsed-none n w s coin (changed (anticommute p.letters v) (changed (exclusive_or b seen && k) p)) group long size' h
           ∙ sym (collapsed-none n w s coin (changed (seen && k) (changed c p)) group long size' h)
       | inr h ↦

@@ -1,18 +1,16 @@
 -- Two runs that differ by a frame, over the steps that are left.
-use Rattle.std.proofs.Common.{◌≡◌, ℕ, Bool, true, List, [], ◌∷◌, ◌++◌, append-nil, append_assoc, refl, ap, ap₂, sym, ◌∙◌, subst}
+use Rattle.std.proofs.Common.{◌≡◌, Bool, true, List, [], ◌∷◌, ◌++◌, append-nil, append_assoc, refl, ap, ap₂, sym, ◌∙◌, subst}
 use Rattle.std.proofs.lemmas.List.Elements.{All-head, All-tail}
-use Rattle.std.specs.List.{AllPass}
 use Rattle.pauli_word.specs.declared.letter.Letter.{Letter}
-use Rattle.pauli_word.specs.Parity.{exclusive_or}
-use Rattle.pauli_word.specs.Words.{anticommute, lone_letter}
+use Rattle.pauli_word.specs.Words.{lone_letter}
 use Rattle.pauli_word.proofs.Parities.{exclusive_or_self}
 use Rattle.step_model.specs.declared.step.Step.{Step}
 use Rattle.step_model.specs.declared.step.Step.TheVariants.{One, Two, Collapse, Fault}
 use Rattle.step_model.specs.Frames.{carried, flips_from}
 use Rattle.step_model.specs.Listing.{Listing, fault_word}
 use Rattle.step_model.specs.Runs.{Moment, happens, next, run_from}
-use Rattle.step_model.specs.Sensitivities.{multiplied, is_collapse, collapse_word}
-use Rattle.step_model.specs.Shifts.{joined, outcomes_from, carried_with, carried_over, flip_at, flips_with, record_flip_at, record_flips, IsShifted, DifferByFrame, IsShift, ShiftLaw, SameFaults, SameFaultsLaw}
+use Rattle.step_model.specs.Sensitivities.{multiplied}
+use Rattle.step_model.specs.Shifts.{joined, outcomes_from, carried_with, carried_over, flip_at, flips_with, record_flip_at, record_flips, DifferByFrame, IsShift, ShiftLaw, SameFaultsLaw}
 use Rattle.step_model.specs.WellFormed.{step_fits}
 use Rattle.step_model.proofs.ShiftSteps.{next-differ, outcome-next}
 use Rattle.step_model.proofs.LoneLetters.{length-lone_letter}
@@ -38,14 +36,14 @@ frames_shift_runs program these those (step ∷ steps) v earlier m m' fit differ
     let rest = flips_with program these those w steps in
     let now = record_flip_at program these those v step in
     let after : DifferByFrame program.qubits w rest (earlier ++ now) (next program these step m) (next program those step m') =
-      next-differ program these those step v rest earlier m m' (All-head (λ x. step_fits program x ≡ true) step steps fit) differ in
+    next-differ program these those step v rest earlier m m' (All-head (λ x. step_fits program x ≡ true) step steps fit) differ in
     let shift : IsShift program these those steps w (earlier ++ now) (next program these step m) (next program those step m') =
-      frames_shift_runs program these those steps w (earlier ++ now) (next program these step m) (next program those step m') (All-tail (λ x. step_fits program x ≡ true) step steps fit) after in
+    frames_shift_runs program these those steps w (earlier ++ now) (next program these step m) (next program those step m') (All-tail (λ x. step_fits program x ≡ true) step steps fit) after in
     record {
       outcomes = step-outcomes program these those step steps v rest earlier m m' differ shift.outcomes;
       ends =
-        subst (λ flips. DifferByFrame program.qubits (carried_over program these those steps w) [] flips (run_from program these steps (next program these step m)) (run_from program those steps (next program those step m')))
-        (append_assoc earlier now (record_flips program these those w steps)) shift.ends;
+          subst (λ flips. DifferByFrame program.qubits (carried_over program these those steps w) [] flips (run_from program these steps (next program these step m)) (run_from program those steps (next program those step m')))
+          (append_assoc earlier now (record_flips program these those w steps)) shift.ends;
     }
 
 pub same-carried : (program : Listing) (faults : List Bool) (v : List Letter) (step : Step) → carried_with program faults faults step v ≡ carried step v

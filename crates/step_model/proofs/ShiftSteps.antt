@@ -1,20 +1,19 @@
 -- One step of two runs that differ by a frame: afterwards they differ by the frame carried over it.
-use Rattle.std.proofs.Common.{◌≡◌, ℕ, ◌+◌, Bool, true, false, not, ◌&&◌, ◌==◌, nat_lt, if◌then◌else◌, List, [], ◌∷◌, ◌++◌, length, drop, length-set, length-append, append-nil, Option, None, Some, refl, ap, ap₂, sym, ◌∙◌, subst, arith, ◌<◌}
-use Rattle.std.proofs.lemmas.Bool.{and_parts, ltb-true}
+use Rattle.std.proofs.Common.{◌≡◌, ℕ, ◌+◌, Bool, true, false, not, ◌&&◌, nat_lt, List, [], ◌∷◌, ◌++◌, length, drop, length-set, length-append, append-nil, Option, None, Some, refl, ap, ap₂, sym, ◌∙◌, ◌<◌}
+use Rattle.std.proofs.lemmas.Bool.{ltb-true}
 use Rattle.gate_table.specs.declared.gate.Gate.{Gate}
 use Rattle.pauli_word.specs.declared.letter.Letter.{Letter}
 use Rattle.pauli_word.specs.Parity.{exclusive_or}
 use Rattle.pauli_word.specs.Words.{Signed, anticommute, lone_letter, letters_product}
-use Rattle.pauli_word.proofs.Parities.{exclusive_or-false, exclusive_or_assoc, same_truth, same_truth-true, at_six_truths}
+use Rattle.pauli_word.proofs.Parities.{exclusive_or_assoc, same_truth, same_truth-true, at_six_truths}
 use Rattle.pauli_word.proofs.WordLaws.{anticommute_comm, anticommute-product, length-letters_product}
 use Rattle.step_model.specs.declared.step.Step.{Step}
 use Rattle.step_model.specs.declared.step.Step.TheVariants.{One, Two, Collapse, Fault}
 use Rattle.step_model.specs.Images.{image_at, image_at_two, preimage_at, preimage_at_two}
 use Rattle.step_model.specs.Listing.{Listing, fault_word, effect_at}
 use Rattle.step_model.specs.Runs.{State, Moment, signed, changed, applied, collapsed, correcting, outcome, next_coin, happens, flip_happens, next}
-use Rattle.step_model.specs.Sensitivities.{cleared, multiplied, is_collapse, collapse_word}
+use Rattle.step_model.specs.Sensitivities.{cleared, multiplied}
 use Rattle.step_model.specs.Shifts.{joined, carried_with, flip_at, record_flip_at, IsShifted, DifferByFrame}
-use Rattle.step_model.specs.States.{IsGroup}
 use Rattle.step_model.specs.WellFormed.{step_fits, is_I, flip_fits}
 use Rattle.step_model.proofs.ShiftGates.{image_of_preimage, image_of_preimage_two, anticommute-images, anticommute-images_two}
 use Rattle.step_model.proofs.StateIsGroup.{IsGroup-next}
@@ -68,8 +67,8 @@ one-states program gate q v s t fits size shifted p size' =
     let long : length r.letters ≡ program.qubits = length-set p.letters q _ ∙ size' in
     shifted r long
     ∙ ap (λ b. s (changed b r))
-      (sym (anticommute-images program gate q r (signed v false) fits long size)
-      ∙ ap (λ (x : Signed). anticommute x.letters (image_at gate q (signed v false)).letters) (image_of_preimage program gate q p fits size'))
+    (sym (anticommute-images program gate q r (signed v false) fits long size)
+    ∙ ap (λ (x : Signed). anticommute x.letters (image_at gate q (signed v false)).letters) (image_of_preimage program gate q p fits size'))
     ∙ ap (λ x. s (signed r.letters x)) (sym (exclusive_or_assoc (anticommute p.letters (image_at gate q (signed v false)).letters) p.negative _))
 
 two-states : (program : Listing) (gate : Gate) (a b : ℕ) (v : List Letter) (s t : State) → step_fits program (Two gate a b) ≡ true → length v ≡ program.qubits → IsShifted program.qubits v s t → IsShifted program.qubits (image_at_two gate a b (signed v false)).letters (λ p. s (preimage_at_two gate a b p)) (λ p. t (preimage_at_two gate a b p))
@@ -78,8 +77,8 @@ two-states program gate a b v s t fits size shifted p size' =
     let long : length r.letters ≡ program.qubits = length-set _ b _ ∙ length-set p.letters a _ ∙ size' in
     shifted r long
     ∙ ap (λ c. s (changed c r))
-      (sym (anticommute-images_two program gate a b r (signed v false) fits long size)
-      ∙ ap (λ (x : Signed). anticommute x.letters (image_at_two gate a b (signed v false)).letters) (image_of_preimage_two program gate a b p fits size'))
+    (sym (anticommute-images_two program gate a b r (signed v false) fits long size)
+    ∙ ap (λ (x : Signed). anticommute x.letters (image_at_two gate a b (signed v false)).letters) (image_of_preimage_two program gate a b p fits size'))
     ∙ ap (λ x. s (signed r.letters x)) (sym (exclusive_or_assoc (anticommute p.letters (image_at_two gate a b (signed v false)).letters) p.negative _))
 
 -- a fault: applied in one run and not in the other it multiplies the frame
@@ -99,8 +98,8 @@ fault-states : (n : ℕ) (b c : Bool) (w v : List Letter) (s t : State) → leng
 fault-states n b c w v s t size size' shifted p long =
     shifted (changed (c && anticommute p.letters w) p) long
     ∙ ap (λ x. s (signed p.letters x))
-      (fault-signs b c (anticommute p.letters w) (anticommute p.letters v) p.negative
-      ∙ ap (λ x. exclusive_or (b && anticommute p.letters w) (exclusive_or x p.negative)) (sym (anticommute-multiplied (exclusive_or b c) p.letters w v (size ∙ sym size'))))
+    (fault-signs b c (anticommute p.letters w) (anticommute p.letters v) p.negative
+    ∙ ap (λ x. exclusive_or (b && anticommute p.letters w) (exclusive_or x p.negative)) (sym (anticommute-multiplied (exclusive_or b c) p.letters w v (size ∙ sym size'))))
 
 -- the coin of a collapse in the second run
 flipped_coin : (flip : Bool) (flips coins coins' : List Bool) → coins' ≡ joined (flip ∷ flips) coins → next_coin coins' ≡ exclusive_or flip (next_coin coins)
@@ -123,8 +122,8 @@ collapse-states program these those letter q rec true inverted flip v rest earli
     (outcome-next n v w rest earlier m m' (length-lone_letter n q letter) differ)
     (flipped_coin (anticommute v w) rest m.coins m'.coins differ.coins)
     ∙ reset-shifted n q letter v m.state m'.state (outcome m.state w (next_coin m.coins)) (next_coin m.coins)
-      (collapse_letter program letter q rec true inverted flip fits) (collapse_inside program letter q rec true inverted flip fits)
-      differ.size differ.group differ.states p size
+    (collapse_letter program letter q rec true inverted flip fits) (collapse_inside program letter q rec true inverted flip fits)
+    differ.size differ.group differ.states p size
 collapse-states program these those letter q rec false inverted flip v rest earlier m m' fits differ p size =
     let w = lone_letter program.qubits q letter in
     ap (λ x. collapsed w x m'.state p) (flipped_coin (anticommute v w) rest m.coins m'.coins differ.coins)
@@ -184,7 +183,7 @@ next-records program these those (Collapse letter q (Some r) reset inverted flip
     let seen = outcome m.state w (next_coin m.coins) in
     ap₂ (λ xs x. xs ++ x ∷ []) differ.records
     (ap (λ x. exclusive_or x (exclusive_or inverted (flip_happens those flip)))
-      (outcome-next program.qubits v w rest earlier m m' (length-lone_letter program.qubits q letter) differ)
+    (outcome-next program.qubits v w rest earlier m m' (length-lone_letter program.qubits q letter) differ)
     ∙ record-signs (anticommute v w) seen inverted (flip_happens these flip) (flip_happens those flip))
     ∙ sym (joined-append earlier _ m.records (exclusive_or seen (exclusive_or inverted (flip_happens these flip)) ∷ []) differ.earlier_size)
 next-records program these those (Fault f) v rest earlier m m' differ = same-records earlier m m' differ.records
@@ -193,7 +192,7 @@ pub next-differ : (program : Listing) (these those : List Bool) (step : Step) (v
     → step_fits program step ≡ true
     → DifferByFrame program.qubits v (flip_at program.qubits v step ++ rest) earlier m m'
     → DifferByFrame program.qubits (carried_with program these those step v) rest (earlier ++ record_flip_at program these those v step)
-      (next program these step m) (next program those step m')
+    (next program these step m) (next program those step m')
 next-differ program these those step v rest earlier m m' fits differ = record {
   size = length-carried_with program these those step v differ.size;
   group = IsGroup-next program these step m fits differ.group;

@@ -15,7 +15,7 @@ use Rattle.step_model.specs.declared.step.Step.{Step}
 use Rattle.step_model.specs.declared.step.Step.TheVariants.{Collapse, Fault}
 use Rattle.step_model.specs.Frames.{carried, flips_from, zero_coins, pair_coins}
 use Rattle.step_model.specs.Listing.{Listing, fault_word}
-use Rattle.step_model.specs.Runs.{State, Moment, changed, outcome, next_coin, happens, flip_happens, next, run_from, start}
+use Rattle.step_model.specs.Runs.{State, Moment, changed, outcome, next_coin, happens, flip_happens, next, run_from}
 use Rattle.step_model.specs.Sensitivities.{multiplied, is_collapse, collapse_word, place_of}
 use Rattle.step_model.specs.States.{IsGroup}
 use Rattle.step_model.specs.Targets.{AreCoins, IsRandom, noiseless_parity}
@@ -26,16 +26,12 @@ abbrev pub joined : List Bool → List Bool → List Bool
 joined [] values = values
 joined (flip ∷ flips) values = exclusive_or flip (next_coin values) ∷ joined flips (drop 1 values)
 
--- the outcomes of the collapses among these steps
+-- the outcomes of a run over these steps, one a collapse
 abbrev pub outcomes_from : Listing → List Bool → List Step → Moment → List Bool
 outcomes_from program faults [] m = []
 outcomes_from program faults (step ∷ steps) m =
     (if is_collapse step then outcome m.state (collapse_word program.qubits step) (next_coin m.coins) ∷ [] else [])
     ++ outcomes_from program faults steps (next program faults step m)
-
--- the outcomes of a run, one a collapse
-abbrev pub outcomes_of : Listing → List Bool → List Bool → List Bool
-outcomes_of program faults coins = outcomes_from program faults program.steps (start coins)
 
 -- a frame after a step, where these faults happen in the first run and those in the second
 abbrev pub carried_with : Listing → List Bool → List Bool → Step → List Letter → List Letter
@@ -79,7 +75,7 @@ abbrev pub IsShifted : ℕ → List Letter → State → State → Type 0
 IsShifted n v s t = (p : Signed) → length p.letters ≡ n → t p ≡ s (changed (anticommute p.letters v) p)
 
 -- two runs, at a moment of each, differ by a frame: their coins to come differ by `flips`, and their records so far by
--- `earlier`
+-- `earlier`. The words of the first state form a group, as they do in every run
 pub record DifferByFrame (n : ℕ) (v : List Letter) (flips earlier : List Bool) (m m' : Moment) : Type 0 where
   pub size : length v ≡ n
   pub group : IsGroup n m.state
