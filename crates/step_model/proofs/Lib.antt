@@ -5,6 +5,7 @@ pub mod ConstancySteps
 pub mod Duality
 pub mod DualitySums
 pub mod EndsLemmas
+pub mod Exactness
 pub mod ImageLaws
 pub mod LoneLetters
 pub mod MadeLemmas
