@@ -40,11 +40,11 @@ IsGroup-moved n f s keeps group =
       identity = ap s (keeps.identity false) ∙ group.identity;
       no_minus = ap s (keeps.identity true) ∙ group.no_minus;
       commuting = λ p q p_in q_in.
-        sym (keeps.clash p q p_in.size q_in.size)
-        ∙ group.commuting (f p) (f q) (record { size = keeps.size p p_in.size; member = p_in.member }) (record { size = keeps.size q q_in.size; member = q_in.member });
+          sym (keeps.clash p q p_in.size q_in.size)
+          ∙ group.commuting (f p) (f q) (record { size = keeps.size p p_in.size; member = p_in.member }) (record { size = keeps.size q q_in.size; member = q_in.member });
       closed = λ p q p_in q_in.
-        ap s (keeps.product p q p_in.size q_in.size)
-        ∙ group.closed (f p) (f q) (record { size = keeps.size p p_in.size; member = p_in.member }) (record { size = keeps.size q q_in.size; member = q_in.member });
+          ap s (keeps.product p q p_in.size q_in.size)
+          ∙ group.closed (f p) (f q) (record { size = keeps.size p p_in.size; member = p_in.member }) (record { size = keeps.size q q_in.size; member = q_in.member });
     }
 
 -- a word applied where b changes signs alone, and keeps what makes a group
@@ -66,10 +66,10 @@ applied_keeps n b w =
       identity = λ c. ap (λ t. changed t (signed (no_letters n) c)) (ap (λ t. b && t) (anticommute_of_none n w) ∙ and_false b);
       clash = λ p q h k. refl;
       product = λ p q h k.
-        ap (λ t. changed t (product p q)) (ap (λ t. b && t) (anticommute-product p.letters q.letters w (h ∙ sym k)) ∙ and-exclusive_or b (anticommute p.letters w) (anticommute q.letters w))
-        ∙ sym (changed_twice (b && anticommute p.letters w) (b && anticommute q.letters w) (product p q))
-        ∙ ap (changed (b && anticommute p.letters w)) (sym (product-changed_right (b && anticommute q.letters w) p q))
-        ∙ sym (product-changed_left (b && anticommute p.letters w) p (changed (b && anticommute q.letters w) q));
+          ap (λ t. changed t (product p q)) (ap (λ t. b && t) (anticommute-product p.letters q.letters w (h ∙ sym k)) ∙ and-exclusive_or b (anticommute p.letters w) (anticommute q.letters w))
+          ∙ sym (changed_twice (b && anticommute p.letters w) (b && anticommute q.letters w) (product p q))
+          ∙ ap (changed (b && anticommute p.letters w)) (sym (product-changed_right (b && anticommute q.letters w) p q))
+          ∙ sym (product-changed_left (b && anticommute p.letters w) p (changed (b && anticommute q.letters w) q));
     }
 
 pub IsGroup-applied : (n : ℕ) (b : Bool) (w : List Letter) (s : State) → IsGroup n s → IsGroup n (applied b w s)
@@ -133,14 +133,14 @@ IsGroup-start n =
       identity = ap (λ t. t && true) (all_of_none n);
       no_minus = ap (λ t. t && false) (all_of_none n);
       commuting = λ p q p_in q_in.
-        (diagonal p.letters q.letters (and_parts (list_all is_I_or_Z p.letters) (not p.negative) p_in.member).0 (and_parts (list_all is_I_or_Z q.letters) (not q.negative) q_in.member).0).clash;
+          (diagonal p.letters q.letters (and_parts (list_all is_I_or_Z p.letters) (not p.negative) p_in.member).0 (and_parts (list_all is_I_or_Z q.letters) (not q.negative) q_in.member).0).clash;
       closed = λ p q p_in q_in.
-        let first = and_parts (list_all is_I_or_Z p.letters) (not p.negative) p_in.member in
-        let second = and_parts (list_all is_I_or_Z q.letters) (not q.negative) q_in.member in
-        let both = diagonal p.letters q.letters first.0 second.0 in
-        and_from (list_all is_I_or_Z (letters_product p.letters q.letters)) (not (product p q).negative) both.product
-        (ap not
-         (ap₂ (λ a b. exclusive_or (exclusive_or a b) (is_minus (letters_power p.letters q.letters))) (not-true p.negative first.1) (not-true q.negative second.1)
+          let first = and_parts (list_all is_I_or_Z p.letters) (not p.negative) p_in.member in
+          let second = and_parts (list_all is_I_or_Z q.letters) (not q.negative) q_in.member in
+          let both = diagonal p.letters q.letters first.0 second.0 in
+          and_from (list_all is_I_or_Z (letters_product p.letters q.letters)) (not (product p q).negative) both.product
+          (ap not
+          (ap₂ (λ a b. exclusive_or (exclusive_or a b) (is_minus (letters_power p.letters q.letters))) (not-true p.negative first.1) (not-true q.negative second.1)
           ∙ ap is_minus both.power));
     }
 
@@ -185,21 +185,21 @@ module _ (n : ℕ) (w : List Letter) (coin : Bool) (s : State) (size : length w 
   split_commuting p q p_in q_in =
       elim (p_in.side) as (λ _. anticommute p.letters q.letters ≡ false) [
         | inl h ↦ elim (q_in.side) as (λ _. anticommute p.letters q.letters ≡ false) [
-            | inl k ↦ group.commuting p q h k
-            | inr k ↦
+          | inl k ↦ group.commuting p q h k
+          | inr k ↦
               anticommute_comm p.letters q.letters
               ∙ (sym (stripped p q q_in.length_is p_in.commutes)
-                 ∙ (anticommute_comm (letters_product w q.letters) p.letters ∙ group.commuting p (product (signed w coin) q) h k))
-          ]
+              ∙ (anticommute_comm (letters_product w q.letters) p.letters ∙ group.commuting p (product (signed w coin) q) h k))
+        ]
         | inr h ↦ elim (q_in.side) as (λ _. anticommute p.letters q.letters ≡ false) [
-            | inl k ↦ sym (stripped q p p_in.length_is q_in.commutes) ∙ group.commuting (product (signed w coin) p) q h k
-            | inr k ↦
+          | inl k ↦ sym (stripped q p p_in.length_is q_in.commutes) ∙ group.commuting (product (signed w coin) p) q h k
+          | inr k ↦
               sym (stripped q p p_in.length_is q_in.commutes)
               ∙ (anticommute_comm (letters_product w p.letters) q.letters
-                 ∙ (sym (stripped (product (signed w coin) p) q q_in.length_is (commutes_with_times p p_in.length_is p_in.commutes))
-                    ∙ (anticommute_comm (letters_product w q.letters) (letters_product w p.letters)
-                       ∙ group.commuting (product (signed w coin) p) (product (signed w coin) q) h k)))
-          ]
+              ∙ (sym (stripped (product (signed w coin) p) q q_in.length_is (commutes_with_times p p_in.length_is p_in.commutes))
+              ∙ (anticommute_comm (letters_product w q.letters) (letters_product w p.letters)
+              ∙ group.commuting (product (signed w coin) p) (product (signed w coin) q) h k)))
+        ]
       ]
 
   -- w goes past a word that commutes with it
@@ -207,7 +207,7 @@ module _ (n : ℕ) (w : List Letter) (coin : Bool) (s : State) (size : length w 
   past p q h k wp wq pq =
       sym (product_assoc p (signed w coin) q (h ∙ sym size) (size ∙ sym k) (anticommute_comm p.letters w ∙ wp) wq)
       ∙ (ap (λ r. product r q) (product_comm p (signed w coin) (anticommute_comm p.letters w ∙ wp))
-         ∙ product_assoc (signed w coin) p q (size ∙ sym h) (h ∙ sym k) wp pq)
+      ∙ product_assoc (signed w coin) p q (size ∙ sym h) (h ∙ sym k) wp pq)
 
   -- w twice is nothing
   twice : (p : Signed) → length p.letters ≡ n → anticommute w p.letters ≡ false → product (signed w coin) (product (signed w coin) p) ≡ p
@@ -231,27 +231,27 @@ module _ (n : ℕ) (w : List Letter) (coin : Bool) (s : State) (size : length w 
       let both = product p q in
       elim (p_in.side) as (λ _. (s both || s (product x both)) ≡ true) [
         | inl h ↦ elim (q_in.side) as (λ _. (s both || s (product x both)) ≡ true) [
-            | inl k ↦ or_left (s both) (s (product x both)) (group.closed p q h k)
-            | inr k ↦
+          | inl k ↦ or_left (s both) (s (product x both)) (group.closed p q h k)
+          | inr k ↦
               or_right (s both) (s (product x both))
               (ap s (sym (past p q p_in.length_is q_in.length_is p_in.commutes q_in.commutes pq)) ∙ group.closed p (product x q) h k)
-          ]
+        ]
         | inr h ↦ elim (q_in.side) as (λ _. (s both || s (product x both)) ≡ true) [
-            | inl k ↦
+          | inl k ↦
               or_right (s both) (s (product x both))
               (ap s (sym (product_assoc x p q (size ∙ sym p_in.length_is) (p_in.length_is ∙ sym q_in.length_is) p_in.commutes pq)) ∙ group.closed (product x p) q h k)
-            | inr k ↦
+          | inr k ↦
               let apart : anticommute p.letters (letters_product w q.letters) ≡ false =
-                anticommute_comm p.letters (letters_product w q.letters) ∙ (stripped p q q_in.length_is p_in.commutes ∙ (anticommute_comm q.letters p.letters ∙ pq)) in
+              anticommute_comm p.letters (letters_product w q.letters) ∙ (stripped p q q_in.length_is p_in.commutes ∙ (anticommute_comm q.letters p.letters ∙ pq)) in
               or_left (s both) (s (product x both))
               (ap s
-               (sym
-                (product_assoc x p (product x q) (size ∙ sym p_in.length_is) (p_in.length_is ∙ sym (times_size q q_in.length_is)) p_in.commutes apart
-                 ∙ (ap (product x) (past p q p_in.length_is q_in.length_is p_in.commutes q_in.commutes pq)
-                    ∙ twice both (product_size p q p_in.length_is q_in.length_is)
-                      (anticommute_comm w both.letters ∙ commutes_with_product p q p_in.length_is q_in.length_is p_in.commutes q_in.commutes))))
-               ∙ group.closed (product x p) (product x q) h k)
-          ]
+              (sym
+              (product_assoc x p (product x q) (size ∙ sym p_in.length_is) (p_in.length_is ∙ sym (times_size q q_in.length_is)) p_in.commutes apart
+              ∙ (ap (product x) (past p q p_in.length_is q_in.length_is p_in.commutes q_in.commutes pq)
+              ∙ twice both (product_size p q p_in.length_is q_in.length_is)
+              (anticommute_comm w both.letters ∙ commutes_with_product p q p_in.length_is q_in.length_is p_in.commutes q_in.commutes))))
+              ∙ group.closed (product x p) (product x q) h k)
+        ]
       ]
 
   -- minus the identity times w is w with the other sign
@@ -260,9 +260,9 @@ module _ (n : ℕ) (w : List Letter) (coin : Bool) (s : State) (size : length w 
       ap₂ signed
       (letters_product_comm w (no_letters n) ∙ (ap (λ m. letters_product (no_letters m) w) (sym size) ∙ letters_product_of_none w))
       (ap (λ t. exclusive_or (exclusive_or coin b) (is_minus t))
-       (letters_power_swap w (no_letters n)
-        ∙ ap₂ (λ t u. power_product (sign_power t) u) (anticommute_comm w (no_letters n) ∙ anticommute_of_none n w) (letters_power_of_none n w))
-       ∙ exclusive_or-false (exclusive_or coin b))
+      (letters_power_swap w (no_letters n)
+      ∙ ap₂ (λ t u. power_product (sign_power t) u) (anticommute_comm w (no_letters n) ∙ anticommute_of_none n w) (letters_power_of_none n w))
+      ∙ exclusive_or-false (exclusive_or coin b))
 
   not_in : (b : Bool) → is_decided s w ≡ false → s (signed w b) ≡ false
   not_in false h = (or_parts (s (signed w false)) (s (signed w true)) h).0
@@ -272,18 +272,18 @@ module _ (n : ℕ) (w : List Letter) (coin : Bool) (s : State) (size : length w 
   IsGroup-split undecided =
       record {
         identity =
-          and_from (not (anticommute (no_letters n) w)) (s (signed (no_letters n) false) || s (product (signed w coin) (signed (no_letters n) false)))
-          (ap not (anticommute_of_none n w)) (or_left (s (signed (no_letters n) false)) (s (product (signed w coin) (signed (no_letters n) false))) group.identity);
+            and_from (not (anticommute (no_letters n) w)) (s (signed (no_letters n) false) || s (product (signed w coin) (signed (no_letters n) false)))
+            (ap not (anticommute_of_none n w)) (or_left (s (signed (no_letters n) false)) (s (product (signed w coin) (signed (no_letters n) false))) group.identity);
         no_minus =
-          ap₂ (λ t u. not t && u) (anticommute_of_none n w)
-          (ap₂ (λ t u. t || u) group.no_minus (ap s (times_none true) ∙ not_in (exclusive_or coin true) undecided));
+            ap₂ (λ t u. not t && u) (anticommute_of_none n w)
+            (ap₂ (λ t u. t || u) group.no_minus (ap s (times_none true) ∙ not_in (exclusive_or coin true) undecided));
         commuting = λ p q p_in q_in. split_commuting p q (is_split p p_in) (is_split q q_in);
         closed = λ p q p_in q_in.
-          let first = is_split p p_in in
-          let second = is_split q q_in in
-          and_from (not (anticommute (product p q).letters w)) (s (product p q) || s (product (signed w coin) (product p q)))
-          (ap not (commutes_with_product p q first.length_is second.length_is first.commutes second.commutes))
-          (product_side p q first second);
+            let first = is_split p p_in in
+            let second = is_split q q_in in
+            and_from (not (anticommute (product p q).letters w)) (s (product p q) || s (product (signed w coin) (product p q)))
+            (ap not (commutes_with_product p q first.length_is second.length_is first.commutes second.commutes))
+            (product_side p q first second);
       }
 
 collapsed_either : (n : ℕ) (w : List Letter) (coin : Bool) (s : State) → length w ≡ n → IsGroup n s → (b : Bool) → is_decided s w ≡ b → IsGroup n (λ p. cond b (s p) (split w coin s p))
