@@ -92,18 +92,3 @@ pub sign_power-exclusive_or : (a b : Bool) → sign_power (exclusive_or a b) ≡
 sign_power-exclusive_or false b = refl
 sign_power-exclusive_or true false = refl
 sign_power-exclusive_or true true = refl
-
--- equality of powers, as a test
-abbrev pub same_power : Power → Power → Bool
-same_power one one = true
-same_power i i = true
-same_power minus_one minus_one = true
-same_power minus_i minus_i = true
-same_power p q = false
-
-pub same_power-true : (p q : Power) → same_power p q ≡ true → p ≡ q
-same_power-true one one h = refl
-same_power-true i i h = refl
-same_power-true minus_one minus_one h = refl
-same_power-true minus_i minus_i h = refl
-same_power-true p q h = cc
