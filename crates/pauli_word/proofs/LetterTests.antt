@@ -13,11 +13,12 @@ pub at_letter : (p : Letter → Bool) → each_letter p ≡ true → (a : Letter
 at_letter p h a =
     let past_I : (p X && (p Y && p Z)) ≡ true = (and_parts (p I) (p X && (p Y && p Z)) h).1 in
     let past_X : (p Y && p Z) ≡ true = (and_parts (p X) (p Y && p Z) past_I).1 in
-    elim a as (λ b. p b ≡ true)
-    [ I ↦ (and_parts (p I) (p X && (p Y && p Z)) h).0
-    | X ↦ (and_parts (p X) (p Y && p Z) past_I).0
-    | Y ↦ (and_parts (p Y) (p Z) past_X).0
-    | Z ↦ (and_parts (p Y) (p Z) past_X).1 ]
+    elim a as (λ b. p b ≡ true) [
+      | I ↦ (and_parts (p I) (p X && (p Y && p Z)) h).0
+      | X ↦ (and_parts (p X) (p Y && p Z) past_I).0
+      | Y ↦ (and_parts (p Y) (p Z) past_X).0
+      | Z ↦ (and_parts (p Y) (p Z) past_X).1
+    ]
 
 abbrev pub each_two_letters : (Letter → Letter → Bool) → Bool
 each_two_letters p = each_letter (λ a. each_letter (p a))

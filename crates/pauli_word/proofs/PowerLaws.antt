@@ -46,6 +46,12 @@ power_product_comm p i = power_product-i p
 power_product_comm p minus_one = power_product-minus_one p
 power_product_comm p minus_i = power_product-times_i p minus_one ∙ ap times_i (power_product-minus_one p)
 
+pub fourth_power : (p : Power) → power_product p (power_product p (power_product p p)) ≡ one
+fourth_power one = refl
+fourth_power i = refl
+fourth_power minus_one = refl
+fourth_power minus_i = refl
+
 -- the inner two of four swapped
 pub power_product_middle : (p q r s : Power) → power_product (power_product p q) (power_product r s) ≡ power_product (power_product p r) (power_product q s)
 power_product_middle p q r s =
@@ -59,6 +65,17 @@ is_real one = true
 is_real i = false
 is_real minus_one = true
 is_real minus_i = false
+
+-- a real power is a sign, and a sign is real
+pub sign_power-is_minus : (p : Power) → is_real p ≡ true → p ≡ sign_power (is_minus p)
+sign_power-is_minus one h = refl
+sign_power-is_minus minus_one h = refl
+sign_power-is_minus i h = cc
+sign_power-is_minus minus_i h = cc
+
+pub is_real-sign_power : (a : Bool) → is_real (sign_power a) ≡ true
+is_real-sign_power false = refl
+is_real-sign_power true = refl
 
 -- minus signs add up where the first factor is real
 pub is_minus-power_product : (p q : Power) → is_real p ≡ true → is_minus (power_product p q) ≡ exclusive_or (is_minus p) (is_minus q)
