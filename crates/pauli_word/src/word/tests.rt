@@ -6,6 +6,7 @@ use super::Word;
 use crate::laws;
 use crate::letter::Letter::{self, I, X, Y, Z};
 use std::alloc::{AllocError, Allocator};
+use std::process::Abort;
 use std::test::Fail;
 
 const PLUS: bool = false;
@@ -40,9 +41,14 @@ fn times<A: Allocator + Copy>(first: &mut Word<A>, second: &Word<A>) -> bool
 }
 
 /// The product of two words that have to commute, and what `times` answers.
-fn product_of(rt: &HostRuntime, first: Signed, second: Signed) -> Result<(Signed, bool), Fail> {
-    let mut word = word_of(rt.alloc(), first.0, &first.1)?;
-    let other = word_of(rt.alloc(), second.0, &second.1)?;
+fn product_of<A: Allocator + Copy>(
+    rt: &impl Abort,
+    alloc: A,
+    first: Signed,
+    second: Signed,
+) -> Result<(Signed, bool), AllocError> {
+    let mut word = word_of(alloc, first.0, &first.1)?;
+    let other = word_of(alloc, second.0, &second.1)?;
     assert!(rt; word.commutes(&other));
     let brings_minus = times(&mut word, &other);
     Ok((
@@ -70,7 +76,7 @@ fn products(rt: HostRuntime) -> Result<(), Fail> {
     ];
     for (first, second, product, brings_minus) in table {
         assert_eq!(rt;
-            product_of(&rt, first, second)?,
+            product_of(&rt, rt.alloc(), first, second)?,
             (product, brings_minus),
             "{first:?} times {second:?}"
         );
