@@ -1,4 +1,5 @@
 pub mod LetterLaws
+pub mod LetterTests
 pub mod Parities
 pub mod PowerLaws
 pub mod SignedLaws

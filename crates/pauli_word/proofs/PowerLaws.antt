@@ -46,6 +46,12 @@ power_product_comm p i = power_product-i p
 power_product_comm p minus_one = power_product-minus_one p
 power_product_comm p minus_i = power_product-times_i p minus_one ∙ ap times_i (power_product-minus_one p)
 
+pub fourth_power : (p : Power) → power_product p (power_product p (power_product p p)) ≡ one
+fourth_power one = refl
+fourth_power i = refl
+fourth_power minus_one = refl
+fourth_power minus_i = refl
+
 -- the inner two of four swapped
 pub power_product_middle : (p q r s : Power) → power_product (power_product p q) (power_product r s) ≡ power_product (power_product p r) (power_product q s)
 power_product_middle p q r s =
@@ -59,6 +65,17 @@ is_real one = true
 is_real i = false
 is_real minus_one = true
 is_real minus_i = false
+
+-- a real power is a sign, and a sign is real
+pub sign_power-is_minus : (p : Power) → is_real p ≡ true → p ≡ sign_power (is_minus p)
+sign_power-is_minus one h = refl
+sign_power-is_minus minus_one h = refl
+sign_power-is_minus i h = cc
+sign_power-is_minus minus_i h = cc
+
+pub is_real-sign_power : (a : Bool) → is_real (sign_power a) ≡ true
+is_real-sign_power false = refl
+is_real-sign_power true = refl
 
 -- minus signs add up where the first factor is real
 pub is_minus-power_product : (p q : Power) → is_real p ≡ true → is_minus (power_product p q) ≡ exclusive_or (is_minus p) (is_minus q)
@@ -92,18 +109,3 @@ pub sign_power-exclusive_or : (a b : Bool) → sign_power (exclusive_or a b) ≡
 sign_power-exclusive_or false b = refl
 sign_power-exclusive_or true false = refl
 sign_power-exclusive_or true true = refl
-
--- equality of powers, as a test
-abbrev pub same_power : Power → Power → Bool
-same_power one one = true
-same_power i i = true
-same_power minus_one minus_one = true
-same_power minus_i minus_i = true
-same_power p q = false
-
-pub same_power-true : (p q : Power) → same_power p q ≡ true → p ≡ q
-same_power-true one one h = refl
-same_power-true i i h = refl
-same_power-true minus_one minus_one h = refl
-same_power-true minus_i minus_i h = refl
-same_power-true p q h = cc

@@ -6,15 +6,28 @@ use Rattle.pauli_word.specs.Letters.{power_product, is_minus, sign_power}
 use Rattle.pauli_word.specs.Parity.{exclusive_or}
 use Rattle.pauli_word.specs.Words.{Signed, letters_product, letters_power, anticommute, product, no_letters, identity_word}
 use Rattle.pauli_word.proofs.Parities.{exclusive_or_assoc, exclusive_or_self, exclusive_or_comm, exclusive_or_left_comm, exclusive_or-false, same_truth, same_truth-true, at_six_truths}
-use Rattle.pauli_word.proofs.PowerLaws.{is_real, is_minus-power_product}
+use Rattle.pauli_word.proofs.PowerLaws.{is_real, sign_power-is_minus, is_real-sign_power, is_minus-power_product}
 use Rattle.pauli_word.proofs.WordLaws.{letters_product_assoc, letters_product_comm, letters_product_self, letters_product_of_none, letters_power_cocycle, letters_power_self, letters_power_of_none, letters_power_swap, is_real-letters_power}
 
 -- a signed word of its parts
 abbrev pub signed : List Letter → Bool → Signed
 signed letters negative = record { letters = letters; negative = negative }
 
+-- where words commute, the power of i of their product is 1 or -1
 real_from_commuting : (p q : List Letter) → anticommute p q ≡ false → is_real (letters_power p q) ≡ true
 real_from_commuting p q h = is_real-letters_power p q ∙ ap not h
+
+-- so their power is a sign, and where it is one they commute
+pub letters_power-commuting : (p q : List Letter) → anticommute p q ≡ false → letters_power p q ≡ sign_power (is_minus (letters_power p q))
+letters_power-commuting p q h = sign_power-is_minus (letters_power p q) (real_from_commuting p q h)
+
+not-true : (a : Bool) → not a ≡ true → a ≡ false
+not-true false h = refl
+not-true true h = cc
+
+pub commuting-from_sign : (p q : List Letter) (negative : Bool) → letters_power p q ≡ sign_power negative → anticommute p q ≡ false
+commuting-from_sign p q negative h =
+    not-true (anticommute p q) (sym (is_real-letters_power p q) ∙ ap is_real h ∙ is_real-sign_power negative)
 
 -- the signs that the powers of i bring add up alike in both groupings
 minus_cocycle : (p q r : List Letter) → length p ≡ length q → length q ≡ length r → anticommute p q ≡ false → anticommute q r ≡ false → exclusive_or (is_minus (letters_power p q)) (is_minus (letters_power (letters_product p q) r)) ≡ exclusive_or (is_minus (letters_power q r)) (is_minus (letters_power p (letters_product q r)))

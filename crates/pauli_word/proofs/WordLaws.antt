@@ -18,6 +18,9 @@ length-letters_product [] q h = refl
 length-letters_product (a ∷ p) [] h = cc
 length-letters_product (a ∷ p) (b ∷ q) h = ap suc (length-letters_product p q (suc_injective _ _ h))
 
+-- for a function that names its lemmas
+pub ruleset product_lengths = (length-letters_product)
+
 pub letters_product_assoc : (p q r : List Letter) → letters_product (letters_product p q) r ≡ letters_product p (letters_product q r)
 letters_product_assoc [] q r = refl
 letters_product_assoc (a ∷ p) [] r = refl

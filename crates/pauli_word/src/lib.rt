@@ -1,6 +1,7 @@
 //! Signed Pauli words: letters of I, X, Y and Z with a sign, their products, and which of them commute.
 #![tactic(auto)]
 
+pub mod laws;
 mod letter;
 mod power;
 mod word;

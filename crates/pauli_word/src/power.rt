@@ -1,5 +1,5 @@
 ghost use Rattle.std.specs.Prelude.{◌≡◌};
-ghost use Rattle.pauli_word.specs.Letters.{is_minus, letter_power, power_product};
+ghost use Rattle.pauli_word.specs.Letters.{is_minus, letter_power, power_product, times_i as turned};
 ghost use Rattle.pauli_word.specs.Powers.{power_of};
 
 use crate::letter::Letter;
@@ -38,7 +38,7 @@ impl Power {
     }
 
     fn times_i(self) -> Self
-        ensures { power_of result ≡ power_product Rattle.pauli_word.specs.Letters.i (power_of self) }
+        ensures { power_of result ≡ turned (power_of self) }
     {
         match self {
             Power::One => Power::I,

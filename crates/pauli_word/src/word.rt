@@ -124,3 +124,6 @@ fn anticommute(first: &[Letter], second: &[Letter]) -> bool
     }
     odd
 }
+
+#[cfg(test)]
+mod tests;
