@@ -5,6 +5,7 @@
 mod ends;
 mod fault;
 mod memory;
+pub mod plain;
 mod program;
 mod step;
 
