@@ -1,3 +1,4 @@
 pub mod EndsLemmas
 pub mod MadeLemmas
 pub mod MemoryLemmas
+pub mod PlainLemmas

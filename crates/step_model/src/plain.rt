@@ -1,14 +1,13 @@
 //! Runs, computed straight from their definition: slowly, for small programs. Whether a word is in the state after a
 //! step is asked of other words before it, so the work grows as a power of the number of collapses.
-ghost use Rattle.std.specs.Prelude.{◌≡◌, ◌<◌, ◌≤◌, ◌+◌, ◌++◌, ◌&&◌, ◌||◌, not, length, take, false, Bool, Option, Some, None, IfOk, is_some, unwrap_or, slice_index_or, if◌then◌else◌};
+ghost use Rattle.std.specs.Prelude.{◌≡◌, ◌<◌, ◌≤◌, ◌+◌, ◌++◌, ◌&&◌, ◌||◌, not, length, take, false, Bool, Some, None, All, IfOk, is_some, unwrap_or, slice_index_or, if◌then◌else◌};
 ghost use Rattle.std.specs.Option.{option_to_list};
 ghost use Rattle.gate_table.specs.Images.{arity_of};
 ghost use Rattle.pauli_word.specs.Words.{anticommute, lone_letter, product};
 ghost use Rattle.step_model.specs.Images.{preimage_at, preimage_at_two};
-ghost use Rattle.step_model.specs.Listing.{effect_at, fault_word, flipped_record};
+ghost use Rattle.step_model.specs.Listing.{word_of_terms};
 ghost use Rattle.step_model.specs.Runs.{signed, changed, is_I_or_Z, start_state, is_decided, collapsed, corrected, outcome, correcting, next_coin, flip_happens, moment_after, records_of};
 ghost use Rattle.step_model.specs.Sensitivities.{is_collapse, collapse_count};
-ghost use Rattle.step_model.specs.WellFormed.{IsWellFormed, applies_word};
 
 use crate::program::Program;
 use crate::step::{Step, Term};
@@ -104,7 +103,8 @@ pub fn is_in_state<A: Allocator + Copy>(
             is_in_collapsed(alloc, program, faults, coins, before, term, reset, word)
         }
         Step::Fault(fault) => {
-            let clashes = clashes_with_fault(alloc, program, fault as usize, word)?;
+            let terms = program.fault_terms(fault as usize);
+            let clashes = clashes_with(alloc, program.qubits() as usize, terms, word)?;
             let earlier = changed(truth_at(faults, fault as usize) && clashes, word)?;
             is_in_state(alloc, program, faults, coins, before, &earlier)
         }
@@ -301,21 +301,20 @@ fn correction_of(term: Term) -> Term
     }
 }
 
-// Whether a word anticommutes with the word that a fault applies.
-fn clashes_with_fault<A: Allocator + Copy>(
+// Whether a word anticommutes with the product of these letters at qubits.
+fn clashes_with<A: Allocator + Copy>(
     alloc: A,
-    program: &Program<'_, A>,
-    fault: usize,
+    qubits: usize,
+    terms: &[Term],
     word: &Word<A>,
 ) -> Result<bool, AllocError>
-    requires fault { fault < length program.now.faults }
-    requires applies { flipped_record (effect_at program.now fault) ≡ None }
-    requires letters { length word.now.letters ≡ program.now.qubits }
-    ensures { IfOk result (λ clashes. clashes ≡ anticommute word.now.letters (fault_word program.now fault)) }
+    requires terms { All (λ term. term.qubit < qubits) terms.now }
+    requires letters { length word.now.letters ≡ qubits }
+    ensures { IfOk result (λ clashes. clashes ≡ anticommute word.now.letters (word_of_terms qubits terms.now)) }
 {
     let mut clashes = false;
-    for term in program.fault_terms(fault) {
-        let factor = lone_word(alloc, program.qubits() as usize, *term, false)?;
+    for term in terms {
+        let factor = lone_word(alloc, qubits, *term, false)?;
         clashes ^= !word.commutes(&factor);
     }
     Ok(clashes)
