@@ -47,22 +47,24 @@ fn record_made<A: Allocator + Copy>(
         (λ made. (moment_after program.now faults.now coins.now (step + 1)).records
             ≡ (moment_after program.now faults.now coins.now step).records ++ option_to_list made) }
 {
-    match program.steps()[step] {
-        Step::Collapse {
-            letter,
-            qubit,
-            rec: Some(_),
-            inverted,
-            flip,
-            ..
-        } => {
-            let term = Term { qubit, letter };
-            let decided = decided_outcome(alloc, program, faults, coins, step, term)?;
-            let seen = decided.unwrap_or(coin_after(program, coins, step));
-            Ok(Some(seen ^ (inverted ^ flip_happens(faults, flip))))
-        }
-        _ => Ok(None),
+    let Step::Collapse {
+        letter,
+        qubit,
+        rec,
+        inverted,
+        flip,
+        ..
+    } = program.steps()[step]
+    else {
+        return Ok(None);
+    };
+    if rec.is_none() {
+        return Ok(None);
     }
+    let term = Term { qubit, letter };
+    let decided = decided_outcome(alloc, program, faults, coins, step, term)?;
+    let seen = decided.unwrap_or(coin_after(program, coins, step));
+    Ok(Some(seen ^ (inverted ^ flip_happens(faults, flip))))
 }
 
 /// Whether a signed word leaves the state unchanged after the first steps of a run.
@@ -105,7 +107,7 @@ pub fn is_in_state<A: Allocator + Copy>(
         Step::Fault(fault) => {
             let terms = program.fault_terms(fault as usize);
             let clashes = clashes_with(alloc, program.qubits() as usize, terms, word)?;
-            let earlier = changed(truth_at(faults, fault as usize) && clashes, word)?;
+            let earlier = changed(truth_at(faults, fault as usize) & clashes, word)?;
             is_in_state(alloc, program, faults, coins, before, &earlier)
         }
     }
@@ -134,9 +136,9 @@ fn is_in_collapsed<A: Allocator + Copy>(
 {
     let decided = decided_outcome(alloc, program, faults, coins, steps, term)?;
     let coin = coin_after(program, coins, steps);
-    let correction = lone_word(alloc, program.qubits() as usize, correction_of(term), false)?;
-    let corrects = reset && decided.unwrap_or(coin);
-    let uncorrected = changed(corrects && !word.commutes(&correction), word)?;
+    let qubits = program.qubits() as usize;
+    let clashes = clashes_at(alloc, qubits, correction_of(term), word)?;
+    let uncorrected = changed(reset & decided.unwrap_or(coin) & clashes, word)?;
     if decided.is_some() {
         return is_in_state(alloc, program, faults, coins, steps, &uncorrected);
     }
@@ -162,15 +164,15 @@ fn is_in_undecided<A: Allocator + Copy>(
         IfOk result (λ is_in. is_in ≡ (not (anticommute word.now.letters w)
             && (before.state word.now || before.state (product (signed w (next_coin before.coins)) word.now)))) }
 {
-    let coin = coin_after(program, coins, steps);
-    let mut other = lone_word(alloc, program.qubits() as usize, term, coin)?;
-    if !word.commutes(&other) {
+    let qubits = program.qubits() as usize;
+    if clashes_at(alloc, qubits, term, word)? {
         return Ok(false);
     }
     if is_in_state(alloc, program, faults, coins, steps, word)? {
         return Ok(true);
     }
-    other.times(word);
+    let coin = coin_after(program, coins, steps);
+    let other = multiplied(alloc, qubits, term, coin, word)?;
     is_in_state(alloc, program, faults, coins, steps, &other)
 }
 
@@ -286,10 +288,29 @@ fn lone_word<A: Allocator + Copy>(
     Ok(word)
 }
 
+// The product of a letter at a qubit, with a sign, and a word that commutes with it.
+fn multiplied<A: Allocator + Copy>(
+    alloc: A,
+    qubits: usize,
+    term: Term,
+    negative: bool,
+    word: &Word<A>,
+) -> Result<Word<A>, AllocError>
+    requires qubit { term.qubit < qubits }
+    requires letters { length word.now.letters ≡ qubits }
+    requires commuting { anticommute word.now.letters (lone_letter qubits term.qubit term.letter) ≡ false }
+    ensures product { IfOk result
+        (λ w. w ≡ product (signed (lone_letter qubits term.qubit term.letter) negative) word.now) }
+    ensures letters { IfOk result (λ w. length w.letters ≡ qubits) }
+{
+    let mut lone = lone_word(alloc, qubits, term, negative)?;
+    lone.times(word);
+    Ok(lone)
+}
+
 // The letter that turns the outcome 1 of this letter into 0, at its qubit.
 fn correction_of(term: Term) -> Term
-    ensures qubit { result.qubit ≡ term.qubit }
-    ensures letter { result.letter ≡ correcting term.letter }
+    ensures { result ≡ record { qubit = term.qubit; letter = correcting term.letter } }
 {
     Term {
         qubit: term.qubit,
@@ -299,6 +320,21 @@ fn correction_of(term: Term) -> Term
             Letter::Y | Letter::Z => Letter::X,
         },
     }
+}
+
+// Whether a word anticommutes with a letter at a qubit.
+fn clashes_at<A: Allocator + Copy>(
+    alloc: A,
+    qubits: usize,
+    term: Term,
+    word: &Word<A>,
+) -> Result<bool, AllocError>
+    requires qubit { term.qubit < qubits }
+    requires letters { length word.now.letters ≡ qubits }
+    ensures { IfOk result (λ clashes. clashes ≡ anticommute word.now.letters (lone_letter qubits term.qubit term.letter)) }
+{
+    let lone = lone_word(alloc, qubits, term, false)?;
+    Ok(!word.commutes(&lone))
 }
 
 // Whether a word anticommutes with the product of these letters at qubits.
@@ -314,8 +350,7 @@ fn clashes_with<A: Allocator + Copy>(
 {
     let mut clashes = false;
     for term in terms {
-        let factor = lone_word(alloc, qubits, *term, false)?;
-        clashes ^= !word.commutes(&factor);
+        clashes ^= clashes_at(alloc, qubits, *term, word)?;
     }
     Ok(clashes)
 }
