@@ -125,10 +125,6 @@ after_reset-as s w coin reset seen c u p e f =
     ∙ (ap (λ b. collapsed w coin s (changed ((reset && b) && anticommute p.letters c) p)) (sym e)
     ∙ ap (collapsed w coin s) (sym f))
 
-pub after_reset-decided : (s : State) (w : List Letter) (coin reset seen : Bool) (c : List Letter) (u p : Signed) → seen ≡ outcome s w coin → u ≡ changed ((reset && seen) && anticommute p.letters c) p → is_decided s w ≡ true → s u ≡ after_reset s w coin reset c p
-after_reset-decided s w coin reset seen c u p e f decided =
-    sym (after_reset-as s w coin reset seen c u p e f ∙ ap (λ d. if d then s u else (not (anticommute u.letters w) && (s u || s (product (signed w coin) u)))) decided)
-
 pub after_reset-undecided : (s : State) (w : List Letter) (coin reset seen : Bool) (c : List Letter) (u p : Signed) → seen ≡ outcome s w coin → u ≡ changed ((reset && seen) && anticommute p.letters c) p → is_decided s w ≡ false → (not (anticommute u.letters w) && (s u || s (product (signed w coin) u))) ≡ after_reset s w coin reset c p
 after_reset-undecided s w coin reset seen c u p e f decided =
     sym (after_reset-as s w coin reset seen c u p e f ∙ ap (λ d. if d then s u else (not (anticommute u.letters w) && (s u || s (product (signed w coin) u)))) decided)

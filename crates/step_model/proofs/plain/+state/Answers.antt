@@ -17,7 +17,7 @@ is_in_collapsed-returns g t c =
     ∙ ap (λ b. changed ((c.args.reset && c.unwrap_or.result) && b) c.args.word.now)
     (c.in_ok-clashes.ensures
     ∙ ap₂ (λ n' t'. anticommute c.args.word.now.letters (lone_letter n' t'.qubit t'.letter)) c.qubits-qubits.ensures c.correction_of.ensures))
-    (sym c.in_ok-decided.ensures.decided ∙ c.if-is_some.ensures))
+    (sym c.in_ok-decided.ensures.decided ∙ sym c.if-is_some.ensures))
 
 pub is_in_state-returns-in_ok-earlier-in-One : goal.is_in_state-returns-in_ok-earlier-in-One
 is_in_state-returns-in_ok-earlier-in-One g t c =
