@@ -7,6 +7,8 @@ mod fault;
 mod memory;
 pub mod plain;
 mod program;
+#[cfg(test)]
+mod rows;
 mod step;
 
 pub use ends::{Sink, Source, read_all, write_all};

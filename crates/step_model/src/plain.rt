@@ -45,7 +45,7 @@ fn record_made<A: Allocator + Copy>(
     requires { step < length program.now.steps }
     ensures { IfOk result
         (λ made. (moment_after program.now faults.now coins.now (step + 1)).records
-            ≡ (moment_after program.now faults.now coins.now step).records ++ option_to_list made) }
+        ≡ (moment_after program.now faults.now coins.now step).records ++ option_to_list made) }
 {
     let Step::Collapse {
         letter,
@@ -162,7 +162,7 @@ fn is_in_undecided<A: Allocator + Copy>(
     ensures { let before = moment_after program.now faults.now coins.now steps in
         let w = lone_letter program.now.qubits term.qubit term.letter in
         IfOk result (λ is_in. is_in ≡ (not (anticommute word.now.letters w)
-            && (before.state word.now || before.state (product (signed w (next_coin before.coins)) word.now)))) }
+        && (before.state word.now || before.state (product (signed w (next_coin before.coins)) word.now)))) }
 {
     let qubits = program.qubits() as usize;
     if clashes_at(alloc, qubits, term, word)? {
@@ -192,7 +192,7 @@ fn decided_outcome<A: Allocator + Copy>(
         IfOk result (λ decided. is_some decided ≡ is_decided state (lone_letter program.now.qubits term.qubit term.letter)) }
     ensures outcome { let state = (moment_after program.now faults.now coins.now steps).state in
         IfOk result (λ decided. (coin : Bool)
-            → unwrap_or decided coin ≡ outcome state (lone_letter program.now.qubits term.qubit term.letter) coin) }
+        → unwrap_or decided coin ≡ outcome state (lone_letter program.now.qubits term.qubit term.letter) coin) }
 {
     let qubits = program.qubits() as usize;
     let plus = lone_word(alloc, qubits, term, false)?;
@@ -364,7 +364,7 @@ fn coin_after<A: Allocator + Copy>(program: &Program<'_, A>, coins: &[bool], ste
 }
 
 // How many steps are collapses.
-fn collapses(steps: &[Step]) -> usize
+pub(crate) fn collapses(steps: &[Step]) -> usize
     ensures { result ≡ collapse_count steps.now }
 {
     let mut count = 0;

@@ -54,8 +54,8 @@ is_in_undecided-returns g t c =
     let n = c.args.program.now.qubits in
     let coin = c.coin_after-coin.ensures ∙ sym (next_coin-moment_after c.args.program.now c.args.faults.now c.args.coins.now c.args.steps) in
     let other =
-        c.in_ok-other.ensures.product
-        ∙ ap₂ (λ n' b. product (signed (lone_letter n' c.args.term.qubit c.args.term.letter) b) c.args.word.now) c.qubits-qubits.ensures coin
+    c.in_ok-other.ensures.product
+    ∙ ap₂ (λ n' b. product (signed (lone_letter n' c.args.term.qubit c.args.term.letter) b) c.args.word.now) c.qubits-qubits.ensures coin
     in
     IfOk-along _ _ _ c.is_in_state-2.ensures
     (ap before.state other
