@@ -10,6 +10,7 @@ pub mod ImageLaws
 pub mod LoneLetters
 pub mod MadeLemmas
 pub mod MemoryLemmas
+<<<<<<< HEAD
 pub mod PairImageLaws
 pub mod PairLaws
 pub mod PairParity
@@ -23,3 +24,6 @@ pub mod ShiftRuns
 pub mod ShiftSteps
 pub mod ShiftWords
 pub mod StateIsGroup
+=======
+pub mod PlainLemmas
+>>>>>>> plain

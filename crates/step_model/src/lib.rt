@@ -7,7 +7,10 @@ mod ends;
 mod fault;
 pub mod laws;
 mod memory;
+pub mod plain;
 mod program;
+#[cfg(test)]
+mod rows;
 pub mod shift;
 mod step;
 

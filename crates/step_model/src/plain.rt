@@ -1,0 +1,397 @@
+//! Runs, computed straight from their definition: slowly, for small programs. Whether a word is in the state after a
+//! step is asked of other words before it, so the work grows as a power of the number of collapses.
+ghost use Rattle.std.specs.Prelude.{◌≡◌, ◌<◌, ◌≤◌, ◌+◌, ◌++◌, ◌&&◌, ◌||◌, not, length, take, false, Bool, Some, None, All, IfOk, is_some, unwrap_or, slice_index_or, if◌then◌else◌};
+ghost use Rattle.std.specs.Option.{option_to_list};
+ghost use Rattle.gate_table.specs.Images.{arity_of};
+ghost use Rattle.pauli_word.specs.Words.{anticommute, lone_letter, product};
+ghost use Rattle.step_model.specs.Images.{preimage_at, preimage_at_two};
+ghost use Rattle.step_model.specs.Listing.{word_of_terms};
+ghost use Rattle.step_model.specs.Runs.{signed, changed, is_I_or_Z, start_state, is_decided, collapsed, corrected, outcome, correcting, next_coin, flip_happens, moment_after, records_of};
+ghost use Rattle.step_model.specs.Sensitivities.{is_collapse, collapse_count};
+
+use crate::program::Program;
+use crate::step::{Step, Term};
+use gate_table::Gate;
+use pauli_word::{Letter, Word};
+use std::alloc::{AllocError, Allocator};
+
+/// The records of a run in which these faults happen and the collapses take these coins. A fault or a coin that is
+/// not listed is 0.
+pub fn records<A: Allocator + Copy>(
+    alloc: A,
+    program: &Program<'_, A>,
+    faults: &[bool],
+    coins: &[bool],
+) -> Result<Vec<bool, A>, AllocError>
+    ensures { IfOk result (λ v. v.items ≡ records_of program.now faults.now coins.now) }
+{
+    let mut records = Vec::new(alloc);
+    for step in 0..program.steps().len() {
+        if let Some(record) = record_made(alloc, program, faults, coins, step)? {
+            records.push(record)?;
+        }
+    }
+    Ok(records)
+}
+
+// The record that a step makes, if it makes one.
+fn record_made<A: Allocator + Copy>(
+    alloc: A,
+    program: &Program<'_, A>,
+    faults: &[bool],
+    coins: &[bool],
+    step: usize,
+) -> Result<Option<bool>, AllocError>
+    requires { step < length program.now.steps }
+    ensures { IfOk result
+        (λ made. (moment_after program.now faults.now coins.now (step + 1)).records
+        ≡ (moment_after program.now faults.now coins.now step).records ++ option_to_list made) }
+{
+    let Step::Collapse {
+        letter,
+        qubit,
+        rec,
+        inverted,
+        flip,
+        ..
+    } = program.steps()[step]
+    else {
+        return Ok(None);
+    };
+    if rec.is_none() {
+        return Ok(None);
+    }
+    let term = Term { qubit, letter };
+    let decided = decided_outcome(alloc, program, faults, coins, step, term)?;
+    let seen = decided.unwrap_or(coin_after(program, coins, step));
+    Ok(Some(seen ^ (inverted ^ flip_happens(faults, flip))))
+}
+
+/// Whether a signed word leaves the state unchanged after the first steps of a run.
+#[cycle(state)]
+pub fn is_in_state<A: Allocator + Copy>(
+    alloc: A,
+    program: &Program<'_, A>,
+    faults: &[bool],
+    coins: &[bool],
+    steps: usize,
+    word: &Word<A>,
+) -> Result<bool, AllocError>
+    requires within { steps ≤ length program.now.steps }
+    requires letters { length word.now.letters ≡ program.now.qubits }
+    ensures { IfOk result
+        (λ is_in. is_in ≡ (moment_after program.now faults.now coins.now steps).state word.now) }
+{
+    if steps == 0 {
+        return Ok(is_in_start_state(program.qubits() as usize, word));
+    }
+    let before = steps - 1;
+    match program.steps()[before] {
+        Step::One { gate, q } => {
+            let earlier = preimage(gate, q as usize, word)?;
+            is_in_state(alloc, program, faults, coins, before, &earlier)
+        }
+        Step::Two { gate, a, b } => {
+            let earlier = preimage_of_two(gate, a as usize, b as usize, word)?;
+            is_in_state(alloc, program, faults, coins, before, &earlier)
+        }
+        Step::Collapse {
+            letter,
+            qubit,
+            reset,
+            ..
+        } => {
+            let term = Term { qubit, letter };
+            is_in_collapsed(alloc, program, faults, coins, before, term, reset, word)
+        }
+        Step::Fault(fault) => {
+            let terms = program.fault_terms(fault as usize);
+            let clashes = clashes_with(alloc, program.qubits() as usize, terms, word)?;
+            let earlier = changed(truth_at(faults, fault as usize) & clashes, word)?;
+            is_in_state(alloc, program, faults, coins, before, &earlier)
+        }
+    }
+}
+
+// Whether a word is in the state after a collapse of this letter, and after its reset, if there is one.
+#[cycle(state)]
+fn is_in_collapsed<A: Allocator + Copy>(
+    alloc: A,
+    program: &Program<'_, A>,
+    faults: &[bool],
+    coins: &[bool],
+    steps: usize,
+    term: Term,
+    reset: bool,
+    word: &Word<A>,
+) -> Result<bool, AllocError>
+    requires within { steps ≤ length program.now.steps }
+    requires qubit { term.qubit < program.now.qubits }
+    requires letters { length word.now.letters ≡ program.now.qubits }
+    ensures { let before = moment_after program.now faults.now coins.now steps in
+        let w = lone_letter program.now.qubits term.qubit term.letter in
+        let coin = next_coin before.coins in
+        let correction = if reset then Some (lone_letter program.now.qubits term.qubit (correcting term.letter)) else None in
+        IfOk result (λ is_in. is_in ≡ corrected correction (outcome before.state w coin) (collapsed w coin before.state) word.now) }
+{
+    let decided = decided_outcome(alloc, program, faults, coins, steps, term)?;
+    let coin = coin_after(program, coins, steps);
+    let qubits = program.qubits() as usize;
+    let clashes = clashes_at(alloc, qubits, correction_of(term), word)?;
+    let uncorrected = changed(reset & decided.unwrap_or(coin) & clashes, word)?;
+    if decided.is_some() {
+        return is_in_state(alloc, program, faults, coins, steps, &uncorrected);
+    }
+    is_in_undecided(alloc, program, faults, coins, steps, term, &uncorrected)
+}
+
+// Whether a word is in the state after a collapse of this letter whose outcome is the coin.
+#[cycle(state)]
+fn is_in_undecided<A: Allocator + Copy>(
+    alloc: A,
+    program: &Program<'_, A>,
+    faults: &[bool],
+    coins: &[bool],
+    steps: usize,
+    term: Term,
+    word: &Word<A>,
+) -> Result<bool, AllocError>
+    requires within { steps ≤ length program.now.steps }
+    requires qubit { term.qubit < program.now.qubits }
+    requires letters { length word.now.letters ≡ program.now.qubits }
+    ensures { let before = moment_after program.now faults.now coins.now steps in
+        let w = lone_letter program.now.qubits term.qubit term.letter in
+        IfOk result (λ is_in. is_in ≡ (not (anticommute word.now.letters w)
+        && (before.state word.now || before.state (product (signed w (next_coin before.coins)) word.now)))) }
+{
+    let qubits = program.qubits() as usize;
+    if clashes_at(alloc, qubits, term, word)? {
+        return Ok(false);
+    }
+    if is_in_state(alloc, program, faults, coins, steps, word)? {
+        return Ok(true);
+    }
+    let coin = coin_after(program, coins, steps);
+    let other = multiplied(alloc, qubits, term, coin, word)?;
+    is_in_state(alloc, program, faults, coins, steps, &other)
+}
+
+// The outcome of measuring a letter after the first steps, where the state decides it.
+#[cycle(state)]
+fn decided_outcome<A: Allocator + Copy>(
+    alloc: A,
+    program: &Program<'_, A>,
+    faults: &[bool],
+    coins: &[bool],
+    steps: usize,
+    term: Term,
+) -> Result<Option<bool>, AllocError>
+    requires within { steps ≤ length program.now.steps }
+    requires qubit { term.qubit < program.now.qubits }
+    ensures decided { let state = (moment_after program.now faults.now coins.now steps).state in
+        IfOk result (λ decided. is_some decided ≡ is_decided state (lone_letter program.now.qubits term.qubit term.letter)) }
+    ensures outcome { let state = (moment_after program.now faults.now coins.now steps).state in
+        IfOk result (λ decided. (coin : Bool)
+        → unwrap_or decided coin ≡ outcome state (lone_letter program.now.qubits term.qubit term.letter) coin) }
+{
+    let qubits = program.qubits() as usize;
+    let plus = lone_word(alloc, qubits, term, false)?;
+    if is_in_state(alloc, program, faults, coins, steps, &plus)? {
+        return Ok(Some(false));
+    }
+    let minus = lone_word(alloc, qubits, term, true)?;
+    if is_in_state(alloc, program, faults, coins, steps, &minus)? {
+        return Ok(Some(true));
+    }
+    Ok(None)
+}
+
+// Whether a word is in the state in which all qubits are 0.
+fn is_in_start_state<A: Allocator + Copy>(qubits: usize, word: &Word<A>) -> bool
+    requires { length word.now.letters ≡ qubits }
+    ensures { result ≡ start_state word.now }
+{
+    for qubit in 0..qubits {
+        if !is_i_or_z(word.letter(qubit)) {
+            return false;
+        }
+    }
+    !word.sign()
+}
+
+fn is_i_or_z(letter: Letter) -> bool
+    ensures { result ≡ is_I_or_Z letter }
+{
+    letter == Letter::I || letter == Letter::Z
+}
+
+// The word that a gate turns into this one.
+fn preimage<A: Allocator + Copy>(
+    gate: Gate,
+    qubit: usize,
+    word: &Word<A>,
+) -> Result<Word<A>, AllocError>
+    requires arity { arity_of gate ≡ 1 }
+    requires qubit { qubit < length word.now.letters }
+    ensures { IfOk result (λ w. w ≡ preimage_at gate qubit word.now) }
+{
+    let (letter, negative) = gate.inverse().image1(word.letter(qubit));
+    let mut earlier = word.copy()?;
+    earlier.set_letter(qubit, letter);
+    earlier.set_sign(word.sign() ^ negative);
+    Ok(earlier)
+}
+
+fn preimage_of_two<A: Allocator + Copy>(
+    gate: Gate,
+    first: usize,
+    second: usize,
+    word: &Word<A>,
+) -> Result<Word<A>, AllocError>
+    requires arity { arity_of gate ≡ 2 }
+    requires first { first < length word.now.letters }
+    requires second { second < length word.now.letters }
+    ensures { IfOk result (λ w. w ≡ preimage_at_two gate first second word.now) }
+{
+    let (at_first, at_second, negative) = gate
+        .inverse()
+        .image2(word.letter(first), word.letter(second));
+    let mut earlier = word.copy()?;
+    earlier.set_letter(first, at_first);
+    earlier.set_letter(second, at_second);
+    earlier.set_sign(word.sign() ^ negative);
+    Ok(earlier)
+}
+
+// A copy of the word, with its sign changed where `changes`.
+fn changed<A: Allocator + Copy>(changes: bool, word: &Word<A>) -> Result<Word<A>, AllocError>
+    ensures { IfOk result (λ w. w ≡ changed changes word.now) }
+{
+    let mut copy = word.copy()?;
+    copy.set_sign(changes ^ word.sign());
+    Ok(copy)
+}
+
+// The word of a letter at a qubit, and I elsewhere.
+fn lone_word<A: Allocator + Copy>(
+    alloc: A,
+    qubits: usize,
+    term: Term,
+    negative: bool,
+) -> Result<Word<A>, AllocError>
+    requires { term.qubit < qubits }
+    ensures { IfOk result (λ w. w ≡ signed (lone_letter qubits term.qubit term.letter) negative) }
+{
+    let mut word = Word::identity(alloc, qubits)?;
+    word.set_letter(term.qubit as usize, term.letter);
+    word.set_sign(negative);
+    Ok(word)
+}
+
+// The product of a letter at a qubit, with a sign, and a word that commutes with it.
+fn multiplied<A: Allocator + Copy>(
+    alloc: A,
+    qubits: usize,
+    term: Term,
+    negative: bool,
+    word: &Word<A>,
+) -> Result<Word<A>, AllocError>
+    requires qubit { term.qubit < qubits }
+    requires letters { length word.now.letters ≡ qubits }
+    requires commuting { anticommute word.now.letters (lone_letter qubits term.qubit term.letter) ≡ false }
+    ensures product { IfOk result
+        (λ w. w ≡ product (signed (lone_letter qubits term.qubit term.letter) negative) word.now) }
+    ensures letters { IfOk result (λ w. length w.letters ≡ qubits) }
+{
+    let mut lone = lone_word(alloc, qubits, term, negative)?;
+    lone.times(word);
+    Ok(lone)
+}
+
+// The letter that turns the outcome 1 of this letter into 0, at its qubit.
+fn correction_of(term: Term) -> Term
+    ensures { result ≡ record { qubit = term.qubit; letter = correcting term.letter } }
+{
+    Term {
+        qubit: term.qubit,
+        letter: match term.letter {
+            Letter::I => Letter::I,
+            Letter::X => Letter::Z,
+            Letter::Y | Letter::Z => Letter::X,
+        },
+    }
+}
+
+// Whether a word anticommutes with a letter at a qubit.
+fn clashes_at<A: Allocator + Copy>(
+    alloc: A,
+    qubits: usize,
+    term: Term,
+    word: &Word<A>,
+) -> Result<bool, AllocError>
+    requires qubit { term.qubit < qubits }
+    requires letters { length word.now.letters ≡ qubits }
+    ensures { IfOk result (λ clashes. clashes ≡ anticommute word.now.letters (lone_letter qubits term.qubit term.letter)) }
+{
+    let lone = lone_word(alloc, qubits, term, false)?;
+    Ok(!word.commutes(&lone))
+}
+
+// Whether a word anticommutes with the product of these letters at qubits.
+fn clashes_with<A: Allocator + Copy>(
+    alloc: A,
+    qubits: usize,
+    terms: &[Term],
+    word: &Word<A>,
+) -> Result<bool, AllocError>
+    requires terms { All (λ term. term.qubit < qubits) terms.now }
+    requires letters { length word.now.letters ≡ qubits }
+    ensures { IfOk result (λ clashes. clashes ≡ anticommute word.now.letters (word_of_terms qubits terms.now)) }
+{
+    let mut clashes = false;
+    for term in terms {
+        clashes ^= clashes_at(alloc, qubits, *term, word)?;
+    }
+    Ok(clashes)
+}
+
+// The coin of the first collapse after these steps.
+fn coin_after<A: Allocator + Copy>(program: &Program<'_, A>, coins: &[bool], steps: usize) -> bool
+    requires { steps ≤ length program.now.steps }
+    ensures { result ≡ slice_index_or coins.now (collapse_count (take steps program.now.steps)) false }
+{
+    truth_at(coins, collapses(&program.steps()[..steps]))
+}
+
+// How many steps are collapses.
+pub(crate) fn collapses(steps: &[Step]) -> usize
+    ensures { result ≡ collapse_count steps.now }
+{
+    let mut count = 0;
+    for step in steps {
+        if let Step::Collapse { .. } = step {
+            count += 1;
+        }
+    }
+    count
+}
+
+fn flip_happens(faults: &[bool], flip: Option<u32>) -> bool
+    ensures { result ≡ flip_happens faults.now flip }
+{
+    match flip {
+        Some(fault) => truth_at(faults, fault as usize),
+        None => false,
+    }
+}
+
+// An entry of a list of truth values, false past its end.
+fn truth_at(list: &[bool], index: usize) -> bool
+    ensures { result ≡ slice_index_or list.now index false }
+{
+    if index < list.len() {
+        list[index]
+    } else {
+        false
+    }
+}
