@@ -1,0 +1,4 @@
+mod BitsForms
+mod BitsWords
+mod BitsSteps
+pub mod BitsRuns
