@@ -1,6 +1,7 @@
 -- A step of a classical program keeps the state that of its bits, and makes the record that the bits tell.
 use Rattle.std.proofs.Common.{◌≡◌, ◌≢◌, ◌<◌, ℕ, Bool, true, false, ◌&&◌, ◌||◌, not, cond, List, [], ◌∷◌, ◌++◌, Option, Some, None, is_some, length, replicate, refl, ap, ap₂, sym, ◌∙◌, subst, length-set, append-nil}
 use Rattle.std.proofs.lemmas.Bool.{and_parts, ltb-true, eqb-false, not-true, false≢true}
+use Rattle.std.specs.Prelude.{nat_lt, slice_set, ◌==◌}
 use Rattle.std.proofs.lemmas.List.{length-replicate}
 use Rattle.std.proofs.lemmas.List.Elements.{All-head, All-tail, All-get_or}
 use Rattle.std.specs.List.{All, AllPass, list_all}
@@ -145,3 +146,126 @@ collapsed_is s w coin bit plus minus p =
     either : (b : Bool) → (not b || not (not b)) ≡ true
     either true = refl
     either false = refl
+
+-- what a collapse of Z at a qubit finds in the state
+record SeesBit (s : State) (w : List Letter) (bit : Bool) : Type 0 where
+  plus : s (signed w false) ≡ not bit
+  minus : s (signed w true) ≡ not (not bit)
+
+sees_bit : (n q : ℕ) (bits : List Bool) (s : State) → length bits ≡ n → q < n → IsOf bits s → SeesBit s (lone_letter n q Z) (bit_at bits q)
+sees_bit n q bits s size below of =
+    let w = lone_letter n q Z in
+    let count : length w ≡ length bits = length-lone n q Z ∙ sym size in
+    record {
+      plus = of.same (signed w false) count ∙ bits_state-lone_Z n bits q false below;
+      minus = of.same (signed w true) count ∙ bits_state-lone_Z n bits q true below;
+    }
+
+IsOf-collapse : (n q : ℕ) (bits : List Bool) (m : Moment) (reset recorded changes : Bool) → length bits ≡ n → q < n → IsOf bits m.state → IsOf (cond reset (slice_set bits q false) bits) (after_collapse (lone_letter n q Z) (cond reset (Some (lone_letter n q X)) None) recorded changes m).state
+IsOf-collapse n q bits m false recorded changes size below of =
+    let w = lone_letter n q Z in
+    let sees = sees_bit n q bits m.state size below of in
+    record {
+      same = λ p count. collapsed_is m.state w (next_coin m.coins) (bit_at bits q) sees.plus sees.minus p ∙ of.same p count;
+    }
+IsOf-collapse n q bits m true recorded changes size below of =
+    let w = lone_letter n q Z in
+    let coin = next_coin m.coins in
+    let sees = sees_bit n q bits m.state size below of in
+    let seen : outcome m.state w coin ≡ bit_at bits q = outcome_is m.state w coin (bit_at bits q) sees.plus sees.minus in
+    record {
+      same = λ p count.
+        let flips = ap₂ (λ x y. x && y) seen (anticommute-lone n p.letters q X below) in
+        let after = changed (outcome m.state w coin && anticommute p.letters (lone_letter n q X)) p in
+        collapsed_is m.state w coin (bit_at bits q) sees.plus sees.minus after
+        ∙ of.same after (count ∙ length-set bits q false)
+        ∙ ap (λ b. bits_state bits (changed b p)) flips
+        ∙ bits_state-corrected bits p q (rw size below);
+    }
+
+-- what a step needs
+pub record StepFits (program : Listing) (step : Step) (bits : List Bool) : Type 0 where
+  pub faults_fit : All (FaultFits program.qubits) program.faults
+  pub fits : step_fits program step ≡ true
+  pub classical : is_classical_step program step ≡ true
+  pub size : length bits ≡ program.qubits
+
+qubit_within : (n q : ℕ) (t : Bool) → (t && nat_lt q n) ≡ true → q < n
+qubit_within n q t h = ltb-true q n (and_parts t (nat_lt q n) h).1
+
+pub record PairFits (n : ℕ) (a b : ℕ) : Type 0 where
+  pub first : a < n
+  pub second : b < n
+  pub apart : b ≢ a
+
+pub pair_fits : (n a b : ℕ) (t : Bool) → (t && nat_lt a n && nat_lt b n && not (a == b)) ≡ true → PairFits n a b
+pair_fits n a b t h =
+    let outer = and_parts (t && nat_lt a n && nat_lt b n) (not (a == b)) h in
+    let inner = and_parts (t && nat_lt a n) (nat_lt b n) outer.0 in
+    record {
+      first = qubit_within n a t inner.0;
+      second = ltb-true b n inner.1;
+      apart = λ e. eqb-false a b (not-true (a == b) outer.1) (sym e);
+    }
+
+-- the bits of a step's state
+pub IsOf-next : (program : Listing) (faults : List Bool) (step : Step) (bits : List Bool) (m : Moment) → StepFits program step bits → IsOf bits m.state → IsOf (bits_after program faults step bits) (next program faults step m).state
+IsOf-next program faults (One g q) bits m fits of =
+    let below : q < length bits = rw fits.size (qubit_within program.qubits q (arity_of g == 1) fits.fits) in
+    at_X_gate (λ h. IsOf (flipped q (is_X_gate h) bits) (λ p. m.state (preimage_at h q p)))
+    (IsOf-X bits m.state q below of) g fits.classical
+IsOf-next program faults (Two g a b) bits m fits of =
+    let pair = pair_fits program.qubits a b (arity_of g == 2) fits.fits in
+    let first : a < length bits = rw fits.size pair.first in
+    let second : b < length bits = rw fits.size pair.second in
+    at_CX_or_SWAP (λ h. IsOf (bits_after_two h a b bits) (λ p. m.state (preimage_at_two h a b p)))
+    (IsOf-CX bits m.state a b pair.apart first second of)
+    (IsOf-Swap bits m.state a b pair.apart first second of) g fits.classical
+IsOf-next program faults (Collapse Z q rec reset inverted flip) bits m fits of =
+    IsOf-collapse program.qubits q bits m reset (is_some rec) (exclusive_or inverted (flip_happens faults flip)) fits.size
+    (ltb-true q program.qubits (and_parts (nat_lt q program.qubits) (flip_fits program rec flip) fits.fits).0) of
+IsOf-next program faults (Collapse letter q rec reset inverted flip) bits m fits of = absurd (false≢true fits.classical)
+IsOf-next program faults (Fault f) bits m fits of =
+    let parts = and_parts (nat_lt f (length program.faults)) (applies_word (effect_at program f)) fits.fits in
+    let fault : FaultFits program.qubits (fault_at program f) = All-get_or (FaultFits program.qubits) program.faults f no_effect (ltb-true f (length program.faults) parts.0) fits.faults_fit in
+    IsOf-effect program.qubits (happens faults f) (effect_at program f) bits m.state fits.size parts.1 fits.classical fault.effect of
+
+-- the records of a step
+records-push : (recorded bit : Bool) (records : List Bool) → cond recorded (records ++ bit ∷ []) records ≡ records ++ option_to_list (cond recorded (Some bit) None)
+records-push true bit records = refl
+records-push false bit records = sym (append-nil records)
+
+pub records-next : (program : Listing) (faults : List Bool) (step : Step) (bits : List Bool) (m : Moment) → StepFits program step bits → IsOf bits m.state → (next program faults step m).records ≡ m.records ++ option_to_list (record_made faults step bits)
+records-next program faults (One g q) bits m fits of = sym (append-nil m.records)
+records-next program faults (Two g a b) bits m fits of = sym (append-nil m.records)
+records-next program faults (Collapse Z q rec reset inverted flip) bits m fits of =
+    let w = lone_letter program.qubits q Z in
+    let changes = exclusive_or inverted (flip_happens faults flip) in
+    let below = ltb-true q program.qubits (and_parts (nat_lt q program.qubits) (flip_fits program rec flip) fits.fits).0 in
+    let sees = sees_bit program.qubits q bits m.state fits.size below of in
+    ap (λ seen. cond (is_some rec) (m.records ++ exclusive_or seen changes ∷ []) m.records)
+    (outcome_is m.state w (next_coin m.coins) (bit_at bits q) sees.plus sees.minus)
+    ∙ records-push (is_some rec) (exclusive_or (bit_at bits q) changes) m.records
+records-next program faults (Collapse letter q rec reset inverted flip) bits m fits of = absurd (false≢true fits.classical)
+records-next program faults (Fault f) bits m fits of = sym (append-nil m.records)
+
+-- as many bits as before
+length-bits_after_two : (g : Gate) (a b : ℕ) (bits : List Bool) → length (bits_after_two g a b bits) ≡ length bits
+length-bits_after_two gate.CX a b bits = length-set _ _ _
+length-bits_after_two gate.Swap a b bits = length-swapped a b bits
+length-bits_after_two g a b bits = refl
+
+length-bits_after_effect : (happens : Bool) (effect : Effect) (bits : List Bool) → length (cond happens (bits_after_effect effect bits) bits) ≡ length bits
+length-bits_after_effect false effect bits = refl
+length-bits_after_effect true (Applies terms) bits = length-flipped_terms terms bits
+length-bits_after_effect true (Flips r) bits = refl
+
+length-reset : (reset : Bool) (q : ℕ) (bits : List Bool) → length (cond reset (slice_set bits q false) bits) ≡ length bits
+length-reset true q bits = length-set _ _ _
+length-reset false q bits = refl
+
+pub length-bits_after : (program : Listing) (faults : List Bool) (step : Step) (bits : List Bool) → length (bits_after program faults step bits) ≡ length bits
+length-bits_after program faults (One g q) bits = length-set _ _ _
+length-bits_after program faults (Two g a b) bits = length-bits_after_two g a b bits
+length-bits_after program faults (Collapse letter q rec reset inverted flip) bits = length-reset reset q bits
+length-bits_after program faults (Fault f) bits = length-bits_after_effect (happens faults f) (effect_at program f) bits
