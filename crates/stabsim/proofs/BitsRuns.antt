@@ -8,10 +8,10 @@ use Rattle.step_model.specs.declared.step.Step.{Step}
 use Rattle.step_model.specs.Listing.{Listing}
 use Rattle.step_model.specs.Runs.{Moment, next, run_from, records_of, start}
 use Rattle.step_model.specs.WellFormed.{FaultFits, IsWellFormed, step_fits}
-use Rattle.stabsim.specs.Bits.{bits_after, record_made, records_from}
+use Rattle.stabsim.specs.Bits.{StepFits, bits_after, record_made, records_from}
 use Rattle.stabsim.specs.Classical.{IsClassical, is_classical_step}
 use Rattle.stabsim.proofs.BitsWords.{bits_state-start}
-use Rattle.stabsim.proofs.BitsSteps.{IsOf, IsOf-next, StepFits, length-bits_after, records-next}
+use Rattle.stabsim.proofs.BitsSteps.{IsOf, IsOf-next, length-bits_after, records-next}
 
 -- the steps that are left
 record StepsFit (program : Listing) (steps : List Step) (bits : List Bool) : Type 0 where

@@ -24,7 +24,7 @@ use Rattle.step_model.specs.Listing.{Listing, Effect, Applies, Flips, effect_at,
 use Rattle.step_model.specs.Runs.{State, Moment, signed, changed, applied, is_decided, outcome, collapsed, corrected, after_collapse, next, next_coin, happens, flip_happens}
 use Rattle.step_model.specs.WellFormed.{EffectFits, FaultFits, applies_word, flip_fits, is_I, step_fits}
 use Rattle.stabsim.specs.Classical.{is_X_gate, is_CX_or_SWAP, is_X_letter, is_Z_letter, is_classical_effect, is_classical_step}
-use Rattle.stabsim.specs.Bits.{bit_at, flipped, swapped, flipped_terms, bits_after_two, bits_after_effect, bits_after, record_made, bits_state}
+use Rattle.stabsim.specs.Bits.{bit_at, flipped, swapped, flipped_terms, bits_after_two, bits_after_effect, StepFits, bits_after, record_made, bits_state}
 use Rattle.stabsim.proofs.BitsWords.{bits_state-X, bits_state-CX, bits_state-Swap, anticommute-lone, bits_state-applied, bits_state-corrected, bits_state-lone_Z}
 
 -- a state that is that of these bits, at words of as many letters
@@ -182,13 +182,6 @@ IsOf-collapse n q bits m true recorded changes size below of =
         ∙ ap (λ b. bits_state bits (changed b p)) flips
         ∙ bits_state-corrected bits p q (rw size below);
     }
-
--- what a step needs
-pub record StepFits (program : Listing) (step : Step) (bits : List Bool) : Type 0 where
-  pub faults_fit : All (FaultFits program.qubits) program.faults
-  pub fits : step_fits program step ≡ true
-  pub classical : is_classical_step program step ≡ true
-  pub size : length bits ≡ program.qubits
 
 qubit_within : (n q : ℕ) (t : Bool) → (t && nat_lt q n) ≡ true → q < n
 qubit_within n q t h = ltb-true q n (and_parts t (nat_lt q n) h).1

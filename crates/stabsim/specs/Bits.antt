@@ -2,8 +2,8 @@
 -- bit where its first is 1, and SWAP swaps its bits. A collapse of Z sees the bit, whatever the coin, and a reset
 -- makes it 0. A fault that happens flips the bit of each of its X's.
 -- (Nielsen and Chuang, Quantum Computation and Quantum Information, section 1.3: gates on computational basis states.)
-use Rattle.std.specs.Prelude.{ℕ, Bool, true, false, not, ◌&&◌, if◌then◌else◌, List, [], ◌∷◌, ◌++◌, Option, Some, None, is_some, slice_index_or, slice_set}
-use Rattle.std.specs.List.{list_all}
+use Rattle.std.specs.Prelude.{◌≡◌, ℕ, Bool, true, false, not, ◌&&◌, if◌then◌else◌, List, [], ◌∷◌, ◌++◌, Option, Some, None, is_some, length, slice_index_or, slice_set}
+use Rattle.std.specs.List.{All, list_all}
 use Rattle.std.specs.Option.{option_to_list}
 use Rattle.gate_table.specs.declared.gate.Gate.{Gate}
 use Rattle.gate_table.specs.declared.gate.Gate.TheVariants as gate
@@ -14,7 +14,8 @@ use Rattle.step_model.specs.declared.step.Step.TheVariants.{One, Two, Collapse, 
 use Rattle.step_model.specs.declared.step.Term.{Term}
 use Rattle.step_model.specs.Listing.{Listing, Effect, Applies, Flips, effect_at}
 use Rattle.step_model.specs.Runs.{State, is_I_or_Z, happens, flip_happens}
-use Rattle.stabsim.specs.Classical.{is_X_gate, is_Z_letter}
+use Rattle.step_model.specs.WellFormed.{FaultFits, step_fits}
+use Rattle.stabsim.specs.Classical.{is_X_gate, is_Z_letter, is_classical_step}
 
 -- the bit of a qubit; one that isn't there is 0
 abbrev pub bit_at : List Bool → ℕ → Bool
@@ -41,6 +42,13 @@ bits_after_two g a b bits = bits
 abbrev pub bits_after_effect : Effect → List Bool → List Bool
 bits_after_effect (Applies terms) bits = flipped_terms terms bits
 bits_after_effect (Flips r) bits = bits
+
+-- what holds where a classical program takes a step: the step fits it, and there is a bit a qubit
+pub record StepFits (program : Listing) (step : Step) (bits : List Bool) : Type 0 where
+  pub faults_fit : All (FaultFits program.qubits) program.faults
+  pub fits : step_fits program step ≡ true
+  pub classical : is_classical_step program step ≡ true
+  pub size : length bits ≡ program.qubits
 
 -- the bits after a step, where these faults happen
 abbrev pub bits_after : Listing → List Bool → Step → List Bool → List Bool
