@@ -1,4 +1,5 @@
 mod BitsForms
-mod BitsWords
 mod BitsSteps
+mod BitsWords
 pub mod BitsRuns
+pub mod Differences

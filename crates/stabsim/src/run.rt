@@ -1,10 +1,10 @@
-ghost use Rattle.std.specs.Prelude.{◌≡◌, ◌<◌, true, false, length, replicate, IfOk, IfErr};
+ghost use Rattle.std.specs.Prelude.{◌≡◌, ◌<◌, Bool, List, true, length, IfOk, IfErr};
 ghost use Rattle.std.specs.List.{All};
 ghost use Rattle.step_model.specs.declared.step.Step.{Step};
 ghost use Rattle.step_model.specs.Faults.{memory_fault};
 ghost use Rattle.step_model.specs.Listing.{effect_at};
 ghost use Rattle.step_model.specs.Runs.{happens, flip_happens, records_of};
-ghost use Rattle.stabsim.specs.Bits.{StepFits, bits_after, bits_after_effect, bits_after_two, flipped, flipped_terms, record_made, records_from};
+ghost use Rattle.stabsim.specs.Bits.{StepFits, bits_after, bits_after_effect, bits_after_two, flipped, flipped_terms, record_made};
 ghost use Rattle.stabsim.specs.Classical.{IsClassical, is_CX_or_SWAP};
 
 use crate::records::Records;
@@ -40,9 +40,7 @@ fn run_bits<A: Allocator + Copy>(
     faults: &[bool],
 ) -> Result<Records<A>, AllocError>
     requires { IsClassical program.now }
-    ensures { IfOk result
-        (λ records. records
-            ≡ records_from program.now faults.now program.now.steps (replicate program.now.qubits false)) }
+    ensures { (coins : List Bool) → IfOk result (λ records. records ≡ records_of program.now faults.now coins) }
 {
     let qubits = program.qubits() as usize;
     let mut bits = Vec::with_capacity(alloc, qubits)?;
