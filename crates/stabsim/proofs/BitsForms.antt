@@ -5,7 +5,7 @@ use Rattle.std.proofs.Common.{◌≡◌, Bool, true, false, ◌&&◌, not, refl}
 use Rattle.gate_table.specs.declared.gate.Gate.TheVariants as gate
 use Rattle.gate_table.specs.Images.{image1, image2}
 use Rattle.pauli_word.specs.declared.letter.Letter.{Letter}
-use Rattle.pauli_word.specs.declared.letter.Letter.TheVariants.{I, X, Y, Z}
+use Rattle.pauli_word.specs.declared.letter.Letter.TheVariants.{X}
 use Rattle.pauli_word.specs.Letters.{letters_clash}
 use Rattle.pauli_word.specs.Parity.{exclusive_or}
 use Rattle.pauli_word.proofs.LetterLaws.{each_letter, at_letter, at_letters}
@@ -27,17 +27,17 @@ at_one : (f g : Letter → Bool → Bool → Bool → Bool → Bool) → each_le
 at_one f g h a rest odd negative bit =
     same_truth-true _ _
     (at_four_truths (λ r o n x. same_truth (f a r o n x) (g a r o n x))
-     (at_letter (λ l. each_four_truths (λ r o n x. same_truth (f l r o n x) (g l r o n x))) h a)
-     rest odd negative bit)
+    (at_letter (λ l. each_four_truths (λ r o n x. same_truth (f l r o n x) (g l r o n x))) h a)
+    rest odd negative bit)
 
 at_two : (f g : Letter → Letter → Bool → Bool → Bool → Bool → Bool → Bool) → each_letter (λ a. each_letter (λ b. each_truth (λ rest. each_four_truths (λ odd negative first second. same_truth (f a b rest odd negative first second) (g a b rest odd negative first second))))) ≡ true → (a b : Letter) (rest odd negative first second : Bool) → f a b rest odd negative first second ≡ g a b rest odd negative first second
 at_two f g h a b rest odd negative first second =
     same_truth-true _ _
     (at_four_truths (λ o n x y. same_truth (f a b rest o n x y) (g a b rest o n x y))
-     (at_truth (λ r. each_four_truths (λ o n x y. same_truth (f a b r o n x y) (g a b r o n x y)))
-      (at_letters (λ l k. each_truth (λ r. each_four_truths (λ o n x y. same_truth (f l k r o n x y) (g l k r o n x y)))) h a b)
-      rest)
-     odd negative first second)
+    (at_truth (λ r. each_four_truths (λ o n x y. same_truth (f a b r o n x y) (g a b r o n x y)))
+    (at_letters (λ l k. each_truth (λ r. each_four_truths (λ o n x y. same_truth (f l k r o n x y) (g l k r o n x y)))) h a b)
+    rest)
+    odd negative first second)
 
 -- the image under X is in the state exactly where the letter is with the bit flipped
 pub is_in-X : (a : Letter) (rest odd negative bit : Bool) → is_in rest odd (exclusive_or negative (image1 gate.X a).1) (image1 gate.X a).0 bit ≡ is_in rest odd negative a (exclusive_or bit true)

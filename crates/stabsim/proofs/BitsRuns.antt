@@ -1,5 +1,5 @@
 -- The records of a classical run, from its bits.
-use Rattle.std.proofs.Common.{◌≡◌, ◌+◌, ◌<◌, ◌≤◌, ℕ, Bool, true, false, List, [], ◌∷◌, ◌++◌, Option, Some, None, length, get_or, drop, replicate, refl, ap, ap₂, sym, ◌∙◌, arith, append-nil, append_assoc, length-append}
+use Rattle.std.proofs.Common.{◌≡◌, ◌+◌, ◌<◌, ◌≤◌, ℕ, Bool, true, false, List, [], ◌∷◌, ◌++◌, Some, None, length, get_or, drop, replicate, refl, ap, ap₂, sym, ◌∙◌, arith, append-nil, append_assoc, length-append}
 use Rattle.std.proofs.lemmas.List.{length-replicate, drop_more, drop_all}
 use Rattle.std.proofs.lemmas.List.FromFn.{length-range_with_len}
 use Rattle.std.proofs.lemmas.List.Elements.{All-head, All-tail}
@@ -26,20 +26,20 @@ records_from-run : (program : Listing) (faults : List Bool) (steps : List Step) 
 records_from-run program faults [] bits m fit of = append-nil m.records
 records_from-run program faults (step ∷ steps) bits m fit of =
     let here : StepFits program step bits =
-      record {
-        faults_fit = fit.faults_fit;
-        fits = All-head (λ s. step_fits program s ≡ true) step steps fit.fit;
-        classical = All-head (λ s. is_classical_step program s ≡ true) step steps fit.classical;
-        size = fit.size;
-      } in
+    record {
+      faults_fit = fit.faults_fit;
+      fits = All-head (λ s. step_fits program s ≡ true) step steps fit.fit;
+      classical = All-head (λ s. is_classical_step program s ≡ true) step steps fit.classical;
+      size = fit.size;
+    } in
     let after = bits_after program faults step bits in
     let left : StepsFit program steps after =
-      record {
-        faults_fit = fit.faults_fit;
-        fit = All-tail (λ s. step_fits program s ≡ true) step steps fit.fit;
-        classical = All-tail (λ s. is_classical_step program s ≡ true) step steps fit.classical;
-        size = length-bits_after program faults step bits ∙ fit.size;
-      } in
+    record {
+      faults_fit = fit.faults_fit;
+      fit = All-tail (λ s. step_fits program s ≡ true) step steps fit.fit;
+      classical = All-tail (λ s. is_classical_step program s ≡ true) step steps fit.classical;
+      size = length-bits_after program faults step bits ∙ fit.size;
+    } in
     sym (append_assoc m.records (option_to_list (record_made faults step bits)) (records_from program faults steps after))
     ∙ ap (λ records. records ++ records_from program faults steps after) (sym (records-next program faults step bits m here of))
     ∙ records_from-run program faults steps after (next program faults step m) left (IsOf-next program faults step bits m here of)
@@ -87,14 +87,14 @@ pub records_room : (program : Listing) (faults : List Bool) (steps : List Step) 
 records_room program faults steps i bits records step seen well_formed are_steps below makes made =
     let left = records_from program faults (drop (i + 1) steps) (bits_after program faults (get_or steps i step) bits) in
     let cut : records_from program faults (drop i steps) bits ≡ seen ∷ left =
-      ap (λ s. records_from program faults s bits) (drop_more steps i step below)
-      ∙ ap (λ o. option_to_list o ++ left) (sym makes) in
+    ap (λ s. records_from program faults s bits) (drop_more steps i step below)
+    ∙ ap (λ o. option_to_list o ++ left) (sym makes) in
     let counts : length records + length (seen ∷ left) ≡ program.records =
-      sym (length-append records (seen ∷ left))
-      ∙ ap (λ r. length (records ++ r)) (sym cut)
-      ∙ ap length made
-      ∙ ap (λ s. length (records_from program faults s (replicate program.qubits false))) are_steps
-      ∙ length-all program faults (replicate program.qubits false) well_formed in
+    sym (length-append records (seen ∷ left))
+    ∙ ap (λ r. length (records ++ r)) (sym cut)
+    ∙ ap length made
+    ∙ ap (λ s. length (records_from program faults s (replicate program.qubits false))) are_steps
+    ∙ length-all program faults (replicate program.qubits false) well_formed in
     omega arith
 
 -- the end of the loop over the steps: the records so far are all

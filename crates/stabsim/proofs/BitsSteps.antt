@@ -1,16 +1,16 @@
 -- A step of a classical program keeps the state that of its bits, and makes the record that the bits tell.
-use Rattle.std.proofs.Common.{◌≡◌, ◌≢◌, ◌<◌, ℕ, Bool, true, false, ◌&&◌, ◌||◌, not, cond, List, [], ◌∷◌, ◌++◌, Option, Some, None, is_some, length, replicate, refl, ap, ap₂, sym, ◌∙◌, subst, length-set, append-nil}
+use Rattle.std.proofs.Common.{◌≡◌, ◌≢◌, ◌<◌, ℕ, Bool, true, false, ◌&&◌, ◌||◌, not, cond, List, [], ◌∷◌, ◌++◌, Some, None, is_some, length, refl, ap, ap₂, sym, ◌∙◌, length-set, append-nil}
 use Rattle.std.proofs.lemmas.Bool.{and_parts, ltb-true, eqb-false, not-true, false≢true}
 use Rattle.std.specs.Prelude.{nat_lt, slice_set, ◌==◌}
 use Rattle.std.proofs.lemmas.List.{length-replicate}
 use Rattle.std.proofs.lemmas.List.Elements.{All-head, All-tail, All-get_or}
-use Rattle.std.specs.List.{All, AllPass, list_all}
+use Rattle.std.specs.List.{All, list_all}
 use Rattle.std.specs.Option.{option_to_list}
 use Rattle.gate_table.specs.declared.gate.Gate.{Gate}
 use Rattle.gate_table.specs.declared.gate.Gate.TheVariants as gate
 use Rattle.gate_table.specs.Images.{arity_of}
 use Rattle.pauli_word.specs.declared.letter.Letter.{Letter}
-use Rattle.pauli_word.specs.declared.letter.Letter.TheVariants.{I, X, Y, Z}
+use Rattle.pauli_word.specs.declared.letter.Letter.TheVariants.{I, X, Z}
 use Rattle.pauli_word.specs.Letters.{letters_clash}
 use Rattle.pauli_word.specs.Parity.{exclusive_or}
 use Rattle.pauli_word.specs.Words.{Signed, anticommute, letters_product, letter_at, no_letters, lone_letter}
@@ -21,9 +21,9 @@ use Rattle.step_model.specs.declared.step.Step.TheVariants.{One, Two, Collapse, 
 use Rattle.step_model.specs.declared.step.Term.{Term}
 use Rattle.step_model.specs.Images.{preimage_at, preimage_at_two}
 use Rattle.step_model.specs.Listing.{Listing, Effect, Applies, Flips, effect_at, effect_word, fault_at, no_effect, word_of_terms}
-use Rattle.step_model.specs.Runs.{State, Moment, signed, changed, applied, is_decided, outcome, collapsed, corrected, after_collapse, next, next_coin, happens, flip_happens}
-use Rattle.step_model.specs.WellFormed.{EffectFits, FaultFits, applies_word, flip_fits, is_I, step_fits}
-use Rattle.stabsim.specs.Classical.{is_X_gate, is_CX_or_SWAP, is_X_letter, is_Z_letter, is_classical_effect, is_classical_step}
+use Rattle.step_model.specs.Runs.{State, Moment, signed, changed, applied, is_decided, outcome, collapsed, after_collapse, next, next_coin, happens, flip_happens}
+use Rattle.step_model.specs.WellFormed.{EffectFits, FaultFits, applies_word, flip_fits}
+use Rattle.stabsim.specs.Classical.{is_X_gate, is_CX_or_SWAP, is_X_letter, is_Z_letter, is_classical_effect}
 use Rattle.stabsim.specs.Bits.{bit_at, flipped, swapped, flipped_terms, bits_after_two, bits_after_effect, StepFits, bits_after, record_made, bits_state}
 use Rattle.stabsim.proofs.BitsWords.{bits_state-X, bits_state-CX, bits_state-Swap, anticommute-lone, bits_state-applied, bits_state-corrected, bits_state-lone_Z}
 
@@ -54,17 +54,17 @@ IsOf-X : (bits : List Bool) (s : State) (q : ℕ) → q < length bits → IsOf b
 IsOf-X bits s q below of =
     record {
       same = λ p size.
-        let count : length p.letters ≡ length bits = size ∙ length-set bits q (exclusive_or (bit_at bits q) true) in
-        of.same (preimage_at gate.X q p) (length-set _ _ _ ∙ count) ∙ bits_state-X bits p q below count;
+          let count : length p.letters ≡ length bits = size ∙ length-set bits q (exclusive_or (bit_at bits q) true) in
+          of.same (preimage_at gate.X q p) (length-set _ _ _ ∙ count) ∙ bits_state-X bits p q below count;
     }
 
 IsOf-CX : (bits : List Bool) (s : State) (a b : ℕ) → b ≢ a → a < length bits → b < length bits → IsOf bits s → IsOf (flipped b (bit_at bits a) bits) (λ p. s (preimage_at_two gate.CX a b p))
 IsOf-CX bits s a b apart first second of =
     record {
       same = λ p size.
-        let count : length p.letters ≡ length bits = size ∙ length-set bits b (exclusive_or (bit_at bits b) (bit_at bits a)) in
-        of.same (preimage_at_two gate.CX a b p) (length-set _ _ _ ∙ length-set _ _ _ ∙ count)
-        ∙ bits_state-CX bits p a b apart first second count;
+          let count : length p.letters ≡ length bits = size ∙ length-set bits b (exclusive_or (bit_at bits b) (bit_at bits a)) in
+          of.same (preimage_at_two gate.CX a b p) (length-set _ _ _ ∙ length-set _ _ _ ∙ count)
+          ∙ bits_state-CX bits p a b apart first second count;
     }
 
 length-swapped : (a b : ℕ) (bits : List Bool) → length (swapped a b bits) ≡ length bits
@@ -74,9 +74,9 @@ IsOf-Swap : (bits : List Bool) (s : State) (a b : ℕ) → b ≢ a → a < lengt
 IsOf-Swap bits s a b apart first second of =
     record {
       same = λ p size.
-        let count : length p.letters ≡ length bits = size ∙ length-swapped a b bits in
-        of.same (preimage_at_two gate.Swap a b p) (length-set _ _ _ ∙ length-set _ _ _ ∙ count)
-        ∙ bits_state-Swap bits p a b apart first second count;
+          let count : length p.letters ≡ length bits = size ∙ length-swapped a b bits in
+          of.same (preimage_at_two gate.Swap a b p) (length-set _ _ _ ∙ length-set _ _ _ ∙ count)
+          ∙ bits_state-Swap bits p a b apart first second count;
     }
 
 -- an applied word of X's
@@ -111,22 +111,22 @@ bits_state-terms n (term ∷ terms) bits p size X_only within =
     let below : term.qubit < n = All-head (λ t. t.qubit < n) term terms within in
     let rest = anticommute p.letters (word_of_terms n terms) in
     let lone : anticommute p.letters (lone_letter n term.qubit term.letter) ≡ letters_clash (letter_at p.letters term.qubit) X =
-      anticommute-lone n p.letters term.qubit term.letter below
-      ∙ ap (letters_clash (letter_at p.letters term.qubit)) (is_X_letter-true term.letter parts.0) in
+    anticommute-lone n p.letters term.qubit term.letter below
+    ∙ ap (letters_clash (letter_at p.letters term.qubit)) (is_X_letter-true term.letter parts.0) in
     ap (λ b. bits_state bits (changed b p))
     (anticommute-terms n p.letters term terms ∙ ap (λ b. exclusive_or b rest) lone)
     ∙ ap (λ b. bits_state bits (signed p.letters b)) (exclusive_or_assoc (letters_clash (letter_at p.letters term.qubit) X) rest p.negative)
     ∙ bits_state-applied bits (changed rest p) term.qubit (rw size below)
     ∙ bits_state-terms n terms (flipped term.qubit true bits) p (length-set _ _ _ ∙ size) parts.1
-      (All-tail (λ t. t.qubit < n) term terms within)
+    (All-tail (λ t. t.qubit < n) term terms within)
 
 IsOf-effect : (n : ℕ) (happens : Bool) (effect : Effect) (bits : List Bool) (s : State) → length bits ≡ n → applies_word effect ≡ true → is_classical_effect effect ≡ true → EffectFits n effect → IsOf bits s → IsOf (cond happens (bits_after_effect effect bits) bits) (applied happens (effect_word n effect) s)
 IsOf-effect n false effect bits s size applies X_only within of = record { same = λ p count. of.same p count }
 IsOf-effect n true (Applies terms) bits s size applies X_only within of =
     record {
       same = λ p count.
-        of.same (changed (anticommute p.letters (word_of_terms n terms)) p) (count ∙ length-flipped_terms terms bits)
-        ∙ bits_state-terms n terms bits p size X_only within;
+          of.same (changed (anticommute p.letters (word_of_terms n terms)) p) (count ∙ length-flipped_terms terms bits)
+          ∙ bits_state-terms n terms bits p size X_only within;
     }
 IsOf-effect n true (Flips r) bits s size applies X_only within of = absurd (false≢true applies)
 
@@ -175,12 +175,12 @@ IsOf-collapse n q bits m true recorded changes size below of =
     let seen : outcome m.state w coin ≡ bit_at bits q = outcome_is m.state w coin (bit_at bits q) sees.plus sees.minus in
     record {
       same = λ p count.
-        let flips = ap₂ (λ x y. x && y) seen (anticommute-lone n p.letters q X below) in
-        let after = changed (outcome m.state w coin && anticommute p.letters (lone_letter n q X)) p in
-        collapsed_is m.state w coin (bit_at bits q) sees.plus sees.minus after
-        ∙ of.same after (count ∙ length-set bits q false)
-        ∙ ap (λ b. bits_state bits (changed b p)) flips
-        ∙ bits_state-corrected bits p q (rw size below);
+          let flips = ap₂ (λ x y. x && y) seen (anticommute-lone n p.letters q X below) in
+          let after = changed (outcome m.state w coin && anticommute p.letters (lone_letter n q X)) p in
+          collapsed_is m.state w coin (bit_at bits q) sees.plus sees.minus after
+          ∙ of.same after (count ∙ length-set bits q false)
+          ∙ ap (λ b. bits_state bits (changed b p)) flips
+          ∙ bits_state-corrected bits p q (rw size below);
     }
 
 qubit_within : (n q : ℕ) (t : Bool) → (t && nat_lt q n) ≡ true → q < n

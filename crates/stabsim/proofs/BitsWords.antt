@@ -1,12 +1,12 @@
 -- Words and the state of bits: what a change of one letter or of one bit, or of two, does, and what this makes of
 -- gates, of applied words and of a lone Z.
-use Rattle.std.proofs.Common.{◌≡◌, ◌≢◌, ◌<◌, ℕ, zero, suc, Bool, true, false, ◌&&◌, not, List, [], ◌∷◌, length, get_or, set, replicate, refl, ap, ap₂, sym, ◌∙◌, length-set, get_or-set_same, get_or-set_other, set-set}
+use Rattle.std.proofs.Common.{◌≡◌, ◌≢◌, ◌<◌, ℕ, zero, suc, Bool, true, false, ◌&&◌, not, List, [], ◌∷◌, length, set, replicate, refl, ap, ap₂, sym, ◌∙◌, length-set, get_or-set_same, get_or-set_other, set-set}
 use Rattle.std.proofs.lemmas.List.{set_comm, set-get_or, length-replicate, get_or-replicate}
 use Rattle.std.specs.List.{list_all}
 use Rattle.gate_table.specs.declared.gate.Gate.TheVariants as gate
 use Rattle.gate_table.specs.Images.{image1, image2}
 use Rattle.pauli_word.specs.declared.letter.Letter.{Letter}
-use Rattle.pauli_word.specs.declared.letter.Letter.TheVariants.{I, X, Y, Z}
+use Rattle.pauli_word.specs.declared.letter.Letter.TheVariants.{I, X, Z}
 use Rattle.pauli_word.specs.Letters.{letters_clash}
 use Rattle.pauli_word.specs.Parity.{exclusive_or}
 use Rattle.pauli_word.specs.Words.{Signed, anticommute, letter_at, no_letters, lone_letter}
@@ -62,13 +62,13 @@ bits_state-letter : (bits : List Bool) (p : List Letter) (negative : Bool) (q : 
 bits_state-letter bits p negative q a below =
     bits_state-at bits (signed (set p q a) negative) q
     ∙ ap₂ (λ rest b. is_in (list_all is_I_or_Z rest) (parity_at_Z rest bits) negative b (bit_at bits q))
-      (set-set p q a I) (get_or-set_same p q a I below)
+    (set-set p q a I) (get_or-set_same p q a I below)
 
 bits_state-bit : (bits : List Bool) (p : Signed) (q : ℕ) (bit : Bool) → q < length bits → bits_state (set bits q bit) p ≡ is_in (list_all is_I_or_Z (set p.letters q I)) (parity_at_Z (set p.letters q I) bits) p.negative (letter_at p.letters q) bit
 bits_state-bit bits p q bit below =
     bits_state-at (set bits q bit) p q
     ∙ ap₂ (λ odd x. is_in (list_all is_I_or_Z (set p.letters q I)) odd p.negative (letter_at p.letters q) x)
-      (parity_at_Z-unseen p.letters bits q bit) (get_or-set_same bits q bit false below)
+    (parity_at_Z-unseen p.letters bits q bit) (get_or-set_same bits q bit false below)
 
 -- X, as a gate, as an applied word and as a correction
 pub bits_state-X : (bits : List Bool) (p : Signed) (q : ℕ) → q < length bits → length p.letters ≡ length bits → bits_state bits (preimage_at gate.X q p) ≡ bits_state (flipped q true bits) p
@@ -85,7 +85,7 @@ anticommute-lone n p q a below =
     let emptied : set (no_letters n) q I ≡ no_letters n = ap (set (no_letters n) q) (sym (get_or-replicate n q I I below)) ∙ set-get_or (no_letters n) q I in
     anticommute_at p (lone_letter n q a) q
     ∙ ap₂ (λ b rest. exclusive_or (letters_clash (letter_at p q) b) (anticommute (set p q I) rest))
-      (get_or-set_same (no_letters n) q a I within) (set-set (no_letters n) q a I ∙ emptied)
+    (get_or-set_same (no_letters n) q a I within) (set-set (no_letters n) q a I ∙ emptied)
     ∙ ap (exclusive_or (letters_clash (letter_at p q) a)) (anticommute_comm (set p q I) (no_letters n) ∙ anticommute_of_none n (set p q I))
     ∙ exclusive_or-false (letters_clash (letter_at p q) a)
 
@@ -136,8 +136,8 @@ bits_state-letters bits p negative a b l k apart first second =
     let put = set (set p a l) b k in
     let back : a ≢ b = λ e. apart (sym e) in
     let emptied : set (set put a I) b I ≡ set (set p a I) b I =
-      ap (λ r. set r b I) (set_comm (set p a l) b a k I apart ∙ ap (λ r. set r b k) (set-set p a l I))
-      ∙ set-set (set p a I) b k I in
+    ap (λ r. set r b I) (set_comm (set p a l) b a k I apart ∙ ap (λ r. set r b k) (set-set p a l I))
+    ∙ set-set (set p a I) b k I in
     let at_a : letter_at put a ≡ l = get_or-set_other (set p a l) b a k I back ∙ get_or-set_same p a l I first in
     let at_b : letter_at put b ≡ k = get_or-set_same (set p a l) b k I (rw length-set second) in
     bits_state-at_two bits (signed put negative) a b apart
@@ -151,10 +151,10 @@ bits_state-bits bits p a b x y apart first second =
     let emptied = set (set p.letters a I) b I in
     let turned : emptied ≡ set (set p.letters b I) a I = set_comm p.letters a b I I back in
     let odd : parity_at_Z emptied put ≡ parity_at_Z emptied bits =
-      parity_at_Z-unseen (set p.letters a I) (set bits a x) b y
-      ∙ ap (λ r. parity_at_Z r (set bits a x)) turned
-      ∙ parity_at_Z-unseen (set p.letters b I) bits a x
-      ∙ ap (λ r. parity_at_Z r bits) (sym turned) in
+    parity_at_Z-unseen (set p.letters a I) (set bits a x) b y
+    ∙ ap (λ r. parity_at_Z r (set bits a x)) turned
+    ∙ parity_at_Z-unseen (set p.letters b I) bits a x
+    ∙ ap (λ r. parity_at_Z r bits) (sym turned) in
     let at_a : bit_at put a ≡ x = get_or-set_other (set bits a x) b a y false back ∙ get_or-set_same bits a x false first in
     let at_b : bit_at put b ≡ y = get_or-set_same (set bits a x) b y false (rw length-set second) in
     bits_state-at_two put p a b apart

@@ -9,9 +9,9 @@ use std::alloc::{AllocError, Allocator};
 use step_model::{Cause, Fault, Program};
 
 /// Of each detector and then of each observable, whether its parity in a run differs from that in a reference run.
-pub(crate) fn detections<'a, A: Allocator + Copy>(
+pub(crate) fn detections<A: Allocator + Copy>(
     alloc: A,
-    program: &Program<'a, A>,
+    program: &Program<'_, A>,
     records: &Records<A>,
     reference: &Records<A>,
 ) -> Result<Vec<bool, A>, Fault>
@@ -72,11 +72,7 @@ fn target<'b, A: Allocator + Copy>(program: &'b Program<'_, A>, number: usize) -
 }
 
 // Whether the parities of the records named differ.
-fn differs<A: Allocator + Copy>(
-    named: &[u32],
-    records: &Records<A>,
-    reference: &Records<A>,
-) -> bool
+fn differs<A: Allocator + Copy>(named: &[u32], records: &Records<A>, reference: &Records<A>) -> bool
     requires records_fit { All (λ r. r < length records.now) named.now }
     requires reference_fit { All (λ r. r < length reference.now) named.now }
     ensures { result ≡ exclusive_or (parity named.now records.now) (parity named.now reference.now) }

@@ -14,9 +14,9 @@ use step_model::{Cause, Fault, Program, Step, Term};
 
 /// The records of a run in which these faults happen and the collapses take these coins. The program is classical,
 /// so no outcome is random: whatever the coins, the records are the same.
-pub(crate) fn run<'a, A: Allocator + Copy>(
+pub(crate) fn run<A: Allocator + Copy>(
     alloc: A,
-    program: &Program<'a, A>,
+    program: &Program<'_, A>,
     faults: &[bool],
     coins: &[bool],
 ) -> Result<Records<A>, Fault>

@@ -1,3 +1,6 @@
+ghost use Rattle.std.specs.Prelude.{◌≡◌, IfOk};
+ghost use Rattle.stabsim.specs.Classical.{IsClassical};
+
 use super::run;
 use crate::detections::detections;
 use crate::records::Records;
@@ -7,9 +10,6 @@ use pauli_word::Letter;
 use std::alloc::{AllocError, Global};
 use std::test::Fail;
 use step_model::{FaultPart, Parts, Program, Step, Term};
-
-ghost use Rattle.std.specs.Prelude.{◌≡◌, IfOk};
-ghost use Rattle.stabsim.specs.Classical.{IsClassical};
 
 fn collapse(qubit: u32, rec: Option<u32>, reset: bool, inverted: bool, flip: Option<u32>) -> Step
     ensures { result ≡ Step.Collapse Letter.Z qubit rec reset inverted flip }
@@ -109,10 +109,26 @@ fn faults_change_records_and_detections(rt: HostRuntime) -> Result<(), Fail> {
     let program = example(rt.alloc())?;
     // The faults that happen, the records, and of each detector and of the observable whether it differs.
     let cases = [
-        ([false, false], [true, true, true, false, false], [false, false, false]),
-        ([true, false], [true, false, false, false, false], [true, false, false]),
-        ([false, true], [true, true, false, false, false], [false, false, true]),
-        ([true, true], [true, false, true, false, false], [true, false, true]),
+        (
+            [false, false],
+            [true, true, true, false, false],
+            [false, false, false],
+        ),
+        (
+            [true, false],
+            [true, false, false, false, false],
+            [true, false, false],
+        ),
+        (
+            [false, true],
+            [true, true, false, false, false],
+            [false, false, true],
+        ),
+        (
+            [true, true],
+            [true, false, true, false, false],
+            [true, false, true],
+        ),
     ];
     let reference = run(rt.alloc(), &program, &[], &[])?;
     for (faults, records, differ) in cases {

@@ -18,5 +18,5 @@ pub returns-clause-count : goal.returns-clause-count
 returns-clause-count g c =
     ap length
     (c.new.ensures
-     ∙ records_at_end c.args.program.now c.args.faults.now [] c.steps-steps.result.now c.loop-step.step-index c.loop-step.bits.items c.loop-step.records.items c.steps-steps.ensures.well_formed c.requires c.steps-steps.ensures.steps (omega arith) c.loop-step.invariant.made)
+    ∙ records_at_end c.args.program.now c.args.faults.now [] c.steps-steps.result.now c.loop-step.step-index c.loop-step.bits.items c.loop-step.records.items c.steps-steps.ensures.well_formed c.requires c.steps-steps.ensures.steps (omega arith) c.loop-step.invariant.made)
     ∙ length-records_of c.args.program.now c.args.faults.now [] c.steps-steps.ensures.well_formed c.requires
