@@ -1,4 +1,4 @@
-ghost use Rattle.std.specs.Prelude.{◌≡◌, ◌+◌, ◌<◌, [], length, IfOk, IfErr, slice_index_or};
+ghost use Rattle.std.specs.Prelude.{◌≡◌, ◌+◌, ◌<◌, [], length, IfOk, IfErr};
 ghost use Rattle.std.specs.List.{All};
 ghost use Rattle.pauli_word.specs.Parity.{exclusive_or};
 ghost use Rattle.step_model.specs.Faults.{memory_fault};
@@ -29,6 +29,7 @@ pub(crate) fn detections<A: Allocator + Copy>(
     }
 }
 
+// The answers, one after another in memory taken before the first.
 fn differences<A: Allocator + Copy>(
     alloc: A,
     program: &Program<'_, A>,
@@ -52,6 +53,7 @@ fn differences<A: Allocator + Copy>(
 fn target_count<A: Allocator + Copy>(program: &Program<'_, A>) -> usize
     ensures { result ≡ length program.now.detectors + length program.now.observables }
 {
+    // What is known of the steps bounds both counts.
     let _steps = program.steps();
     program.detector_count() + program.observable_count()
 }
@@ -62,6 +64,7 @@ fn target<'b, A: Allocator + Copy>(program: &'b Program<'_, A>, number: usize) -
     ensures value { result.now ≡ target_at program.now number }
     ensures within { All (λ r. r < program.now.records) result.now }
 {
+    // What is known of the steps bounds the records named.
     let _steps = program.steps();
     let detectors = program.detector_count();
     if number < detectors {
