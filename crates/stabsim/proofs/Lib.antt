@@ -1,0 +1,5 @@
+mod BitsForms
+mod BitsSteps
+mod BitsWords
+pub mod BitsRuns
+pub mod Differences
