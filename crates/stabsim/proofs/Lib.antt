@@ -1,0 +1,4 @@
+pub mod CircuitLemmas
+pub mod LineLemmas
+pub mod ParseLemmas
+pub mod TargetLemmas
