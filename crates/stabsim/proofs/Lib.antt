@@ -1,4 +1,5 @@
 pub mod CircuitLemmas
 pub mod LineLemmas
 pub mod ParseLemmas
+pub mod ReadingLemmas
 pub mod TargetLemmas

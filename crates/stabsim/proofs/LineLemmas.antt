@@ -24,6 +24,11 @@ lines_of-cut text line rest after h line_is rest_is after_is =
     let e : after ≡ drop (n + 1) text = after_is ∙ (ap (drop 1) rest_is ∙ drop-drop 1 n text) in
     rw (line_is, e) (lines_of-first text h)
 
+-- no lines are left where no text is
+pub lines_of-none : (text : List ℕ) → text ≡ [] → lines_of text ≡ []
+unfolding lines_of
+lines_of-none text h = rw h refl
+
 pub pieces_of-first : (line : List ℕ) → pieces_of line ≡ before_first is_space line ∷ pieces_after (from_first is_space line)
 unfolding pieces_of
 pieces_of-first [] = refl

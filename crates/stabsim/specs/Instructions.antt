@@ -110,7 +110,8 @@ taken_or_refused None = Refuses
 taken_or_refused (Some instruction) = Takes instruction
 
 unfoldable pub reading_of : ℕ → List ℕ → Reading
-reading_of number line = if length line == 0 then Nothing else taken_or_refused (instruction_in number (pieces_of line))
+reading_of number [] = Nothing
+reading_of number (b ∷ line) = taken_or_refused (instruction_in number (pieces_of (b ∷ line)))
 
 abbrev pub refused : ℕ → Fault
 refused number = record { cause = cause.LeftOut; line = number }
