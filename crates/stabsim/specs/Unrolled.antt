@@ -10,6 +10,7 @@ use Rattle.gate_table.specs.declared.gate.Gate.TheVariants as gate
 use Rattle.pauli_word.specs.declared.letter.Letter.TheVariants as letter
 use Rattle.step_model.specs.declared.fault.Cause.TheVariants as cause
 use Rattle.step_model.specs.declared.fault.Fault.{Fault}
+use Rattle.step_model.specs.declared.program.FaultPart.{FaultPart}
 use Rattle.step_model.specs.declared.step.Step.{Step}
 use Rattle.step_model.specs.declared.step.Step.TheVariants as step
 use Rattle.step_model.specs.Listing.{Listing, ListedFault, Applies}
@@ -72,6 +73,11 @@ plain_bound (b ∷ point ∷ digits) = digits_value digits * 2 ^ 64 / 10 ^ lengt
 abbrev pub flip_fault : List ℕ → ℕ → ListedFault
 flip_fault text q =
     record { text = text; bound = plain_bound text; effect = Applies (record { qubit = q; letter = letter.X } ∷ []) }
+
+-- a part of a fault, with X at a qubit
+abbrev pub fault_at_qubit : FaultPart → ℕ → ListedFault
+fault_at_qubit part q =
+    record { text = part.text.now; bound = part.bound; effect = Applies (record { qubit = q; letter = letter.X } ∷ []) }
 
 abbrev pub operation_faults : Operation → List ℕ → List ℕ → List ListedFault
 operation_faults XError text targets = map (flip_fault text) targets

@@ -1,4 +1,4 @@
-ghost use Rattle.std.specs.Prelude.{◌≡◌, ◌<◌, [], ◌∷◌, ◌++◌, length, OnOk, OnErr, slice_index_or};
+ghost use Rattle.std.specs.Prelude.{◌≡◌, ◌<◌, [], ◌∷◌, ◌++◌, length, All, OnOk, OnErr, slice_index_or};
 ghost use Rattle.stabsim.specs.Circuits.{made_instruction};
 ghost use Rattle.stabsim.specs.Instructions.{IsInstruction};
 
@@ -58,7 +58,8 @@ impl<'a, A: Allocator + Copy> Circuit<'a, A> {
     }
 
     pub(crate) fn len(&self) -> usize
-        ensures { result ≡ length self.now }
+        ensures len { result ≡ length self.now }
+        ensures fit { All IsInstruction self.now }
     {
         self.headings.len()
     }

@@ -2,9 +2,12 @@
 #![tactic(auto)]
 
 mod circuit;
+mod faults;
 mod head;
 mod line;
 mod parse;
+mod steps;
 mod target;
+mod totals;
 
 fn main() {}
