@@ -1,8 +1,11 @@
 pub mod CircuitLemmas
 pub mod FaultLemmas
+pub mod FittingLemmas
 pub mod LineLemmas
 pub mod LoopLemmas
+pub mod NumberingLemmas
 pub mod ParseLemmas
 pub mod ProbabilityLemmas
 pub mod ReadingLemmas
 pub mod TargetLemmas
+pub mod UnrolledLemmas

@@ -1,7 +1,7 @@
 -- A plain text of a probability, `0`, `1`, or `0.` and digits, is accepted, with floor of its value times 2^64. For
 -- digits that make a number v, let its last z digits be zeros: v = w * 10^z. The bound is then that of w over 10^(n - z).
 use Rattle.std.proofs.Common.{◌≡◌, ℕ, zero, suc, ◌+◌, ◌-◌, ◌*◌, ◌/◌, ◌^◌, ◌<◌, ◌≤◌, Bool, true, false, cond, eqb, List, [], ◌∷◌, ◌++◌, length, take, drop, reverse, Option, None, Some, refl, ap, sym, ◌∙◌, inl, inr, arith, pow-suc, mul-one, zero-mul, mul-le-mul_right, mul-div_cancel, lt_of_mul-lt-mul_right, add-zero}
-use Rattle.std.specs.Prelude.{◌&&◌, ◌||◌, ◌==◌, nat_le, fold}
+use Rattle.std.specs.Prelude.{◌&&◌, ◌||◌, ◌⊎◌, ◌==◌, nat_le, fold, option_and_then}
 use Rattle.std.specs.Char.{is_ascii_digit}
 use Rattle.std.specs.List.{list_all, prefix_len}
 use Rattle.std.proofs.Math.Nat.{one-le-pow, zero-div, mul-div-mul_right}
@@ -131,7 +131,7 @@ pub record IsScaled (digits : List ℕ) (n z w : ℕ) : Type 0 where
 below_power : (w z n : ℕ) → z ≤ n → w * 10 ^ z < 10 ^ n → w < 10 ^ (n - z)
 below_power w z n le h =
     let split : 10 ^ n ≡ 10 ^ (n - z) * 10 ^ z = ap (λ k. 10 ^ k) (let e : n ≡ n - z + z = omega arith in e) ∙ pow-add 10 (n - z) z in
-    lt_of_mul-lt-mul_right {a = 10 ^ z} (rw (← split) h)
+    let h' : w * 10 ^ z < 10 ^ (n - z) * 10 ^ z = rw (← split) h in lt_of_mul-lt-mul_right (10 ^ z) h'
 
 number_of-scaled : (digits : List ℕ) (n z w : ℕ) → IsScaled digits n z w → digits_value digits / 10 ^ z ≡ w
 number_of-scaled digits n z w s = ap (λ v. v / 10 ^ z) s.value ∙ mul-div_cancel w (pow_positive z)
@@ -150,3 +150,45 @@ bound_of-scaled digits n z w small s =
       | inr e ↦
         rw (e, number_of-scaled digits n z w s) (bound ∙ ap (λ (v : ℕ). Some v) (same_quotient w z n fits ∙ ap (λ v. v * 2 ^ 64 / 10 ^ n) (sym s.value)))
     ]
+
+decimal_bound-plain : (digits : List ℕ) → list_all is_ascii_digit digits ≡ true → length digits ≤ 18 → decimal_bound (plain_decimal digits) ≡ Some (digits_value digits * 2 ^ 64 / 10 ^ length digits)
+decimal_bound-plain digits all small =
+    let k = prefix_len is_zero digits in
+    let left = drop k digits in
+    let z = prefix_len is_zero (reverse left) in
+    let w = digits_value (reverse (drop z (reverse left))) in
+    let same = value_drop_zeros digits in
+    let scaled : IsScaled left (length digits) z w = record {
+      few = omega (arith, length-drop k digits);
+      zeros = omega (arith, prefix_len-le-length is_zero (reverse left), length-reverse left);
+      value = ap digits_value (sym (reverse-reverse left)) ∙ value_cut_zeros (reverse left);
+      below = omega (arith, same, digits_value-below digits all);
+    } in
+    let bound = bound_of-scaled left (length digits) z w small scaled in
+    rw (without_zeros digits, zeros_behind left) (bound ∙ ap (λ v. Some (v * 2 ^ 64 / 10 ^ length digits)) same)
+
+-- ---- all of it
+
+one_digit : (b : ℕ) → (b ≡ 48) ⊎ (b ≡ 49) → probability_bound (b ∷ []) ≡ Some (plain_bound (b ∷ []))
+one_digit b (inl e) = rw e refl
+one_digit b (inr e) = rw e refl
+
+digit_cases : (b : ℕ) → (b == 48 || b == 49) ≡ true → (b ≡ 48) ⊎ (b ≡ 49)
+digit_cases b h = elim (or_cases (b == 48) (b == 49) h) [ | inl e ↦ inl (eqb-true b 48 e) | inr e ↦ inr (eqb-true b 49 e) ]
+
+many_digits : (digits : List ℕ) → list_all is_ascii_digit digits ≡ true → length digits ≤ 18 → probability_bound (48 ∷ 46 ∷ digits) ≡ Some (digits_value digits * 2 ^ 64 / 10 ^ length digits)
+many_digits digits all small =
+    ap (λ o. option_and_then decimal_bound o) (decimal_of-plain digits all) ∙ decimal_bound-plain digits all small
+
+pub probability_bound-plain : (text : List ℕ) → is_plain_probability text ≡ true → probability_bound text ≡ Some (plain_bound text)
+probability_bound-plain [] h = absurd cc
+probability_bound-plain (b ∷ []) h = one_digit b (digit_cases b h)
+probability_bound-plain (b ∷ point ∷ digits) h =
+    let all = and_parts (b == 48 && point == 46 && nat_le 1 (length digits) && nat_le (length digits) 18) (list_all is_ascii_digit digits) h in
+    let few = and_parts (b == 48 && point == 46 && nat_le 1 (length digits)) (nat_le (length digits) 18) all.0 in
+    let some = and_parts (b == 48 && point == 46) (nat_le 1 (length digits)) few.0 in
+    let marks = and_parts (b == 48) (point == 46) some.0 in
+    let b_is : b ≡ 48 = eqb-true b 48 marks.0 in
+    let point_is : point ≡ 46 = eqb-true point 46 marks.1 in
+    ap (λ x. probability_bound (x ∷ point ∷ digits)) b_is
+    ∙ (ap (λ x. probability_bound (48 ∷ x ∷ digits)) point_is ∙ many_digits digits all.1 (leb-true (length digits) 18 few.1))

@@ -9,5 +9,6 @@ mod parse;
 mod steps;
 mod target;
 mod totals;
+mod unroll;
 
 fn main() {}
