@@ -1,8 +1,17 @@
 //! The program: reads a circuit from standard input, does what its command line asks, and writes to standard output.
 #![tactic(auto)]
 
+mod circuit;
 mod detections;
+mod faults;
+mod head;
+mod line;
+mod parse;
 mod records;
 mod run;
+mod steps;
+mod target;
+mod totals;
+mod unroll;
 
 fn main() {}

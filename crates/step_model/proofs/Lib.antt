@@ -10,13 +10,13 @@ pub mod ImageLaws
 pub mod LoneLetters
 pub mod MadeLemmas
 pub mod MemoryLemmas
-<<<<<<< HEAD
 pub mod PairImageLaws
 pub mod PairLaws
 pub mod PairParity
 pub mod PairPlaces
 pub mod PairRuns
 pub mod PairStates
+pub mod PlainLemmas
 pub mod ShiftCollapse
 pub mod ShiftGates
 pub mod ShiftLists
@@ -24,6 +24,3 @@ pub mod ShiftRuns
 pub mod ShiftSteps
 pub mod ShiftWords
 pub mod StateIsGroup
-=======
-pub mod PlainLemmas
->>>>>>> plain
