@@ -1,4 +1,5 @@
 pub mod EndsLemmas
 pub mod MadeLemmas
 pub mod MemoryLemmas
+pub mod PlainChecks
 pub mod PlainLemmas
