@@ -16,6 +16,7 @@ pub mod PairParity
 pub mod PairPlaces
 pub mod PairRuns
 pub mod PairStates
+pub mod PlainChecks
 pub mod PlainLemmas
 pub mod ShiftCollapse
 pub mod ShiftGates

@@ -1,5 +1,5 @@
 //! Programs written by hand, tested for being well formed.
-ghost use Rattle.std.specs.Prelude.{◌≡◌, ◌<◌, ◌&&◌, nat_lt, length, true, All};
+ghost use Rattle.std.specs.Prelude.{◌≡◌, ◌<◌, ◌≤◌, ◌+◌, ◌++◌, ◌&&◌, nat_lt, length, true, All, IfSome};
 ghost use Rattle.std.specs.List.{list_all, range_with_len};
 ghost use Rattle.std.specs.Option.{option_to_list};
 ghost use Rattle.step_model.specs.Listing.{effect_at, fault_at};
@@ -133,11 +133,7 @@ fn is_i(letter: Letter) -> bool
     letter == Letter::I
 }
 
-fn flip_fits<A: Allocator + Copy>(
-    parts: &Parts<'_, A>,
-    rec: Option<u32>,
-    flip: Option<u32>,
-) -> bool
+fn flip_fits<A: Allocator + Copy>(parts: &Parts<'_, A>, rec: Option<u32>, flip: Option<u32>) -> bool
     requires { length parts.now.faults.items ≡ length parts.now.terms }
     ensures { result ≡ flip_fits (listing_of parts.now) rec flip }
 {
@@ -149,16 +145,16 @@ fn flip_fits<A: Allocator + Copy>(
 }
 
 // Whether there is this fault, and it flips this record.
-fn flips_record<A: Allocator + Copy>(parts: &Parts<'_, A>, record: u32, fault: usize) -> bool
+fn flips_record<A: Allocator + Copy>(parts: &Parts<'_, A>, flipped: u32, fault: usize) -> bool
     requires { length parts.now.faults.items ≡ length parts.now.terms }
     ensures { result ≡ (nat_lt fault (length (listing_of parts.now).faults)
-        && flips_record record (effect_at (listing_of parts.now) fault)) }
+        && flips_record flipped (effect_at (listing_of parts.now) fault)) }
 {
     if fault >= parts.faults.len() {
         return false;
     }
     match parts.faults[fault].flip {
-        Some(flipped) => record == flipped,
+        Some(record) => flipped == record,
         None => false,
     }
 }
@@ -181,14 +177,27 @@ fn are_records_in_order(steps: &[Step], count: usize) -> bool
 {
     let mut next = 0;
     for step in steps {
-        if let Some(record) = record_of(*step) {
-            if record as usize != next {
-                return false;
-            }
-            next += 1;
-        }
+        let Some(after) = counted(next, record_of(*step)) else {
+            return false;
+        };
+        next = after;
     }
     next == count
+}
+
+// How many numbers there are with this one, where they are those from 0 in their order.
+fn counted(numbers: usize, next: Option<u32>) -> Option<usize>
+    requires { numbers < usize.MAX }
+    ensures numbers { IfSome result (λ after. range_with_len 0 after ≡ range_with_len 0 numbers ++ option_to_list next) }
+    ensures few { IfSome result (λ after. after ≤ numbers + 1) }
+{
+    let Some(number) = next else {
+        return Some(numbers);
+    };
+    if number as usize != numbers {
+        return None;
+    }
+    Some(numbers + 1)
 }
 
 fn record_of(step: Step) -> Option<u32>
@@ -206,12 +215,10 @@ fn are_faults_in_order(steps: &[Step], count: usize) -> bool
 {
     let mut next = 0;
     for step in steps {
-        if let Some(fault) = fault_of(*step) {
-            if fault as usize != next {
-                return false;
-            }
-            next += 1;
-        }
+        let Some(after) = counted(next, fault_of(*step)) else {
+            return false;
+        };
+        next = after;
     }
     next == count
 }
@@ -244,14 +251,14 @@ fn fault_fits<A: Allocator + Copy>(parts: &Parts<'_, A>, fault: usize) -> bool
     requires fault { fault < length parts.now.faults.items }
     ensures { result ≡ true → FaultFits parts.now.qubits (fault_at (listing_of parts.now) fault) }
 {
-    let text = parts.faults[fault].text;
-    if text.len() != 1 {
+    let part = parts.faults[fault];
+    if part.text.len() != 1 {
         return false;
     }
-    if text[0] != b'0' {
+    if part.text[0] != b'0' {
         return false;
     }
-    if parts.faults[fault].bound != 0 {
+    if part.bound != 0 {
         return false;
     }
     terms_fit(parts.terms.get(fault), parts.qubits)

@@ -1,0 +1,12 @@
+use Rattle.std.proofs.Common.{◌≡◌, ◌≤◌, ◌++◌, drop}
+use Rattle.std.specs.List.{range_with_len}
+use Rattle.step_model.specs.WellFormed.{records_made}
+use Rattle.step_model.proofs.rows.checked.are_records_in_order.Given as goal
+
+-- the records so far are in order, and those that are left follow
+abbrev pub invariant-loop-step : goal.invariant-loop-step
+invariant-loop-step l =
+    record {
+      all : records_made l.steps ≡ range_with_len 0 l.next ++ records_made (drop l.step-index l.steps);
+      few : l.next ≤ l.step-index;
+    }
