@@ -9,13 +9,13 @@ use Rattle.stabsim.specs.Pieces.{pieces_after}
 lines_of-first : (text : List ℕ) → 0 < length text → lines_of text ≡ before_first is_line_feed text ∷ lines_of (drop (position_or_len is_line_feed text + 1) text)
 unfolding lines_of
 lines_of-first [] h = absurd (omega arith)
-lines_of-first (b ∷ []) h = elim (cases_Bool (is_line_feed b)) [ | inl e ↦ rw e refl | inr e ↦ rw e refl ]
+lines_of-first (b ∷ []) h = elim (cases_Bool (is_line_feed b)) [ inl e ↦ rw e refl | inr e ↦ rw e refl ]
 lines_of-first (b ∷ c ∷ text) h =
     let n = position_or_len is_line_feed (c ∷ text) in
     let here : 1 + n ≡ suc n = omega arith in
     let next : suc n + 1 ≡ suc (n + 1) = omega arith in
     let rest = lines_of-first (c ∷ text) (omega arith) in
-    elim (cases_Bool (is_line_feed b)) [ | inl e ↦ rw e refl | inr e ↦ rw (e, here, next) (ap (onto_first b) rest) ]
+    elim (cases_Bool (is_line_feed b)) [ inl e ↦ rw e refl | inr e ↦ rw (e, here, next) (ap (onto_first b) rest) ]
 
 -- the first line and what follows its line feed, from what stands before the line feed and from it on
 pub lines_of-cut : (text line rest after : List ℕ) → 0 < length text → line ≡ before_first is_line_feed text → rest ≡ from_first is_line_feed text → after ≡ drop 1 rest → lines_of text ≡ line ∷ lines_of after

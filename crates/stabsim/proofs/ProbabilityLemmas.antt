@@ -71,7 +71,7 @@ value_cut_zeros (d ∷ digits) =
     let rest = value_cut_zeros digits in
     elim (cases_Bool (is_zero d)) [
       | inl e ↦
-        rw (e, here, pow-suc) (value_reversed d digits ∙ one_more_zero (digits_value (reverse digits)) (digits_value (reverse (drop k digits))) (10 ^ k) d rest (eqb-true d 48 e))
+          rw (e, here, pow-suc) (value_reversed d digits ∙ one_more_zero (digits_value (reverse digits)) (digits_value (reverse (drop k digits))) (10 ^ k) d rest (eqb-true d 48 e))
       | inr e ↦ rw e (sym (mul-one _))
     ]
 
@@ -145,10 +145,10 @@ bound_of-scaled digits n z w small s =
     let bound = scaled_bound-plain (length digits - z) z n w few fits small (omega arith) in
     elim (cases_Bool (eqb (length digits) 0)) [
       | inl e ↦
-        let none : digits_value digits ≡ 0 = no_digits digits (eqb-true _ _ e) in
-        rw (e, none) (ap (λ (v : ℕ). Some v) (sym (zero-div (10 ^ n))))
+          let none : digits_value digits ≡ 0 = no_digits digits (eqb-true _ _ e) in
+          rw (e, none) (ap (λ (v : ℕ). Some v) (sym (zero-div (10 ^ n))))
       | inr e ↦
-        rw (e, number_of-scaled digits n z w s) (bound ∙ ap (λ (v : ℕ). Some v) (same_quotient w z n fits ∙ ap (λ v. v * 2 ^ 64 / 10 ^ n) (sym s.value)))
+          rw (e, number_of-scaled digits n z w s) (bound ∙ ap (λ (v : ℕ). Some v) (same_quotient w z n fits ∙ ap (λ v. v * 2 ^ 64 / 10 ^ n) (sym s.value)))
     ]
 
 decimal_bound-plain : (digits : List ℕ) → list_all is_ascii_digit digits ≡ true → length digits ≤ 18 → decimal_bound (plain_decimal digits) ≡ Some (digits_value digits * 2 ^ 64 / 10 ^ length digits)
@@ -174,7 +174,7 @@ one_digit b (inl e) = rw e refl
 one_digit b (inr e) = rw e refl
 
 digit_cases : (b : ℕ) → (b == 48 || b == 49) ≡ true → (b ≡ 48) ⊎ (b ≡ 49)
-digit_cases b h = elim (or_cases (b == 48) (b == 49) h) [ | inl e ↦ inl (eqb-true b 48 e) | inr e ↦ inr (eqb-true b 49 e) ]
+digit_cases b h = elim (or_cases (b == 48) (b == 49) h) [ inl e ↦ inl (eqb-true b 48 e) | inr e ↦ inr (eqb-true b 49 e) ]
 
 many_digits : (digits : List ℕ) → list_all is_ascii_digit digits ≡ true → length digits ≤ 18 → probability_bound (48 ∷ 46 ∷ digits) ≡ Some (digits_value digits * 2 ^ 64 / 10 ^ length digits)
 many_digits digits all small =

@@ -19,7 +19,11 @@ pub(crate) struct Faults<'a, A: Allocator + Copy> {
 }
 
 /// A fault that applies X at a qubit.
-fn push_fault<'a, A: Allocator + Copy>(faults: &mut Faults<'a, A>, part: FaultPart<'a>, qubit: u32) -> Result<(), AllocError>
+fn push_fault<'a, A: Allocator + Copy>(
+    faults: &mut Faults<'a, A>,
+    part: FaultPart<'a>,
+    qubit: u32,
+) -> Result<(), AllocError>
     requires { part.flip ≡ None }
     ensures { OnOk result (made_faults faults.new.parts.items faults.new.terms
         ≡ made_faults faults.old.parts.items faults.old.terms ++ fault_at_qubit part.entry qubit ∷ []) }
@@ -47,7 +51,15 @@ fn push_faults<'a, A: Allocator + Copy>(
 {
     let bound = plain_bound(text);
     for q in targets {
-        push_fault(faults, FaultPart { text, bound, flip: None }, *q)?;
+        push_fault(
+            faults,
+            FaultPart {
+                text,
+                bound,
+                flip: None,
+            },
+            *q,
+        )?;
     }
     Ok(())
 }
@@ -70,7 +82,10 @@ fn push_instruction<'a, A: Allocator + Copy>(
 }
 
 /// The faults of a circuit.
-pub(crate) fn faults_of<'a, A: Allocator + Copy>(alloc: A, circuit: &Circuit<'a, A>) -> Result<Faults<'a, A>, AllocError>
+pub(crate) fn faults_of<'a, A: Allocator + Copy>(
+    alloc: A,
+    circuit: &Circuit<'a, A>,
+) -> Result<Faults<'a, A>, AllocError>
     ensures { IfOk result (λ faults. made_faults faults.parts.items faults.terms ≡ faults_of circuit.now) }
 {
     let mut faults = Faults {

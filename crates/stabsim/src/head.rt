@@ -51,7 +51,11 @@ fn argument_of(operation: Operation, text: &[u8]) -> Option<&[u8]>
 {
     if operation == Operation::XError {
         let inner = in_parentheses(text)?;
-        if is_plain_probability(inner) { Some(inner) } else { None }
+        if is_plain_probability(inner) {
+            Some(inner)
+        } else {
+            None
+        }
     } else if text.is_empty() {
         Some(text)
     } else {

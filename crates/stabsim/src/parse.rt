@@ -89,7 +89,10 @@ fn add_line<'a, A: Allocator + Copy>(
 }
 
 /// The circuit that a text writes.
-pub(crate) fn parse<'a, A: Allocator + Copy>(alloc: A, text: &'a [u8]) -> Result<Circuit<'a, A>, Fault>
+pub(crate) fn parse<'a, A: Allocator + Copy>(
+    alloc: A,
+    text: &'a [u8],
+) -> Result<Circuit<'a, A>, Fault>
     ensures ok { IfOk result (λ circuit. instructions_of text.now ≡ Ok circuit) }
     ensures err { IfErr result (λ fault. (fault ≡ out_of_memory) ⊎ (instructions_of text.now ≡ Err fault)) }
 {

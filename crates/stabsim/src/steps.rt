@@ -9,16 +9,25 @@ use pauli_word::Letter;
 use std::alloc::{AllocError, Allocator};
 use step_model::Step;
 
-fn push_flips<A: Allocator + Copy>(steps: &mut Vec<Step, A>, targets: &[u32]) -> Result<(), AllocError>
+fn push_flips<A: Allocator + Copy>(
+    steps: &mut Vec<Step, A>,
+    targets: &[u32],
+) -> Result<(), AllocError>
     ensures { OnOk result (steps.new.items ≡ steps.old.items ++ map flip_step targets.now) }
 {
     for q in targets {
-        steps.push(Step::One { gate: Gate::X, q: *q })?;
+        steps.push(Step::One {
+            gate: Gate::X,
+            q: *q,
+        })?;
     }
     Ok(())
 }
 
-fn push_resets<A: Allocator + Copy>(steps: &mut Vec<Step, A>, targets: &[u32]) -> Result<(), AllocError>
+fn push_resets<A: Allocator + Copy>(
+    steps: &mut Vec<Step, A>,
+    targets: &[u32],
+) -> Result<(), AllocError>
     ensures { OnOk result (steps.new.items ≡ steps.old.items ++ map reset_step targets.now) }
 {
     for q in targets {
@@ -35,7 +44,11 @@ fn push_resets<A: Allocator + Copy>(steps: &mut Vec<Step, A>, targets: &[u32]) -
 }
 
 /// The gate on each pair of targets.
-fn push_pairs<A: Allocator + Copy>(steps: &mut Vec<Step, A>, gate: Gate, targets: &[u32]) -> Result<(), AllocError>
+fn push_pairs<A: Allocator + Copy>(
+    steps: &mut Vec<Step, A>,
+    gate: Gate,
+    targets: &[u32],
+) -> Result<(), AllocError>
     ensures { OnOk result (steps.new.items ≡ steps.old.items ++ pair_steps gate targets.now) }
 {
     let mut rest = targets;
@@ -47,7 +60,11 @@ fn push_pairs<A: Allocator + Copy>(steps: &mut Vec<Step, A>, gate: Gate, targets
 }
 
 /// A measurement of each target, the first into this record.
-fn push_measures<A: Allocator + Copy>(steps: &mut Vec<Step, A>, first: u32, targets: &[u32]) -> Result<(), AllocError>
+fn push_measures<A: Allocator + Copy>(
+    steps: &mut Vec<Step, A>,
+    first: u32,
+    targets: &[u32],
+) -> Result<(), AllocError>
     requires { first + length targets.now < 2 ^ 32 }
     ensures { OnOk result (steps.new.items ≡ steps.old.items ++ measure_steps first targets.now) }
 {
@@ -67,7 +84,11 @@ fn push_measures<A: Allocator + Copy>(steps: &mut Vec<Step, A>, first: u32, targ
 }
 
 /// A fault of each target, the first of this number.
-fn push_faults<A: Allocator + Copy>(steps: &mut Vec<Step, A>, first: u32, targets: &[u32]) -> Result<(), AllocError>
+fn push_faults<A: Allocator + Copy>(
+    steps: &mut Vec<Step, A>,
+    first: u32,
+    targets: &[u32],
+) -> Result<(), AllocError>
     requires { first + length targets.now < 2 ^ 32 }
     ensures { OnOk result (steps.new.items ≡ steps.old.items ++ fault_steps first targets.now) }
 {
@@ -102,7 +123,10 @@ fn push_steps<A: Allocator + Copy>(
 }
 
 /// The steps of a circuit.
-pub(crate) fn steps_of<A: Allocator + Copy>(alloc: A, circuit: &Circuit<A>) -> Result<Vec<Step, A>, AllocError>
+pub(crate) fn steps_of<A: Allocator + Copy>(
+    alloc: A,
+    circuit: &Circuit<A>,
+) -> Result<Vec<Step, A>, AllocError>
     requires { total step_count circuit.now ≤ 4000000 }
     ensures { IfOk result (λ steps. steps.items ≡ steps_from 0 0 circuit.now) }
 {

@@ -33,12 +33,19 @@ fn qubit_of(piece: &[u8]) -> Option<u32>
         return None;
     }
     let number = number_of(piece)?;
-    if number <= 4095 { Some(number as u32) } else { None }
+    if number <= 4095 {
+        Some(number as u32)
+    } else {
+        None
+    }
 }
 
 /// Puts the targets of a line in place of those that were there. The rest of the line, behind its first piece, is
 /// empty or begins with a space.
-pub(crate) fn read_targets<A: Allocator + Copy>(targets: &mut Vec<u32, A>, rest: &[u8]) -> Result<bool, AllocError>
+pub(crate) fn read_targets<A: Allocator + Copy>(
+    targets: &mut Vec<u32, A>,
+    rest: &[u8],
+) -> Result<bool, AllocError>
     ensures { IfOk result (λ all. MatchBool all
         (targets_of (pieces_after rest.now) ≡ Some targets.new.items)
         (targets_of (pieces_after rest.now) ≡ None)) }

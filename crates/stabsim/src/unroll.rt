@@ -13,7 +13,9 @@ use std::alloc::{AllocError, Allocator};
 use step_model::{Cause, Fault, Parts, Program};
 
 const MAX_RECORDS: u64 = 1_000_000;
+
 const MAX_COLLAPSES: u64 = 1_000_000;
+
 const MAX_STEPS: u64 = 4_000_000;
 
 /// The program of a circuit whose totals are within the limits.
@@ -47,7 +49,10 @@ fn build<'a, A: Allocator + Copy>(
 }
 
 /// The program of a circuit.
-pub(crate) fn unroll<'a, A: Allocator + Copy>(alloc: A, circuit: &Circuit<'a, A>) -> Result<Program<'a, A>, Fault>
+pub(crate) fn unroll<'a, A: Allocator + Copy>(
+    alloc: A,
+    circuit: &Circuit<'a, A>,
+) -> Result<Program<'a, A>, Fault>
     ensures ok { IfOk result (λ program. unrolled circuit.now ≡ Ok program) }
     ensures err { IfErr result (λ fault. (fault ≡ out_of_memory) ⊎ (unrolled circuit.now ≡ Err fault)) }
 {
@@ -71,7 +76,10 @@ pub(crate) fn unroll<'a, A: Allocator + Copy>(alloc: A, circuit: &Circuit<'a, A>
 }
 
 /// The program that a text stands for.
-pub(crate) fn read_program<'a, A: Allocator + Copy>(alloc: A, text: &'a [u8]) -> Result<Program<'a, A>, Fault>
+pub(crate) fn read_program<'a, A: Allocator + Copy>(
+    alloc: A,
+    text: &'a [u8],
+) -> Result<Program<'a, A>, Fault>
     ensures ok { IfOk result (λ program. program_of text.now ≡ Ok program) }
     ensures err { IfErr result (λ fault. (fault ≡ out_of_memory) ⊎ (program_of text.now ≡ Err fault)) }
     ensures classical { IfOk result (λ program. IsClassical program) }
@@ -79,3 +87,6 @@ pub(crate) fn read_program<'a, A: Allocator + Copy>(alloc: A, text: &'a [u8]) ->
     let circuit = parse(alloc, text)?;
     unroll(alloc, &circuit)
 }
+
+#[cfg(test)]
+mod tests;

@@ -17,10 +17,10 @@ returns-then-not-all g c =
     let cut : IsCut c.args.line.now c.cut_at.result.0.now c.cut_at.result.1.now = record { some = some; front = c.cut_at.ensures.before; back = c.cut_at.ensures.after } in
     elim c.then-not-all.branch [
       | then-not-all-via-then-not-all w ↦
-        refused_by_targets c.args.number _ _ _ _ _ cut c.in-Some.ensures (when_false _ _ w.if-not-all.true c.in_ok-all.ensures)
+          refused_by_targets c.args.number _ _ _ _ _ cut c.in-Some.ensures (when_false _ _ w.if-not-all.true c.in_ok-all.ensures)
       | then-not-all-via-else-not-all+then-not-targets_fit w ↦
-        let fit : targets_fit c.in-Some.operation c.read_targets.new.targets.items ≡ false = ap (targets_fit c.in-Some.operation) (sym w.deref.ensures.value) ∙ (sym w.targets_fit.ensures ∙ w.if-not-targets_fit.true) in
-        refused_by_fit c.args.number _ _ _ _ _ _ cut c.in-Some.ensures (when_true _ _ w.if-not-all.false c.in_ok-all.ensures) fit
+          let fit : targets_fit c.in-Some.operation c.read_targets.new.targets.items ≡ false = ap (targets_fit c.in-Some.operation) (sym w.deref.ensures.value) ∙ (sym w.targets_fit.ensures ∙ w.if-not-targets_fit.true) in
+          refused_by_fit c.args.number _ _ _ _ _ _ cut c.in-Some.ensures (when_true _ _ w.if-not-all.false c.in_ok-all.ensures) fit
     ]
 
 pub returns : goal.returns

@@ -20,8 +20,8 @@ loop-rest-preserved g c =
     let front = c.loop-rest.targets.items in
     let cut = pieces_after-cut rest _ c.cut_at.result.0.now c.cut_at.result.1.now (omega arith) (take_rest rest 1) c.cut_at.ensures.before c.cut_at.ensures.after in
     rw c.in_ok-push.ensures.items (
-      sym (ap (λ ps. with_front front (targets_of ps)) cut ∙ with_front-more front c.cut_at.result.0.now (pieces_after c.cut_at.result.1.now) c.in-Some.qubit c.in-Some.ensures)
-      ∙ c.loop-rest.invariant
+    sym (ap (λ ps. with_front front (targets_of ps)) cut ∙ with_front-more front c.cut_at.result.0.now (pieces_after c.cut_at.result.1.now) c.in-Some.qubit c.in-Some.ensures)
+    ∙ c.loop-rest.invariant
     )
 
 pub returns : goal.returns
