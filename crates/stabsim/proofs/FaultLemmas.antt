@@ -1,5 +1,5 @@
 -- One more fault at the end.
-use Rattle.std.proofs.Common.{◌≡◌, ℕ, suc, List, [], ◌∷◌, ◌++◌, length, None, refl, ap, ◌∙◌}
+use Rattle.std.proofs.Common.{◌≡◌, ℕ, suc, List, [], ◌∷◌, ◌++◌, length, None, ap}
 use Rattle.pauli_word.specs.declared.letter.Letter.TheVariants as letter
 use Rattle.step_model.specs.declared.program.FaultPart.{FaultPart}
 use Rattle.step_model.specs.declared.step.Term.{Term}

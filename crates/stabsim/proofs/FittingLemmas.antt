@@ -1,7 +1,7 @@
 -- All that the steps of instructions name is there, and each step is one of a program that keeps its qubits 0 or 1.
-use Rattle.std.proofs.Common.{◌≡◌, ℕ, ◌+◌, ◌<◌, ◌≤◌, Bool, true, false, not, eqb, ltb, List, [], ◌∷◌, ◌++◌, length, map, get_or, Option, None, Some, refl, ap, sym, ◌∙◌, subst, inl, inr, arith}
-use Rattle.std.specs.Prelude.{◌&&◌, max, All}
-use Rattle.std.specs.List.{AllPass, list_all}
+use Rattle.std.proofs.Common.{◌≡◌, ℕ, ◌+◌, ◌<◌, ◌≤◌, Bool, true, not, eqb, ltb, List, [], ◌∷◌, length, map, get_or, refl, ap, ◌∙◌, inl, inr, arith}
+use Rattle.std.specs.Prelude.{◌&&◌, All}
+use Rattle.std.specs.List.{AllPass}
 use Rattle.std.proofs.Math.Nat.{le-max_left, le-max_right}
 use Rattle.std.proofs.lemmas.Bool.{and_parts, and_from, cases_lt, lt-ltb}
 use Rattle.std.proofs.lemmas.List.{get_or_past}
@@ -18,7 +18,7 @@ use Rattle.stabsim.specs.declared.circuit.Operation.TheVariants.{X, ControlledX,
 use Rattle.stabsim.specs.Classical.{is_classical_effect, is_classical_step, is_CX_or_SWAP}
 use Rattle.stabsim.specs.Instructions.{Instruction, IsInstruction, are_pairs, is_argument, is_plain_probability, targets_fit}
 use Rattle.stabsim.specs.Totals.{fault_count, faults_made_of, qubit_total, qubits_to, record_count, total}
-use Rattle.stabsim.specs.Unrolled.{fault_steps, faults_of, flip_fault, flip_step, instruction_faults, measure_step, measure_steps, operation_faults, operation_steps, pair_steps, plain_bound, reset_step, steps_from}
+use Rattle.stabsim.specs.Unrolled.{fault_steps, faults_of, flip_fault, flip_step, instruction_faults, measure_step, measure_steps, operation_faults, operation_steps, pair_steps, reset_step, steps_from}
 use Rattle.stabsim.proofs.ProbabilityLemmas.{probability_bound-plain}
 
 -- the qubits of a list that needs at most n

@@ -1,6 +1,6 @@
 -- The first line of a text and the first piece of a line, by where the first line feed and the first space stand.
-use Rattle.std.proofs.Common.{◌≡◌, ℕ, suc, ◌+◌, ◌<◌, ◌≤◌, Bool, true, false, List, [], ◌∷◌, length, take, drop, refl, ap, sym, ◌∙◌, inl, inr, arith}
-use Rattle.std.specs.List.{position_or_len, before_first, onto_first, slice_split}
+use Rattle.std.proofs.Common.{◌≡◌, ℕ, suc, ◌+◌, ◌<◌, List, [], ◌∷◌, length, drop, refl, ap, sym, ◌∙◌, inl, inr, arith}
+use Rattle.std.specs.List.{position_or_len, before_first, onto_first}
 use Rattle.std.proofs.lemmas.Bool.{cases_Bool}
 use Rattle.std.proofs.lemmas.List.{drop-drop, nil_from_length}
 use Rattle.stabsim.specs.Lines.{is_line_feed, is_space, lines_of, pieces_of, from_first}

@@ -1,11 +1,11 @@
 -- How the steps of instructions are numbered: their collapses, their records and their faults, in order.
-use Rattle.std.proofs.Common.{◌≡◌, ℕ, zero, suc, ◌+◌, List, [], ◌∷◌, ◌++◌, length, map, refl, ap, sym, ◌∙◌, append_assoc, add-zero, arith}
+use Rattle.std.proofs.Common.{◌≡◌, ℕ, zero, suc, ◌+◌, List, [], ◌∷◌, ◌++◌, length, map, refl, ap, sym, ◌∙◌, append_assoc, arith}
 use Rattle.std.specs.List.{range_with_len}
 use Rattle.std.proofs.lemmas.List.{length-map, length-append}
 use Rattle.gate_table.specs.declared.gate.Gate.{Gate}
 use Rattle.gate_table.specs.declared.gate.Gate.TheVariants as gate
 use Rattle.step_model.specs.declared.step.Step.{Step}
-use Rattle.step_model.specs.Sensitivities.{collapse_count, is_collapse}
+use Rattle.step_model.specs.Sensitivities.{collapse_count}
 use Rattle.step_model.specs.WellFormed.{records_made, step_records, faults_named, step_faults}
 use Rattle.stabsim.specs.declared.circuit.Operation.{Operation}
 use Rattle.stabsim.specs.declared.circuit.Operation.TheVariants.{X, ControlledX, Swap, Measure, Reset, XError}

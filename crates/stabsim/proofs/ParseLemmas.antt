@@ -1,5 +1,5 @@
 -- Reading lines one after another, as a loop does, and what holds of each instruction that is read.
-use Rattle.std.proofs.Common.{◌≡◌, ℕ, ◌+◌, ◌<◌, List, [], ◌∷◌, ◌++◌, length, Result, Ok, Err, refl, ap, sym, ◌∙◌, append_assoc, arith}
+use Rattle.std.proofs.Common.{◌≡◌, ℕ, ◌+◌, List, [], ◌∷◌, ◌++◌, Result, Ok, Err, refl, ap, sym, append_assoc}
 use Rattle.std.proofs.lemmas.List.{append-nil}
 use Rattle.step_model.specs.declared.fault.Fault.{Fault}
 use Rattle.stabsim.specs.Instructions.{Instruction, Reading, Nothing, Takes, Refuses, before_rest, instructions_from, reading_of, refused}

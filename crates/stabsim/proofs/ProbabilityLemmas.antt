@@ -1,6 +1,6 @@
 -- A plain text of a probability, `0`, `1`, or `0.` and digits, is accepted, with floor of its value times 2^64. For
 -- digits that make a number v, let its last z digits be zeros: v = w * 10^z. The bound is then that of w over 10^(n - z).
-use Rattle.std.proofs.Common.{◌≡◌, ℕ, zero, suc, ◌+◌, ◌-◌, ◌*◌, ◌/◌, ◌^◌, ◌<◌, ◌≤◌, Bool, true, false, cond, eqb, List, [], ◌∷◌, ◌++◌, length, take, drop, reverse, Option, None, Some, refl, ap, sym, ◌∙◌, inl, inr, arith, pow-suc, mul-one, zero-mul, mul-le-mul_right, mul-div_cancel, lt_of_mul-lt-mul_right, add-zero}
+use Rattle.std.proofs.Common.{◌≡◌, ℕ, suc, ◌+◌, ◌-◌, ◌*◌, ◌/◌, ◌^◌, ◌<◌, ◌≤◌, Bool, true, false, cond, eqb, List, [], ◌∷◌, ◌++◌, length, take, drop, reverse, Some, refl, ap, sym, ◌∙◌, inl, inr, arith, pow-suc, mul-one, mul-le-mul_right, mul-div_cancel, lt_of_mul-lt-mul_right, add-zero}
 use Rattle.std.specs.Prelude.{◌&&◌, ◌||◌, ◌⊎◌, ◌==◌, nat_le, fold, option_and_then}
 use Rattle.std.specs.Char.{is_ascii_digit}
 use Rattle.std.specs.List.{list_all, prefix_len}

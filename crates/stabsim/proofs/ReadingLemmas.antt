@@ -1,6 +1,6 @@
 -- What a line says, from its first piece and its targets, and what holds of an instruction that was read.
-use Rattle.std.proofs.Common.{◌≡◌, ℕ, ◌<◌, ◌≤◌, Bool, true, false, cond, eqb, List, [], ◌∷◌, length, Option, None, Some, refl, ap, sym, subst, ◌∙◌, arith}
-use Rattle.std.specs.Prelude.{◌&&◌, nat_le, option_map, option_and_then, All}
+use Rattle.std.proofs.Common.{◌≡◌, ℕ, ◌<◌, Bool, true, false, cond, eqb, List, [], ◌∷◌, length, Option, None, Some, refl, ap, sym, subst, arith}
+use Rattle.std.specs.Prelude.{◌&&◌, nat_le, option_map, All}
 use Rattle.std.specs.List.{before_first, list_all}
 use Rattle.std.specs.Char.{is_ascii_digit}
 use Rattle.std.proofs.lemmas.Bool.{and_parts, leb-true}
@@ -9,7 +9,7 @@ use Rattle.std.proofs.lemmas.Option.{cond_some, option_and_then_some, same_Some}
 use Rattle.step_model.specs.Probabilities.{digits_value}
 use Rattle.stabsim.specs.declared.circuit.Operation.{Operation}
 use Rattle.stabsim.specs.declared.circuit.Operation.TheVariants.{X, ControlledX, Swap, Measure, Reset, XError}
-use Rattle.stabsim.specs.Instructions.{Instruction, Reading, Nothing, Takes, Refuses, IsInstruction, argument_of, head_of, in_parentheses, instruction_in, is_argument, is_parenthesis, is_plain_probability, operation_named, qubit_of, reading_of, taken_or_refused, targets_fit, targets_of}
+use Rattle.stabsim.specs.Instructions.{Instruction, Takes, Refuses, IsInstruction, argument_of, head_of, in_parentheses, instruction_in, is_argument, is_parenthesis, is_plain_probability, operation_named, qubit_of, reading_of, taken_or_refused, targets_fit, targets_of}
 use Rattle.stabsim.specs.Lines.{is_space, from_first, pieces_of}
 use Rattle.stabsim.specs.Pieces.{pieces_after}
 use Rattle.stabsim.proofs.LineLemmas.{pieces_of-first}

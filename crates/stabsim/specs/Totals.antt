@@ -2,7 +2,7 @@
 -- and a collapse of each target, a reset a collapse, and a possible error a fault.
 use Rattle.std.specs.Prelude.{ℕ, ◌+◌, max, List, [], ◌∷◌, length}
 use Rattle.stabsim.specs.declared.circuit.Operation.{Operation}
-use Rattle.stabsim.specs.declared.circuit.Operation.TheVariants.{X, ControlledX, Swap, Measure, Reset, XError}
+use Rattle.stabsim.specs.declared.circuit.Operation.TheVariants.{Measure, Reset, XError}
 use Rattle.stabsim.specs.Instructions.{Instruction}
 
 -- the sum of a count over instructions

@@ -1,4 +1,4 @@
-use Rattle.std.proofs.Common.{length, arith}
+use Rattle.std.proofs.Common.{arith}
 use Rattle.stabsim.specs.Circuits.{made_instruction}
 use Rattle.stabsim.specs.Unrolled.{instruction_faults}
 use Rattle.stabsim.proofs.LoopLemmas.{faults_of-done, faults_of-more, onto, onto_done}

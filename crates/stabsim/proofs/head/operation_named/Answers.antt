@@ -1,4 +1,4 @@
-use Rattle.std.proofs.Common.{◌≡◌, refl, rules, tests}
+use Rattle.std.proofs.Common.{◌≡◌, refl, rules}
 use Rattle.std.specs.Prelude.{codes}
 use Rattle.std.proofs.lemmas.Slice.Eq.{text_from_reads}
 use Rattle.stabsim.specs.Instructions.{operation_named}

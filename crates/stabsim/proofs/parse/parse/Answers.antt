@@ -1,4 +1,4 @@
-use Rattle.std.proofs.Common.{◌≡◌, Err, ◌+◌, ◌∷◌, [], List, ℕ, length, ap, sym, ◌∙◌, inl, inr, arith}
+use Rattle.std.proofs.Common.{◌≡◌, Err, ◌+◌, [], List, ℕ, ap, sym, ◌∙◌, inl, inr, arith}
 use Rattle.std.proofs.lemmas.List.{nil_from_length}
 use Rattle.std.proofs.lemmas.Result.{err_from_is_err_and}
 use Rattle.stabsim.specs.Instructions.{instructions_from}

@@ -1,4 +1,4 @@
-use Rattle.std.proofs.Common.{◌≡◌, List, [], length, ◌<◌, true, false, sym, ap, ◌∙◌, arith}
+use Rattle.std.proofs.Common.{◌≡◌, length, ◌<◌, true, false, sym, ap, ◌∙◌, arith}
 use Rattle.std.proofs.lemmas.Bool.Decides.{when_true, when_false}
 use Rattle.stabsim.specs.Instructions.{targets_fit}
 use Rattle.stabsim.proofs.ReadingLemmas.{IsCut, refused_by_head, refused_by_targets, refused_by_fit, taken}

@@ -1,4 +1,4 @@
-use Rattle.std.proofs.Common.{[], ◌∷◌, ◌+◌, drop, ap, arith}
+use Rattle.std.proofs.Common.{[], ◌∷◌, ◌+◌, drop, arith}
 use Rattle.std.proofs.lemmas.List.{at_drop_more}
 use Rattle.step_model.specs.declared.step.Step.TheVariants as step
 use Rattle.stabsim.specs.Unrolled.{fault_steps}

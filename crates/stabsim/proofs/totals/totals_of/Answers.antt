@@ -1,6 +1,6 @@
-use Rattle.std.proofs.Common.{◌<◌, length, ap, arith}
+use Rattle.std.proofs.Common.{◌<◌, length, arith}
 use Rattle.stabsim.specs.Circuits.{made_instruction}
-use Rattle.stabsim.specs.Totals.{collapse_count_of, collapses_made_of, record_count, records_made_of, step_count}
+use Rattle.stabsim.specs.Totals.{collapse_count_of, record_count, step_count}
 use Rattle.stabsim.proofs.LoopLemmas.{qubit_total-done, qubit_total-next, total-done, total-more}
 use Rattle.stabsim.proofs.totals.totals_of.Goals as goal
 

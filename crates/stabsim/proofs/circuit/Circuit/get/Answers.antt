@@ -1,4 +1,4 @@
-use Rattle.std.proofs.Common.{◌≡◌, ◌<◌, sym, ap, subst, ◌∙◌, length, get_or, arith}
+use Rattle.std.proofs.Common.{◌<◌, sym, ap, subst, ◌∙◌, length, get_or, arith}
 use Rattle.stabsim.specs.Circuits.{made_instruction, made_instructions}
 use Rattle.stabsim.specs.Instructions.{Instruction, IsInstruction}
 use Rattle.stabsim.proofs.CircuitLemmas.{length-made_instructions, made_instruction_at}
