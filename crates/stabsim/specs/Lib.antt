@@ -1,1 +1,2 @@
 pub mod Classical
+pub mod Lists

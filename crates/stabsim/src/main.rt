@@ -1,4 +1,6 @@
 //! The program: reads a circuit from standard input, does what its command line asks, and writes to standard output.
 #![tactic(auto)]
 
+mod lists;
+
 fn main() {}
