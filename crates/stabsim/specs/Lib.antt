@@ -1,2 +1,4 @@
 pub mod Classical
 pub mod Lists
+pub mod Output
+pub mod Standin

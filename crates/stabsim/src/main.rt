@@ -2,5 +2,10 @@
 #![tactic(auto)]
 
 mod lists;
+mod order;
+mod output;
+mod records;
+mod serve;
+mod standin;
 
 fn main() {}
