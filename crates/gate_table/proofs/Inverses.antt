@@ -1,6 +1,6 @@
 -- The inverse of a gate undoes it.
 use Rattle.std.proofs.Common.{◌≡◌, refl, Bool, true, false, ◌&&◌}
-use mathlib.Core.Bool.{xor}
+use Rattle.pauli_word.specs.Parity.{exclusive_or}
 use Rattle.pauli_word.specs.declared.letter.Letter.{Letter}
 use Rattle.gate_table.specs.declared.gate.Gate.{Gate}
 use Rattle.gate_table.specs.declared.gate.Gate.TheVariants as gate
@@ -10,13 +10,13 @@ use Rattle.gate_table.proofs.EachLetter.{each_letter, each_two, at_letter, at_tw
 
 -- the laws as tests, for the images x under the first gate and y of x under the second
 abbrev is_undone : Letter → Letter × Bool → Letter × Bool → Bool
-is_undone a x y = same_letter y.0 a && same_test (xor y.1 x.1) false
+is_undone a x y = same_letter y.0 a && same_test (exclusive_or y.1 x.1) false
 
 abbrev undoes : Gate → Gate → Letter → Bool
 undoes g h a = is_undone a (image1 h a) (image1 g (image1 h a).0)
 
 abbrev is_undone_pair : Letter → Letter → Letter × Letter × Bool → Letter × Letter × Bool → Bool
-is_undone_pair a b x y = same_letter y.0 a && (same_letter y.1 b && same_test (xor y.2 x.2) false)
+is_undone_pair a b x y = same_letter y.0 a && (same_letter y.1 b && same_test (exclusive_or y.2 x.2) false)
 
 abbrev undoes_pair : Gate → Gate → Letter → Letter → Bool
 undoes_pair g h a b = is_undone_pair a b (image2 h a b) (image2 g (image2 h a b).0 (image2 h a b).1)
@@ -37,22 +37,18 @@ UndoesPair-from_test g h all a b =
     }
 
 before : (g : Gate) → each_letter (undoes g (inverse_of g)) ≡ true
-unfolding xor
 before gate.I = refl
 before g = refl
 
 after : (g : Gate) → each_letter (undoes (inverse_of g) g) ≡ true
-unfolding xor
 after gate.I = refl
 after g = refl
 
 pair_before : (g : Gate) → each_two (undoes_pair g (inverse_of g)) ≡ true
-unfolding xor
 pair_before gate.I = refl
 pair_before g = refl
 
 pair_after : (g : Gate) → each_two (undoes_pair (inverse_of g) g) ≡ true
-unfolding xor
 pair_after gate.I = refl
 pair_after g = refl
 

@@ -1,3 +1,4 @@
+pub mod Arity
 pub mod Search
 pub mod EachLetter
 pub mod Products

@@ -6,14 +6,9 @@
 use Rattle.std.specs.Prelude.{Bool, true, false, ℕ}
 use Rattle.pauli_word.specs.declared.letter.Letter.{Letter}
 use Rattle.pauli_word.specs.declared.letter.Letter.TheVariants.{I, X, Y, Z}
-use Rattle.pauli_word.specs.Letters.{Power, one, i, minus_one, power_product, is_minus, letter_product, letter_power, letters_clash}
+use Rattle.pauli_word.specs.Letters.{Power, one, i, minus_one, power_product, is_minus, sign_power, letter_product, letter_power, letters_clash}
 use Rattle.gate_table.specs.declared.gate.Gate.{Gate}
 use Rattle.gate_table.specs.Table.{SignedLetter, SignedPair, plus, Row, one_qubit, controlled, two_qubit, row_of}
-
--- a sign as a power of i
-abbrev pub sign_power : Bool → Power
-sign_power false = one
-sign_power true = minus_one
 
 -- the product of two signs, as a power of i
 abbrev pub signs_power : Bool → Bool → Power

@@ -47,7 +47,8 @@ impl Gate {
     ghost use Rattle.gate_table.specs.Images.{arity_of, image1, image2, inverse_of};
     ghost use Rattle.gate_table.specs.Names.{gate_named};
 
-    /// The gate that a text names, by its usual name or an alias of it, in any case.
+    /// The gate that a text names, by its usual name or an alias, in any case. An instruction that is no gate,
+    /// as a measurement or a reset, has no name here.
     pub fn named(name: &[u8]) -> Option<Gate>
         ensures { result ≡ gate_named name.now }
     {
@@ -65,7 +66,7 @@ impl Gate {
         }
     }
 
-    /// The image of a letter, U P U-dagger, and whether its sign is minus.
+    /// The image U P U-dagger of a letter P under the gate U, and whether its sign is minus.
     pub fn image1(self, letter: Letter) -> (Letter, bool)
         requires { arity_of self ≡ 1 }
         ensures { result ≡ image1 self letter }
@@ -73,7 +74,7 @@ impl Gate {
         ONE_QUBIT_IMAGES[self as usize][letter as usize]
     }
 
-    /// The image of a pair of letters, the first qubit's first, and whether its sign is minus.
+    /// The image of a pair of letters, that of the first qubit first, and whether its sign is minus.
     pub fn image2(self, first: Letter, second: Letter) -> (Letter, Letter, bool)
         requires { arity_of self ≡ 2 }
         ensures { result ≡ image2 self first second }

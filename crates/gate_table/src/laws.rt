@@ -1,10 +1,15 @@
 //! What holds of the images under every gate. Each function does nothing: its contract is the law, proved.
-ghost use Rattle.std.specs.Prelude.{◌≡◌, false};
+ghost use Rattle.std.specs.Prelude.{◌≡◌, ◌⊎◌, false};
 ghost use Rattle.pauli_word.specs.declared.letter.Letter.{Letter};
 ghost use Rattle.pauli_word.specs.declared.letter.Letter.TheVariants.{I};
 ghost use Rattle.gate_table.specs.declared.gate.Gate.{Gate};
-ghost use Rattle.gate_table.specs.Images.{image1, image2};
+ghost use Rattle.gate_table.specs.Images.{arity_of, image1, image2};
 ghost use Rattle.gate_table.specs.Laws.{KeepsProduct, KeepsPairProduct, KeepsClash, KeepsPairClash, IsUndoneByInverse};
+
+/// A gate acts on one qubit or on two.
+pub fn arity_is_one_or_two()
+    ensures { (g : Gate) → (arity_of g ≡ 1) ⊎ (arity_of g ≡ 2) }
+{}
 
 /// The image of a product of letters is the product of their images, with its sign; of a product of pairs too.
 pub fn images_keep_products()

@@ -1,11 +1,8 @@
 //! The names of the gates: the usual name of each, and then the aliases.
 use crate::gate::Gate;
 
-/// How many names there are.
-pub const NAMES_LEN: usize = 40;
-
 /// Each name, in capitals, and the gate that it names.
-pub static NAMES: [(&'static [u8], Gate); NAMES_LEN] = [
+pub static NAMES: [(&'static [u8], Gate); 40] = [
     (b"I", Gate::I),
     (b"X", Gate::X),
     (b"Y", Gate::Y),

@@ -5,9 +5,6 @@ use pauli_word::Letter::{I, X, Y, Z};
 /// How many gates act on one qubit. They come first in `Gate`.
 pub const ONE_QUBIT_GATES: usize = 15;
 
-/// How many gates act on two qubits.
-pub const TWO_QUBIT_GATES: usize = 18;
-
 /// For each one-qubit gate, in the order of `Gate`: the images of I, X, Y and Z. The sign is true for minus.
 #[rattlefmt::skip]
 pub static ONE_QUBIT_IMAGES: [[(Letter, bool); 4]; ONE_QUBIT_GATES] = [
@@ -31,7 +28,7 @@ pub static ONE_QUBIT_IMAGES: [[(Letter, bool); 4]; ONE_QUBIT_GATES] = [
 /// For each two-qubit gate, in the order of `Gate`: the images of the pairs of letters. The first letter of the
 /// pair names the row, and the second the column, both in the order I, X, Y, Z.
 #[rattlefmt::skip]
-pub static TWO_QUBIT_IMAGES: [[[(Letter, Letter, bool); 4]; 4]; TWO_QUBIT_GATES] = [
+pub static TWO_QUBIT_IMAGES: [[[(Letter, Letter, bool); 4]; 4]; 18] = [
     // CX
     [[(I, I, false),  (I, X, false),  (Z, Y, false),  (Z, Z, false)],
      [(X, X, false),  (X, I, false),  (Y, Z, false),  (Y, Y, true)],

@@ -3,10 +3,10 @@ use Rattle.std.proofs.Common.{◌≡◌, Bool, true, false, ◌&&◌, not, refl}
 use Rattle.std.proofs.lemmas.Bool.{and_parts}
 use Rattle.pauli_word.specs.declared.letter.Letter.{Letter}
 use Rattle.pauli_word.specs.declared.letter.Letter.TheVariants.{I, X, Y, Z}
-use Rattle.pauli_word.specs.Letters.{Power, power_product, letter_product, letter_power, letters_clash}
+use Rattle.pauli_word.specs.Letters.{Power, power_product, letter_product, letter_power, letters_clash, sign_power}
 use Rattle.pauli_word.specs.Parity.{exclusive_or}
 use Rattle.pauli_word.proofs.Parities.{same_truth, same_truth-true}
-use Rattle.pauli_word.proofs.PowerLaws.{is_real, sign_power, same_power, same_power-true}
+use Rattle.pauli_word.proofs.PowerLaws.{is_real, same_power, same_power-true}
 
 -- a test of each letter
 abbrev pub each_letter : (Letter → Bool) → Bool

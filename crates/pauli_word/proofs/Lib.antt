@@ -1,5 +1,6 @@
+pub mod LetterLaws
 pub mod Parities
 pub mod PowerLaws
-pub mod LetterLaws
-pub mod WordLaws
 pub mod SignedLaws
+pub mod WordLaws
+pub mod WordPlaces

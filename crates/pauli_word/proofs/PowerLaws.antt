@@ -1,6 +1,6 @@
 -- The laws of powers of i: a commutative group of four, in which is_minus adds up for real factors.
 use Rattle.std.proofs.Common.{◌≡◌, Bool, true, false, not, refl, ap, sym, ◌∙◌}
-use Rattle.pauli_word.specs.Letters.{Power, one, i, minus_one, minus_i, times_i, power_product, is_minus}
+use Rattle.pauli_word.specs.Letters.{Power, one, i, minus_one, minus_i, times_i, power_product, is_minus, sign_power}
 use Rattle.pauli_word.specs.Parity.{exclusive_or}
 
 pub power_product-one : (p : Power) → power_product p one ≡ p
@@ -87,11 +87,6 @@ is_real-power_product minus_i one = refl
 is_real-power_product minus_i i = refl
 is_real-power_product minus_i minus_one = refl
 is_real-power_product minus_i minus_i = refl
-
--- -1 to the power of a truth value
-abbrev pub sign_power : Bool → Power
-sign_power false = one
-sign_power true = minus_one
 
 pub sign_power-exclusive_or : (a b : Bool) → sign_power (exclusive_or a b) ≡ power_product (sign_power a) (sign_power b)
 sign_power-exclusive_or false b = refl

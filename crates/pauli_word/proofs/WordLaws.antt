@@ -3,11 +3,11 @@
 -- adds up over products.
 use Rattle.std.proofs.Common.{◌≡◌, ℕ, suc, zero, Bool, true, false, not, List, [], ◌∷◌, length, drop, refl, ap, ap₂, sym, ◌∙◌}
 use Rattle.pauli_word.specs.declared.letter.Letter.{Letter}
-use Rattle.pauli_word.specs.Letters.{one, power_product, letter_product, letter_power, letters_clash}
+use Rattle.pauli_word.specs.Letters.{one, power_product, letter_product, letter_power, letters_clash, sign_power}
 use Rattle.pauli_word.specs.Parity.{exclusive_or}
 use Rattle.pauli_word.specs.Words.{letters_product, letters_power, anticommute, no_letters}
 use Rattle.pauli_word.proofs.Parities.{exclusive_or_middle}
-use Rattle.pauli_word.proofs.PowerLaws.{power_product_middle, is_real, is_real-power_product, sign_power, sign_power-exclusive_or}
+use Rattle.pauli_word.proofs.PowerLaws.{power_product_middle, is_real, is_real-power_product, sign_power-exclusive_or}
 use Rattle.pauli_word.proofs.LetterLaws.{letter_product_assoc, letter_product_comm, letter_product_self, letter_power_cocycle, letter_power_self, letter_power_of_I, letter_power_swap, is_real-letter_power, letters_clash_comm, letters_clash_self, letters_clash_of_I, letters_clash-product}
 
 suc_injective : (m n : ℕ) → suc m ≡ suc n → m ≡ n

@@ -33,6 +33,11 @@ is_minus i = false
 is_minus minus_one = true
 is_minus minus_i = true
 
+-- a sign as a power of i: true is minus
+abbrev pub sign_power : Bool → Power
+sign_power false = one
+sign_power true = minus_one
+
 -- the letter of the product of two letters
 abbrev pub letter_product : Letter → Letter → Letter
 letter_product I b = b

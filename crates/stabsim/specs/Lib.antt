@@ -1,3 +1,4 @@
+pub mod Bits
 pub mod Classical
 pub mod Lists
 pub mod Output

@@ -3,10 +3,12 @@
 //! with 2 where the circuit, what was given beside it or the command line is refused.
 #![tactic(auto)]
 
+mod detections;
 mod lists;
 mod order;
 mod output;
 mod records;
+mod run;
 mod serve;
 mod standin;
 mod streams;

@@ -8,11 +8,13 @@ ghost use Rattle.step_model.specs.Runs.{records_of};
 ghost use Rattle.stabsim.specs.Classical.{IsClassical};
 ghost use Rattle.stabsim.specs.Output.{no_faults, output_of, refusal_line, run_coins, run_lines, run_output, zero_coins};
 
+use crate::detections::detections;
 use crate::lists::{read_coins, read_numbers};
 use crate::order::{Order, Status};
 use crate::output::{refusal_text, two_lines};
 use crate::records::Records;
-use crate::standin::{detections, read_program, run};
+use crate::run::run;
+use crate::standin::read_program;
 use std::alloc::Allocator;
 use step_model::{Cause, Fault, Program, Sink, Source, read_all, write_all};
 
@@ -152,7 +154,7 @@ fn noiseless_records<A: Allocator + Copy>(
     requires { IsClassical program.now }
     ensures ok { IfOk result (λ records. records
         ≡ records_of program.now (no_faults program.now) (zero_coins program.now)) }
-    ensures size { IfOk result (λ records. length records ≡ program.now.records) }
+    ensures count { IfOk result (λ records. length records ≡ program.now.records) }
     ensures err { IfErr result (λ e. e ≡ memory_fault) }
 {
     let faults = all_false(alloc, program.fault_count())?;

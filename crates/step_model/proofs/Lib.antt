@@ -1,3 +1,4 @@
 pub mod EndsLemmas
+pub mod ImageLaws
 pub mod MadeLemmas
 pub mod MemoryLemmas

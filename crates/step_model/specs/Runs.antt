@@ -71,6 +71,11 @@ pub record Moment : Type 0 where
 abbrev pub next_coin : List Bool → Bool
 next_coin coins = slice_index_or coins 0 false
 
+-- the state after a correction, where there is one, for the outcome that was seen
+abbrev pub corrected : Option (List Letter) → Bool → State → State
+corrected None seen s = s
+corrected (Some c) seen s = applied seen c s
+
 -- the moment after a collapse of w, which takes the next coin. Where there is a correction it is applied if the
 -- outcome was 1; where there is a record it is the outcome, changed if `changes`
 abbrev pub after_collapse : List Letter → Option (List Letter) → Bool → Bool → Moment → Moment
@@ -82,10 +87,6 @@ after_collapse w correction recorded changes m =
       coins = drop 1 m.coins;
       records = if recorded then m.records ++ exclusive_or seen changes ∷ [] else m.records;
     }
-  where
-    corrected : Option (List Letter) → Bool → State → State
-    corrected None seen s = s
-    corrected (Some c) seen s = applied seen c s
 
 -- whether a fault is among those that happen
 abbrev pub happens : List Bool → ℕ → Bool

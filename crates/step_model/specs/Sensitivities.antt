@@ -62,16 +62,17 @@ abbrev pub collapse_count : List Step → ℕ
 collapse_count [] = 0
 collapse_count (step ∷ steps) = (if is_collapse step then 1 else 0) + collapse_count steps
 
+-- the latest collapse from a step on: one later, or else the step itself where it clashes
+abbrev pub later_or_here : Step → Option ℕ → Bool → Option ℕ
+later_or_here step (Some k) clashes = Some ((if is_collapse step then 1 else 0) + k)
+later_or_here step None true = Some 0
+later_or_here step None false = None
+
 -- the latest of these collapses, counted from the first of them, whose word anticommutes with the sensitivity after it
 abbrev pub latest_place : ℕ → List ℕ → List Step → Option ℕ
 latest_place n named [] = None
 latest_place n named (step ∷ steps) =
     later_or_here step (latest_place n named steps) (anticommute (collapse_word n step) (sensitivity n named steps))
-  where
-    later_or_here : Step → Option ℕ → Bool → Option ℕ
-    later_or_here step (Some k) clashes = Some ((if is_collapse step then 1 else 0) + k)
-    later_or_here step None true = Some 0
-    later_or_here step None false = None
 
 abbrev pub has_X_or_Y : Letter → Bool
 has_X_or_Y I = false
@@ -84,11 +85,14 @@ abbrev pub lowest_X_or_Y : List Letter → Option ℕ
 lowest_X_or_Y [] = None
 lowest_X_or_Y (a ∷ w) = if has_X_or_Y a then Some 0 else option_map suc (lowest_X_or_Y w)
 
+-- a collapse's place, or else that in the start, of a word there
+abbrev pub after_or_start : Option ℕ → List Letter → Option Place
+after_or_start (Some k) w = Some (After k)
+after_or_start None w = option_map Start (lowest_X_or_Y w)
+
 -- the place of a target
 abbrev pub place_of : Listing → ℕ → Option Place
 place_of program d =
-    after_or_start (latest_place program.qubits (target_at program d) program.steps)
-  where
-    after_or_start : Option ℕ → Option Place
-    after_or_start (Some k) = Some (After k)
-    after_or_start None = option_map Start (lowest_X_or_Y (sensitivity program.qubits (target_at program d) program.steps))
+    after_or_start
+    (latest_place program.qubits (target_at program d) program.steps)
+    (sensitivity program.qubits (target_at program d) program.steps)

@@ -40,6 +40,7 @@ fn inverses(rt: HostRuntime) {
 
 #[test]
 fn laws_hold() {
+    laws::arity_is_one_or_two();
     laws::images_keep_products();
     laws::images_keep_clashes();
     laws::inverses_undo();

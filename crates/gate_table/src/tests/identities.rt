@@ -7,16 +7,15 @@ use std::process::Abort;
 type Pair = (Letter, Letter, bool);
 
 /// The image of a pair under a gate, on both qubits where it is a one-qubit gate.
+#[tactic(auto, using(crate::proofs::Arity::two_unless_one))]
 fn image_of(gate: Gate, (a, b, minus): Pair) -> Pair {
     if gate.arity() == 1 {
         let (a, first_minus) = gate.image1(a);
         let (b, second_minus) = gate.image1(b);
         (a, b, minus ^ first_minus ^ second_minus)
-    } else if gate.arity() == 2 {
+    } else {
         let (a, b, gate_minus) = gate.image2(a, b);
         (a, b, minus ^ gate_minus)
-    } else {
-        (a, b, minus)
     }
 }
 

@@ -55,14 +55,13 @@ fn matrix_product(factor: Complex, a: Matrix, b: Matrix) -> Matrix {
 }
 
 /// The image of a pair of letters, of which a one-qubit gate sees the first.
+#[tactic(auto, using(crate::proofs::Arity::two_unless_one))]
 fn image_of(gate: Gate, a: Letter, b: Letter) -> (Letter, Letter, bool) {
     if gate.arity() == 1 {
         let (a, minus) = gate.image1(a);
         (a, b, minus)
-    } else if gate.arity() == 2 {
-        gate.image2(a, b)
     } else {
-        (a, b, false)
+        gate.image2(a, b)
     }
 }
 
