@@ -56,15 +56,6 @@ records_from-start program faults coins well_formed classical =
     })
     (record { same = λ p size. bits_state-start program.qubits p })
 
--- the end of the loop over the steps: the records so far are all
-pub records_at_end : (program : Listing) (faults coins : List Bool) (steps : List Step) (i : ℕ) (bits records : List Bool) → IsWellFormed program → IsClassical program → steps ≡ program.steps → length steps ≤ i → records ++ records_from program faults (drop i steps) bits ≡ records_from program faults steps (replicate program.qubits false) → records ≡ records_of program faults coins
-records_at_end program faults coins steps i bits records well_formed classical are_steps past made =
-    sym (append-nil records)
-    ∙ ap (λ left. records ++ records_from program faults left bits) (sym (drop_all i steps past))
-    ∙ made
-    ∙ ap (λ left. records_from program faults left (replicate program.qubits false)) are_steps
-    ∙ records_from-start program faults coins well_formed classical
-
 -- as many records as the steps have
 length-record_made : (faults : List Bool) (step : Step) (bits : List Bool) → length (option_to_list (record_made faults step bits)) ≡ length (step_records step)
 length-record_made faults (One g q) bits = refl
@@ -80,6 +71,17 @@ length-records_from program faults (step ∷ steps) bits =
     ∙ ap₂ ◌+◌ (length-record_made faults step bits) (length-records_from program faults steps (bits_after program faults step bits))
     ∙ sym (length-append (step_records step) (records_made steps))
 
+length-all : (program : Listing) (faults bits : List Bool) → IsWellFormed program → length (records_from program faults program.steps bits) ≡ program.records
+length-all program faults bits well_formed =
+    length-records_from program faults program.steps bits
+    ∙ ap length well_formed.records_in_order
+    ∙ length-range_with_len 0 program.records
+
+pub length-records_of : (program : Listing) (faults coins : List Bool) → IsWellFormed program → IsClassical program → length (records_of program faults coins) ≡ program.records
+length-records_of program faults coins well_formed classical =
+    ap length (sym (records_from-start program faults coins well_formed classical))
+    ∙ length-all program faults (replicate program.qubits false) well_formed
+
 -- there is room for the record that the step at i makes
 pub records_room : (program : Listing) (faults : List Bool) (steps : List Step) (i : ℕ) (bits records : List Bool) (step : Step) (seen : Bool) → IsWellFormed program → steps ≡ program.steps → i < length steps → Some seen ≡ record_made faults (get_or steps i step) bits → records ++ records_from program faults (drop i steps) bits ≡ records_from program faults steps (replicate program.qubits false) → length records < program.records
 records_room program faults steps i bits records step seen well_formed are_steps below makes made =
@@ -87,11 +89,19 @@ records_room program faults steps i bits records step seen well_formed are_steps
     let cut : records_from program faults (drop i steps) bits ≡ seen ∷ left =
       ap (λ s. records_from program faults s bits) (drop_more steps i step below)
       ∙ ap (λ o. option_to_list o ++ left) (sym makes) in
-    let all : length (records_from program faults steps (replicate program.qubits false)) ≡ program.records =
-      length-records_from program faults steps (replicate program.qubits false)
-      ∙ ap (λ s. length (records_made s)) are_steps
-      ∙ ap length well_formed.records_in_order
-      ∙ length-range_with_len 0 program.records in
     let counts : length records + length (seen ∷ left) ≡ program.records =
-      sym (length-append records (seen ∷ left)) ∙ ap (λ r. length (records ++ r)) (sym cut) ∙ ap length made ∙ all in
+      sym (length-append records (seen ∷ left))
+      ∙ ap (λ r. length (records ++ r)) (sym cut)
+      ∙ ap length made
+      ∙ ap (λ s. length (records_from program faults s (replicate program.qubits false))) are_steps
+      ∙ length-all program faults (replicate program.qubits false) well_formed in
     omega arith
+
+-- the end of the loop over the steps: the records so far are all
+pub records_at_end : (program : Listing) (faults coins : List Bool) (steps : List Step) (i : ℕ) (bits records : List Bool) → IsWellFormed program → IsClassical program → steps ≡ program.steps → length steps ≤ i → records ++ records_from program faults (drop i steps) bits ≡ records_from program faults steps (replicate program.qubits false) → records ≡ records_of program faults coins
+records_at_end program faults coins steps i bits records well_formed classical are_steps past made =
+    sym (append-nil records)
+    ∙ ap (λ left. records ++ records_from program faults left bits) (sym (drop_all i steps past))
+    ∙ made
+    ∙ ap (λ left. records_from program faults left (replicate program.qubits false)) are_steps
+    ∙ records_from-start program faults coins well_formed classical

@@ -22,6 +22,7 @@ pub(crate) fn run<'a, A: Allocator + Copy>(
 ) -> Result<Records<A>, Fault>
     requires { IsClassical program.now }
     ensures ok { IfOk result (λ records. records ≡ records_of program.now faults.now coins.now) }
+    ensures count { IfOk result (λ records. length records ≡ program.now.records) }
     ensures err { IfErr result (λ fault. fault ≡ memory_fault) }
 {
     match run_bits(alloc, program, faults) {
@@ -40,7 +41,8 @@ fn run_bits<A: Allocator + Copy>(
     faults: &[bool],
 ) -> Result<Records<A>, AllocError>
     requires { IsClassical program.now }
-    ensures { (coins : List Bool) → IfOk result (λ records. records ≡ records_of program.now faults.now coins) }
+    ensures ok { (coins : List Bool) → IfOk result (λ records. records ≡ records_of program.now faults.now coins) }
+    ensures count { IfOk result (λ records. length records ≡ program.now.records) }
 {
     let qubits = program.qubits() as usize;
     let mut bits = Vec::with_capacity(alloc, qubits)?;
@@ -162,3 +164,6 @@ fn flip_happens(faults: &[bool], flip: Option<u32>) -> bool
         None => false,
     }
 }
+
+#[cfg(test)]
+mod tests;
