@@ -69,7 +69,7 @@ none_set-set ms n h [] = refl
 none_set-set ms n h (x ∷ ns) =
     ap (λ g. not g && none_set (set ms n true) ns) (get_or-set-true ms n x (λ _. h) ∙ ap (λ e. e || get_or ms x false) (eqb-comm n x))
     ∙ (ap (λ f. not ((x == n) || get_or ms x false) && f) (none_set-set ms n h ns)
-      ∙ free_twice (x == n) (get_or ms x false) (is_among ns n) (none_set ms ns))
+    ∙ free_twice (x == n) (get_or ms x false) (is_among ns n) (none_set ms ns))
 
 get_or-replicate-false : (count n : ℕ) → get_or (replicate count false) n false ≡ false
 get_or-replicate-false zero n = refl
@@ -86,8 +86,8 @@ set_all-marks count ns =
     fill_by_all (is_among ns) (set_all ns (replicate count false)) count false
     (length-set_all ns (replicate count false) ∙ length-replicate count false)
     (λ k h. let lt : k < length (replicate count false) = rw length-replicate h in
-      get_or-set_all ns (replicate count false) k lt
-      ∙ (ap (λ x. is_among ns k || x) (get_or-replicate-false count k) ∙ or_false (is_among ns k)))
+    get_or-set_all ns (replicate count false) k lt
+    ∙ (ap (λ x. is_among ns k || x) (get_or-replicate-false count k) ∙ or_false (is_among ns k)))
 
 -- the conditions on a list of numbers, taken in the order of the loop and in that of the definition
 step : (N L G A B D C F : Bool) (n : ℕ) (S : List Bool) (f : ℕ → Option (List Bool))
@@ -119,9 +119,9 @@ marked-is (piece ∷ pieces) ms =
     (is_distinct ns) (is_among ns n) (none_set ms ns) n S
     (λ m. cond (get_or ms m false) None (marked pieces (set ms m true)))
     (λ l. ap (λ w. cond (get_or ms n false) None w)
-      (marked-is pieces (set ms n true)
-      ∙ (ap (λ k. cond (A && ((list_all (λ m. nat_lt m k) ns && is_distinct ns) && none_set (set ms n true) ns)) (Some S) None) (length-set ms n true)
-        ∙ ap (λ f. cond (A && ((list_all (λ m. nat_lt m (length ms)) ns && is_distinct ns) && f)) (Some S) None) (none_set-set ms n (ltb-true n (length ms) l) ns))))
+    (marked-is pieces (set ms n true)
+    ∙ (ap (λ k. cond (A && ((list_all (λ m. nat_lt m k) ns && is_distinct ns) && none_set (set ms n true) ns)) (Some S) None) (length-set ms n true)
+    ∙ ap (λ f. cond (A && ((list_all (λ m. nat_lt m (length ms)) ns && is_distinct ns) && f)) (Some S) None) (none_set-set ms n (ltb-true n (length ms) l) ns))))
 
 last : (A P : Bool) (M : List Bool) → cond (A && (P && true)) (Some M) None ≡ cond A (cond P (Some M) None) None
 last false P M = refl
@@ -135,9 +135,9 @@ marked-marks pieces count =
     let none = replicate count false in
     marked-is pieces none
     ∙ (ap (λ k. cond (A && ((list_all (λ m. nat_lt m k) ns && is_distinct ns) && none_set none ns)) (Some (set_all ns none)) None) (length-replicate count false)
-      ∙ (ap (λ f. cond (A && ((list_all (λ m. nat_lt m count) ns && is_distinct ns) && f)) (Some (set_all ns none)) None) (none_set-replicate count ns)
-        ∙ (ap (λ S. cond (A && ((list_all (λ m. nat_lt m count) ns && is_distinct ns) && true)) (Some S) None) (set_all-marks count ns)
-          ∙ last A (list_all (λ m. nat_lt m count) ns && is_distinct ns) (marks count ns))))
+    ∙ (ap (λ f. cond (A && ((list_all (λ m. nat_lt m count) ns && is_distinct ns) && f)) (Some (set_all ns none)) None) (none_set-replicate count ns)
+    ∙ (ap (λ S. cond (A && ((list_all (λ m. nat_lt m count) ns && is_distinct ns) && true)) (Some S) None) (set_all-marks count ns)
+    ∙ last A (list_all (λ m. nat_lt m count) ns && is_distinct ns) (marks count ns))))
 
 -- all pieces lead from no mark to the numbers that are named
 pub marked-all : (text : List ℕ) (ms : List Bool) → ms ≡ replicate (length ms) false → (length text == 0) ≡ false → marked (slice_split is_comma text) ms ≡ numbers_of (length ms) text

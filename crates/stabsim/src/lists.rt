@@ -111,3 +111,6 @@ pub(crate) fn read_numbers<A: Allocator + Copy>(
     }
     Ok(marks)
 }
+
+#[cfg(test)]
+mod tests;

@@ -24,7 +24,9 @@ use std::{env, io};
 use streams::{ReaderSource, WriterSink};
 
 const DONE: u8 = 0;
+
 const FAILED: u8 = 1;
+
 const REFUSED: u8 = 2;
 
 fn main(rt: HostRuntime) -> ExitCode {
@@ -75,7 +77,12 @@ fn obey<R: Input + Print + AllocGlobal>(rt: &R, matches: &ArgMatches<'_>) -> u8 
     let faults = given.get_str("faults").unwrap_or("").as_bytes();
     let mut source = ReaderSource::new(rt.reader());
     let mut sink = WriterSink::new(io::writer(rt));
-    match serve(rt.alloc(), &Order::Run { coins, faults }, &mut source, &mut sink) {
+    match serve(
+        rt.alloc(),
+        &Order::Run { coins, faults },
+        &mut source,
+        &mut sink,
+    ) {
         Ok(Status::Done) => DONE,
         Ok(Status::Refused) => REFUSED,
         Err(_) => FAILED,

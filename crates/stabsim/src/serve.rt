@@ -161,3 +161,6 @@ fn noiseless_records<A: Allocator + Copy>(
     let coins = all_false(alloc, program.collapses() as usize)?;
     run(alloc, program, faults.as_slice(), coins.as_slice())
 }
+
+#[cfg(test)]
+mod tests;

@@ -78,3 +78,6 @@ impl<W: Write + Drop> Sink for WriterSink<W> {
         })
     }
 }
+
+#[cfg(test)]
+mod tests;

@@ -24,19 +24,19 @@ loop-piece-preserved c =
     let next = set c.loop-piece.marks c.in-Some-number_below.n true in
     ap (λ k. marked (drop k pieces) next) (length_push c.loop-piece.yielded c.in-Some.piece)
     ∙ (sym (marked-more _ _ _ c.loop-piece.marks _ (turn (goal.at.loop-piece-preserved c).In-Some) (sym c.in-Some-number_below.is ∙ c.number_below.ensures) c.if-marks-n.false)
-      ∙ c.loop-piece.invariant)
+    ∙ c.loop-piece.invariant)
 
 pub returns-in_default : goal.returns-in_default
 returns-in_default c =
     sym (whole (goal.at.returns-in_default c).In-Some)
     ∙ (sym c.loop-piece.invariant
-      ∙ marked-not _ _ _ c.loop-piece.marks (turn (goal.at.returns-in_default c).In-Some) (sym c.number_below.ensures ∙ c.in_default.is))
+    ∙ marked-not _ _ _ c.loop-piece.marks (turn (goal.at.returns-in_default c).In-Some) (sym c.number_below.ensures ∙ c.in_default.is))
 
 pub returns-then-marks-n : goal.returns-then-marks-n
 returns-then-marks-n c =
     sym (whole (goal.at.returns-then-marks-n c).In-Some)
     ∙ (sym c.loop-piece.invariant
-      ∙ marked-twice _ _ _ c.loop-piece.marks _ (turn (goal.at.returns-then-marks-n c).In-Some) (sym c.in-Some-number_below.is ∙ c.number_below.ensures) c.if-marks-n.true)
+    ∙ marked-twice _ _ _ c.loop-piece.marks _ (turn (goal.at.returns-then-marks-n c).In-Some) (sym c.in-Some-number_below.is ∙ c.number_below.ensures) c.if-marks-n.true)
 
 pub returns : goal.returns
 returns c =
@@ -44,4 +44,4 @@ returns c =
     let t = YieldsList-end (YieldsList-from_slice_split _ is_comma c.args.text.now (cc) (cc) (cc) (λ x b q k. search (rules, tests))) c.loop-piece.yielded _ c.loop-piece.yielded_by _ _ c.in-None.is c.next.ensures.steps in
     sym (marked-all c.args.text.now c.args.marks.now c.requires (cc))
     ∙ (sym c.loop-piece.invariant
-      ∙ at_drop_all (λ ps. marked ps c.loop-piece.marks) pieces (length c.loop-piece.yielded) (omega (arith, t.1)))
+    ∙ at_drop_all (λ ps. marked ps c.loop-piece.marks) pieces (length c.loop-piece.yielded) (omega (arith, t.1)))
