@@ -1,5 +1,11 @@
 pub mod Bits
+pub mod Circuits
 pub mod Classical
+pub mod Instructions
+pub mod Lines
 pub mod Lists
 pub mod Output
-pub mod Standin
+pub mod Parsed
+pub mod Pieces
+pub mod Totals
+pub mod Unrolled

@@ -12,7 +12,7 @@ use Rattle.stabsim.specs.declared.order.Order.TheVariants.{Run}
 use Rattle.stabsim.specs.declared.order.Status.{Status}
 use Rattle.stabsim.specs.declared.order.Status.TheVariants.{Done, Refused}
 use Rattle.stabsim.specs.Lists.{coins_of, numbers_of}
-use Rattle.stabsim.specs.Standin.{program_of}
+use Rattle.stabsim.specs.Unrolled.{program_of}
 
 -- the character 1 or 0
 abbrev pub digit_of : Bool → ℕ

@@ -3,15 +3,23 @@
 //! with 2 where the circuit, what was given beside it or the command line is refused.
 #![tactic(auto)]
 
+mod circuit;
 mod detections;
+mod faults;
+mod head;
+mod line;
 mod lists;
 mod order;
 mod output;
+mod parse;
 mod records;
 mod run;
 mod serve;
-mod standin;
+mod steps;
 mod streams;
+mod target;
+mod totals;
+mod unroll;
 
 use clap::error::ErrorKind;
 use clap::{Arg, ArgAction, ArgMatches, Command, Error};

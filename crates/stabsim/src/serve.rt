@@ -14,7 +14,7 @@ use crate::order::{Order, Status};
 use crate::output::{refusal_text, two_lines};
 use crate::records::Records;
 use crate::run::run;
-use crate::standin::read_program;
+use crate::unroll::read_program;
 use std::alloc::Allocator;
 use step_model::{Cause, Fault, Program, Sink, Source, read_all, write_all};
 

@@ -1,0 +1,9 @@
+use Rattle.std.proofs.Common.{◌≡◌, refl, rules, tests}
+use Rattle.std.specs.Prelude.{codes}
+use Rattle.std.proofs.lemmas.Slice.Eq.{text_from_reads}
+use Rattle.stabsim.specs.Instructions.{operation_named}
+use Rattle.stabsim.proofs.head.operation_named.Goals as goal
+
+pub returns-in-88 : goal.returns-in-88
+unfolding operation_named
+returns-in-88 c = let e : c.args.name.now ≡ codes "X_ERROR" = search (rules, text_from_reads) in rw e refl

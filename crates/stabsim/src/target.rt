@@ -1,0 +1,71 @@
+ghost use Rattle.std.specs.Prelude.{◌≡◌, ◌^◌, ◌<◌, ◌≤◌, length, IfOk, IfSome, MatchBool, None, Some, if◌then◌else◌};
+ghost use Rattle.std.specs.Char.{is_ascii_digit};
+ghost use Rattle.std.specs.List.{list_all};
+ghost use Rattle.step_model.specs.Probabilities.{digits_value};
+ghost use Rattle.stabsim.specs.Instructions.{are_pairs, qubit_of, targets_of};
+ghost use Rattle.stabsim.specs.Pieces.{pieces_after};
+
+use crate::line::cut_at;
+use std::alloc::{AllocError, Allocator};
+
+/// The number that a text of digits writes.
+pub(crate) fn number_of(digits: &[u8]) -> Option<u64>
+    requires { length digits.now ≤ 18 }
+    ensures value { result ≡ (if list_all is_ascii_digit digits.now then Some (digits_value digits.now) else None) }
+    ensures below { IfSome result (λ n. n < 10 ^ length digits.now) }
+{
+    let mut number = 0;
+    for digit in digits {
+        if !digit.is_ascii_digit() {
+            return None;
+        }
+        number = 10 * number + (*digit - b'0') as u64;
+    }
+    Some(number)
+}
+
+/// The qubit that a target names.
+#[tactic(auto, unfolding(crate::specs::Instructions::qubit_of))]
+fn qubit_of(piece: &[u8]) -> Option<u32>
+    ensures { result ≡ qubit_of piece.now }
+{
+    if piece.is_empty() || piece.len() > 4 {
+        return None;
+    }
+    let number = number_of(piece)?;
+    if number <= 4095 { Some(number as u32) } else { None }
+}
+
+/// Puts the targets of a line in place of those that were there. The rest of the line, behind its first piece, is
+/// empty or begins with a space.
+pub(crate) fn read_targets<A: Allocator + Copy>(targets: &mut Vec<u32, A>, rest: &[u8]) -> Result<bool, AllocError>
+    ensures { IfOk result (λ all. MatchBool all
+        (targets_of (pieces_after rest.now) ≡ Some targets.new.items)
+        (targets_of (pieces_after rest.now) ≡ None)) }
+{
+    targets.clear();
+    let mut rest = rest;
+    while let [_, after @ ..] = rest {
+        let (piece, next) = cut_at(after, b' ');
+        let Some(qubit) = qubit_of(piece) else {
+            return Ok(false);
+        };
+        targets.push(qubit)?;
+        rest = next;
+    }
+    Ok(true)
+}
+
+/// Whether targets are pairs of different qubits.
+pub(crate) fn are_pairs(targets: &[u32]) -> bool
+    ensures { result ≡ are_pairs targets.now }
+{
+    let mut rest = targets;
+    while let [a, b, after @ ..] = rest {
+        if a == b {
+            return false;
+        }
+        rest = after;
+    }
+    rest.is_empty()
+}
