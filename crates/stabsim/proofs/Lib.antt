@@ -8,6 +8,7 @@ pub mod FaultLemmas
 pub mod FittingLemmas
 pub mod LineLemmas
 pub mod LoopLemmas
+pub mod NumberLemmas
 pub mod NumberingLemmas
 pub mod ParseLemmas
 pub mod ProbabilityLemmas

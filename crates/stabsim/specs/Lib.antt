@@ -3,6 +3,8 @@ pub mod Circuits
 pub mod Classical
 pub mod Instructions
 pub mod Lines
+pub mod Lists
+pub mod Output
 pub mod Parsed
 pub mod Pieces
 pub mod Totals
