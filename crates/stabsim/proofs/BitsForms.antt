@@ -8,7 +8,7 @@ use Rattle.pauli_word.specs.declared.letter.Letter.{Letter}
 use Rattle.pauli_word.specs.declared.letter.Letter.TheVariants.{X}
 use Rattle.pauli_word.specs.Letters.{letters_clash}
 use Rattle.pauli_word.specs.Parity.{exclusive_or}
-use Rattle.pauli_word.proofs.LetterLaws.{each_letter, at_letter, at_letters}
+use Rattle.pauli_word.proofs.LetterTests.{each_letter, at_letter, at_two_letters}
 use Rattle.pauli_word.proofs.Parities.{same_truth, same_truth-true, each_truth, at_truth, each_four_truths, at_four_truths}
 use Rattle.step_model.specs.Runs.{is_I_or_Z}
 use Rattle.stabsim.specs.Classical.{is_Z_letter}
@@ -35,7 +35,7 @@ at_two f g h a b rest odd negative first second =
     same_truth-true _ _
     (at_four_truths (λ o n x y. same_truth (f a b rest o n x y) (g a b rest o n x y))
     (at_truth (λ r. each_four_truths (λ o n x y. same_truth (f a b r o n x y) (g a b r o n x y)))
-    (at_letters (λ l k. each_truth (λ r. each_four_truths (λ o n x y. same_truth (f l k r o n x y) (g l k r o n x y)))) h a b)
+    (at_two_letters (λ l k. each_truth (λ r. each_four_truths (λ o n x y. same_truth (f l k r o n x y) (g l k r o n x y)))) h a b)
     rest)
     odd negative first second)
 

@@ -8,7 +8,7 @@ use Rattle.pauli_word.specs.Letters.{letters_clash}
 use Rattle.pauli_word.specs.Parity.{exclusive_or}
 use Rattle.pauli_word.specs.Words.{Signed, anticommute, letters_product, no_letters, lone_letter}
 use Rattle.pauli_word.proofs.Parities.{same_truth, same_truth-true}
-use Rattle.pauli_word.proofs.LetterLaws.{at_letters}
+use Rattle.pauli_word.proofs.LetterTests.{at_two_letters}
 use Rattle.step_model.specs.declared.step.Step.TheVariants.{Collapse}
 use Rattle.step_model.specs.Listing.{Listing}
 use Rattle.step_model.specs.Runs.{State, Moment, changed, is_I_or_Z, start_state, next_coin, next}
@@ -22,7 +22,7 @@ no_clash : (a b : Letter) → is_I_or_Z a ≡ true → is_I_or_Z b ≡ true → 
 no_clash a b h k =
     same_truth-true _ _
     (sym (ap₂ (λ x y. not (x && y) || same_truth (letters_clash a b) false) h k)
-    ∙ at_letters (λ a b. not (is_I_or_Z a && is_I_or_Z b) || same_truth (letters_clash a b) false) refl a b)
+    ∙ at_two_letters (λ a b. not (is_I_or_Z a && is_I_or_Z b) || same_truth (letters_clash a b) false) refl a b)
 
 -- words of I and Z commute
 I_or_Z-commute : (p v : List Letter) → list_all is_I_or_Z p ≡ true → list_all is_I_or_Z v ≡ true → anticommute p v ≡ false
