@@ -67,7 +67,7 @@ fn refuses(rt: HostRuntime) -> Result<(), Fail> {
     let table = [
         ("H 0", None, "", "refused 12 line 1\n"),
         ("H 0", Some("2"), "x", "refused 12 line 1\n"),
-        ("M 0\n\nM 0 rec[-1]\n", None, "", "refused 14 line 3\n"),
+        ("M 0\n\nH 0\n", None, "", "refused 12 line 3\n"),
         (PAIR, Some(""), "", "refused 50 line 0\n"),
         (PAIR, Some("0"), "", "refused 50 line 0\n"),
         (PAIR, Some("000"), "", "refused 50 line 0\n"),
