@@ -1,4 +1,5 @@
 pub mod CircuitLemmas
+pub mod DetectorLemmas
 pub mod FaultLemmas
 pub mod FittingLemmas
 pub mod LineLemmas

@@ -2,6 +2,7 @@
 #![tactic(auto)]
 
 mod circuit;
+mod detectors;
 mod faults;
 mod head;
 mod line;
