@@ -41,7 +41,7 @@ fn build<'a, A: Allocator + Copy>(
     let detectors = detectors_of(alloc, circuit)?;
     let coordinates = no_coordinates(alloc, &detectors)?;
     let _count = circuit.len();
-    Ok(Program::new(Parts {
+    let program = Program::new(Parts {
         qubits: totals.qubits,
         records: totals.records as u32,
         collapses: totals.collapses as u32,
@@ -51,7 +51,8 @@ fn build<'a, A: Allocator + Copy>(
         coordinates,
         faults: faults.parts,
         terms: faults.terms,
-    }))
+    });
+    Ok(program)
 }
 
 /// The program of a circuit.
