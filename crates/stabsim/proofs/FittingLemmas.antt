@@ -14,10 +14,10 @@ use Rattle.step_model.specs.declared.step.Step.TheVariants as step
 use Rattle.step_model.specs.Listing.{Effect, Listing, ListedFault, Applies, effect_at, no_effect}
 use Rattle.step_model.specs.WellFormed.{applies_word, step_fits, FaultFits}
 use Rattle.stabsim.specs.declared.circuit.Operation.{Operation}
-use Rattle.stabsim.specs.declared.circuit.Operation.TheVariants.{X, ControlledX, Swap, Measure, Reset, XError}
+use Rattle.stabsim.specs.declared.circuit.Operation.TheVariants.{X, ControlledX, Swap, Measure, Reset, XError, Detector}
 use Rattle.stabsim.specs.Classical.{is_classical_effect, is_classical_step, is_CX_or_SWAP}
 use Rattle.stabsim.specs.Instructions.{Instruction, IsInstruction, are_pairs, is_argument, is_plain_probability, targets_fit}
-use Rattle.stabsim.specs.Totals.{fault_count, faults_made_of, qubit_total, qubits_to, record_count, total}
+use Rattle.stabsim.specs.Totals.{fault_count, faults_made_of, qubit_total, qubits_of, qubits_to, record_count, total}
 use Rattle.stabsim.specs.Unrolled.{fault_steps, faults_of, flip_fault, flip_step, instruction_faults, measure_step, measure_steps, operation_faults, operation_steps, pair_steps, reset_step, steps_from}
 use Rattle.stabsim.proofs.ProbabilityLemmas.{probability_bound-plain}
 
@@ -42,6 +42,7 @@ pass_operation p h ControlledX text qs = All-nil (λ (fault : ListedFault). p fa
 pass_operation p h Swap text qs = All-nil (λ (fault : ListedFault). p fault.effect ≡ true)
 pass_operation p h Measure text qs = All-nil (λ (fault : ListedFault). p fault.effect ≡ true)
 pass_operation p h Reset text qs = All-nil (λ (fault : ListedFault). p fault.effect ≡ true)
+pass_operation p h Detector text qs = All-nil (λ (fault : ListedFault). p fault.effect ≡ true)
 pass_operation p h XError text qs =
     All-map (λ (fault : ListedFault). p fault.effect ≡ true) (flip_fault text) qs (λ k d lt. h.flips text (get_or qs k d))
 
@@ -73,12 +74,13 @@ flip_fits n q text plain lt = record {
   effect = All-cons (λ term. term.qubit < n) _ [] lt (All-nil (λ term. term.qubit < n));
 }
 
-fits_operation : (n : ℕ) (o : Operation) (text qs : List ℕ) → is_argument o text ≡ true → All (λ q. q < n) qs → All (FaultFits n) (operation_faults o text qs)
+fits_operation : (n : ℕ) (o : Operation) (text qs : List ℕ) → is_argument o text ≡ true → All (λ q. q < n) (qubits_of o qs) → All (FaultFits n) (operation_faults o text qs)
 fits_operation n X text qs plain within = All-nil (FaultFits n)
 fits_operation n ControlledX text qs plain within = All-nil (FaultFits n)
 fits_operation n Swap text qs plain within = All-nil (FaultFits n)
 fits_operation n Measure text qs plain within = All-nil (FaultFits n)
 fits_operation n Reset text qs plain within = All-nil (FaultFits n)
+fits_operation n Detector text qs plain within = All-nil (FaultFits n)
 fits_operation n XError text qs plain within =
     All-map (FaultFits n) (flip_fault text) qs (λ k d lt. flip_fits n (get_or qs k d) text plain (within k d lt))
 
@@ -87,10 +89,10 @@ unfolding faults_of qubit_total
 faults_of-fit n [] h fit = All-nil (FaultFits n)
 faults_of-fit n (i ∷ is) h fit =
     let first = All-head IsInstruction i is fit in
-    let here = le-max_left (qubits_to i.targets) (qubit_total is) in
-    let rest = le-max_right (qubits_to i.targets) (qubit_total is) in
+    let here = le-max_left (qubits_to (qubits_of i.operation i.targets)) (qubit_total is) in
+    let rest = le-max_right (qubits_to (qubits_of i.operation i.targets)) (qubit_total is) in
     All-append (FaultFits n) (instruction_faults i) (faults_of is)
-    (fits_operation n i.operation i.argument i.targets first.argued (qubits_within n i.targets (omega (arith, here))))
+    (fits_operation n i.operation i.argument i.targets first.argued (qubits_within n (qubits_of i.operation i.targets) (omega (arith, here))))
     (faults_of-fit n is (omega (arith, rest)) (All-tail IsInstruction i is fit))
 
 -- ---- the steps fit
@@ -141,23 +143,24 @@ fit_faults P f (q ∷ qs) applied room =
     (and_from (ltb f (length P.faults)) (applies_word (effect_at P f)) (lt-ltb f (length P.faults) (omega arith)) (applied.each f))
     (fit_faults P (f + 1) qs applied (omega arith))
 
-fit_operation : (P : Listing) (o : Operation) (r f : ℕ) (qs : List ℕ) → IsApplied P → All (λ q. q < P.qubits) qs → targets_fit o qs ≡ true → f + faults_made_of o (length qs) ≤ length P.faults → AllPass (step_fits P) (operation_steps o r f qs)
+fit_operation : (P : Listing) (o : Operation) (r f : ℕ) (qs : List ℕ) → IsApplied P → All (λ q. q < P.qubits) (qubits_of o qs) → targets_fit o qs ≡ true → f + faults_made_of o (length qs) ≤ length P.faults → AllPass (step_fits P) (operation_steps o r f qs)
 fit_operation P X r f qs applied within pairs room = fit_flips P qs within
 fit_operation P ControlledX r f qs applied within pairs room = fit_pairs P gate.CX qs (record { pair = refl }) within pairs
 fit_operation P Swap r f qs applied within pairs room = fit_pairs P gate.Swap qs (record { pair = refl }) within pairs
 fit_operation P Measure r f qs applied within pairs room = fit_measures P r qs within
 fit_operation P Reset r f qs applied within pairs room = fit_resets P qs within
 fit_operation P XError r f qs applied within pairs room = fit_faults P f qs applied room
+fit_operation P Detector r f qs applied within pairs room = All-nil (λ (s : Step). step_fits P s ≡ true)
 
 pub steps_from-fit : (P : Listing) (r f : ℕ) (is : List Instruction) → IsApplied P → qubit_total is ≤ P.qubits → f + total fault_count is ≤ length P.faults → All IsInstruction is → AllPass (step_fits P) (steps_from r f is)
 unfolding steps_from qubit_total total
 steps_from-fit P r f [] applied qubits room fit = All-nil (λ (s : Step). step_fits P s ≡ true)
 steps_from-fit P r f (i ∷ is) applied qubits room fit =
     let first = All-head IsInstruction i is fit in
-    let here = le-max_left (qubits_to i.targets) (qubit_total is) in
-    let rest = le-max_right (qubits_to i.targets) (qubit_total is) in
+    let here = le-max_left (qubits_to (qubits_of i.operation i.targets)) (qubit_total is) in
+    let rest = le-max_right (qubits_to (qubits_of i.operation i.targets)) (qubit_total is) in
     All-append (λ (s : Step). step_fits P s ≡ true) (operation_steps i.operation r f i.targets) (steps_from (r + record_count i) (f + fault_count i) is)
-    (fit_operation P i.operation r f i.targets applied (qubits_within P.qubits i.targets (omega (arith, here))) first.paired (omega arith))
+    (fit_operation P i.operation r f i.targets applied (qubits_within P.qubits (qubits_of i.operation i.targets) (omega (arith, here))) first.paired (omega arith))
     (steps_from-fit P (r + record_count i) (f + fault_count i) is applied (omega (arith, rest)) (omega arith) (All-tail IsInstruction i is fit))
 
 -- ---- the steps are classical
@@ -185,6 +188,7 @@ classical_operation P Swap r f qs h = classical_pairs P gate.Swap qs refl
 classical_operation P Measure r f qs h = classical_measures P r qs
 classical_operation P Reset r f qs h = All-map (λ (s : Step). is_classical_step P s ≡ true) reset_step qs (λ k d lt. refl)
 classical_operation P XError r f qs h = classical_faults P f qs h
+classical_operation P Detector r f qs h = All-nil (λ (s : Step). is_classical_step P s ≡ true)
 
 pub steps_from-classical : (P : Listing) (r f : ℕ) (is : List Instruction) → ((k : ℕ) → is_classical_effect (effect_at P k) ≡ true) → AllPass (is_classical_step P) (steps_from r f is)
 unfolding steps_from

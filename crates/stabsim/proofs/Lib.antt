@@ -3,6 +3,7 @@ mod BitsSteps
 mod BitsWords
 pub mod BitsRuns
 pub mod CircuitLemmas
+pub mod DetectorLemmas
 pub mod Differences
 pub mod FaultLemmas
 pub mod FittingLemmas

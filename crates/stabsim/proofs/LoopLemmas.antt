@@ -3,10 +3,10 @@ use Rattle.std.proofs.Common.{◌≡◌, ℕ, ◌+◌, ◌<◌, ◌≤◌, List,
 use Rattle.std.specs.Prelude.{max}
 use Rattle.std.proofs.lemmas.List.{append-nil, drop_more, drop_all}
 use Rattle.stabsim.specs.declared.circuit.Operation.{Operation}
-use Rattle.stabsim.specs.declared.circuit.Operation.TheVariants.{X, ControlledX, Swap, Measure, Reset, XError}
+use Rattle.stabsim.specs.declared.circuit.Operation.TheVariants.{X, ControlledX, Swap, Measure, Reset, XError, Detector}
 use Rattle.stabsim.specs.Instructions.{Instruction}
-use Rattle.stabsim.specs.Totals.{total, qubit_total, qubits_to, record_count, records_made_of, fault_count, faults_made_of}
-use Rattle.stabsim.specs.Unrolled.{faults_of, instruction_faults, instruction_steps, steps_from}
+use Rattle.stabsim.specs.Totals.{total, qubit_total, qubits_of, qubits_to, record_count, records_made_of, fault_count, faults_made_of}
+use Rattle.stabsim.specs.Unrolled.{detectors_from, operation_detectors, faults_of, instruction_faults, instruction_steps, steps_from}
 
 -- the element that was read stands first in what is left
 pub drop_read : {X : Type 0} (xs : List X) (i : ℕ) (x : X) → i < length xs → x ≡ get_or xs i x → drop i xs ≡ x ∷ drop (i + 1) xs
@@ -28,7 +28,7 @@ pub total-done : (count : Instruction → ℕ) (is : List Instruction) (k : ℕ)
 unfolding total
 total-done count is k le = ap (total count) (drop_all k is le)
 
-pub qubit_total-next : (is : List Instruction) (k : ℕ) (i : Instruction) → k < length is → i ≡ get_or is k i → qubit_total (drop k is) ≡ max (qubits_to i.targets) (qubit_total (drop (k + 1) is))
+pub qubit_total-next : (is : List Instruction) (k : ℕ) (i : Instruction) → k < length is → i ≡ get_or is k i → qubit_total (drop k is) ≡ max (qubits_to (qubits_of i.operation i.targets)) (qubit_total (drop (k + 1) is))
 unfolding qubit_total
 qubit_total-next is k i lt at = ap qubit_total (drop_read is k i lt at)
 
@@ -60,6 +60,7 @@ records_at_most Swap n = omega arith
 records_at_most Measure n = omega arith
 records_at_most Reset n = omega arith
 records_at_most XError n = omega arith
+records_at_most Detector n = omega arith
 
 pub faults_at_most : (o : Operation) (n : ℕ) → faults_made_of o n ≤ n
 faults_at_most X n = omega arith
@@ -68,3 +69,12 @@ faults_at_most Swap n = omega arith
 faults_at_most Measure n = omega arith
 faults_at_most Reset n = omega arith
 faults_at_most XError n = omega arith
+faults_at_most Detector n = omega arith
+
+pub detectors_from-more : (r : ℕ) (is : List Instruction) (k : ℕ) (i : Instruction) → k < length is → i ≡ get_or is k i → detectors_from r (drop k is) ≡ operation_detectors i.operation r i.targets ++ detectors_from (r + record_count i) (drop (k + 1) is)
+unfolding detectors_from
+detectors_from-more r is k i lt at = ap (detectors_from r) (drop_read is k i lt at)
+
+pub detectors_from-done : (r : ℕ) (is : List Instruction) (k : ℕ) → length is ≤ k → detectors_from r (drop k is) ≡ []
+unfolding detectors_from
+detectors_from-done r is k le = ap (detectors_from r) (drop_all k is le)

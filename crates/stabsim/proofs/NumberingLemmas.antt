@@ -8,7 +8,7 @@ use Rattle.step_model.specs.declared.step.Step.{Step}
 use Rattle.step_model.specs.Sensitivities.{collapse_count}
 use Rattle.step_model.specs.WellFormed.{records_made, step_records, faults_named, step_faults}
 use Rattle.stabsim.specs.declared.circuit.Operation.{Operation}
-use Rattle.stabsim.specs.declared.circuit.Operation.TheVariants.{X, ControlledX, Swap, Measure, Reset, XError}
+use Rattle.stabsim.specs.declared.circuit.Operation.TheVariants.{X, ControlledX, Swap, Measure, Reset, XError, Detector}
 use Rattle.stabsim.specs.Instructions.{Instruction}
 use Rattle.stabsim.specs.Totals.{collapse_count_of, collapses_made_of, fault_count, faults_made_of, record_count, records_made_of, total}
 use Rattle.stabsim.specs.Unrolled.{fault_steps, faults_of, flip_fault, flip_step, instruction_faults, measure_steps, operation_faults, operation_steps, pair_steps, reset_step, steps_from}
@@ -56,6 +56,7 @@ collapses-operation Swap r f qs = collapses-pairs gate.Swap qs
 collapses-operation Measure r f qs = collapses-measures r qs
 collapses-operation Reset r f qs = collapses-resets qs
 collapses-operation XError r f qs = collapses-faults f qs
+collapses-operation Detector r f qs = refl
 
 pub collapse_count-steps_from : (r f : ℕ) (is : List Instruction) → collapse_count (steps_from r f is) ≡ total collapse_count_of is
 unfolding steps_from total
@@ -98,6 +99,7 @@ records-operation Swap r f qs = records-pairs gate.Swap qs
 records-operation Measure r f qs = records-measures r qs
 records-operation Reset r f qs = records-resets qs
 records-operation XError r f qs = records-faults f qs
+records-operation Detector r f qs = refl
 
 pub records_made-steps_from : (r f : ℕ) (is : List Instruction) → records_made (steps_from r f is) ≡ range_with_len r (total record_count is)
 unfolding steps_from total
@@ -140,6 +142,7 @@ named-operation Swap r f qs = named-pairs gate.Swap qs
 named-operation Measure r f qs = named-measures r qs
 named-operation Reset r f qs = named-resets qs
 named-operation XError r f qs = named-faults f qs
+named-operation Detector r f qs = refl
 
 pub faults_named-steps_from : (r f : ℕ) (is : List Instruction) → faults_named (steps_from r f is) ≡ range_with_len f (total fault_count is)
 unfolding steps_from total
@@ -153,6 +156,7 @@ length-operation_faults ControlledX text qs = refl
 length-operation_faults Swap text qs = refl
 length-operation_faults Measure text qs = refl
 length-operation_faults Reset text qs = refl
+length-operation_faults Detector text qs = refl
 length-operation_faults XError text qs = length-map qs (flip_fault text)
 
 pub length-faults_of : (is : List Instruction) → length (faults_of is) ≡ total fault_count is

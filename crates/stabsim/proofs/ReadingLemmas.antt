@@ -1,18 +1,20 @@
 -- What a line says, from its first piece and its targets, and what holds of an instruction that was read.
-use Rattle.std.proofs.Common.{◌≡◌, ℕ, ◌<◌, Bool, true, false, cond, eqb, List, [], ◌∷◌, length, Option, None, Some, refl, ap, sym, subst, arith}
-use Rattle.std.specs.Prelude.{◌&&◌, nat_le, option_map, All}
+use Rattle.std.proofs.Common.{◌≡◌, ℕ, ◌+◌, ◌-◌, ◌*◌, ◌<◌, ◌≤◌, not, Bool, true, false, cond, eqb, List, [], ◌∷◌, length, Option, None, Some, refl, ap, sym, subst, arith}
+use Rattle.std.specs.Prelude.{◌&&◌, ◌==◌, nat_le, bytes_eq, codes, fold, take, drop, option_and_then, option_map, All}
+use Rattle.std.proofs.Math.Nat.{pow-le-pow_right}
 use Rattle.std.specs.List.{before_first, list_all}
 use Rattle.std.specs.Char.{is_ascii_digit}
-use Rattle.std.proofs.lemmas.Bool.{and_parts, leb-true}
+use Rattle.std.proofs.lemmas.Bool.{and_parts, eqb-false, leb-true, not-true}
 use Rattle.std.proofs.lemmas.List.Elements.{All-cons, All-nil}
 use Rattle.std.proofs.lemmas.Option.{cond_some, option_and_then_some, same_Some}
 use Rattle.step_model.specs.Probabilities.{digits_value}
 use Rattle.stabsim.specs.declared.circuit.Operation.{Operation}
-use Rattle.stabsim.specs.declared.circuit.Operation.TheVariants.{X, ControlledX, Swap, Measure, Reset, XError}
-use Rattle.stabsim.specs.Instructions.{Instruction, Takes, Refuses, IsInstruction, argument_of, head_of, in_parentheses, instruction_in, is_argument, is_parenthesis, is_plain_probability, operation_named, qubit_of, reading_of, taken_or_refused, targets_fit, targets_of}
+use Rattle.stabsim.specs.declared.circuit.Operation.TheVariants.{X, ControlledX, Swap, Measure, Reset, XError, Detector}
+use Rattle.stabsim.specs.Instructions.{Instruction, Takes, Refuses, IsInstruction, IsTarget, argument_of, before_bracket, head_of, in_parentheses, instruction_in, is_argument, is_parenthesis, is_plain_probability, lookback_of, operation_named, qubit_of, reading_of, taken_or_refused, target_of, targets_fit, targets_of, way_back}
 use Rattle.stabsim.specs.Lines.{is_space, from_first, pieces_of}
 use Rattle.stabsim.specs.Pieces.{pieces_after}
 use Rattle.stabsim.proofs.LineLemmas.{pieces_of-first}
+use Rattle.stabsim.proofs.ProbabilityLemmas.{digits_value-below}
 
 -- a line that isn't empty, cut behind its first piece
 pub record IsCut (line first rest : List ℕ) : Type 0 where
@@ -30,15 +32,15 @@ pub refused_by_head : (number : ℕ) (line first rest : List ℕ) → IsCut line
 unfolding instruction_in
 refused_by_head number line first rest cut none = rw (reading_of-cut number line first rest cut, ← none) refl
 
-pub refused_by_targets : (number : ℕ) (line first rest : List ℕ) (o : Operation) (a : List ℕ) → IsCut line first rest → Some (o, a) ≡ head_of first → targets_of (pieces_after rest) ≡ None → Refuses ≡ reading_of number line
+pub refused_by_targets : (number : ℕ) (line first rest : List ℕ) (o : Operation) (a : List ℕ) → IsCut line first rest → Some (o, a) ≡ head_of first → targets_of o (pieces_after rest) ≡ None → Refuses ≡ reading_of number line
 unfolding instruction_in
 refused_by_targets number line first rest o a cut head none = rw (reading_of-cut number line first rest cut, ← head, none) refl
 
-pub refused_by_fit : (number : ℕ) (line first rest : List ℕ) (o : Operation) (a ts : List ℕ) → IsCut line first rest → Some (o, a) ≡ head_of first → targets_of (pieces_after rest) ≡ Some ts → targets_fit o ts ≡ false → Refuses ≡ reading_of number line
+pub refused_by_fit : (number : ℕ) (line first rest : List ℕ) (o : Operation) (a ts : List ℕ) → IsCut line first rest → Some (o, a) ≡ head_of first → targets_of o (pieces_after rest) ≡ Some ts → targets_fit o ts ≡ false → Refuses ≡ reading_of number line
 unfolding instruction_in
 refused_by_fit number line first rest o a ts cut head targets fit = rw (reading_of-cut number line first rest cut, ← head, targets, fit) refl
 
-pub taken : (number : ℕ) (line first rest : List ℕ) (o : Operation) (a ts : List ℕ) → IsCut line first rest → Some (o, a) ≡ head_of first → targets_of (pieces_after rest) ≡ Some ts → targets_fit o ts ≡ true → Takes (record { line = number; operation = o; argument = a; targets = ts }) ≡ reading_of number line
+pub taken : (number : ℕ) (line first rest : List ℕ) (o : Operation) (a ts : List ℕ) → IsCut line first rest → Some (o, a) ≡ head_of first → targets_of o (pieces_after rest) ≡ Some ts → targets_fit o ts ≡ true → Takes (record { line = number; operation = o; argument = a; targets = ts }) ≡ reading_of number line
 unfolding instruction_in
 taken number line first rest o a ts cut head targets fit = rw (reading_of-cut number line first rest cut, ← head, targets, fit) refl
 
@@ -48,6 +50,10 @@ option_map_some : {A B : Type 0} (f : A → B) (o : Option A) (y : B) → option
 option_map_some f None y e = absurd cc
 option_map_some f (Some x) y e = (x, refl, same_Some _ _ e)
 
+some_where : {A : Type 0} (b : Bool) (o : Option A) (x : A) → cond b o None ≡ Some x → o ≡ Some x
+some_where true o x e = e
+some_where false o x e = absurd cc
+
 qubit_small : (piece : List ℕ) (q : ℕ) → qubit_of piece ≡ Some q → q < 4096
 unfolding qubit_of
 qubit_small piece q e =
@@ -56,13 +62,54 @@ qubit_small piece q e =
     let last = and_parts digits (nat_le (digits_value piece) 4095) parts.0 in
     omega (arith, leb-true (digits_value piece) 4095 last.1, parts.1)
 
-targets_small : (pieces : List (List ℕ)) (ts : List ℕ) → targets_of pieces ≡ Some ts → All (λ q. q < 4096) ts
+-- a number of digits of which the first isn't 0 is at least 1
+fold_grows : (digits : List ℕ) (a : ℕ) → a ≤ fold (λ n d. 10 * n + (d - 48)) a digits
+fold_grows [] a = omega arith
+fold_grows (d ∷ digits) a = omega (arith, fold_grows digits (10 * a + (d - 48)))
+
+way_back_fits : (digits : List ℕ) (k : ℕ) → way_back digits ≡ Some k → (0 < k) × (k < 10000000)
+way_back_fits [] k e = absurd cc
+way_back_fits (d ∷ digits) k e =
+    let whole = d ∷ digits in
+    let counted = nat_le 1 (length whole) && nat_le (length whole) 7 in
+    let begun = not (d == 48) in
+    let all = list_all is_ascii_digit whole in
+    let parts = cond_some (counted && begun && all) (digits_value whole) k e in
+    let front = and_parts (counted && begun) all parts.0 in
+    let first = and_parts counted begun front.0 in
+    let few = and_parts (nat_le 1 (length whole)) (nat_le (length whole) 7) first.0 in
+    let digit = and_parts (is_ascii_digit d) (list_all is_ascii_digit digits) front.1 in
+    let above : 48 ≤ d = grind arith in
+    let other = eqb-false d 48 (not-true (d == 48) first.1) in
+    let grows = fold_grows digits (d - 48) in
+    let start : fold (λ n d. 10 * n + (d - 48)) (d - 48) digits ≡ digits_value whole = ap (λ a. fold (λ n d. 10 * n + (d - 48)) a digits) (let z : d - 48 ≡ 10 * 0 + (d - 48) = omega arith in z) in
+    let below = digits_value-below whole front.1 in
+    let power = pow-le-pow_right {n = 10} (omega arith) (leb-true (length whole) 7 few.1) in
+    (omega (arith, parts.1, grows, start, above, other), omega (arith, parts.1, below, power))
+
+lookback_fits : (piece : List ℕ) (k : ℕ) → lookback_of piece ≡ Some k → (0 < k) × (k < 10000000)
+unfolding lookback_of
+lookback_fits piece k e =
+    let some = some_where (bytes_eq (take 5 piece) (codes "rec[-")) (option_and_then way_back (before_bracket (drop 5 piece))) k e in
+    option_and_then_some way_back (before_bracket (drop 5 piece)) k some (λ digits at_digits rest. way_back_fits digits k rest)
+
+target_fits : (o : Operation) (piece : List ℕ) (t : ℕ) → target_of o piece ≡ Some t → IsTarget o t
+unfolding target_of
+target_fits X piece t e = qubit_small piece t e
+target_fits ControlledX piece t e = qubit_small piece t e
+target_fits Swap piece t e = qubit_small piece t e
+target_fits Measure piece t e = qubit_small piece t e
+target_fits Reset piece t e = qubit_small piece t e
+target_fits XError piece t e = qubit_small piece t e
+target_fits Detector piece t e = lookback_fits piece t e
+
+targets_small : (o : Operation) (pieces : List (List ℕ)) (ts : List ℕ) → targets_of o pieces ≡ Some ts → All (IsTarget o) ts
 unfolding targets_of
-targets_small [] ts e = subst (λ (xs : List ℕ). All (λ q. q < 4096) xs) (same_Some _ _ e) (All-nil (λ q. q < 4096))
-targets_small (piece ∷ pieces) ts e =
-    option_and_then_some (λ q. option_map (λ qs. q ∷ qs) (targets_of pieces)) (qubit_of piece) ts e (λ q at_q rest.
-    let more = option_map_some (λ qs. q ∷ qs) (targets_of pieces) ts rest in
-    subst (λ (xs : List ℕ). All (λ x. x < 4096) xs) more.2 (All-cons (λ x. x < 4096) q more.0 (qubit_small piece q at_q) (targets_small pieces more.0 more.1)))
+targets_small o [] ts e = subst (λ (xs : List ℕ). All (IsTarget o) xs) (same_Some _ _ e) (All-nil (IsTarget o))
+targets_small o (piece ∷ pieces) ts e =
+    option_and_then_some (λ q. option_map (λ qs. q ∷ qs) (targets_of o pieces)) (target_of o piece) ts e (λ q at_q rest.
+    let more = option_map_some (λ qs. q ∷ qs) (targets_of o pieces) ts rest in
+    subst (λ (xs : List ℕ). All (IsTarget o) xs) more.2 (All-cons (IsTarget o) q more.0 (target_fits o piece q at_q) (targets_small o pieces more.0 more.1)))
 
 argument_probable : (text a : List ℕ) → argument_of XError text ≡ Some a → is_plain_probability a ≡ true
 argument_probable text a e =
@@ -79,6 +126,7 @@ argument_fits ControlledX text a e = nothing_left X _ a e
 argument_fits Swap text a e = nothing_left X _ a e
 argument_fits Measure text a e = nothing_left X _ a e
 argument_fits Reset text a e = nothing_left X _ a e
+argument_fits Detector text a e = nothing_left X _ a e
 argument_fits XError text a e = argument_probable text a e
 
 head_argued : (piece : List ℕ) (head : Operation × List ℕ) → head_of piece ≡ Some head → is_argument head.0 head.1 ≡ true
@@ -94,10 +142,10 @@ unfolding instruction_in
 instruction_fits number [] i e = absurd cc
 instruction_fits number (first ∷ pieces) i e =
     option_and_then_some _ (head_of first) i e (λ head at_head rest.
-    option_and_then_some _ (targets_of pieces) i rest (λ ts at_ts made.
+    option_and_then_some _ (targets_of head.0 pieces) i rest (λ ts at_ts made.
     let parts = cond_some (targets_fit head.0 ts) _ i made in
     subst (λ (x : Instruction). IsInstruction x) parts.1 (record {
-      small = targets_small pieces ts at_ts;
+      small = targets_small head.0 pieces ts at_ts;
       paired = parts.0;
       argued = head_argued first head at_head;
     })))

@@ -3,7 +3,8 @@ use Rattle.std.proofs.Common.{◌≡◌, ℕ, ◌^◌, ◌≤◌, List, [], ◌�
 use Rattle.std.specs.Prelude.{option_map}
 use Rattle.std.proofs.Math.Nat.{pow-le-pow_right}
 use Rattle.std.proofs.lemmas.List.{append-nil}
-use Rattle.stabsim.specs.Instructions.{qubit_of, targets_of}
+use Rattle.stabsim.specs.declared.circuit.Operation.{Operation}
+use Rattle.stabsim.specs.Instructions.{target_of, targets_of}
 
 -- a number of so many digits has room for one more
 pub small_power : (k : ℕ) → k ≤ 17 → 10 ^ k ≤ 10 ^ 17
@@ -18,17 +19,17 @@ regroup : (front : List ℕ) (q : ℕ) (o : Option (List ℕ)) → with_front fr
 regroup front q None = refl
 regroup front q (Some targets) = ap (λ (xs : List ℕ). Some xs) (sym (append_assoc front (q ∷ []) targets))
 
--- one more piece that writes a qubit
-pub with_front-more : (front : List ℕ) (piece : List ℕ) (pieces : List (List ℕ)) (q : ℕ) → Some q ≡ qubit_of piece → with_front front (targets_of (piece ∷ pieces)) ≡ with_front (front ++ q ∷ []) (targets_of pieces)
+-- one more piece that writes a target
+pub with_front-more : (o : Operation) (front : List ℕ) (piece : List ℕ) (pieces : List (List ℕ)) (q : ℕ) → Some q ≡ target_of o piece → with_front front (targets_of o (piece ∷ pieces)) ≡ with_front (front ++ q ∷ []) (targets_of o pieces)
 unfolding targets_of
-with_front-more front piece pieces q h = rw (← h) (regroup front q (targets_of pieces))
+with_front-more o front piece pieces q h = rw (← h) (regroup front q (targets_of o pieces))
 
 -- a piece that writes none
-pub with_front-ends : (front : List ℕ) (piece : List ℕ) (pieces : List (List ℕ)) → None ≡ qubit_of piece → with_front front (targets_of (piece ∷ pieces)) ≡ None
+pub with_front-ends : (o : Operation) (front : List ℕ) (piece : List ℕ) (pieces : List (List ℕ)) → None ≡ target_of o piece → with_front front (targets_of o (piece ∷ pieces)) ≡ None
 unfolding targets_of
-with_front-ends front piece pieces h = rw (← h) refl
+with_front-ends o front piece pieces h = rw (← h) refl
 
 -- no more pieces
-pub with_front-done : (front : List ℕ) → with_front front (targets_of []) ≡ Some front
+pub with_front-done : (o : Operation) (front : List ℕ) → with_front front (targets_of o []) ≡ Some front
 unfolding targets_of
-with_front-done front = ap (λ (xs : List ℕ). Some xs) (append-nil front)
+with_front-done o front = ap (λ (xs : List ℕ). Some xs) (append-nil front)

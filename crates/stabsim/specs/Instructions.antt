@@ -1,17 +1,18 @@
 -- What each line of a circuit's text says. A line is empty, or it is cut at its spaces: the first piece is the name
 -- of an operation in upper case, with a probability in parentheses right after X_ERROR and after no other name, and
 -- each other piece is a target. A qubit is one to four digits of value at most 4,095; the targets of CX and SWAP are
--- pairs of different qubits. A probability is `0`, `1`, or `0.` and one to eighteen digits. Every other line is
--- refused, and so is a text by its first such line. Lines are numbered from 1.
+-- pairs of different qubits. The targets of DETECTOR are `rec[-k]`, with k one to seven digits of which the first isn't
+-- 0: the kth last record before the line. A probability is `0`, `1`, or `0.` and one to eighteen digits. Every other
+-- line is refused, and so is a text by its first such line. Lines are numbered from 1.
 -- (The names are those of Stim's circuit format, github.com/quantumlib/Stim, doc/file_format_stim_circuit.md.)
-use Rattle.std.specs.Prelude.{◌≡◌, ◌+◌, ◌-◌, ◌<◌, ◌==◌, nat_le, ℕ, Bool, true, false, not, ◌&&◌, ◌||◌, if◌then◌else◌, List, [], ◌∷◌, length, All, Option, None, Some, option_and_then, option_map, Result, Ok, Err, codes, bytes_eq, slice_index, slice_range}
+use Rattle.std.specs.Prelude.{◌≡◌, ◌+◌, ◌-◌, ◌<◌, ◌==◌, nat_le, ℕ, Bool, true, false, not, ◌&&◌, ◌||◌, if◌then◌else◌, List, [], ◌∷◌, length, take, drop, All, Option, None, Some, option_and_then, option_map, Result, Ok, Err, codes, bytes_eq, slice_index, slice_range}
 use Rattle.std.specs.Char.{is_ascii_digit}
 use Rattle.std.specs.List.{list_all, before_first}
 use Rattle.step_model.specs.declared.fault.Cause.TheVariants as cause
 use Rattle.step_model.specs.declared.fault.Fault.{Fault}
 use Rattle.step_model.specs.Probabilities.{digits_value}
 use Rattle.stabsim.specs.declared.circuit.Operation.{Operation}
-use Rattle.stabsim.specs.declared.circuit.Operation.TheVariants.{X, ControlledX, Swap, Measure, Reset, XError}
+use Rattle.stabsim.specs.declared.circuit.Operation.TheVariants.{X, ControlledX, Swap, Measure, Reset, XError, Detector}
 use Rattle.stabsim.specs.Lines.{lines_of, pieces_of, from_first}
 
 -- an instruction: the number of its line, what it does, the text in parentheses, and its targets in their order
@@ -39,7 +40,9 @@ operation_named name =
     else
     (if bytes_eq name (codes "R") then Some Reset
     else
-    (if bytes_eq name (codes "X_ERROR") then Some XError else None)))))
+    (if bytes_eq name (codes "X_ERROR") then Some XError
+    else
+    (if bytes_eq name (codes "DETECTOR") then Some Detector else None))))))
 
 abbrev pub is_plain_probability : List ℕ → Bool
 is_plain_probability [] = false
@@ -76,11 +79,37 @@ qubit_of piece =
     then Some (digits_value piece)
     else None
 
+-- what stands before a closing bracket, where a text ends with one
+abbrev pub before_bracket : List ℕ → Option (List ℕ)
+before_bracket text =
+    if nat_le 1 (length text) && slice_index text (length text - 1) == 93
+    then Some (slice_range text 0 (length text - 1))
+    else None
+
+-- how many records a text of digits goes back
+abbrev pub way_back : List ℕ → Option ℕ
+way_back digits =
+    if nat_le 1 (length digits) && nat_le (length digits) 7 && not (slice_index digits 0 == 48) && list_all is_ascii_digit digits
+    then Some (digits_value digits)
+    else None
+
+-- the number k of a piece `rec[-k]`
+unfoldable pub lookback_of : List ℕ → Option ℕ
+lookback_of piece =
+    if bytes_eq (take 5 piece) (codes "rec[-") then option_and_then way_back (before_bracket (drop 5 piece)) else None
+
+-- the target of an operation that a piece writes
+unfoldable pub target_of : Operation → List ℕ → Option ℕ
+target_of Detector piece = lookback_of piece
+target_of operation piece = qubit_of piece
+
 -- the targets that pieces write, where each writes one
-unfoldable pub targets_of : List (List ℕ) → Option (List ℕ)
-targets_of [] = Some []
-targets_of (piece ∷ pieces) =
-    option_and_then (λ target. option_map (λ targets. target ∷ targets) (targets_of pieces)) (qubit_of piece)
+unfoldable pub targets_of : Operation → List (List ℕ) → Option (List ℕ)
+targets_of operation [] = Some []
+targets_of operation (piece ∷ pieces) =
+    option_and_then
+    (λ target. option_map (λ targets. target ∷ targets) (targets_of operation pieces))
+    (target_of operation piece)
 
 -- pairs of different qubits, one after another
 abbrev pub are_pairs : List ℕ → Bool
@@ -102,7 +131,7 @@ instruction_in number (first ∷ pieces) =
     (λ targets. if targets_fit head.0 targets
     then Some (record { line = number; operation = head.0; argument = head.1; targets = targets })
     else None)
-    (targets_of pieces))
+    (targets_of head.0 pieces))
     (head_of first)
 
 abbrev pub taken_or_refused : Option Instruction → Reading
@@ -138,8 +167,13 @@ abbrev pub is_argument : Operation → List ℕ → Bool
 is_argument XError text = is_plain_probability text
 is_argument operation text = length text == 0
 
+-- a qubit, or for a detector how many records a target goes back
+abbrev pub IsTarget : Operation → ℕ → Type 0
+IsTarget Detector k = (0 < k) × (k < 10000000)
+IsTarget operation q = q < 4096
+
 -- what holds of each instruction that is read
 pub record IsInstruction (instruction : Instruction) : Type 0 where
-  pub small : All (λ q. q < 4096) instruction.targets
+  pub small : All (IsTarget instruction.operation) instruction.targets
   pub paired : targets_fit instruction.operation instruction.targets ≡ true
   pub argued : is_argument instruction.operation instruction.argument ≡ true

@@ -6,7 +6,8 @@ use flat_lists::FlatLists;
 use std::alloc::{AllocError, Allocator};
 use std::marker::Model;
 
-/// What an instruction does to each of its targets, or to each pair of them.
+/// What an instruction does to each of its targets, or to each pair of them. A detector does nothing: its targets
+/// say how many records each goes back.
 #[derive(Clone, Copy, Debug, PartialEq, Eq)]
 pub(crate) enum Operation {
     X,
@@ -15,6 +16,7 @@ pub(crate) enum Operation {
     Measure,
     Reset,
     XError,
+    Detector,
 }
 
 /// An instruction without its targets: what it does, the text in parentheses behind its name, and its line from 1.

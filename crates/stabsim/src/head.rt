@@ -18,6 +18,7 @@ fn operation_named(name: &[u8]) -> Option<Operation>
         b"M" => Some(Operation::Measure),
         b"R" => Some(Operation::Reset),
         b"X_ERROR" => Some(Operation::XError),
+        b"DETECTOR" => Some(Operation::Detector),
         _ => None,
     }
 }

@@ -5,6 +5,7 @@
 
 mod circuit;
 mod detections;
+mod detectors;
 mod faults;
 mod head;
 mod line;

@@ -50,7 +50,7 @@ fn read_line<'a, A: Allocator + Copy>(
     let Some((operation, argument)) = head_of(first) else {
         return Ok(Line::Refuses);
     };
-    let all = read_targets(targets, rest)?;
+    let all = read_targets(targets, operation, rest)?;
     if !all || !targets_fit(operation, targets) {
         return Ok(Line::Refuses);
     }

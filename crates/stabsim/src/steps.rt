@@ -119,6 +119,7 @@ fn push_steps<A: Allocator + Copy>(
         Operation::Measure => push_measures(steps, records, targets),
         Operation::Reset => push_resets(steps, targets),
         Operation::XError => push_faults(steps, faults, targets),
+        Operation::Detector => Ok(()),
     }
 }
 

@@ -1,10 +1,11 @@
-ghost use Rattle.std.specs.Prelude.{◌≡◌, ◌^◌, ◌<◌, ◌≤◌, length, IfOk, IfSome, MatchBool, None, Some, if◌then◌else◌};
+ghost use Rattle.std.specs.Prelude.{◌≡◌, ◌^◌, ◌<◌, ◌≤◌, length, IfOk, IfSome, MatchBool, None, Some, if◌then◌else◌, option_map};
 ghost use Rattle.std.specs.Char.{is_ascii_digit};
 ghost use Rattle.std.specs.List.{list_all};
 ghost use Rattle.step_model.specs.Probabilities.{digits_value};
-ghost use Rattle.stabsim.specs.Instructions.{are_pairs, qubit_of, targets_of};
+ghost use Rattle.stabsim.specs.Instructions.{are_pairs, before_bracket, lookback_of, qubit_of, target_of, targets_of, way_back};
 ghost use Rattle.stabsim.specs.Pieces.{pieces_after};
 
+use crate::circuit::Operation;
 use crate::line::cut_at;
 use std::alloc::{AllocError, Allocator};
 
@@ -40,24 +41,67 @@ fn qubit_of(piece: &[u8]) -> Option<u32>
     }
 }
 
+/// What stands before a closing bracket.
+fn before_bracket(text: &[u8]) -> Option<&[u8]>
+    ensures { option_map (λ inner. inner.now) result ≡ before_bracket text.now }
+{
+    match text {
+        [inner @ .., b']'] => Some(inner),
+        _ => None,
+    }
+}
+
+/// How many records a text of digits goes back.
+fn way_back(digits: &[u8]) -> Option<u32>
+    ensures { result ≡ way_back digits.now }
+{
+    if digits.is_empty() || digits.len() > 7 || digits[0] == b'0' {
+        return None;
+    }
+    let number = number_of(digits)?;
+    Some(number as u32)
+}
+
+/// How many records a target `rec[-k]` goes back.
+#[tactic(auto, unfolding(crate::specs::Instructions::lookback_of))]
+fn lookback_of(piece: &[u8]) -> Option<u32>
+    ensures { result ≡ lookback_of piece.now }
+{
+    let rest = piece.strip_prefix(b"rec[-")?;
+    let digits = before_bracket(rest)?;
+    way_back(digits)
+}
+
+/// The target of an operation.
+#[tactic(auto, unfolding(crate::specs::Instructions::target_of))]
+fn target_of(operation: Operation, piece: &[u8]) -> Option<u32>
+    ensures { result ≡ target_of operation piece.now }
+{
+    match operation {
+        Operation::Detector => lookback_of(piece),
+        _ => qubit_of(piece),
+    }
+}
+
 /// Puts the targets of a line in place of those that were there. The rest of the line, behind its first piece, is
 /// empty or begins with a space.
 pub(crate) fn read_targets<A: Allocator + Copy>(
     targets: &mut Vec<u32, A>,
+    operation: Operation,
     rest: &[u8],
 ) -> Result<bool, AllocError>
     ensures { IfOk result (λ all. MatchBool all
-        (targets_of (pieces_after rest.now) ≡ Some targets.new.items)
-        (targets_of (pieces_after rest.now) ≡ None)) }
+        (targets_of operation (pieces_after rest.now) ≡ Some targets.new.items)
+        (targets_of operation (pieces_after rest.now) ≡ None)) }
 {
     targets.clear();
     let mut rest = rest;
     while let [_, after @ ..] = rest {
         let (piece, next) = cut_at(after, b' ');
-        let Some(qubit) = qubit_of(piece) else {
+        let Some(target) = target_of(operation, piece) else {
             return Ok(false);
         };
-        targets.push(qubit)?;
+        targets.push(target)?;
         rest = next;
     }
     Ok(true)

@@ -1,5 +1,6 @@
-ghost use Rattle.std.specs.Prelude.{◌≡◌, ◌^◌, ◌<◌, ◌≤◌, ◌-◌, All, min};
-ghost use Rattle.stabsim.specs.Totals.{collapse_count_of, collapses_made_of, faults_made_of, qubit_total, qubits_to, record_count, records_made_of, step_count, total};
+ghost use Rattle.std.specs.Prelude.{◌≡◌, ◌^◌, ◌<◌, ◌≤◌, ◌-◌, if◌then◌else◌, All, min};
+ghost use Rattle.stabsim.specs.Instructions.{IsTarget};
+ghost use Rattle.stabsim.specs.Totals.{collapse_count_of, collapses_made_of, detector_count, is_detector, qubits_of, faults_made_of, qubit_total, qubits_to, record_count, records_made_of, step_count, total};
 
 use crate::circuit::{Circuit, Operation};
 use std::alloc::Allocator;
@@ -10,6 +11,7 @@ pub(crate) struct Totals {
     pub qubits: u32,
     pub records: u64,
     pub collapses: u64,
+    pub detectors: u64,
     pub steps: u64,
 }
 
@@ -56,29 +58,55 @@ fn qubits_to(targets: &[u32]) -> u32
     qubits
 }
 
+/// One more than the greatest of the qubits that an instruction names.
+fn qubits_named(operation: Operation, targets: &[u32]) -> u32
+    requires { All (IsTarget operation) targets.now }
+    ensures value { result ≡ qubits_to (qubits_of operation targets.now) }
+    ensures small { result ≤ 4096 }
+{
+    match operation {
+        Operation::Detector => 0,
+        _ => qubits_to(targets),
+    }
+}
+
+/// How many detectors an instruction makes.
+fn detectors_made(operation: Operation) -> u64
+    ensures { result ≡ (if is_detector operation then 1 else 0) }
+{
+    match operation {
+        Operation::Detector => 1,
+        _ => 0,
+    }
+}
+
 /// The totals of a circuit.
 pub(crate) fn totals_of<A: Allocator + Copy>(circuit: &Circuit<A>) -> Totals
     ensures qubits { result.qubits ≡ qubit_total circuit.now }
     ensures records { result.records ≡ min (total record_count circuit.now) (2 ^ 64 - 1) }
     ensures collapses { result.collapses ≡ min (total collapse_count_of circuit.now) (2 ^ 64 - 1) }
+    ensures detectors { result.detectors ≡ min (total detector_count circuit.now) (2 ^ 64 - 1) }
     ensures steps { result.steps ≡ min (total step_count circuit.now) (2 ^ 64 - 1) }
 {
     let mut qubits: u32 = 0;
     let mut records: u64 = 0;
     let mut collapses: u64 = 0;
+    let mut detectors: u64 = 0;
     let mut steps: u64 = 0;
     for i in 0..circuit.len() {
         let (heading, targets) = circuit.get(i);
         let count = targets.len();
-        qubits = qubits.max(qubits_to(targets));
+        qubits = qubits.max(qubits_named(heading.operation, targets));
         records = records.saturating_add(records_made_of(heading.operation, count) as u64);
         collapses = collapses.saturating_add(collapses_made_of(heading.operation, count) as u64);
+        detectors = detectors.saturating_add(detectors_made(heading.operation));
         steps = steps.saturating_add(1).saturating_add(count as u64);
     }
     Totals {
         qubits,
         records,
         collapses,
+        detectors,
         steps,
     }
 }

@@ -1,9 +1,10 @@
-ghost use Rattle.std.specs.Prelude.{◌≡◌, ◌⊎◌, ◌≤◌, IfOk, IfErr, Ok, Err};
+ghost use Rattle.std.specs.Prelude.{◌≡◌, ◌⊎◌, ◌≤◌, IfOk, IfErr, Ok, Err, None};
 ghost use Rattle.stabsim.specs.Classical.{IsClassical};
-ghost use Rattle.stabsim.specs.Totals.{collapse_count_of, qubit_total, record_count, step_count, total};
-ghost use Rattle.stabsim.specs.Unrolled.{listing_of_instructions, out_of_memory, program_of, unrolled};
+ghost use Rattle.stabsim.specs.Totals.{collapse_count_of, detector_count, qubit_total, record_count, step_count, total};
+ghost use Rattle.stabsim.specs.Unrolled.{first_far_line, listing_of_instructions, out_of_memory, program_of, unrolled};
 
 use crate::circuit::Circuit;
+use crate::detectors::{detectors_of, first_far_line, no_coordinates};
 use crate::faults::faults_of;
 use crate::parse::{OUT_OF_MEMORY, parse};
 use crate::steps::steps_of;
@@ -16,6 +17,7 @@ const MAX_RECORDS: u64 = 1_000_000;
 
 const MAX_COLLAPSES: u64 = 1_000_000;
 
+const MAX_DETECTORS: u64 = 1_000_000;
 const MAX_STEPS: u64 = 4_000_000;
 
 /// The program of a circuit whose totals are within the limits.
@@ -29,23 +31,28 @@ fn build<'a, A: Allocator + Copy>(
     requires collapses { totals.collapses ≡ total collapse_count_of circuit.now }
     requires few_records { totals.records ≤ 1000000 }
     requires few_collapses { totals.collapses ≤ 1000000 }
+    requires few_detectors { total detector_count circuit.now ≤ 1000000 }
+    requires in_range { first_far_line 0 circuit.now ≡ None }
     requires few_steps { total step_count circuit.now ≤ 4000000 }
     ensures { IfOk result (λ program. program ≡ listing_of_instructions circuit.now) }
 {
     let steps = steps_of(alloc, circuit)?;
     let faults = faults_of(alloc, circuit)?;
+    let detectors = detectors_of(alloc, circuit)?;
+    let coordinates = no_coordinates(alloc, &detectors)?;
     let _count = circuit.len();
-    Ok(Program::new(Parts {
+    let program = Program::new(Parts {
         qubits: totals.qubits,
         records: totals.records as u32,
         collapses: totals.collapses as u32,
         steps,
-        detectors: FlatLists::new(alloc),
+        detectors,
         observables: FlatLists::new(alloc),
-        coordinates: FlatLists::new(alloc),
+        coordinates,
         faults: faults.parts,
         terms: faults.terms,
-    }))
+    });
+    Ok(program)
 }
 
 /// The program of a circuit.
@@ -56,10 +63,22 @@ pub(crate) fn unroll<'a, A: Allocator + Copy>(
     ensures ok { IfOk result (λ program. unrolled circuit.now ≡ Ok program) }
     ensures err { IfErr result (λ fault. (fault ≡ out_of_memory) ⊎ (unrolled circuit.now ≡ Err fault)) }
 {
+    if let Some(line) = first_far_line(circuit) {
+        return Err(Fault {
+            cause: Cause::RecordBeforeStart,
+            line,
+        });
+    }
     let totals = totals_of(circuit);
     if totals.records > MAX_RECORDS || totals.collapses > MAX_COLLAPSES {
         return Err(Fault {
             cause: Cause::Records,
+            line: 0,
+        });
+    }
+    if totals.detectors > MAX_DETECTORS {
+        return Err(Fault {
+            cause: Cause::Detectors,
             line: 0,
         });
     }

@@ -161,7 +161,7 @@ fn texts_that_are_taken(rt: HostRuntime) -> Result<(), Fail> {
 
 #[test]
 fn lines_that_are_left_out(rt: HostRuntime) -> Result<(), Fail> {
-    let cases: [(&[u8], u64); 30] = [
+    let cases: [(&[u8], u64); 40] = [
         (b"H 0", 1),
         (b"X 0\nH 0", 2),
         (b"X 0\n\nH 0\nH 1\n", 3),
@@ -192,6 +192,16 @@ fn lines_that_are_left_out(rt: HostRuntime) -> Result<(), Fail> {
         (b"X_ERROR(0 0", 1),
         (b"M(0.1) 0", 1),
         (b"X() 0", 1),
+        (b"M 0\nDETECTOR rec[-0]", 2),
+        (b"M 0\nDETECTOR rec[-01]", 2),
+        (b"M 0\nDETECTOR rec[1]", 2),
+        (b"M 0\nDETECTOR rec[-1", 2),
+        (b"M 0\nDETECTOR rec[-]", 2),
+        (b"M 0\nDETECTOR rec[-12345678]", 2),
+        (b"M 0\nDETECTOR 0", 2),
+        (b"M 0\nDETECTOR  rec[-1]", 2),
+        (b"M 0\nDETECTOR(1) rec[-1]", 2),
+        (b"DETECTOR rec[-1]\ndetector", 2),
     ];
     for (text, line) in cases {
         let refused = Fault {
@@ -205,7 +215,7 @@ fn lines_that_are_left_out(rt: HostRuntime) -> Result<(), Fail> {
 
 #[test]
 fn limits(rt: HostRuntime) -> Result<(), Fail> {
-    let cases: [(&[u8], usize, usize, &[u8], Option<Cause>); 8] = [
+    let cases: [(&[u8], usize, usize, &[u8], Option<Cause>); 10] = [
         (b"M", 1000, 1000, b"", None),
         (b"M", 1000, 1000, b"M 0", Some(Cause::Records)),
         (b"R", 1000, 1000, b"", None),
@@ -214,6 +224,8 @@ fn limits(rt: HostRuntime) -> Result<(), Fail> {
         (b"X", 999, 4000, b"X", Some(Cause::Steps)),
         (b"M", 999, 4001, b"", Some(Cause::Records)),
         (b"X", 999, 4000, b"X\nH", Some(Cause::LeftOut)),
+        (b"DETECTOR", 0, 1000000, b"", None),
+        (b"DETECTOR", 0, 1000000, b"DETECTOR", Some(Cause::Detectors)),
     ];
     for (name, targets, lines, last, cause) in cases {
         let text = text_of(rt.alloc(), name, targets, lines, last)?;
@@ -223,6 +235,35 @@ fn limits(rt: HostRuntime) -> Result<(), Fail> {
             cause,
             "{lines} lines, then {last:?}"
         );
+    }
+    Ok(())
+}
+
+#[test]
+fn detectors(rt: HostRuntime) -> Result<(), Fail> {
+    let text = b"DETECTOR\nM 3 3 3\nDETECTOR rec[-1] rec[-3] rec[-1]\nM 0\nDETECTOR rec[-4]";
+    let program = read_program(rt.alloc(), text)?;
+    assert_eq!(rt; program.qubits(), 4);
+    assert_eq!(rt; program.steps().len(), 4);
+    assert_eq!(rt; program.detector_count(), 3);
+    let named: [&[u32]; 3] = [&[], &[2, 0, 2], &[0]];
+    for (detector, records) in named.iter().enumerate() {
+        assert!(rt; detector < program.detector_count());
+        assert_eq!(rt; program.detector(detector), *records, "detector {detector}");
+    }
+    Ok(())
+}
+
+#[test]
+fn detectors_that_are_refused(rt: HostRuntime) -> Result<(), Fail> {
+    let cases: [(&[u8], Cause, u64); 4] = [
+        (b"M 0\nDETECTOR rec[-2]\nDETECTOR rec[-3]", Cause::RecordBeforeStart, 2),
+        (b"DETECTOR rec[-1]\nM 0", Cause::RecordBeforeStart, 1),
+        (b"M 0\n\nDETECTOR rec[-1] rec[-2]", Cause::RecordBeforeStart, 3),
+        (b"DETECTOR rec[-1]\nM 0\nH 0", Cause::LeftOut, 3),
+    ];
+    for (text, cause, line) in cases {
+        assert_eq!(rt; refusal(rt.alloc(), text), Some(Fault { cause, line }), "{text:?}");
     }
     Ok(())
 }

@@ -5,7 +5,7 @@ use Rattle.stabsim.proofs.TargetLemmas.{with_front}
 use Rattle.stabsim.proofs.target.read_targets.Given as goal
 
 abbrev pub invariant-loop-rest : goal.invariant-loop-rest
-invariant-loop-rest g l = with_front l.targets.items (targets_of (pieces_after l.rest)) ≡ targets_of (pieces_after l.fn.rest)
+invariant-loop-rest g l = with_front l.targets.items (targets_of l.operation (pieces_after l.rest)) ≡ targets_of l.operation (pieces_after l.fn.rest)
 
 abbrev pub decreases-loop-rest : goal.decreases-loop-rest
 decreases-loop-rest g l = length l.rest

@@ -1,6 +1,6 @@
 use Rattle.std.proofs.Common.{◌<◌, length, arith}
 use Rattle.stabsim.specs.Circuits.{made_instruction}
-use Rattle.stabsim.specs.Totals.{collapse_count_of, record_count, step_count}
+use Rattle.stabsim.specs.Totals.{collapse_count_of, detector_count, record_count, step_count}
 use Rattle.stabsim.proofs.LoopLemmas.{qubit_total-done, qubit_total-next, total-done, total-more}
 use Rattle.stabsim.proofs.totals.totals_of.Goals as goal
 
@@ -13,13 +13,15 @@ loop-i-preserved g c =
     let qubits = qubit_total-next circuit k i lt c.get.ensures.value in
     let records = total-more record_count circuit k i lt c.get.ensures.value in
     let collapses = total-more collapse_count_of circuit k i lt c.get.ensures.value in
+    let detectors = total-more detector_count circuit k i lt c.get.ensures.value in
     let steps = total-more step_count circuit k i lt c.get.ensures.value in
     record {
-      qubits = omega (arith, qubits, c.qubits_to.ensures.value, c.max-qubits.ensures, c.loop-i.invariant.qubits);
+      qubits = omega (arith, qubits, c.qubits_named.ensures.value, c.max-qubits.ensures, c.loop-i.invariant.qubits);
       records = omega (arith, records, c.saturating_add-records.ensures, c.records_made_of.ensures, c.loop-i.invariant.records);
       collapses = omega (arith, collapses, c.saturating_add-collapses.ensures, c.collapses_made_of.ensures, c.loop-i.invariant.collapses);
+      detectors = omega (arith, detectors, c.saturating_add-detectors.ensures, c.detectors_made.ensures, c.loop-i.invariant.detectors);
       steps = omega (arith, steps, c.saturating_add.ensures, c.saturating_add-steps.ensures, c.loop-i.invariant.steps);
-      fit = (omega (arith, c.saturating_add-records.ensures), omega (arith, c.saturating_add-collapses.ensures), omega (arith, c.saturating_add-steps.ensures));
+      fit = (omega (arith, c.saturating_add-records.ensures), omega (arith, c.saturating_add-collapses.ensures), omega (arith, c.saturating_add-steps.ensures), omega (arith, c.saturating_add-detectors.ensures));
     }
 
 pub returns-clause-qubits : goal.returns-clause-qubits
@@ -33,6 +35,10 @@ returns-clause-records g c =
 pub returns-clause-collapses : goal.returns-clause-collapses
 returns-clause-collapses g c =
     omega (arith, total-done collapse_count_of c.args.circuit.now c.loop-i.i (omega (arith, c.len-i-end.ensures.len)), c.loop-i.invariant.collapses, c.loop-i.invariant.fit.1)
+
+pub returns-clause-detectors : goal.returns-clause-detectors
+returns-clause-detectors g c =
+    omega (arith, total-done detector_count c.args.circuit.now c.loop-i.i (omega (arith, c.len-i-end.ensures.len)), c.loop-i.invariant.detectors, c.loop-i.invariant.fit.3)
 
 pub returns-clause-steps : goal.returns-clause-steps
 returns-clause-steps g c =
