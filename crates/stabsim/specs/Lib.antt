@@ -1,1 +1,4 @@
+pub mod BackwardWords
 pub mod Classical
+pub mod Lines
+pub mod RecordTargets

@@ -1,4 +1,8 @@
 //! The program: reads a circuit from standard input, does what its command line asks, and writes to standard output.
 #![tactic(auto)]
 
+mod backward_words;
+mod model;
+mod record_targets;
+
 fn main() {}
