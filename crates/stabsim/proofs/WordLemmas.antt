@@ -1,6 +1,6 @@
 -- A word beside the product of letters at qubits.
-use Rattle.std.proofs.Common.{◌≡◌, ℕ, ◌<◌, List, [], ◌∷◌, length, refl, ap, sym, ◌∙◌, arith}
-use Rattle.std.specs.Prelude.{All}
+use Rattle.std.proofs.Common.{◌≡◌, ℕ, ◌<◌, Bool, true, false, not, List, [], ◌∷◌, length, refl, ap, sym, ◌∙◌, arith}
+use Rattle.std.specs.Bool.{beq}
 use Rattle.std.proofs.lemmas.List.{length-replicate}
 use Rattle.pauli_word.specs.declared.letter.Letter.{Letter}
 use Rattle.pauli_word.specs.declared.letter.Letter.TheVariants.{I}
@@ -26,3 +26,12 @@ anticommute-term w term terms h =
       (length-lone_letter (length w) term.qubit term.letter ∙ sym (length-word_of_terms (length w) terms))
     ∙ ap (λ x. exclusive_or x (anticommute (word_of_terms (length w) terms) w)) (anticommute-lone_letter (length w) w term.qubit term.letter refl h)
     ∙ ap (exclusive_or (letters_clash term.letter (letter_at w term.qubit))) (anticommute_comm (word_of_terms (length w) terms) w)
+
+-- a truth value changed by another, as the code writes it
+pub flipped_by : (odd clash rest : Bool) → exclusive_or (not (beq odd clash)) rest ≡ exclusive_or odd (exclusive_or clash rest)
+flipped_by false false rest = refl
+flipped_by false true rest = refl
+flipped_by true false false = refl
+flipped_by true false true = refl
+flipped_by true true false = refl
+flipped_by true true true = refl

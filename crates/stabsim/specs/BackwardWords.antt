@@ -1,7 +1,7 @@
 -- Going back over the steps of a program with one word a target: the sensitivity of the target for the steps that come
 -- after. And what is found on the way: the targets that each fault hits, and for each record the targets that name it
 -- an odd number of times.
-use Rattle.std.specs.Prelude.{ℕ, ◌+◌, Bool, false, List, [], ◌∷◌, ◌++◌, map, filter, length, slice_set, slice_index_or}
+use Rattle.std.specs.Prelude.{ℕ, ◌+◌, Bool, false, List, [], ◌∷◌, ◌++◌, map, filter, length, slice_set, slice_index_or, Option, None, Some}
 use Rattle.std.specs.List.{range_with_len}
 use Rattle.gate_table.specs.declared.gate.Gate.{Gate}
 use Rattle.gate_table.specs.Images.{image1, image2}
@@ -10,9 +10,10 @@ use Rattle.pauli_word.specs.Letters.{letter_product}
 use Rattle.pauli_word.specs.Words.{Signed, letter_at, anticommute, identity_word}
 use Rattle.step_model.specs.declared.step.Step.{Step}
 use Rattle.step_model.specs.Hits.{hits_at}
-use Rattle.step_model.specs.Listing.{Listing}
+use Rattle.step_model.specs.declared.step.Term.{Term}
+use Rattle.step_model.specs.Listing.{Listing, word_of_terms}
 use Rattle.step_model.specs.Runs.{signed}
-use Rattle.step_model.specs.Sensitivities.{sensitivity}
+use Rattle.step_model.specs.Sensitivities.{sensitivity, cleared}
 use Rattle.step_model.specs.Targets.{targets_of, target_at, is_listed}
 use Rattle.step_model.specs.WellFormed.{step_faults}
 
@@ -55,10 +56,13 @@ record_targets_below program t = map (naming_below program t) (range_with_len 0 
 abbrev pub record_targets : Listing → List (List ℕ)
 record_targets program = record_targets_below program (length (targets_of program))
 
--- the targets whose words anticommute with a word
-abbrev pub anticommuting : List Letter → List Signed → List ℕ
-anticommuting v words =
-    filter (λ t. anticommute (slice_index_or words t (identity_word 0)).letters v) (range_with_len 0 (length words))
+-- the targets whose words anticommute with the product of letters at qubits
+abbrev pub is_hit_by : List Term → Signed → Bool
+is_hit_by terms w = anticommute w.letters (word_of_terms (length w.letters) terms)
+
+abbrev pub anticommuting : List Term → List Signed → List ℕ
+anticommuting terms words =
+    filter (λ t. is_hit_by terms (slice_index_or words t (identity_word 0))) (range_with_len 0 (length words))
 
 -- the targets that a fault hits at a step; the steps are those after it
 abbrev pub hit_at : Listing → Step → List Step → ℕ → List ℕ
@@ -74,3 +78,12 @@ step_hits program step steps = map (hit_at program step steps) (step_faults step
 abbrev pub hits_found : Listing → List Step → List (List ℕ)
 hits_found program [] = []
 hits_found program (step ∷ steps) = hits_found program steps ++ step_hits program step steps
+
+-- the words with I at a qubit where there is a reset
+abbrev pub cleared_words : Bool → ℕ → List Signed → List Signed
+cleared_words reset q words = map (λ w. signed (cleared reset q w.letters) w.negative) words
+
+-- the list of a record, where there is one
+abbrev pub listed_for : List (List ℕ) → Option ℕ → List ℕ
+listed_for lists None = []
+listed_for lists (Some r) = slice_index_or lists r []
