@@ -1,3 +1,5 @@
+pub mod BackwardLemmas
 pub mod LineLemmas
+pub mod RangeLemmas
 pub mod RecordTargetLemmas
 pub mod WordLemmas

@@ -193,11 +193,18 @@ fn go_back_over_collapse<A: Allocator + Copy>(
     requires record { IfSome rec (λ r. r < length lists.now) }
     ensures { words.new ≡ times_listed letter qubit (listed_for lists.now rec) (cleared_words reset qubit words.old) }
 {
-    if reset {
-        clear(words, qubit);
-    }
+    clear_where(words, reset, qubit);
     if let Some(r) = rec {
         multiply_listed(words, lists.get(r as usize), letter, qubit);
+    }
+}
+
+fn clear_where<A: Allocator + Copy>(words: &mut [Word<A>], reset: bool, qubit: usize)
+    requires { All (λ w. qubit < length w.letters) words.old }
+    ensures { words.new ≡ cleared_words reset qubit words.old }
+{
+    if reset {
+        clear(words, qubit);
     }
 }
 
