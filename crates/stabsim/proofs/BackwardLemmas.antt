@@ -3,8 +3,8 @@ use Rattle.std.proofs.Common.{◌≡◌, ℕ, zero, suc, ◌+◌, ◌<◌, Bool,
 use Rattle.std.specs.Prelude.{All, IfSome, filter, cond, replicate}
 use Rattle.std.specs.List.{range_with_len}
 use Rattle.std.proofs.lemmas.List.{map-id, get_or_at, set_at, length_push, length-map, get_or-map}
-use Rattle.std.proofs.lemmas.List.Elements.{All-map, All-weaker}
-use Rattle.std.proofs.lemmas.List.FromFn.{get_or-map-range_with_len}
+use Rattle.std.proofs.lemmas.List.Elements.{All-map, All-weaker, All-filter}
+use Rattle.std.proofs.lemmas.List.FromFn.{length-map-range_with_len, get_or-map-range_with_len}
 use Rattle.gate_table.specs.declared.gate.Gate.{Gate}
 use Rattle.gate_table.specs.Images.{inverse_of}
 use Rattle.pauli_word.specs.declared.letter.Letter.{Letter}
@@ -15,12 +15,12 @@ use Rattle.step_model.specs.declared.step.Step.TheVariants.{One, Two, Collapse, 
 use Rattle.step_model.specs.Listing.{Listing}
 use Rattle.step_model.specs.Runs.{signed}
 use Rattle.step_model.specs.Sensitivities.{sensitivity, cleared, multiplied}
-use Rattle.step_model.specs.Targets.{targets_of, is_listed}
+use Rattle.step_model.specs.Targets.{targets_of, target_at, is_listed}
 use Rattle.step_model.proofs.ConstancyRuns.{length-sensitivity}
 use Rattle.step_model.proofs.ConstancySteps.{length-cleared}
 use Rattle.step_model.proofs.LoneLetters.{letters_product-lone_letter}
 use Rattle.stabsim.specs.BackwardWords.{words_before, moved_one, moved_two, times_letter, times_listed, cleared_words, listed_for, naming_below, record_targets}
-use Rattle.stabsim.proofs.RangeLemmas.{map_agree}
+use Rattle.stabsim.proofs.RangeLemmas.{map_agree, All-range}
 
 pub cleared_words-nowhere : (q : ℕ) (words : List Signed) → cleared_words false q words ≡ words
 cleared_words-nowhere q words = map-id words
@@ -108,3 +108,19 @@ words_before-collapse program letter q (Some r) reset inverted flip steps h k =
       (λ named. counted program.qubits q letter (cleared reset q (sensitivity program.qubits named steps)) (is_listed named r)
        (length-cleared reset q (sensitivity program.qubits named steps) ∙ length-sensitivity program.qubits named steps) h)
       (targets_of program)))
+
+-- the targets that name a record are among those that there are
+pub listed_in_range : (program : Listing) (rec : Option ℕ) (steps : List Step) → IfSome rec (λ r. r < program.records) → All (λ t. t < length (words_before program steps)) (listed_for (record_targets program) rec)
+listed_in_range program None steps h = λ k d within. absurd (omega arith)
+listed_in_range program (Some r) steps h =
+    let P : List ℕ → Type 0 = λ list. All (λ t. t < length (words_before program steps)) list in
+    subst P (sym (get_or-map-range_with_len (naming_below program (length (targets_of program))) 0 program.records r r [] h (omega arith)))
+    (All-filter (λ d. is_listed (target_at program d) r) (λ t. t < length (words_before program steps)) (range_with_len 0 (length (targets_of program)))
+    (All-weaker (λ t. t < 0 + length (targets_of program)) (λ t. t < length (words_before program steps))
+    (λ t within. omega (arith, length-map (targets_of program) (λ named. signed (sensitivity program.qubits named steps) false)))
+    (range_with_len 0 (length (targets_of program))) (All-range 0 (length (targets_of program)))))
+
+-- there is a list for each record
+pub record_has_list : (program : Listing) (rec : Option ℕ) → IfSome rec (λ r. r < program.records) → IfSome rec (λ r. r < length (record_targets program))
+record_has_list program None h = h
+record_has_list program (Some r) h = omega (arith, length-map-range_with_len (naming_below program (length (targets_of program))) 0 program.records)

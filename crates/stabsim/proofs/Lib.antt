@@ -2,4 +2,5 @@ pub mod BackwardLemmas
 pub mod LineLemmas
 pub mod RangeLemmas
 pub mod RecordTargetLemmas
+pub mod StepLemmas
 pub mod WordLemmas

@@ -1,0 +1,60 @@
+-- What fits of the first of some steps.
+use Rattle.std.proofs.Common.{◌≡◌, ℕ, zero, suc, ◌+◌, ◌<◌, ◌==◌, nat_lt, Bool, true, false, not, ◌&&◌, List, [], ◌∷◌, ◌++◌, length, drop, get_or, Option, None, Some, refl, ap, subst, sym, ◌∙◌, arith}
+use Rattle.std.specs.Prelude.{All, IfSome}
+use Rattle.std.specs.List.{AllPass}
+use Rattle.std.proofs.lemmas.Bool.{and_parts, ltb-true, eqb-true}
+use Rattle.std.proofs.lemmas.List.{drop_more}
+use Rattle.std.proofs.lemmas.List.Elements.{All-append}
+use Rattle.gate_table.specs.declared.gate.Gate.{Gate}
+use Rattle.gate_table.specs.Images.{arity_of}
+use Rattle.pauli_word.specs.declared.letter.Letter.{Letter}
+use Rattle.step_model.specs.declared.step.Step.{Step}
+use Rattle.step_model.specs.declared.step.Step.TheVariants.{One, Two, Collapse, Fault}
+use Rattle.step_model.specs.Listing.{Listing, effect_at}
+use Rattle.step_model.specs.WellFormed.{is_I, step_fits, flip_fits, applies_word, records_made}
+
+-- the first step and those after it
+pub record IsFirst (program : Listing) (steps : List Step) (step : Step) : Type 0 where
+  pub front : steps ≡ step ∷ drop 1 steps
+  pub fits : step_fits program step ≡ true
+  pub records : All (λ r. r < program.records) (records_made (step ∷ drop 1 steps))
+
+pub IsFirst-from : (program : Listing) (steps : List Step) (step : Step) (d : Step) → 0 < length steps → AllPass (step_fits program) steps → All (λ r. r < program.records) (records_made steps) → get_or steps 0 d ≡ step → IsFirst program steps step
+IsFirst-from program steps step d some fits records read =
+    let front : steps ≡ step ∷ drop 1 steps = drop_more steps 0 d some ∙ ap (λ s. s ∷ drop 1 steps) read in
+    let P : List Step → Type 0 = λ xs. All (λ r. r < program.records) (records_made xs) in
+    record {
+      front = front;
+      fits = sym (ap (step_fits program) read) ∙ fits 0 d some;
+      records = subst P front records;
+    }
+
+pub one_qubit_fits : (program : Listing) (gate : Gate) (q : ℕ) → step_fits program (One gate q) ≡ true → q < program.qubits
+one_qubit_fits program gate q h = ltb-true q program.qubits (and_parts (arity_of gate == 1) (nat_lt q program.qubits) h).1
+
+pub two_qubits_fit : (program : Listing) (gate : Gate) (a b : ℕ) → step_fits program (Two gate a b) ≡ true → (a < program.qubits) × (b < program.qubits)
+two_qubits_fit program gate a b h =
+    let three : (arity_of gate == 2 && nat_lt a program.qubits && nat_lt b program.qubits) ≡ true = (and_parts (arity_of gate == 2 && nat_lt a program.qubits && nat_lt b program.qubits) (not (a == b)) h).0 in
+    let two : ((arity_of gate == 2 && nat_lt a program.qubits) ≡ true) × (nat_lt b program.qubits ≡ true) = and_parts (arity_of gate == 2 && nat_lt a program.qubits) (nat_lt b program.qubits) three in
+    (ltb-true a program.qubits (and_parts (arity_of gate == 2) (nat_lt a program.qubits) two.0).1, ltb-true b program.qubits two.1)
+
+pub collapse_qubit_fits : (program : Listing) (letter : Letter) (qubit : ℕ) (rec : Option ℕ) (reset inverted : Bool) (flip : Option ℕ) → step_fits program (Collapse letter qubit rec reset inverted flip) ≡ true → qubit < program.qubits
+collapse_qubit_fits program letter qubit rec reset inverted flip h =
+    ltb-true qubit program.qubits (and_parts (not (is_I letter)) (nat_lt qubit program.qubits) (and_parts (not (is_I letter) && nat_lt qubit program.qubits) (flip_fits program rec flip) h).0).1
+
+-- the record of a collapse is one of the program's
+pub collapse_record_fits : (program : Listing) (letter : Letter) (qubit : ℕ) (rec : Option ℕ) (reset inverted : Bool) (flip : Option ℕ) (steps : List Step) → All (λ r. r < program.records) (records_made (Collapse letter qubit rec reset inverted flip ∷ steps)) → IfSome rec (λ r. r < program.records)
+collapse_record_fits program letter qubit None reset inverted flip steps h = tt
+collapse_record_fits program letter qubit (Some r) reset inverted flip steps h = h 0 r (omega arith)
+
+-- a flip without a record does not fit
+pub flip_has_record : (program : Listing) (letter : Letter) (qubit : ℕ) (rec : Option ℕ) (reset inverted : Bool) (flip : Option ℕ) → step_fits program (Collapse letter qubit rec reset inverted flip) ≡ true → rec ≡ None → flip ≡ None
+flip_has_record program letter qubit rec reset inverted None h e = refl
+flip_has_record program letter qubit None reset inverted (Some f) h e =
+    let flips : flip_fits program None (Some f) ≡ true = (and_parts (not (is_I letter) && nat_lt qubit program.qubits) (flip_fits program None (Some f)) h).1 in cc
+flip_has_record program letter qubit (Some r) reset inverted (Some f) h e = cc
+
+pub fault_fits : (program : Listing) (f : ℕ) → step_fits program (Fault f) ≡ true → (f < length program.faults) × (applies_word (effect_at program f) ≡ true)
+fault_fits program f h =
+    let both : (nat_lt f (length program.faults) ≡ true) × (applies_word (effect_at program f) ≡ true) = and_parts (nat_lt f (length program.faults)) (applies_word (effect_at program f)) h in
+    (ltb-true f (length program.faults) both.0, both.1)
