@@ -1,4 +1,5 @@
 pub mod BackwardLemmas
+pub mod HitLemmas
 pub mod LineLemmas
 pub mod RangeLemmas
 pub mod RecordTargetLemmas

@@ -1,5 +1,5 @@
 -- Lists made from the numbers of a range.
-use Rattle.std.proofs.Common.{◌≡◌, ◌≢◌, ℕ, zero, suc, ◌+◌, ◌<◌, Bool, true, false, List, [], ◌∷◌, ◌++◌, map, length, get_or, set, refl, ap, sym, ◌∙◌, inl, inr, arith, length-set, get_or-set_same, get_or-set_other}
+use Rattle.std.proofs.Common.{◌≡◌, ◌≢◌, ℕ, zero, suc, ◌+◌, ◌≤◌, ◌<◌, Bool, true, false, List, [], ◌∷◌, ◌++◌, map, length, get_or, set, refl, ap, sym, ◌∙◌, inl, inr, arith, length-set, get_or-set_same, get_or-set_other}
 use Rattle.std.specs.Prelude.{filter, cond, All}
 use Rattle.std.specs.List.{range_with_len}
 use Rattle.std.proofs.lemmas.Bool.{cases_eq}
@@ -32,7 +32,7 @@ filter_range_agree p q k (suc m) same =
     ap (λ b. cond b (k ∷ filter p (range_with_len (k + 1) m)) (filter p (range_with_len (k + 1) m))) (same k (omega arith))
     ∙ ap (λ xs. cond (q k) (k ∷ xs) xs) (filter_range_agree p q (k + 1) m (λ x h. same x (omega arith)))
 
-pub map_range_agree : {X : Type 0} (f g : ℕ → X) (k m : ℕ) → ((x : ℕ) → x < k + m → f x ≡ g x) → map f (range_with_len k m) ≡ map g (range_with_len k m)
+pub map_range_agree : {X : Type 0} (f g : ℕ → X) (k m : ℕ) → ((x : ℕ) → k ≤ x → f x ≡ g x) → map f (range_with_len k m) ≡ map g (range_with_len k m)
 map_range_agree f g k zero same = refl
 map_range_agree f g k (suc m) same =
     ap (λ y. y ∷ map f (range_with_len (k + 1) m)) (same k (omega arith))
