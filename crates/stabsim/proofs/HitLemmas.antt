@@ -1,11 +1,12 @@
 -- What is found going back over all steps is, for each fault from the last to the first, the targets that it hits.
-use Rattle.std.proofs.Common.{◌≡◌, ◌≢◌, ℕ, zero, suc, ◌+◌, ◌-◌, ◌≤◌, ◌<◌, ◌==◌, Bool, true, false, ◌&&◌, List, [], ◌∷◌, ◌++◌, map, length, get_or, Option, None, Some, refl, ap, ap₂, subst, sym, ◌∙◌, arith}
+use Rattle.std.proofs.Common.{◌≡◌, ◌≢◌, ℕ, zero, suc, ◌+◌, ◌-◌, ◌≤◌, ◌<◌, ◌==◌, Bool, true, false, not, ◌&&◌, List, [], ◌∷◌, ◌++◌, map, length, get_or, Option, None, Some, refl, ap, ap₂, subst, sym, ◌∙◌, arith}
 use Rattle.std.specs.Prelude.{All, IfSome, filter, reverse}
 use Rattle.std.specs.List.{range_with_len}
 use Rattle.std.specs.Option.{option_to_list}
 use Rattle.std.proofs.lemmas.Bool.{eq-eqb, ne_eqb}
-use Rattle.std.proofs.lemmas.List.{append-nil, reverse-append, get_or-map, length-map}
-use Rattle.std.proofs.lemmas.List.FromFn.{get_or-map-range_with_len}
+use Rattle.std.proofs.lemmas.List.{append-nil, reverse-append, get_or-map, get_or-reverse, length-map, length-reverse, map_push}
+use Rattle.std.proofs.lemmas.List.Elements.{All-map, All-weaker}
+use Rattle.std.proofs.lemmas.List.FromFn.{length-map-range_with_len, get_or-map-range_with_len}
 use Rattle.pauli_word.specs.declared.letter.Letter.{Letter}
 use Rattle.pauli_word.specs.Parity.{exclusive_or}
 use Rattle.pauli_word.specs.Words.{Signed, anticommute, identity_word}
@@ -14,15 +15,16 @@ use Rattle.step_model.specs.declared.step.Step.{Step}
 use Rattle.step_model.specs.declared.step.Step.TheVariants.{One, Two, Collapse, Fault}
 use Rattle.step_model.specs.declared.step.Term.{Term}
 use Rattle.step_model.specs.Hits.{hits_at, hits_among}
-use Rattle.step_model.specs.HitModels.{targets_hit}
-use Rattle.step_model.specs.Listing.{Listing, Applies, effect_at, effect_word, fault_word, word_of_terms}
+use Rattle.step_model.specs.HitModels.{targets_hit, line_of, model_of}
+use Rattle.step_model.specs.ErrorModels.{ErrorLine, ErrorModel}
+use Rattle.step_model.specs.Listing.{Listing, Applies, no_effect, fault_at, effect_at, effect_word, fault_word, word_of_terms}
 use Rattle.step_model.specs.Runs.{signed}
 use Rattle.step_model.specs.Sensitivities.{sensitivity, record_counts}
 use Rattle.step_model.specs.Targets.{targets_of, target_at, is_listed}
-use Rattle.step_model.specs.WellFormed.{IsWellFormed, faults_named, step_faults}
+use Rattle.step_model.specs.WellFormed.{IsWellFormed, FaultFits, EffectFits, faults_named, step_faults}
 use Rattle.step_model.proofs.ConstancyRuns.{length-sensitivity}
 use Rattle.stabsim.specs.BackwardWords.{words_before, naming_below, record_targets, listed_for, is_hit_by, anticommuting, hit_at, step_hits, hits_found}
-use Rattle.stabsim.proofs.RangeLemmas.{filter_range_agree, map_range_agree}
+use Rattle.stabsim.proofs.RangeLemmas.{filter_range_taken, filter_range_left, filter_range_agree, map_range_agree}
 
 first_of_range : (f k m : ℕ) (rest : List ℕ) → f ∷ rest ≡ range_with_len k m → f ≡ k
 first_of_range f k zero rest h = cc
@@ -126,3 +128,53 @@ hits_found-fault program f terms steps applies =
   where
     word : List ℕ → Signed
     word named = signed (sensitivity program.qubits named steps) false
+
+-- the terms of a fault lie within each word
+pub terms_in_range : (program : Listing) (f : ℕ) (terms : List Term) (steps : List Step) → All (FaultFits program.qubits) program.faults → f < length program.faults → Applies terms ≡ effect_at program f → All (λ w. All (λ term. term.qubit < length w.letters) terms) (words_before program steps)
+terms_in_range program f terms steps fits within applies =
+    let inside : All (λ term. term.qubit < program.qubits) terms = subst (EffectFits program.qubits) (sym applies) (fits f no_effect within).effect in
+    All-map (λ w. All (λ term. term.qubit < length w.letters) terms) (λ named. signed (sensitivity program.qubits named steps) false) (targets_of program)
+    (λ k d h. All-weaker (λ term. term.qubit < program.qubits) (λ term. term.qubit < length (sensitivity program.qubits (get_or (targets_of program) k d) steps))
+     (λ term low. omega (arith, low, length-sensitivity program.qubits (get_or (targets_of program) k d) steps)) terms inside)
+
+-- the list found of a fault, counted from the last
+pub found_at : (program : Listing) (found : List (List ℕ)) (f : ℕ) → found ≡ reverse (map (targets_hit program) (range_with_len 0 (length program.faults))) → f < length program.faults → get_or found (length program.faults - 1 - f) [] ≡ targets_hit program f
+found_at program found f h within =
+    let lists : List (List ℕ) = map (targets_hit program) (range_with_len 0 (length program.faults)) in
+    let count : length lists ≡ length program.faults = length-map-range_with_len (targets_hit program) 0 (length program.faults) in
+    let back : length lists - 1 - (length program.faults - 1 - f) ≡ f = omega (arith, count, within) in
+    ap (λ xs. get_or xs (length program.faults - 1 - f) []) h
+    ∙ (get_or-reverse lists (length program.faults - 1 - f) [] (omega (arith, count, within))
+    ∙ (ap (λ i. get_or lists i []) back
+    ∙ get_or-map-range_with_len (targets_hit program) 0 (length program.faults) f f [] within (omega arith)))
+
+pub length-found : (program : Listing) (found : List (List ℕ)) → found ≡ reverse (map (targets_hit program) (range_with_len 0 (length program.faults))) → length found ≡ length program.faults
+length-found program found h =
+    ap length h
+    ∙ (length-reverse (map (targets_hit program) (range_with_len 0 (length program.faults)))
+    ∙ length-map-range_with_len (targets_hit program) 0 (length program.faults))
+
+-- whether a fault has a line
+abbrev pub is_hitting : Listing → ℕ → Bool
+is_hitting program f = not (length (targets_hit program f) == 0)
+
+-- the model with the lines of the faults below f
+abbrev pub model_below : Listing → ℕ → ErrorModel
+model_below program f = record (model_of program) { lines = map (line_of program) (filter (is_hitting program) (range_with_len 0 f)) }
+
+pub model_below-taken : (program : Listing) (f : ℕ) (old new : ErrorModel) (text targets : List ℕ) → old ≡ model_below program f → text ≡ (fault_at program f).text → targets ≡ targets_hit program f → length targets ≢ 0 → new ≡ record old { lines = old.lines ++ record { text = text; targets = targets } ∷ [] } → new ≡ model_below program (f + 1)
+model_below-taken program f old new text targets before is_text are_hit some pushed =
+    let hitting : is_hitting program f ≡ true = ap not (ne_eqb (length (targets_hit program f)) 0 (λ e. some (ap length are_hit ∙ e))) in
+    pushed
+    ∙ (ap (λ m. let pushed_to : ErrorModel = record m { lines = m.lines ++ record { text = text; targets = targets } ∷ [] } in pushed_to) before
+    ∙ (ap₂ (λ t ts. let with_line : ErrorModel = record (model_of program) { lines = map (line_of program) (filter (is_hitting program) (range_with_len 0 f)) ++ record { text = t; targets = ts } ∷ [] } in with_line) is_text are_hit
+    ∙ ap (λ lines. let of_lines : ErrorModel = record (model_of program) { lines = lines } in of_lines)
+      (sym (map_push (line_of program) (filter (is_hitting program) (range_with_len 0 f)) f)
+       ∙ ap (map (line_of program)) (filter_range_taken (is_hitting program) f (filter (is_hitting program) (range_with_len 0 f)) hitting refl))))
+
+pub model_below-left : (program : Listing) (f : ℕ) (old : ErrorModel) (targets : List ℕ) → old ≡ model_below program f → targets ≡ targets_hit program f → length targets ≡ 0 → old ≡ model_below program (f + 1)
+model_below-left program f old targets before are_hit none =
+    let quiet : is_hitting program f ≡ false = ap not (eq-eqb (length (targets_hit program f)) 0 (sym (ap length are_hit) ∙ none)) in
+    before
+    ∙ ap (λ faults. let of_faults : ErrorModel = record (model_of program) { lines = map (line_of program) faults } in of_faults)
+      (filter_range_left (is_hitting program) f (filter (is_hitting program) (range_with_len 0 f)) quiet refl)

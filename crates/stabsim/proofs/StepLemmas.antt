@@ -1,17 +1,17 @@
 -- What fits of the first of some steps.
-use Rattle.std.proofs.Common.{◌≡◌, ℕ, zero, suc, ◌+◌, ◌<◌, ◌==◌, nat_lt, Bool, true, false, not, ◌&&◌, List, [], ◌∷◌, ◌++◌, length, drop, get_or, Option, None, Some, refl, ap, subst, sym, ◌∙◌, arith}
+use Rattle.std.proofs.Common.{◌≡◌, ℕ, zero, suc, ◌+◌, ◌-◌, ◌<◌, ◌==◌, nat_lt, Bool, true, false, not, ◌&&◌, List, [], ◌∷◌, ◌++◌, length, take, drop, get_or, Option, None, Some, refl, ap, subst, sym, ◌∙◌, arith, length-append, length-drop}
 use Rattle.std.specs.Prelude.{All, IfSome}
 use Rattle.std.specs.List.{AllPass}
 use Rattle.std.proofs.lemmas.Bool.{and_parts, ltb-true, eqb-true}
-use Rattle.std.proofs.lemmas.List.{drop_more}
-use Rattle.std.proofs.lemmas.List.Elements.{All-append}
+use Rattle.std.proofs.lemmas.List.{drop_more, take_rest, drop-drop, get_or-drop, get_or-append-add}
 use Rattle.gate_table.specs.declared.gate.Gate.{Gate}
 use Rattle.gate_table.specs.Images.{arity_of}
 use Rattle.pauli_word.specs.declared.letter.Letter.{Letter}
 use Rattle.step_model.specs.declared.step.Step.{Step}
 use Rattle.step_model.specs.declared.step.Step.TheVariants.{One, Two, Collapse, Fault}
 use Rattle.step_model.specs.Listing.{Listing, effect_at}
-use Rattle.step_model.specs.WellFormed.{is_I, step_fits, flip_fits, applies_word, records_made}
+use Rattle.step_model.specs.WellFormed.{is_I, step_fits, flip_fits, applies_word, step_records, records_made, IsWellFormed}
+use Rattle.stabsim.proofs.RangeLemmas.{All-range}
 
 -- the first step and those after it
 pub record IsFirst (program : Listing) (steps : List Step) (step : Step) : Type 0 where
@@ -58,3 +58,40 @@ pub fault_fits : (program : Listing) (f : ℕ) → step_fits program (Fault f) �
 fault_fits program f h =
     let both : (nat_lt f (length program.faults) ≡ true) × (applies_word (effect_at program f) ≡ true) = and_parts (nat_lt f (length program.faults)) (applies_word (effect_at program f)) h in
     (ltb-true f (length program.faults) both.0, both.1)
+
+All-suffix : (P : ℕ → Type 0) (xs ys : List ℕ) → All P (xs ++ ys) → All P ys
+All-suffix P xs ys h k d within = subst P (get_or-append-add xs ys k d) (h (length xs + k) d (omega (arith, length-append xs ys)))
+
+records_fit_later : (program : Listing) (i : ℕ) (steps : List Step) → All (λ r. r < program.records) (records_made steps) → All (λ r. r < program.records) (records_made (drop i steps))
+records_fit_later program zero steps h = h
+records_fit_later program (suc i) [] h = h
+records_fit_later program (suc i) (step ∷ steps) h =
+    records_fit_later program i steps (All-suffix (λ r. r < program.records) (step_records step) (records_made steps) h)
+
+-- the steps of a program from one on
+pub record AreLast (program : Listing) (i : ℕ) (rest : List Step) : Type 0 where
+  pub are : rest ≡ drop i program.steps
+  pub later : drop 1 rest ≡ drop (i + 1) program.steps
+  pub some : 0 < length rest
+  pub steps_fit : AllPass (step_fits program) rest
+  pub records_fit : All (λ r. r < program.records) (records_made rest)
+
+pub AreLast-from : (program : Listing) (steps : List Step) (i : ℕ) → IsWellFormed program → steps ≡ program.steps → i < length steps → AreLast program i (take (length steps - i) (drop i steps))
+AreLast-from program steps i fits same within =
+    let rest : List Step = take (length steps - i) (drop i steps) in
+    let are : rest ≡ drop i program.steps = take_rest steps i ∙ ap (drop i) same in
+    let count : length steps ≡ length program.steps = ap length same in
+    let Fit : List Step → Type 0 = λ xs. AllPass (step_fits program) xs in
+    let Made : List Step → Type 0 = λ xs. All (λ r. r < program.records) (records_made xs) in
+    let Ordered : List ℕ → Type 0 = λ xs. All (λ r. r < program.records) xs in
+    record {
+      are = are;
+      later = ap (drop 1) are ∙ drop-drop 1 i program.steps;
+      some = omega (arith, ap length are, length-drop i program.steps, count, within);
+      steps_fit =
+        subst Fit (sym are)
+        (λ k d h. ap (step_fits program) (get_or-drop i program.steps k d) ∙ fits.steps_fit (i + k) d (omega (arith, h, length-drop i program.steps)));
+      records_fit =
+        subst Made (sym are)
+        (records_fit_later program i program.steps (subst Ordered (sym fits.records_in_order) (λ k d h. omega (arith, All-range 0 program.records k d h))));
+    }

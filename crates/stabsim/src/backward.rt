@@ -93,9 +93,10 @@ fn find_hits<'a, A: Allocator + Copy>(
     let mut words = identity_words(alloc, program.qubits() as usize, target_count(program))?;
     let mut found = FlatLists::new(alloc);
     let steps = program.steps();
-    for i in (0..steps.len()).rev() {
-        note_hits(alloc, program, &steps[i..], &lists, words.as_slice(), &mut found)?;
-        go_back(program, &steps[i..], &lists, words.as_mut_slice());
+    let mut left = steps.len();
+    while left > 0 {
+        left -= 1;
+        pass(alloc, program, &steps[left..], &lists, words.as_mut_slice(), &mut found)?;
     }
     Ok(found)
 }
@@ -149,6 +150,32 @@ fn target<'p, 'a, A: Allocator + Copy>(program: &'p Program<'a, A>, target: usiz
     } else {
         program.observable(target - detectors)
     }
+}
+
+// Passes the first of these steps, which are the last of the program: notes the targets that its fault hits, and
+// takes the words back over it.
+fn pass<'a, A: Allocator + Copy>(
+    alloc: A,
+    program: &Program<'a, A>,
+    steps: &[Step],
+    lists: &RecordTargets<A>,
+    words: &mut [Word<A>],
+    found: &mut FlatLists<u32, A>,
+) -> Result<(), AllocError>
+    requires some { 0 < length steps.now }
+    requires steps_fit { AllPass (step_fits program.now) steps.now }
+    requires records_fit { All (λ r. r < program.now.records) (records_made steps.now) }
+    requires lists { lists.now ≡ record_targets program.now }
+    requires words { words.old ≡ words_before program.now (drop 1 steps.now) }
+    requires few { length words.old ≤ 1001024 }
+    requires faults { All (FaultFits program.now.qubits) program.now.faults }
+    requires found { found.old ≡ hits_found program.now (drop 1 steps.now) }
+    ensures words { OnOk result (words.new ≡ words_before program.now steps.now) }
+    ensures found { OnOk result (found.new ≡ hits_found program.now steps.now) }
+{
+    note_hits(alloc, program, steps, lists, words, found)?;
+    go_back(program, steps, lists, words);
+    Ok(())
 }
 
 // Takes the words back over the first of these steps, which are the last of the program.

@@ -1,0 +1,46 @@
+use Rattle.std.proofs.Common.{◌≡◌, ◌<◌, ◌≤◌, ◌+◌, ◌-◌, ℕ, List, length, drop, take, ap, sym, ◌∙◌, arith}
+use Rattle.std.specs.Prelude.{replicate}
+use Rattle.std.proofs.lemmas.List.{drop_all, with_items_is, length-map}
+use Rattle.pauli_word.specs.Words.{identity_word}
+use Rattle.step_model.specs.Targets.{targets_of}
+use Rattle.stabsim.specs.BackwardWords.{words_before, hits_found}
+use Rattle.stabsim.proofs.BackwardLemmas.{words_before-none}
+use Rattle.stabsim.proofs.StepLemmas.{AreLast, AreLast-from}
+use Rattle.stabsim.proofs.HitLemmas.{hits_found-all}
+use Rattle.stabsim.proofs.backward.find_hits.Goals as goal
+
+pub loop-left-init : goal.loop-left-init
+loop-left-init g c =
+    let program = c.args.program.now in
+    let steps = c.steps-steps.result.now in
+    let past = drop_all (length steps) steps (omega arith) in
+    record {
+      within = omega arith;
+      words =
+        c.in_ok-words.ensures
+        ∙ (ap (λ n. replicate n (identity_word c.qubits.result)) c.target_count.ensures.count
+        ∙ (ap (λ n. replicate (length (targets_of program)) (identity_word n)) c.qubits.ensures
+        ∙ (words_before-none program ∙ sym (ap (words_before program) past))));
+      found = c.new-found.ensures ∙ sym (ap (hits_found program) past);
+    }
+
+pub pass-requires-clause-steps_fit : goal.pass-requires-clause-steps_fit
+pass-requires-clause-steps_fit g c =
+    let within : c.loop-left.left - 1 < length c.steps-steps.result.now = omega (arith, c.loop-left.invariant.within, c.loop-left-test.true) in
+    let last = AreLast-from c.args.program.now c.steps-steps.result.now (c.loop-left.left - 1) c.steps-steps.ensures.well_formed c.steps-steps.ensures.steps within in
+    last.steps_fit
+
+pub pass-requires-clause-records_fit : goal.pass-requires-clause-records_fit
+pass-requires-clause-records_fit g c =
+    let within : c.loop-left.left - 1 < length c.steps-steps.result.now = omega (arith, c.loop-left.invariant.within, c.loop-left-test.true) in
+    let last = AreLast-from c.args.program.now c.steps-steps.result.now (c.loop-left.left - 1) c.steps-steps.ensures.well_formed c.steps-steps.ensures.steps within in
+    last.records_fit
+
+pub returns : goal.returns
+returns g c =
+    let program = c.args.program.now in
+    let done : c.loop-left.left ≡ 0 = omega (arith, c.loop-left-test.false) in
+    c.loop-left.invariant.found
+    ∙ (ap (λ i. hits_found program (drop i c.steps-steps.result.now)) done
+    ∙ (ap (hits_found program) c.steps-steps.ensures.steps
+    ∙ hits_found-all program c.steps-steps.ensures.well_formed))
