@@ -4,6 +4,7 @@
 mod backward;
 mod backward_words;
 mod model;
+mod model_text;
 mod record_targets;
 
 fn main() {}

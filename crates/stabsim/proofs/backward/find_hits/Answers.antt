@@ -1,6 +1,6 @@
 use Rattle.std.proofs.Common.{◌≡◌, ◌<◌, ◌≤◌, ◌+◌, ◌-◌, ℕ, List, length, drop, take, ap, sym, ◌∙◌, arith}
 use Rattle.std.specs.Prelude.{replicate}
-use Rattle.std.proofs.lemmas.List.{drop_all, with_items_is, length-map}
+use Rattle.std.proofs.lemmas.List.{drop_all, with_items_is, take_rest}
 use Rattle.pauli_word.specs.Words.{identity_word}
 use Rattle.step_model.specs.Targets.{targets_of}
 use Rattle.stabsim.specs.BackwardWords.{words_before, hits_found}
@@ -44,3 +44,39 @@ returns g c =
     ∙ (ap (λ i. hits_found program (drop i c.steps-steps.result.now)) done
     ∙ (ap (hits_found program) c.steps-steps.ensures.steps
     ∙ hits_found-all program c.steps-steps.ensures.well_formed))
+
+pub pass-requires-clause-words : goal.pass-requires-clause-words
+pass-requires-clause-words g c =
+    let program = c.args.program.now in
+    let left = c.loop-left.left in
+    let within : left - 1 < length c.steps-steps.result.now = omega (arith, c.loop-left.invariant.within, c.loop-left-test.true) in
+    let last = AreLast-from program c.steps-steps.result.now (left - 1) c.steps-steps.ensures.well_formed c.steps-steps.ensures.steps within in
+    let next : left - 1 + 1 ≡ left = omega (arith, c.loop-left-test.true) in
+    c.as_mut_slice.ensures.value
+    ∙ (c.loop-left.invariant.words
+    ∙ (ap (λ steps. words_before program (drop left steps)) c.steps-steps.ensures.steps
+    ∙ sym (ap (words_before program) last.later ∙ ap (λ i. words_before program (drop i program.steps)) next)))
+
+pub pass-requires-clause-found : goal.pass-requires-clause-found
+pass-requires-clause-found g c =
+    let program = c.args.program.now in
+    let left = c.loop-left.left in
+    let within : left - 1 < length c.steps-steps.result.now = omega (arith, c.loop-left.invariant.within, c.loop-left-test.true) in
+    let last = AreLast-from program c.steps-steps.result.now (left - 1) c.steps-steps.ensures.well_formed c.steps-steps.ensures.steps within in
+    let next : left - 1 + 1 ≡ left = omega (arith, c.loop-left-test.true) in
+    c.loop-left.invariant.found
+    ∙ (ap (λ steps. hits_found program (drop left steps)) c.steps-steps.ensures.steps
+    ∙ sym (ap (hits_found program) last.later ∙ ap (λ i. hits_found program (drop i program.steps)) next))
+
+pub loop-left-preserved : goal.loop-left-preserved
+loop-left-preserved g c =
+    let program = c.args.program.now in
+    let steps = c.steps-steps.result.now in
+    let rest = take_rest steps (c.loop-left.left - 1) in
+    record {
+      within = omega (arith, c.loop-left.invariant.within);
+      words =
+        with_items_is c.loop-left.words c.pass.new.words (omega (arith, c.pass.auto.words, c.as_mut_slice.ensures.len))
+        ∙ (c.in_ok-pass.ensures.words ∙ ap (words_before program) rest);
+      found = c.in_ok-pass.ensures.found ∙ ap (hits_found program) rest;
+    }
