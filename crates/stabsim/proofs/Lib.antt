@@ -1,6 +1,7 @@
 pub mod BackwardLemmas
+pub mod ClassicalLemmas
+pub mod ErrorLineLemmas
 pub mod HitLemmas
-pub mod LineLemmas
 pub mod RangeLemmas
 pub mod RecordTargetLemmas
 pub mod StepLemmas

@@ -1,10 +1,10 @@
 -- Lists made from the numbers of a range.
 use Rattle.std.proofs.Common.{◌≡◌, ◌≢◌, ℕ, zero, suc, ◌+◌, ◌≤◌, ◌<◌, Bool, true, false, List, [], ◌∷◌, ◌++◌, map, length, get_or, set, refl, ap, sym, ◌∙◌, inl, inr, arith, length-set, get_or-set_same, get_or-set_other}
 use Rattle.std.specs.Prelude.{filter, cond, All}
-use Rattle.std.specs.List.{range_with_len}
+use Rattle.std.specs.List.{range_with_len, flat_map}
 use Rattle.std.proofs.lemmas.Bool.{cases_eq}
-use Rattle.std.proofs.lemmas.List.{map-id, append-nil}
-use Rattle.std.proofs.lemmas.List.FromFn.{length-range_with_len, get_or-range_with_len, filter_of_map_range_with_len_more, length-map-range_with_len, get_or-map-range_with_len, fill_by_all}
+use Rattle.std.proofs.lemmas.List.{map-id, append-nil, flat_map_more}
+use Rattle.std.proofs.lemmas.List.FromFn.{length-range_with_len, get_or-range_with_len, filter_of_map_range_with_len_more, length-map-range_with_len, map-range_with_len_more, get_or-map-range_with_len, fill_by_all}
 
 pub map_agree : {X Y : Type 0} (f g : X → Y) → ((x : X) → f x ≡ g x) → (xs : List X) → map f xs ≡ map g xs
 map_agree f g same [] = refl
@@ -60,3 +60,10 @@ set-map-range f g n s y within here elsewhere =
           inl e ↦ ap (λ j. get_or (set (map f (range_with_len 0 n)) s y) j y) e ∙ (get_or-set_same (map f (range_with_len 0 n)) s y y (omega (arith, long)) ∙ (here ∙ ap g (sym e)))
         | inr e ↦ get_or-set_other (map f (range_with_len 0 n)) s k y y e ∙ (get_or-map-range_with_len f 0 n k k y h (omega arith) ∙ elsewhere k e)
         ]
+
+-- the texts of the numbers so far, and that of one more
+pub flat_map_range_more : (f : ℕ → List ℕ) (before : List ℕ) (n : ℕ) → before ++ flat_map f (range_with_len 0 n) ++ f n ≡ before ++ flat_map f (range_with_len 0 (n + 1))
+flat_map_range_more f before n =
+    flat_map_more f before (range_with_len 0 n) n
+    ∙ ap (λ xs. before ++ flat_map f xs)
+      (ap (λ xs. xs ++ n ∷ []) (sym (map-id (range_with_len 0 n))) ∙ (sym (map-range_with_len_more (λ x. x) 0 n n (omega arith)) ∙ map-id (range_with_len 0 (n + 1))))

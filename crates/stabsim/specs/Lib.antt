@@ -1,5 +1,5 @@
 pub mod BackwardWords
 pub mod Classical
-pub mod Lines
+pub mod ErrorLines
 pub mod ModelText
 pub mod RecordTargets

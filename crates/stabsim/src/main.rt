@@ -5,6 +5,7 @@ mod backward;
 mod backward_words;
 mod model;
 mod model_text;
+mod no_place;
 mod record_targets;
 
 fn main() {}

@@ -1,5 +1,5 @@
 ghost use Rattle.std.specs.Prelude.{◌≡◌, ◌++◌, ◌∷◌, [], ◌<◌, length, OnOk, OnErr, slice_index_or};
-ghost use Rattle.stabsim.specs.Lines.{line_at};
+ghost use Rattle.stabsim.specs.ErrorLines.{line_at};
 
 use flat_lists::FlatLists;
 use std::alloc::{AllocError, Allocator};
@@ -27,7 +27,7 @@ impl<'a, A: Allocator + Copy> Model for ErrorModel<'a, A> {
 
     ghost Value = { ErrorModel };
 
-    ghost use Rattle.stabsim.specs.Lines.{lines_of};
+    ghost use Rattle.stabsim.specs.ErrorLines.{lines_of};
 
     ghost view = {
         λ m. record {

@@ -157,11 +157,20 @@ fn write_observables<'a, A: Allocator + Copy>(
     ensures { OnOk result (text.new.items ≡ text.old.items ++ observables_text model.now) }
 {
     for observable in 0..model.observable_count() {
-        text.extend_from_slice(b"logical_observable L")?;
-        write_number(text, observable)?;
-        text.extend_from_slice(b"\n")?;
+        write_observable(text, observable)?;
     }
     Ok(())
+}
+
+fn write_observable<A: Allocator + Copy>(
+    text: &mut Vec<u8, A>,
+    observable: usize,
+) -> Result<(), AllocError>
+    ensures { OnOk result (text.new.items ≡ text.old.items ++ observable_text observable) }
+{
+    text.extend_from_slice(b"logical_observable L")?;
+    write_number(text, observable)?;
+    text.extend_from_slice(b"\n")
 }
 
 fn write_number<A: Allocator + Copy>(
@@ -179,4 +188,29 @@ fn write_whole<A: Allocator + Copy>(text: &mut Vec<u8, A>, number: i64) -> Resul
 {
     let mut buffer = Buffer::new();
     text.extend_from_slice(buffer.format(number).as_bytes())
+}
+
+#[cfg(test)]
+mod tests {
+    use super::text_of;
+    use crate::model::ErrorModel;
+    use flat_lists::FlatLists;
+    use std::alloc::Global;
+    use std::test::Fail;
+
+    #[test]
+    fn lines_detectors_and_observables(rt: HostRuntime) -> Result<(), Fail> {
+        let mut coordinates = FlatLists::new(Global);
+        coordinates.push(&[0, -3])?;
+        coordinates.push(&[])?;
+        let mut model = ErrorModel::new(Global, coordinates, 1);
+        model.push_line(b"0.1", &[0, 2])?;
+        let text = text_of(Global, &model)?;
+        assert_eq!(
+            rt;
+            text.as_slice(),
+            b"error(0.1) D0 L0\ndetector(0, -3) D0\ndetector D1\nlogical_observable L0\n".as_slice()
+        );
+        Ok(())
+    }
 }

@@ -1,5 +1,5 @@
 use Rattle.std.proofs.Common.{length, ap, arith}
-use Rattle.stabsim.proofs.LineLemmas.{length-lines_of}
+use Rattle.stabsim.proofs.ErrorLineLemmas.{length-lines_of}
 use Rattle.stabsim.proofs.model.ErrorModel.line_count.Goals as goal
 
 pub returns : goal.returns

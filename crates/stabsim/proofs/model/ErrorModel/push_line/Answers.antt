@@ -1,5 +1,5 @@
 use Rattle.std.proofs.Common.{◌≡◌, ◌++◌, ◌∷◌, [], length, ap, sym, ◌∙◌}
-use Rattle.stabsim.proofs.LineLemmas.{lines_of-push}
+use Rattle.stabsim.proofs.ErrorLineLemmas.{lines_of-push}
 use Rattle.stabsim.proofs.model.ErrorModel.push_line.Goals as goal
 
 pub returns-clause-ok : goal.returns-clause-ok

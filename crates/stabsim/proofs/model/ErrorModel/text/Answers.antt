@@ -1,6 +1,6 @@
 use Rattle.std.proofs.Common.{◌<◌, length, ap, sym, ◌∙◌, arith}
-use Rattle.stabsim.specs.Lines.{line_at}
-use Rattle.stabsim.proofs.LineLemmas.{length-lines_of, get_or-lines_of}
+use Rattle.stabsim.specs.ErrorLines.{line_at}
+use Rattle.stabsim.proofs.ErrorLineLemmas.{length-lines_of, get_or-lines_of}
 use Rattle.stabsim.proofs.model.ErrorModel.text.Goals as goal
 
 pub index-requires : goal.index-requires

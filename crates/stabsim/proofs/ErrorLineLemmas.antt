@@ -1,7 +1,7 @@
 -- The lines of a model, by their number, and one line more.
 use Rattle.std.proofs.Common.{◌≡◌, ℕ, zero, suc, ◌<◌, List, [], ◌∷◌, ◌++◌, length, get_or, refl, ap, arith}
 use Rattle.stabsim.specs.declared.model.LineText.{LineText}
-use Rattle.stabsim.specs.Lines.{lines_of, no_line}
+use Rattle.stabsim.specs.ErrorLines.{lines_of, no_line}
 use Rattle.step_model.specs.ErrorModels.{ErrorLine}
 
 suc_injective : (m n : ℕ) → suc m ≡ suc n → m ≡ n
