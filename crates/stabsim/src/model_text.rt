@@ -170,7 +170,8 @@ fn write_observable<A: Allocator + Copy>(
 {
     text.extend_from_slice(b"logical_observable L")?;
     write_number(text, observable)?;
-    text.extend_from_slice(b"\n")
+    text.extend_from_slice(b"\n")?;
+    Ok(())
 }
 
 fn write_number<A: Allocator + Copy>(
