@@ -1,17 +1,16 @@
 -- The words of all targets, gone back over a step.
-use Rattle.std.proofs.Common.{◌≡◌, ℕ, zero, suc, ◌+◌, ◌<◌, Bool, true, false, List, [], ◌∷◌, ◌++◌, map, length, get_or, set, Option, None, Some, refl, ap, subst, sym, ◌∙◌, arith, append_assoc, length-set}
+use Rattle.std.proofs.Common.{◌≡◌, ℕ, ◌+◌, ◌<◌, Bool, true, false, List, [], ◌∷◌, ◌++◌, map, length, get_or, set, Option, None, Some, refl, ap, subst, sym, ◌∙◌, arith, append_assoc}
 use Rattle.std.specs.Prelude.{All, IfSome, filter, cond, replicate}
 use Rattle.std.specs.List.{range_with_len}
-use Rattle.std.proofs.lemmas.List.{map-id, get_or_at, set_at, length_push, length-map, get_or-map}
+use Rattle.std.proofs.lemmas.List.{map-id, get_or_at, set_at, length_push, length-map}
 use Rattle.std.proofs.lemmas.List.Elements.{All-map, All-weaker, All-filter}
 use Rattle.std.proofs.lemmas.List.FromFn.{length-map-range_with_len, get_or-map-range_with_len}
 use Rattle.gate_table.specs.declared.gate.Gate.{Gate}
 use Rattle.gate_table.specs.Images.{inverse_of}
 use Rattle.pauli_word.specs.declared.letter.Letter.{Letter}
-use Rattle.pauli_word.specs.Letters.{letter_product}
-use Rattle.pauli_word.specs.Words.{Signed, letters_product, letter_at, lone_letter, identity_word, no_letters}
+use Rattle.pauli_word.specs.Words.{Signed, lone_letter, identity_word}
 use Rattle.step_model.specs.declared.step.Step.{Step}
-use Rattle.step_model.specs.declared.step.Step.TheVariants.{One, Two, Collapse, Fault}
+use Rattle.step_model.specs.declared.step.Step.TheVariants.{One, Two, Collapse}
 use Rattle.step_model.specs.Listing.{Listing}
 use Rattle.step_model.specs.Runs.{signed}
 use Rattle.step_model.specs.Sensitivities.{sensitivity, cleared, multiplied}
@@ -56,9 +55,9 @@ listed_step : (letter : Letter) (q : ℕ) (f : List ℕ → Signed) (test : List
 listed_step letter q f test all named todo words k rest here wk later true e =
     ap (λ b. times_listed letter q (cond b (k ∷ rest) rest) (words ++ f named ∷ map f todo)) (ap test here ∙ e)
     ∙ (ap (times_listed letter q rest)
-       (ap (λ w. set (words ++ f named ∷ map f todo) k (times_letter letter q w)) (get_or_at words (f named) (map f todo) (identity_word 0) k wk)
-        ∙ (set_at words (f named) (map f todo) (times_letter letter q (f named)) k wk
-        ∙ sym (append_assoc words (times_letter letter q (f named) ∷ []) (map f todo))))
+    (ap (λ w. set (words ++ f named ∷ map f todo) k (times_letter letter q w)) (get_or_at words (f named) (map f todo) (identity_word 0) k wk)
+    ∙ (set_at words (f named) (map f todo) (times_letter letter q (f named)) k wk
+    ∙ sym (append_assoc words (times_letter letter q (f named) ∷ []) (map f todo))))
     ∙ (later (times_letter letter q (f named))
     ∙ (append_assoc words (times_letter letter q (f named) ∷ []) (map (chosen letter q f test) todo)
     ∙ ap (λ b. words ++ cond b (times_letter letter q (f named)) (f named) ∷ map (chosen letter q f test) todo) (sym e))))
@@ -77,9 +76,9 @@ times_listed-where letter q f test all done (named ∷ todo) words k h dk wk =
     (ap (λ xs. get_or xs k []) h ∙ get_or_at done named todo [] k dk)
     wk
     (λ word. times_listed-where letter q f test all (done ++ named ∷ []) todo (words ++ word ∷ []) (k + 1)
-     (h ∙ sym (append_assoc done (named ∷ []) todo))
-     (length_push done named ∙ ap (λ n. n + 1) dk)
-     (length_push words word ∙ ap (λ n. n + 1) wk))
+    (h ∙ sym (append_assoc done (named ∷ []) todo))
+    (length_push done named ∙ ap (λ n. n + 1) dk)
+    (length_push words word ∙ ap (λ n. n + 1) wk))
     (test named) refl
 
 pub words_before-one : (program : Listing) (gate : Gate) (q : ℕ) (steps : List Step) → map (moved_one (inverse_of gate) q) (words_before program steps) ≡ words_before program (One gate q ∷ steps)
@@ -100,14 +99,14 @@ words_before-collapse program letter q (Some r) reset inverted flip steps h k =
     ap (λ list. times_listed letter q list (cleared_words reset q (words_before program steps)))
     (get_or-map-range_with_len (naming_below program (length (targets_of program))) 0 program.records r r [] k (omega arith))
     ∙ (ap (times_listed letter q (naming_below program (length (targets_of program)) r))
-       (map-map (λ w. signed (cleared reset q w.letters) w.negative) (λ named. signed (sensitivity program.qubits named steps) false) (targets_of program))
+    (map-map (λ w. signed (cleared reset q w.letters) w.negative) (λ named. signed (sensitivity program.qubits named steps) false) (targets_of program))
     ∙ (times_listed-where letter q (λ named. signed (cleared reset q (sensitivity program.qubits named steps)) false) (λ named. is_listed named r) (targets_of program) [] (targets_of program) [] 0 refl refl refl
     ∙ map_agree
-      (chosen letter q (λ named. signed (cleared reset q (sensitivity program.qubits named steps)) false) (λ named. is_listed named r))
-      (λ named. signed (multiplied (is_listed named r) (lone_letter program.qubits q letter) (cleared reset q (sensitivity program.qubits named steps))) false)
-      (λ named. counted program.qubits q letter (cleared reset q (sensitivity program.qubits named steps)) (is_listed named r)
-       (length-cleared reset q (sensitivity program.qubits named steps) ∙ length-sensitivity program.qubits named steps) h)
-      (targets_of program)))
+    (chosen letter q (λ named. signed (cleared reset q (sensitivity program.qubits named steps)) false) (λ named. is_listed named r))
+    (λ named. signed (multiplied (is_listed named r) (lone_letter program.qubits q letter) (cleared reset q (sensitivity program.qubits named steps))) false)
+    (λ named. counted program.qubits q letter (cleared reset q (sensitivity program.qubits named steps)) (is_listed named r)
+    (length-cleared reset q (sensitivity program.qubits named steps) ∙ length-sensitivity program.qubits named steps) h)
+    (targets_of program)))
 
 -- the targets that name a record are among those that there are
 pub listed_in_range : (program : Listing) (rec : Option ℕ) (steps : List Step) → IfSome rec (λ r. r < program.records) → All (λ t. t < length (words_before program steps)) (listed_for (record_targets program) rec)

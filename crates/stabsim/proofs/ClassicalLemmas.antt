@@ -1,6 +1,6 @@
 -- In a classical program no target has a place: going back, sensitivities keep to I and Z, which commute with every
 -- collapsed Z and have no X or Y at the start.
-use Rattle.std.proofs.Common.{◌≡◌, ℕ, zero, suc, Bool, true, false, ◌&&◌, List, [], ◌∷◌, length, set, Option, None, Some, option_map, refl, ap, ap₂, sym, ◌∙◌, arith}
+use Rattle.std.proofs.Common.{◌≡◌, ℕ, zero, suc, Bool, true, false, ◌&&◌, List, [], ◌∷◌, set, None, option_map, refl, ap, ap₂, ◌∙◌, arith}
 use Rattle.std.specs.List.{AllPass, list_all}
 use Rattle.std.proofs.lemmas.Bool.{and_parts}
 use Rattle.gate_table.specs.declared.gate.Gate.{Gate}

@@ -1,5 +1,5 @@
 -- What is found going back over all steps is, for each fault from the last to the first, the targets that it hits.
-use Rattle.std.proofs.Common.{◌≡◌, ◌≢◌, ℕ, zero, suc, ◌+◌, ◌-◌, ◌≤◌, ◌<◌, ◌==◌, Bool, true, false, not, ◌&&◌, List, [], ◌∷◌, ◌++◌, map, length, get_or, Option, None, Some, refl, ap, ap₂, subst, sym, ◌∙◌, arith}
+use Rattle.std.proofs.Common.{◌≡◌, ◌≢◌, ℕ, zero, suc, ◌+◌, ◌-◌, ◌<◌, ◌==◌, Bool, true, false, not, ◌&&◌, List, [], ◌∷◌, ◌++◌, map, length, get_or, Option, None, Some, refl, ap, ap₂, subst, sym, ◌∙◌, arith}
 use Rattle.std.specs.Prelude.{All, IfSome, filter, reverse}
 use Rattle.std.specs.List.{range_with_len}
 use Rattle.std.specs.Option.{option_to_list}
@@ -16,14 +16,14 @@ use Rattle.step_model.specs.declared.step.Step.TheVariants.{One, Two, Collapse, 
 use Rattle.step_model.specs.declared.step.Term.{Term}
 use Rattle.step_model.specs.Hits.{hits_at, hits_among}
 use Rattle.step_model.specs.HitModels.{targets_hit, line_of, model_of}
-use Rattle.step_model.specs.ErrorModels.{ErrorLine, ErrorModel}
-use Rattle.step_model.specs.Listing.{Listing, Applies, no_effect, fault_at, effect_at, effect_word, fault_word, word_of_terms}
+use Rattle.step_model.specs.ErrorModels.{ErrorModel}
+use Rattle.step_model.specs.Listing.{Listing, Applies, no_effect, fault_at, effect_at, effect_word, fault_word}
 use Rattle.step_model.specs.Runs.{signed}
 use Rattle.step_model.specs.Sensitivities.{sensitivity, record_counts}
 use Rattle.step_model.specs.Targets.{targets_of, target_at, is_listed}
-use Rattle.step_model.specs.WellFormed.{IsWellFormed, FaultFits, EffectFits, faults_named, step_faults}
+use Rattle.step_model.specs.WellFormed.{IsWellFormed, FaultFits, EffectFits, faults_named}
 use Rattle.step_model.proofs.ConstancyRuns.{length-sensitivity}
-use Rattle.stabsim.specs.BackwardWords.{words_before, naming_below, record_targets, listed_for, is_hit_by, anticommuting, hit_at, step_hits, hits_found}
+use Rattle.stabsim.specs.BackwardWords.{words_before, naming_below, record_targets, listed_for, is_hit_by, anticommuting, hit_at, hits_found}
 use Rattle.stabsim.proofs.RangeLemmas.{filter_range_taken, filter_range_left, filter_range_agree, map_range_agree}
 
 first_of_range : (f k m : ℕ) (rest : List ℕ) → f ∷ rest ≡ range_with_len k m → f ≡ k
@@ -75,14 +75,14 @@ naming_step program step steps e k m h other found =
     own =
         filter_range_agree (λ d. hits_among program (target_at program d) e (step ∷ steps)) (λ d. hits_at program (target_at program d) e step (sensitivity program.qubits (target_at program d) steps)) 0 (length (targets_of program))
         (λ d within. ap (exclusive_or (hits_at program (target_at program d) e step (sensitivity program.qubits (target_at program d) steps))) (hits_among-earlier program (target_at program d) e steps (k + 1) later.0 later.1 (omega (arith, first)))
-         ∙ exclusive_or-false (hits_at program (target_at program d) e step (sensitivity program.qubits (target_at program d) steps)))
+        ∙ exclusive_or-false (hits_at program (target_at program d) e step (sensitivity program.qubits (target_at program d) steps)))
 
     others : map (hit_among program steps) (faults_named steps) ≡ map (hit_among program (step ∷ steps)) (faults_named steps)
     others =
         ap (map (hit_among program steps)) later.1
         ∙ (map_range_agree (hit_among program steps) (hit_among program (step ∷ steps)) (k + 1) later.0
-           (λ f beyond. filter_range_agree (λ d. hits_among program (target_at program d) f steps) (λ d. hits_among program (target_at program d) f (step ∷ steps)) 0 (length (targets_of program))
-            (λ d within. ap (λ b. exclusive_or b (hits_among program (target_at program d) f steps)) (sym (other (target_at program d) f (λ p. omega (arith, first, p))))))
+        (λ f beyond. filter_range_agree (λ d. hits_among program (target_at program d) f steps) (λ d. hits_among program (target_at program d) f (step ∷ steps)) 0 (length (targets_of program))
+        (λ d within. ap (λ b. exclusive_or b (hits_among program (target_at program d) f steps)) (sym (other (target_at program d) f (λ p. omega (arith, first, p))))))
         ∙ ap (map (hit_among program (step ∷ steps))) (sym later.1))
 
 hits_found-among : (program : Listing) (steps : List Step) (k m : ℕ) → faults_named steps ≡ range_with_len k m → hits_found program steps ≡ reverse (map (hit_among program steps) (faults_named steps))
@@ -113,18 +113,18 @@ hits_found-collapse program letter qubit None reset inverted (Some f) steps h k 
 hits_found-collapse program letter qubit (Some r) reset inverted (Some f) steps h k =
     ap (λ list. hits_found program steps ++ list ∷ [])
     (get_or-map-range_with_len (naming_below program (length (targets_of program))) 0 program.records r r [] h (omega arith)
-     ∙ filter_range_agree (λ d. is_listed (target_at program d) r) (λ d. (f == f) && is_listed (target_at program d) r) 0 (length (targets_of program))
-       (λ d within. ap (λ b. b && is_listed (target_at program d) r) (sym (eq-eqb f f refl))))
+    ∙ filter_range_agree (λ d. is_listed (target_at program d) r) (λ d. (f == f) && is_listed (target_at program d) r) 0 (length (targets_of program))
+    (λ d within. ap (λ b. b && is_listed (target_at program d) r) (sym (eq-eqb f f refl))))
 
 -- and at a fault: it hits the targets whose words anticommute with its own
 pub hits_found-fault : (program : Listing) (f : ℕ) (terms : List Term) (steps : List Step) → Applies terms ≡ effect_at program f → hits_found program steps ++ anticommuting terms (words_before program steps) ∷ [] ≡ hits_found program (Fault f ∷ steps)
 hits_found-fault program f terms steps applies =
     ap (λ list. hits_found program steps ++ list ∷ [])
     (ap (λ n. filter (λ t. is_hit_by terms (get_or (words_before program steps) t (identity_word 0))) (range_with_len 0 n)) (length-map (targets_of program) word)
-     ∙ filter_range_agree (λ t. is_hit_by terms (get_or (words_before program steps) t (identity_word 0))) (λ d. (f == f) && anticommute (sensitivity program.qubits (target_at program d) steps) (fault_word program f)) 0 (length (targets_of program))
-       (λ d within. ap (is_hit_by terms) (get_or-map word (targets_of program) d [] (identity_word 0) (omega (arith, within)))
-        ∙ (ap₂ (λ n e. anticommute (sensitivity program.qubits (target_at program d) steps) (effect_word n e)) (length-sensitivity program.qubits (target_at program d) steps) applies
-        ∙ ap (λ b. b && anticommute (sensitivity program.qubits (target_at program d) steps) (fault_word program f)) (sym (eq-eqb f f refl)))))
+    ∙ filter_range_agree (λ t. is_hit_by terms (get_or (words_before program steps) t (identity_word 0))) (λ d. (f == f) && anticommute (sensitivity program.qubits (target_at program d) steps) (fault_word program f)) 0 (length (targets_of program))
+    (λ d within. ap (is_hit_by terms) (get_or-map word (targets_of program) d [] (identity_word 0) (omega (arith, within)))
+    ∙ (ap₂ (λ n e. anticommute (sensitivity program.qubits (target_at program d) steps) (effect_word n e)) (length-sensitivity program.qubits (target_at program d) steps) applies
+    ∙ ap (λ b. b && anticommute (sensitivity program.qubits (target_at program d) steps) (fault_word program f)) (sym (eq-eqb f f refl)))))
   where
     word : List ℕ → Signed
     word named = signed (sensitivity program.qubits named steps) false
@@ -135,7 +135,7 @@ terms_in_range program f terms steps fits within applies =
     let inside : All (λ term. term.qubit < program.qubits) terms = subst (EffectFits program.qubits) (sym applies) (fits f no_effect within).effect in
     All-map (λ w. All (λ term. term.qubit < length w.letters) terms) (λ named. signed (sensitivity program.qubits named steps) false) (targets_of program)
     (λ k d h. All-weaker (λ term. term.qubit < program.qubits) (λ term. term.qubit < length (sensitivity program.qubits (get_or (targets_of program) k d) steps))
-     (λ term low. omega (arith, low, length-sensitivity program.qubits (get_or (targets_of program) k d) steps)) terms inside)
+    (λ term low. omega (arith, low, length-sensitivity program.qubits (get_or (targets_of program) k d) steps)) terms inside)
 
 -- the list found of a fault, counted from the last
 pub found_at : (program : Listing) (found : List (List ℕ)) (f : ℕ) → found ≡ reverse (map (targets_hit program) (range_with_len 0 (length program.faults))) → f < length program.faults → get_or found (length program.faults - 1 - f) [] ≡ targets_hit program f
@@ -169,12 +169,12 @@ model_below-taken program f old new text targets before is_text are_hit some pus
     ∙ (ap (λ m. let pushed_to : ErrorModel = record m { lines = m.lines ++ record { text = text; targets = targets } ∷ [] } in pushed_to) before
     ∙ (ap₂ (λ t ts. let with_line : ErrorModel = record (model_of program) { lines = map (line_of program) (filter (is_hitting program) (range_with_len 0 f)) ++ record { text = t; targets = ts } ∷ [] } in with_line) is_text are_hit
     ∙ ap (λ lines. let of_lines : ErrorModel = record (model_of program) { lines = lines } in of_lines)
-      (sym (map_push (line_of program) (filter (is_hitting program) (range_with_len 0 f)) f)
-       ∙ ap (map (line_of program)) (filter_range_taken (is_hitting program) f (filter (is_hitting program) (range_with_len 0 f)) hitting refl))))
+    (sym (map_push (line_of program) (filter (is_hitting program) (range_with_len 0 f)) f)
+    ∙ ap (map (line_of program)) (filter_range_taken (is_hitting program) f (filter (is_hitting program) (range_with_len 0 f)) hitting refl))))
 
 pub model_below-left : (program : Listing) (f : ℕ) (old : ErrorModel) (targets : List ℕ) → old ≡ model_below program f → targets ≡ targets_hit program f → length targets ≡ 0 → old ≡ model_below program (f + 1)
 model_below-left program f old targets before are_hit none =
     let quiet : is_hitting program f ≡ false = ap not (eq-eqb (length (targets_hit program f)) 0 (sym (ap length are_hit) ∙ none)) in
     before
     ∙ ap (λ faults. let of_faults : ErrorModel = record (model_of program) { lines = map (line_of program) faults } in of_faults)
-      (filter_range_left (is_hitting program) f (filter (is_hitting program) (range_with_len 0 f)) quiet refl)
+    (filter_range_left (is_hitting program) f (filter (is_hitting program) (range_with_len 0 f)) quiet refl)

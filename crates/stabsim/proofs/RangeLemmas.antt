@@ -57,8 +57,8 @@ set-map-range f g n s y within here elsewhere =
     at_each : (k : ℕ) → k < n → get_or (set (map f (range_with_len 0 n)) s y) k y ≡ g k
     at_each k h =
         elim (cases_eq k s) [
-          inl e ↦ ap (λ j. get_or (set (map f (range_with_len 0 n)) s y) j y) e ∙ (get_or-set_same (map f (range_with_len 0 n)) s y y (omega (arith, long)) ∙ (here ∙ ap g (sym e)))
-        | inr e ↦ get_or-set_other (map f (range_with_len 0 n)) s k y y e ∙ (get_or-map-range_with_len f 0 n k k y h (omega arith) ∙ elsewhere k e)
+          | inl e ↦ ap (λ j. get_or (set (map f (range_with_len 0 n)) s y) j y) e ∙ (get_or-set_same (map f (range_with_len 0 n)) s y y (omega (arith, long)) ∙ (here ∙ ap g (sym e)))
+          | inr e ↦ get_or-set_other (map f (range_with_len 0 n)) s k y y e ∙ (get_or-map-range_with_len f 0 n k k y h (omega arith) ∙ elsewhere k e)
         ]
 
 -- the texts of the numbers so far, and that of one more
@@ -66,4 +66,4 @@ pub flat_map_range_more : (f : ℕ → List ℕ) (before : List ℕ) (n : ℕ) �
 flat_map_range_more f before n =
     flat_map_more f before (range_with_len 0 n) n
     ∙ ap (λ xs. before ++ flat_map f xs)
-      (ap (λ xs. xs ++ n ∷ []) (sym (map-id (range_with_len 0 n))) ∙ (sym (map-range_with_len_more (λ x. x) 0 n n (omega arith)) ∙ map-id (range_with_len 0 (n + 1))))
+    (ap (λ xs. xs ++ n ∷ []) (sym (map-id (range_with_len 0 n))) ∙ (sym (map-range_with_len_more (λ x. x) 0 n n (omega arith)) ∙ map-id (range_with_len 0 (n + 1))))

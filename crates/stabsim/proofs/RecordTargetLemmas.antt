@@ -1,6 +1,6 @@
 -- Toggling targets in the lists of records leaves for each record the targets that name it an odd number of times.
-use Rattle.std.proofs.Common.{◌≡◌, ◌≢◌, ℕ, zero, suc, ◌+◌, ◌-◌, ◌<◌, ◌==◌, Bool, true, false, not, List, [], ◌∷◌, ◌++◌, map, length, take, get_or, set, Option, None, Some, refl, ap, subst, sym, ◌∙◌, arith}
-use Rattle.std.specs.Prelude.{All, cond, filter, replicate, slice_get}
+use Rattle.std.proofs.Common.{◌≡◌, ℕ, zero, suc, ◌+◌, ◌-◌, ◌<◌, ◌==◌, Bool, true, false, not, List, [], ◌∷◌, ◌++◌, map, length, take, get_or, set, Some, refl, ap, subst, sym, ◌∙◌, arith}
+use Rattle.std.specs.Prelude.{All, cond, replicate, slice_get}
 use Rattle.std.specs.List.{range_with_len}
 use Rattle.std.proofs.lemmas.Bool.{eq-eqb, ne_eqb}
 use Rattle.std.proofs.lemmas.List.{map-set, get_or-map, append-nil, length_push, take_at}
@@ -70,8 +70,8 @@ toggled_at-record t n s base b below within =
     (toggled t (get_or (map (λ r. base r ++ alone (b r) t) (range_with_len 0 n)) s []))
     within
     (ap (toggled t) (get_or-map-range_with_len (λ r. base r ++ alone (b r) t) 0 n s s [] within (omega arith))
-     ∙ (toggled-alone (b s) t (base s) (below s)
-     ∙ ap (λ x. base s ++ alone x t) (exclusive_or-true (b s) ∙ ap (exclusive_or (b s)) (sym (eq-eqb s s refl)))))
+    ∙ (toggled-alone (b s) t (base s) (below s)
+    ∙ ap (λ x. base s ++ alone x t) (exclusive_or-true (b s) ∙ ap (exclusive_or (b s)) (sym (eq-eqb s s refl)))))
     (λ r other. ap (λ x. base r ++ alone x t) (sym (ap (exclusive_or (b r)) (ne_eqb s r (λ e. other (sym e))) ∙ exclusive_or-false (b r))))
 
 toggled_each-records : (t n : ℕ) (base : ℕ → List ℕ) (below : (r : ℕ) → All (λ s. s < t) (base r)) (named : List ℕ) (b : ℕ → Bool) → All (λ r. r < n) named → toggled_each named t (map (λ r. base r ++ alone (b r) t) (range_with_len 0 n)) ≡ map (λ r. base r ++ alone (exclusive_or (b r) (is_listed named r)) t) (range_with_len 0 n)
@@ -81,17 +81,17 @@ toggled_each-records t n base below (s ∷ named) b fits =
     ap (toggled_each named t) (toggled_at-record t n s base b below (fits 0 s (omega arith)))
     ∙ (toggled_each-records t n base below named (λ r. exclusive_or (b r) (s == r)) (λ k d h. fits (suc k) d (omega arith))
     ∙ map_agree (λ r. base r ++ alone (exclusive_or (exclusive_or (b r) (s == r)) (is_listed named r)) t) (λ r. base r ++ alone (exclusive_or (b r) (exclusive_or (s == r) (is_listed named r))) t)
-      (λ r. ap (λ x. base r ++ alone x t) (exclusive_or_assoc (b r) (s == r) (is_listed named r))) (range_with_len 0 n))
+    (λ r. ap (λ x. base r ++ alone x t) (exclusive_or_assoc (b r) (s == r) (is_listed named r))) (range_with_len 0 n))
 
 -- one target more
 pub record_targets_below-more : (program : Listing) (t : ℕ) → All (λ r. r < program.records) (target_at program t) → toggled_each (target_at program t) t (record_targets_below program t) ≡ record_targets_below program (t + 1)
 record_targets_below-more program t fits =
     ap (toggled_each (target_at program t) t) (map_agree (naming_below program t) (λ r. naming_below program t r ++ []) (λ r. sym (append-nil (naming_below program t r))) (range_with_len 0 program.records))
     ∙ (toggled_each-records t program.records (naming_below program t)
-       (λ r. All-filter (λ d. is_listed (target_at program d) r) (λ s. s < t) (range_with_len 0 t) (λ k d h. omega (arith, All-range 0 t k d h)))
-       (target_at program t) (λ r. false) fits
+    (λ r. All-filter (λ d. is_listed (target_at program d) r) (λ s. s < t) (range_with_len 0 t) (λ k d h. omega (arith, All-range 0 t k d h)))
+    (target_at program t) (λ r. false) fits
     ∙ map_agree (λ r. naming_below program t r ++ alone (is_listed (target_at program t) r) t) (naming_below program (t + 1))
-      (λ r. sym (filter_range_more (λ d. is_listed (target_at program d) r) t)) (range_with_len 0 program.records))
+    (λ r. sym (filter_range_more (λ d. is_listed (target_at program d) r) t)) (range_with_len 0 program.records))
 
 -- no targets: empty lists
 pub record_targets_below-none : (program : Listing) → replicate program.records [] ≡ record_targets_below program 0

@@ -1,8 +1,8 @@
 -- What fits of the first of some steps.
-use Rattle.std.proofs.Common.{◌≡◌, ℕ, zero, suc, ◌+◌, ◌-◌, ◌<◌, ◌==◌, nat_lt, Bool, true, false, not, ◌&&◌, List, [], ◌∷◌, ◌++◌, length, take, drop, get_or, Option, None, Some, refl, ap, subst, sym, ◌∙◌, arith, length-append, length-drop}
+use Rattle.std.proofs.Common.{◌≡◌, ℕ, zero, suc, ◌+◌, ◌-◌, ◌<◌, ◌==◌, nat_lt, Bool, true, not, ◌&&◌, List, [], ◌∷◌, ◌++◌, length, take, drop, get_or, Option, None, Some, refl, ap, subst, sym, ◌∙◌, arith, length-append, length-drop}
 use Rattle.std.specs.Prelude.{All, IfSome}
 use Rattle.std.specs.List.{AllPass}
-use Rattle.std.proofs.lemmas.Bool.{and_parts, ltb-true, eqb-true}
+use Rattle.std.proofs.lemmas.Bool.{and_parts, ltb-true}
 use Rattle.std.proofs.lemmas.List.{drop_more, take_rest, drop-drop, get_or-drop, get_or-append-add}
 use Rattle.gate_table.specs.declared.gate.Gate.{Gate}
 use Rattle.gate_table.specs.Images.{arity_of}
@@ -89,9 +89,9 @@ AreLast-from program steps i fits same within =
       later = ap (drop 1) are ∙ drop-drop 1 i program.steps;
       some = omega (arith, ap length are, length-drop i program.steps, count, within);
       steps_fit =
-        subst Fit (sym are)
-        (λ k d h. ap (step_fits program) (get_or-drop i program.steps k d) ∙ fits.steps_fit (i + k) d (omega (arith, h, length-drop i program.steps)));
+          subst Fit (sym are)
+          (λ k d h. ap (step_fits program) (get_or-drop i program.steps k d) ∙ fits.steps_fit (i + k) d (omega (arith, h, length-drop i program.steps)));
       records_fit =
-        subst Made (sym are)
-        (records_fit_later program i program.steps (subst Ordered (sym fits.records_in_order) (λ k d h. omega (arith, All-range 0 program.records k d h))));
+          subst Made (sym are)
+          (records_fit_later program i program.steps (subst Ordered (sym fits.records_in_order) (λ k d h. omega (arith, All-range 0 program.records k d h))));
     }

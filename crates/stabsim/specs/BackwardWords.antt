@@ -1,7 +1,7 @@
 -- Going back over the steps of a program with one word a target: the sensitivity of the target for the steps that come
 -- after. And what is found on the way: the targets that each fault hits, and for each record the targets that name it
 -- an odd number of times.
-use Rattle.std.specs.Prelude.{ℕ, ◌+◌, Bool, false, List, [], ◌∷◌, ◌++◌, map, filter, length, slice_set, slice_index_or, Option, None, Some}
+use Rattle.std.specs.Prelude.{ℕ, Bool, false, List, [], ◌∷◌, ◌++◌, map, filter, length, slice_set, slice_index_or, Option, None, Some}
 use Rattle.std.specs.List.{range_with_len}
 use Rattle.gate_table.specs.declared.gate.Gate.{Gate}
 use Rattle.gate_table.specs.Images.{image1, image2}

@@ -1,6 +1,6 @@
 -- Programs that keep each qubit 0 or 1: their gates are X, CX and SWAP, they collapse Z alone, and their faults
 -- apply X alone. A run of such a program needs one bit a qubit, and no outcome of it is random.
-use Rattle.std.specs.Prelude.{Bool, true, false, ◌≡◌}
+use Rattle.std.specs.Prelude.{Bool, true, false}
 use Rattle.std.specs.List.{list_all, AllPass}
 use Rattle.gate_table.specs.declared.gate.Gate.{Gate}
 use Rattle.gate_table.specs.declared.gate.Gate.TheVariants as gate

@@ -96,7 +96,14 @@ fn find_hits<'a, A: Allocator + Copy>(
     let mut left = steps.len();
     while left > 0 {
         left -= 1;
-        pass(alloc, program, &steps[left..], &lists, words.as_mut_slice(), &mut found)?;
+        pass(
+            alloc,
+            program,
+            &steps[left..],
+            &lists,
+            words.as_mut_slice(),
+            &mut found,
+        )?;
     }
     Ok(found)
 }

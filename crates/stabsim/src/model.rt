@@ -29,14 +29,12 @@ impl<'a, A: Allocator + Copy> Model for ErrorModel<'a, A> {
 
     ghost use Rattle.stabsim.specs.ErrorLines.{lines_of};
 
-    ghost view = {
-        λ m. record {
-            lines = lines_of m.texts.items m.targets;
-            coordinates = m.coordinates;
-            detectors = length m.coordinates;
-            observables = m.observables;
-        }
-    };
+    ghost view = { λ m. record {
+      lines = lines_of m.texts.items m.targets;
+      coordinates = m.coordinates;
+      detectors = length m.coordinates;
+      observables = m.observables;
+    } };
 
     ghost invariant = { λ m. length m.texts.items ≡ length m.targets };
 }

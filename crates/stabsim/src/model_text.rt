@@ -174,10 +174,7 @@ fn write_observable<A: Allocator + Copy>(
     Ok(())
 }
 
-fn write_number<A: Allocator + Copy>(
-    text: &mut Vec<u8, A>,
-    number: usize,
-) -> Result<(), AllocError>
+fn write_number<A: Allocator + Copy>(text: &mut Vec<u8, A>, number: usize) -> Result<(), AllocError>
     ensures { OnOk result (text.new.items ≡ text.old.items ++ decimal number) }
 {
     let mut buffer = Buffer::new();
@@ -207,8 +204,7 @@ mod tests {
         let mut model = ErrorModel::new(Global, coordinates, 1);
         model.push_line(b"0.1", &[0, 2])?;
         let text = text_of(Global, &model)?;
-        assert_eq!(
-            rt;
+        assert_eq!(rt;
             text.as_slice(),
             b"error(0.1) D0 L0\ndetector(0, -3) D0\ndetector D1\nlogical_observable L0\n".as_slice()
         );

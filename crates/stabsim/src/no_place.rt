@@ -9,5 +9,4 @@ ghost use Rattle.stabsim.specs.Classical.{IsClassical};
 #[tactic(auto, using(crate::proofs::ClassicalLemmas::classical_has_no_place))]
 pub(crate) fn classical_targets_have_no_place()
     ensures { (program : Listing) (d : ℕ) → IsClassical program → place_of program d ≡ None }
-{
-}
+{}

@@ -1,11 +1,11 @@
-use Rattle.std.proofs.Common.{◌≡◌, ◌<◌, ◌≤◌, ◌+◌, ◌-◌, ℕ, List, length, drop, take, ap, sym, ◌∙◌, arith}
+use Rattle.std.proofs.Common.{◌≡◌, ◌<◌, ◌+◌, ◌-◌, length, drop, ap, sym, ◌∙◌, arith}
 use Rattle.std.specs.Prelude.{replicate}
 use Rattle.std.proofs.lemmas.List.{drop_all, with_items_is, take_rest}
 use Rattle.pauli_word.specs.Words.{identity_word}
 use Rattle.step_model.specs.Targets.{targets_of}
 use Rattle.stabsim.specs.BackwardWords.{words_before, hits_found}
 use Rattle.stabsim.proofs.BackwardLemmas.{words_before-none}
-use Rattle.stabsim.proofs.StepLemmas.{AreLast, AreLast-from}
+use Rattle.stabsim.proofs.StepLemmas.{AreLast-from}
 use Rattle.stabsim.proofs.HitLemmas.{hits_found-all}
 use Rattle.stabsim.proofs.backward.find_hits.Goals as goal
 
@@ -17,10 +17,10 @@ loop-left-init g c =
     record {
       within = omega arith;
       words =
-        c.in_ok-words.ensures
-        ∙ (ap (λ n. replicate n (identity_word c.qubits.result)) c.target_count.ensures.count
-        ∙ (ap (λ n. replicate (length (targets_of program)) (identity_word n)) c.qubits.ensures
-        ∙ (words_before-none program ∙ sym (ap (words_before program) past))));
+          c.in_ok-words.ensures
+          ∙ (ap (λ n. replicate n (identity_word c.qubits.result)) c.target_count.ensures.count
+          ∙ (ap (λ n. replicate (length (targets_of program)) (identity_word n)) c.qubits.ensures
+          ∙ (words_before-none program ∙ sym (ap (words_before program) past))));
       found = c.new-found.ensures ∙ sym (ap (hits_found program) past);
     }
 
@@ -76,7 +76,7 @@ loop-left-preserved g c =
     record {
       within = omega (arith, c.loop-left.invariant.within);
       words =
-        with_items_is c.loop-left.words c.pass.new.words (omega (arith, c.pass.auto.words, c.as_mut_slice.ensures.len))
-        ∙ (c.in_ok-pass.ensures.words ∙ ap (words_before program) rest);
+          with_items_is c.loop-left.words c.pass.new.words (omega (arith, c.pass.auto.words, c.as_mut_slice.ensures.len))
+          ∙ (c.in_ok-pass.ensures.words ∙ ap (words_before program) rest);
       found = c.in_ok-pass.ensures.found ∙ ap (hits_found program) rest;
     }

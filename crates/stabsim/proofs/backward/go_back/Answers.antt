@@ -1,11 +1,11 @@
-use Rattle.std.proofs.Common.{◌≡◌, ◌<◌, ℕ, List, [], ◌∷◌, length, drop, map, ap, subst, sym, ◌∙◌}
+use Rattle.std.proofs.Common.{◌<◌, ℕ, List, length, drop, map, ap, subst, sym, ◌∙◌}
 use Rattle.std.specs.Prelude.{All, IfSome}
 use Rattle.gate_table.specs.Images.{inverse_of}
 use Rattle.pauli_word.specs.Words.{Signed}
-use Rattle.step_model.specs.declared.step.Step.TheVariants.{One, Two, Collapse, Fault}
+use Rattle.step_model.specs.declared.step.Step.TheVariants.{One, Two, Collapse}
 use Rattle.stabsim.specs.BackwardWords.{words_before, moved_one, moved_two, times_listed, listed_for, cleared_words, record_targets}
 use Rattle.stabsim.proofs.BackwardLemmas.{words_before-in_range, words_before-one, words_before-two, words_before-collapse, listed_in_range, record_has_list}
-use Rattle.stabsim.proofs.StepLemmas.{IsFirst, IsFirst-from, one_qubit_fits, two_qubits_fit, collapse_qubit_fits, collapse_record_fits}
+use Rattle.stabsim.proofs.StepLemmas.{IsFirst-from, one_qubit_fits, two_qubits_fit, collapse_qubit_fits, collapse_record_fits}
 use Rattle.stabsim.proofs.backward.go_back.Goals as goal
 
 pub move_one-requires-clause-in_range : goal.move_one-requires-clause-in_range

@@ -1,4 +1,4 @@
-use Rattle.std.proofs.Common.{◌<◌, ◌-◌, [], length, get_or, ap, sym, ◌∙◌, arith}
+use Rattle.std.proofs.Common.{◌<◌, ◌-◌, [], length, get_or, ap, ◌∙◌, arith}
 use Rattle.stabsim.proofs.HitLemmas.{found_at, length-found, model_below-taken, model_below-left}
 use Rattle.stabsim.proofs.backward.lines_from.Goals as goal
 use Rattle.stabsim.proofs.backward.lines_from.Goals.{then-targets-ne0+in_ok-push_line, else-targets-ne0}
@@ -16,7 +16,7 @@ loop-f-preserved g c =
     let are_hit = c.get-targets.ensures.value
     ∙ (ap (λ n. get_or c.args.found.now (n - 1 - f) []) c.fault_count-count.ensures ∙ found_at program c.args.found.now f c.requires within) in
     elim c.if-targets-ne0.branch [
-      then-targets-ne0+in_ok-push_line w ↦
-      w.model-is ∙ model_below-taken program f c.loop-f.model w.push_line.new.self w.fault_text.result.now targets c.loop-f.invariant w.fault_text.ensures are_hit w.if-targets-ne0.true w.in_ok-push_line.ensures.ok
-    | else-targets-ne0 w ↦ w.model-is ∙ model_below-left program f c.loop-f.model targets c.loop-f.invariant are_hit w.if-targets-ne0.false
+      | then-targets-ne0+in_ok-push_line w ↦
+          w.model-is ∙ model_below-taken program f c.loop-f.model w.push_line.new.self w.fault_text.result.now targets c.loop-f.invariant w.fault_text.ensures are_hit w.if-targets-ne0.true w.in_ok-push_line.ensures.ok
+      | else-targets-ne0 w ↦ w.model-is ∙ model_below-left program f c.loop-f.model targets c.loop-f.invariant are_hit w.if-targets-ne0.false
     ]

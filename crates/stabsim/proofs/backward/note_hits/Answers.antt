@@ -1,4 +1,4 @@
-use Rattle.std.proofs.Common.{◌≡◌, ◌<◌, ℕ, List, [], ◌∷◌, ◌++◌, length, drop, map, ap, subst, sym, ◌∙◌}
+use Rattle.std.proofs.Common.{◌<◌, ℕ, List, [], ◌∷◌, ◌++◌, length, drop, map, ap, subst, sym, ◌∙◌}
 use Rattle.std.specs.Prelude.{All, IfSome}
 use Rattle.std.specs.Option.{option_to_list}
 use Rattle.std.proofs.lemmas.Result.{on_ok_weaker}
@@ -26,12 +26,12 @@ returns-in-Collapse g c =
     let first = IsFirst-from program steps (Collapse c.in-Collapse.letter c.in-Collapse.qubit c.in-Collapse.rec c.in-Collapse.reset c.in-Collapse.inverted c.in-Collapse.flip) _ c.requires.some c.requires.steps_fit c.requires.records_fit c.in-Collapse.is in
     on_ok_weaker c.note_flip.result
     (λ noted. noted
-     ∙ (ap (λ lists. c.args.found.now ++ map (λ f. listed_for lists c.in-Collapse.rec) (option_to_list c.in-Collapse.flip)) c.requires.lists
-     ∙ (ap (λ found. found ++ map (λ f. listed_for (record_targets program) c.in-Collapse.rec) (option_to_list c.in-Collapse.flip)) c.requires.found
-     ∙ (hits_found-collapse program c.in-Collapse.letter c.in-Collapse.qubit c.in-Collapse.rec c.in-Collapse.reset c.in-Collapse.inverted c.in-Collapse.flip (drop 1 steps)
-        (collapse_record_fits program c.in-Collapse.letter c.in-Collapse.qubit c.in-Collapse.rec c.in-Collapse.reset c.in-Collapse.inverted c.in-Collapse.flip (drop 1 steps) first.records)
-        (flip_has_record program c.in-Collapse.letter c.in-Collapse.qubit c.in-Collapse.rec c.in-Collapse.reset c.in-Collapse.inverted c.in-Collapse.flip first.fits)
-     ∙ ap (hits_found program) (sym first.front)))))
+    ∙ (ap (λ lists. c.args.found.now ++ map (λ f. listed_for lists c.in-Collapse.rec) (option_to_list c.in-Collapse.flip)) c.requires.lists
+    ∙ (ap (λ found. found ++ map (λ f. listed_for (record_targets program) c.in-Collapse.rec) (option_to_list c.in-Collapse.flip)) c.requires.found
+    ∙ (hits_found-collapse program c.in-Collapse.letter c.in-Collapse.qubit c.in-Collapse.rec c.in-Collapse.reset c.in-Collapse.inverted c.in-Collapse.flip (drop 1 steps)
+    (collapse_record_fits program c.in-Collapse.letter c.in-Collapse.qubit c.in-Collapse.rec c.in-Collapse.reset c.in-Collapse.inverted c.in-Collapse.flip (drop 1 steps) first.records)
+    (flip_has_record program c.in-Collapse.letter c.in-Collapse.qubit c.in-Collapse.rec c.in-Collapse.reset c.in-Collapse.inverted c.in-Collapse.flip first.fits)
+    ∙ ap (hits_found program) (sym first.front)))))
     c.note_flip.ensures
 
 pub hit_by-requires-clause-in_range : goal.hit_by-requires-clause-in_range
@@ -51,9 +51,9 @@ returns-in_ok-hit-in-Fault g c =
     let terms = c.fault_terms.result.now in
     on_ok_weaker c.push.result
     (λ noted. noted
-     ∙ (ap (λ hit. c.args.found.now ++ hit ∷ [])
-        (c.as_slice.ensures.value ∙ (c.in_ok-hit-in-Fault.ensures ∙ ap (anticommuting terms) c.requires.words))
-     ∙ (ap (λ found. found ++ anticommuting terms (words_before program (drop 1 steps)) ∷ []) c.requires.found
-     ∙ (hits_found-fault program c.in-Fault.f terms (drop 1 steps) c.fault_terms.ensures
-     ∙ ap (hits_found program) (sym first.front)))))
+    ∙ (ap (λ hit. c.args.found.now ++ hit ∷ [])
+    (c.as_slice.ensures.value ∙ (c.in_ok-hit-in-Fault.ensures ∙ ap (anticommuting terms) c.requires.words))
+    ∙ (ap (λ found. found ++ anticommuting terms (words_before program (drop 1 steps)) ∷ []) c.requires.found
+    ∙ (hits_found-fault program c.in-Fault.f terms (drop 1 steps) c.fault_terms.ensures
+    ∙ ap (hits_found program) (sym first.front)))))
     c.push.ensures.ok

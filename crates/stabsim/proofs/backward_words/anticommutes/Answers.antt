@@ -1,5 +1,4 @@
-use Rattle.std.proofs.Common.{◌≡◌, ◌<◌, ◌≤◌, ◌+◌, [], ◌∷◌, length, drop, get_or, ap, ap₂, sym, ◌∙◌, arith}
-use Rattle.std.specs.Prelude.{All}
+use Rattle.std.proofs.Common.{◌≡◌, ◌<◌, ◌≤◌, ◌+◌, ◌∷◌, length, drop, get_or, ap, sym, ◌∙◌, arith}
 use Rattle.std.proofs.lemmas.List.{drop_more, drop_all}
 use Rattle.std.proofs.lemmas.List.Elements.{All-get_or}
 use Rattle.pauli_word.specs.declared.letter.Letter.TheVariants.{I}
@@ -25,9 +24,9 @@ loop-term-preserved g c =
     let clash = c.clashes-odd.ensures ∙ ap (letters_clash (get_or terms i d).letter) c.letter.ensures in
     flipped_by c.loop-term.odd c.clashes-odd.result (anticommute w (word_of_terms (length w) (drop (i + 1) terms)))
     ∙ (ap (exclusive_or c.loop-term.odd)
-       (ap (λ x. exclusive_or x (anticommute w (word_of_terms (length w) (drop (i + 1) terms)))) clash
-        ∙ (sym (anticommute-term w (get_or terms i d) (drop (i + 1) terms) fits) ∙ ap (λ ts. anticommute w (word_of_terms (length w) ts)) (sym read)))
-       ∙ c.loop-term.invariant)
+    (ap (λ x. exclusive_or x (anticommute w (word_of_terms (length w) (drop (i + 1) terms)))) clash
+    ∙ (sym (anticommute-term w (get_or terms i d) (drop (i + 1) terms) fits) ∙ ap (λ ts. anticommute w (word_of_terms (length w) ts)) (sym read)))
+    ∙ c.loop-term.invariant)
 
 pub returns : goal.returns
 returns g c =
@@ -37,5 +36,5 @@ returns g c =
     let past : length terms ≤ i = omega arith in
     sym (exclusive_or-false c.loop-term.odd)
     ∙ (ap (exclusive_or c.loop-term.odd)
-       (sym (ap (λ ts. anticommute w (word_of_terms (length w) ts)) (drop_all i terms past) ∙ (anticommute_comm w (no_letters (length w)) ∙ anticommute_of_none (length w) w)))
-       ∙ c.loop-term.invariant)
+    (sym (ap (λ ts. anticommute w (word_of_terms (length w) ts)) (drop_all i terms past) ∙ (anticommute_comm w (no_letters (length w)) ∙ anticommute_of_none (length w) w)))
+    ∙ c.loop-term.invariant)

@@ -1,4 +1,3 @@
-use Rattle.std.proofs.Common.{◌≡◌, ◌++◌, ◌∷◌, [], length, ap, sym, ◌∙◌}
 use Rattle.stabsim.proofs.ErrorLineLemmas.{lines_of-push}
 use Rattle.stabsim.proofs.model.ErrorModel.push_line.Goals as goal
 

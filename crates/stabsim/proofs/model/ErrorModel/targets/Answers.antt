@@ -17,4 +17,4 @@ returns g c =
     let within : c.args.line < length texts = omega (arith, same, counted, c.requires) in
     c.get.ensures.value
     ∙ (sym (ap (λ l. l.targets) (get_or-lines_of texts c.self.inside.targets c.args.line (record { text = record { ref_ptr = c.args.self.ref_ptr; now = c.get.result.now } }) c.self.invariant within))
-       ∙ ap (λ m. (line_at m c.args.line).targets) c.self.view_is)
+    ∙ ap (λ m. (line_at m c.args.line).targets) c.self.view_is)

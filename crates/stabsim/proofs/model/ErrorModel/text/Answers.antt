@@ -17,4 +17,4 @@ returns g c =
     let within : c.args.line < length texts = omega (arith, same, counted, c.requires) in
     ap (λ t. t.text.now) c.index.ensures
     ∙ (sym (ap (λ l. l.text) (get_or-lines_of texts c.self.inside.targets c.args.line c.index.result.now c.self.invariant within))
-       ∙ ap (λ m. (line_at m c.args.line).text) c.self.view_is)
+    ∙ ap (λ m. (line_at m c.args.line).text) c.self.view_is)

@@ -12,5 +12,5 @@ returns g c =
     let within : c.args.rec < length lists = omega (arith, counted, length-map lists (λ v. v.items), c.requires) in
     on_ok_weaker c.toggle_in.result
     (λ h. toggled_in_place (λ v. v.items) lists c.args.rec c.args.target c.index_mut.result.now c.toggle_in.new.list within c.index_mut.ensures.value h
-     ∙ ap (toggled_at c.args.rec c.args.target) c.self.view_is)
+    ∙ ap (toggled_at c.args.rec c.args.target) c.self.view_is)
     c.toggle_in.ensures
