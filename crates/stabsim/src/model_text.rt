@@ -189,25 +189,4 @@ fn write_whole<A: Allocator + Copy>(text: &mut Vec<u8, A>, number: i64) -> Resul
 }
 
 #[cfg(test)]
-mod tests {
-    use super::text_of;
-    use crate::model::ErrorModel;
-    use flat_lists::FlatLists;
-    use std::alloc::Global;
-    use std::test::Fail;
-
-    #[test]
-    fn lines_detectors_and_observables(rt: HostRuntime) -> Result<(), Fail> {
-        let mut coordinates = FlatLists::new(Global);
-        coordinates.push(&[0, -3])?;
-        coordinates.push(&[])?;
-        let mut model = ErrorModel::new(Global, coordinates, 1);
-        model.push_line(b"0.1", &[0, 2])?;
-        let text = text_of(Global, &model)?;
-        assert_eq!(rt;
-            text.as_slice(),
-            b"error(0.1) D0 L0\ndetector(0, -3) D0\ndetector D1\nlogical_observable L0\n".as_slice()
-        );
-        Ok(())
-    }
-}
+mod tests;
