@@ -1,11 +1,15 @@
+pub mod BackwardWords
 pub mod Bits
 pub mod Circuits
 pub mod Classical
+pub mod ErrorLines
 pub mod Instructions
 pub mod Lines
 pub mod Lists
+pub mod ModelText
 pub mod Output
 pub mod Parsed
 pub mod Pieces
+pub mod RecordTargets
 pub mod Totals
 pub mod Unrolled

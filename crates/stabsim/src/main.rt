@@ -3,6 +3,8 @@
 //! with 2 where the circuit, what was given beside it or the command line is refused.
 #![tactic(auto)]
 
+mod backward;
+mod backward_words;
 mod circuit;
 mod detections;
 mod detectors;
@@ -10,9 +12,13 @@ mod faults;
 mod head;
 mod line;
 mod lists;
+mod model;
+mod model_text;
+mod no_place;
 mod order;
 mod output;
 mod parse;
+mod record_targets;
 mod records;
 mod run;
 mod serve;
