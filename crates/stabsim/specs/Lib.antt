@@ -3,6 +3,7 @@ pub mod Bits
 pub mod Circuits
 pub mod Classical
 pub mod ErrorLines
+pub mod Headline
 pub mod Instructions
 pub mod Lines
 pub mod Lists

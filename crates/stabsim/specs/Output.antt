@@ -4,14 +4,16 @@ use Rattle.std.specs.Option.{option_copied}
 use Rattle.step_model.specs.declared.fault.Fault.{Fault}
 use Rattle.step_model.specs.declared.fault.Cause.TheVariants.{CoinCount, FaultNumber}
 use Rattle.step_model.specs.Faults.{cause_number, without_line}
+use Rattle.step_model.specs.HitModels.{model_of}
 use Rattle.step_model.specs.Listing.{Listing}
 use Rattle.step_model.specs.Runs.{records_of}
 use Rattle.step_model.specs.Targets.{difference}
 use Rattle.stabsim.specs.declared.order.Order.{Order}
-use Rattle.stabsim.specs.declared.order.Order.TheVariants.{Run}
+use Rattle.stabsim.specs.declared.order.Order.TheVariants.{Run, Analyze}
 use Rattle.stabsim.specs.declared.order.Status.{Status}
 use Rattle.stabsim.specs.declared.order.Status.TheVariants.{Done, Refused}
 use Rattle.stabsim.specs.Lists.{coins_of, numbers_of}
+use Rattle.stabsim.specs.ModelText.{model_text}
 use Rattle.stabsim.specs.Unrolled.{program_of}
 
 -- the character 1 or 0
@@ -61,6 +63,12 @@ run_output coin_text fault_text text = do
   faults ← ok_or (numbers_of (length program.faults) fault_text) (without_line FaultNumber)
   Ok (run_lines program faults coins)
 
+-- what an analysis writes: the text of the error model of the program's hits
+abbrev pub analysis_output : List ℕ → Result (List ℕ) Fault
+analysis_output text = do
+  program ← program_of text
+  Ok (model_text (model_of program))
+
 -- a refusal is told in its line, and nothing else is written
 abbrev pub told : Result (List ℕ) Fault → List ℕ × Status
 told (Ok lines) = (lines, Done)
@@ -68,3 +76,4 @@ told (Err fault) = (refusal_line fault, Refused)
 
 abbrev pub output_of : Order → List ℕ → List ℕ × Status
 output_of (Run coins faults) text = told (run_output (option_copied coins) faults.now text)
+output_of Analyze text = told (analysis_output text)

@@ -7,6 +7,8 @@ pub enum Order<'o> {
         coins: Option<&'o [u8]>,
         faults: &'o [u8],
     },
+    /// The error model: for each fault that flips a detector or an observable, which ones.
+    Analyze,
 }
 
 /// How an order was served: as asked, or by a line that says why not.

@@ -1,15 +1,20 @@
 //! Orders on a circuit, from its bytes to the bytes of the answer.
-ghost use Rattle.std.specs.Prelude.{◌≡◌, ◌≢◌, ◌⊎◌, [], false, length, replicate, None, Some, Ok, Err, IfOk, IfErr, IfSome, OnOk, OnErr};
+ghost use Rattle.std.specs.Prelude.{◌≡◌, ◌≢◌, ◌⊎◌, ℕ, List, [], false, length, replicate, None, Some, Ok, Err, IfOk, IfErr, IfSome, OnOk, OnErr};
 ghost use Rattle.std.specs.Option.{option_copied};
 ghost use Rattle.step_model.specs.declared.fault.Cause.TheVariants.{CoinCount, Memory};
 ghost use Rattle.step_model.specs.Ends.{HandsOutSome, Takes, TakesBeginning, read_failures, write_failures};
 ghost use Rattle.step_model.specs.Faults.{memory_fault, read_fault, without_line, write_fault};
 ghost use Rattle.step_model.specs.Runs.{records_of};
 ghost use Rattle.stabsim.specs.Classical.{IsClassical};
-ghost use Rattle.stabsim.specs.Output.{no_faults, output_of, refusal_line, run_coins, run_lines, run_output, zero_coins};
+ghost use Rattle.stabsim.specs.declared.order.Order.TheVariants.{Analyze};
+ghost use Rattle.stabsim.specs.declared.order.Status.TheVariants.{Done};
+ghost use Rattle.stabsim.specs.Headline.{IsExactFor};
+ghost use Rattle.stabsim.specs.Output.{analysis_output, no_faults, output_of, refusal_line, run_coins, run_lines, run_output, told, zero_coins};
 
+use crate::backward::analyse;
 use crate::detections::detections;
 use crate::lists::{read_coins, read_numbers};
+use crate::model_text::text_of;
 use crate::order::{Order, Status};
 use crate::output::{refusal_text, two_lines};
 use crate::records::Records;
@@ -39,6 +44,10 @@ pub fn serve<R: Source, W: Sink, A: Allocator + Copy>(
     ensures status { IfOk result (λ status. IfSome (R.left source.old) (λ text.
         status ≡ (output_of order.now text).1)) }
 
+    // The headline: an analysis that is done wrote the text of a model that fits the circuit and is exact.
+    ensures exact { IfOk result (λ status. order.now ≡ Analyze → status ≡ Done → IfSome (R.left source.old) (λ text.
+        (bytes : List ℕ) × Takes (W.taken sink.old) (W.taken sink.new) bytes × IsExactFor text bytes)) }
+
     // The source failed, the sink failed, or there was no memory: each count has one more exactly where its end failed.
     ensures fault { IfErr result (λ e. (e ≡ memory_fault) ⊎ (e ≡ read_fault) ⊎ (e ≡ write_fault)) }
     ensures reads { R.failures source.new ≡ read_failures result (R.failures source.old) }
@@ -65,9 +74,25 @@ fn answer<A: Allocator + Copy>(
 ) -> Result<(Vec<u8, A>, Status), Fault>
     ensures output { IfOk result (λ answer. answer.0.items ≡ (output_of order.now text.now).0) }
     ensures status { IfOk result (λ answer. answer.1 ≡ (output_of order.now text.now).1) }
+    ensures exact { IfOk result (λ answer. order.now ≡ Analyze → answer.1 ≡ Done → IsExactFor text.now answer.0.items) }
     ensures err { IfErr result (λ e. e ≡ memory_fault) }
 {
-    let Order::Run { coins, faults } = *order;
+    match *order {
+        Order::Run { coins, faults } => run_answer(alloc, coins, faults, text),
+        Order::Analyze => analysis_answer(alloc, text),
+    }
+}
+
+fn run_answer<A: Allocator + Copy>(
+    alloc: A,
+    coins: Option<&[u8]>,
+    faults: &[u8],
+    text: &[u8],
+) -> Result<(Vec<u8, A>, Status), Fault>
+    ensures output { IfOk result (λ answer. answer.0.items ≡ (told (run_output (option_copied coins.entry) faults.now text.now)).0) }
+    ensures status { IfOk result (λ answer. answer.1 ≡ (told (run_output (option_copied coins.entry) faults.now text.now)).1) }
+    ensures err { IfErr result (λ e. e ≡ memory_fault) }
+{
     match run_text(alloc, coins, faults, text) {
         Ok(output) => Ok((output, Status::Done)),
         Err(fault) => {
@@ -75,6 +100,36 @@ fn answer<A: Allocator + Copy>(
             Ok((line, Status::Refused))
         }
     }
+}
+
+fn analysis_answer<A: Allocator + Copy>(
+    alloc: A,
+    text: &[u8],
+) -> Result<(Vec<u8, A>, Status), Fault>
+    ensures output { IfOk result (λ answer. answer.0.items ≡ (told (analysis_output text.now)).0) }
+    ensures status { IfOk result (λ answer. answer.1 ≡ (told (analysis_output text.now)).1) }
+    ensures exact { IfOk result (λ answer. answer.1 ≡ Done → IsExactFor text.now answer.0.items) }
+    ensures err { IfErr result (λ e. e ≡ memory_fault) }
+{
+    match analysis_text(alloc, text) {
+        Ok(output) => Ok((output, Status::Done)),
+        Err(fault) => {
+            let line = refusal(alloc, fault)?;
+            Ok((line, Status::Refused))
+        }
+    }
+}
+
+/// The error model of a text's circuit, or why it is refused.
+fn analysis_text<A: Allocator + Copy>(alloc: A, text: &[u8]) -> Result<Vec<u8, A>, Fault>
+    ensures ok { IfOk result (λ lines. analysis_output text.now ≡ Ok lines.items) }
+    ensures exact { IfOk result (λ lines. IsExactFor text.now lines.items) }
+    ensures err { IfErr result (λ e. (e ≡ memory_fault) ⊎ (analysis_output text.now ≡ Err e)) }
+{
+    let program = read_program(alloc, text)?;
+    let _steps = program.steps();
+    let model = analyse(alloc, &program)?;
+    text_of(alloc, &model)
 }
 
 /// The line that says why an order is refused. A want of memory is no refusal.
