@@ -1,11 +1,10 @@
 -- What tests of a hand written program rest on: numbers in order, and the faults that parts make.
-use Rattle.std.proofs.Common.{◌≡◌, ℕ, zero, suc, ◌+◌, ◌<◌, ◌≤◌, ◌==◌, ◌&&◌, nat_lt, not, Bool, true, false, List, [], ◌∷◌, ◌++◌, All, length, get_or, drop, Option, Some, None, is_some, refl, sym, ap, ap₂, ◌∙◌, subst, arith, add-one, add-zero, zero-add}
+use Rattle.std.proofs.Common.{◌≡◌, ℕ, zero, suc, ◌+◌, ◌<◌, ◌≤◌, ◌==◌, ◌&&◌, nat_lt, not, Bool, true, false, List, [], ◌∷◌, ◌++◌, All, length, get_or, Option, Some, None, is_some, refl, sym, ap, ◌∙◌, subst, arith, add-one, add-zero, zero-add}
 use Rattle.std.specs.List.{range_with_len}
 use Rattle.std.proofs.lemmas.Bool.{lt-ltb, le-ltb, eqb-true}
 use Rattle.step_model.specs.declared.program.FaultPart.{FaultPart}
-use Rattle.step_model.specs.declared.step.Step.{Step}
 use Rattle.step_model.specs.declared.step.Term.{Term}
-use Rattle.step_model.specs.Listing.{Effect, no_effect}
+use Rattle.step_model.specs.Listing.{no_effect}
 use Rattle.step_model.specs.Made.{made_faults, made_effect}
 use Rattle.step_model.specs.Probabilities.{probability_bound}
 use Rattle.step_model.specs.WellFormed.{applies_word, flips_record, FaultFits, EffectFits}

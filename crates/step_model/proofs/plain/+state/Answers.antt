@@ -1,4 +1,4 @@
-use Rattle.std.proofs.Common.{◌≡◌, ◌-◌, ◌&&◌, Bool, true, false, sym, ap, ap₂, ◌∙◌, arith, unwrap_or}
+use Rattle.std.proofs.Common.{◌-◌, ◌&&◌, sym, ap, ap₂, ◌∙◌, arith, unwrap_or}
 use Rattle.pauli_word.specs.Words.{anticommute, lone_letter, product}
 use Rattle.step_model.specs.Listing.{effect_word}
 use Rattle.step_model.specs.Runs.{moment_after, next_coin, changed, signed}

@@ -1,5 +1,5 @@
-use Rattle.std.proofs.Common.{◌≡◌, ◌+◌, ap, ◌∙◌, ◌++◌, [], sym, refl, arith, unwrap_or}
-use Rattle.step_model.specs.Runs.{Moment, moment_after, next_coin}
+use Rattle.std.proofs.Common.{◌+◌, ap, ◌∙◌, sym, refl, unwrap_or}
+use Rattle.step_model.specs.Runs.{moment_after, next_coin}
 use Rattle.step_model.proofs.PlainLemmas.{moment_after-more, next_coin-moment_after, no_record, record_made, no_record_made, append-none}
 use Rattle.step_model.proofs.plain.record_made.Goals as goal
 

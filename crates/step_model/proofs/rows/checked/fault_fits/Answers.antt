@@ -1,4 +1,4 @@
-use Rattle.std.proofs.Common.{length, get_or, sym, ap, ◌∙◌, subst, All, ◌<◌, arith}
+use Rattle.std.proofs.Common.{length, get_or, sym, ap, ◌∙◌, subst, All, ◌<◌}
 use Rattle.step_model.proofs.PlainChecks.{zero_fits}
 use Rattle.step_model.proofs.rows.checked.fault_fits.Goals as goal
 

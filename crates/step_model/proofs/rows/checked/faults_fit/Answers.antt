@@ -1,4 +1,4 @@
-use Rattle.std.proofs.Common.{◌<◌, length, arith, below_more, subst, refl}
+use Rattle.std.proofs.Common.{arith, below_more, refl}
 use Rattle.std.proofs.lemmas.List.Elements.{All-from_get_or}
 use Rattle.step_model.specs.Listing.{no_effect, fault_at}
 use Rattle.step_model.specs.Made.{listing_of, made_faults}
