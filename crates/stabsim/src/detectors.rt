@@ -99,7 +99,13 @@ pub(crate) fn detectors_of<A: Allocator + Copy>(
     let mut records: u32 = 0;
     for i in 0..circuit.len() {
         let (heading, targets) = circuit.get(i);
-        push_detector(&mut detectors, &mut named, heading.operation, records, targets)?;
+        push_detector(
+            &mut detectors,
+            &mut named,
+            heading.operation,
+            records,
+            targets,
+        )?;
         records += records_made_of(heading.operation, targets.len()) as u32;
     }
     Ok(detectors)

@@ -18,6 +18,7 @@ const MAX_RECORDS: u64 = 1_000_000;
 const MAX_COLLAPSES: u64 = 1_000_000;
 
 const MAX_DETECTORS: u64 = 1_000_000;
+
 const MAX_STEPS: u64 = 4_000_000;
 
 /// The program of a circuit whose totals are within the limits.

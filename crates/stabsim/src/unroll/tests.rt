@@ -257,13 +257,25 @@ fn detectors(rt: HostRuntime) -> Result<(), Fail> {
 #[test]
 fn detectors_that_are_refused(rt: HostRuntime) -> Result<(), Fail> {
     let cases: [(&[u8], Cause, u64); 4] = [
-        (b"M 0\nDETECTOR rec[-2]\nDETECTOR rec[-3]", Cause::RecordBeforeStart, 2),
+        (
+            b"M 0\nDETECTOR rec[-2]\nDETECTOR rec[-3]",
+            Cause::RecordBeforeStart,
+            2,
+        ),
         (b"DETECTOR rec[-1]\nM 0", Cause::RecordBeforeStart, 1),
-        (b"M 0\n\nDETECTOR rec[-1] rec[-2]", Cause::RecordBeforeStart, 3),
+        (
+            b"M 0\n\nDETECTOR rec[-1] rec[-2]",
+            Cause::RecordBeforeStart,
+            3,
+        ),
         (b"DETECTOR rec[-1]\nM 0\nH 0", Cause::LeftOut, 3),
     ];
     for (text, cause, line) in cases {
-        assert_eq!(rt; refusal(rt.alloc(), text), Some(Fault { cause, line }), "{text:?}");
+        assert_eq!(rt;
+            refusal(rt.alloc(), text),
+            Some(Fault { cause, line }),
+            "{text:?}"
+        );
     }
     Ok(())
 }
