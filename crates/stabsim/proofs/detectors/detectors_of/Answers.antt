@@ -1,4 +1,4 @@
-use Rattle.std.proofs.Common.{◌≡◌, ◌+◌, ◌<◌, length, drop, ap, sym, ◌∙◌, arith}
+use Rattle.std.proofs.Common.{◌+◌, ◌<◌, length, drop, ap, sym, ◌∙◌, arith}
 use Rattle.stabsim.specs.Circuits.{made_instruction}
 use Rattle.stabsim.specs.Totals.{step_count}
 use Rattle.stabsim.specs.Unrolled.{detectors_from, first_far_line, operation_detectors}

@@ -1,9 +1,9 @@
-use Rattle.std.proofs.Common.{◌≡◌, ◌+◌, false, drop, ap, sym, ◌∙◌, arith}
+use Rattle.std.proofs.Common.{◌+◌, drop, ap, sym, ◌∙◌, arith}
 use Rattle.std.proofs.lemmas.List.{drop_all}
 use Rattle.std.proofs.lemmas.List.Elements.{All-drop}
 use Rattle.stabsim.specs.Circuits.{made_instruction}
 use Rattle.stabsim.specs.Instructions.{IsInstruction}
-use Rattle.stabsim.specs.Unrolled.{first_far_line, goes_back_far}
+use Rattle.stabsim.specs.Unrolled.{first_far_line}
 use Rattle.stabsim.proofs.DetectorLemmas.{first_far_line-here, first_far_line-next, first_far_line-none, first_far_line-past}
 use Rattle.stabsim.proofs.LoopLemmas.{drop_read}
 use Rattle.stabsim.proofs.detectors.first_far_line.Goals as goal
