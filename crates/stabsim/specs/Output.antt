@@ -50,12 +50,13 @@ run_lines program faults coins =
     let reference = records_of program (no_faults program) (zero_coins program) in
     line_of records ++ line_of (difference program records reference)
 
--- what a run writes, or why it is refused: by its circuit first, then by its coins, then by its faults
+-- the next step, where none before it refused
 infixl 10 ◌>>=◌
 abbrev pub ◌>>=◌ : {T U : Type 0} → Result T Fault → (T → Result U Fault) → Result U Fault
 (Ok value) >>= next = next value
 (Err fault) >>= next = Err fault
 
+-- what a run writes, or why it is refused: by its circuit first, then by its coins, then by its faults
 abbrev pub run_output : Option (List ℕ) → List ℕ → List ℕ → Result (List ℕ) Fault
 run_output coin_text fault_text text = do
   program ← program_of text
@@ -63,6 +64,7 @@ run_output coin_text fault_text text = do
   faults ← ok_or (numbers_of (length program.faults) fault_text) (without_line FaultNumber)
   Ok (run_lines program faults coins)
 
+<<<<<<< HEAD
 -- what an analysis writes: the text of the error model of the program's hits
 abbrev pub analysis_output : List ℕ → Result (List ℕ) Fault
 analysis_output text = do
@@ -73,7 +75,18 @@ analysis_output text = do
 abbrev pub told : Result (List ℕ) Fault → List ℕ × Status
 told (Ok lines) = (lines, Done)
 told (Err fault) = (refusal_line fault, Refused)
+=======
+-- where an order is refused, the line that says why is written and nothing else
+abbrev pub answer_of : Result (List ℕ) Fault → List ℕ × Status
+answer_of (Ok lines) = (lines, Done)
+answer_of (Err fault) = (refusal_line fault, Refused)
+>>>>>>> serve
 
+-- what is written for an order and a circuit's text, and how that ends
 abbrev pub output_of : Order → List ℕ → List ℕ × Status
+<<<<<<< HEAD
 output_of (Run coins faults) text = told (run_output (option_copied coins) faults.now text)
 output_of Analyze text = told (analysis_output text)
+=======
+output_of (Run coins faults) text = answer_of (run_output (option_copied coins) faults.now text)
+>>>>>>> serve

@@ -1,5 +1,9 @@
 //! Orders on a circuit, from its bytes to the bytes of the answer.
+<<<<<<< HEAD
 ghost use Rattle.std.specs.Prelude.{◌≡◌, ◌≢◌, ◌⊎◌, ℕ, List, [], false, length, replicate, None, Some, Ok, Err, IfOk, IfErr, IfSome, OnOk, OnErr};
+=======
+ghost use Rattle.std.specs.Prelude.{◌≡◌, ◌≢◌, ◌⊎◌, [], false, length, replicate, None, Some, Ok, Err, IfOk, IfErr, IfSome, OnOk, OnErr, OnSome};
+>>>>>>> serve
 ghost use Rattle.std.specs.Option.{option_copied};
 ghost use Rattle.step_model.specs.declared.fault.Cause.TheVariants.{CoinCount, Memory};
 ghost use Rattle.step_model.specs.Ends.{HandsOutSome, Takes, TakesBeginning, read_failures, write_failures};
@@ -38,7 +42,7 @@ pub fn serve<R: Source, W: Sink, A: Allocator + Copy>(
     sink: &mut W,
 ) -> Result<Status, Fault>
     // Of a source that tells its bytes, all are read, and what is written is the output for them and nothing else.
-    ensures read { OnOk result (IfSome (R.left source.old) (λ text. R.left source.new ≡ Some [])) }
+    ensures read { OnOk result (OnSome (R.left source.old) (R.left source.new ≡ Some [])) }
     ensures written { OnOk result (IfSome (R.left source.old) (λ text.
         Takes (W.taken sink.old) (W.taken sink.new) (output_of order.now text).0)) }
     ensures status { IfOk result (λ status. IfSome (R.left source.old) (λ text.

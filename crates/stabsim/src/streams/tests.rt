@@ -3,8 +3,8 @@ use std::io::{Error, ErrorKind, Read, Result, Write};
 use std::test::Fail;
 use step_model::{Cause, Fault, Sink, Source, read_all, write_all};
 
-/// A device whose first call a signal interrupts, which moves one byte at the second, and does the same of each call
-/// after it, without an end if not told so.
+/// A device whose first call a signal interrupts, and which moves one byte at the second. Each call after that fails in
+/// this way, or moves none.
 #[derive(Drop)]
 struct Device {
     calls: u64,
