@@ -64,29 +64,18 @@ run_output coin_text fault_text text = do
   faults ← ok_or (numbers_of (length program.faults) fault_text) (without_line FaultNumber)
   Ok (run_lines program faults coins)
 
-<<<<<<< HEAD
 -- what an analysis writes: the text of the error model of the program's hits
 abbrev pub analysis_output : List ℕ → Result (List ℕ) Fault
 analysis_output text = do
   program ← program_of text
   Ok (model_text (model_of program))
 
--- a refusal is told in its line, and nothing else is written
-abbrev pub told : Result (List ℕ) Fault → List ℕ × Status
-told (Ok lines) = (lines, Done)
-told (Err fault) = (refusal_line fault, Refused)
-=======
 -- where an order is refused, the line that says why is written and nothing else
 abbrev pub answer_of : Result (List ℕ) Fault → List ℕ × Status
 answer_of (Ok lines) = (lines, Done)
 answer_of (Err fault) = (refusal_line fault, Refused)
->>>>>>> serve
 
 -- what is written for an order and a circuit's text, and how that ends
 abbrev pub output_of : Order → List ℕ → List ℕ × Status
-<<<<<<< HEAD
-output_of (Run coins faults) text = told (run_output (option_copied coins) faults.now text)
-output_of Analyze text = told (analysis_output text)
-=======
 output_of (Run coins faults) text = answer_of (run_output (option_copied coins) faults.now text)
->>>>>>> serve
+output_of Analyze text = answer_of (analysis_output text)

@@ -77,27 +77,32 @@ fn read_line<'a>(alloc: Global, words: &'a [String]) -> Result<ArgMatches<'a>, E
         .about("Writes the records and the detections of a run")
         .arg(coins)?
         .arg(faults)?;
+    let analyze = Command::new(alloc, "analyze").about("Writes the detector error model");
     Command::new(alloc, "stabsim")
-        .about("Simulates the circuit on standard input")
+        .about("Simulates or analyses the circuit on standard input")
         .subcommand_required(true)
         .subcommand(run)?
+        .subcommand(analyze)?
         .try_get_matches_from(words)
 }
 
 fn obey<R: Input + Print + AllocGlobal>(rt: &R, matches: &ArgMatches<'_>) -> u8 {
-    let Some(("run", given)) = matches.subcommand() else {
-        return refuse_line(rt);
-    };
-    let coins = given.get_str("coins").map(|text| text.as_bytes());
-    let faults = given.get_str("faults").unwrap_or("").as_bytes();
+    match matches.subcommand() {
+        Some(("run", given)) => {
+            let coins = given.get_str("coins").map(|text| text.as_bytes());
+            let faults = given.get_str("faults").unwrap_or("").as_bytes();
+            respond_to(rt, &Order::Run { coins, faults })
+        }
+        Some(("analyze", _)) => respond_to(rt, &Order::Analyze),
+        _ => refuse_line(rt),
+    }
+}
+
+/// Serves the order from standard input to standard output.
+fn respond_to<R: Input + Print + AllocGlobal>(rt: &R, order: &Order<'_>) -> u8 {
     let mut source = ReaderSource::new(rt.reader());
     let mut sink = WriterSink::new(io::writer(rt));
-    match serve(
-        rt.alloc(),
-        &Order::Run { coins, faults },
-        &mut source,
-        &mut sink,
-    ) {
+    match serve(rt.alloc(), order, &mut source, &mut sink) {
         Ok(Status::Done) => DONE,
         Ok(Status::Refused) => REFUSED,
         Err(_) => FAILED,

@@ -1,9 +1,5 @@
 //! Orders on a circuit, from its bytes to the bytes of the answer.
-<<<<<<< HEAD
-ghost use Rattle.std.specs.Prelude.{◌≡◌, ◌≢◌, ◌⊎◌, ℕ, List, [], false, length, replicate, None, Some, Ok, Err, IfOk, IfErr, IfSome, OnOk, OnErr};
-=======
-ghost use Rattle.std.specs.Prelude.{◌≡◌, ◌≢◌, ◌⊎◌, [], false, length, replicate, None, Some, Ok, Err, IfOk, IfErr, IfSome, OnOk, OnErr, OnSome};
->>>>>>> serve
+ghost use Rattle.std.specs.Prelude.{◌≡◌, ◌≢◌, ◌⊎◌, ℕ, List, [], false, length, replicate, None, Some, Ok, Err, IfOk, IfErr, IfSome, OnOk, OnErr, OnSome};
 ghost use Rattle.std.specs.Option.{option_copied};
 ghost use Rattle.step_model.specs.declared.fault.Cause.TheVariants.{CoinCount, Memory};
 ghost use Rattle.step_model.specs.Ends.{HandsOutSome, Takes, TakesBeginning, read_failures, write_failures};
@@ -13,7 +9,7 @@ ghost use Rattle.stabsim.specs.Classical.{IsClassical};
 ghost use Rattle.stabsim.specs.declared.order.Order.TheVariants.{Analyze};
 ghost use Rattle.stabsim.specs.declared.order.Status.TheVariants.{Done};
 ghost use Rattle.stabsim.specs.Headline.{IsExactFor};
-ghost use Rattle.stabsim.specs.Output.{analysis_output, no_faults, output_of, refusal_line, run_coins, run_lines, run_output, told, zero_coins};
+ghost use Rattle.stabsim.specs.Output.{analysis_output, answer_of, no_faults, output_of, refusal_line, run_coins, run_lines, run_output, zero_coins};
 
 use crate::backward::analyse;
 use crate::detections::detections;
@@ -93,8 +89,8 @@ fn run_answer<A: Allocator + Copy>(
     faults: &[u8],
     text: &[u8],
 ) -> Result<(Vec<u8, A>, Status), Fault>
-    ensures output { IfOk result (λ answer. answer.0.items ≡ (told (run_output (option_copied coins.entry) faults.now text.now)).0) }
-    ensures status { IfOk result (λ answer. answer.1 ≡ (told (run_output (option_copied coins.entry) faults.now text.now)).1) }
+    ensures output { IfOk result (λ answer. answer.0.items ≡ (answer_of (run_output (option_copied coins.entry) faults.now text.now)).0) }
+    ensures status { IfOk result (λ answer. answer.1 ≡ (answer_of (run_output (option_copied coins.entry) faults.now text.now)).1) }
     ensures err { IfErr result (λ e. e ≡ memory_fault) }
 {
     match run_text(alloc, coins, faults, text) {
@@ -110,8 +106,8 @@ fn analysis_answer<A: Allocator + Copy>(
     alloc: A,
     text: &[u8],
 ) -> Result<(Vec<u8, A>, Status), Fault>
-    ensures output { IfOk result (λ answer. answer.0.items ≡ (told (analysis_output text.now)).0) }
-    ensures status { IfOk result (λ answer. answer.1 ≡ (told (analysis_output text.now)).1) }
+    ensures output { IfOk result (λ answer. answer.0.items ≡ (answer_of (analysis_output text.now)).0) }
+    ensures status { IfOk result (λ answer. answer.1 ≡ (answer_of (analysis_output text.now)).1) }
     ensures exact { IfOk result (λ answer. answer.1 ≡ Done → IsExactFor text.now answer.0.items) }
     ensures err { IfErr result (λ e. e ≡ memory_fault) }
 {
