@@ -7,7 +7,7 @@ ghost use Rattle.step_model.specs.Faults.{memory_fault, read_fault, without_line
 ghost use Rattle.step_model.specs.Runs.{records_of};
 ghost use Rattle.stabsim.specs.Classical.{IsClassical};
 ghost use Rattle.stabsim.specs.declared.order.Order.TheVariants.{Analyze};
-ghost use Rattle.stabsim.specs.declared.order.Status.TheVariants.{Done};
+ghost use Rattle.stabsim.specs.declared.order.Status.TheVariants.{Done, Refused};
 ghost use Rattle.stabsim.specs.Headline.{IsExactFor};
 ghost use Rattle.stabsim.specs.Output.{analysis_output, answer_of, no_faults, output_of, refusal_line, run_coins, run_lines, run_output, zero_coins};
 
@@ -95,10 +95,7 @@ fn run_answer<A: Allocator + Copy>(
 {
     match run_text(alloc, coins, faults, text) {
         Ok(output) => Ok((output, Status::Done)),
-        Err(fault) => {
-            let line = refusal(alloc, fault)?;
-            Ok((line, Status::Refused))
-        }
+        Err(fault) => refusal(alloc, fault),
     }
 }
 
@@ -113,10 +110,7 @@ fn analysis_answer<A: Allocator + Copy>(
 {
     match analysis_text(alloc, text) {
         Ok(output) => Ok((output, Status::Done)),
-        Err(fault) => {
-            let line = refusal(alloc, fault)?;
-            Ok((line, Status::Refused))
-        }
+        Err(fault) => refusal(alloc, fault),
     }
 }
 
@@ -133,15 +127,17 @@ fn analysis_text<A: Allocator + Copy>(alloc: A, text: &[u8]) -> Result<Vec<u8, A
 }
 
 /// The line that says why an order is refused. A want of memory is no refusal.
-fn refusal<A: Allocator + Copy>(alloc: A, fault: Fault) -> Result<Vec<u8, A>, Fault>
-    ensures ok { IfOk result (λ line. line.items ≡ refusal_line fault) }
+fn refusal<A: Allocator + Copy>(alloc: A, fault: Fault) -> Result<(Vec<u8, A>, Status), Fault>
+    ensures line { IfOk result (λ answer. answer.0.items ≡ refusal_line fault) }
+    ensures status { IfOk result (λ answer. answer.1 ≡ Refused) }
     ensures refused { OnOk result (fault.cause ≢ Memory) }
     ensures err { IfErr result (λ e. e ≡ memory_fault) }
 {
     if fault.cause == Cause::Memory {
         return Err(MEMORY);
     }
-    refusal_text(alloc, fault).map_err(|_| MEMORY)
+    let line = refusal_text(alloc, fault).map_err(|_| MEMORY)?;
+    Ok((line, Status::Refused))
 }
 
 /// What a run of a text's circuit writes, or why it is refused.
