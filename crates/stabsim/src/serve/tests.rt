@@ -19,6 +19,10 @@ const WRITE: Fault = Fault {
 /// Two qubits, and a fault that flips both.
 const PAIR: &str = "X_ERROR(0.1) 0\nCX 0 1\nM 0 1\n";
 
+/// Two faults and three detectors.
+const THREE: &str =
+    "X_ERROR(0.1) 0\nX_ERROR(0.2) 1\nCX 0 1\nM 0 1\nDETECTOR rec[-2]\nDETECTOR rec[-1]\nDETECTOR rec[-1] rec[-2]\n";
+
 fn run_order<'o>(coins: Option<&'o str>, faults: &'o str) -> Order<'o> {
     Order::Run {
         coins: coins.map(|text| text.as_bytes()),
@@ -59,6 +63,53 @@ fn runs(rt: HostRuntime) -> Result<(), Fail> {
         assert_eq!(rt; written.as_slice(), lines.as_bytes(), "{text} {faults}");
         assert_eq!(rt; end, Ok(Status::Done));
     }
+    Ok(())
+}
+
+#[test]
+fn runs_with_detectors(rt: HostRuntime) -> Result<(), Fail> {
+    let table = [
+        (THREE, "0,1", "10\n101\n"),
+        ("X 0\nM 0\nDETECTOR rec[-1]\n", "", "1\n0\n"),
+    ];
+    for (text, faults, lines) in table {
+        let (written, end) = served(rt.alloc(), &run_order(None, faults), text)?;
+        assert_eq!(rt; written.as_slice(), lines.as_bytes(), "{text} {faults}");
+        assert_eq!(rt; end, Ok(Status::Done));
+    }
+    Ok(())
+}
+
+#[test]
+fn analyses(rt: HostRuntime) -> Result<(), Fail> {
+    let table = [
+        (
+            "X_ERROR(0.1) 0\nM 0\nDETECTOR rec[-1]\n",
+            "error(0.1) D0\ndetector D0\n",
+        ),
+        (
+            "X_ERROR(0.1) 0\nR 0\nM 0\nDETECTOR rec[-1]\n",
+            "detector D0\n",
+        ),
+        (
+            THREE,
+            "error(0.1) D0 D1\nerror(0.2) D1 D2\ndetector D0\ndetector D1\ndetector D2\n",
+        ),
+        (
+            "X_ERROR(0.25) 0\nM 0\nDETECTOR rec[-1] rec[-1]\nDETECTOR rec[-1]\n",
+            "error(0.25) D1\ndetector D0\ndetector D1\n",
+        ),
+        ("X 0\nM 0\nDETECTOR rec[-1]\n", "detector D0\n"),
+        ("", ""),
+    ];
+    for (text, lines) in table {
+        let (written, end) = served(rt.alloc(), &Order::Analyze, text)?;
+        assert_eq!(rt; written.as_slice(), lines.as_bytes(), "{text}");
+        assert_eq!(rt; end, Ok(Status::Done));
+    }
+    let (written, end) = served(rt.alloc(), &Order::Analyze, "M 0\nDETECTOR rec[-2]\n")?;
+    assert_eq!(rt; written.as_slice(), b"refused 22 line 2\n".as_slice());
+    assert_eq!(rt; end, Ok(Status::Refused));
     Ok(())
 }
 
