@@ -1,0 +1,105 @@
+-- The steps of the loops over words: a word added to a running exclusive or, and the powers of i of 64 letters added to
+-- two carry words.
+use Rattle.std.proofs.Common.{lit<, ◌≡◌, ℕ, zero, suc, ◌+◌, ◌*◌, ◌%◌, ◌<◌, ◌≤◌, Bool, true, false, ◌&&◌, eqb, cond, refl, sym, ap, ◌∙◌, arith, bit_and, bit_xor, get_or, List, add-one}
+use Rattle.std.proofs.lemmas.Bool.{and_parts, eqb-true}
+use Rattle.bit_rows.specs.Rows.{exclusive_or, letter_phase}
+use Rattle.bit_rows.specs.Totals.{total}
+use Rattle.bit_rows.specs.Words.{bit_of}
+use Rattle.bit_rows.specs.WordTotals.{value, word_ones, word_common, common_ones, word_phase, words_phase, carried}
+use Rattle.bit_rows.proofs.BitLaws.{bit_of-xor, bit_of-and, bit_of-zero}
+use Rattle.bit_rows.proofs.Sums.{total_same, total_same_remainder, total-add, total-twice, total_none}
+
+-- ---- a test that holds at each truth value
+abbrev at_both : (Bool → Bool) → Bool
+at_both test = test true && test false
+
+at_each : (test : Bool → Bool) → at_both test ≡ true → (b : Bool) → test b ≡ true
+at_each test e true = (and_parts (test true) (test false) e).0
+at_each test e false = (and_parts (test true) (test false) e).1
+
+-- ---- the running exclusive or
+odd_value : (a b : Bool) → value (exclusive_or a b) % 2 ≡ (value a + value b) % 2
+odd_value true true = refl
+odd_value true false = refl
+odd_value false true = refl
+odd_value false false = refl
+
+pub word_ones-zero : word_ones 0 ≡ 0
+unfolding word_ones
+word_ones-zero = total_none (λ j. value (bit_of 0 j)) 64 (λ j h. ap value (bit_of-zero j))
+
+pub word_ones-xor_and : (odd a b : ℕ) → word_ones (bit_xor odd (bit_and a b)) % 2 ≡ (word_ones odd + word_common a b) % 2
+unfolding word_ones word_common
+word_ones-xor_and odd a b =
+    total_same_remainder 2 (λ j. value (bit_of (bit_xor odd (bit_and a b)) j)) (λ j. value (bit_of odd j) + value (bit_of a j && bit_of b j)) 64
+      (λ j h. simp (bit_of-xor, bit_of-and) (odd_value (bit_of odd j) (bit_of a j && bit_of b j)))
+    ∙ ap (λ s. s % 2) (total-add (λ j. value (bit_of odd j)) (λ j. value (bit_of a j && bit_of b j)) 64)
+
+pub common_ones-zero : (first second : List ℕ) → common_ones first second 0 ≡ 0
+unfolding common_ones total
+common_ones-zero first second = refl
+
+pub common_ones-suc : (first second : List ℕ) (n : ℕ) → common_ones first second (n + 1) ≡ common_ones first second n + word_common (get_or first n 0) (get_or second n 0)
+unfolding common_ones total
+common_ones-suc first second n = rw add-one refl
+
+-- ---- the carry words
+abbrev clashing : (xa za xb zb : Bool) → Bool
+clashing xa za xb zb = exclusive_or (xa && zb) (za && xb)
+
+abbrev turning : (ones xa za xb zb : Bool) → Bool
+turning ones xa za xb zb = exclusive_or (exclusive_or (exclusive_or (exclusive_or (exclusive_or ones xa) xb) za) zb) (xa && zb)
+
+-- at one place the carry bits afterwards hold the power that they held and that of the two letters, modulo 4
+abbrev carries_power : (ones twos xa za xb zb : Bool) → Bool
+carries_power ones twos xa za xb zb =
+    eqb ((value (exclusive_or ones (clashing xa za xb zb)) + 2 * value (exclusive_or twos (turning ones xa za xb zb && clashing xa za xb zb))) % 4)
+      ((value ones + 2 * value twos + letter_phase xa za xb zb) % 4)
+
+-- at all truth values, by computation
+all_carry : at_both (λ ones. at_both (λ twos. at_both (λ xa. at_both (λ za. at_both (λ xb. at_both (λ zb. carries_power ones twos xa za xb zb)))))) ≡ true
+all_carry = refl
+
+bit_carry : (ones twos xa za xb zb : Bool)
+    → (value (exclusive_or ones (clashing xa za xb zb)) + 2 * value (exclusive_or twos (turning ones xa za xb zb && clashing xa za xb zb))) % 4
+        ≡ (value ones + 2 * value twos + letter_phase xa za xb zb) % 4
+bit_carry ones twos xa za xb zb =
+    eqb-true _ _
+      (at_each (λ zb. carries_power ones twos xa za xb zb)
+        (at_each (λ xb. at_both (λ zb. carries_power ones twos xa za xb zb))
+          (at_each (λ za. at_both (λ xb. at_both (λ zb. carries_power ones twos xa za xb zb)))
+            (at_each (λ xa. at_both (λ za. at_both (λ xb. at_both (λ zb. carries_power ones twos xa za xb zb))))
+              (at_each (λ twos. at_both (λ xa. at_both (λ za. at_both (λ xb. at_both (λ zb. carries_power ones twos xa za xb zb)))))
+                (at_each (λ ones. at_both (λ twos. at_both (λ xa. at_both (λ za. at_both (λ xb. at_both (λ zb. carries_power ones twos xa za xb zb))))))
+                  all_carry ones) twos) xa) za) xb) zb)
+
+carried_by_bits : (ones twos : ℕ) → carried ones twos ≡ total (λ j. value (bit_of ones j) + 2 * value (bit_of twos j)) 64
+unfolding carried word_ones
+carried_by_bits ones twos =
+    sym (total-add (λ j. value (bit_of ones j)) (λ j. 2 * value (bit_of twos j)) 64
+      ∙ ap (λ s. total (λ j. value (bit_of ones j)) 64 + s) (total-twice (λ j. value (bit_of twos j)) 64))
+
+pub carried-step : (ones twos xa za xb zb : ℕ)
+    → carried (bit_xor ones (bit_xor (bit_and xa zb) (bit_and za xb)))
+          (bit_xor twos (bit_and (bit_xor (bit_xor (bit_xor (bit_xor (bit_xor ones xa) xb) za) zb) (bit_and xa zb)) (bit_xor (bit_and xa zb) (bit_and za xb)))) % 4
+        ≡ (carried ones twos + word_phase xa za xb zb) % 4
+unfolding word_phase
+carried-step ones twos xa za xb zb =
+    ap (λ s. s % 4) (carried_by_bits _ _)
+    ∙ total_same_remainder 4 _ (λ j. value (bit_of ones j) + 2 * value (bit_of twos j) + letter_phase (bit_of xa j) (bit_of za j) (bit_of xb j) (bit_of zb j)) 64
+        (λ j h. simp (bit_of-xor, bit_of-and) (bit_carry (bit_of ones j) (bit_of twos j) (bit_of xa j) (bit_of za j) (bit_of xb j) (bit_of zb j)))
+    ∙ ap (λ s. s % 4) (total-add (λ j. value (bit_of ones j) + 2 * value (bit_of twos j)) (λ j. letter_phase (bit_of xa j) (bit_of za j) (bit_of xb j) (bit_of zb j)) 64
+        ∙ ap (λ s. s + total (λ j. letter_phase (bit_of xa j) (bit_of za j) (bit_of xb j) (bit_of zb j)) 64) (sym (carried_by_bits ones twos)))
+
+pub carried-zero : carried 0 0 ≡ 0
+unfolding carried
+carried-zero = omega (arith, word_ones-zero)
+
+pub words_phase-zero : (xa za xb zb : List ℕ) → words_phase xa za xb zb 0 ≡ 0
+unfolding words_phase total
+words_phase-zero xa za xb zb = refl
+
+pub words_phase-suc : (xa za xb zb : List ℕ) (n : ℕ)
+    → words_phase xa za xb zb (n + 1) ≡ words_phase xa za xb zb n + word_phase (get_or xa n 0) (get_or za n 0) (get_or xb n 0) (get_or zb n 0)
+unfolding words_phase total
+words_phase-suc xa za xb zb n = rw add-one refl

@@ -1,0 +1,5 @@
+pub mod BitLaws
+pub mod Places
+pub mod Sums
+pub mod RowTotals
+pub mod Carries

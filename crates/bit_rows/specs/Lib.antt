@@ -1,0 +1,4 @@
+pub mod Rows
+pub mod Totals
+pub mod Words
+pub mod WordTotals
