@@ -1,13 +1,14 @@
 -- The steps of the loops over words: a word added to a running exclusive or, and the powers of i of 64 letters added to
 -- two carry words.
-use Rattle.std.proofs.Common.{lit<, ◌≡◌, ℕ, zero, suc, ◌+◌, ◌*◌, ◌%◌, ◌<◌, ◌≤◌, Bool, true, false, ◌&&◌, eqb, cond, refl, sym, ap, ◌∙◌, arith, bit_and, bit_xor, get_or, List, add-one}
+use Rattle.std.proofs.Common.{lit<, ◌≡◌, ℕ, zero, suc, ◌+◌, ◌*◌, ◌%◌, ◌^◌, ◌<◌, ◌≤◌, Bool, true, false, ◌&&◌, eqb, cond, refl, sym, ap, ◌∙◌, arith, bit_and, bit_xor, get_or, List, add-one}
+use Rattle.std.specs.Int.RustNames.{count_ones}
 use Rattle.std.proofs.lemmas.Bool.{and_parts, eqb-true}
 use Rattle.bit_rows.specs.Rows.{exclusive_or, letter_phase}
 use Rattle.bit_rows.specs.Totals.{total}
 use Rattle.bit_rows.specs.Words.{bit_of}
 use Rattle.bit_rows.specs.WordTotals.{value, word_ones, word_common, common_ones, word_phase, words_phase, carried}
-use Rattle.bit_rows.proofs.BitLaws.{bit_of-xor, bit_of-and, bit_of-zero}
-use Rattle.bit_rows.proofs.Sums.{total_same, total_same_remainder, total-add, total-twice, total_none}
+use Rattle.bit_rows.proofs.BitLaws.{bit_of-xor, bit_of-and, bit_of-zero, ones_by_bits, word_ones_le}
+use Rattle.bit_rows.proofs.Sums.{same_remainder_add, total_same, total_same_remainder, total-add, total-twice, total_none}
 
 -- ---- a test that holds at each truth value
 abbrev at_both : (Bool → Bool) → Bool
@@ -103,3 +104,32 @@ pub words_phase-suc : (xa za xb zb : List ℕ) (n : ℕ)
     → words_phase xa za xb zb (n + 1) ≡ words_phase xa za xb zb n + word_phase (get_or xa n 0) (get_or za n 0) (get_or xb n 0) (get_or zb n 0)
 unfolding words_phase total
 words_phase-suc xa za xb zb n = rw add-one refl
+
+-- ---- one more step of a loop over words
+pub odd_more : (first second : List ℕ) (odd n : ℕ) → word_ones odd % 2 ≡ common_ones first second n % 2
+    → word_ones (bit_xor odd (bit_and (get_or first n 0) (get_or second n 0))) % 2 ≡ common_ones first second (n + 1) % 2
+odd_more first second odd n e =
+    word_ones-xor_and odd (get_or first n 0) (get_or second n 0)
+    ∙ same_remainder_add 2 (word_ones odd) (common_ones first second n) (word_common (get_or first n 0) (get_or second n 0)) (word_common (get_or first n 0) (get_or second n 0)) e refl
+    ∙ ap (λ s. s % 2) (sym (common_ones-suc first second n))
+
+pub odd_none : (first second : List ℕ) → word_ones 0 % 2 ≡ common_ones first second 0 % 2
+odd_none first second = ap (λ s. s % 2) (word_ones-zero ∙ sym (common_ones-zero first second))
+
+pub power_more : (xa za xb zb : List ℕ) (held held' n : ℕ) → held % 4 ≡ words_phase xa za xb zb n % 4
+    → held' % 4 ≡ (held + word_phase (get_or xa n 0) (get_or za n 0) (get_or xb n 0) (get_or zb n 0)) % 4
+    → held' % 4 ≡ words_phase xa za xb zb (n + 1) % 4
+power_more xa za xb zb held held' n e step =
+    let here = word_phase (get_or xa n 0) (get_or za n 0) (get_or xb n 0) (get_or zb n 0) in
+    step ∙ same_remainder_add 4 held (words_phase xa za xb zb n) here here e refl ∙ ap (λ s. s % 4) (sym (words_phase-suc xa za xb zb n))
+
+pub power_none : (xa za xb zb : List ℕ) → carried 0 0 % 4 ≡ words_phase xa za xb zb 0 % 4
+power_none xa za xb zb = ap (λ s. s % 4) (carried-zero ∙ sym (words_phase-zero xa za xb zb))
+
+-- what the carry words hold, by their counts of ones
+pub carried_is : (ones twos : ℕ) → ones < 2 ^ 64 → twos < 2 ^ 64 → count_ones ones + 2 * count_ones twos ≡ carried ones twos
+unfolding carried
+carried_is ones twos p q = omega (arith, ones_by_bits ones p, ones_by_bits twos q)
+
+pub count_ones_le : (word : ℕ) → word < 2 ^ 64 → count_ones word ≤ 64
+count_ones_le word fits = omega (arith, ones_by_bits word fits, word_ones_le word)

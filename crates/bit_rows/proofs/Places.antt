@@ -243,3 +243,13 @@ first_of_word words i low short zeros none k h =
 pub rewritten : (P : List ℕ → Type 0) (len : ℕ) (old new items : List ℕ) → length old ≡ len → length new ≡ length old → P new
     → P (take len (new ++ drop (length new) items))
 rewritten P len old new items e f h = subst P (sym (written len new items (f ∙ e))) h
+
+-- ---- a vector's words as a slice, and two rows of one length
+pub held_by_slice : (n m : ℕ) (slice items : List ℕ) → n ≡ m → slice ≡ items → HoldsRow m items → HoldsRow n slice
+held_by_slice n m slice items e f held = subst (λ v. HoldsRow v slice) (sym e) (subst (HoldsRow m) (sym f) held)
+
+pub seen_by_slice : (n m : ℕ) (slice items : List ℕ) (row : List Bool) → n ≡ m → slice ≡ items → row_of m items ≡ row → row_of n slice ≡ row
+seen_by_slice n m slice items row e f seen = ap (λ v. row_of v slice) e ∙ ap (row_of m) f ∙ seen
+
+pub same_places : (n m : ℕ) (words others : List ℕ) (row other : List Bool) → row_of n words ≡ row → row_of m others ≡ other → length row ≡ length other → n ≡ m
+same_places n m words others row other seen seen' e = sym (row_long n words row seen) ∙ e ∙ row_long m others other seen'

@@ -1,5 +1,5 @@
 // The power of i of the product of two words of letters, whose x bits and z bits are lists of words.
-ghost use Rattle.std.specs.Prelude.{◌≡◌, ◌+◌, ◌%◌, length};
+ghost use Rattle.std.specs.Prelude.{◌≡◌, ◌+◌, ◌%◌, ◌≤◌, length};
 ghost use Rattle.bit_rows.specs.WordTotals.{carried, word_phase, words_phase};
 
 pub(crate) fn power_of_words(xa: &[u64], za: &[u64], xb: &[u64], zb: &[u64]) -> u8
@@ -13,7 +13,15 @@ pub(crate) fn power_of_words(xa: &[u64], za: &[u64], xb: &[u64], zb: &[u64]) -> 
     for i in 0..xa.len() {
         (ones, twos) = carry(ones, twos, xa[i], za[i], xb[i], zb[i]);
     }
-    ((ones.count_ones() + 2 * twos.count_ones()) % 4) as u8
+    (power_held(ones, twos) % 4) as u8
+}
+
+// What two carry words hold.
+fn power_held(ones: u64, twos: u64) -> u32
+    ensures value { result ≡ carried ones twos }
+    ensures small { result ≤ 192 }
+{
+    ones.count_ones() + 2 * twos.count_ones()
 }
 
 // Adds the powers of i of 64 letters to those that the carry words hold, modulo 4.
