@@ -3,3 +3,4 @@ pub mod Places
 pub mod Sums
 pub mod RowTotals
 pub mod Carries
+pub mod Blocks
