@@ -1,14 +1,17 @@
 -- The steps of the loops over words: a word added to a running exclusive or, and the powers of i of 64 letters added to
 -- two carry words.
-use Rattle.std.proofs.Common.{lit<, ◌≡◌, ℕ, zero, suc, ◌+◌, ◌*◌, ◌%◌, ◌^◌, ◌<◌, ◌≤◌, Bool, true, false, ◌&&◌, eqb, cond, refl, sym, ap, ◌∙◌, arith, bit_and, bit_xor, get_or, List, add-one}
+use Rattle.std.proofs.Common.{lit<, ◌≡◌, ℕ, zero, suc, ◌+◌, ◌*◌, ◌%◌, ◌^◌, ◌<◌, ◌≤◌, Bool, true, false, ◌&&◌, eqb, cond, refl, sym, ap, ◌∙◌, arith, bit_and, bit_xor, get_or, List, [], ◌∷◌, length, replicate, add-one}
 use Rattle.std.specs.Int.RustNames.{count_ones}
+use Rattle.std.specs.Simd.Lanes.{zip2, chunk, fold_l}
 use Rattle.std.proofs.lemmas.Bool.{and_parts, eqb-true}
+use Rattle.std.proofs.lemmas.Simd.{length-chunk, get_or-chunk, length-zip2, get_or-zip2}
 use Rattle.bit_rows.specs.Rows.{exclusive_or, letter_phase}
 use Rattle.bit_rows.specs.Totals.{total}
 use Rattle.bit_rows.specs.Words.{bit_of}
-use Rattle.bit_rows.specs.WordTotals.{value, word_ones, word_common, common_ones, word_phase, words_phase, carried}
+use Rattle.bit_rows.specs.WordTotals.{value, word_ones, ones_of, word_common, common_ones, word_phase, words_phase, carried, carried_by}
 use Rattle.bit_rows.proofs.BitLaws.{bit_of-xor, bit_of-and, bit_of-zero, ones_by_bits, word_ones_le}
-use Rattle.bit_rows.proofs.Sums.{same_remainder_add, total_same, total_same_remainder, total-add, total-twice, total_none}
+use Rattle.bit_rows.proofs.Sums.{same_remainder_add, total_same, total_same_remainder, total-add, total-twice, total_none, total_first, total-split}
+use Rattle.bit_rows.proofs.Places.{zeros_everywhere}
 
 -- ---- a test that holds at each truth value
 abbrev at_both : (Bool → Bool) → Bool
@@ -133,3 +136,58 @@ carried_is ones twos p q = omega (arith, ones_by_bits ones p, ones_by_bits twos 
 
 pub count_ones_le : (word : ℕ) → word < 2 ^ 64 → count_ones word ≤ 64
 count_ones_le word fits = omega (arith, ones_by_bits word fits, word_ones_le word)
+
+-- ---- eight words more
+pub word_ones-xor : (a b : ℕ) → word_ones (bit_xor a b) % 2 ≡ (word_ones a + word_ones b) % 2
+unfolding word_ones
+word_ones-xor a b =
+    total_same_remainder 2 (λ j. value (bit_of (bit_xor a b) j)) (λ j. value (bit_of a j) + value (bit_of b j)) 64
+      (λ j h. simp bit_of-xor (odd_value (bit_of a j) (bit_of b j)))
+    ∙ ap (λ s. s % 2) (total-add (λ j. value (bit_of a j)) (λ j. value (bit_of b j)) 64)
+
+pub ones_of-zeros : (m n : ℕ) → ones_of (replicate m 0) n ≡ 0
+unfolding ones_of
+ones_of-zeros m n = total_none (λ k. word_ones (get_or (replicate m 0) k 0)) n (λ k h. ap word_ones (zeros_everywhere m k) ∙ word_ones-zero)
+
+ones_of-cons : (x : ℕ) (xs : List ℕ) (n : ℕ) → ones_of (x ∷ xs) (suc n) ≡ word_ones x + ones_of xs n
+unfolding ones_of
+ones_of-cons x xs n = total_first (λ k. word_ones (get_or (x ∷ xs) k 0)) n
+
+-- the exclusive or of all lanes
+pub fold-xor : (f : ℕ → ℕ → ℕ) → ((a b : ℕ) → f a b ≡ bit_xor a b) → (a : ℕ) (xs : List ℕ)
+    → word_ones (fold_l f a xs) % 2 ≡ (word_ones a + ones_of xs (length xs)) % 2
+unfolding ones_of total
+fold-xor f same a [] = ap (λ s. s % 2) (omega arith)
+fold-xor f same a (x ∷ xs) =
+    fold-xor f same (f a x) xs
+    ∙ same_remainder_add 2 (word_ones (f a x)) (word_ones a + word_ones x) (ones_of xs (length xs)) (ones_of xs (length xs)) (ap (λ v. word_ones v % 2) (same a x) ∙ word_ones-xor a x) refl
+    ∙ ap (λ s. s % 2) (let e = ones_of-cons x xs (length xs) in omega (arith, e))
+
+common_ones-block : (first second : List ℕ) (at : ℕ)
+    → common_ones first second (at + 8) ≡ common_ones first second at + total (λ k. word_common (get_or first (at + k) 0) (get_or second (at + k) 0)) 8
+unfolding common_ones
+common_ones-block first second at = total-split (λ k. word_common (get_or first k 0) (get_or second k 0)) at 8
+
+-- the kernel of the parity
+pub fold_more : (first second odd : List ℕ) (at : ℕ) → at + 8 ≤ length first → at + 8 ≤ length second → length odd ≡ 8
+    → ones_of odd 8 % 2 ≡ common_ones first second at % 2
+    → ones_of (zip2 bit_xor odd (zip2 bit_and (chunk at 8 first) (chunk at 8 second))) 8 % 2 ≡ common_ones first second (at + 8) % 2
+unfolding ones_of
+fold_more first second odd at p q long e =
+    let a : length (chunk at 8 first) ≡ 8 = length-chunk at 8 first p in
+    let b : length (chunk at 8 second) ≡ 8 = length-chunk at 8 second q in
+    let both : List ℕ = zip2 bit_and (chunk at 8 first) (chunk at 8 second) in
+    let c : length both ≡ 8 = length-zip2 bit_and (chunk at 8 first) (chunk at 8 second) (a ∙ sym b) ∙ a in
+    let common : ℕ → ℕ = λ k. word_common (get_or first (at + k) 0) (get_or second (at + k) 0) in
+    let lane : (k : ℕ) → k < 8 → get_or (zip2 bit_xor odd both) k 0 ≡ bit_xor (get_or odd k 0) (bit_and (get_or first (at + k) 0) (get_or second (at + k) 0)) =
+        λ k h.
+          get_or-zip2 bit_xor odd both k 0 0 0 (omega arith) (omega arith)
+          ∙ ap (λ v. bit_xor (get_or odd k 0) v)
+              (get_or-zip2 bit_and (chunk at 8 first) (chunk at 8 second) k 0 0 0 (omega arith) (omega arith)
+                ∙ ap (λ v. bit_and v (get_or (chunk at 8 second) k 0)) (get_or-chunk at 8 first k 0 h)
+                ∙ ap (λ v. bit_and (get_or first (at + k) 0) v) (get_or-chunk at 8 second k 0 h)) in
+    total_same_remainder 2 (λ k. word_ones (get_or (zip2 bit_xor odd both) k 0)) (λ k. word_ones (get_or odd k 0) + common k) 8
+      (λ k h. ap (λ v. word_ones v % 2) (lane k h) ∙ word_ones-xor_and (get_or odd k 0) (get_or first (at + k) 0) (get_or second (at + k) 0))
+    ∙ ap (λ s. s % 2) (total-add (λ k. word_ones (get_or odd k 0)) common 8)
+    ∙ same_remainder_add 2 (total (λ k. word_ones (get_or odd k 0)) 8) (common_ones first second at) (total common 8) (total common 8) e refl
+    ∙ ap (λ s. s % 2) (sym (common_ones-block first second at))

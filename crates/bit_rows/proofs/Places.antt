@@ -143,7 +143,7 @@ first_one_none (false ∷ row) none =
 pub past_too : (words : List ℕ) → ((k : ℕ) → k < length words → get_or words k 0 ≡ 0) → (k : ℕ) → get_or words k 0 ≡ 0
 past_too words zeros k = ⊎_elim (λ (h : k < length words). zeros k h) (λ (h : length words ≤ k). get_or_past words k 0 h) (cases_lt k (length words))
 
-zeros_everywhere : (m k : ℕ) → get_or {A = ℕ} (replicate m 0) k 0 ≡ 0
+pub zeros_everywhere : (m k : ℕ) → get_or {A = ℕ} (replicate m 0) k 0 ≡ 0
 zeros_everywhere m = past_too (replicate m 0) (λ k h. get_or-replicate m k 0 0 (omega (arith, length-replicate {A = ℕ} m 0)))
 
 pub row_long : (n : ℕ) (words : List ℕ) (row : List Bool) → row_of n words ≡ row → length row ≡ n

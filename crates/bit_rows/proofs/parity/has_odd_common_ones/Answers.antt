@@ -1,11 +1,8 @@
 use Rattle.std.proofs.Common.{◌≡◌, ◌%◌, arith, ap, ◌∙◌, eqb, length}
 use Rattle.bit_rows.specs.WordTotals.{common_ones}
 use Rattle.bit_rows.proofs.BitLaws.{ones_by_bits}
-use Rattle.bit_rows.proofs.Carries.{odd_more, odd_none}
+use Rattle.bit_rows.proofs.Carries.{odd_more}
 use Rattle.bit_rows.proofs.parity.has_odd_common_ones.Goals as goal
-
-pub loop-i-init : goal.loop-i-init
-loop-i-init c = odd_none c.args.first.now c.args.second.now
 
 pub loop-i-preserved : goal.loop-i-preserved
 loop-i-preserved c = odd_more c.args.first.now c.args.second.now c.loop-i.odd c.loop-i.i c.loop-i.invariant
