@@ -129,6 +129,10 @@ power_more xa za xb zb held held' n e step =
 pub power_none : (xa za xb zb : List ℕ) → carried 0 0 % 4 ≡ words_phase xa za xb zb 0 % 4
 power_none xa za xb zb = ap (λ s. s % 4) (carried-zero ∙ sym (words_phase-zero xa za xb zb))
 
+-- a power carried beside the carry words
+pub carried_after : (before held held' word : ℕ) → held' % 4 ≡ (held + word) % 4 → (before + held') % 4 ≡ (before + held + word) % 4
+carried_after before held held' word e = same_remainder_add 4 before before held' (held + word) refl e ∙ ap (λ s. s % 4) (omega arith)
+
 -- what the carry words hold, by their counts of ones
 pub carried_is : (ones twos : ℕ) → ones < 2 ^ 64 → twos < 2 ^ 64 → count_ones ones + 2 * count_ones twos ≡ carried ones twos
 unfolding carried

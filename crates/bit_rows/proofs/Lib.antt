@@ -4,3 +4,4 @@ pub mod Sums
 pub mod RowTotals
 pub mod Carries
 pub mod Blocks
+pub mod Lanes
