@@ -1,10 +1,10 @@
 -- One bit of a word: of an exclusive or, of an and, and of a word with one bit set, cleared or turned. The number of
 -- ones is the sum of the bits.
-use Rattle.std.proofs.Common.{lit<, lit≤, add-one, ◌≡◌, ◌≢◌, ℕ, zero, suc, ◌+◌, ◌*◌, ◌/◌, ◌%◌, ◌^◌, ◌<◌, ◌≤◌, ◌-◌, Bool, true, false, not, cond, eqb, ◌&&◌, min, refl, sym, ap, ◌∙◌, arith, bit_and, bit_or, bit_xor, inl, inr, ⊎_elim}
+use Rattle.std.proofs.Common.{lit<, lit≤, add-one, ◌≡◌, ℕ, zero, suc, ◌+◌, ◌*◌, ◌/◌, ◌%◌, ◌^◌, ◌<◌, ◌≤◌, Bool, true, false, not, cond, eqb, ◌&&◌, min, refl, sym, ap, ◌∙◌, arith, bit_and, bit_or, bit_xor, ⊎_elim}
 use Rattle.std.specs.Int.{bit_at, bit_not, w64, trailing_zeros}
 use Rattle.std.specs.Int.RustNames.{count_ones}
-use Rattle.std.proofs.lemmas.Bool.{cases_eq, eqb-true, eq-eqb, ne_eqb, cases_Bool}
-use Rattle.std.proofs.lemmas.Nat.{ones_cat, ones_le_self, zero_from_ones, shr_below, div-add-mod', one_shl}
+use Rattle.std.proofs.lemmas.Bool.{cases_eq, eq-eqb, ne_eqb}
+use Rattle.std.proofs.lemmas.Nat.{ones_cat, ones_le_self, zero_from_ones, shr_below, one_shl}
 use Rattle.std.proofs.lemmas.Nat.Bits.{bit_at-lt, bit_at_and, bit_at_xor, bit_at-suc, bit_at_lowest, bit_at-pow_same, bit_at-pow_other, bit_at_set_same, bit_at_set_other, bit_at_clear_same, bit_at_clear_other, bit_at-zero, same_from_bits_below, shr_and_one, bit_at-trailing_zeros}
 use Rattle.bit_rows.specs.Rows.{exclusive_or}
 use Rattle.bit_rows.specs.Totals.{total}
@@ -60,25 +60,25 @@ bit_of_shift word j = ap (λ v. eqb v 1) (shr_and_one word j)
 pub zero_from_bits : (word : ℕ) → word < 2 ^ 64 → ((j : ℕ) → j < 64 → bit_of word j ≡ false) → word ≡ 0
 zero_from_bits word fits none =
     same_from_bits_below 64 word 0 fits (lit< tt)
-      (λ j h. bit_at_value word j ∙ ap value (none j h) ∙ sym (bit_at-zero j))
+    (λ j h. bit_at_value word j ∙ ap value (none j h) ∙ sym (bit_at-zero j))
 
 -- `word | 1 << k`
 pub bit_of_put : (word k j : ℕ) → k < 64 → bit_of (bit_or word (1 * 2 ^ k % 2 ^ 64)) j ≡ cond (eqb j k) true (bit_of word j)
 unfolding bit_of
 bit_of_put word k j within =
     ⊎_elim
-      (λ e. ap (λ v. eqb v 1) (ap (λ v. bit_at (bit_or word (1 * 2 ^ k % 2 ^ 64)) v) e ∙ bit_at_set_same w64 word k within) ∙ sym (ap (λ b. cond b true (bit_of word j)) (eq-eqb j k e)))
-      (λ ne. ap (λ v. eqb v 1) (bit_at_set_other w64 word k within j ne) ∙ sym (ap (λ b. cond b true (bit_of word j)) (ne_eqb j k ne)))
-      (cases_eq j k)
+    (λ e. ap (λ v. eqb v 1) (ap (λ v. bit_at (bit_or word (1 * 2 ^ k % 2 ^ 64)) v) e ∙ bit_at_set_same w64 word k within) ∙ sym (ap (λ b. cond b true (bit_of word j)) (eq-eqb j k e)))
+    (λ ne. ap (λ v. eqb v 1) (bit_at_set_other w64 word k within j ne) ∙ sym (ap (λ b. cond b true (bit_of word j)) (ne_eqb j k ne)))
+    (cases_eq j k)
 
 -- `word & !(1 << k)`
 pub bit_of_take : (word k j : ℕ) → k < 64 → j < 64 → bit_of (bit_and word (bit_not w64 (1 * 2 ^ k % 2 ^ 64))) j ≡ cond (eqb j k) false (bit_of word j)
 unfolding bit_of
 bit_of_take word k j within below =
     ⊎_elim
-      (λ e. ap (λ v. eqb v 1) (ap (λ v. bit_at (bit_and word (bit_not w64 (1 * 2 ^ k % 2 ^ 64))) v) e ∙ bit_at_clear_same w64 word k within) ∙ sym (ap (λ b. cond b false (bit_of word j)) (eq-eqb j k e)))
-      (λ ne. ap (λ v. eqb v 1) (bit_at_clear_other w64 word k within j below ne) ∙ sym (ap (λ b. cond b false (bit_of word j)) (ne_eqb j k ne)))
-      (cases_eq j k)
+    (λ e. ap (λ v. eqb v 1) (ap (λ v. bit_at (bit_and word (bit_not w64 (1 * 2 ^ k % 2 ^ 64))) v) e ∙ bit_at_clear_same w64 word k within) ∙ sym (ap (λ b. cond b false (bit_of word j)) (eq-eqb j k e)))
+    (λ ne. ap (λ v. eqb v 1) (bit_at_clear_other w64 word k within j below ne) ∙ sym (ap (λ b. cond b false (bit_of word j)) (ne_eqb j k ne)))
+    (cases_eq j k)
 
 -- `1 << k`
 bit_of_one : (k j : ℕ) → k < 64 → bit_of (1 * 2 ^ k % 2 ^ 64) j ≡ eqb j k
@@ -86,9 +86,9 @@ unfolding bit_of
 bit_of_one k j within =
     ap (λ v. eqb (bit_at v j) 1) (one_shl k 64 within)
     ∙ ⊎_elim
-        (λ e. ap (λ v. eqb v 1) (ap (λ v. bit_at (2 ^ k) v) e ∙ bit_at-pow_same k) ∙ sym (eq-eqb j k e))
-        (λ ne. ap (λ v. eqb v 1) (bit_at-pow_other k j ne) ∙ sym (ne_eqb j k ne))
-        (cases_eq j k)
+    (λ e. ap (λ v. eqb v 1) (ap (λ v. bit_at (2 ^ k) v) e ∙ bit_at-pow_same k) ∙ sym (eq-eqb j k e))
+    (λ ne. ap (λ v. eqb v 1) (bit_at-pow_other k j ne) ∙ sym (ne_eqb j k ne))
+    (cases_eq j k)
 
 turned_where : (b t : Bool) → exclusive_or b t ≡ cond t (not b) b
 turned_where true true = refl

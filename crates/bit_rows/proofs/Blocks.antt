@@ -1,7 +1,7 @@
 -- The steps of the loops over blocks of words: spans of words that meet, and one word or block more.
-use Rattle.std.proofs.Common.{◌≡◌, ℕ, zero, suc, ◌+◌, ◌*◌, ◌%◌, ◌<◌, ◌≤◌, List, take, drop, ◌++◌, length, get_or, set, ◌-◌, refl, sym, ap, ◌∙◌, arith, ⊎_elim, bit_xor, bit_and, get_or-set_same, get_or-set_other}
+use Rattle.std.proofs.Common.{◌≡◌, ℕ, ◌+◌, ◌<◌, ◌≤◌, List, length, get_or, set, ◌-◌, refl, sym, ap, ◌∙◌, arith, ⊎_elim, bit_xor, get_or-set_same, get_or-set_other}
 use Rattle.std.specs.Simd.Lanes.{zip2, chunk, put_chunk}
-use Rattle.std.proofs.lemmas.Bool.{cases_lt, cases_eq}
+use Rattle.std.proofs.lemmas.Bool.{cases_lt}
 use Rattle.std.proofs.lemmas.Simd.{length-chunk, get_or-chunk, length-zip2, get_or-zip2, get_or-put_chunk_below, get_or-put_chunk_at, get_or-put_chunk_above}
 use Rattle.bit_rows.specs.Spans.{XorsWithin}
 
@@ -16,9 +16,9 @@ XorsWithin-join first second middle new low at high p q before after =
       below = λ k h. after.below k (omega arith) ∙ before.below k h;
       inside = λ k h l.
           ⊎_elim
-            (λ (m : k < at). after.below k m ∙ before.inside k h m)
-            (λ (m : at ≤ k). after.inside k m l ∙ ap (λ v. bit_xor v (get_or second k 0)) (before.above k m))
-            (cases_lt k at);
+          (λ (m : k < at). after.below k m ∙ before.inside k h m)
+          (λ (m : at ≤ k). after.inside k m l ∙ ap (λ v. bit_xor v (get_or second k 0)) (before.above k m))
+          (cases_lt k at);
       above = λ k h. after.above k h ∙ before.above k (omega arith);
     }
 

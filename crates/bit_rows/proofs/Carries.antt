@@ -1,6 +1,6 @@
 -- The steps of the loops over words: a word added to a running exclusive or, and the powers of i of 64 letters added to
 -- two carry words.
-use Rattle.std.proofs.Common.{lit<, ◌≡◌, ℕ, zero, suc, ◌+◌, ◌*◌, ◌%◌, ◌^◌, ◌<◌, ◌≤◌, Bool, true, false, ◌&&◌, eqb, cond, refl, sym, ap, ◌∙◌, arith, bit_and, bit_xor, get_or, List, [], ◌∷◌, length, replicate, add-one}
+use Rattle.std.proofs.Common.{◌≡◌, ℕ, suc, ◌+◌, ◌*◌, ◌%◌, ◌^◌, ◌<◌, ◌≤◌, Bool, true, false, ◌&&◌, eqb, refl, sym, ap, ◌∙◌, arith, bit_and, bit_xor, get_or, List, [], ◌∷◌, length, replicate, add-one}
 use Rattle.std.specs.Int.RustNames.{count_ones}
 use Rattle.std.specs.Simd.Lanes.{zip2, chunk, fold_l}
 use Rattle.std.proofs.lemmas.Bool.{and_parts, eqb-true}
@@ -8,9 +8,9 @@ use Rattle.std.proofs.lemmas.Simd.{length-chunk, get_or-chunk, length-zip2, get_
 use Rattle.bit_rows.specs.Rows.{exclusive_or, letter_phase}
 use Rattle.bit_rows.specs.Totals.{total}
 use Rattle.bit_rows.specs.Words.{bit_of}
-use Rattle.bit_rows.specs.WordTotals.{value, word_ones, ones_of, word_common, common_ones, word_phase, words_phase, carried, carried_by}
+use Rattle.bit_rows.specs.WordTotals.{value, word_ones, ones_of, word_common, common_ones, word_phase, words_phase, carried}
 use Rattle.bit_rows.proofs.BitLaws.{bit_of-xor, bit_of-and, bit_of-zero, ones_by_bits, word_ones_le}
-use Rattle.bit_rows.proofs.Sums.{same_remainder_add, total_same, total_same_remainder, total-add, total-twice, total_none, total_first, total-split}
+use Rattle.bit_rows.proofs.Sums.{same_remainder_add, total_same_remainder, total-add, total-twice, total_none, total_first, total-split}
 use Rattle.bit_rows.proofs.Places.{zeros_everywhere}
 
 -- ---- a test that holds at each truth value
@@ -36,7 +36,7 @@ pub word_ones-xor_and : (odd a b : ℕ) → word_ones (bit_xor odd (bit_and a b)
 unfolding word_ones word_common
 word_ones-xor_and odd a b =
     total_same_remainder 2 (λ j. value (bit_of (bit_xor odd (bit_and a b)) j)) (λ j. value (bit_of odd j) + value (bit_of a j && bit_of b j)) 64
-      (λ j h. simp (bit_of-xor, bit_of-and) (odd_value (bit_of odd j) (bit_of a j && bit_of b j)))
+    (λ j h. simp (bit_of-xor, bit_of-and) (odd_value (bit_of odd j) (bit_of a j && bit_of b j)))
     ∙ ap (λ s. s % 2) (total-add (λ j. value (bit_of odd j)) (λ j. value (bit_of a j && bit_of b j)) 64)
 
 pub common_ones-zero : (first second : List ℕ) → common_ones first second 0 ≡ 0
@@ -58,7 +58,7 @@ turning ones xa za xb zb = exclusive_or (exclusive_or (exclusive_or (exclusive_o
 abbrev carries_power : (ones twos xa za xb zb : Bool) → Bool
 carries_power ones twos xa za xb zb =
     eqb ((value (exclusive_or ones (clashing xa za xb zb)) + 2 * value (exclusive_or twos (turning ones xa za xb zb && clashing xa za xb zb))) % 4)
-      ((value ones + 2 * value twos + letter_phase xa za xb zb) % 4)
+    ((value ones + 2 * value twos + letter_phase xa za xb zb) % 4)
 
 -- at all truth values, by computation
 all_carry : at_both (λ ones. at_both (λ twos. at_both (λ xa. at_both (λ za. at_both (λ xb. at_both (λ zb. carries_power ones twos xa za xb zb)))))) ≡ true
@@ -66,34 +66,34 @@ all_carry = refl
 
 bit_carry : (ones twos xa za xb zb : Bool)
     → (value (exclusive_or ones (clashing xa za xb zb)) + 2 * value (exclusive_or twos (turning ones xa za xb zb && clashing xa za xb zb))) % 4
-        ≡ (value ones + 2 * value twos + letter_phase xa za xb zb) % 4
+    ≡ (value ones + 2 * value twos + letter_phase xa za xb zb) % 4
 bit_carry ones twos xa za xb zb =
     eqb-true _ _
-      (at_each (λ zb. carries_power ones twos xa za xb zb)
-        (at_each (λ xb. at_both (λ zb. carries_power ones twos xa za xb zb))
-          (at_each (λ za. at_both (λ xb. at_both (λ zb. carries_power ones twos xa za xb zb)))
-            (at_each (λ xa. at_both (λ za. at_both (λ xb. at_both (λ zb. carries_power ones twos xa za xb zb))))
-              (at_each (λ twos. at_both (λ xa. at_both (λ za. at_both (λ xb. at_both (λ zb. carries_power ones twos xa za xb zb)))))
-                (at_each (λ ones. at_both (λ twos. at_both (λ xa. at_both (λ za. at_both (λ xb. at_both (λ zb. carries_power ones twos xa za xb zb))))))
-                  all_carry ones) twos) xa) za) xb) zb)
+    (at_each (λ zb. carries_power ones twos xa za xb zb)
+    (at_each (λ xb. at_both (λ zb. carries_power ones twos xa za xb zb))
+    (at_each (λ za. at_both (λ xb. at_both (λ zb. carries_power ones twos xa za xb zb)))
+    (at_each (λ xa. at_both (λ za. at_both (λ xb. at_both (λ zb. carries_power ones twos xa za xb zb))))
+    (at_each (λ twos. at_both (λ xa. at_both (λ za. at_both (λ xb. at_both (λ zb. carries_power ones twos xa za xb zb)))))
+    (at_each (λ ones. at_both (λ twos. at_both (λ xa. at_both (λ za. at_both (λ xb. at_both (λ zb. carries_power ones twos xa za xb zb))))))
+    all_carry ones) twos) xa) za) xb) zb)
 
 carried_by_bits : (ones twos : ℕ) → carried ones twos ≡ total (λ j. value (bit_of ones j) + 2 * value (bit_of twos j)) 64
 unfolding carried word_ones
 carried_by_bits ones twos =
     sym (total-add (λ j. value (bit_of ones j)) (λ j. 2 * value (bit_of twos j)) 64
-      ∙ ap (λ s. total (λ j. value (bit_of ones j)) 64 + s) (total-twice (λ j. value (bit_of twos j)) 64))
+    ∙ ap (λ s. total (λ j. value (bit_of ones j)) 64 + s) (total-twice (λ j. value (bit_of twos j)) 64))
 
 pub carried-step : (ones twos xa za xb zb : ℕ)
     → carried (bit_xor ones (bit_xor (bit_and xa zb) (bit_and za xb)))
-          (bit_xor twos (bit_and (bit_xor (bit_xor (bit_xor (bit_xor (bit_xor ones xa) xb) za) zb) (bit_and xa zb)) (bit_xor (bit_and xa zb) (bit_and za xb)))) % 4
-        ≡ (carried ones twos + word_phase xa za xb zb) % 4
+    (bit_xor twos (bit_and (bit_xor (bit_xor (bit_xor (bit_xor (bit_xor ones xa) xb) za) zb) (bit_and xa zb)) (bit_xor (bit_and xa zb) (bit_and za xb)))) % 4
+    ≡ (carried ones twos + word_phase xa za xb zb) % 4
 unfolding word_phase
 carried-step ones twos xa za xb zb =
     ap (λ s. s % 4) (carried_by_bits _ _)
     ∙ total_same_remainder 4 _ (λ j. value (bit_of ones j) + 2 * value (bit_of twos j) + letter_phase (bit_of xa j) (bit_of za j) (bit_of xb j) (bit_of zb j)) 64
-        (λ j h. simp (bit_of-xor, bit_of-and) (bit_carry (bit_of ones j) (bit_of twos j) (bit_of xa j) (bit_of za j) (bit_of xb j) (bit_of zb j)))
+    (λ j h. simp (bit_of-xor, bit_of-and) (bit_carry (bit_of ones j) (bit_of twos j) (bit_of xa j) (bit_of za j) (bit_of xb j) (bit_of zb j)))
     ∙ ap (λ s. s % 4) (total-add (λ j. value (bit_of ones j) + 2 * value (bit_of twos j)) (λ j. letter_phase (bit_of xa j) (bit_of za j) (bit_of xb j) (bit_of zb j)) 64
-        ∙ ap (λ s. s + total (λ j. letter_phase (bit_of xa j) (bit_of za j) (bit_of xb j) (bit_of zb j)) 64) (sym (carried_by_bits ones twos)))
+    ∙ ap (λ s. s + total (λ j. letter_phase (bit_of xa j) (bit_of za j) (bit_of xb j) (bit_of zb j)) 64) (sym (carried_by_bits ones twos)))
 
 pub carried-zero : carried 0 0 ≡ 0
 unfolding carried
@@ -146,7 +146,7 @@ pub word_ones-xor : (a b : ℕ) → word_ones (bit_xor a b) % 2 ≡ (word_ones a
 unfolding word_ones
 word_ones-xor a b =
     total_same_remainder 2 (λ j. value (bit_of (bit_xor a b) j)) (λ j. value (bit_of a j) + value (bit_of b j)) 64
-      (λ j h. simp bit_of-xor (odd_value (bit_of a j) (bit_of b j)))
+    (λ j h. simp bit_of-xor (odd_value (bit_of a j) (bit_of b j)))
     ∙ ap (λ s. s % 2) (total-add (λ j. value (bit_of a j)) (λ j. value (bit_of b j)) 64)
 
 pub ones_of-zeros : (m n : ℕ) → ones_of (replicate m 0) n ≡ 0
@@ -184,14 +184,14 @@ fold_more first second odd at p q long e =
     let c : length both ≡ 8 = length-zip2 bit_and (chunk at 8 first) (chunk at 8 second) (a ∙ sym b) ∙ a in
     let common : ℕ → ℕ = λ k. word_common (get_or first (at + k) 0) (get_or second (at + k) 0) in
     let lane : (k : ℕ) → k < 8 → get_or (zip2 bit_xor odd both) k 0 ≡ bit_xor (get_or odd k 0) (bit_and (get_or first (at + k) 0) (get_or second (at + k) 0)) =
-        λ k h.
-          get_or-zip2 bit_xor odd both k 0 0 0 (omega arith) (omega arith)
-          ∙ ap (λ v. bit_xor (get_or odd k 0) v)
-              (get_or-zip2 bit_and (chunk at 8 first) (chunk at 8 second) k 0 0 0 (omega arith) (omega arith)
-                ∙ ap (λ v. bit_and v (get_or (chunk at 8 second) k 0)) (get_or-chunk at 8 first k 0 h)
-                ∙ ap (λ v. bit_and (get_or first (at + k) 0) v) (get_or-chunk at 8 second k 0 h)) in
+    λ k h.
+    get_or-zip2 bit_xor odd both k 0 0 0 (omega arith) (omega arith)
+    ∙ ap (λ v. bit_xor (get_or odd k 0) v)
+    (get_or-zip2 bit_and (chunk at 8 first) (chunk at 8 second) k 0 0 0 (omega arith) (omega arith)
+    ∙ ap (λ v. bit_and v (get_or (chunk at 8 second) k 0)) (get_or-chunk at 8 first k 0 h)
+    ∙ ap (λ v. bit_and (get_or first (at + k) 0) v) (get_or-chunk at 8 second k 0 h)) in
     total_same_remainder 2 (λ k. word_ones (get_or (zip2 bit_xor odd both) k 0)) (λ k. word_ones (get_or odd k 0) + common k) 8
-      (λ k h. ap (λ v. word_ones v % 2) (lane k h) ∙ word_ones-xor_and (get_or odd k 0) (get_or first (at + k) 0) (get_or second (at + k) 0))
+    (λ k h. ap (λ v. word_ones v % 2) (lane k h) ∙ word_ones-xor_and (get_or odd k 0) (get_or first (at + k) 0) (get_or second (at + k) 0))
     ∙ ap (λ s. s % 2) (total-add (λ k. word_ones (get_or odd k 0)) common 8)
     ∙ same_remainder_add 2 (total (λ k. word_ones (get_or odd k 0)) 8) (common_ones first second at) (total common 8) (total common 8) e refl
     ∙ ap (λ s. s % 2) (sym (common_ones-block first second at))

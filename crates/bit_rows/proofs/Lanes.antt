@@ -1,11 +1,11 @@
 -- The kernel of the powers of i, lane by lane.
-use Rattle.std.proofs.Common.{◌≡◌, ℕ, zero, suc, ◌+◌, ◌*◌, ◌%◌, ◌<◌, ◌≤◌, List, length, get_or, replicate, refl, sym, ap, ◌∙◌, arith, bit_and, bit_xor, add-one}
+use Rattle.std.proofs.Common.{◌≡◌, ℕ, ◌+◌, ◌%◌, ◌<◌, ◌≤◌, List, length, get_or, replicate, refl, sym, ap, ◌∙◌, arith, bit_and, bit_xor, add-one}
 use Rattle.std.specs.Simd.Lanes.{zip2, chunk}
 use Rattle.std.proofs.lemmas.Simd.{length-chunk, get_or-chunk, length-zip2, get_or-zip2}
 use Rattle.std.proofs.Math.Nat.{mod-add-mod}
 use Rattle.bit_rows.specs.Totals.{total}
 use Rattle.bit_rows.specs.WordTotals.{word_phase, words_phase, carried, carried_by}
-use Rattle.bit_rows.proofs.Carries.{carried-step, carried-zero, words_phase-zero}
+use Rattle.bit_rows.proofs.Carries.{carried-step, carried-zero}
 use Rattle.bit_rows.proofs.Places.{zeros_everywhere}
 use Rattle.bit_rows.proofs.Sums.{same_remainder_add, total_same_remainder, total-add, total_none, total-split}
 
@@ -34,10 +34,10 @@ same_carried ones ones' twos twos' e f = ap (λ v. carried v twos % 4) e ∙ ap 
 pub carried_lane : (ones twos xa za xb zb : List ℕ) (at : ℕ) → length ones ≡ 8 → length twos ≡ 8
     → at + 8 ≤ length xa → at + 8 ≤ length za → at + 8 ≤ length xb → at + 8 ≤ length zb → (k : ℕ) → k < 8
     → (let xs = chunk at 8 xa in let zs = chunk at 8 za in let xt = chunk at 8 xb in let zt = chunk at 8 zb in
-        let clash = zip2 bit_xor (zip2 bit_and xs zt) (zip2 bit_and zs xt) in
-        let sign = zip2 bit_xor (zip2 bit_xor (zip2 bit_xor (zip2 bit_xor (zip2 bit_xor ones xs) xt) zs) zt) (zip2 bit_and xs zt) in
-        carried (get_or (zip2 bit_xor ones clash) k 0) (get_or (zip2 bit_xor twos (zip2 bit_and sign clash)) k 0) % 4
-          ≡ (carried (get_or ones k 0) (get_or twos k 0) + word_phase (get_or xa (at + k) 0) (get_or za (at + k) 0) (get_or xb (at + k) 0) (get_or zb (at + k) 0)) % 4)
+    let clash = zip2 bit_xor (zip2 bit_and xs zt) (zip2 bit_and zs xt) in
+    let sign = zip2 bit_xor (zip2 bit_xor (zip2 bit_xor (zip2 bit_xor (zip2 bit_xor ones xs) xt) zs) zt) (zip2 bit_and xs zt) in
+    carried (get_or (zip2 bit_xor ones clash) k 0) (get_or (zip2 bit_xor twos (zip2 bit_and sign clash)) k 0) % 4
+    ≡ (carried (get_or ones k 0) (get_or twos k 0) + word_phase (get_or xa (at + k) 0) (get_or za (at + k) 0) (get_or xb (at + k) 0) (get_or zb (at + k) 0)) % 4)
 carried_lane ones twos xa za xb zb at p q a b c d k h =
     let one = own_lane ones k p in
     let two = own_lane twos k q in
@@ -59,7 +59,7 @@ pub carried_by-zeros : (m n : ℕ) → carried_by (replicate m 0) (replicate m 0
 unfolding carried_by
 carried_by-zeros m n =
     total_none (λ k. carried (get_or (replicate m 0) k 0) (get_or (replicate m 0) k 0)) n
-      (λ k h. ap (λ v. carried v v) (zeros_everywhere m k) ∙ carried-zero)
+    (λ k h. ap (λ v. carried v v) (zeros_everywhere m k) ∙ carried-zero)
 
 pub carried_by-zero : (ones twos : List ℕ) → carried_by ones twos 0 ≡ 0
 unfolding carried_by total
@@ -77,14 +77,14 @@ lanes_more ones twos power n e =
 
 words_phase-block : (xa za xb zb : List ℕ) (at : ℕ)
     → words_phase xa za xb zb (at + 8)
-        ≡ words_phase xa za xb zb at + total (λ k. word_phase (get_or xa (at + k) 0) (get_or za (at + k) 0) (get_or xb (at + k) 0) (get_or zb (at + k) 0)) 8
+    ≡ words_phase xa za xb zb at + total (λ k. word_phase (get_or xa (at + k) 0) (get_or za (at + k) 0) (get_or xb (at + k) 0) (get_or zb (at + k) 0)) 8
 unfolding words_phase
 words_phase-block xa za xb zb at = total-split (λ k. word_phase (get_or xa k 0) (get_or za k 0) (get_or xb k 0) (get_or zb k 0)) at 8
 
 -- eight words more
 pub block_more : (xa za xb zb ones twos ones' twos' : List ℕ) (at : ℕ) → carried_by ones twos 8 % 4 ≡ words_phase xa za xb zb at % 4
     → ((k : ℕ) → k < 8 → carried (get_or ones' k 0) (get_or twos' k 0) % 4
-        ≡ (carried (get_or ones k 0) (get_or twos k 0) + word_phase (get_or xa (at + k) 0) (get_or za (at + k) 0) (get_or xb (at + k) 0) (get_or zb (at + k) 0)) % 4)
+    ≡ (carried (get_or ones k 0) (get_or twos k 0) + word_phase (get_or xa (at + k) 0) (get_or za (at + k) 0) (get_or xb (at + k) 0) (get_or zb (at + k) 0)) % 4)
     → carried_by ones' twos' 8 % 4 ≡ words_phase xa za xb zb (at + 8) % 4
 unfolding carried_by
 block_more xa za xb zb ones twos ones' twos' at e each =

@@ -1,12 +1,12 @@
 -- The bit at a place of a list of words, and the row that the words hold: its length, the bit at a place, a row from
 -- its bits, and a row after one bit was put.
-use Rattle.std.proofs.Common.{take, drop, ◌++◌, ◌≡◌, ◌≢◌, ℕ, zero, suc, ◌+◌, ◌*◌, ◌/◌, ◌%◌, ◌^◌, ◌<◌, ◌≤◌, ◌-◌, List, [], ◌∷◌, map, length, get_or, set, replicate, Bool, true, false, not, cond, eqb, refl, sym, ap, subst, ◌∙◌, arith, ⊎_elim, bit_xor, Option, Some, None, get_or-set_same, get_or-set_other, length-set}
+use Rattle.std.proofs.Common.{take, drop, ◌++◌, ◌≡◌, ℕ, zero, suc, ◌+◌, ◌*◌, ◌/◌, ◌%◌, ◌^◌, ◌<◌, ◌≤◌, List, [], ◌∷◌, map, length, get_or, set, replicate, Bool, true, false, not, cond, eqb, refl, sym, ap, subst, ◌∙◌, arith, ⊎_elim, bit_xor, Option, Some, None, get_or-set_same, get_or-set_other, length-set}
 use Rattle.std.specs.List.{range_with_len}
 use Rattle.std.proofs.Math.Seq.{take-append_seam}
 use Rattle.std.specs.Option.{IfNone, IfSome}
-use Rattle.std.proofs.lemmas.Bool.{cases_eq, cases_lt, eqb-true, eq-eqb, ne_eqb, true≢false}
+use Rattle.std.proofs.lemmas.Bool.{cases_eq, cases_lt, eq-eqb, ne_eqb, true≢false}
 use Rattle.std.proofs.lemmas.List.{get_or_past}
-use Rattle.std.proofs.lemmas.Nat.{div-mul-add, mod-mul-add, div-add-mod'}
+use Rattle.std.proofs.lemmas.Nat.{div-mul-add, mod-mul-add}
 use Rattle.std.proofs.lemmas.List.FromFn.{length-map-range_with_len, get_or-map-range_with_len, fill_by_all}
 use Rattle.std.proofs.lemmas.Simd.{length-replicate, get_or-replicate}
 use Rattle.bit_rows.specs.Rows.{exclusive_or, xor_rows, first_one_of}
@@ -45,24 +45,24 @@ pub bit_in-set : (words : List ℕ) (place word : ℕ) (b : Bool) → place / 64
 unfolding bit_in
 bit_in-set words place word b within each k =
     ⊎_elim
-      (λ (e : k / 64 ≡ place / 64).
-          let here : get_or (set words (place / 64) word) (k / 64) 0 ≡ word = ap (λ v. get_or (set words (place / 64) word) v 0) e ∙ get_or-set_same words (place / 64) word 0 within in
-          let old : get_or words (place / 64) 0 ≡ get_or words (k / 64) 0 = ap (λ v. get_or words v 0) (sym e) in
-          ap (λ w. bit_of w (k % 64)) here
-          ∙ each (k % 64) (omega arith)
-          ∙ ap (λ w. cond (eqb (k % 64) (place % 64)) b (bit_of w (k % 64))) old
-          ∙ ap (λ t. cond t b (bit_of (get_or words (k / 64) 0) (k % 64))) (same_place k place e))
-      (λ (ne : k / 64 ≡ place / 64 → ⊥).
-          ap (λ w. bit_of w (k % 64)) (get_or-set_other words (place / 64) (k / 64) word 0 ne)
-          ∙ sym (ap (λ t. cond t b (bit_of (get_or words (k / 64) 0) (k % 64))) (ne_eqb k place (λ e. ne (ap (λ v. v / 64) e)))))
-      (cases_eq (k / 64) (place / 64))
+    (λ (e : k / 64 ≡ place / 64).
+    let here : get_or (set words (place / 64) word) (k / 64) 0 ≡ word = ap (λ v. get_or (set words (place / 64) word) v 0) e ∙ get_or-set_same words (place / 64) word 0 within in
+    let old : get_or words (place / 64) 0 ≡ get_or words (k / 64) 0 = ap (λ v. get_or words v 0) (sym e) in
+    ap (λ w. bit_of w (k % 64)) here
+    ∙ each (k % 64) (omega arith)
+    ∙ ap (λ w. cond (eqb (k % 64) (place % 64)) b (bit_of w (k % 64))) old
+    ∙ ap (λ t. cond t b (bit_of (get_or words (k / 64) 0) (k % 64))) (same_place k place e))
+    (λ (ne : k / 64 ≡ place / 64 → ⊥).
+    ap (λ w. bit_of w (k % 64)) (get_or-set_other words (place / 64) (k / 64) word 0 ne)
+    ∙ sym (ap (λ t. cond t b (bit_of (get_or words (k / 64) 0) (k % 64))) (ne_eqb k place (λ e. ne (ap (λ v. v / 64) e)))))
+    (cases_eq (k / 64) (place / 64))
   where
     same_place : (k place : ℕ) → k / 64 ≡ place / 64 → eqb (k % 64) (place % 64) ≡ eqb k place
     same_place k place e =
         ⊎_elim
-          (λ (f : k % 64 ≡ place % 64). eq-eqb (k % 64) (place % 64) f ∙ sym (eq-eqb k place (omega arith)))
-          (λ (nf : k % 64 ≡ place % 64 → ⊥). ne_eqb (k % 64) (place % 64) nf ∙ sym (ne_eqb k place (λ g. nf (ap (λ v. v % 64) g))))
-          (cases_eq (k % 64) (place % 64))
+        (λ (f : k % 64 ≡ place % 64). eq-eqb (k % 64) (place % 64) f ∙ sym (eq-eqb k place (omega arith)))
+        (λ (nf : k % 64 ≡ place % 64 → ⊥). ne_eqb (k % 64) (place % 64) nf ∙ sym (ne_eqb k place (λ g. nf (ap (λ v. v % 64) g))))
+        (cases_eq (k % 64) (place % 64))
 
 -- words with no bit set are 0
 pub zero_from_places : (words : List ℕ) → ((k : ℕ) → get_or words k 0 < 2 ^ 64) → ((place : ℕ) → bit_in words place ≡ false) → (k : ℕ) → get_or words k 0 ≡ 0
@@ -100,15 +100,15 @@ row_of_put n words others place b within each =
     at : (i : ℕ) → i < n → get_or (set (row_of n words) place b) i false ≡ bit_in others i
     at i h =
         ⊎_elim
-          (λ (e : i ≡ place).
-              ap (λ v. get_or (set (row_of n words) place b) v false) e
-              ∙ get_or-set_same (row_of n words) place b false (rw length-row_of within)
-              ∙ sym (each i ∙ ap (λ t. cond t b (bit_in words i)) (eq-eqb i place e)))
-          (λ (ne : i ≡ place → ⊥).
-              get_or-set_other (row_of n words) place i b false ne
-              ∙ get_or-row_of n words i h
-              ∙ sym (each i ∙ ap (λ t. cond t b (bit_in words i)) (ne_eqb i place ne)))
-          (cases_eq i place)
+        (λ (e : i ≡ place).
+        ap (λ v. get_or (set (row_of n words) place b) v false) e
+        ∙ get_or-set_same (row_of n words) place b false (rw length-row_of within)
+        ∙ sym (each i ∙ ap (λ t. cond t b (bit_in words i)) (eq-eqb i place e)))
+        (λ (ne : i ≡ place → ⊥).
+        get_or-set_other (row_of n words) place i b false ne
+        ∙ get_or-row_of n words i h
+        ∙ sym (each i ∙ ap (λ t. cond t b (bit_in words i)) (ne_eqb i place ne)))
+        (cases_eq i place)
 
 xor_of_maps : (f g : ℕ → Bool) (xs : List ℕ) → xor_rows (map f xs) (map g xs) ≡ map (λ i. exclusive_or (f i) (g i)) xs
 xor_of_maps f g [] = refl
@@ -197,7 +197,7 @@ first_one_found n words row None held seen none is_set first =
 first_one_found n words row (Some i) held seen none is_set first =
     let long = row_long n words row seen in
     let within : i < n =
-        ⊎_elim (λ (h : i < n). h) (λ (h : n ≤ i). absurd (true≢false (sym is_set ∙ held.blank i h))) (cases_lt i n) in
+    ⊎_elim (λ (h : i < n). h) (λ (h : n ≤ i). absurd (true≢false (sym is_set ∙ held.blank i h))) (cases_lt i n) in
     let bit : (k : ℕ) → k < n → get_or row k false ≡ bit_in words k = λ k h. ap (λ v. get_or v k false) (sym seen) ∙ get_or-row_of n words k h in
     sym (first_one_is row i (omega (arith, long)) (bit i within ∙ is_set) (λ k h. bit k (omega arith) ∙ first k h))
 
@@ -210,24 +210,24 @@ pub zero_places : (n : ℕ) (words : List ℕ) (row : List Bool) → HoldsRow n 
     → row ≡ replicate (length row) false → (place : ℕ) → bit_in words place ≡ false
 zero_places n words row held seen blank place =
     ⊎_elim
-      (λ (h : place < n).
-          let within : place < length row = omega (arith, row_long n words row seen) in
-          sym (get_or-row_of n words place h) ∙ ap (λ v. get_or v place false) (seen ∙ blank) ∙ get_or-replicate (length row) place false false within)
-      (λ (h : n ≤ place). held.blank place h)
-      (cases_lt place n)
+    (λ (h : place < n).
+    let within : place < length row = omega (arith, row_long n words row seen) in
+    sym (get_or-row_of n words place h) ∙ ap (λ v. get_or v place false) (seen ∙ blank) ∙ get_or-replicate (length row) place false false within)
+    (λ (h : n ≤ place). held.blank place h)
+    (cases_lt place n)
 
 -- the bit to turn, named by its place in its word or in the row
 pub turned : (words : List ℕ) (place j : ℕ)
     → cond (eqb j (place % 64)) (not (bit_of (get_or words (place / 64) 0) j)) (bit_of (get_or words (place / 64) 0) j)
-        ≡ cond (eqb j (place % 64)) (not (bit_in words place)) (bit_of (get_or words (place / 64) 0) j)
+    ≡ cond (eqb j (place % 64)) (not (bit_in words place)) (bit_of (get_or words (place / 64) 0) j)
 unfolding bit_in
 turned words place j =
     ⊎_elim
-      (λ (e : j ≡ place % 64). ap (λ v. cond (eqb j (place % 64)) (not (bit_of (get_or words (place / 64) 0) v)) (bit_of (get_or words (place / 64) 0) j)) e)
-      (λ (ne : j ≡ place % 64 → ⊥).
-          ap (λ t. cond t (not (bit_of (get_or words (place / 64) 0) j)) (bit_of (get_or words (place / 64) 0) j)) (ne_eqb j (place % 64) ne)
-          ∙ sym (ap (λ t. cond t (not (bit_of (get_or words (place / 64) 0) (place % 64))) (bit_of (get_or words (place / 64) 0) j)) (ne_eqb j (place % 64) ne)))
-      (cases_eq j (place % 64))
+    (λ (e : j ≡ place % 64). ap (λ v. cond (eqb j (place % 64)) (not (bit_of (get_or words (place / 64) 0) v)) (bit_of (get_or words (place / 64) 0) j)) e)
+    (λ (ne : j ≡ place % 64 → ⊥).
+    ap (λ t. cond t (not (bit_of (get_or words (place / 64) 0) j)) (bit_of (get_or words (place / 64) 0) j)) (ne_eqb j (place % 64) ne)
+    ∙ sym (ap (λ t. cond t (not (bit_of (get_or words (place / 64) 0) (place % 64))) (bit_of (get_or words (place / 64) 0) j)) (ne_eqb j (place % 64) ne)))
+    (cases_eq j (place % 64))
 
 -- the first set bit of a word that is not 0, after words that are
 pub first_of_word : (words : List ℕ) (i low : ℕ) → low < 64 → ((k : ℕ) → k < i → get_or words k 0 ≡ 0)
@@ -235,9 +235,9 @@ pub first_of_word : (words : List ℕ) (i low : ℕ) → low < 64 → ((k : ℕ)
 unfolding bit_in
 first_of_word words i low short zeros none k h =
     ⊎_elim
-      (λ (e : k / 64 ≡ i). ap (λ v. bit_of (get_or words v 0) (k % 64)) e ∙ none (k % 64) (omega arith))
-      (λ (ne : k / 64 ≡ i → ⊥). ap (λ w. bit_of w (k % 64)) (zeros (k / 64) (omega arith)) ∙ bit_of-zero (k % 64))
-      (cases_eq (k / 64) i)
+    (λ (e : k / 64 ≡ i). ap (λ v. bit_of (get_or words v 0) (k % 64)) e ∙ none (k % 64) (omega arith))
+    (λ (ne : k / 64 ≡ i → ⊥). ap (λ w. bit_of w (k % 64)) (zeros (k / 64) (omega arith)) ∙ bit_of-zero (k % 64))
+    (cases_eq (k / 64) i)
 
 -- what holds of a slice holds of the vector that it was lent by, once it is written back
 pub rewritten : (P : List ℕ → Type 0) (len : ℕ) (old new items : List ℕ) → length old ≡ len → length new ≡ length old → P new
@@ -253,3 +253,6 @@ seen_by_slice n m slice items row e f seen = ap (λ v. row_of v slice) e ∙ ap 
 
 pub same_places : (n m : ℕ) (words others : List ℕ) (row other : List Bool) → row_of n words ≡ row → row_of m others ≡ other → length row ≡ length other → n ≡ m
 same_places n m words others row other seen seen' e = sym (row_long n words row seen) ∙ e ∙ row_long m others other seen'
+
+pub same_length : (n : ℕ) (new words : List ℕ) (row : List Bool) → row_of n words ≡ row → length (row_of n new) ≡ length row
+same_length n new words row seen = length-row_of n new ∙ sym (row_long n words row seen)

@@ -21,7 +21,7 @@ unfolding total
 total_same_remainder m f g zero same = refl
 total_same_remainder m f g (suc n) same =
     same_remainder_add m (total f n) (total g n) (f n) (g n)
-      (total_same_remainder m f g n (λ i h. same i (omega arith))) (same n (omega arith))
+    (total_same_remainder m f g n (λ i h. same i (omega arith))) (same n (omega arith))
 
 pub total-add : (f g : ℕ → ℕ) (n : ℕ) → total (λ i. f i + g i) n ≡ total f n + total g n
 unfolding total

@@ -78,18 +78,17 @@ fn carry_block(
     requires za { at + 8 ≤ length za.now }
     requires xb { at + 8 ≤ length xb.now }
     requires zb { at + 8 ≤ length zb.now }
-    ensures {
-        (k : ℕ) → k < 8 → carried (slice_index result.0 k) (slice_index result.1 k) % 4
-            ≡ (carried (slice_index ones k) (slice_index twos k)
-                + word_phase (slice_index xa.now (at + k)) (slice_index za.now (at + k)) (slice_index xb.now (at + k)) (slice_index zb.now (at + k))) % 4
-    }
+    ensures { (k : ℕ) → k < 8 → carried (slice_index result.0 k) (slice_index result.1 k) % 4
+        ≡ (carried (slice_index ones k) (slice_index twos k)
+        + word_phase (slice_index xa.now (at + k)) (slice_index za.now (at + k))
+        (slice_index xb.now (at + k)) (slice_index zb.now (at + k))) % 4 }
 {
     let xa = u64x8::from_slice(&xa[at..]);
     let za = u64x8::from_slice(&za[at..]);
     let xb = u64x8::from_slice(&xb[at..]);
     let zb = u64x8::from_slice(&zb[at..]);
-    let turned = xa & zb;
-    let clash = turned ^ (za & xb);
-    let sign = ones ^ xa ^ xb ^ za ^ zb ^ turned;
-    (ones ^ clash, twos ^ (sign & clash))
+    let turns = xa & zb;
+    let clashes = turns ^ (za & xb);
+    let signs = ones ^ xa ^ xb ^ za ^ zb ^ turns;
+    (ones ^ clashes, twos ^ (signs & clashes))
 }

@@ -109,7 +109,8 @@ impl<A: Allocator + Copy> BitRow<A> {
     /// Adds a row of this length by exclusive or, place by place.
     pub fn xor_from(&mut self, other: &BitRow<A>)
         requires { length self.old ≡ length other.now }
-        ensures { self.new ≡ xor_rows self.old other.now }
+        ensures sum { self.new ≡ xor_rows self.old other.now }
+        ensures len { length self.new ≡ length self.old }
     {
         xor_words(self.words.as_mut_slice(), other.words.as_slice());
     }
@@ -151,3 +152,6 @@ impl<A: Allocator + Copy> BitRow<A> {
         )
     }
 }
+
+#[cfg(test)]
+mod tests;

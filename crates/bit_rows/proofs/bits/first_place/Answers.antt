@@ -1,4 +1,4 @@
-use Rattle.std.proofs.Common.{◌≡◌, ℕ, zero, ◌<◌, ◌≤◌, ◌+◌, ◌*◌, ◌^◌, arith, sym, ap, ◌∙◌, get_or, ⊎_elim, w64}
+use Rattle.std.proofs.Common.{◌≡◌, ◌<◌, ◌≤◌, ◌+◌, ◌*◌, arith, ap, ◌∙◌, get_or, ⊎_elim, w64}
 use Rattle.std.specs.Int.{trailing_zeros}
 use Rattle.std.proofs.lemmas.Bool.{cases_lt}
 use Rattle.std.proofs.lemmas.List.{get_or_past}
@@ -23,4 +23,4 @@ returns-then-word-ne0-clause-first c =
 pub returns-clause-none : goal.returns-clause-none
 returns-clause-none c =
     bit_in_zeros c.args.words.now
-      (λ k. ⊎_elim (λ (h : k < c.loop-i.i). c.loop-i.invariant k h) (λ (h : c.loop-i.i ≤ k). get_or_past c.args.words.now k 0 (omega arith)) (cases_lt k c.loop-i.i))
+    (λ k. ⊎_elim (λ (h : k < c.loop-i.i). c.loop-i.invariant k h) (λ (h : c.loop-i.i ≤ k). get_or_past c.args.words.now k 0 (omega arith)) (cases_lt k c.loop-i.i))

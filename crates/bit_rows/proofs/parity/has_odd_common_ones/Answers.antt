@@ -11,4 +11,4 @@ pub returns : goal.returns
 returns c =
     let end : c.loop-i.i ≡ length c.args.first.now = omega arith in
     ap (λ v. eqb v 1)
-      (ap (λ s. s % 2) (ones_by_bits c.loop-i.odd c.loop-i.auto.odd-fits.fits) ∙ c.loop-i.invariant ∙ ap (λ n. common_ones c.args.first.now c.args.second.now n % 2) end)
+    (ap (λ s. s % 2) (ones_by_bits c.loop-i.odd c.loop-i.auto.odd-fits.fits) ∙ c.loop-i.invariant ∙ ap (λ n. common_ones c.args.first.now c.args.second.now n % 2) end)

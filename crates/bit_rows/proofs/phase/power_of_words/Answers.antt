@@ -1,4 +1,4 @@
-use Rattle.std.proofs.Common.{◌≡◌, ◌+◌, ◌*◌, ◌/◌, ◌%◌, arith, ap, ◌∙◌, length}
+use Rattle.std.proofs.Common.{◌≡◌, ◌+◌, ◌%◌, arith, ap, ◌∙◌, length}
 use Rattle.bit_rows.specs.WordTotals.{carried, words_phase}
 use Rattle.bit_rows.proofs.Carries.{power_more, carried_after, carried-zero}
 use Rattle.bit_rows.proofs.phase.power_of_words.Goals as goal
@@ -9,7 +9,7 @@ loop-i-init c = omega (arith, carried-zero, c.power_of_blocks-before.ensures)
 pub loop-i-preserved : goal.loop-i-preserved
 loop-i-preserved c =
     power_more c.args.xa.now c.args.za.now c.args.xb.now c.args.zb.now (c.power_of_blocks-before.result + carried c.loop-i.ones c.loop-i.twos) _ c.loop-i.i c.loop-i.invariant
-      (carried_after c.power_of_blocks-before.result _ _ _ c.carry.ensures)
+    (carried_after c.power_of_blocks-before.result _ _ _ c.carry.ensures)
 
 pub returns : goal.returns
 returns c =

@@ -10,8 +10,8 @@ pub loop-block-preserved : goal.loop-block-preserved
 loop-block-preserved c =
     let next : c.loop-block.block * 8 + 8 ≡ (c.loop-block.block + 1) * 8 = omega arith in
     subst (λ high. XorsWithin c.args.first.now c.args.second.now c.xor_block.new.first 0 high) next
-      (XorsWithin-join c.args.first.now c.args.second.now c.loop-block.first c.xor_block.new.first 0 (c.loop-block.block * 8) (c.loop-block.block * 8 + 8)
-        (omega arith) (omega arith) c.loop-block.invariant c.xor_block.ensures)
+    (XorsWithin-join c.args.first.now c.args.second.now c.loop-block.first c.xor_block.new.first 0 (c.loop-block.block * 8) (c.loop-block.block * 8 + 8)
+    (omega arith) (omega arith) c.loop-block.invariant c.xor_block.ensures)
 
 pub returns : goal.returns
 returns c =

@@ -1,6 +1,5 @@
-use Rattle.std.proofs.Common.{arith, ap, sym, subst, length, ◌≡◌}
-use Rattle.bit_rows.specs.Words.{HoldsRow, row_of}
-use Rattle.bit_rows.proofs.Places.{words_few, first_one_found}
+use Rattle.std.proofs.Common.{arith, ap, refl, length}
+use Rattle.bit_rows.proofs.Places.{words_few, first_one_found, held_by_slice, seen_by_slice}
 use Rattle.bit_rows.proofs.row.BitRow.first_one.Goals as goal
 
 pub first_place-requires : goal.first_place-requires
@@ -10,6 +9,6 @@ first_place-requires g c =
 pub returns : goal.returns
 returns g c =
     first_one_found c.self.inside.places c.as_slice.result.now c.args.self.now c.first_place.result
-      (subst (HoldsRow c.self.inside.places) (sym c.as_slice.ensures.value) c.self.invariant)
-      (subst (λ ws. row_of c.self.inside.places ws ≡ c.args.self.now) (sym c.as_slice.ensures.value) c.self.view_is)
-      c.first_place.ensures.none c.first_place.ensures.is_set c.first_place.ensures.first
+    (held_by_slice _ _ _ _ refl c.as_slice.ensures.value c.self.invariant)
+    (seen_by_slice _ _ _ _ _ refl c.as_slice.ensures.value c.self.view_is)
+    c.first_place.ensures.none c.first_place.ensures.is_set c.first_place.ensures.first

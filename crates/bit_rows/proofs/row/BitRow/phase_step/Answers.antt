@@ -25,12 +25,12 @@ returns g c =
     let zb : c.zb.inside.places ≡ c.xa.inside.places = same_places _ _ c.zb.inside.words.items c.xa.inside.words.items _ _ c.zb.view_is c.xa.view_is c.requires.zb in
     c.power_of_words.ensures
     ∙ phase_of_rows c.xa.inside.places c.as_slice.result.now c.as_slice-2.result.now c.as_slice-3.result.now c.as_slice-4.result.now
-        c.args.xa.now c.args.za.now c.args.xb.now c.args.zb.now
-        (held_by_slice _ _ _ _ refl c.as_slice.ensures.value c.xa.invariant)
-        (held_by_slice _ _ _ _ (sym za) c.as_slice-2.ensures.value c.za.invariant)
-        (held_by_slice _ _ _ _ (sym xb) c.as_slice-3.ensures.value c.xb.invariant)
-        (held_by_slice _ _ _ _ (sym zb) c.as_slice-4.ensures.value c.zb.invariant)
-        (seen_by_slice _ _ _ _ _ refl c.as_slice.ensures.value c.xa.view_is)
-        (seen_by_slice _ _ _ _ _ (sym za) c.as_slice-2.ensures.value c.za.view_is)
-        (seen_by_slice _ _ _ _ _ (sym xb) c.as_slice-3.ensures.value c.xb.view_is)
-        (seen_by_slice _ _ _ _ _ (sym zb) c.as_slice-4.ensures.value c.zb.view_is)
+    c.args.xa.now c.args.za.now c.args.xb.now c.args.zb.now
+    (held_by_slice _ _ _ _ refl c.as_slice.ensures.value c.xa.invariant)
+    (held_by_slice _ _ _ _ (sym za) c.as_slice-2.ensures.value c.za.invariant)
+    (held_by_slice _ _ _ _ (sym xb) c.as_slice-3.ensures.value c.xb.invariant)
+    (held_by_slice _ _ _ _ (sym zb) c.as_slice-4.ensures.value c.zb.invariant)
+    (seen_by_slice _ _ _ _ _ refl c.as_slice.ensures.value c.xa.view_is)
+    (seen_by_slice _ _ _ _ _ (sym za) c.as_slice-2.ensures.value c.za.view_is)
+    (seen_by_slice _ _ _ _ _ (sym xb) c.as_slice-3.ensures.value c.xb.view_is)
+    (seen_by_slice _ _ _ _ _ (sym zb) c.as_slice-4.ensures.value c.zb.view_is)

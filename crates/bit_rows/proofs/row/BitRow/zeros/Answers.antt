@@ -1,4 +1,4 @@
-use Rattle.std.proofs.Common.{◌≡◌, ◌∙◌, sym, ap, subst, replicate, length, arith}
+use Rattle.std.proofs.Common.{◌≡◌, ◌∙◌, sym, ap, subst, arith}
 use Rattle.bit_rows.specs.Words.{HoldsRow, row_of, words_for}
 use Rattle.bit_rows.proofs.Places.{held_zeros, row_of_zero_words}
 use Rattle.bit_rows.proofs.row.BitRow.zeros.Goals as goal
