@@ -28,6 +28,7 @@ fn fold_blocks(first: &[u64], second: &[u64]) -> u64
     odd.reduce_xor()
 }
 
+#[inline(always)]
 fn fold_block(odd: u64x8, first: &[u64], second: &[u64], at: usize) -> u64x8
     requires first { at + 8 ≤ length first.now }
     requires second { at + 8 ≤ length second.now }

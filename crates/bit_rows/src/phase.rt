@@ -47,6 +47,7 @@ fn power_of_lanes(ones: &[u64], twos: &[u64]) -> u32
 }
 
 // What two carry words hold.
+#[inline(always)]
 fn power_held(ones: u64, twos: u64) -> u32
     ensures value { result ≡ carried ones twos }
     ensures small { result ≤ 192 }
@@ -55,6 +56,7 @@ fn power_held(ones: u64, twos: u64) -> u32
 }
 
 // Adds the powers of i of 64 letters to those that the carry words hold, modulo 4.
+#[inline(always)]
 fn carry(ones: u64, twos: u64, xa: u64, za: u64, xb: u64, zb: u64) -> (u64, u64)
     ensures { carried result.0 result.1 % 4 ≡ (carried ones twos + word_phase xa za xb zb) % 4 }
 {
@@ -65,6 +67,7 @@ fn carry(ones: u64, twos: u64, xa: u64, za: u64, xb: u64, zb: u64) -> (u64, u64)
 }
 
 // The same in each of eight lanes.
+#[inline(always)]
 fn carry_block(
     ones: u64x8,
     twos: u64x8,

@@ -24,6 +24,7 @@ fn xor_blocks(first: &mut [u64], second: &[u64])
     }
 }
 
+#[inline(always)]
 fn xor_block(first: &mut [u64], second: &[u64], at: usize)
     requires own { at + 8 ≤ length first.old }
     requires other { at + 8 ≤ length second.now }
