@@ -1,0 +1,141 @@
+-- One bit of a word: of an exclusive or, of an and, and of a word with one bit set, cleared or turned. The number of
+-- ones is the sum of the bits.
+use Rattle.std.proofs.Common.{lit<, lit≤, add-one, ◌≡◌, ℕ, zero, suc, ◌+◌, ◌*◌, ◌/◌, ◌%◌, ◌^◌, ◌<◌, ◌≤◌, Bool, true, false, not, cond, eqb, ◌&&◌, min, refl, sym, ap, ◌∙◌, arith, bit_and, bit_or, bit_xor, ⊎_elim}
+use Rattle.std.specs.Int.{bit_at, bit_not, w64, trailing_zeros}
+use Rattle.std.specs.Int.RustNames.{count_ones}
+use Rattle.std.proofs.lemmas.Bool.{cases_eq, eq-eqb, ne_eqb}
+use Rattle.std.proofs.lemmas.Nat.{ones_cat, ones_le_self, zero_from_ones, shr_below, one_shl}
+use Rattle.std.proofs.lemmas.Nat.Bits.{bit_at-lt, bit_at_and, bit_at_xor, bit_at-suc, bit_at_lowest, bit_at-pow_same, bit_at-pow_other, bit_at_set_same, bit_at_set_other, bit_at_clear_same, bit_at_clear_other, bit_at-zero, same_from_bits_below, shr_and_one, bit_at-trailing_zeros}
+use Rattle.bit_rows.specs.Rows.{exclusive_or}
+use Rattle.bit_rows.specs.Totals.{total}
+use Rattle.bit_rows.specs.Words.{bit_of}
+use Rattle.bit_rows.specs.WordTotals.{value, word_ones}
+use Rattle.bit_rows.proofs.Sums.{total_same, total_first, total_le}
+
+bit_value : (a : ℕ) → a < 2 → a ≡ value (eqb a 1)
+bit_value zero h = refl
+bit_value (suc zero) h = refl
+bit_value (suc (suc a)) h = absurd (omega arith)
+
+pub bit_at_value : (word j : ℕ) → bit_at word j ≡ value (bit_of word j)
+unfolding bit_of
+bit_at_value word j = bit_value (bit_at word j) (bit_at-lt word j)
+
+pub sum_of_bits : (a b : ℕ) → a < 2 → b < 2 → eqb ((a + b) % 2) 1 ≡ exclusive_or (eqb a 1) (eqb b 1)
+sum_of_bits zero zero p q = refl
+sum_of_bits zero (suc zero) p q = refl
+sum_of_bits (suc zero) zero p q = refl
+sum_of_bits (suc zero) (suc zero) p q = refl
+sum_of_bits (suc (suc a)) b p q = absurd (omega arith)
+sum_of_bits zero (suc (suc b)) p q = absurd (omega arith)
+sum_of_bits (suc zero) (suc (suc b)) p q = absurd (omega arith)
+
+least_of_bits : (a b : ℕ) → a < 2 → b < 2 → eqb (min a b) 1 ≡ (eqb a 1 && eqb b 1)
+least_of_bits zero zero p q = refl
+least_of_bits zero (suc zero) p q = refl
+least_of_bits (suc zero) zero p q = refl
+least_of_bits (suc zero) (suc zero) p q = refl
+least_of_bits (suc (suc a)) b p q = absurd (omega arith)
+least_of_bits zero (suc (suc b)) p q = absurd (omega arith)
+least_of_bits (suc zero) (suc (suc b)) p q = absurd (omega arith)
+
+pub bit_of-xor : (x y j : ℕ) → bit_of (bit_xor x y) j ≡ exclusive_or (bit_of x j) (bit_of y j)
+unfolding bit_of
+bit_of-xor x y j = ap (λ v. eqb v 1) (bit_at_xor x y j) ∙ sum_of_bits (bit_at x j) (bit_at y j) (bit_at-lt x j) (bit_at-lt y j)
+
+pub bit_of-and : (x y j : ℕ) → bit_of (bit_and x y) j ≡ (bit_of x j && bit_of y j)
+unfolding bit_of
+bit_of-and x y j = ap (λ v. eqb v 1) (bit_at_and x y j) ∙ least_of_bits (bit_at x j) (bit_at y j) (bit_at-lt x j) (bit_at-lt y j)
+
+pub bit_of-zero : (j : ℕ) → bit_of 0 j ≡ false
+unfolding bit_of
+bit_of-zero j = ap (λ v. eqb v 1) (bit_at-zero j)
+
+-- the test `(word >> j) & 1 == 1`
+pub bit_of_shift : (word j : ℕ) → eqb (bit_and (word / 2 ^ j) 1) 1 ≡ bit_of word j
+unfolding bit_of
+bit_of_shift word j = ap (λ v. eqb v 1) (shr_and_one word j)
+
+-- a word below 2 ^ 64 whose 64 bits are 0 is 0
+pub zero_from_bits : (word : ℕ) → word < 2 ^ 64 → ((j : ℕ) → j < 64 → bit_of word j ≡ false) → word ≡ 0
+zero_from_bits word fits none =
+    same_from_bits_below 64 word 0 fits (lit< tt)
+    (λ j h. bit_at_value word j ∙ ap value (none j h) ∙ sym (bit_at-zero j))
+
+-- `word | 1 << k`
+pub bit_of_put : (word k j : ℕ) → k < 64 → bit_of (bit_or word (1 * 2 ^ k % 2 ^ 64)) j ≡ cond (eqb j k) true (bit_of word j)
+unfolding bit_of
+bit_of_put word k j within =
+    ⊎_elim
+    (λ e. ap (λ v. eqb v 1) (ap (λ v. bit_at (bit_or word (1 * 2 ^ k % 2 ^ 64)) v) e ∙ bit_at_set_same w64 word k within) ∙ sym (ap (λ b. cond b true (bit_of word j)) (eq-eqb j k e)))
+    (λ ne. ap (λ v. eqb v 1) (bit_at_set_other w64 word k within j ne) ∙ sym (ap (λ b. cond b true (bit_of word j)) (ne_eqb j k ne)))
+    (cases_eq j k)
+
+-- `word & !(1 << k)`
+pub bit_of_take : (word k j : ℕ) → k < 64 → j < 64 → bit_of (bit_and word (bit_not w64 (1 * 2 ^ k % 2 ^ 64))) j ≡ cond (eqb j k) false (bit_of word j)
+unfolding bit_of
+bit_of_take word k j within below =
+    ⊎_elim
+    (λ e. ap (λ v. eqb v 1) (ap (λ v. bit_at (bit_and word (bit_not w64 (1 * 2 ^ k % 2 ^ 64))) v) e ∙ bit_at_clear_same w64 word k within) ∙ sym (ap (λ b. cond b false (bit_of word j)) (eq-eqb j k e)))
+    (λ ne. ap (λ v. eqb v 1) (bit_at_clear_other w64 word k within j below ne) ∙ sym (ap (λ b. cond b false (bit_of word j)) (ne_eqb j k ne)))
+    (cases_eq j k)
+
+-- `1 << k`
+bit_of_one : (k j : ℕ) → k < 64 → bit_of (1 * 2 ^ k % 2 ^ 64) j ≡ eqb j k
+unfolding bit_of
+bit_of_one k j within =
+    ap (λ v. eqb (bit_at v j) 1) (one_shl k 64 within)
+    ∙ ⊎_elim
+    (λ e. ap (λ v. eqb v 1) (ap (λ v. bit_at (2 ^ k) v) e ∙ bit_at-pow_same k) ∙ sym (eq-eqb j k e))
+    (λ ne. ap (λ v. eqb v 1) (bit_at-pow_other k j ne) ∙ sym (ne_eqb j k ne))
+    (cases_eq j k)
+
+turned_where : (b t : Bool) → exclusive_or b t ≡ cond t (not b) b
+turned_where true true = refl
+turned_where true false = refl
+turned_where false true = refl
+turned_where false false = refl
+
+-- `word ^ 1 << k`
+pub bit_of_flip : (word k j : ℕ) → k < 64 → bit_of (bit_xor word (1 * 2 ^ k % 2 ^ 64)) j ≡ cond (eqb j k) (not (bit_of word j)) (bit_of word j)
+bit_of_flip word k j within =
+    bit_of-xor word (1 * 2 ^ k % 2 ^ 64) j ∙ ap (exclusive_or (bit_of word j)) (bit_of_one k j within) ∙ turned_where (bit_of word j) (eqb j k)
+
+ones_of_bit : (a : ℕ) → a < 2 → count_ones a ≡ a
+ones_of_bit zero h = omega (arith, ones_le_self 0)
+ones_of_bit (suc zero) h =
+    ⊎_elim (λ e. absurd (omega (arith, zero_from_ones 1 e))) (λ ne. omega (arith, ones_le_self 1, ne)) (cases_eq (count_ones 1) 0)
+ones_of_bit (suc (suc a)) h = absurd (omega arith)
+
+-- the number of ones is the sum of the bits
+pub ones_are_total : (k n : ℕ) → n < 2 ^ k → count_ones n ≡ total (λ j. bit_at n j) k
+unfolding total
+ones_are_total zero n h = omega (arith, ones_le_self n)
+ones_are_total (suc k) n h =
+    let half : n / 2 < 2 ^ k = shr_below n k 1 (rw (add-one k) h) in
+    let low : n % 2 < 2 = omega arith in
+    let cut : count_ones (n / 2 * 2 + n % 2) ≡ count_ones (n / 2) + count_ones (n % 2) = ones_cat 1 (n / 2) (n % 2) low in
+    let whole : n / 2 * 2 + n % 2 ≡ n = omega arith in
+    let later : total (λ j. bit_at n (suc j)) k ≡ total (λ j. bit_at (n / 2) j) k = total_same (λ j. bit_at n (suc j)) (λ j. bit_at (n / 2) j) k (λ j h. bit_at-suc n j) in
+    omega (arith, ap count_ones whole, cut, ones_of_bit (n % 2) low, ones_are_total k (n / 2) half, later, total_first (λ j. bit_at n j) k, bit_at_lowest n)
+
+-- the same of a word, by the tests of its bits
+pub ones_by_bits : (word : ℕ) → word < 2 ^ 64 → count_ones word ≡ word_ones word
+unfolding word_ones
+ones_by_bits word fits = ones_are_total 64 word fits ∙ total_same (λ j. bit_at word j) (λ j. value (bit_of word j)) 64 (λ j h. bit_at_value word j)
+
+pub word_ones_le : (word : ℕ) → word_ones word ≤ 64
+unfolding word_ones
+word_ones_le word = total_le 1 (λ j. value (bit_of word j)) 64 (λ j h. value_le (bit_of word j))
+  where
+    value_le : (b : Bool) → value b ≤ 1
+    value_le true = lit≤ tt
+    value_le false = lit≤ tt
+
+-- the lowest set bit of a word that is not 0
+pub lowest_bit : (word : ℕ) → 0 < word → word < 2 ^ 64
+    → (trailing_zeros w64 word < 64) × (bit_of word (trailing_zeros w64 word) ≡ true) × ((j : ℕ) → j < trailing_zeros w64 word → bit_of word j ≡ false)
+unfolding bit_of
+lowest_bit word some fits =
+    let low = bit_at-trailing_zeros w64 word some fits in
+    (low.0, ap (λ v. eqb v 1) low.1, λ j h. ap (λ v. eqb v 1) (low.2 j h))

@@ -1,0 +1,18 @@
+use Rattle.std.proofs.Common.{◌≡◌, ◌∙◌, sym, ap, subst, replicate, length, false}
+use Rattle.bit_rows.specs.Words.{HoldsRow, row_of}
+use Rattle.bit_rows.proofs.Places.{row_long, rewritten, held_zeros, row_of_zero_words}
+use Rattle.bit_rows.proofs.row.BitRow.clear.Goals as goal
+
+pub invariant_of-self : goal.invariant_of-self
+invariant_of-self g c =
+    let cleared = c.fill.ensures.after (λ y h. h) in
+    let count = ap length c.as_mut_slice.ensures.value ∙ c.self.invariant.count in
+    rewritten (HoldsRow c.self.inside.places) _ _ c.fill.new.self c.self.inside.words.items c.as_mut_slice.ensures.len c.fill.ensures.len
+    (subst (HoldsRow c.self.inside.places) (sym cleared) (held_zeros c.self.inside.places (length c.as_mut_slice.result.now) c.self.invariant.fits count))
+
+pub returns : goal.returns
+returns g c =
+    let cleared = c.fill.ensures.after (λ y h. h) in
+    let long = row_long c.self.inside.places c.self.inside.words.items c.args.self.now c.self.view_is in
+    rewritten (λ ws. row_of c.self.inside.places ws ≡ replicate (length c.args.self.now) false) _ _ c.fill.new.self c.self.inside.words.items c.as_mut_slice.ensures.len c.fill.ensures.len
+    (ap (row_of c.self.inside.places) cleared ∙ row_of_zero_words c.self.inside.places (length c.as_mut_slice.result.now) ∙ ap (λ n. replicate n false) (sym long))

@@ -1,0 +1,5 @@
+pub mod Rows
+pub mod Spans
+pub mod Totals
+pub mod Words
+pub mod WordTotals

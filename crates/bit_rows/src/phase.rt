@@ -1,0 +1,97 @@
+// The power of i of the product of two words of letters, whose x bits and z bits are lists of words, eight words at a
+// time.
+ghost use Rattle.std.specs.Prelude.{◌≡◌, ℕ, ◌+◌, ◌*◌, ◌/◌, ◌%◌, ◌<◌, ◌≤◌, length, slice_index};
+ghost use Rattle.bit_rows.specs.WordTotals.{carried, carried_by, word_phase, words_phase};
+
+use std::simd::prelude::*;
+
+pub(crate) fn power_of_words(xa: &[u64], za: &[u64], xb: &[u64], zb: &[u64]) -> u8
+    requires za { length za.now ≡ length xa.now }
+    requires xb { length xb.now ≡ length xa.now }
+    requires zb { length zb.now ≡ length xa.now }
+    ensures { result ≡ words_phase xa.now za.now xb.now zb.now (length xa.now) % 4 }
+{
+    let before = power_of_blocks(xa, za, xb, zb);
+    let mut ones = 0u64;
+    let mut twos = 0u64;
+    for i in xa.len() / 8 * 8..xa.len() {
+        (ones, twos) = carry(ones, twos, xa[i], za[i], xb[i], zb[i]);
+    }
+    ((before + power_held(ones, twos)) % 4) as u8
+}
+
+// That of the whole blocks of eight words.
+fn power_of_blocks(xa: &[u64], za: &[u64], xb: &[u64], zb: &[u64]) -> u32
+    requires za { length za.now ≡ length xa.now }
+    requires xb { length xb.now ≡ length xa.now }
+    requires zb { length zb.now ≡ length xa.now }
+    ensures { result ≡ words_phase xa.now za.now xb.now zb.now (length xa.now / 8 * 8) % 4 }
+{
+    let mut ones = u64x8::splat(0);
+    let mut twos = u64x8::splat(0);
+    for block in 0..xa.len() / 8 {
+        (ones, twos) = carry_block(ones, twos, xa, za, xb, zb, block * 8);
+    }
+    power_of_lanes(&ones.to_array(), &twos.to_array())
+}
+
+fn power_of_lanes(ones: &[u64], twos: &[u64]) -> u32
+    requires { length ones.now ≡ length twos.now }
+    ensures { result ≡ carried_by ones.now twos.now (length ones.now) % 4 }
+{
+    let mut power = 0;
+    for k in 0..ones.len() {
+        power = (power + power_held(ones[k], twos[k])) % 4;
+    }
+    power
+}
+
+// What two carry words hold.
+#[inline(always)]
+fn power_held(ones: u64, twos: u64) -> u32
+    ensures value { result ≡ carried ones twos }
+    ensures small { result ≤ 192 }
+{
+    ones.count_ones() + 2 * twos.count_ones()
+}
+
+// Adds the powers of i of 64 letters to those that the carry words hold, modulo 4.
+#[inline(always)]
+fn carry(ones: u64, twos: u64, xa: u64, za: u64, xb: u64, zb: u64) -> (u64, u64)
+    ensures { carried result.0 result.1 % 4 ≡ (carried ones twos + word_phase xa za xb zb) % 4 }
+{
+    let turned = xa & zb;
+    let clash = turned ^ (za & xb);
+    let sign = ones ^ xa ^ xb ^ za ^ zb ^ turned;
+    (ones ^ clash, twos ^ (sign & clash))
+}
+
+// The same in each of eight lanes.
+#[inline(always)]
+fn carry_block(
+    ones: u64x8,
+    twos: u64x8,
+    xa: &[u64],
+    za: &[u64],
+    xb: &[u64],
+    zb: &[u64],
+    at: usize,
+) -> (u64x8, u64x8)
+    requires xa { at + 8 ≤ length xa.now }
+    requires za { at + 8 ≤ length za.now }
+    requires xb { at + 8 ≤ length xb.now }
+    requires zb { at + 8 ≤ length zb.now }
+    ensures { (k : ℕ) → k < 8 → carried (slice_index result.0 k) (slice_index result.1 k) % 4
+        ≡ (carried (slice_index ones k) (slice_index twos k)
+        + word_phase (slice_index xa.now (at + k)) (slice_index za.now (at + k))
+        (slice_index xb.now (at + k)) (slice_index zb.now (at + k))) % 4 }
+{
+    let xa = u64x8::from_slice(&xa[at..]);
+    let za = u64x8::from_slice(&za[at..]);
+    let xb = u64x8::from_slice(&xb[at..]);
+    let zb = u64x8::from_slice(&zb[at..]);
+    let turns = xa & zb;
+    let clashes = turns ^ (za & xb);
+    let signs = ones ^ xa ^ xb ^ za ^ zb ^ turns;
+    (ones ^ clashes, twos ^ (signs & clashes))
+}

@@ -1,0 +1,157 @@
+ghost use Rattle.std.specs.Prelude.{◌≡◌, ◌↔◌, ◌<◌, List, Bool, false, not, length, replicate, slice_index_or, slice_set, IfOk, IsTrue};
+ghost use Rattle.bit_rows.specs.Rows.{xor_rows, and_parity_of, phase_of, first_one_of};
+
+use crate::bits::{all_zero, bit_at_place, first_place, flip_bit, put_bit};
+use crate::parity::has_odd_common_ones;
+use crate::phase::power_of_words;
+use crate::xor::xor_words;
+use std::alloc::{AllocError, Allocator};
+use std::marker::Model;
+
+/// A row of bits of fixed length.
+///
+/// `zeros` and `copy` alone take memory.
+#[derive(Drop)]
+pub struct BitRow<A: Allocator + Copy> {
+    words: Vec<u64, A>,
+    places: usize,
+}
+
+impl<A: Allocator + Copy> Model for BitRow<A> {
+    ghost use Rattle.std.specs.Prelude.{List, Bool};
+    ghost use Rattle.bit_rows.specs.Words.{row_of, HoldsRow};
+
+    ghost Value = { List Bool };
+
+    ghost view = { λ r. row_of r.places r.words.items };
+
+    ghost invariant = { λ r. HoldsRow r.places r.words.items };
+}
+
+impl<A: Allocator + Copy> BitRow<A> {
+    /// The row of `n` zeros.
+    pub fn zeros(alloc: A, n: usize) -> Result<Self, AllocError>
+        ensures { IfOk result (λ row. row ≡ replicate n false) }
+    {
+        Ok(BitRow {
+            words: Vec::from_elem(alloc, 0u64, n.div_ceil(64))?,
+            places: n,
+        })
+    }
+
+    /// A copy, in memory of its own.
+    pub fn copy(&self) -> Result<Self, AllocError>
+        ensures { IfOk result (λ row. row ≡ self.now) }
+    {
+        let alloc = *self.words.allocator();
+        Ok(BitRow {
+            words: Vec::from_slice(alloc, self.words.as_slice())?,
+            places: self.places,
+        })
+    }
+
+    /// The number of places.
+    pub fn len(&self) -> usize
+        ensures { result ≡ length self.now }
+    {
+        self.places
+    }
+
+    /// The bit at a place.
+    pub fn get(&self, i: usize) -> bool
+        requires { i < length self.now }
+        ensures { result ≡ slice_index_or self.now i false }
+    {
+        bit_at_place(self.words.as_slice(), i)
+    }
+
+    /// Puts a bit at a place.
+    pub fn set(&mut self, i: usize, b: bool)
+        requires { i < length self.old }
+        ensures { self.new ≡ slice_set self.old i b }
+    {
+        put_bit(self.words.as_mut_slice(), i, b);
+    }
+
+    /// Turns the bit at a place.
+    pub fn flip(&mut self, i: usize)
+        requires { i < length self.old }
+        ensures { self.new ≡ slice_set self.old i (not (slice_index_or self.old i false)) }
+    {
+        flip_bit(self.words.as_mut_slice(), i);
+    }
+
+    /// Exchanges two rows of any lengths.
+    pub fn swap(&mut self, other: &mut BitRow<A>)
+        ensures first { self.new ≡ other.old }
+        ensures second { other.new ≡ self.old }
+    {
+        std::mem::swap(self, other);
+    }
+
+    /// Makes this row equal to another of its length.
+    pub fn copy_from(&mut self, other: &BitRow<A>)
+        requires { length self.old ≡ length other.now }
+        ensures { self.new ≡ other.now }
+    {
+        self.words
+            .as_mut_slice()
+            .copy_from_slice(other.words.as_slice());
+    }
+
+    /// Makes every bit 0.
+    pub fn clear(&mut self)
+        ensures { self.new ≡ replicate (length self.old) false }
+    {
+        self.words.as_mut_slice().fill(0);
+    }
+
+    /// Adds a row of this length by exclusive or, place by place.
+    pub fn xor_from(&mut self, other: &BitRow<A>)
+        requires { length self.old ≡ length other.now }
+        ensures sum { self.new ≡ xor_rows self.old other.now }
+        ensures len { length self.new ≡ length self.old }
+    {
+        xor_words(self.words.as_mut_slice(), other.words.as_slice());
+    }
+
+    /// Whether the number of places with both bits set is odd.
+    pub fn and_parity(&self, other: &BitRow<A>) -> bool
+        requires { length self.now ≡ length other.now }
+        ensures { result ≡ and_parity_of self.now other.now }
+    {
+        has_odd_common_ones(self.words.as_slice(), other.words.as_slice())
+    }
+
+    /// The first place with a set bit.
+    pub fn first_one(&self) -> Option<usize>
+        ensures { result ≡ first_one_of self.now }
+    {
+        first_place(self.words.as_slice())
+    }
+
+    /// Whether every bit is 0.
+    pub fn is_zero(&self) -> bool
+        ensures { IsTrue result ↔ (self.now ≡ replicate (length self.now) false) }
+    {
+        all_zero(self.words.as_slice())
+    }
+
+    /// The power of i, 0 to 3, of the product of the word with x bits `xa` and z bits `za` with that of `xb` and `zb`.
+    pub fn phase_step(xa: &BitRow<A>, za: &BitRow<A>, xb: &BitRow<A>, zb: &BitRow<A>) -> u8
+        requires za { length za.now ≡ length xa.now }
+        requires xb { length xb.now ≡ length xa.now }
+        requires zb { length zb.now ≡ length xa.now }
+        ensures { result ≡ phase_of xa.now za.now xb.now zb.now }
+    {
+        power_of_words(
+            xa.words.as_slice(),
+            za.words.as_slice(),
+            xb.words.as_slice(),
+            zb.words.as_slice(),
+        )
+    }
+}
+
+#[cfg(test)]
+mod tests;
