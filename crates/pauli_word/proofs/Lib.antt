@@ -1,3 +1,4 @@
+pub mod BitWords
 pub mod LetterLaws
 pub mod LetterTests
 pub mod Parities

@@ -9,13 +9,13 @@ power_product-one i = refl
 power_product-one minus_one = refl
 power_product-one minus_i = refl
 
-four_times_i : (p : Power) → times_i (times_i (times_i (times_i p))) ≡ p
+pub four_times_i : (p : Power) → times_i (times_i (times_i (times_i p))) ≡ p
 four_times_i one = refl
 four_times_i i = refl
 four_times_i minus_one = refl
 four_times_i minus_i = refl
 
-times_i-power_product : (p q : Power) → power_product (times_i p) q ≡ times_i (power_product p q)
+pub times_i-power_product : (p q : Power) → power_product (times_i p) q ≡ times_i (power_product p q)
 times_i-power_product one q = refl
 times_i-power_product i q = refl
 times_i-power_product minus_one q = refl

@@ -1,4 +1,5 @@
+pub use Rattle.bit_rows.specs.Rows
+pub mod Bits
 pub mod Letters
 pub mod Parity
-pub mod Powers
 pub mod Words

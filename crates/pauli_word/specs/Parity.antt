@@ -1,7 +1,2 @@
--- The parity of truth values.
-use Rattle.std.specs.Prelude.{Bool, true, false, not}
-
--- whether exactly one of two is true
-abbrev pub exclusive_or : Bool → Bool → Bool
-exclusive_or false b = b
-exclusive_or true b = not b
+-- The parity of truth values: whether exactly one of two is true, as rows of bits are added.
+pub use Rattle.bit_rows.specs.Rows.{exclusive_or}

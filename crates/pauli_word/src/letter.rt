@@ -1,5 +1,6 @@
 ghost use Rattle.std.specs.Prelude.{◌≡◌};
-ghost use Rattle.pauli_word.specs.Letters.{letter_product, letters_clash};
+ghost use Rattle.pauli_word.specs.Bits.{letter_of, x_bit, z_bit};
+ghost use Rattle.pauli_word.specs.Letters.{letters_clash};
 
 /// A Pauli letter, the action of a Pauli word on one qubit.
 #[derive(Clone, Copy, Debug, PartialEq, Eq)]
@@ -18,16 +19,30 @@ impl Letter {
         self != Letter::I && other != Letter::I && self != other
     }
 
-    // The letter of the product.
-    pub(crate) fn times(self, other: Letter) -> Letter
-        ensures { result ≡ letter_product self other }
+    // The letter kept as these two bits.
+    #[inline]
+    pub(crate) fn of_bits(x: bool, z: bool) -> Letter
+        ensures { result ≡ letter_of x z }
     {
-        match (self, other) {
-            (Letter::I, letter) | (letter, Letter::I) => letter,
-            (Letter::X, Letter::X) | (Letter::Y, Letter::Y) | (Letter::Z, Letter::Z) => Letter::I,
-            (Letter::X, Letter::Y) | (Letter::Y, Letter::X) => Letter::Z,
-            (Letter::Y, Letter::Z) | (Letter::Z, Letter::Y) => Letter::X,
-            (Letter::Z, Letter::X) | (Letter::X, Letter::Z) => Letter::Y,
+        match (x, z) {
+            (false, false) => Letter::I,
+            (true, false) => Letter::X,
+            (true, true) => Letter::Y,
+            (false, true) => Letter::Z,
         }
+    }
+
+    #[inline]
+    pub(crate) fn x_bit(self) -> bool
+        ensures { result ≡ x_bit self }
+    {
+        matches!(self, Letter::X | Letter::Y)
+    }
+
+    #[inline]
+    pub(crate) fn z_bit(self) -> bool
+        ensures { result ≡ z_bit self }
+    {
+        matches!(self, Letter::Y | Letter::Z)
     }
 }

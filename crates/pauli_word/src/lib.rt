@@ -3,7 +3,6 @@
 
 pub mod laws;
 mod letter;
-mod power;
 mod word;
 
 pub use letter::Letter;

@@ -1,25 +1,32 @@
 ghost use Rattle.std.specs.Prelude.{◌≡◌, ◌<◌, length, false, slice_set, not, IfOk};
-ghost use Rattle.pauli_word.specs.Letters.{is_minus, letters_clash};
-ghost use Rattle.pauli_word.specs.Words.{identity_word, letter_at, anticommute, letters_power, letters_product, product};
+ghost use Rattle.pauli_word.specs.Letters.{is_minus};
+ghost use Rattle.pauli_word.specs.Words.{identity_word, letter_at, anticommute, letters_power, product};
 
 use crate::letter::Letter;
-use crate::power::Power;
+use bit_rows::BitRow;
 use std::alloc::{AllocError, Allocator};
 use std::marker::Model;
 
 /// A signed Pauli word: one letter a qubit, and a sign.
+///
+/// It is kept as two rows of bits, 64 qubits to a machine word. `identity` and `copy` alone take memory.
 #[derive(Drop)]
 pub struct Word<A: Allocator + Copy> {
-    letters: Vec<Letter, A>,
+    x: BitRow<A>,
+    z: BitRow<A>,
     negative: bool,
 }
 
 impl<A: Allocator + Copy> Model for Word<A> {
+    ghost use Rattle.std.specs.Prelude.{◌≡◌, length};
+    ghost use Rattle.pauli_word.specs.Bits.{letters_of};
     ghost use Rattle.pauli_word.specs.Words.{Signed};
 
     ghost Value = { Signed };
 
-    ghost view = { λ w. record { letters = w.letters.items; negative = w.negative } };
+    ghost view = { λ w. record { letters = letters_of w.x w.z; negative = w.negative } };
+
+    ghost invariant = { λ w. length w.x ≡ length w.z };
 }
 
 impl<A: Allocator + Copy> Word<A> {
@@ -27,10 +34,9 @@ impl<A: Allocator + Copy> Word<A> {
     pub fn identity(alloc: A, n: usize) -> Result<Self, AllocError>
         ensures { IfOk result (λ w. w ≡ identity_word n) }
     {
-        let mut letters = Vec::with_capacity(alloc, n)?;
-        letters.resize(n, Letter::I)?;
         Ok(Word {
-            letters,
+            x: BitRow::zeros(alloc, n)?,
+            z: BitRow::zeros(alloc, n)?,
             negative: false,
         })
     }
@@ -39,9 +45,9 @@ impl<A: Allocator + Copy> Word<A> {
     pub fn copy(&self) -> Result<Self, AllocError>
         ensures { IfOk result (λ w. w ≡ self.now) }
     {
-        let alloc = *self.letters.allocator();
         Ok(Word {
-            letters: Vec::from_slice(alloc, self.letters.as_slice())?,
+            x: self.x.copy()?,
+            z: self.z.copy()?,
             negative: self.negative,
         })
     }
@@ -51,7 +57,7 @@ impl<A: Allocator + Copy> Word<A> {
         requires { qubit < length self.now.letters }
         ensures { result ≡ letter_at self.now.letters qubit }
     {
-        self.letters[qubit]
+        Letter::of_bits(self.x.get(qubit), self.z.get(qubit))
     }
 
     /// Puts a letter at a qubit.
@@ -59,7 +65,8 @@ impl<A: Allocator + Copy> Word<A> {
         requires { qubit < length self.old.letters }
         ensures { self.new ≡ record self.old { letters = slice_set self.old.letters qubit letter } }
     {
-        self.letters[qubit] = letter;
+        self.x.set(qubit, letter.x_bit());
+        self.z.set(qubit, letter.z_bit());
     }
 
     /// Whether the sign is minus.
@@ -81,7 +88,7 @@ impl<A: Allocator + Copy> Word<A> {
         requires { length self.now.letters ≡ length other.now.letters }
         ensures { result ≡ not (anticommute self.now.letters other.now.letters) }
     {
-        !anticommute(self.letters.as_slice(), other.letters.as_slice())
+        self.x.and_parity(&other.z) == self.z.and_parity(&other.x)
     }
 
     /// Multiplies by a commuting word from the right, and answers whether the product of the letters brought
@@ -92,37 +99,14 @@ impl<A: Allocator + Copy> Word<A> {
         ensures product { self.new ≡ product self.old other.now }
         ensures brings_minus { result ≡ is_minus (letters_power self.old.letters other.now.letters) }
     {
-        let minus = multiply(self.letters.as_mut_slice(), other.letters.as_slice());
+        // a power of i, which is 0 or 2 as the words commute
+        let power = BitRow::phase_step(&self.x, &self.z, &other.x, &other.z);
+        let minus = power >= 2;
+        self.x.xor_from(&other.x);
+        self.z.xor_from(&other.z);
         self.negative = self.negative ^ other.negative ^ minus;
         minus
     }
-}
-
-// Multiplies the letters from the right, and answers whether that brings a minus sign.
-fn multiply(first: &mut [Letter], second: &[Letter]) -> bool
-    requires { length first.old ≡ length second.now }
-    ensures product { first.new ≡ letters_product first.old second.now }
-    ensures brings_minus { result ≡ is_minus (letters_power first.old second.now) }
-{
-    let mut power = Power::One;
-    for qubit in 0..second.len() {
-        let letter = first[qubit];
-        power = power.times(Power::between(letter, second[qubit]));
-        first[qubit] = letter.times(second[qubit]);
-    }
-    power.is_minus()
-}
-
-// Whether an odd number of places clash.
-fn anticommute(first: &[Letter], second: &[Letter]) -> bool
-    requires { length first.now ≡ length second.now }
-    ensures { result ≡ anticommute first.now second.now }
-{
-    let mut odd = false;
-    for qubit in 0..first.len() {
-        odd ^= first[qubit].clashes(second[qubit]);
-    }
-    odd
 }
 
 #[cfg(test)]

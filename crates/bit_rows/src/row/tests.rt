@@ -1,6 +1,8 @@
 ghost use Rattle.std.specs.Prelude.{◌≡◌, ◌<◌, length, IfOk};
 
 use super::BitRow;
+use rand_core::{Rng, SeedableRng};
+use rand_pcg::Pcg64;
 use std::alloc::{AllocError, Global};
 use std::process::Abort;
 use std::test::Fail;
@@ -18,17 +20,14 @@ fn ones(alloc: Global, n: usize) -> Result<BitRow<Global>, AllocError>
     Ok(row)
 }
 
-// A row of the bits that a xorshift generator draws.
+// A row of the lowest bits of a generator's words.
 fn drawn(alloc: Global, n: usize, seed: u64) -> Result<BitRow<Global>, AllocError>
     ensures { IfOk result (λ row. length row ≡ n) }
 {
     let mut row = BitRow::zeros(alloc, n)?;
-    let mut state = seed;
+    let mut generator = Pcg64::seed_from_u64(seed);
     for i in 0..n {
-        state ^= state << 13;
-        state ^= state >> 7;
-        state ^= state << 17;
-        row.set(i, state & 1 == 1);
+        row.set(i, generator.next_u64() & 1 == 1);
     }
     Ok(row)
 }

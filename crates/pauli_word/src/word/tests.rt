@@ -24,10 +24,12 @@ fn word_of<A: Allocator + Copy>(
 ) -> Result<Word<A>, AllocError>
     ensures { IfOk result (λ w. length w.letters ≡ length letters.now) }
 {
-    Ok(Word {
-        letters: Vec::from_slice(alloc, letters)?,
-        negative,
-    })
+    let mut word = Word::identity(alloc, letters.len())?;
+    for qubit in 0..letters.len() {
+        word.set_letter(qubit, letters[qubit]);
+    }
+    word.set_sign(negative);
+    Ok(word)
 }
 
 /// Multiplies, and says that the word keeps its length.
