@@ -114,6 +114,31 @@ fn powers_place_by_place(rt: HostRuntime) -> Result<(), Fail> {
     Ok(())
 }
 
+// The first place with a set bit, place by place.
+fn plain_first_one(row: &BitRow<Global>) -> Option<usize> {
+    for i in 0..row.len() {
+        if row.get(i) {
+            return Some(i);
+        }
+    }
+    None
+}
+
+#[test]
+fn first_ones_place_by_place(rt: HostRuntime) -> Result<(), Fail> {
+    for n in LENGTHS {
+        let mut row = drawn(rt.alloc(), n, 9)?;
+        assert_eq!(rt; row.first_one(), plain_first_one(&row));
+        row.clear();
+        assert_eq!(rt; row.first_one(), None);
+        if n > 0 {
+            row.set(n - 1, true);
+            assert_eq!(rt; row.first_one(), Some(n - 1));
+        }
+    }
+    Ok(())
+}
+
 fn assert_sum(rt: &impl Abort, a: &BitRow<Global>, b: &BitRow<Global>, sum: &BitRow<Global>)
     requires b { length b.now ≡ length a.now }
     requires sum { length sum.now ≡ length a.now }
