@@ -2,6 +2,7 @@
 -- powers.
 use Rattle.std.proofs.Common.{◌≡◌, Bool, true, false, not, ◌&&◌, ℕ, zero, suc, ◌+◌, ◌%◌, leb, List, [], ◌∷◌, length, replicate, set, get_or, refl, ap, ap₂, sym, ◌∙◌, arith}
 use Rattle.std.proofs.Math.Bool.{beq}
+use Rattle.std.proofs.Math.Nat.{suc_inj}
 use Rattle.bit_rows.specs.Rows.{xor_rows, and_parity_of, letter_phase, phase_sum, phase_of}
 use Rattle.pauli_word.specs.declared.letter.Letter.{Letter}
 use Rattle.pauli_word.specs.declared.letter.Letter.TheVariants.{I, X, Y, Z}
@@ -13,13 +14,10 @@ use Rattle.pauli_word.proofs.LetterTests.{same_letter, same_letter-true, same_po
 use Rattle.pauli_word.proofs.Parities.{exclusive_or_middle, same_truth, same_truth-true, at_four_truths}
 use Rattle.pauli_word.proofs.PowerLaws.{four_times_i, times_i-power_product}
 
-suc_injective : (m n : ℕ) → suc m ≡ suc n → m ≡ n
-suc_injective m n h = cc
-
 pub length-letters_of : (x z : List Bool) → length x ≡ length z → length (letters_of x z) ≡ length x
 length-letters_of [] z h = refl
 length-letters_of (a ∷ x) [] h = cc
-length-letters_of (a ∷ x) (b ∷ z) h = ap suc (length-letters_of x z (suc_injective _ _ h))
+length-letters_of (a ∷ x) (b ∷ z) h = ap suc (length-letters_of x z (suc_inj h))
 
 pub letters_of-zeros : (n : ℕ) → letters_of (replicate n false) (replicate n false) ≡ no_letters n
 letters_of-zeros zero = refl
@@ -30,7 +28,7 @@ letter_at-letters_of [] [] i h = refl
 letter_at-letters_of [] (b ∷ z) i h = cc
 letter_at-letters_of (a ∷ x) [] i h = cc
 letter_at-letters_of (a ∷ x) (b ∷ z) zero h = refl
-letter_at-letters_of (a ∷ x) (b ∷ z) (suc i) h = letter_at-letters_of x z i (suc_injective _ _ h)
+letter_at-letters_of (a ∷ x) (b ∷ z) (suc i) h = letter_at-letters_of x z i (suc_inj h)
 
 letters_of-set : (x z : List Bool) (i : ℕ) (b c : Bool) → letters_of (set x i b) (set z i c) ≡ set (letters_of x z) i (letter_of b c)
 letters_of-set [] z i b c = refl
@@ -78,7 +76,7 @@ anticommute-letters_of (a ∷ xa) (b ∷ za) [] zb h k l = cc
 anticommute-letters_of (a ∷ xa) (b ∷ za) (c ∷ xb) [] h k l = cc
 anticommute-letters_of (a ∷ xa) (b ∷ za) (c ∷ xb) (d ∷ zb) h k l =
     ap₂ exclusive_or (clash_of_bits a b c d)
-    (anticommute-letters_of xa za xb zb (suc_injective _ _ h) (suc_injective _ _ k) (suc_injective _ _ l))
+    (anticommute-letters_of xa za xb zb (suc_inj h) (suc_inj k) (suc_inj l))
     ∙ exclusive_or_middle (a && d) (b && c) (and_parity_of xa zb) (and_parity_of za xb)
 
 -- ---- powers of i: those that rows count, as those of letters

@@ -2,6 +2,7 @@
 -- letters form a group (associative, a word times itself is the identity), and anticommuting is symmetric and
 -- adds up over products.
 use Rattle.std.proofs.Common.{◌≡◌, ℕ, suc, zero, Bool, true, false, not, List, [], ◌∷◌, length, drop, refl, ap, ap₂, sym, ◌∙◌}
+use Rattle.std.proofs.Math.Nat.{suc_inj}
 use Rattle.pauli_word.specs.declared.letter.Letter.{Letter}
 use Rattle.pauli_word.specs.Letters.{one, power_product, letter_product, letter_power, letters_clash, sign_power}
 use Rattle.pauli_word.specs.Parity.{exclusive_or}
@@ -10,13 +11,10 @@ use Rattle.pauli_word.proofs.Parities.{exclusive_or_middle}
 use Rattle.pauli_word.proofs.PowerLaws.{power_product_middle, is_real, is_real-power_product, sign_power-exclusive_or}
 use Rattle.pauli_word.proofs.LetterLaws.{letter_product_assoc, letter_product_comm, letter_product_self, letter_power_cocycle, letter_power_self, letter_power_of_I, letter_power_swap, is_real-letter_power, letters_clash_comm, letters_clash_self, letters_clash_of_I, letters_clash-product}
 
-suc_injective : (m n : ℕ) → suc m ≡ suc n → m ≡ n
-suc_injective m n h = cc
-
 pub length-letters_product : (p q : List Letter) → length p ≡ length q → length (letters_product p q) ≡ length p
 length-letters_product [] q h = refl
 length-letters_product (a ∷ p) [] h = cc
-length-letters_product (a ∷ p) (b ∷ q) h = ap suc (length-letters_product p q (suc_injective _ _ h))
+length-letters_product (a ∷ p) (b ∷ q) h = ap suc (length-letters_product p q (suc_inj h))
 
 -- for a function that names its lemmas
 pub ruleset product_lengths = (length-letters_product)
@@ -48,7 +46,7 @@ letters_power_cocycle (a ∷ p) [] r h k = cc
 letters_power_cocycle (a ∷ p) (b ∷ q) [] h k = cc
 letters_power_cocycle (a ∷ p) (b ∷ q) (c ∷ r) h k =
     power_product_middle (letter_power a b) (letters_power p q) (letter_power (letter_product a b) c) (letters_power (letters_product p q) r)
-    ∙ ap₂ power_product (letter_power_cocycle a b c) (letters_power_cocycle p q r (suc_injective _ _ h) (suc_injective _ _ k))
+    ∙ ap₂ power_product (letter_power_cocycle a b c) (letters_power_cocycle p q r (suc_inj h) (suc_inj k))
     ∙ power_product_middle (letter_power b c) (letter_power a (letter_product b c)) (letters_power q r) (letters_power p (letters_product q r))
 
 pub letters_power_self : (p : List Letter) → letters_power p p ≡ one
@@ -106,7 +104,7 @@ anticommute-product [] (b ∷ q) r h = cc
 anticommute-product (a ∷ p) [] r h = cc
 anticommute-product (a ∷ p) (b ∷ q) [] h = refl
 anticommute-product (a ∷ p) (b ∷ q) (c ∷ r) h =
-    ap₂ exclusive_or (letters_clash-product a b c) (anticommute-product p q r (suc_injective _ _ h))
+    ap₂ exclusive_or (letters_clash-product a b c) (anticommute-product p q r (suc_inj h))
     ∙ exclusive_or_middle (letters_clash a c) (letters_clash b c) (anticommute p r) (anticommute q r)
 
 -- one place more, for a loop that goes over the qubits

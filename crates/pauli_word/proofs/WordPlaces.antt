@@ -1,6 +1,7 @@
 -- Words taken apart at a qubit: a product, its power of i and the parity of clashes are those at the qubit, and
 -- those of the words with I there.
 use Rattle.std.proofs.Common.{◌≡◌, false, ℕ, zero, suc, List, [], ◌∷◌, length, set, refl, ap, sym, ◌∙◌}
+use Rattle.std.proofs.Math.Nat.{suc_inj}
 use Rattle.pauli_word.specs.declared.letter.Letter.{Letter}
 use Rattle.pauli_word.specs.declared.letter.Letter.TheVariants.{I}
 use Rattle.pauli_word.specs.Letters.{Power, one, power_product, letter_product, letter_power, letters_clash}
@@ -9,9 +10,6 @@ use Rattle.pauli_word.specs.Words.{letters_product, letters_power, anticommute, 
 use Rattle.pauli_word.proofs.Parities.{exclusive_or_left_comm}
 use Rattle.pauli_word.proofs.PowerLaws.{power_product_assoc, power_product_comm}
 use Rattle.pauli_word.proofs.LetterLaws.{letter_power-I, letter_power_of_I, letters_clash_comm, letters_clash_of_I}
-
-suc_injective : (m n : ℕ) → suc m ≡ suc n → m ≡ n
-suc_injective m n h = cc
 
 power_left_comm : (p q r : Power) → power_product p (power_product q r) ≡ power_product q (power_product p r)
 power_left_comm p q r =
@@ -52,4 +50,4 @@ letter_at-product [] [] i h = refl
 letter_at-product [] (b ∷ q) i h = cc
 letter_at-product (a ∷ p) [] i h = cc
 letter_at-product (a ∷ p) (b ∷ q) zero h = refl
-letter_at-product (a ∷ p) (b ∷ q) (suc i) h = letter_at-product p q i (suc_injective _ _ h)
+letter_at-product (a ∷ p) (b ∷ q) (suc i) h = letter_at-product p q i (suc_inj h)

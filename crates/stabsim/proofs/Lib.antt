@@ -24,3 +24,4 @@ pub mod StepLemmas
 pub mod TargetLemmas
 pub mod UnrolledLemmas
 pub mod WordLemmas
+pub mod WordLoops
