@@ -1,9 +1,10 @@
 -- What is written for an order and a circuit's text, and how that ends, as a function of the two.
-use Rattle.std.specs.Prelude.{ℕ, Bool, false, if◌then◌else◌, List, [], ◌∷◌, ◌++◌, length, map, replicate, codes, decimal, Option, None, Some, ok_or, Result, Ok, Err}
+use Rattle.std.specs.Prelude.{ℕ, Bool, if◌then◌else◌, List, [], ◌∷◌, ◌++◌, length, map, codes, decimal, Option, None, Some, ok_or, Result, Ok, Err}
 use Rattle.std.specs.Option.{option_copied}
 use Rattle.step_model.specs.declared.fault.Fault.{Fault}
 use Rattle.step_model.specs.declared.fault.Cause.TheVariants.{CoinCount, FaultNumber}
 use Rattle.step_model.specs.Faults.{cause_number, without_line}
+use Rattle.step_model.specs.Frames.{zero_coins}
 use Rattle.step_model.specs.HitModels.{model_of}
 use Rattle.step_model.specs.Listing.{Listing}
 use Rattle.step_model.specs.Runs.{records_of}
@@ -29,14 +30,6 @@ abbrev pub refusal_line : Fault → List ℕ
 refusal_line fault =
     codes "refused " ++ decimal (cause_number fault.cause) ++ codes " line " ++ decimal fault.line ++ 10 ∷ []
 
--- no fault happens
-abbrev pub no_faults : Listing → List Bool
-no_faults program = replicate (length program.faults) false
-
--- every coin is 0
-abbrev pub zero_coins : Listing → List Bool
-zero_coins program = replicate program.collapses false
-
 -- the coins of a run: those that a text gives, or all 0 where there is no text
 abbrev pub run_coins : Listing → Option (List ℕ) → Option (List Bool)
 run_coins program None = Some (zero_coins program)
@@ -47,7 +40,7 @@ run_coins program (Some text) = coins_of program.collapses text
 abbrev pub run_lines : Listing → List Bool → List Bool → List ℕ
 run_lines program faults coins =
     let records = records_of program faults coins in
-    let reference = records_of program (no_faults program) (zero_coins program) in
+    let reference = records_of program [] (zero_coins program) in
     line_of records ++ line_of (difference program records reference)
 
 -- the next step, where none before it refused

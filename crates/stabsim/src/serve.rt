@@ -4,12 +4,13 @@ ghost use Rattle.std.specs.Option.{option_copied};
 ghost use Rattle.step_model.specs.declared.fault.Cause.TheVariants.{CoinCount, Memory};
 ghost use Rattle.step_model.specs.Ends.{HandsOutSome, Takes, TakesBeginning, read_failures, write_failures};
 ghost use Rattle.step_model.specs.Faults.{memory_fault, read_fault, without_line, write_fault};
+ghost use Rattle.step_model.specs.Frames.{zero_coins};
 ghost use Rattle.step_model.specs.Runs.{records_of};
 ghost use Rattle.stabsim.specs.Classical.{IsClassical};
 ghost use Rattle.stabsim.specs.declared.order.Order.TheVariants.{Analyze};
 ghost use Rattle.stabsim.specs.declared.order.Status.TheVariants.{Done, Refused};
 ghost use Rattle.stabsim.specs.Headline.{IsExactFor};
-ghost use Rattle.stabsim.specs.Output.{analysis_output, answer_of, no_faults, output_of, refusal_line, run_coins, run_lines, run_output, zero_coins};
+ghost use Rattle.stabsim.specs.Output.{analysis_output, answer_of, output_of, refusal_line, run_coins, run_lines, run_output};
 
 use crate::backward::analyse;
 use crate::detections::detections;
@@ -203,14 +204,12 @@ fn noiseless_records<A: Allocator + Copy>(
     program: &Program<'_, A>,
 ) -> Result<Records<A>, Fault>
     requires { IsClassical program.now }
-    ensures ok { IfOk result (λ records. records
-        ≡ records_of program.now (no_faults program.now) (zero_coins program.now)) }
+    ensures ok { IfOk result (λ records. records ≡ records_of program.now [] (zero_coins program.now)) }
     ensures count { IfOk result (λ records. length records ≡ program.now.records) }
     ensures err { IfErr result (λ e. e ≡ memory_fault) }
 {
-    let faults = all_false(alloc, program.fault_count())?;
     let coins = all_false(alloc, program.collapses() as usize)?;
-    run(alloc, program, faults.as_slice(), coins.as_slice())
+    run(alloc, program, &[], coins.as_slice())
 }
 
 #[cfg(test)]

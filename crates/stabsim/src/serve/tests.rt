@@ -275,3 +275,6 @@ fn stops_at_a_failed_write(rt: HostRuntime) {
         assert_eq!(rt; sink.failures, 1);
     }
 }
+
+mod drawing;
+mod drawn;
