@@ -1,30 +1,28 @@
 -- Lists of truth values changed by flips, and the parities of records that are changed by flips.
 use Rattle.std.proofs.Common.{◌≡◌, ℕ, zero, suc, ◌==◌, ◌&&◌, Bool, true, false, List, [], ◌∷◌, ◌++◌, length, get_or, replicate, refl, ap, ap₂, sym, ◌∙◌}
 use Rattle.std.proofs.Math.Dec.{eqb-suc-zero, eqb-zero-suc, eqb-suc-suc}
+use Rattle.std.proofs.Math.Nat.{suc_inj}
 use Rattle.pauli_word.specs.Parity.{exclusive_or}
 use Rattle.pauli_word.proofs.Parities.{exclusive_or-false, exclusive_or_middle}
 use Rattle.step_model.specs.Shifts.{joined}
 use Rattle.step_model.specs.Targets.{parity, is_listed}
 
-suc_injective : (m n : ℕ) → suc m ≡ suc n → m ≡ n
-suc_injective m n h = cc
-
 pub joined-append : (flips later values rest : List Bool) → length flips ≡ length values → joined (flips ++ later) (values ++ rest) ≡ joined flips values ++ joined later rest
 joined-append [] later [] rest h = refl
 joined-append [] later (x ∷ values) rest h = cc
 joined-append (f ∷ flips) later [] rest h = cc
-joined-append (f ∷ flips) later (x ∷ values) rest h = ap (λ xs. exclusive_or f x ∷ xs) (joined-append flips later values rest (suc_injective _ _ h))
+joined-append (f ∷ flips) later (x ∷ values) rest h = ap (λ xs. exclusive_or f x ∷ xs) (joined-append flips later values rest (suc_inj h))
 
 pub length-joined : (flips values : List Bool) → length flips ≡ length values → length (joined flips values) ≡ length values
 length-joined [] values h = refl
 length-joined (f ∷ flips) [] h = cc
-length-joined (f ∷ flips) (x ∷ values) h = ap suc (length-joined flips values (suc_injective _ _ h))
+length-joined (f ∷ flips) (x ∷ values) h = ap suc (length-joined flips values (suc_inj h))
 
 -- flips that are all 0 change nothing
 pub joined-no_flips : (n : ℕ) (values : List Bool) → n ≡ length values → joined (replicate n false) values ≡ values
 joined-no_flips zero values h = refl
 joined-no_flips (suc n) [] h = cc
-joined-no_flips (suc n) (x ∷ values) h = ap (λ xs. x ∷ xs) (joined-no_flips n values (suc_injective _ _ h))
+joined-no_flips (suc n) (x ∷ values) h = ap (λ xs. x ∷ xs) (joined-no_flips n values (suc_inj h))
 
 -- values that are all 0 become the flips
 pub joined-zeros : (flips : List Bool) → joined flips (replicate (length flips) false) ≡ flips
