@@ -68,7 +68,11 @@ abbrev pub answer_of : Result (List ℕ) Fault → List ℕ × Status
 answer_of (Ok lines) = (lines, Done)
 answer_of (Err fault) = (refusal_line fault, Refused)
 
+-- what an order writes for a circuit's text, or why it is refused
+abbrev pub lines_of_order : Order → List ℕ → Result (List ℕ) Fault
+lines_of_order (Run coins faults) text = run_output (option_copied coins) faults.now text
+lines_of_order Analyze text = analysis_output text
+
 -- what is written for an order and a circuit's text, and how that ends
 abbrev pub output_of : Order → List ℕ → List ℕ × Status
-output_of (Run coins faults) text = answer_of (run_output (option_copied coins) faults.now text)
-output_of Analyze text = answer_of (analysis_output text)
+output_of order text = answer_of (lines_of_order order text)

@@ -10,7 +10,7 @@ ghost use Rattle.stabsim.specs.Classical.{IsClassical};
 ghost use Rattle.stabsim.specs.declared.order.Order.TheVariants.{Analyze};
 ghost use Rattle.stabsim.specs.declared.order.Status.TheVariants.{Done, Refused};
 ghost use Rattle.stabsim.specs.Headline.{IsExactFor};
-ghost use Rattle.stabsim.specs.Output.{analysis_output, answer_of, output_of, refusal_line, run_coins, run_lines, run_output};
+ghost use Rattle.stabsim.specs.Output.{analysis_output, lines_of_order, output_of, refusal_line, run_coins, run_lines, run_output};
 
 use crate::backward::analyse;
 use crate::detections::detections;
@@ -78,40 +78,25 @@ fn answer<A: Allocator + Copy>(
     ensures exact { IfOk result (λ answer. order.now ≡ Analyze → answer.1 ≡ Done → IsExactFor text.now answer.0.items) }
     ensures err { IfErr result (λ e. e ≡ memory_fault) }
 {
+    match text_answered(alloc, order, text) {
+        Ok(output) => Ok((output, Status::Done)),
+        Err(fault) => refusal(alloc, fault),
+    }
+}
+
+/// What an order writes for a text, or why it is refused.
+fn text_answered<A: Allocator + Copy>(
+    alloc: A,
+    order: &Order<'_>,
+    text: &[u8],
+) -> Result<Vec<u8, A>, Fault>
+    ensures ok { IfOk result (λ lines. lines_of_order order.now text.now ≡ Ok lines.items) }
+    ensures exact { IfOk result (λ lines. order.now ≡ Analyze → IsExactFor text.now lines.items) }
+    ensures err { IfErr result (λ e. (e ≡ memory_fault) ⊎ (lines_of_order order.now text.now ≡ Err e)) }
+{
     match *order {
-        Order::Run { coins, faults } => run_answer(alloc, coins, faults, text),
-        Order::Analyze => analysis_answer(alloc, text),
-    }
-}
-
-fn run_answer<A: Allocator + Copy>(
-    alloc: A,
-    coins: Option<&[u8]>,
-    faults: &[u8],
-    text: &[u8],
-) -> Result<(Vec<u8, A>, Status), Fault>
-    ensures output { IfOk result (λ answer. answer.0.items ≡ (answer_of (run_output (option_copied coins.entry) faults.now text.now)).0) }
-    ensures status { IfOk result (λ answer. answer.1 ≡ (answer_of (run_output (option_copied coins.entry) faults.now text.now)).1) }
-    ensures err { IfErr result (λ e. e ≡ memory_fault) }
-{
-    match run_text(alloc, coins, faults, text) {
-        Ok(output) => Ok((output, Status::Done)),
-        Err(fault) => refusal(alloc, fault),
-    }
-}
-
-fn analysis_answer<A: Allocator + Copy>(
-    alloc: A,
-    text: &[u8],
-) -> Result<(Vec<u8, A>, Status), Fault>
-    ensures output { IfOk result (λ answer. answer.0.items ≡ (answer_of (analysis_output text.now)).0) }
-    ensures status { IfOk result (λ answer. answer.1 ≡ (answer_of (analysis_output text.now)).1) }
-    ensures exact { IfOk result (λ answer. answer.1 ≡ Done → IsExactFor text.now answer.0.items) }
-    ensures err { IfErr result (λ e. e ≡ memory_fault) }
-{
-    match analysis_text(alloc, text) {
-        Ok(output) => Ok((output, Status::Done)),
-        Err(fault) => refusal(alloc, fault),
+        Order::Run { coins, faults } => run_text(alloc, coins, faults, text),
+        Order::Analyze => analysis_text(alloc, text),
     }
 }
 

@@ -1,7 +1,6 @@
-use Rattle.std.proofs.Common.{◌≡◌, ◌<◌, ℕ, List, length, get_or, set, arith, ap, ap₂, sym, ◌∙◌}
+use Rattle.std.proofs.Common.{◌≡◌, ◌<◌, ℕ, length, get_or, arith, ap, sym, ◌∙◌}
 use Rattle.std.proofs.lemmas.List.{length-set}
-use Rattle.pauli_word.specs.Words.{Signed}
-use Rattle.stabsim.specs.BackwardWords.{times_letter, times_listed}
+use Rattle.stabsim.specs.BackwardWords.{times_letter}
 use Rattle.stabsim.proofs.WordLoops.{long_set, times_listed_read}
 use Rattle.stabsim.proofs.backward_words.multiply_listed.Goals as goal
 
