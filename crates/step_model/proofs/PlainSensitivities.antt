@@ -10,7 +10,7 @@ use Rattle.pauli_word.proofs.Parities.{exclusive_or-false}
 use Rattle.pauli_word.proofs.WordLaws.{anticommute_of_none}
 use Rattle.step_model.specs.declared.step.Step.{Step}
 use Rattle.step_model.specs.declared.step.Step.TheVariants.{One, Two, Collapse, Fault}
-use Rattle.step_model.specs.Sensitivities.{cleared, multiplied, record_counts, sensitivity, sensitivity_before, is_collapse, collapse_word, collapse_count, later_or_here, latest_place, has_X_or_Y, lowest_X_or_Y}
+use Rattle.step_model.specs.Sensitivities.{cleared, multiplied, record_counts, sensitivity, sensitivity_before, collapse_word, collapse_count, later_or_here, latest_place, has_X_or_Y, lowest_X_or_Y}
 use Rattle.step_model.specs.Targets.{is_listed}
 use Rattle.step_model.proofs.ConstancyRuns.{length-sensitivity}
 use Rattle.step_model.proofs.ShiftSteps.{length-cleared}

@@ -1,14 +1,11 @@
 //! Runs, and the coin pairs of targets, computed straight from their definitions: slowly, for small programs. Whether
 //! a word is in the state after a step is asked of other words before it, so the work of a run grows as a power of the
 //! number of collapses.
-ghost use Rattle.std.specs.Prelude.{◌≡◌, ◌<◌, ◌≤◌, ◌+◌, ◌++◌, ◌&&◌, ◌||◌, not, length, take, false, Bool, Some, None, All, IfOk, is_some, unwrap_or, slice_index_or, if◌then◌else◌};
+ghost use Rattle.std.specs.Prelude.{◌≡◌, ◌<◌, ◌≤◌, ◌+◌, ◌++◌, ◌&&◌, ◌||◌, not, length, take, false, Bool, Some, None, IfOk, is_some, unwrap_or, slice_index_or, if◌then◌else◌};
 ghost use Rattle.std.specs.Option.{option_to_list};
-ghost use Rattle.gate_table.specs.Images.{arity_of};
 ghost use Rattle.pauli_word.specs.Words.{anticommute, lone_letter, product};
-ghost use Rattle.step_model.specs.Images.{preimage_at, preimage_at_two};
-ghost use Rattle.step_model.specs.Listing.{word_of_terms};
-ghost use Rattle.step_model.specs.Runs.{signed, changed, is_I_or_Z, start_state, is_decided, collapsed, corrected, outcome, correcting, next_coin, flip_happens, moment_after, records_of};
-ghost use Rattle.step_model.specs.Sensitivities.{is_collapse, collapse_count};
+ghost use Rattle.step_model.specs.Runs.{signed, is_I_or_Z, start_state, is_decided, collapsed, corrected, outcome, correcting, next_coin, flip_happens, moment_after, records_of};
+ghost use Rattle.step_model.specs.Sensitivities.{collapse_count};
 
 mod frames;
 mod sensitivities;

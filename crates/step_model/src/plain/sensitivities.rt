@@ -27,10 +27,7 @@ pub fn place_of<A: Allocator + Copy>(
         return Ok(Some(Place::After(collapse)));
     }
     let word = sensitivity(alloc, program, named, 0)?;
-    Ok(match lowest_x_or_y(&word, program.qubits()) {
-        Some(qubit) => Some(Place::Start(qubit)),
-        None => None,
-    })
+    Ok(lowest_x_or_y(&word, program.qubits()).map(Place::Start))
 }
 
 /// The sensitivity of the target that names these records, after the first steps. Its sign is plus.

@@ -1,6 +1,5 @@
 //! Sensitivities, places and coin pairs of circuits worked by hand.
-ghost use Rattle.std.specs.Prelude.{◌≡◌, ◌<◌, ◌≤◌, length};
-ghost use Rattle.step_model.specs.Targets.{targets_of};
+ghost use Rattle.std.specs.Prelude.{◌<◌, length};
 
 use super::bits;
 use super::checked::program_of;

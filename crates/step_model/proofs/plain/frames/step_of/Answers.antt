@@ -1,4 +1,4 @@
-use Rattle.std.proofs.Common.{◌+◌, ◌<◌, length, take, sym, ap, ◌∙◌, arith}
+use Rattle.std.proofs.Common.{◌+◌, ◌<◌, length, take, ap, arith}
 use Rattle.step_model.specs.Sensitivities.{collapse_count}
 use Rattle.step_model.proofs.PlainFrames.{counted-collapse, counted-other}
 use Rattle.step_model.proofs.plain.frames.step_of.Goals as goal

@@ -1,6 +1,5 @@
-use Rattle.std.proofs.Common.{◌+◌, ◌<◌, length, drop, ap, sym, ◌∙◌, arith}
+use Rattle.std.proofs.Common.{◌+◌, length, drop, ap, ◌∙◌, arith}
 use Rattle.step_model.specs.declared.step.Step.TheVariants.{Collapse, Fault}
-use Rattle.step_model.specs.Sensitivities.{cleared}
 use Rattle.step_model.proofs.ConstancyRuns.{length-sensitivity}
 use Rattle.step_model.proofs.ShiftSteps.{length-cleared}
 use Rattle.step_model.proofs.PlainFrames.{collapse_is_inside}
