@@ -1,6 +1,6 @@
 ghost use Rattle.std.specs.Prelude.{◌≡◌};
 ghost use Rattle.pauli_word.specs.Bits.{letter_of, x_bit, z_bit};
-ghost use Rattle.pauli_word.specs.Letters.{letters_clash};
+ghost use Rattle.pauli_word.specs.Letters.{letter_product, letters_clash};
 
 /// A Pauli letter, the action of a Pauli word on one qubit.
 #[derive(Clone, Copy, Debug, PartialEq, Eq)]
@@ -17,6 +17,19 @@ impl Letter {
         ensures { result ≡ letters_clash self other }
     {
         self != Letter::I && other != Letter::I && self != other
+    }
+
+    /// The letter of the product.
+    pub fn times(self, other: Letter) -> Letter
+        ensures { result ≡ letter_product self other }
+    {
+        match (self, other) {
+            (Letter::I, letter) | (letter, Letter::I) => letter,
+            (Letter::X, Letter::X) | (Letter::Y, Letter::Y) | (Letter::Z, Letter::Z) => Letter::I,
+            (Letter::X, Letter::Y) | (Letter::Y, Letter::X) => Letter::Z,
+            (Letter::Y, Letter::Z) | (Letter::Z, Letter::Y) => Letter::X,
+            (Letter::Z, Letter::X) | (Letter::X, Letter::Z) => Letter::Y,
+        }
     }
 
     // The letter kept as these two bits.

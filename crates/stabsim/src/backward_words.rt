@@ -1,7 +1,6 @@
 //! One word a target, taken back over a step.
 ghost use Rattle.std.specs.Prelude.{◌≡◌, ◌<◌, ◌≢◌, map, replicate, length, All, IfOk};
 ghost use Rattle.gate_table.specs.Images.{arity_of};
-ghost use Rattle.pauli_word.specs.Letters.{letter_product};
 ghost use Rattle.pauli_word.specs.Words.{identity_word, anticommute};
 ghost use Rattle.step_model.specs.Listing.{word_of_terms};
 ghost use Rattle.stabsim.specs.BackwardWords.{with_letter, moved_one, moved_two, times_letter, times_listed};
@@ -99,21 +98,8 @@ fn multiply<A: Allocator + Copy>(word: &mut Word<A>, letter: Letter, q: usize)
     requires { q < length word.old.letters }
     ensures { word.new ≡ times_letter letter q word.old }
 {
-    let product = times(letter, word.letter(q));
+    let product = letter.times(word.letter(q));
     word.set_letter(q, product);
-}
-
-// The letter of the product of two letters.
-fn times(first: Letter, second: Letter) -> Letter
-    ensures { result ≡ letter_product first second }
-{
-    match (first, second) {
-        (Letter::I, letter) | (letter, Letter::I) => letter,
-        (Letter::X, Letter::X) | (Letter::Y, Letter::Y) | (Letter::Z, Letter::Z) => Letter::I,
-        (Letter::X, Letter::Y) | (Letter::Y, Letter::X) => Letter::Z,
-        (Letter::Y, Letter::Z) | (Letter::Z, Letter::Y) => Letter::X,
-        (Letter::Z, Letter::X) | (Letter::X, Letter::Z) => Letter::Y,
-    }
 }
 
 /// Whether a word anticommutes with the product of letters at qubits.

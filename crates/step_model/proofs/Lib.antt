@@ -17,7 +17,9 @@ pub mod PairPlaces
 pub mod PairRuns
 pub mod PairStates
 pub mod PlainChecks
+pub mod PlainFrames
 pub mod PlainLemmas
+pub mod PlainSensitivities
 pub mod ShiftCollapse
 pub mod ShiftGates
 pub mod ShiftLists

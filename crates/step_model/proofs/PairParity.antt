@@ -58,7 +58,7 @@ step-balance program named (Collapse letter q rec reset inverted flip) v w fits 
     ∙ sym (anticommute-multiplied (record_counts named rec) v u (cleared reset q w) (length-lone_letter n q letter ∙ sym (length-cleared n reset q w size')))
 step-balance program named (Fault f) v w fits size size' = refl
 
-length-carried : (program : Listing) (step : Step) (v : List Letter) → length v ≡ program.qubits → length (carried step v) ≡ program.qubits
+pub length-carried : (program : Listing) (step : Step) (v : List Letter) → length v ≡ program.qubits → length (carried step v) ≡ program.qubits
 length-carried program step v size = ap length (sym (same-carried program [] v step)) ∙ length-carried_with program [] [] step v size
 
 -- the flips of a frame that count add up to whether it anticommutes with the sensitivity

@@ -1,19 +1,26 @@
-//! Runs, computed straight from their definition: slowly, for small programs. Whether a word is in the state after a
-//! step is asked of other words before it, so the work grows as a power of the number of collapses.
-ghost use Rattle.std.specs.Prelude.{◌≡◌, ◌<◌, ◌≤◌, ◌+◌, ◌++◌, ◌&&◌, ◌||◌, not, length, take, false, Bool, Some, None, All, IfOk, is_some, unwrap_or, slice_index_or, if◌then◌else◌};
+//! Runs, and the coin pairs of targets, computed straight from their definitions: slowly, for small programs. Whether
+//! a word is in the state after a step is asked of other words before it, so the work of a run grows as a power of the
+//! number of collapses.
+ghost use Rattle.std.specs.Prelude.{◌≡◌, ◌<◌, ◌≤◌, ◌+◌, ◌++◌, ◌&&◌, ◌||◌, not, length, take, false, Bool, Some, None, IfOk, is_some, unwrap_or, slice_index_or, if◌then◌else◌};
 ghost use Rattle.std.specs.Option.{option_to_list};
-ghost use Rattle.gate_table.specs.Images.{arity_of};
 ghost use Rattle.pauli_word.specs.Words.{anticommute, lone_letter, product};
-ghost use Rattle.step_model.specs.Images.{preimage_at, preimage_at_two};
-ghost use Rattle.step_model.specs.Listing.{word_of_terms};
-ghost use Rattle.step_model.specs.Runs.{signed, changed, is_I_or_Z, start_state, is_decided, collapsed, corrected, outcome, correcting, next_coin, flip_happens, moment_after, records_of};
-ghost use Rattle.step_model.specs.Sensitivities.{is_collapse, collapse_count};
+ghost use Rattle.step_model.specs.Runs.{signed, is_I_or_Z, start_state, is_decided, collapsed, corrected, outcome, correcting, next_coin, flip_happens, moment_after, records_of};
+ghost use Rattle.step_model.specs.Sensitivities.{collapse_count};
+
+mod frames;
+mod sensitivities;
+pub(crate) mod words;
 
 use crate::program::Program;
 use crate::step::{Step, Term};
-use gate_table::Gate;
+pub use frames::{coin_pair, flips_of};
 use pauli_word::{Letter, Word};
+pub use sensitivities::{place_of, sensitivity};
 use std::alloc::{AllocError, Allocator};
+use words::{
+    changed, clashes_at, clashes_with, correction_of, lone_word, multiplied, preimage,
+    preimage_of_two,
+};
 
 /// The records of a run in which these faults happen and the collapses take these coins. A fault or a coin that is
 /// not listed is 0.
@@ -223,136 +230,6 @@ fn is_i_or_z(letter: Letter) -> bool
     ensures { result ≡ is_I_or_Z letter }
 {
     letter == Letter::I || letter == Letter::Z
-}
-
-// The word that a gate turns into this one.
-fn preimage<A: Allocator + Copy>(
-    gate: Gate,
-    qubit: usize,
-    word: &Word<A>,
-) -> Result<Word<A>, AllocError>
-    requires arity { arity_of gate ≡ 1 }
-    requires qubit { qubit < length word.now.letters }
-    ensures { IfOk result (λ w. w ≡ preimage_at gate qubit word.now) }
-{
-    let (letter, negative) = gate.inverse().image1(word.letter(qubit));
-    let mut earlier = word.copy()?;
-    earlier.set_letter(qubit, letter);
-    earlier.set_sign(word.sign() ^ negative);
-    Ok(earlier)
-}
-
-fn preimage_of_two<A: Allocator + Copy>(
-    gate: Gate,
-    first: usize,
-    second: usize,
-    word: &Word<A>,
-) -> Result<Word<A>, AllocError>
-    requires arity { arity_of gate ≡ 2 }
-    requires first { first < length word.now.letters }
-    requires second { second < length word.now.letters }
-    ensures { IfOk result (λ w. w ≡ preimage_at_two gate first second word.now) }
-{
-    let (at_first, at_second, negative) = gate
-        .inverse()
-        .image2(word.letter(first), word.letter(second));
-    let mut earlier = word.copy()?;
-    earlier.set_letter(first, at_first);
-    earlier.set_letter(second, at_second);
-    earlier.set_sign(word.sign() ^ negative);
-    Ok(earlier)
-}
-
-// A copy of the word, with its sign changed where `changes`.
-fn changed<A: Allocator + Copy>(changes: bool, word: &Word<A>) -> Result<Word<A>, AllocError>
-    ensures { IfOk result (λ w. w ≡ changed changes word.now) }
-{
-    let mut copy = word.copy()?;
-    copy.set_sign(changes ^ word.sign());
-    Ok(copy)
-}
-
-// The word of a letter at a qubit, and I elsewhere.
-fn lone_word<A: Allocator + Copy>(
-    alloc: A,
-    qubits: usize,
-    term: Term,
-    negative: bool,
-) -> Result<Word<A>, AllocError>
-    requires { term.qubit < qubits }
-    ensures { IfOk result (λ w. w ≡ signed (lone_letter qubits term.qubit term.letter) negative) }
-{
-    let mut word = Word::identity(alloc, qubits)?;
-    word.set_letter(term.qubit as usize, term.letter);
-    word.set_sign(negative);
-    Ok(word)
-}
-
-// The product of a letter at a qubit, with a sign, and a word that commutes with it.
-fn multiplied<A: Allocator + Copy>(
-    alloc: A,
-    qubits: usize,
-    term: Term,
-    negative: bool,
-    word: &Word<A>,
-) -> Result<Word<A>, AllocError>
-    requires qubit { term.qubit < qubits }
-    requires letters { length word.now.letters ≡ qubits }
-    requires commuting { anticommute word.now.letters (lone_letter qubits term.qubit term.letter) ≡ false }
-    ensures product { IfOk result
-        (λ w. w ≡ product (signed (lone_letter qubits term.qubit term.letter) negative) word.now) }
-    ensures letters { IfOk result (λ w. length w.letters ≡ qubits) }
-{
-    let mut lone = lone_word(alloc, qubits, term, negative)?;
-    lone.times(word);
-    Ok(lone)
-}
-
-// The letter that turns the outcome 1 of this letter into 0, at its qubit.
-fn correction_of(term: Term) -> Term
-    ensures { result ≡ record { qubit = term.qubit; letter = correcting term.letter } }
-{
-    Term {
-        qubit: term.qubit,
-        letter: match term.letter {
-            Letter::I => Letter::I,
-            Letter::X => Letter::Z,
-            Letter::Y | Letter::Z => Letter::X,
-        },
-    }
-}
-
-// Whether a word anticommutes with a letter at a qubit.
-fn clashes_at<A: Allocator + Copy>(
-    alloc: A,
-    qubits: usize,
-    term: Term,
-    word: &Word<A>,
-) -> Result<bool, AllocError>
-    requires qubit { term.qubit < qubits }
-    requires letters { length word.now.letters ≡ qubits }
-    ensures { IfOk result (λ clashes. clashes ≡ anticommute word.now.letters (lone_letter qubits term.qubit term.letter)) }
-{
-    let lone = lone_word(alloc, qubits, term, false)?;
-    Ok(!word.commutes(&lone))
-}
-
-// Whether a word anticommutes with the product of these letters at qubits.
-fn clashes_with<A: Allocator + Copy>(
-    alloc: A,
-    qubits: usize,
-    terms: &[Term],
-    word: &Word<A>,
-) -> Result<bool, AllocError>
-    requires terms { All (λ term. term.qubit < qubits) terms.now }
-    requires letters { length word.now.letters ≡ qubits }
-    ensures { IfOk result (λ clashes. clashes ≡ anticommute word.now.letters (word_of_terms qubits terms.now)) }
-{
-    let mut clashes = false;
-    for term in terms {
-        clashes ^= clashes_at(alloc, qubits, *term, word)?;
-    }
-    Ok(clashes)
 }
 
 // The coin of the first collapse after these steps.

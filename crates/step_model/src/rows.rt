@@ -1,7 +1,54 @@
 //! Circuits worked by hand, and what runs of them make.
 ghost use Rattle.std.specs.Prelude.{◌≡◌, length, IfOk};
 
+macro_rules! gate {
+    ($gate:ident $q:literal) => {
+        Step::One {
+            gate: Gate::$gate,
+            q: $q,
+        }
+    };
+    ($gate:ident $a:literal $b:literal) => {
+        Step::Two {
+            gate: Gate::$gate,
+            a: $a,
+            b: $b,
+        }
+    };
+}
+
+macro_rules! collapse {
+    ($letter:ident $qubit:literal, rec $rec:expr, reset $reset:literal, inverted $inverted:literal, flip $flip:expr) => {
+        Step::Collapse {
+            letter: Letter::$letter,
+            qubit: $qubit,
+            rec: $rec,
+            reset: $reset,
+            inverted: $inverted,
+            flip: $flip,
+        }
+    };
+}
+
+macro_rules! measure {
+    ($letter:ident $qubit:literal -> $rec:literal) => {
+        collapse!($letter $qubit, rec Some($rec), reset false, inverted false, flip None)
+    };
+}
+
+macro_rules! reset {
+    ($letter:ident $qubit:literal) => {
+        collapse!($letter $qubit, rec None, reset true, inverted false, flip None)
+    };
+    ($letter:ident $qubit:literal -> $rec:literal) => {
+        collapse!($letter $qubit, rec Some($rec), reset true, inverted false, flip None)
+    };
+}
+
 mod checked;
+mod mistakes;
+mod pair_table;
+mod pairs;
 mod table;
 
 use crate::plain::{is_in_state, records};
@@ -37,7 +84,9 @@ fn makes(
 }
 
 fn holds_row(rt: &impl Abort, alloc: Global, row: &Row) -> Result<(), Fail> {
-    let program = program_of(alloc, row.qubits, row.steps, row.faults)?.ok_or("not well formed")?;
+    let program = program_of(alloc, row.qubits, row.steps, row.faults, &[])?.ok_or(
+        "not well formed",
+    )?;
     for run in row.runs {
         makes(rt, alloc, &program, row.circuit, run)?;
     }
@@ -99,7 +148,7 @@ fn a_pair_is_in_its_state(rt: HostRuntime) -> Result<(), Fail> {
             b: 1,
         },
     ];
-    let program = program_of(rt.alloc(), 2, &steps, &[])?.ok_or("not well formed")?;
+    let program = program_of(rt.alloc(), 2, &steps, &[], &[])?.ok_or("not well formed")?;
     let table = [
         (Letter::X, Letter::X, false, true),
         (Letter::Z, Letter::Z, false, true),

@@ -4,7 +4,7 @@ ghost use Rattle.std.specs.List.{list_all, range_with_len};
 ghost use Rattle.std.specs.Option.{option_to_list};
 ghost use Rattle.step_model.specs.Listing.{effect_at, fault_at};
 ghost use Rattle.step_model.specs.Made.{listing_of};
-ghost use Rattle.step_model.specs.WellFormed.{is_I, applies_word, flips_record, flip_fits, step_fits, step_records, step_faults, records_made, faults_named, FaultFits};
+ghost use Rattle.step_model.specs.WellFormed.{is_I, applies_word, flips_record, flip_fits, step_fits, step_records, step_faults, records_made, faults_named, FaultFits, CoordinatesFit};
 
 use crate::plain::collapses;
 use crate::program::{FaultPart, Parts, Program};
@@ -20,12 +20,14 @@ pub enum Listed<'a> {
     Flips(u32),
 }
 
-/// The program of these steps and faults, with no detectors, where it is well formed. Each fault has probability 0.
+/// The program of these steps and faults and of detectors with these records, where it is well formed. Each fault has
+/// probability 0, and no detector has coordinates.
 pub fn program_of<A: Allocator + Copy>(
     alloc: A,
     qubits: u32,
     steps: &[Step],
     listed: &[Listed<'_>],
+    named: &[&[u32]],
 ) -> Result<Option<Program<'static, A>>, AllocError> {
     let mut faults = Vec::new(alloc);
     let mut terms = FlatLists::new(alloc);
@@ -41,6 +43,12 @@ pub fn program_of<A: Allocator + Copy>(
         })?;
         terms.push(letters)?;
     }
+    let mut detectors = FlatLists::new(alloc);
+    let mut coordinates = FlatLists::new(alloc);
+    for numbers in named {
+        detectors.push(*numbers)?;
+        coordinates.push(&[])?;
+    }
     let mut records = 0u32;
     let mut collapses = 0u32;
     for step in steps {
@@ -54,15 +62,16 @@ pub fn program_of<A: Allocator + Copy>(
         records,
         collapses,
         steps: Vec::from_slice(alloc, steps)?,
-        detectors: FlatLists::new(alloc),
+        detectors,
         observables: FlatLists::new(alloc),
-        coordinates: FlatLists::new(alloc),
+        coordinates,
         faults,
         terms,
     }))
 }
 
-// The program of these parts, where they are well formed and have no target, and each fault has probability 0.
+// The program of these parts, where they are well formed and have no observable and no coordinate, and each fault has
+// probability 0.
 fn checked<'a, A: Allocator + Copy>(parts: Parts<'a, A>) -> Option<Program<'a, A>> {
     if parts.faults.len() != parts.terms.len() {
         return None;
@@ -82,13 +91,13 @@ fn checked<'a, A: Allocator + Copy>(parts: Parts<'a, A>) -> Option<Program<'a, A
     if !faults_fit(&parts) {
         return None;
     }
-    if !parts.detectors.is_empty() {
+    if !detectors_fit(&parts) {
         return None;
     }
     if !parts.observables.is_empty() {
         return None;
     }
-    if !parts.coordinates.is_empty() {
+    if !are_coordinates_empty(&parts) {
         return None;
     }
     Some(Program::new(parts))
@@ -268,4 +277,39 @@ fn terms_fit(terms: &[Term], qubits: u32) -> bool
     ensures { result ≡ true → All (λ term. term.qubit < qubits) terms.now }
 {
     terms.iter().all(|term| term.qubit < qubits)
+}
+
+// Whether there are few detectors, and each names records that are made.
+fn detectors_fit<A: Allocator + Copy>(parts: &Parts<'_, A>) -> bool
+    ensures named { result ≡ true → All (All (λ r. r < parts.now.records)) parts.now.detectors }
+    ensures few { result ≡ true → length parts.now.detectors ≤ 1000000 }
+{
+    if parts.detectors.len() > 1000000 {
+        return false;
+    }
+    for detector in 0..parts.detectors.len() {
+        if !are_made(parts.detectors.get(detector), parts.records) {
+            return false;
+        }
+    }
+    true
+}
+
+fn are_made(named: &[u32], records: u32) -> bool
+    ensures { result ≡ true → All (λ r. r < records) named.now }
+{
+    named.iter().all(|number| *number < records)
+}
+
+// Whether the detectors' coordinates are there, and each has none.
+fn are_coordinates_empty<A: Allocator + Copy>(parts: &Parts<'_, A>) -> bool
+    ensures given { result ≡ true → length parts.now.coordinates ≡ length parts.now.detectors }
+    ensures fit { result ≡ true → All CoordinatesFit parts.now.coordinates }
+{
+    for detector in 0..parts.coordinates.len() {
+        if !parts.coordinates.get(detector).is_empty() {
+            return false;
+        }
+    }
+    parts.coordinates.len() == parts.detectors.len()
 }

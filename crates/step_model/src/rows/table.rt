@@ -19,50 +19,6 @@ pub struct Row {
     pub runs: &'static [Run],
 }
 
-macro_rules! gate {
-    ($gate:ident $q:literal) => {
-        Step::One {
-            gate: Gate::$gate,
-            q: $q,
-        }
-    };
-    ($gate:ident $a:literal $b:literal) => {
-        Step::Two {
-            gate: Gate::$gate,
-            a: $a,
-            b: $b,
-        }
-    };
-}
-
-macro_rules! collapse {
-    ($letter:ident $qubit:literal, rec $rec:expr, reset $reset:literal, inverted $inverted:literal, flip $flip:expr) => {
-        Step::Collapse {
-            letter: Letter::$letter,
-            qubit: $qubit,
-            rec: $rec,
-            reset: $reset,
-            inverted: $inverted,
-            flip: $flip,
-        }
-    };
-}
-
-macro_rules! measure {
-    ($letter:ident $qubit:literal -> $rec:literal) => {
-        collapse!($letter $qubit, rec Some($rec), reset false, inverted false, flip None)
-    };
-}
-
-macro_rules! reset {
-    ($letter:ident $qubit:literal) => {
-        collapse!($letter $qubit, rec None, reset true, inverted false, flip None)
-    };
-    ($letter:ident $qubit:literal -> $rec:literal) => {
-        collapse!($letter $qubit, rec Some($rec), reset true, inverted false, flip None)
-    };
-}
-
 macro_rules! applies {
     ($($letter:ident $qubit:literal),*) => {
         Listed::Applies(&[$(Term { qubit: $qubit, letter: Letter::$letter }),*])

@@ -2,7 +2,7 @@ use Rattle.std.proofs.Common.{◌≡◌, drop}
 use Rattle.pauli_word.specs.Parity.{exclusive_or}
 use Rattle.pauli_word.specs.Words.{anticommute}
 use Rattle.step_model.specs.Listing.{word_of_terms}
-use Rattle.step_model.proofs.plain.clashes_with.Given as goal
+use Rattle.step_model.proofs.plain.words.clashes_with.Given as goal
 
 -- the terms so far and those that are left make all
 abbrev pub invariant-loop-term : goal.invariant-loop-term

@@ -2,7 +2,7 @@ use Rattle.std.proofs.Common.{length, ap, ◌∙◌}
 use Rattle.pauli_word.specs.Words.{anticommute}
 use Rattle.pauli_word.proofs.WordLaws.{anticommute_comm}
 use Rattle.step_model.proofs.PlainLemmas.{length_of_product, length-lone_letter}
-use Rattle.step_model.proofs.plain.multiplied.Goals as goal
+use Rattle.step_model.proofs.plain.words.multiplied.Goals as goal
 
 pub times-requires-clause-commuting : goal.times-requires-clause-commuting
 times-requires-clause-commuting g c =

@@ -1,5 +1,5 @@
 use Rattle.step_model.proofs.PlainLemmas.{clashes-more, clashes_all}
-use Rattle.step_model.proofs.plain.clashes_with.Goals as goal
+use Rattle.step_model.proofs.plain.words.clashes_with.Goals as goal
 
 pub loop-term-preserved : goal.loop-term-preserved
 loop-term-preserved g c =

@@ -1,0 +1,15 @@
+use Rattle.std.proofs.Common.{◌≡◌, ◌≤◌, length, drop}
+use Rattle.step_model.specs.Sensitivities.{sensitivity}
+use Rattle.step_model.proofs.plain.sensitivities.sensitivity.Given as goal
+
+-- the word is the sensitivity before the steps gone back over
+abbrev pub invariant-loop-left : goal.invariant-loop-left
+invariant-loop-left g l =
+    record {
+      above : l.steps ≤ l.left;
+      within : l.left ≤ length l.program.steps;
+      word : l.word.letters ≡ sensitivity l.program.qubits l.named (drop l.left l.program.steps);
+    }
+
+abbrev pub decreases-loop-left : goal.decreases-loop-left
+decreases-loop-left g l = l.left
