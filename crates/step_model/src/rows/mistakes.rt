@@ -1,4 +1,4 @@
-//! Wrong ways to compute the flips of a place's frame.
+//! The flips of a place's frame in one pass over the steps, and wrong ways to compute them.
 ghost use Rattle.std.specs.Prelude.{◌≡◌, ◌<◌, length, IfOk};
 
 use crate::plain::words::{
@@ -21,12 +21,12 @@ pub enum Mistake {
     CarriedByInverse,
 }
 
-/// The flips of the frame begun at a place, with this mistake.
-pub fn wrong_flips(
+/// The flips of the frame begun at a place, with this mistake or none.
+pub fn flips_with(
     alloc: Global,
     program: &Program<'_, Global>,
     place: Place,
-    mistake: Mistake,
+    mistake: Option<Mistake>,
 ) -> Result<Vec<bool>, AllocError> {
     let mut frame = frame_at_start(alloc, program, place)?;
     let mut flips = Vec::new(alloc);
@@ -39,7 +39,7 @@ pub fn wrong_flips(
                 Term { qubit, letter },
                 &frame,
             )?;
-            flips.push(clash | (begins & (mistake == Mistake::FlipsItsPlace)))?;
+            flips.push(clash | (begins & (mistake == Some(Mistake::FlipsItsPlace))))?;
         }
         frame = carried(alloc, program, step, begins, mistake, &frame)?;
     }
@@ -68,14 +68,14 @@ fn carried(
     program: &Program<'_, Global>,
     step: usize,
     begins: bool,
-    mistake: Mistake,
+    mistake: Option<Mistake>,
     frame: &Word<Global>,
 ) -> Result<Word<Global>, AllocError>
     requires within { step < length program.now.steps }
     requires letters { length frame.now.letters ≡ program.now.qubits }
     ensures { IfOk result (λ w. length w.letters ≡ program.now.qubits) }
 {
-    let back = mistake == Mistake::CarriedByInverse;
+    let back = mistake == Some(Mistake::CarriedByInverse);
     match program.steps()[step] {
         Step::One { gate, q } if back => preimage(gate, q as usize, frame),
         Step::One { gate, q } => image(gate, q as usize, frame),
@@ -87,7 +87,7 @@ fn carried(
             reset,
             ..
         } => {
-            let clears = reset & (mistake != Mistake::StaysAtReset);
+            let clears = reset & (mistake != Some(Mistake::StaysAtReset));
             if !begins {
                 return cleared(clears, qubit as usize, frame);
             }
@@ -97,7 +97,7 @@ fn carried(
                 Term { qubit, letter },
                 false,
             )?;
-            let clears_first = reset & (mistake == Mistake::BeginsBeforeReset);
+            let clears_first = reset & (mistake == Some(Mistake::BeginsBeforeReset));
             cleared(clears_first, qubit as usize, &first)
         }
         Step::Fault(_) => frame.copy(),

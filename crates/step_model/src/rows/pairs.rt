@@ -3,7 +3,7 @@ ghost use Rattle.std.specs.Prelude.{◌<◌, length};
 
 use super::bits;
 use super::checked::program_of;
-use super::mistakes::{Mistake, wrong_flips};
+use super::mistakes::{Mistake, flips_with};
 use super::pair_table::{MEASURED_X, Pair, PairRow, RESET_AND_MEASURED, RESET_X, ROWS, TURNED};
 use crate::plain::{coin_pair, place_of, records, sensitivity};
 use crate::program::Program;
@@ -109,7 +109,9 @@ fn tells(
     assert!(rt; program.detector_count() > 0);
     let place = place_of(alloc, &program, 0)?.ok_or("no place")?;
     let (_, right) = coin_pair(alloc, &program, place)?;
-    let wrong = wrong_flips(alloc, &program, place, mistake)?;
+    let unmistaken = flips_with(alloc, &program, place, None)?;
+    assert_eq!(rt; unmistaken.as_slice(), right.as_slice());
+    let wrong = flips_with(alloc, &program, place, Some(mistake))?;
     let expected = bits(alloc, expected)?;
     assert_eq!(rt; wrong.as_slice(), expected.as_slice());
     assert_ne!(rt; wrong.as_slice(), right.as_slice());

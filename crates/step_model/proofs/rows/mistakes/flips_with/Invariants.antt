@@ -1,5 +1,5 @@
 use Rattle.std.proofs.Common.{◌≡◌, length}
-use Rattle.step_model.proofs.rows.mistakes.wrong_flips.Given as goal
+use Rattle.step_model.proofs.rows.mistakes.flips_with.Given as goal
 
 abbrev pub invariant-loop-step : goal.invariant-loop-step
 invariant-loop-step l = length l.frame.letters ≡ l.program.qubits
