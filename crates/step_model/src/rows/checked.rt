@@ -29,6 +29,32 @@ pub fn program_of<A: Allocator + Copy>(
     listed: &[Listed<'_>],
     named: &[&[u32]],
 ) -> Result<Option<Program<'static, A>>, AllocError> {
+    let (faults, terms) = parts_of(alloc, listed)?;
+    let (collapses, records) = counts(steps);
+    let mut detectors = FlatLists::new(alloc);
+    let mut coordinates = FlatLists::new(alloc);
+    for numbers in named {
+        detectors.push(*numbers)?;
+        coordinates.push(&[])?;
+    }
+    Ok(checked(Parts {
+        qubits,
+        records,
+        collapses,
+        steps: Vec::from_slice(alloc, steps)?,
+        detectors,
+        observables: FlatLists::new(alloc),
+        coordinates,
+        faults,
+        terms,
+    }))
+}
+
+// The parts of faults of probability 0, and the letters that each applies.
+fn parts_of<A: Allocator + Copy>(
+    alloc: A,
+    listed: &[Listed<'_>],
+) -> Result<(Vec<FaultPart<'static>, A>, FlatLists<Term, A>), AllocError> {
     let mut faults = Vec::new(alloc);
     let mut terms = FlatLists::new(alloc);
     for fault in listed {
@@ -43,31 +69,20 @@ pub fn program_of<A: Allocator + Copy>(
         })?;
         terms.push(letters)?;
     }
-    let mut detectors = FlatLists::new(alloc);
-    let mut coordinates = FlatLists::new(alloc);
-    for numbers in named {
-        detectors.push(*numbers)?;
-        coordinates.push(&[])?;
-    }
-    let mut records = 0u32;
+    Ok((faults, terms))
+}
+
+// How many steps are collapses, and how many of these make a record.
+fn counts(steps: &[Step]) -> (u32, u32) {
     let mut collapses = 0u32;
+    let mut records = 0u32;
     for step in steps {
         if let Step::Collapse { rec, .. } = step {
             collapses = collapses.saturating_add(1);
             records = records.saturating_add(u32::from(rec.is_some()));
         }
     }
-    Ok(checked(Parts {
-        qubits,
-        records,
-        collapses,
-        steps: Vec::from_slice(alloc, steps)?,
-        detectors,
-        observables: FlatLists::new(alloc),
-        coordinates,
-        faults,
-        terms,
-    }))
+    (collapses, records)
 }
 
 // The program of these parts, where they are well formed and have no observable and no coordinate, and each fault has
