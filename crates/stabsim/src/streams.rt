@@ -1,6 +1,6 @@
 //! Readers and writers of std, such as standard input and output, as ends of bytes. What a device hands out or takes
 //! is known to no one, so these ends don't tell their bytes. A call that a signal interrupts is made again, as std does.
-ghost use Rattle.std.specs.Prelude.{None};
+ghost use Rattle.std.specs.Prelude.{◌≡◌, None};
 
 use std::io::{ErrorKind, Read, Write};
 use step_model::{Cause, Fault, Sink, Source};
@@ -13,7 +13,9 @@ pub(crate) struct ReaderSource<R: Read + Drop> {
 }
 
 impl<R: Read + Drop> ReaderSource<R> {
-    pub(crate) fn new(reader: R) -> Self {
+    pub(crate) fn new(reader: R) -> Self
+        ensures { result ≡ record { reader = reader; failures = 0 } }
+    {
         ReaderSource {
             reader,
             failures: 0,
@@ -50,7 +52,9 @@ pub(crate) struct WriterSink<W: Write + Drop> {
 }
 
 impl<W: Write + Drop> WriterSink<W> {
-    pub(crate) fn new(writer: W) -> Self {
+    pub(crate) fn new(writer: W) -> Self
+        ensures { result ≡ record { writer = writer; failures = 0 } }
+    {
         WriterSink {
             writer,
             failures: 0,
