@@ -4,3 +4,6 @@ pub mod Products
 pub mod Clashes
 pub mod Inverses
 pub mod Identity
+pub mod WordImageLaws
+pub mod PairImageLaws
+pub mod GateGroups

@@ -2,3 +2,4 @@ pub mod Table
 pub mod Images
 pub mod Names
 pub mod Laws
+pub mod WordImages

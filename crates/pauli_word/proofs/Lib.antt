@@ -1,6 +1,9 @@
 pub mod BitWords
+pub mod Groups
 pub mod LetterLaws
 pub mod LetterTests
+pub mod LoneLetters
+pub mod LowestLetters
 pub mod Parities
 pub mod PowerLaws
 pub mod SignedLaws

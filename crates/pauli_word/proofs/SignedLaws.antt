@@ -1,17 +1,14 @@
 -- The laws of signed words. Where words commute, the sign of a product is the sum of their signs and of the sign
 -- of the power of i, so products of commuting words are associative and commute.
 use Rattle.std.proofs.Common.{◌≡◌, ℕ, Bool, true, false, not, List, length, refl, ap, ap₂, sym, ◌∙◌}
+use Rattle.std.proofs.lemmas.Bool.{not-true}
 use Rattle.pauli_word.specs.declared.letter.Letter.{Letter}
 use Rattle.pauli_word.specs.Letters.{power_product, is_minus, sign_power}
 use Rattle.pauli_word.specs.Parity.{exclusive_or}
-use Rattle.pauli_word.specs.Words.{Signed, letters_product, letters_power, anticommute, product, no_letters, identity_word}
+use Rattle.pauli_word.specs.Words.{Signed, signed, with_sign_changed, letters_product, letters_power, anticommute, product, no_letters, identity_word}
 use Rattle.pauli_word.proofs.Parities.{exclusive_or_assoc, exclusive_or_self, exclusive_or_comm, exclusive_or_left_comm, exclusive_or-false, same_truth, same_truth-true, at_six_truths}
 use Rattle.pauli_word.proofs.PowerLaws.{is_real, sign_power-is_minus, is_real-sign_power, is_minus-power_product}
 use Rattle.pauli_word.proofs.WordLaws.{letters_product_assoc, letters_product_comm, letters_product_self, letters_product_of_none, letters_power_cocycle, letters_power_self, letters_power_of_none, letters_power_swap, is_real-letters_power}
-
--- a signed word of its parts
-abbrev pub signed : List Letter → Bool → Signed
-signed letters negative = record { letters = letters; negative = negative }
 
 -- where words commute, the power of i of their product is 1 or -1
 real_from_commuting : (p q : List Letter) → anticommute p q ≡ false → is_real (letters_power p q) ≡ true
@@ -20,10 +17,6 @@ real_from_commuting p q h = is_real-letters_power p q ∙ ap not h
 -- so their power is a sign, and where it is one they commute
 pub letters_power-commuting : (p q : List Letter) → anticommute p q ≡ false → letters_power p q ≡ sign_power (is_minus (letters_power p q))
 letters_power-commuting p q h = sign_power-is_minus (letters_power p q) (real_from_commuting p q h)
-
-not-true : (a : Bool) → not a ≡ true → a ≡ false
-not-true false h = refl
-not-true true h = cc
 
 pub commuting-from_sign : (p q : List Letter) (negative : Bool) → letters_power p q ≡ sign_power negative → anticommute p q ≡ false
 commuting-from_sign p q negative h =
@@ -75,19 +68,15 @@ product_of_identity n p h =
     (ap (λ m. letters_product (no_letters m) p.letters) (sym h) ∙ letters_product_of_none p.letters)
     (ap (λ t. exclusive_or p.negative (is_minus t)) (letters_power_of_none n p.letters) ∙ exclusive_or-false p.negative)
 
--- the word with its sign changed where b
-abbrev pub changed : Bool → Signed → Signed
-changed b p = signed p.letters (exclusive_or b p.negative)
-
 -- a changed sign of a factor changes the sign of the product
-pub product-changed_left : (b : Bool) (p q : Signed) → product (changed b p) q ≡ changed b (product p q)
-product-changed_left b p q =
+pub product-sign_changed_left : (b : Bool) (p q : Signed) → product (with_sign_changed b p) q ≡ with_sign_changed b (product p q)
+product-sign_changed_left b p q =
     ap (signed (letters_product p.letters q.letters))
     (ap (λ t. exclusive_or t (is_minus (letters_power p.letters q.letters))) (exclusive_or_assoc b p.negative q.negative)
     ∙ exclusive_or_assoc b (exclusive_or p.negative q.negative) (is_minus (letters_power p.letters q.letters)))
 
-pub product-changed_right : (b : Bool) (p q : Signed) → product p (changed b q) ≡ changed b (product p q)
-product-changed_right b p q =
+pub product-sign_changed_right : (b : Bool) (p q : Signed) → product p (with_sign_changed b q) ≡ with_sign_changed b (product p q)
+product-sign_changed_right b p q =
     ap (signed (letters_product p.letters q.letters))
     (ap (λ t. exclusive_or t (is_minus (letters_power p.letters q.letters))) (exclusive_or_left_comm p.negative b q.negative)
     ∙ exclusive_or_assoc b (exclusive_or p.negative q.negative) (is_minus (letters_power p.letters q.letters)))

@@ -2,4 +2,6 @@ pub use Rattle.bit_rows.specs.Rows
 pub mod Bits
 pub mod Letters
 pub mod Parity
+pub mod States
+pub mod WordMaps
 pub mod Words

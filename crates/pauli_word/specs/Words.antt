@@ -2,16 +2,24 @@
 -- is the product of the qubits' powers, and -1 for each minus sign. Two words commute exactly when an even
 -- number of qubits clash. Of two commuting words the power is 1 or -1, so their product is a signed word.
 -- (Aaronson and Gottesman, Phys. Rev. A 70, 052328 (2004), section II.)
-use Rattle.std.specs.Prelude.{Bool, false, ℕ, List, [], ◌∷◌, replicate, slice_set, slice_index_or}
+use Rattle.std.specs.Prelude.{Bool, true, false, if◌then◌else◌, ℕ, suc, List, [], ◌∷◌, Option, None, Some, option_map, replicate, slice_set, slice_index_or}
 use Rattle.pauli_word.specs.Parity.{exclusive_or}
 use Rattle.pauli_word.specs.declared.letter.Letter.{Letter}
-use Rattle.pauli_word.specs.declared.letter.Letter.TheVariants.{I}
+use Rattle.pauli_word.specs.declared.letter.Letter.TheVariants.{I, X, Y, Z}
 use Rattle.pauli_word.specs.Letters.{Power, one, power_product, is_minus, letter_product, letter_power, letters_clash}
 
 -- a signed word: its letters, qubit 0 first, and whether its sign is minus
 pub record Signed : Type 0 where
   pub letters : List Letter
   pub negative : Bool
+
+-- a word with a sign: true for minus
+abbrev pub signed : List Letter → Bool → Signed
+signed letters negative = record { letters = letters; negative = negative }
+
+-- a word with its sign changed where b
+abbrev pub with_sign_changed : Bool → Signed → Signed
+with_sign_changed b p = signed p.letters (exclusive_or b p.negative)
 
 -- the letters of the product of two words
 abbrev pub letters_product : List Letter → List Letter → List Letter
@@ -28,7 +36,7 @@ abbrev pub anticommute : List Letter → List Letter → Bool
 anticommute (a ∷ p) (b ∷ q) = exclusive_or (letters_clash a b) (anticommute p q)
 anticommute p q = false
 
--- the product of two commuting words
+-- the product of two words; where they anticommute its power of i is i or -i, and counts as 1 or -1
 abbrev pub product : Signed → Signed → Signed
 product p q =
     record {
@@ -42,7 +50,7 @@ no_letters n = replicate n I
 
 -- the identity on n qubits, of sign plus
 abbrev pub identity_word : ℕ → Signed
-identity_word n = record { letters = no_letters n; negative = false }
+identity_word n = signed (no_letters n) false
 
 -- the letter of a word at a qubit
 abbrev pub letter_at : List Letter → ℕ → Letter
@@ -51,3 +59,14 @@ letter_at p q = slice_index_or p q I
 -- on n qubits, this letter at qubit q and I elsewhere
 abbrev pub lone_letter : ℕ → ℕ → Letter → List Letter
 lone_letter n q a = slice_set (no_letters n) q a
+
+abbrev pub has_X_or_Y : Letter → Bool
+has_X_or_Y I = false
+has_X_or_Y X = true
+has_X_or_Y Y = true
+has_X_or_Y Z = false
+
+-- the lowest qubit at which a word has X or Y
+abbrev pub lowest_X_or_Y : List Letter → Option ℕ
+lowest_X_or_Y [] = None
+lowest_X_or_Y (a ∷ w) = if has_X_or_Y a then Some 0 else option_map suc (lowest_X_or_Y w)

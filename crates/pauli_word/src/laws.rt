@@ -4,6 +4,7 @@ ghost use Rattle.std.specs.Prelude.{◌≡◌, Bool, false, ℕ, List, length};
 ghost use Rattle.pauli_word.specs.declared.letter.Letter.{Letter};
 ghost use Rattle.pauli_word.specs.Letters.{Power, one, power_product, is_minus, sign_power};
 ghost use Rattle.pauli_word.specs.Parity.{exclusive_or};
+ghost use Rattle.pauli_word.specs.States.{State, IsGroup, start_state, applied, collapsed};
 ghost use Rattle.pauli_word.specs.Words.{Signed, letters_product, letters_power, anticommute, product, no_letters, identity_word};
 
 /// The powers of i form a commutative group, in which the fourth power of each is 1.
@@ -65,4 +66,19 @@ pub fn commuting_words_form_a_group()
     ensures commutative { (p q : Signed) → anticommute p.letters q.letters ≡ false → product p q ≡ product q p }
     ensures identity { (p : Signed) → product (identity_word (length p.letters)) p ≡ p }
     ensures inverse { (p : Signed) → product p p ≡ identity_word (length p.letters) }
+{}
+
+/// The words of the state at the start form a commutative group without minus the identity.
+pub fn start_is_group()
+    ensures { (n : ℕ) → IsGroup n start_state }
+{}
+
+/// A Pauli word that is applied keeps that: a fault that happens, or the correction of a reset.
+pub fn applied_words_keep_group()
+    ensures { (n : ℕ) (b : Bool) (w : List Letter) (s : State) → IsGroup n s → IsGroup n (applied b w s) }
+{}
+
+/// A collapse of any word keeps it, whether its outcome is decided or random.
+pub fn collapses_keep_group()
+    ensures { (n : ℕ) (w : List Letter) (coin : Bool) (s : State) → length w ≡ n → IsGroup n s → IsGroup n (collapsed w coin s) }
 {}

@@ -32,9 +32,9 @@ impl Letter {
         }
     }
 
-    // The letter kept as these two bits.
+    /// The letter of two bits, x and z: X has the first, Z the second, and Y both.
     #[inline]
-    pub(crate) fn of_bits(x: bool, z: bool) -> Letter
+    pub fn of_bits(x: bool, z: bool) -> Letter
         ensures { result ≡ letter_of x z }
     {
         match (x, z) {

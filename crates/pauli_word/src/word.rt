@@ -1,6 +1,6 @@
 ghost use Rattle.std.specs.Prelude.{◌≡◌, ◌<◌, length, false, slice_set, not, IfOk};
 ghost use Rattle.pauli_word.specs.Letters.{is_minus};
-ghost use Rattle.pauli_word.specs.Words.{identity_word, letter_at, anticommute, letters_power, product};
+ghost use Rattle.pauli_word.specs.Words.{identity_word, letter_at, anticommute, letters_power, product, lowest_X_or_Y};
 
 use crate::letter::Letter;
 use bit_rows::BitRow;
@@ -91,21 +91,46 @@ impl<A: Allocator + Copy> Word<A> {
         self.x.and_parity(&other.z) == self.z.and_parity(&other.x)
     }
 
-    /// Multiplies by a commuting word from the right, and answers whether the product of the letters brought
-    /// a factor -1.
+    /// The lowest qubit with X or Y.
+    pub fn lowest_x_or_y(&self) -> Option<usize>
+        ensures { result ≡ lowest_X_or_Y self.now.letters }
+    {
+        self.x.first_one()
+    }
+
+    /// Multiplies by a word from the right, and answers whether the product of the letters brought a factor -1; of
+    /// two words that anticommute it is i or -i, and the answer tells whether it is -i.
     pub fn times(&mut self, other: &Word<A>) -> bool
-        requires lengths { length self.old.letters ≡ length other.now.letters }
-        requires commuting { anticommute self.old.letters other.now.letters ≡ false }
+        requires { length self.old.letters ≡ length other.now.letters }
         ensures product { self.new ≡ product self.old other.now }
         ensures brings_minus { result ≡ is_minus (letters_power self.old.letters other.now.letters) }
     {
-        // a power of i, which is 0 or 2 as the words commute
+        // -1 and -i are the powers 2 and 3
         let power = BitRow::phase_step(&self.x, &self.z, &other.x, &other.z);
         let minus = power >= 2;
         self.x.xor_from(&other.x);
         self.z.xor_from(&other.z);
         self.negative = self.negative ^ other.negative ^ minus;
         minus
+    }
+
+    /// Makes this word equal to another of its length.
+    pub fn copy_from(&mut self, other: &Word<A>)
+        requires { length self.old.letters ≡ length other.now.letters }
+        ensures { self.new ≡ other.now }
+    {
+        self.x.copy_from(&other.x);
+        self.z.copy_from(&other.z);
+        self.set_sign(other.negative);
+    }
+
+    /// Makes this word the identity, of sign plus.
+    pub fn clear(&mut self)
+        ensures { self.new ≡ identity_word (length self.old.letters) }
+    {
+        self.x.clear();
+        self.z.clear();
+        self.set_sign(false);
     }
 }
 

@@ -35,8 +35,7 @@ fn word_of<A: Allocator + Copy>(
 /// Multiplies, and says that the word keeps its length.
 #[tactic(auto, using(crate::proofs::WordLaws::product_lengths))]
 fn times<A: Allocator + Copy>(first: &mut Word<A>, second: &Word<A>) -> bool
-    requires lengths { length first.old.letters ≡ length second.now.letters }
-    requires commuting { anticommute first.old.letters second.now.letters ≡ false }
+    requires { length first.old.letters ≡ length second.now.letters }
     ensures { length first.new.letters ≡ length first.old.letters }
 {
     first.times(second)

@@ -1,0 +1,11 @@
+-- Maps of the signed words of n letters that keep what makes a state's words a group: length, the identity with its
+-- sign, which words anticommute, and products with their signs. Conjugations by Clifford unitaries are such maps.
+-- (Nielsen and Chuang, Quantum Computation and Quantum Information, section 10.5.2.)
+use Rattle.std.specs.Prelude.{◌≡◌, ℕ, Bool, length}
+use Rattle.pauli_word.specs.Words.{Signed, signed, anticommute, product, no_letters}
+
+pub record KeepsWords (n : ℕ) (f : Signed → Signed) : Type 0 where
+  pub size : (p : Signed) → length p.letters ≡ n → length (f p).letters ≡ n
+  pub identity : (b : Bool) → f (signed (no_letters n) b) ≡ signed (no_letters n) b
+  pub anticommuting : (p q : Signed) → length p.letters ≡ n → length q.letters ≡ n → anticommute (f p).letters (f q).letters ≡ anticommute p.letters q.letters
+  pub product : (p q : Signed) → length p.letters ≡ n → length q.letters ≡ n → f (product p q) ≡ product (f p) (f q)
