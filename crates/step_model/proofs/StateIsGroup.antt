@@ -1,317 +1,19 @@
--- The words of the state of a run form a commutative group without minus the identity, after every step: a map of words
--- that keeps length, products, what anticommutes and the identity carries it over gates and applied words, and a
--- collapse keeps it, random or not. (IsGroup.)
-use Rattle.std.proofs.Common.{◌≡◌, ◌≢◌, ◌<◌, ◌⊎◌, inl, inr, ℕ, zero, suc, Bool, true, false, not, ◌&&◌, ◌||◌, cond, List, [], ◌∷◌, length, refl, ap, ap₂, sym, subst, ◌∙◌, eqb, ltb, take}
-use Rattle.std.proofs.lemmas.Bool.{and_parts, and_from, or_cases, or_left, or_right, or_parts, not-true, ltb-true, eqb-true, eqb-false}
-use Rattle.std.specs.List.{list_all, AllPass}
+-- The words of the state of a run form a commutative group without minus the identity, after every step that fits.
+use Rattle.std.proofs.Common.{◌≡◌, ◌≢◌, ◌<◌, ℕ, zero, suc, Bool, true, false, not, ◌&&◌, List, [], ◌∷◌, length, refl, eqb, ltb, take}
+use Rattle.std.proofs.lemmas.Bool.{and_parts, and_from, not-true, ltb-true, eqb-true, eqb-false}
+use Rattle.std.specs.List.{list_all, list_any, AllPass}
+use Rattle.std.specs.Prelude.{Option, slice_index_or}
 use Rattle.std.proofs.lemmas.List.Elements.{recursion_from_All, All-from_recursion}
 use Rattle.gate_table.specs.declared.gate.Gate.{Gate}
-use Rattle.gate_table.specs.Images.{arity_of, inverse_of}
-use Rattle.pauli_word.specs.declared.letter.Letter.{Letter}
-use Rattle.pauli_word.specs.declared.letter.Letter.TheVariants.{I, X, Y, Z}
-use Rattle.pauli_word.specs.Letters.{one, power_product, is_minus, sign_power, letter_product, letter_power, letters_clash}
-use Rattle.pauli_word.specs.Parity.{exclusive_or}
-use Rattle.pauli_word.specs.Words.{Signed, letters_product, letters_power, anticommute, product, no_letters, lone_letter}
-use Rattle.pauli_word.proofs.Parities.{exclusive_or-false, exclusive_or_assoc}
-use Rattle.pauli_word.proofs.LetterLaws.{letter_power_of_I, letters_clash_of_I}
-use Rattle.pauli_word.proofs.WordLaws.{length-letters_product, letters_product_comm, letters_product_of_none, letters_power_of_none, letters_power_swap, anticommute_comm, anticommute_self, anticommute_of_none, anticommute-product}
-use Rattle.pauli_word.proofs.SignedLaws.{product_assoc, product_comm, product_self, product_of_identity, product-changed_left, product-changed_right}
-use Rattle.step_model.proofs.ImageLaws.{length-image_at, image_at-none, image_at-anticommute, image_at-product}
-use Rattle.step_model.proofs.LoneLetters.{length-lone_letter}
-use Rattle.step_model.proofs.PairImageLaws.{length-image_at_two, image_at_two-none, image_at_two-anticommute, image_at_two-product}
-use Rattle.step_model.specs.declared.step.Step.{Step}
-use Rattle.step_model.specs.declared.step.Step.TheVariants.{One, Two, Collapse, Fault}
-use Rattle.step_model.specs.Images.{preimage_at, preimage_at_two}
-use Rattle.step_model.specs.Listing.{Listing, fault_word}
-use Rattle.step_model.specs.Runs.{State, Moment, signed, changed, is_I_or_Z, start_state, applied, is_decided, collapsed, correcting, outcome, next_coin, happens, next, run_from, start, moment_after}
-use Rattle.step_model.specs.States.{IsMember, IsGroup}
-use Rattle.step_model.specs.WellFormed.{IsWellFormed, step_fits}
-
--- a map of words that keeps what makes a group
-pub record KeepsWords (n : ℕ) (f : Signed → Signed) : Type 0 where
-  pub size : (p : Signed) → length p.letters ≡ n → length (f p).letters ≡ n
-  pub identity : (b : Bool) → f (signed (no_letters n) b) ≡ signed (no_letters n) b
-  pub clash : (p q : Signed) → length p.letters ≡ n → length q.letters ≡ n → anticommute (f p).letters (f q).letters ≡ anticommute p.letters q.letters
-  pub product : (p q : Signed) → length p.letters ≡ n → length q.letters ≡ n → f (product p q) ≡ product (f p) (f q)
-
-pub IsGroup-moved : (n : ℕ) (f : Signed → Signed) (s : State) → KeepsWords n f → IsGroup n s → IsGroup n (λ p. s (f p))
-IsGroup-moved n f s keeps group =
-    record {
-      identity = ap s (keeps.identity false) ∙ group.identity;
-      no_minus = ap s (keeps.identity true) ∙ group.no_minus;
-      commuting = λ p q p_in q_in.
-          sym (keeps.clash p q p_in.size q_in.size)
-          ∙ group.commuting (f p) (f q) (record { size = keeps.size p p_in.size; member = p_in.member }) (record { size = keeps.size q q_in.size; member = q_in.member });
-      closed = λ p q p_in q_in.
-          ap s (keeps.product p q p_in.size q_in.size)
-          ∙ group.closed (f p) (f q) (record { size = keeps.size p p_in.size; member = p_in.member }) (record { size = keeps.size q q_in.size; member = q_in.member });
-    }
-
--- a word applied where b changes signs alone, and keeps what makes a group
-and-exclusive_or : (b x y : Bool) → (b && exclusive_or x y) ≡ exclusive_or (b && x) (b && y)
-and-exclusive_or false x y = refl
-and-exclusive_or true x y = refl
-
-and_false : (b : Bool) → (b && false) ≡ false
-and_false false = refl
-and_false true = refl
-
-changed_twice : (a b : Bool) (p : Signed) → changed a (changed b p) ≡ changed (exclusive_or a b) p
-changed_twice a b p = ap (signed p.letters) (sym (exclusive_or_assoc a b p.negative))
-
-pub applied_keeps : (n : ℕ) (b : Bool) (w : List Letter) → KeepsWords n (λ p. changed (b && anticommute p.letters w) p)
-applied_keeps n b w =
-    record {
-      size = λ p h. h;
-      identity = λ c. ap (λ t. changed t (signed (no_letters n) c)) (ap (λ t. b && t) (anticommute_of_none n w) ∙ and_false b);
-      clash = λ p q h k. refl;
-      product = λ p q h k.
-          ap (λ t. changed t (product p q)) (ap (λ t. b && t) (anticommute-product p.letters q.letters w (h ∙ sym k)) ∙ and-exclusive_or b (anticommute p.letters w) (anticommute q.letters w))
-          ∙ sym (changed_twice (b && anticommute p.letters w) (b && anticommute q.letters w) (product p q))
-          ∙ ap (changed (b && anticommute p.letters w)) (sym (product-changed_right (b && anticommute q.letters w) p q))
-          ∙ sym (product-changed_left (b && anticommute p.letters w) p (changed (b && anticommute q.letters w) q));
-    }
-
-pub IsGroup-applied : (n : ℕ) (b : Bool) (w : List Letter) (s : State) → IsGroup n s → IsGroup n (applied b w s)
-IsGroup-applied n b w s = IsGroup-moved n (λ p. changed (b && anticommute p.letters w) p) s (applied_keeps n b w)
-
--- the start
-
-all_of_none : (n : ℕ) → list_all is_I_or_Z (no_letters n) ≡ true
-all_of_none zero = refl
-all_of_none (suc n) = all_of_none n
-
-product_of_I_or_Z : (a b : Letter) → is_I_or_Z a ≡ true → is_I_or_Z b ≡ true → is_I_or_Z (letter_product a b) ≡ true
-product_of_I_or_Z I b h k = k
-product_of_I_or_Z Z I h k = refl
-product_of_I_or_Z Z Z h k = refl
-product_of_I_or_Z X b h k = cc
-product_of_I_or_Z Y b h k = cc
-product_of_I_or_Z Z X h k = cc
-product_of_I_or_Z Z Y h k = cc
-
-power_of_I_or_Z : (a b : Letter) → is_I_or_Z a ≡ true → is_I_or_Z b ≡ true → letter_power a b ≡ one
-power_of_I_or_Z I b h k = letter_power_of_I b
-power_of_I_or_Z Z I h k = refl
-power_of_I_or_Z Z Z h k = refl
-power_of_I_or_Z X b h k = cc
-power_of_I_or_Z Y b h k = cc
-power_of_I_or_Z Z X h k = cc
-power_of_I_or_Z Z Y h k = cc
-
-clash_of_I_or_Z : (a b : Letter) → is_I_or_Z a ≡ true → is_I_or_Z b ≡ true → letters_clash a b ≡ false
-clash_of_I_or_Z I b h k = letters_clash_of_I b
-clash_of_I_or_Z Z I h k = refl
-clash_of_I_or_Z Z Z h k = refl
-clash_of_I_or_Z X b h k = cc
-clash_of_I_or_Z Y b h k = cc
-clash_of_I_or_Z Z X h k = cc
-clash_of_I_or_Z Z Y h k = cc
-
--- of words of I and Z: the product is one, brings no power of i, and they commute
-record AreDiagonal (p q : List Letter) : Type 0 where
-  product : list_all is_I_or_Z (letters_product p q) ≡ true
-  power : letters_power p q ≡ one
-  clash : anticommute p q ≡ false
-
-diagonal : (p q : List Letter) → list_all is_I_or_Z p ≡ true → list_all is_I_or_Z q ≡ true → AreDiagonal p q
-diagonal [] q h k = record { product = refl; power = refl; clash = refl }
-diagonal (a ∷ p) [] h k = record { product = refl; power = refl; clash = refl }
-diagonal (a ∷ p) (b ∷ q) h k =
-    let first = and_parts (is_I_or_Z a) (list_all is_I_or_Z p) h in
-    let second = and_parts (is_I_or_Z b) (list_all is_I_or_Z q) k in
-    let rest = diagonal p q first.1 second.1 in
-    record {
-      product = and_from (is_I_or_Z (letter_product a b)) (list_all is_I_or_Z (letters_product p q)) (product_of_I_or_Z a b first.0 second.0) rest.product;
-      power = ap₂ power_product (power_of_I_or_Z a b first.0 second.0) rest.power;
-      clash = ap₂ exclusive_or (clash_of_I_or_Z a b first.0 second.0) rest.clash;
-    }
-
-pub IsGroup-start : (n : ℕ) → IsGroup n start_state
-IsGroup-start n =
-    record {
-      identity = ap (λ t. t && true) (all_of_none n);
-      no_minus = ap (λ t. t && false) (all_of_none n);
-      commuting = λ p q p_in q_in.
-          (diagonal p.letters q.letters (and_parts (list_all is_I_or_Z p.letters) (not p.negative) p_in.member).0 (and_parts (list_all is_I_or_Z q.letters) (not q.negative) q_in.member).0).clash;
-      closed = λ p q p_in q_in.
-          let first = and_parts (list_all is_I_or_Z p.letters) (not p.negative) p_in.member in
-          let second = and_parts (list_all is_I_or_Z q.letters) (not q.negative) q_in.member in
-          let both = diagonal p.letters q.letters first.0 second.0 in
-          and_from (list_all is_I_or_Z (letters_product p.letters q.letters)) (not (product p q).negative) both.product
-          (ap not
-          (ap₂ (λ a b. exclusive_or (exclusive_or a b) (is_minus (letters_power p.letters q.letters))) (not-true p.negative first.1) (not-true q.negative second.1)
-          ∙ ap is_minus both.power));
-    }
-
--- a collapse that isn't decided
-
--- the words that commute with w and are in the state, themselves or times w
-abbrev pub split : List Letter → Bool → State → State
-split w coin s p = not (anticommute p.letters w) && (s p || s (product (signed w coin) p))
-
-module _ (n : ℕ) (w : List Letter) (coin : Bool) (s : State) (size : length w ≡ n) (group : IsGroup n s) where
-  -- w commutes with p, and p or w p is in the state
-  record IsSplit (p : Signed) : Type 0 where
-    length_is : length p.letters ≡ n
-    commutes : anticommute w p.letters ≡ false
-    side : IsMember n s p ⊎ IsMember n s (product (signed w coin) p)
-
-  times_size : (p : Signed) → length p.letters ≡ n → length (product (signed w coin) p).letters ≡ n
-  times_size p h = length-letters_product w p.letters (size ∙ sym h) ∙ size
-
-  is_split : (p : Signed) → IsMember n (split w coin s) p → IsSplit p
-  is_split p p_in =
-      let parts = and_parts (not (anticommute p.letters w)) (s p || s (product (signed w coin) p)) p_in.member in
-      record {
-        length_is = p_in.size;
-        commutes = anticommute_comm w p.letters ∙ not-true (anticommute p.letters w) parts.0;
-        side = elim (or_cases (s p) (s (product (signed w coin) p)) parts.1) as (λ _. IsMember n s p ⊎ IsMember n s (product (signed w coin) p)) [
-          | inl h ↦ inl (record { size = p_in.size; member = h })
-          | inr h ↦ inr (record { size = times_size p p_in.size; member = h })
-        ];
-      }
-
-  -- what commutes with w clashes alike with q and with w q
-  stripped : (p q : Signed) → length q.letters ≡ n → anticommute w p.letters ≡ false → anticommute (letters_product w q.letters) p.letters ≡ anticommute q.letters p.letters
-  stripped p q h k = anticommute-product w q.letters p.letters (size ∙ sym h) ∙ ap (λ t. exclusive_or t (anticommute q.letters p.letters)) k
-
-  commutes_with_times : (p : Signed) → length p.letters ≡ n → anticommute w p.letters ≡ false → anticommute w (letters_product w p.letters) ≡ false
-  commutes_with_times p h k =
-      anticommute_comm w (letters_product w p.letters)
-      ∙ (anticommute-product w p.letters w (size ∙ sym h) ∙ ap₂ exclusive_or (anticommute_self w) (anticommute_comm p.letters w ∙ k))
-
-  split_commuting : (p q : Signed) → IsSplit p → IsSplit q → anticommute p.letters q.letters ≡ false
-  split_commuting p q p_in q_in =
-      elim (p_in.side) as (λ _. anticommute p.letters q.letters ≡ false) [
-        | inl h ↦ elim (q_in.side) as (λ _. anticommute p.letters q.letters ≡ false) [
-          | inl k ↦ group.commuting p q h k
-          | inr k ↦
-              anticommute_comm p.letters q.letters
-              ∙ (sym (stripped p q q_in.length_is p_in.commutes)
-              ∙ (anticommute_comm (letters_product w q.letters) p.letters ∙ group.commuting p (product (signed w coin) q) h k))
-        ]
-        | inr h ↦ elim (q_in.side) as (λ _. anticommute p.letters q.letters ≡ false) [
-          | inl k ↦ sym (stripped q p p_in.length_is q_in.commutes) ∙ group.commuting (product (signed w coin) p) q h k
-          | inr k ↦
-              sym (stripped q p p_in.length_is q_in.commutes)
-              ∙ (anticommute_comm (letters_product w p.letters) q.letters
-              ∙ (sym (stripped (product (signed w coin) p) q q_in.length_is (commutes_with_times p p_in.length_is p_in.commutes))
-              ∙ (anticommute_comm (letters_product w q.letters) (letters_product w p.letters)
-              ∙ group.commuting (product (signed w coin) p) (product (signed w coin) q) h k)))
-        ]
-      ]
-
-  -- w goes past a word that commutes with it
-  past : (p q : Signed) → length p.letters ≡ n → length q.letters ≡ n → anticommute w p.letters ≡ false → anticommute w q.letters ≡ false → anticommute p.letters q.letters ≡ false → product p (product (signed w coin) q) ≡ product (signed w coin) (product p q)
-  past p q h k wp wq pq =
-      sym (product_assoc p (signed w coin) q (h ∙ sym size) (size ∙ sym k) (anticommute_comm p.letters w ∙ wp) wq)
-      ∙ (ap (λ r. product r q) (product_comm p (signed w coin) (anticommute_comm p.letters w ∙ wp))
-      ∙ product_assoc (signed w coin) p q (size ∙ sym h) (h ∙ sym k) wp pq)
-
-  -- w twice is nothing
-  twice : (p : Signed) → length p.letters ≡ n → anticommute w p.letters ≡ false → product (signed w coin) (product (signed w coin) p) ≡ p
-  twice p h k =
-      sym (product_assoc (signed w coin) (signed w coin) p refl (size ∙ sym h) (anticommute_self w) k)
-      ∙ (ap (λ r. product r p) (product_self (signed w coin)) ∙ product_of_identity (length w) p (h ∙ sym size))
-
-  product_size : (p q : Signed) → length p.letters ≡ n → length q.letters ≡ n → length (product p q).letters ≡ n
-  product_size p q h k = length-letters_product p.letters q.letters (h ∙ sym k) ∙ h
-
-  commutes_with_product : (p q : Signed) → length p.letters ≡ n → length q.letters ≡ n → anticommute w p.letters ≡ false → anticommute w q.letters ≡ false → anticommute (letters_product p.letters q.letters) w ≡ false
-  commutes_with_product p q h k wp wq =
-      anticommute-product p.letters q.letters w (h ∙ sym k)
-      ∙ ap₂ exclusive_or (anticommute_comm p.letters w ∙ wp) (anticommute_comm q.letters w ∙ wq)
-
-  -- the product is in the state, itself or times w
-  product_side : (p q : Signed) → IsSplit p → IsSplit q → (s (product p q) || s (product (signed w coin) (product p q))) ≡ true
-  product_side p q p_in q_in =
-      let x = signed w coin in
-      let pq = split_commuting p q p_in q_in in
-      let both = product p q in
-      elim (p_in.side) as (λ _. (s both || s (product x both)) ≡ true) [
-        | inl h ↦ elim (q_in.side) as (λ _. (s both || s (product x both)) ≡ true) [
-          | inl k ↦ or_left (s both) (s (product x both)) (group.closed p q h k)
-          | inr k ↦
-              or_right (s both) (s (product x both))
-              (ap s (sym (past p q p_in.length_is q_in.length_is p_in.commutes q_in.commutes pq)) ∙ group.closed p (product x q) h k)
-        ]
-        | inr h ↦ elim (q_in.side) as (λ _. (s both || s (product x both)) ≡ true) [
-          | inl k ↦
-              or_right (s both) (s (product x both))
-              (ap s (sym (product_assoc x p q (size ∙ sym p_in.length_is) (p_in.length_is ∙ sym q_in.length_is) p_in.commutes pq)) ∙ group.closed (product x p) q h k)
-          | inr k ↦
-              let apart : anticommute p.letters (letters_product w q.letters) ≡ false =
-              anticommute_comm p.letters (letters_product w q.letters) ∙ (stripped p q q_in.length_is p_in.commutes ∙ (anticommute_comm q.letters p.letters ∙ pq)) in
-              or_left (s both) (s (product x both))
-              (ap s
-              (sym
-              (product_assoc x p (product x q) (size ∙ sym p_in.length_is) (p_in.length_is ∙ sym (times_size q q_in.length_is)) p_in.commutes apart
-              ∙ (ap (product x) (past p q p_in.length_is q_in.length_is p_in.commutes q_in.commutes pq)
-              ∙ twice both (product_size p q p_in.length_is q_in.length_is)
-              (anticommute_comm w both.letters ∙ commutes_with_product p q p_in.length_is q_in.length_is p_in.commutes q_in.commutes))))
-              ∙ group.closed (product x p) (product x q) h k)
-        ]
-      ]
-
-  -- minus the identity times w is w with the other sign
-  times_none : (b : Bool) → product (signed w coin) (signed (no_letters n) b) ≡ signed w (exclusive_or coin b)
-  times_none b =
-      ap₂ signed
-      (letters_product_comm w (no_letters n) ∙ (ap (λ m. letters_product (no_letters m) w) (sym size) ∙ letters_product_of_none w))
-      (ap (λ t. exclusive_or (exclusive_or coin b) (is_minus t))
-      (letters_power_swap w (no_letters n)
-      ∙ ap₂ (λ t u. power_product (sign_power t) u) (anticommute_comm w (no_letters n) ∙ anticommute_of_none n w) (letters_power_of_none n w))
-      ∙ exclusive_or-false (exclusive_or coin b))
-
-  not_in : (b : Bool) → is_decided s w ≡ false → s (signed w b) ≡ false
-  not_in false h = (or_parts (s (signed w false)) (s (signed w true)) h).0
-  not_in true h = (or_parts (s (signed w false)) (s (signed w true)) h).1
-
-  pub IsGroup-split : is_decided s w ≡ false → IsGroup n (split w coin s)
-  IsGroup-split undecided =
-      record {
-        identity =
-            and_from (not (anticommute (no_letters n) w)) (s (signed (no_letters n) false) || s (product (signed w coin) (signed (no_letters n) false)))
-            (ap not (anticommute_of_none n w)) (or_left (s (signed (no_letters n) false)) (s (product (signed w coin) (signed (no_letters n) false))) group.identity);
-        no_minus =
-            ap₂ (λ t u. not t && u) (anticommute_of_none n w)
-            (ap₂ (λ t u. t || u) group.no_minus (ap s (times_none true) ∙ not_in (exclusive_or coin true) undecided));
-        commuting = λ p q p_in q_in. split_commuting p q (is_split p p_in) (is_split q q_in);
-        closed = λ p q p_in q_in.
-            let first = is_split p p_in in
-            let second = is_split q q_in in
-            and_from (not (anticommute (product p q).letters w)) (s (product p q) || s (product (signed w coin) (product p q)))
-            (ap not (commutes_with_product p q first.length_is second.length_is first.commutes second.commutes))
-            (product_side p q first second);
-      }
-
-collapsed_either : (n : ℕ) (w : List Letter) (coin : Bool) (s : State) → length w ≡ n → IsGroup n s → (b : Bool) → is_decided s w ≡ b → IsGroup n (λ p. cond b (s p) (split w coin s p))
-collapsed_either n w coin s size group true h = group
-collapsed_either n w coin s size group false h = IsGroup-split n w coin s size group h
-
-pub IsGroup-collapsed : (n : ℕ) (w : List Letter) (coin : Bool) (s : State) → length w ≡ n → IsGroup n s → IsGroup n (collapsed w coin s)
-IsGroup-collapsed n w coin s size group = collapsed_either n w coin s size group (is_decided s w) refl
-
--- gates
-
-pub preimage_at_keeps : (n : ℕ) (g : Gate) (q : ℕ) → q < n → KeepsWords n (preimage_at g q)
-preimage_at_keeps n g q within =
-    record {
-      size = λ p h. length-image_at (inverse_of g) q p ∙ h;
-      identity = λ b. image_at-none (inverse_of g) q n b;
-      clash = λ p r h k. image_at-anticommute (inverse_of g) q p r (subst (λ m. q < m) (sym h) within) (subst (λ m. q < m) (sym k) within);
-      product = λ p r h k. image_at-product (inverse_of g) q p r (h ∙ sym k) (subst (λ m. q < m) (sym h) within);
-    }
-
-pub preimage_at_two_keeps : (n : ℕ) (g : Gate) (a b : ℕ) → a < n → b < n → a ≢ b → KeepsWords n (preimage_at_two g a b)
-preimage_at_two_keeps n g a b a_in b_in ne =
-    record {
-      size = λ p h. length-image_at_two (inverse_of g) a b p ∙ h;
-      identity = λ c. image_at_two-none (inverse_of g) a b n c;
-      clash = λ p r h k. image_at_two-anticommute (inverse_of g) a b p r (h ∙ sym k) ne (subst (λ m. a < m) (sym h) a_in) (subst (λ m. b < m) (sym h) b_in);
-      product = λ p r h k. image_at_two-product (inverse_of g) a b p r (h ∙ sym k) ne (subst (λ m. a < m) (sym h) a_in) (subst (λ m. b < m) (sym h) b_in);
-    }
+use Rattle.gate_table.specs.Images.{arity_of}
+use Rattle.gate_table.proofs.GateGroups.{IsGroup-gate, IsGroup-gate_two}
+use Rattle.pauli_word.specs.States.{IsGroup, correcting, collapsed, outcome}
+use Rattle.pauli_word.specs.Words.{lone_letter}
+use Rattle.pauli_word.proofs.Groups.{IsGroup-start, IsGroup-applied, IsGroup-collapsed}
+use Rattle.pauli_word.proofs.LoneLetters.{length-lone_letter}
+use Rattle.step_model.specs.Listing.{ListedStep, One, Two, Collapse, Fault, Feedback, Measured, Word, Reset, Recorded, measured_word, Listing, fault_word}
+use Rattle.step_model.specs.Runs.{RunState, next_coin, happens, next, run_from, start, run_state_after}
+use Rattle.step_model.specs.WellFormed.{IsWellFormed, is_I, word_fits, record_fits, step_fits}
 
 -- what a fitting gate step names
 
@@ -343,24 +45,33 @@ two_fits program g a b h =
       differ = eqb-false a b (not-true (eqb a b) last.1);
     }
 
+-- what a collapse measures is a word of the program's qubits
+pub length-measured : (program : Listing) (c : Measured) (r : Option Recorded) → step_fits program (Collapse c r) ≡ true → length (measured_word program.qubits c) ≡ program.qubits
+length-measured program (Word w) r fits =
+    eqb-true (length w) program.qubits
+    (and_parts (eqb (length w) program.qubits) (list_any (λ a. not (is_I a)) w) (and_parts (word_fits program.qubits w) (record_fits program r) fits).0).0
+length-measured program (Reset letter q) r fits = length-lone_letter program.qubits q letter
+
 -- every step keeps the group
-pub IsGroup-next : (program : Listing) (faults : List Bool) (step : Step) (m : Moment) → step_fits program step ≡ true → IsGroup program.qubits m.state → IsGroup program.qubits (next program faults step m).state
+pub IsGroup-next : (program : Listing) (faults : List Bool) (step : ListedStep) (m : RunState) → step_fits program step ≡ true → IsGroup program.qubits m.state → IsGroup program.qubits (next program faults step m).state
 IsGroup-next program faults (One g q) m fits group =
-    IsGroup-moved program.qubits (preimage_at g q) m.state (preimage_at_keeps program.qubits g q (one_fits program g q fits).qubit) group
+    IsGroup-gate program.qubits g q m.state (one_fits program g q fits).qubit group
 IsGroup-next program faults (Two g a b) m fits group =
     let named = two_fits program g a b fits in
-    IsGroup-moved program.qubits (preimage_at_two g a b) m.state (preimage_at_two_keeps program.qubits g a b named.first named.second named.differ) group
-IsGroup-next program faults (Collapse letter q rec false inverted flip) m fits group =
-    IsGroup-collapsed program.qubits (lone_letter program.qubits q letter) (next_coin m.coins) m.state (length-lone_letter program.qubits q letter) group
-IsGroup-next program faults (Collapse letter q rec true inverted flip) m fits group =
+    IsGroup-gate_two program.qubits g a b m.state named.first named.second named.differ group
+IsGroup-next program faults (Collapse (Word w) r) m fits group =
+    IsGroup-collapsed program.qubits w (next_coin m.coins) m.state (length-measured program (Word w) r fits) group
+IsGroup-next program faults (Collapse (Reset letter q) r) m fits group =
     let w = lone_letter program.qubits q letter in
     IsGroup-applied program.qubits (outcome m.state w (next_coin m.coins)) (lone_letter program.qubits q (correcting letter)) (collapsed w (next_coin m.coins) m.state)
     (IsGroup-collapsed program.qubits w (next_coin m.coins) m.state (length-lone_letter program.qubits q letter) group)
 IsGroup-next program faults (Fault f) m fits group =
     IsGroup-applied program.qubits (happens faults f) (fault_word program f) m.state group
+IsGroup-next program faults (Feedback w r) m fits group =
+    IsGroup-applied program.qubits (slice_index_or m.records r false) w m.state group
 
 -- and so does every list of fitting steps
-pub IsGroup-run_from : (program : Listing) (faults : List Bool) (steps : List Step) (m : Moment) → list_all (step_fits program) steps ≡ true → IsGroup program.qubits m.state → IsGroup program.qubits (run_from program faults steps m).state
+pub IsGroup-run_from : (program : Listing) (faults : List Bool) (steps : List ListedStep) (m : RunState) → list_all (step_fits program) steps ≡ true → IsGroup program.qubits m.state → IsGroup program.qubits (run_from program faults steps m).state
 IsGroup-run_from program faults [] m fits group = group
 IsGroup-run_from program faults (step ∷ steps) m fits group =
     let parts = and_parts (step_fits program step) (list_all (step_fits program) steps) fits in
@@ -380,8 +91,8 @@ list_all-pass test (x ∷ xs) h =
     let parts = recursion_from_All (λ y. test y ≡ true) (x ∷ xs) h in
     and_from (test x) (list_all test xs) parts.0 (list_all-pass test xs (All-from_recursion (λ y. test y ≡ true) xs parts.1))
 
-pub IsGroup-moment_after : (program : Listing) (faults coins : List Bool) (k : ℕ) → IsWellFormed program → IsGroup program.qubits (moment_after program faults coins k).state
-IsGroup-moment_after program faults coins k well =
+pub IsGroup-run_state_after : (program : Listing) (faults coins : List Bool) (k : ℕ) → IsWellFormed program → IsGroup program.qubits (run_state_after program faults coins k).state
+IsGroup-run_state_after program faults coins k well =
     IsGroup-run_from program faults (take k program.steps) (start coins)
     (list_all-take (step_fits program) k program.steps (list_all-pass (step_fits program) program.steps well.steps_fit))
     (IsGroup-start program.qubits)

@@ -1,46 +1,70 @@
 -- A frame is an unsigned word begun at a place, after a collapse's whole step, and carried forward by the gates;
 -- a reset clears it at its qubit. A collapse's flip is 1 where the frame anticommutes with its word; up to and
 -- with the collapse at which the frame begins the flips are 0. The coin pair of a target is the list of zeros and
--- the flips of the frame begun at its place, as the letter collapsed there or as Z at a qubit of the start.
-use Rattle.std.specs.Prelude.{ℕ, suc, Bool, false, if◌then◌else◌, List, [], ◌∷◌, ◌++◌, replicate, slice_index_or}
+-- the flips of the frame begun at its place, as the word collapsed there or as Z at a qubit of the start. (Knill, Quantum
+-- computing with realistically noisy devices, Nature 434, 39 (2005): Pauli frames.)
+use Rattle.std.specs.Prelude.{ℕ, ◌+◌, suc, Option, None, Some, length, Bool, false, if◌then◌else◌, List, [], ◌∷◌, ◌++◌, replicate, slice_index_or}
 use Rattle.pauli_word.specs.declared.letter.Letter.{Letter}
 use Rattle.pauli_word.specs.declared.letter.Letter.TheVariants.{Z}
-use Rattle.pauli_word.specs.Words.{anticommute, no_letters, lone_letter}
-use Rattle.step_model.specs.declared.step.Step.{Step}
-use Rattle.step_model.specs.declared.step.Step.TheVariants.{One, Two, Collapse, Fault}
+use Rattle.pauli_word.specs.Words.{anticommute, no_letters, lone_letter, signed}
 use Rattle.step_model.specs.declared.step.Place.{Place}
 use Rattle.step_model.specs.declared.step.Place.TheVariants.{Start, After}
-use Rattle.step_model.specs.Images.{image_at, image_at_two}
-use Rattle.step_model.specs.Listing.{Listing}
-use Rattle.step_model.specs.Runs.{signed}
-use Rattle.step_model.specs.Sensitivities.{cleared, is_collapse, collapse_word}
+use Rattle.gate_table.specs.WordImages.{image_at, image_at_two}
+use Rattle.step_model.specs.Listing.{Listing, ListedStep, One, Two, Collapse, Fault, Feedback, Recorded, measured_word}
+use Rattle.step_model.specs.Sensitivities.{cleared, multiplied, is_collapse, collapse_word}
+use Rattle.step_model.specs.WellFormed.{step_records}
 
--- a frame after a step
-abbrev pub carried : Step → List Letter → List Letter
-carried (One gate q) v = (image_at gate q (signed v false)).letters
-carried (Two gate a b) v = (image_at_two gate a b (signed v false)).letters
-carried (Collapse letter qubit rec reset inverted flip) v = cleared reset qubit v
-carried (Fault f) v = v
+-- a frame: its word, and whether it flips each record so far
+pub record Frame : Type 0 where
+  pub word : List Letter
+  pub records : List Bool
 
--- the flips of the collapses among these steps, of a frame begun before them; n qubits
-abbrev pub flips_from : ℕ → List Letter → List Step → List Bool
+-- whether a frame flips the record that a collapse of w makes, as a list of one where it makes one
+abbrev pub record_flip : Option Recorded → List Letter → List Letter → List Bool
+record_flip None w v = []
+record_flip (Some r) w v = anticommute v w ∷ []
+
+-- a frame after a step; n qubits
+abbrev pub carried : ℕ → ListedStep → Frame → Frame
+carried n (One gate q) v = record v { word = (image_at gate q (signed v.word false)).letters }
+carried n (Two gate a b) v = record v { word = (image_at_two gate a b (signed v.word false)).letters }
+carried n (Collapse c r) v =
+    record { word = cleared c v.word; records = v.records ++ record_flip r (measured_word n c) v.word }
+carried n (Fault f) v = v
+carried n (Feedback w r) v = record v { word = multiplied (slice_index_or v.records r false) w v.word }
+
+-- the flips of the collapses among these steps, of a frame begun before them
+abbrev pub flips_from : ℕ → Frame → List ListedStep → List Bool
 flips_from n v [] = []
 flips_from n v (step ∷ steps) =
-    (if is_collapse step then anticommute v (collapse_word n step) ∷ [] else []) ++ flips_from n (carried step v) steps
+    (if is_collapse step then anticommute v.word (collapse_word n step) ∷ [] else []) ++ flips_from n (carried n step v) steps
+
+-- for each collapse among these steps, how many records there are after it, so many being made before them
+abbrev pub records_by_each : ℕ → List ListedStep → List ℕ
+records_by_each made [] = []
+records_by_each made (step ∷ steps) =
+    (if is_collapse step then (made + length (step_records step)) ∷ [] else [])
+    ++ records_by_each (made + length (step_records step)) steps
+
+-- a frame that begins as a word, and flips none of so many records before
+abbrev pub begun : List Letter → ℕ → Frame
+begun v made = record { word = v; records = replicate made false }
 
 -- for each collapse among these steps, the steps after it; and the words that they collapse
-abbrev pub steps_after_each : List Step → List (List Step)
+abbrev pub steps_after_each : List ListedStep → List (List ListedStep)
 steps_after_each [] = []
 steps_after_each (step ∷ steps) = (if is_collapse step then steps ∷ [] else []) ++ steps_after_each steps
 
-abbrev pub words_collapsed : ℕ → List Step → List (List Letter)
+abbrev pub words_collapsed : ℕ → List ListedStep → List (List Letter)
 words_collapsed n [] = []
 words_collapsed n (step ∷ steps) = (if is_collapse step then collapse_word n step ∷ [] else []) ++ words_collapsed n steps
 
 -- the flips, one a collapse, of a frame begun at a place as the word v
 abbrev pub flips_of : Listing → Place → List Letter → List Bool
-flips_of program (Start q) v = flips_from program.qubits v program.steps
-flips_of program (After k) v = replicate (suc k) false ++ flips_from program.qubits v (slice_index_or (steps_after_each program.steps) k [])
+flips_of program (Start q) v = flips_from program.qubits (begun v 0) program.steps
+flips_of program (After k) v =
+    replicate (suc k) false
+    ++ flips_from program.qubits (begun v (slice_index_or (records_by_each 0 program.steps) k 0)) (slice_index_or (steps_after_each program.steps) k [])
 
 -- the word as which the frame of a coin pair begins
 abbrev pub first_word : Listing → Place → List Letter

@@ -4,14 +4,10 @@ pub mod Faults
 pub mod Frames
 pub mod HitModels
 pub mod Hits
-pub mod Images
 pub mod Listing
-pub mod Made
 pub mod Probabilities
 pub mod Runs
 pub mod Sensitivities
-pub mod Shifts
-pub mod States
 pub mod Targets
 pub mod WellFormed
 pub mod Written

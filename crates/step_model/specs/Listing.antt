@@ -1,7 +1,7 @@
 -- A program, as a list of steps with what they name: the unrolled circuit. Faults, collapses and records are
--- numbered from 0 in the order of the steps.
-use Rattle.std.specs.Prelude.{ℕ, ℤ, List, [], ◌∷◌, Option, None, Some, slice_index_or}
-use Rattle.step_model.specs.declared.step.Step.{Step}
+-- numbered from 0 in the order of the steps. (Stim's circuit format.)
+use Rattle.std.specs.Prelude.{ℕ, ℤ, List, [], ◌∷◌, Option, None, Some, Bool, slice_index_or}
+use Rattle.gate_table.specs.declared.gate.Gate.{Gate}
 use Rattle.step_model.specs.declared.step.Term.{Term}
 use Rattle.pauli_word.specs.declared.letter.Letter.{Letter}
 use Rattle.pauli_word.specs.Words.{letters_product, no_letters, lone_letter}
@@ -11,23 +11,59 @@ pub data Effect : Type 0 where
   Applies : List Term → Effect
   Flips : ℕ → Effect
 
--- a fault: the text of its probability, floor of probability times 2^64, and what it does
+-- what is kept of a fault, once for each place of the text: the text of its probability, floor of probability times
+-- 2^64, and the letters at qubits that it applies, none where it flips a record
+pub record Kept : Type 0 where
+  pub text : List ℕ
+  pub bound : ℕ
+  pub terms : List Term
+
+-- a fault: its text and bound, what it does, and the number of what is kept of it
 pub record ListedFault : Type 0 where
   pub text : List ℕ
   pub bound : ℕ
   pub effect : Effect
+  pub entry : ℕ
+
+-- what a collapse measures: a word of sign plus, or a letter at a qubit, which it then resets
+pub data Measured : Type 0 where
+  Word : List Letter → Measured
+  Reset : Letter → ℕ → Measured
+
+-- what becomes of an outcome: the number of its record, whether that is inverted, and the fault that flips it
+pub record Recorded : Type 0 where
+  pub number : ℕ
+  pub inverted : Bool
+  pub flip : Option ℕ
+
+-- a step: a gate of one qubit; a gate of two; a collapse, which may make a record; a fault; a word that is applied
+-- where an earlier record is 1
+pub data ListedStep : Type 0 where
+  One : Gate → ℕ → ListedStep
+  Two : Gate → ℕ → ℕ → ListedStep
+  Collapse : Measured → Option Recorded → ListedStep
+  Fault : ℕ → ListedStep
+  Feedback : List Letter → ℕ → ListedStep
 
 pub record Listing : Type 0 where
   pub qubits : ℕ
   pub records : ℕ
   pub collapses : ℕ
-  pub steps : List Step
+  pub steps : List ListedStep
   -- the records of each detector and of each observable, each as often as it is listed
   pub detectors : List (List ℕ)
   pub observables : List (List ℕ)
   -- the coordinates of each detector
   pub coordinates : List (List ℤ)
   pub faults : List ListedFault
+  pub kept : List Kept
+  -- the products of letters that collapses measure, once for each place of the text
+  pub products : List (List Term)
+
+-- the word that a collapse measures, on n qubits
+abbrev pub measured_word : ℕ → Measured → List Letter
+measured_word n (Word w) = w
+measured_word n (Reset letter q) = lone_letter n q letter
 
 -- the word on n qubits that these letters at qubits make, their signs left out
 abbrev pub word_of_terms : ℕ → List Term → List Letter
@@ -40,7 +76,13 @@ effect_word n (Applies terms) = word_of_terms n terms
 effect_word n (Flips r) = no_letters n
 
 abbrev pub no_effect : ListedFault
-no_effect = record { text = []; bound = 0; effect = Applies [] }
+no_effect = record { text = []; bound = 0; effect = Applies []; entry = 0 }
+
+abbrev pub none_kept : Kept
+none_kept = record { text = []; bound = 0; terms = [] }
+
+abbrev pub kept_at : Listing → ℕ → Kept
+kept_at program e = slice_index_or program.kept e none_kept
 
 abbrev pub fault_at : Listing → ℕ → ListedFault
 fault_at program f = slice_index_or program.faults f no_effect
@@ -50,6 +92,11 @@ effect_at program f = (fault_at program f).effect
 
 abbrev pub fault_word : Listing → ℕ → List Letter
 fault_word program f = effect_word program.qubits (effect_at program f)
+
+-- the letters at qubits that a fault applies: none where it flips a record
+abbrev pub effect_terms : Effect → List Term
+effect_terms (Applies terms) = terms
+effect_terms (Flips r) = []
 
 -- the record that a fault flips
 abbrev pub flipped_record : Effect → Option ℕ

@@ -1,89 +1,90 @@
 -- The sensitivity of a target at a place of a program: the unsigned word such that a Pauli fault there flips the
--- target exactly where it anticommutes with that word. After the last step it is the identity. Going back over a
--- gate it becomes its preimage; over a collapse it is cleared at the qubit of a reset, and then multiplied by the
--- collapsed letter where the target names the record an odd number of times; over a fault it stays.
--- The place of a target is the latest collapse whose letter anticommutes with the sensitivity just after it; else
+-- target exactly where it anticommutes with that word, and the records so far whose flips flip the target. After the last
+-- step it is the identity, with the target's records. Going back over a gate the word becomes its preimage; over a
+-- collapse it is cleared at the qubit of a reset, and then multiplied by the collapsed word where its record is listed an
+-- odd number of times; over feedback, whose word is applied where a record is 1, that record is added where the
+-- feedback's word anticommutes with the sensitivity's; over a fault it stays.
+-- The place of a target is the latest collapse whose word anticommutes with the sensitivity just after it; else
 -- the start, at the lowest qubit at which the sensitivity there has X or Y; else there is none.
-use Rattle.std.specs.Prelude.{◌+◌, ℕ, suc, Bool, true, false, if◌then◌else◌, List, [], ◌∷◌, Option, None, Some, option_map, slice_set}
+-- (Gottesman, arXiv:quant-ph/9807006: words carried through a circuit.)
+use Rattle.std.specs.Prelude.{◌+◌, ℕ, Bool, true, false, if◌then◌else◌, List, [], ◌∷◌, Option, None, Some, option_map, slice_set}
 use Rattle.pauli_word.specs.declared.letter.Letter.{Letter}
-use Rattle.pauli_word.specs.declared.letter.Letter.TheVariants.{I, X, Y, Z}
-use Rattle.pauli_word.specs.Words.{letters_product, no_letters, lone_letter, anticommute}
-use Rattle.step_model.specs.declared.step.Step.{Step}
-use Rattle.step_model.specs.declared.step.Step.TheVariants.{One, Two, Collapse, Fault}
+use Rattle.pauli_word.specs.declared.letter.Letter.TheVariants.{I}
+use Rattle.pauli_word.specs.Words.{letters_product, no_letters, anticommute, signed}
+pub use Rattle.pauli_word.specs.Words.{has_X_or_Y, lowest_X_or_Y}
 use Rattle.step_model.specs.declared.step.Place.{Place}
 use Rattle.step_model.specs.declared.step.Place.TheVariants.{Start, After}
-use Rattle.step_model.specs.Images.{preimage_at, preimage_at_two}
-use Rattle.step_model.specs.Listing.{Listing}
-use Rattle.step_model.specs.Runs.{signed}
+use Rattle.gate_table.specs.WordImages.{preimage_at, preimage_at_two}
+use Rattle.step_model.specs.Listing.{Listing, ListedStep, One, Two, Collapse, Fault, Feedback, Measured, Word, Reset, Recorded, measured_word}
 use Rattle.step_model.specs.Targets.{is_listed, target_at}
 
--- the word with I at a qubit where b
-abbrev pub cleared : Bool → ℕ → List Letter → List Letter
-cleared b q w = if b then slice_set w q I else w
+-- the sensitivity of a target at a place: a word, and the records so far whose flips flip the target, each as often
+-- as it is listed
+pub record Sensitivity : Type 0 where
+  pub word : List Letter
+  pub records : List ℕ
 
--- whether a target names the record of a collapse an odd number of times
-abbrev pub record_counts : List ℕ → Option ℕ → Bool
+-- a word after a collapse's reset, where it resets: with I at that qubit
+abbrev pub cleared : Measured → List Letter → List Letter
+cleared (Word w) v = v
+cleared (Reset letter q) v = slice_set v q I
+
+-- whether a collapse's record is listed an odd number of times
+abbrev pub record_counts : List ℕ → Option Recorded → Bool
 record_counts named None = false
-record_counts named (Some r) = is_listed named r
+record_counts named (Some r) = is_listed named r.number
 
 -- the word, times another where b
 abbrev pub multiplied : Bool → List Letter → List Letter → List Letter
 multiplied b v w = if b then letters_product v w else w
 
 -- the sensitivity before a step, from that after it; n qubits
-abbrev pub sensitivity_before : ℕ → List ℕ → Step → List Letter → List Letter
-sensitivity_before n named (One gate q) w = (preimage_at gate q (signed w false)).letters
-sensitivity_before n named (Two gate a b) w = (preimage_at_two gate a b (signed w false)).letters
-sensitivity_before n named (Collapse letter qubit rec reset inverted flip) w =
-    multiplied (record_counts named rec) (lone_letter n qubit letter) (cleared reset qubit w)
-sensitivity_before n named (Fault f) w = w
+abbrev pub sensitivity_before : ℕ → ListedStep → Sensitivity → Sensitivity
+sensitivity_before n (One gate q) s = record s { word = (preimage_at gate q (signed s.word false)).letters }
+sensitivity_before n (Two gate a b) s = record s { word = (preimage_at_two gate a b (signed s.word false)).letters }
+sensitivity_before n (Collapse c r) s =
+    record s { word = multiplied (record_counts s.records r) (measured_word n c) (cleared c s.word) }
+sensitivity_before n (Fault f) s = s
+sensitivity_before n (Feedback w r) s = record s { records = if anticommute s.word w then r ∷ s.records else s.records }
 
 -- the sensitivity before these steps, which are the last
-abbrev pub sensitivity : ℕ → List ℕ → List Step → List Letter
-sensitivity n named [] = no_letters n
-sensitivity n named (step ∷ steps) = sensitivity_before n named step (sensitivity n named steps)
+abbrev pub sensitivity : ℕ → List ℕ → List ListedStep → Sensitivity
+sensitivity n named [] = record { word = no_letters n; records = named }
+sensitivity n named (step ∷ steps) = sensitivity_before n step (sensitivity n named steps)
 
 -- whether a step is a collapse
-abbrev pub is_collapse : Step → Bool
+abbrev pub is_collapse : ListedStep → Bool
 is_collapse (One gate q) = false
 is_collapse (Two gate a b) = false
-is_collapse (Collapse letter qubit rec reset inverted flip) = true
+is_collapse (Collapse c r) = true
 is_collapse (Fault f) = false
+is_collapse (Feedback w r) = false
 
 -- the word that a step collapses; the identity where it is no collapse
-abbrev pub collapse_word : ℕ → Step → List Letter
+abbrev pub collapse_word : ℕ → ListedStep → List Letter
 collapse_word n (One gate q) = no_letters n
 collapse_word n (Two gate a b) = no_letters n
-collapse_word n (Collapse letter qubit rec reset inverted flip) = lone_letter n qubit letter
+collapse_word n (Collapse c r) = measured_word n c
 collapse_word n (Fault f) = no_letters n
+collapse_word n (Feedback w r) = no_letters n
 
 -- how many steps are collapses
-abbrev pub collapse_count : List Step → ℕ
+abbrev pub collapse_count : List ListedStep → ℕ
 collapse_count [] = 0
 collapse_count (step ∷ steps) = (if is_collapse step then 1 else 0) + collapse_count steps
 
--- the latest collapse from a step on: one later, or else the step itself where it clashes
-abbrev pub later_or_here : Step → Option ℕ → Bool → Option ℕ
-later_or_here step (Some k) clashes = Some ((if is_collapse step then 1 else 0) + k)
+-- the latest collapse from a step on: one later, or else the step itself where its word
+-- anticommutes with the sensitivity after it
+abbrev pub later_or_here : ListedStep → Option ℕ → Bool → Option ℕ
+later_or_here step (Some k) anticommutes = Some ((if is_collapse step then 1 else 0) + k)
 later_or_here step None true = Some 0
 later_or_here step None false = None
 
 -- the latest of these collapses, counted from the first of them, whose word anticommutes with the sensitivity after it
-abbrev pub latest_place : ℕ → List ℕ → List Step → Option ℕ
+abbrev pub latest_place : ℕ → List ℕ → List ListedStep → Option ℕ
 latest_place n named [] = None
 latest_place n named (step ∷ steps) =
-    later_or_here step (latest_place n named steps) (anticommute (collapse_word n step) (sensitivity n named steps))
-
-abbrev pub has_X_or_Y : Letter → Bool
-has_X_or_Y I = false
-has_X_or_Y X = true
-has_X_or_Y Y = true
-has_X_or_Y Z = false
-
--- the lowest qubit at which a word has X or Y
-abbrev pub lowest_X_or_Y : List Letter → Option ℕ
-lowest_X_or_Y [] = None
-lowest_X_or_Y (a ∷ w) = if has_X_or_Y a then Some 0 else option_map suc (lowest_X_or_Y w)
+    later_or_here step (latest_place n named steps) (anticommute (collapse_word n step) (sensitivity n named steps).word)
 
 -- a collapse's place, or else that in the start, of a word there
 abbrev pub after_or_start : Option ℕ → List Letter → Option Place
@@ -95,4 +96,4 @@ abbrev pub place_of : Listing → ℕ → Option Place
 place_of program d =
     after_or_start
     (latest_place program.qubits (target_at program d) program.steps)
-    (sensitivity program.qubits (target_at program d) program.steps)
+    (sensitivity program.qubits (target_at program d) program.steps).word

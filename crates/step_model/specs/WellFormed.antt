@@ -1,15 +1,15 @@
 -- What a program's type keeps: all that its steps name is there, gates have the step's number of qubits, the two
 -- qubits of a gate differ, no collapse is of I; collapses, records and faults are numbered from 0 in the order of the
 -- steps, each once; each probability text is accepted and has its bound; and the targets are within the limits.
-use Rattle.std.specs.Prelude.{⊤, ◌≡◌, ◌≤◌, ◌<◌, ◌==◌, ◌^◌, nat_lt, ℕ, ℤ, nat_abs, Bool, true, false, not, ◌&&◌, List, [], ◌∷◌, ◌++◌, length, All, Option, None, Some}
-use Rattle.std.specs.List.{range_with_len, AllPass}
+-- (Stim's circuit format: what an instruction may name.)
+use Rattle.std.specs.Prelude.{⊤, ◌≡◌, ◌≤◌, ◌<◌, ◌==◌, ◌^◌, nat_lt, ℕ, ℤ, nat_abs, Bool, true, false, not, ◌&&◌, List, [], ◌∷◌, ◌++◌, ◌+◌, length, All, Option, None, Some}
+use Rattle.std.specs.List.{range_with_len, AllPass, list_any}
 use Rattle.std.specs.Option.{option_to_list}
 use Rattle.gate_table.specs.Images.{arity_of}
 use Rattle.pauli_word.specs.declared.letter.Letter.{Letter}
 use Rattle.pauli_word.specs.declared.letter.Letter.TheVariants.{I, X, Y, Z}
-use Rattle.step_model.specs.declared.step.Step.{Step}
-use Rattle.step_model.specs.declared.step.Step.TheVariants.{One, Two, Collapse, Fault}
-use Rattle.step_model.specs.Listing.{Listing, ListedFault, Effect, Applies, Flips, effect_at}
+use Rattle.step_model.specs.Listing.{Listing, ListedStep, One, Two, Collapse, Fault, Feedback, Measured, Word, Reset, Recorded, ListedFault, Effect, Applies, Flips, effect_at, effect_terms, word_of_terms, kept_at}
+use Rattle.step_model.specs.declared.step.Term.{Term}
 use Rattle.step_model.specs.Probabilities.{probability_bound}
 use Rattle.step_model.specs.Sensitivities.{collapse_count}
 
@@ -28,46 +28,74 @@ abbrev pub flips_record : ℕ → Effect → Bool
 flips_record r (Applies terms) = false
 flips_record r (Flips s) = r == s
 
--- a recorded flip belongs to a collapse with a record, and its fault flips that record
-abbrev pub flip_fits : Listing → Option ℕ → Option ℕ → Bool
-flip_fits program rec None = true
-flip_fits program None (Some f) = false
-flip_fits program (Some r) (Some f) = nat_lt f (length program.faults) && flips_record r (effect_at program f)
+-- a record's flip is a fault that flips that record
+abbrev pub flip_fits : Listing → ℕ → Option ℕ → Bool
+flip_fits program r None = true
+flip_fits program r (Some f) = nat_lt f (length program.faults) && flips_record r (effect_at program f)
+
+abbrev pub record_fits : Listing → Option Recorded → Bool
+record_fits program None = true
+record_fits program (Some r) = flip_fits program r.number r.flip
+
+-- a word on n qubits that isn't the identity
+abbrev pub word_fits : ℕ → List Letter → Bool
+word_fits n w = length w == n && list_any (λ a. not (is_I a)) w
+
+abbrev pub measured_fits : ℕ → Measured → Bool
+measured_fits n (Word w) = word_fits n w
+measured_fits n (Reset letter q) = not (is_I letter) && nat_lt q n
 
 -- whether all that a step names is there
-abbrev pub step_fits : Listing → Step → Bool
+abbrev pub step_fits : Listing → ListedStep → Bool
 step_fits program (One gate q) = arity_of gate == 1 && nat_lt q program.qubits
 step_fits program (Two gate a b) =
     arity_of gate == 2 && nat_lt a program.qubits && nat_lt b program.qubits && not (a == b)
-step_fits program (Collapse letter qubit rec reset inverted flip) =
-    not (is_I letter) && nat_lt qubit program.qubits && flip_fits program rec flip
+step_fits program (Collapse c r) = measured_fits program.qubits c && record_fits program r
 step_fits program (Fault f) = nat_lt f (length program.faults) && applies_word (effect_at program f)
+step_fits program (Feedback w r) = word_fits program.qubits w
 
 -- the records that steps make, in their order
-abbrev pub step_records : Step → List ℕ
+abbrev pub step_records : ListedStep → List ℕ
 step_records (One gate q) = []
 step_records (Two gate a b) = []
-step_records (Collapse letter qubit rec reset inverted flip) = option_to_list rec
+step_records (Collapse c None) = []
+step_records (Collapse c (Some r)) = r.number ∷ []
 step_records (Fault f) = []
+step_records (Feedback w r) = []
 
-abbrev pub records_made : List Step → List ℕ
+abbrev pub records_made : List ListedStep → List ℕ
 records_made [] = []
 records_made (step ∷ steps) = step_records step ++ records_made steps
 
+-- whether feedback is by earlier records alone, so many being made before these steps
+abbrev pub is_earlier : ℕ → ListedStep → Bool
+is_earlier made (Feedback w r) = nat_lt r made
+is_earlier made step = true
+
+abbrev pub feeds_earlier : ℕ → List ListedStep → Bool
+feeds_earlier made [] = true
+feeds_earlier made (step ∷ steps) = is_earlier made step && feeds_earlier (made + length (step_records step)) steps
+
 -- the faults that steps name, in their order
-abbrev pub step_faults : Step → List ℕ
+abbrev pub step_faults : ListedStep → List ℕ
 step_faults (One gate q) = []
 step_faults (Two gate a b) = []
-step_faults (Collapse letter qubit rec reset inverted flip) = option_to_list flip
+step_faults (Collapse c None) = []
+step_faults (Collapse c (Some r)) = option_to_list r.flip
 step_faults (Fault f) = f ∷ []
+step_faults (Feedback w r) = []
 
-abbrev pub faults_named : List Step → List ℕ
+abbrev pub faults_named : List ListedStep → List ℕ
 faults_named [] = []
 faults_named (step ∷ steps) = step_faults step ++ faults_named steps
 
--- the qubits of a fault's terms are the program's
+-- the qubits of terms are the program's
+abbrev pub TermsFit : ℕ → List Term → Type 0
+TermsFit qubits terms = All (λ term. term.qubit < qubits) terms
+
+-- of a fault's terms too
 abbrev pub EffectFits : ℕ → Effect → Type 0
-EffectFits qubits (Applies terms) = All (λ term. term.qubit < qubits) terms
+EffectFits qubits (Applies terms) = TermsFit qubits terms
 EffectFits qubits (Flips r) = ⊤
 
 pub record FaultFits (qubits : ℕ) (fault : ListedFault) : Type 0 where
@@ -79,12 +107,28 @@ pub record CoordinatesFit (coordinates : List ℤ) : Type 0 where
   pub few : length coordinates ≤ 16
   pub within : All (λ c. nat_abs c < 10 ^ 18) coordinates
 
+-- a product that is measured is a word other than the identity
+pub record ProductFits (qubits : ℕ) (terms : List Term) : Type 0 where
+  pub terms_fit : TermsFit qubits terms
+  pub word : word_fits qubits (word_of_terms qubits terms) ≡ true
+
+-- what is kept of a fault is its text and bound, and the letters at qubits that it applies
+pub record IsKept (program : Listing) (fault : ListedFault) : Type 0 where
+  pub there : fault.entry < length program.kept
+  pub text : fault.text ≡ (kept_at program fault.entry).text
+  pub bound : fault.bound ≡ (kept_at program fault.entry).bound
+  pub terms : (kept_at program fault.entry).terms ≡ effect_terms fault.effect
+
 pub record IsWellFormed (program : Listing) : Type 0 where
   pub steps_fit : AllPass (step_fits program) program.steps
   pub collapses_counted : collapse_count program.steps ≡ program.collapses
   pub records_in_order : records_made program.steps ≡ range_with_len 0 program.records
+  pub feedback_earlier : feeds_earlier 0 program.steps ≡ true
   pub faults_in_order : faults_named program.steps ≡ range_with_len 0 (length program.faults)
   pub faults_fit : All (FaultFits program.qubits) program.faults
+  pub faults_kept : All (IsKept program) program.faults
+  pub kept_fit : All (λ kept. TermsFit program.qubits kept.terms) program.kept
+  pub products_fit : All (ProductFits program.qubits) program.products
   pub detectors_fit : All (All (λ r. r < program.records)) program.detectors
   pub observables_fit : All (All (λ r. r < program.records)) program.observables
   pub coordinates_given : length program.coordinates ≡ length program.detectors
