@@ -1,0 +1,21 @@
+pub mod ConstancyCollapses
+pub mod ConstancyRecords
+pub mod ConstancyRuns
+pub mod ConstancySteps
+pub mod Duality
+pub mod DualitySums
+pub mod Exactness
+mod FeedbackRows
+pub mod PairLaws
+pub mod PairParity
+pub mod PairPlaces
+pub mod PairRuns
+pub mod PairStates
+pub mod ShiftCollapse
+pub mod ShiftGates
+pub mod ShiftLists
+pub mod ShiftRuns
+pub mod ShiftSteps
+pub mod ShiftWords
+pub mod ShiftedWords
+pub mod UniqueModels

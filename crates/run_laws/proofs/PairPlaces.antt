@@ -1,0 +1,78 @@
+-- Where the place of a target is, and how many flips the frame begun there has.
+use Rattle.std.proofs.Common.{◌≡◌, ℕ, zero, suc, ◌+◌, ◌<◌, ◌⊎◌, inl, inr, if◌then◌else◌, Bool, true, false, List, [], ◌∷◌, ◌++◌, length, replicate, get_or, Option, None, Some, refl, ap, sym, ◌∙◌, arith}
+use Rattle.pauli_word.proofs.WordLaws.{anticommute_of_none}
+pub use Rattle.pauli_word.proofs.LowestLetters.{lowest-clash}
+use Rattle.step_model.specs.Listing.{ListedStep, One, Two, Collapse, Fault, Feedback}
+use Rattle.step_model.specs.Frames.{Frame, flips_from, steps_after_each}
+use Rattle.step_model.specs.Sensitivities.{is_collapse, collapse_count, later_or_here, latest_place, sensitivity}
+
+pub option_either : {T : Type 0} → (o : Option T) → (o ≡ None) ⊎ ((x : T) × (o ≡ Some x))
+option_either None = inl refl
+option_either (Some x) = inr (x, refl)
+
+some_injective : (j k : ℕ) → ◌≡◌ {A = Option ℕ} (Some j) (Some k) → j ≡ k
+some_injective j k h = cc
+
+counted_not : (b : Bool) → b ≡ false → ◌≡◌ {A = ℕ} (if b then 1 else 0) 0
+counted_not false h = refl
+counted_not true h = cc
+
+counted_once : (b : Bool) → b ≡ true → ◌≡◌ {A = ℕ} (if b then 1 else 0) 1
+counted_once true h = refl
+counted_once false h = cc
+
+-- a step that is no collapse is no place
+pub later_only : (step : ListedStep) (o : Option ℕ) (clashes : Bool) (k : ℕ) → is_collapse step ≡ false → clashes ≡ false → later_or_here step o clashes ≡ Some k → o ≡ Some k
+later_only step (Some j) clashes k other h e =
+    let l : (if is_collapse step then 1 else 0) + j ≡ k = some_injective _ _ e in
+    ap Some (omega (arith, counted_not (is_collapse step) other))
+later_only step None true k other h e = cc
+later_only step None false k other h e = e
+
+-- a collapse is the place where none is later and it clashes
+pub later_or_this : (step : ListedStep) (o : Option ℕ) (clashes : Bool) (k : ℕ) → is_collapse step ≡ true → later_or_here step o clashes ≡ Some k → ((j : ℕ) × (o ≡ Some j) × (k ≡ suc j)) ⊎ ((o ≡ None) × (clashes ≡ true) × (k ≡ 0))
+later_or_this step (Some j) clashes k this e =
+    let l : (if is_collapse step then 1 else 0) + j ≡ k = some_injective _ _ e in
+    let m : k ≡ suc j = omega (arith, counted_once (is_collapse step) this) in
+    inl (j, refl, m)
+later_or_this step None true k this e = inr (refl, refl, sym (some_injective _ _ e))
+later_or_this step None false k this e = cc
+
+pub length-flips_from : (n : ℕ) (v : Frame) (steps : List ListedStep) → length (flips_from n v steps) ≡ collapse_count steps
+length-flips_from n v [] = refl
+length-flips_from n v (One gate q ∷ steps) = length-flips_from n _ steps ∙ omega arith
+length-flips_from n v (Two gate a b ∷ steps) = length-flips_from n _ steps ∙ omega arith
+length-flips_from n v (Collapse c r ∷ steps) = ap suc (length-flips_from n _ steps) ∙ omega arith
+length-flips_from n v (Fault f ∷ steps) = length-flips_from n _ steps ∙ omega arith
+length-flips_from n v (Feedback w r ∷ steps) = length-flips_from n _ steps ∙ omega arith
+
+-- a collapse's place is one of the collapses
+pub place_inside : (n : ℕ) (named : List ℕ) (steps : List ListedStep) (k : ℕ) → latest_place n named steps ≡ Some k → k < collapse_count steps
+place_inside n named [] k h = cc
+place_inside n named (One gate q ∷ steps) k h =
+    let e = place_inside n named steps k (later_only (One gate q) _ _ k refl (anticommute_of_none n (sensitivity n named steps).word) h) in
+    omega arith
+place_inside n named (Two gate a b ∷ steps) k h =
+    let e = place_inside n named steps k (later_only (Two gate a b) _ _ k refl (anticommute_of_none n (sensitivity n named steps).word) h) in
+    omega arith
+place_inside n named (Collapse c r ∷ steps) k h =
+    elim (later_or_this (Collapse c r) (latest_place n named steps) _ k refl h) [
+      | inl x ↦ (let e : x.0 < collapse_count steps = place_inside n named steps x.0 x.1 in omega arith)
+      | inr x ↦ omega arith
+    ]
+place_inside n named (Fault f ∷ steps) k h =
+    let e = place_inside n named steps k (later_only (Fault f) _ _ k refl (anticommute_of_none n (sensitivity n named steps).word) h) in
+    omega arith
+place_inside n named (Feedback w r ∷ steps) k h =
+    let e = place_inside n named steps k (later_only (Feedback w r) _ _ k refl (anticommute_of_none n (sensitivity n named steps).word) h) in
+    omega arith
+
+-- up to and with the place there are zeros, and after it the frame's flips
+pub length-flips_after : (n : ℕ) (v : Frame) (steps : List ListedStep) (k : ℕ) → k < collapse_count steps → length (replicate (suc k) false ++ flips_from n v (get_or (steps_after_each steps) k [])) ≡ collapse_count steps
+length-flips_after n v [] k h = absurd (omega arith)
+length-flips_after n v (One gate q ∷ steps) k h = length-flips_after n v steps k (omega arith) ∙ omega arith
+length-flips_after n v (Two gate a b ∷ steps) k h = length-flips_after n v steps k (omega arith) ∙ omega arith
+length-flips_after n v (Collapse c r ∷ steps) zero h = ap suc (length-flips_from n v steps) ∙ omega arith
+length-flips_after n v (Collapse c r ∷ steps) (suc k) h = ap suc (length-flips_after n v steps k (omega arith)) ∙ omega arith
+length-flips_after n v (Fault f ∷ steps) k h = length-flips_after n v steps k (omega arith) ∙ omega arith
+length-flips_after n v (Feedback w r ∷ steps) k h = length-flips_after n v steps k (omega arith) ∙ omega arith

@@ -1,0 +1,186 @@
+-- Words of a run's state as frames: by such a word the state differs from itself, so it may be begun anywhere as a frame,
+-- and any frame may be multiplied by it.
+use Rattle.std.proofs.Common.{◌≡◌, ℕ, zero, suc, ◌+◌, ◌<◌, ◌≤◌, inl, inr, if◌then◌else◌, Bool, true, false, List, [], ◌∷◌, ◌++◌, length, length-append, get_or, replicate, refl, ap, ap₂, sym, ◌∙◌, arith, subst}
+use Rattle.std.proofs.lemmas.Bool.{cases_Bool}
+use Rattle.std.proofs.lemmas.List.{length-replicate}
+use Rattle.std.proofs.lemmas.List.Elements.{All-head, All-tail}
+use Rattle.std.specs.List.{AllPass}
+use Rattle.pauli_word.specs.declared.letter.Letter.{Letter}
+use Rattle.pauli_word.specs.States.{State, outcome, IsGroup}
+use Rattle.pauli_word.specs.Words.{Signed, anticommute, signed, with_sign_changed}
+use Rattle.pauli_word.proofs.Groups.{IsGroup-start}
+use Rattle.pauli_word.proofs.WordLaws.{length-letters_product}
+use Rattle.step_model.specs.declared.step.Place.{Place}
+use Rattle.step_model.specs.declared.step.Place.TheVariants.{Start, After}
+use Rattle.step_model.specs.Frames.{Frame, begun, flips_from, flips_of, records_by_each, steps_after_each}
+use Rattle.step_model.specs.Listing.{Listing, ListedStep, One, Two, Collapse, Fault, Feedback, measured_word}
+use Rattle.step_model.specs.Runs.{RunState, next, next_coin, run_from, start}
+use Rattle.step_model.specs.Sensitivities.{is_collapse, collapse_count}
+use Rattle.step_model.specs.WellFormed.{step_fits, step_records, records_made}
+use Rattle.step_model.proofs.StateIsGroup.{IsGroup-next}
+use Rattle.run_laws.specs.ShiftedWords.{FlipsOutcomes, flips_between, steps_after, IsThere, WordShift, PlaceShift, ProductLaw}
+use Rattle.run_laws.specs.Shifts.{flipped_by, outcomes_from, flips_with, IsShifted, DifferByFrame, IsShift}
+use Rattle.run_laws.proofs.PairRuns.{with_coins, same-collapse, made-next}
+use Rattle.run_laws.proofs.PairStates.{shifted-times}
+use Rattle.run_laws.proofs.ShiftLists.{joined-no_flips}
+use Rattle.run_laws.proofs.ShiftRuns.{frames_shift_runs, same-flips}
+
+-- what anticommutes with a word of a state isn't in the state
+absent : (n : ℕ) (v : List Letter) (b : Bool) (s : State) (p : Signed) → IsGroup n s → length v ≡ n → s (signed v b) ≡ true → length p.letters ≡ n → anticommute p.letters v ≡ true → s p ≡ false
+absent n v b s p group size member size' clash =
+    elim (cases_Bool (s p)) [
+      | inl h ↦ (let e : anticommute p.letters v ≡ false = group.commuting p (signed v b) (record { size = size'; member = h }) (record { size = size; member = member }) in cc)
+      | inr h ↦ h
+    ]
+
+-- so by that word the state differs from itself
+pub member-shifted : (n : ℕ) (v : List Letter) (b : Bool) (s : State) → IsGroup n s → length v ≡ n → s (signed v b) ≡ true → IsShifted n v s s
+member-shifted n v b s group size member p size' =
+    elim (cases_Bool (anticommute p.letters v)) [
+      | inl h ↦
+          absent n v b s p group size member size' h
+          ∙ sym (absent n v b s (with_sign_changed (anticommute p.letters v) p) group size member size' h)
+      | inr h ↦ ap (λ b. s (with_sign_changed b p)) (sym h)
+    ]
+
+pub frame_product : ProductLaw
+frame_product n v flips m m' w negative differ size member = record {
+  size = length-letters_product w v.word (size ∙ sym differ.size) ∙ size;
+  group = differ.group;
+  states =
+      shifted-times n v.word w m.state m'.state (size ∙ sym differ.size) differ.states
+      (member-shifted n w negative m.state differ.group size member);
+  coins = differ.coins;
+  records_size = differ.records_size;
+  records = differ.records;
+}
+
+-- a frame begun before these steps
+shift_here : (program : Listing) (faults : List Bool) (v : List Letter) (negative : Bool) (later : List ListedStep) (m : RunState) (made : ℕ)
+    → AllPass (step_fits program) later → IsGroup program.qubits m.state → length v ≡ program.qubits → made ≡ length m.records
+    → m.state (signed v negative) ≡ true
+    → outcomes_from program faults later (with_coins m (flipped_by (flips_from program.qubits (begun v made) later) m.coins))
+    ≡ flipped_by (flips_from program.qubits (begun v made) later) (outcomes_from program faults later m)
+shift_here program faults v negative later m made fit group size made_is member =
+    let frame : Frame = begun v made in
+    let flips = flips_from program.qubits frame later in
+    let differ : DifferByFrame program.qubits frame (flips_with program faults faults frame later) m (with_coins m (flipped_by flips m.coins)) = record {
+      size = size;
+      group = group;
+      states = member-shifted program.qubits v negative m.state group size member;
+      coins = ap (λ f. flipped_by f m.coins) (sym (same-flips program faults frame later));
+      records_size = length-replicate made false ∙ made_is;
+      records = sym (joined-no_flips made m.records made_is);
+    } in
+    let shift : IsShift program faults faults later frame m (with_coins m (flipped_by flips m.coins)) = frames_shift_runs program faults faults later frame m (with_coins m (flipped_by flips m.coins)) fit differ in
+    shift.outcomes ∙ ap (λ f. flipped_by f (outcomes_from program faults later m)) (same-flips program faults frame later)
+
+-- and one begun after the earlier of two parts of the steps, with so many collapses in it and so many records by then
+shift_from : (program : Listing) (faults : List Bool) (v : List Letter) (negative : Bool) (earlier later : List ListedStep) (m : RunState) (collapses made : ℕ)
+    → AllPass (step_fits program) (earlier ++ later) → IsGroup program.qubits m.state → length v ≡ program.qubits
+    → collapses ≡ collapse_count earlier → made ≡ length m.records + length (records_made earlier)
+    → (run_from program faults earlier m).state (signed v negative) ≡ true
+    → outcomes_from program faults (earlier ++ later) (with_coins m (flipped_by (replicate collapses false ++ flips_from program.qubits (begun v made) later) m.coins))
+    ≡ flipped_by (replicate collapses false ++ flips_from program.qubits (begun v made) later) (outcomes_from program faults (earlier ++ later) m)
+shift_from program faults v negative [] later m zero made fit group size count made_is member =
+    shift_here program faults v negative later m made fit group size (omega arith) member
+shift_from program faults v negative [] later m (suc c) made fit group size count made_is member = absurd (omega arith)
+shift_from program faults v negative (One gate q ∷ earlier) later m c made fit group size count made_is member =
+    shift_from program faults v negative earlier later (next program faults (One gate q) m) c made (All-tail (λ x. step_fits program x ≡ true) (One gate q) (earlier ++ later) fit)
+    (IsGroup-next program faults (One gate q) m (All-head (λ x. step_fits program x ≡ true) (One gate q) (earlier ++ later) fit) group) size (omega arith) made_is member
+shift_from program faults v negative (Two gate a b ∷ earlier) later m c made fit group size count made_is member =
+    shift_from program faults v negative earlier later (next program faults (Two gate a b) m) c made (All-tail (λ x. step_fits program x ≡ true) (Two gate a b) (earlier ++ later) fit)
+    (IsGroup-next program faults (Two gate a b) m (All-head (λ x. step_fits program x ≡ true) (Two gate a b) (earlier ++ later) fit) group) size (omega arith) made_is member
+shift_from program faults v negative (Fault f ∷ earlier) later m c made fit group size count made_is member =
+    shift_from program faults v negative earlier later (next program faults (Fault f) m) c made (All-tail (λ x. step_fits program x ≡ true) (Fault f) (earlier ++ later) fit)
+    (IsGroup-next program faults (Fault f) m (All-head (λ x. step_fits program x ≡ true) (Fault f) (earlier ++ later) fit) group) size (omega arith) made_is member
+shift_from program faults v negative (Feedback w r ∷ earlier) later m c made fit group size count made_is member =
+    shift_from program faults v negative earlier later (next program faults (Feedback w r) m) c made (All-tail (λ x. step_fits program x ≡ true) (Feedback w r) (earlier ++ later) fit)
+    (IsGroup-next program faults (Feedback w r) m (All-head (λ x. step_fits program x ≡ true) (Feedback w r) (earlier ++ later) fit) group) size (omega arith) made_is member
+shift_from program faults v negative (Collapse w r ∷ earlier) later m zero made fit group size count made_is member = absurd (omega arith)
+shift_from program faults v negative (Collapse w r ∷ earlier) later m (suc c) made fit group size count made_is member =
+    let step = Collapse w r in
+    let flips = replicate c false ++ flips_from program.qubits (begun v made) later in
+    let more : length m.records + length (step_records step) ≡ length (next program faults step m).records = made-next program faults w r m (length m.records) refl in
+    let count_is : length (records_made (step ∷ earlier)) ≡ length (step_records step) + length (records_made earlier) = length-append (step_records step) (records_made earlier) in
+    ap (λ xs. outcome m.state (measured_word program.qubits w) (next_coin m.coins) ∷ xs)
+    (ap (outcomes_from program faults (earlier ++ later)) (same-collapse program faults w r m (flipped_by (false ∷ flips) m.coins) refl)
+    ∙ shift_from program faults v negative earlier later (next program faults step m) c made (All-tail (λ x. step_fits program x ≡ true) step (earlier ++ later) fit)
+    (IsGroup-next program faults step m (All-head (λ x. step_fits program x ≡ true) step (earlier ++ later) fit) group) size (omega arith) (omega arith) member)
+
+pub word_shift : WordShift
+word_shift program faults coins v negative earlier later fit split size member =
+    let flips = flips_between program.qubits v earlier later in
+    subst
+    (λ steps. outcomes_from program faults steps (start (flipped_by flips coins)) ≡ flipped_by flips (outcomes_from program faults steps (start coins)))
+    (sym split)
+    (shift_from program faults v negative earlier later (start coins) (collapse_count earlier) (length (records_made earlier))
+    (subst (λ steps. AllPass (step_fits program) steps) split fit.steps_fit)
+    (IsGroup-start program.qubits) size refl (omega arith) member)
+
+-- places among the steps
+
+no_front : (earlier steps : List ListedStep) → steps ≡ earlier ++ steps → earlier ≡ []
+no_front [] steps e = refl
+no_front (step ∷ earlier) steps e = absurd (omega (arith, ap length e, length-append (step ∷ earlier) steps))
+
+within_step : (b : Bool) (steps : List ListedStep) (k : ℕ) → ((j : ℕ) → length (get_or (steps_after_each steps) j []) ≤ length steps)
+    → length (get_or ((if b then steps ∷ [] else []) ++ steps_after_each steps) k []) ≤ length steps
+within_step false steps k rest = rest k
+within_step true steps zero rest = omega arith
+within_step true steps (suc k) rest = rest k
+
+-- what comes after a collapse of these steps is no longer than they are
+within : (steps : List ListedStep) (k : ℕ) → length (get_or (steps_after_each steps) k []) ≤ length steps
+within [] k = omega arith
+within (step ∷ steps) k = omega (arith, within_step (is_collapse step) steps k (within steps))
+
+-- how many collapses and records there are up to a collapse, of steps before which so many records were made
+record Counts (count records : ℕ) (k first : ℕ) (earlier : List ListedStep) : Type 0 where
+  collapses : count ≡ suc k
+  made : records ≡ first + length (records_made earlier)
+
+counts_at : (b : Bool) (steps earlier : List ListedStep) (k made : ℕ)
+    → steps ≡ earlier ++ get_or ((if b then steps ∷ [] else []) ++ steps_after_each steps) k []
+    → k < (if b then 1 else 0) + collapse_count steps
+    → ((j : ℕ) → steps ≡ earlier ++ get_or (steps_after_each steps) j [] → j < collapse_count steps → Counts (collapse_count earlier) (get_or (records_by_each made steps) j 0) j made earlier)
+    → Counts ((if b then 1 else 0) + collapse_count earlier) (get_or ((if b then made ∷ [] else []) ++ records_by_each made steps) k 0) k made earlier
+counts_at false steps earlier k made e inside rest =
+    let c : Counts (collapse_count earlier) (get_or (records_by_each made steps) k 0) k made earlier = rest k e (omega arith) in
+    record { collapses = omega (arith, c.collapses); made = c.made }
+counts_at true steps earlier zero made e inside rest =
+    subst (λ front. Counts (1 + collapse_count front) made 0 made front) (sym (no_front earlier steps e))
+    (record { collapses = refl; made = omega arith })
+counts_at true steps earlier (suc k) made e inside rest =
+    let c : Counts (collapse_count earlier) (get_or (records_by_each made steps) k 0) k made earlier = rest k e (omega arith) in
+    record { collapses = omega (arith, c.collapses); made = c.made }
+
+cons_parts : (x y : ListedStep) (xs ys : List ListedStep) → x ∷ xs ≡ y ∷ ys → (x ≡ y) × (xs ≡ ys)
+cons_parts x y xs ys e = (cc, cc)
+
+counts : (steps earlier : List ListedStep) (k made : ℕ) → steps ≡ earlier ++ get_or (steps_after_each steps) k [] → k < collapse_count steps
+    → Counts (collapse_count earlier) (get_or (records_by_each made steps) k 0) k made earlier
+counts [] earlier k made e inside = absurd (omega arith)
+counts (step ∷ steps) [] k made e inside =
+    absurd (omega (arith, ap length e, within_step (is_collapse step) steps k (within steps)))
+counts (step ∷ steps) (x ∷ earlier) k made e inside =
+    let parts = cons_parts step x steps _ e in
+    let c : Counts (collapse_count (step ∷ earlier)) (get_or (records_by_each made (step ∷ steps)) k 0) k (made + length (step_records step)) earlier =
+    counts_at (is_collapse step) steps earlier k (made + length (step_records step)) parts.1 inside
+    (λ j e' h. counts steps earlier j (made + length (step_records step)) e' h) in
+    subst (λ y. Counts (collapse_count (y ∷ earlier)) (get_or (records_by_each made (step ∷ steps)) k 0) k made (y ∷ earlier)) parts.0
+    (record { collapses = c.collapses; made = omega (arith, c.made, length-append (step_records step) (records_made earlier)) })
+
+flips_at_place : (program : Listing) (place : Place) (v : List Letter) (earlier : List ListedStep)
+    → collapse_count program.steps ≡ program.collapses → IsThere program place → program.steps ≡ earlier ++ steps_after program place
+    → flips_between program.qubits v earlier (steps_after program place) ≡ flips_of program place v
+flips_at_place program (Start q) v earlier count there split =
+    ap (λ front. flips_between program.qubits v front program.steps) (no_front earlier program.steps split)
+flips_at_place program (After k) v earlier count there split =
+    let c : Counts (collapse_count earlier) (get_or (records_by_each 0 program.steps) k 0) k 0 earlier = counts program.steps earlier k 0 split (omega arith) in
+    ap₂ (λ zeros made. replicate zeros false ++ flips_from program.qubits (begun v made) (steps_after program (After k))) c.collapses (omega (arith, c.made))
+
+pub place_shift : PlaceShift
+place_shift program faults coins place v negative earlier fit there split size member =
+    subst (FlipsOutcomes program faults coins) (flips_at_place program place v earlier fit.collapses_counted there split)
+    (word_shift program faults coins v negative earlier (steps_after program place) fit split size member)

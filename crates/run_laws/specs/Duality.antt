@@ -1,0 +1,30 @@
+-- What faults change in a target that has no place, whatever the coins: a set of faults changes it where an odd number
+-- of them hit it, and so one fault more or less changes it exactly where that fault hits it. (Gottesman,
+-- arXiv:quant-ph/9807006: words carried through a circuit.)
+use Rattle.std.specs.Prelude.{◌≡◌, ◌<◌, ◌==◌, ℕ, Bool, List, [], length, None}
+use Rattle.pauli_word.specs.Parity.{exclusive_or}
+use Rattle.step_model.specs.Hits.{has_odd_hits, is_hit}
+use Rattle.step_model.specs.Listing.{Listing}
+use Rattle.step_model.specs.Runs.{happens, records_of}
+use Rattle.step_model.specs.Sensitivities.{place_of}
+use Rattle.step_model.specs.Targets.{target_at, parity}
+use Rattle.step_model.specs.WellFormed.{IsWellFormed}
+
+-- a run with faults and one without differ in the target exactly where an odd number of those faults hit it
+abbrev pub AddsUp : Listing → ℕ → Type 0
+AddsUp program d =
+    (faults first second : List Bool)
+    → exclusive_or (parity (target_at program d) (records_of program faults first)) (parity (target_at program d) (records_of program [] second))
+    ≡ has_odd_hits program d faults
+
+-- two sets of faults are the same, but for one fault that happens in one of them alone
+abbrev pub DifferInFault : ℕ → List Bool → List Bool → Type 0
+DifferInFault f faults others = (g : ℕ) → happens others g ≡ exclusive_or (g == f) (happens faults g)
+
+-- two runs whose faults differ in one differ in a target without a place exactly where that fault hits it
+abbrev pub OneFaultLaw : Type 0
+OneFaultLaw =
+    (program : Listing) (d f : ℕ) (faults others first second : List Bool)
+    → IsWellFormed program → place_of program d ≡ None → f < length program.faults → DifferInFault f faults others
+    → exclusive_or (parity (target_at program d) (records_of program faults first)) (parity (target_at program d) (records_of program others second))
+    ≡ is_hit program d f
