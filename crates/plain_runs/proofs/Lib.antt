@@ -1,0 +1,4 @@
+pub mod RunFacts
+pub mod SensitivityFacts
+pub mod WalkFacts
+pub mod WordFacts

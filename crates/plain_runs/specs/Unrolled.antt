@@ -1,0 +1,10 @@
+-- The steps of a program in a list, as a walk over it gives them.
+use Rattle.std.specs.Prelude.{◌≡◌, List, map, All}
+use Rattle.step_model.specs.Listing.{Listing}
+use Rattle.programs.specs.declared.step.Step.{Step}
+use Rattle.programs.specs.Listed.{listed}
+use Rattle.programs.specs.Named.{IsStepOf}
+
+pub record AreSteps (program : Listing) (steps : List Step) : Type 0 where
+  pub listed : map (listed program.qubits program.products) steps ≡ program.steps
+  pub named : All (IsStepOf program) steps

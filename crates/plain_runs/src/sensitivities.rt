@@ -1,0 +1,248 @@
+//! The sensitivity and the place of a target.
+ghost use Rattle.std.specs.Prelude.{◌≡◌, ◌<◌, ◌≤◌, ◌+◌, length, take, drop, IfOk, option_map};
+ghost use Rattle.pauli_word.specs.Words.{anticommute, letter_at};
+ghost use Rattle.step_model.specs.Sensitivities.{sensitivity, sensitivity_before, record_counts, collapse_word, collapse_count, latest_place, has_X_or_Y, lowest_X_or_Y, place_of};
+ghost use Rattle.step_model.specs.Targets.{is_listed, targets_of};
+ghost use Rattle.plain_runs.specs.PlainSteps.{recorded, step_at};
+
+use crate::plain_step::{PlainStep, Recording, plain_step};
+use crate::runs::collapses_before;
+use crate::unrolled::Unrolled;
+use crate::words::{anticommutes, cleared, multiplied, preimage, preimage_of_two};
+use pauli_word::{Letter, Word};
+use programs::Program;
+use std::alloc::{AllocError, Allocator};
+use std::marker::Model;
+use step_model::Place;
+
+/// The sensitivity of a target at a place: a word, and the records so far whose flips flip the target.
+#[derive(Drop)]
+pub struct TargetSensitivity<A: Allocator + Copy> {
+    word: Word<A>,
+    records: Vec<u32, A>,
+}
+
+impl<A: Allocator + Copy> Model for TargetSensitivity<A> {
+    ghost use Rattle.step_model.specs.Sensitivities as sensitivities;
+
+    ghost Value = { sensitivities.Sensitivity };
+
+    ghost view = { λ s. record { word = s.word.letters; records = s.records.items } };
+}
+
+impl<A: Allocator + Copy> TargetSensitivity<A> {
+    pub fn letter(&self, qubit: usize) -> Letter
+        requires { qubit < length self.now.word }
+        ensures { result ≡ letter_at self.now.word qubit }
+    {
+        self.word.letter(qubit)
+    }
+
+    /// The records whose flips flip the target, each as often as it is listed.
+    pub fn records(&self) -> &[u32]
+        ensures { result.now ≡ self.now.records }
+    {
+        self.records.as_slice()
+    }
+}
+
+/// The sensitivity, after the first steps, of a target that lists these records.
+pub fn sensitivity<A: Allocator + Copy>(
+    alloc: A,
+    program: &Program<'_, A>,
+    named: &[u32],
+    steps: usize,
+) -> Result<TargetSensitivity<A>, AllocError>
+    requires { steps ≤ length program.now.steps }
+    ensures { IfOk result (λ s. s ≡ sensitivity program.now.qubits named.now (drop steps program.now.steps)) }
+{
+    let program = Unrolled::of(alloc, program)?;
+    sensitivity_after(alloc, &program, named, steps)
+}
+
+/// The place of a target, if it has one. The detectors come first, then the observables.
+pub fn place_of<A: Allocator + Copy>(
+    alloc: A,
+    program: &Program<'_, A>,
+    target: usize,
+) -> Result<Option<Place>, AllocError>
+    requires { target < length (targets_of program.now) }
+    ensures { IfOk result (λ place. place ≡ place_of program.now target) }
+{
+    let program = Unrolled::of(alloc, program)?;
+    let named = program.target(target);
+    if let Some(collapse) = latest_place(alloc, &program, named)? {
+        return Ok(Some(Place::After(collapse)));
+    }
+    let first = sensitivity_after(alloc, &program, named, 0)?;
+    Ok(lowest_x_or_y(&first, program.qubits()).map(Place::Start))
+}
+
+// The same of the steps in a list.
+fn sensitivity_after<A: Allocator + Copy>(
+    alloc: A,
+    program: &Unrolled<'_, '_, A>,
+    named: &[u32],
+    steps: usize,
+) -> Result<TargetSensitivity<A>, AllocError>
+    requires { steps ≤ length program.now.steps }
+    ensures sensitivity { IfOk result (λ s. s ≡ sensitivity program.now.qubits named.now (drop steps program.now.steps)) }
+    ensures letters { IfOk result (λ s. length s.word ≡ program.now.qubits) }
+{
+    let mut left = program.len();
+    let mut s = TargetSensitivity {
+        word: Word::identity(alloc, program.qubits() as usize)?,
+        records: Vec::from_slice(alloc, named)?,
+    };
+    while left > steps {
+        left -= 1;
+        s = sensitivity_before(alloc, program, left, s)?;
+    }
+    Ok(s)
+}
+
+// The sensitivity before a step, from that after it.
+fn sensitivity_before<A: Allocator + Copy>(
+    alloc: A,
+    program: &Unrolled<'_, '_, A>,
+    step: usize,
+    after: TargetSensitivity<A>,
+) -> Result<TargetSensitivity<A>, AllocError>
+    requires within { step < length program.now.steps }
+    requires letters { length after.word ≡ program.now.qubits }
+    ensures before { IfOk result (λ s. s ≡ sensitivity_before program.now.qubits (step_at program.now step) after) }
+    ensures letters { IfOk result (λ s. length s.word ≡ program.now.qubits) }
+{
+    program.well_formed();
+    let TargetSensitivity { word, mut records } = after;
+    match plain_step(alloc, program, step)? {
+        PlainStep::One { gate, q } => {
+            let before = preimage(gate, q, &word)?;
+            Ok(TargetSensitivity {
+                word: before,
+                records,
+            })
+        }
+        PlainStep::Two { gate, a, b } => {
+            let before = preimage_of_two(gate, a, b, &word)?;
+            Ok(TargetSensitivity {
+                word: before,
+                records,
+            })
+        }
+        PlainStep::Collapse {
+            word: measured,
+            reset,
+            recording,
+        } => {
+            let counts = record_counts(records.as_slice(), recording);
+            let clear = cleared(reset, &word)?;
+            let before = multiplied(counts, &measured, &clear, program.qubits())?;
+            Ok(TargetSensitivity {
+                word: before,
+                records,
+            })
+        }
+        PlainStep::Fault { .. } => Ok(TargetSensitivity { word, records }),
+        PlainStep::Feedback {
+            word: applied,
+            record,
+        } => {
+            if anticommutes(&word, &applied) {
+                records.insert(0, record)?;
+            }
+            Ok(TargetSensitivity { word, records })
+        }
+    }
+}
+
+// Whether the record of a collapse is listed an odd number of times.
+fn record_counts(named: &[u32], recording: Option<Recording>) -> bool
+    ensures { result ≡ record_counts named.now (option_map recorded recording) }
+{
+    match recording {
+        Some(recording) => is_listed(named, recording.number),
+        None => false,
+    }
+}
+
+fn is_listed(named: &[u32], number: u32) -> bool
+    ensures { result ≡ is_listed named.now number }
+{
+    let mut odd = false;
+    for listed in named {
+        if *listed == number {
+            odd = !odd;
+        }
+    }
+    odd
+}
+
+// The latest collapse whose word anticommutes with the sensitivity after it.
+fn latest_place<A: Allocator + Copy>(
+    alloc: A,
+    program: &Unrolled<'_, '_, A>,
+    named: &[u32],
+) -> Result<Option<u32>, AllocError>
+    ensures { IfOk result (λ place. place ≡ latest_place program.now.qubits named.now program.now.steps) }
+{
+    program.well_formed();
+    let mut left = program.len();
+    while left > 0 {
+        left -= 1;
+        if clashes_after(alloc, program, named, left)? {
+            return Ok(Some(collapse_number(program, left)));
+        }
+    }
+    Ok(None)
+}
+
+// How many of the first steps are collapses.
+fn collapse_number<A: Allocator + Copy>(program: &Unrolled<'_, '_, A>, steps: usize) -> u32
+    requires { steps ≤ length program.now.steps }
+    ensures { result ≡ collapse_count (take steps program.now.steps) }
+{
+    program.well_formed();
+    let _at_most = program.collapse_count();
+    collapses_before(program, steps) as u32
+}
+
+// Whether the word that a step collapses anticommutes with the sensitivity after it.
+fn clashes_after<A: Allocator + Copy>(
+    alloc: A,
+    program: &Unrolled<'_, '_, A>,
+    named: &[u32],
+    step: usize,
+) -> Result<bool, AllocError>
+    requires { step < length program.now.steps }
+    ensures { IfOk result (λ clashes. clashes ≡ anticommute (collapse_word program.now.qubits (step_at program.now step))
+        (sensitivity program.now.qubits named.now (drop (step + 1) program.now.steps)).word) }
+{
+    match plain_step(alloc, program, step)? {
+        PlainStep::Collapse { word, .. } => {
+            let _more = program.len();
+            let after = sensitivity_after(alloc, program, named, step + 1)?;
+            Ok(anticommutes(&word, &after.word))
+        }
+        _ => Ok(false),
+    }
+}
+
+// The lowest qubit at which a sensitivity has X or Y.
+fn lowest_x_or_y<A: Allocator + Copy>(first: &TargetSensitivity<A>, qubits: u32) -> Option<u32>
+    requires { length first.now.word ≡ qubits }
+    ensures { result ≡ lowest_X_or_Y first.now.word }
+{
+    for qubit in 0..qubits {
+        if is_x_or_y(first.letter(qubit as usize)) {
+            return Some(qubit);
+        }
+    }
+    None
+}
+
+fn is_x_or_y(letter: Letter) -> bool
+    ensures { result ≡ has_X_or_Y letter }
+{
+    letter == Letter::X || letter == Letter::Y
+}

@@ -1,0 +1,111 @@
+ghost use Rattle.std.specs.Prelude.{◌≡◌, ◌<◌, [], length, IfOk, slice_index_or};
+ghost use Rattle.step_model.specs.Listing.{kept_at};
+ghost use Rattle.step_model.specs.Targets.{target_at, targets_of};
+ghost use Rattle.step_model.specs.WellFormed.{IsWellFormed};
+ghost use Rattle.programs.specs.Listed.{listed};
+ghost use Rattle.programs.specs.Named.{IsStepOf};
+ghost use Rattle.plain_runs.specs.PlainSteps.{step_at};
+
+use programs::{Program, Step, Walk};
+use std::alloc::{AllocError, Allocator};
+use std::marker::Model;
+use step_model::Term;
+
+/// A program with its steps in a list.
+#[derive(Drop)]
+pub(crate) struct Unrolled<'a, 'p, A: Allocator + Copy> {
+    program: &'a Program<'p, A>,
+    steps: Vec<Step, A>,
+}
+
+impl<'a, 'p, A: Allocator + Copy> Model for Unrolled<'a, 'p, A> {
+    ghost use Rattle.step_model.specs.Listing.{Listing};
+    ghost use Rattle.plain_runs.specs.Unrolled.{AreSteps};
+
+    ghost Value = { Listing };
+
+    ghost view = { λ u. u.program.now };
+
+    ghost invariant = { λ u. AreSteps u.program.now u.steps.items };
+}
+
+impl<'a, 'p, A: Allocator + Copy> Unrolled<'a, 'p, A> {
+    /// The steps of a program, one after the other.
+    pub(crate) fn of(alloc: A, program: &'a Program<'p, A>) -> Result<Self, AllocError>
+        ensures { IfOk result (λ u. u ≡ program.now) }
+    {
+        let mut steps = Vec::new(alloc);
+        let mut walk = Walk::start(program);
+        while let Some(step) = walk.next_step() {
+            steps.push(step)?;
+        }
+        Ok(Unrolled { program, steps })
+    }
+
+    /// Does nothing: the program is well formed.
+    pub(crate) fn well_formed(&self)
+        ensures { IsWellFormed self.now }
+    {
+        self.program.well_formed();
+    }
+
+    pub(crate) fn len(&self) -> usize
+        ensures { result ≡ length self.now.steps }
+    {
+        self.steps.len()
+    }
+
+    pub(crate) fn step(&self, index: usize) -> Step
+        requires { index < length self.now.steps }
+        ensures step { listed self.now.qubits self.now.products result ≡ step_at self.now index }
+        ensures named { IsStepOf self.now result }
+    {
+        self.steps[index]
+    }
+
+    pub(crate) fn qubits(&self) -> u32
+        ensures { result ≡ self.now.qubits }
+    {
+        self.program.qubits()
+    }
+
+    pub(crate) fn record_count(&self) -> u32
+        ensures { result ≡ self.now.records }
+    {
+        self.program.record_count()
+    }
+
+    pub(crate) fn collapse_count(&self) -> u32
+        ensures { result ≡ self.now.collapses }
+    {
+        self.program.collapse_count()
+    }
+
+    /// The letters at qubits that a fault of this entry applies.
+    pub(crate) fn entry_terms(&self, entry: u32) -> &[Term]
+        requires { entry < length self.now.kept }
+        ensures { result.now ≡ (kept_at self.now entry).terms }
+    {
+        self.program.entry_terms(entry)
+    }
+
+    pub(crate) fn product(&self, product: u32) -> &[Term]
+        requires { product < length self.now.products }
+        ensures { result.now ≡ slice_index_or self.now.products product [] }
+    {
+        self.program.product(product)
+    }
+
+    /// The records of a target: the detectors come first, then the observables.
+    pub(crate) fn target(&self, target: usize) -> &[u32]
+        requires { target < length (targets_of self.now) }
+        ensures { result.now ≡ target_at self.now target }
+    {
+        let detectors = self.program.detector_count();
+        if target < detectors {
+            self.program.detector(target)
+        } else {
+            self.program.observable(target - detectors)
+        }
+    }
+}

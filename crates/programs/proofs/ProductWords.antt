@@ -1,0 +1,63 @@
+-- A product of letters whose first stands apart is a word other than the identity.
+use Rattle.std.proofs.Common.{◌≡◌, ◌≢◌, ℕ, zero, suc, ◌<◌, ◌==◌, Bool, true, false, not, ◌||◌, List, [], ◌∷◌, length, get_or, set, refl, sym, ap, ◌∙◌, arith}
+use Rattle.std.specs.List.{list_any}
+use Rattle.std.specs.Prelude.{All}
+use Rattle.std.proofs.lemmas.Bool.{and_from, eq-eqb}
+use Rattle.std.proofs.lemmas.List.{get_or-set_other}
+use Rattle.std.proofs.lemmas.List.Elements.{recursion_from_All, All-from_recursion}
+use Rattle.pauli_word.specs.declared.letter.Letter.{Letter}
+use Rattle.pauli_word.specs.declared.letter.Letter.TheVariants.{I}
+use Rattle.pauli_word.specs.Letters.{letter_product}
+use Rattle.pauli_word.specs.Words.{lone_letter, no_letters, letter_at, letters_product}
+use Rattle.pauli_word.proofs.LetterLaws.{letter_product-I}
+use Rattle.pauli_word.proofs.LoneLetters.{letters_product-lone_letter}
+use Rattle.step_model.specs.declared.step.Term.{Term}
+use Rattle.step_model.specs.Listing.{word_of_terms}
+use Rattle.step_model.specs.WellFormed.{is_I, word_fits, TermsFit, ProductFits}
+use Rattle.step_model.proofs.StepNumbers.{length-word_of_terms}
+use Rattle.programs.specs.ByHand.{StandsApart, BeginsApart}
+
+-- a list that has a letter other than I somewhere
+some_set : (w : List Letter) (q : ℕ) (a : Letter) → q < length w → is_I a ≡ false → list_any (λ b. not (is_I b)) (set w q a) ≡ true
+some_set [] q a h k = absurd (omega arith)
+some_set (b ∷ w) zero a h k = ap (λ x. not x || list_any (λ b. not (is_I b)) w) k
+some_set (b ∷ w) (suc q) a h k = or_true (not (is_I b)) (list_any (λ b. not (is_I b)) (set w q a)) (some_set w q a (omega arith) k)
+  where
+    or_true : (x y : Bool) → y ≡ true → (x || y) ≡ true
+    or_true true y e = refl
+    or_true false y e = e
+
+none_at : (n q : ℕ) → letter_at (no_letters n) q ≡ I
+none_at zero q = refl
+none_at (suc n) zero = refl
+none_at (suc n) (suc q) = none_at n q
+
+-- a word has I where no letter was put
+untouched : (n q : ℕ) (terms : List Term) → TermsFit n terms → All (λ term. term.qubit ≢ q) terms → letter_at (word_of_terms n terms) q ≡ I
+untouched n q [] fits apart = none_at n q
+untouched n q (t ∷ terms) fits apart =
+    let w = word_of_terms n terms in
+    let fit = recursion_from_All (λ (term : Term). term.qubit < n) (t ∷ terms) fits in
+    let away = recursion_from_All (λ (term : Term). term.qubit ≢ q) (t ∷ terms) apart in
+    ap (λ (v : List Letter). letter_at v q) (letters_product-lone_letter n w t.qubit t.letter (length-word_of_terms n terms) fit.0)
+    ∙ get_or-set_other w t.qubit q (letter_product t.letter (letter_at w t.qubit)) I (λ e. away.0 (sym e))
+    ∙ untouched n q terms (All-from_recursion (λ (term : Term). term.qubit < n) terms fit.1) (All-from_recursion (λ (term : Term). term.qubit ≢ q) terms away.1)
+
+pub product_fits : (n : ℕ) (terms : List Term) → TermsFit n terms → BeginsApart terms → ProductFits n terms
+product_fits n [] fits apart = absurd apart
+product_fits n (t ∷ terms) fits apart =
+    let w = word_of_terms n terms in
+    let fit = recursion_from_All (λ (term : Term). term.qubit < n) (t ∷ terms) fits in
+    let rest : TermsFit n terms = All-from_recursion (λ (term : Term). term.qubit < n) terms fit.1 in
+    let word_is : letters_product (lone_letter n t.qubit t.letter) w ≡ set w t.qubit t.letter =
+    letters_product-lone_letter n w t.qubit t.letter (length-word_of_terms n terms) fit.0
+    ∙ ap (λ b. set w t.qubit (letter_product t.letter b)) (untouched n t.qubit terms rest apart.alone)
+    ∙ ap (set w t.qubit) (letter_product-I t.letter) in
+    let within : t.qubit < length w = omega (arith, length-word_of_terms n terms, fit.0) in
+    record {
+      terms_fit = fits;
+      word =
+          and_from (length (word_of_terms n (t ∷ terms)) == n) (list_any (λ b. not (is_I b)) (word_of_terms n (t ∷ terms)))
+          (eq-eqb (length (word_of_terms n (t ∷ terms))) n (length-word_of_terms n (t ∷ terms)))
+          (ap (λ (v : List Letter). list_any (λ b. not (is_I b)) v) word_is ∙ some_set w t.qubit t.letter within apart.letter);
+    }

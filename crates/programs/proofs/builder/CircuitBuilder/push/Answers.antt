@@ -1,0 +1,23 @@
+use Rattle.std.proofs.Common.{◌≡◌, ◌+◌, List, [], ◌∷◌, ◌++◌, sym, ap, ◌∙◌, subst, arith}
+use Rattle.programs.specs.declared.node.Node.{Node}
+use Rattle.programs.specs.declared.node.Node.TheVariants.{Do}
+use Rattle.programs.specs.Builders.{Building, Builds, building}
+use Rattle.programs.proofs.BuilderLaws.{count-below, pushed, pushed-view}
+use Rattle.programs.proofs.builder.CircuitBuilder.push.Goals as goal
+
+pub overflow_add-self : goal.overflow_add-self
+overflow_add-self g c =
+    omega (arith, count-below c.self.inside.nodes.items c.self.inside.outer.items c.self.inside.count c.self.invariant)
+
+pub invariant_of-self-2 : goal.invariant_of-self-2
+invariant_of-self-2 g c =
+    let nodes : c.push.new.self.items ≡ c.self.inside.nodes.items ++ Do c.args.step ∷ [] = c.in_ok-push.ensures.items in
+    subst (λ (ns : List Node). Builds ns c.self.inside.outer.items (c.self.inside.count + 1)) (sym nodes)
+    (pushed c.self.inside.nodes.items c.self.inside.outer.items c.self.inside.count c.self.invariant c.args.step)
+
+pub returns-clause-ok : goal.returns-clause-ok
+returns-clause-ok g c =
+    let nodes : c.push.new.self.items ≡ c.self.inside.nodes.items ++ Do c.args.step ∷ [] = c.in_ok-push.ensures.items in
+    ap (λ (ns : List Node). building ns c.self.inside.outer.items) nodes
+    ∙ pushed-view c.self.inside.nodes.items c.self.inside.outer.items c.self.inside.count c.self.invariant c.args.step
+    ∙ ap (λ (v : Building). record v { here = v.here ++ c.args.step ∷ [] }) c.self.view_is

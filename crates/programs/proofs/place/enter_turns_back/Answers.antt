@@ -1,0 +1,39 @@
+use Rattle.std.proofs.Common.{◌≡◌, ◌+◌, ◌-◌, ◌<◌, ◌++◌, ◌∷◌, [], length, Some, arith, ap, sym, ◌∙◌, refl, length-append}
+use Rattle.std.specs.Prelude.{slice_get}
+use Rattle.std.specs.Option.{option_to_list}
+use Rattle.std.proofs.lemmas.Option.{slice_get_within}
+use Rattle.programs.specs.declared.node.Node.TheVariants.{Open, Close}
+use Rattle.programs.specs.Trees.{tree_of}
+use Rattle.programs.specs.Moves.{IntoBlock, BackIntoBlock}
+use Rattle.programs.proofs.PlaceMoves.{enters, enters_back, LeavesBack, leaves_back, some_turn_back, no_open_at_turn, no_close_after, no_open_back, before, node_before-suc}
+use Rattle.programs.proofs.Places.{moved, bounded}
+use Rattle.programs.specs.Steps.{node_before}
+use Rattle.programs.proofs.place.enter_turns_back.Goals as goal
+
+pub overflow_sub-turns : goal.overflow_sub-turns
+overflow_sub-turns c =
+    let node : node_before c.args.nodes.now c.loop-turns.place.index ≡ Some (Close c.in-Some-Close.turns c.in-Some-Close.field-0-1) = cc in
+    let b = before c.args.nodes.now c.requires.circuit c.loop-turns.place.index (Close c.in-Some-Close.turns c.in-Some-Close.field-0-1) node in
+    let k = c.requires.place.0 in
+    let here = moved (tree_of c.args.nodes.now) b.i_is refl refl (c.loop-turns.invariant.0 k c.requires.place.1) in
+    let into = enters_back c.args.nodes.now c.requires.circuit (c.loop-turns.place.index - 1) c.loop-turns.place.turns.items k c.in-Some-Close.turns c.in-Some-Close.field-0-1 here b.node_is in
+    into.some
+
+pub push-requires : goal.push-requires
+push-requires c =
+    let node : node_before c.args.nodes.now c.loop-turns.place.index ≡ Some (Close c.in-Some-Close.turns c.in-Some-Close.field-0-1) = cc in
+    let b = before c.args.nodes.now c.requires.circuit c.loop-turns.place.index (Close c.in-Some-Close.turns c.in-Some-Close.field-0-1) node in
+    let k = c.requires.place.0 in
+    let here = moved (tree_of c.args.nodes.now) b.i_is refl refl (c.loop-turns.invariant.0 k c.requires.place.1) in
+    let into = enters_back c.args.nodes.now c.requires.circuit (c.loop-turns.place.index - 1) c.loop-turns.place.turns.items k c.in-Some-Close.turns c.in-Some-Close.field-0-1 here b.node_is in
+    (omega arith, into.room)
+
+pub loop-turns-preserved : goal.loop-turns-preserved
+loop-turns-preserved c =
+    let node : node_before c.args.nodes.now c.loop-turns.place.index ≡ Some (Close c.in-Some-Close.turns c.in-Some-Close.field-0-1) = cc in
+    let b = before c.args.nodes.now c.requires.circuit c.loop-turns.place.index (Close c.in-Some-Close.turns c.in-Some-Close.field-0-1) node in (
+      (λ k h. let here = moved (tree_of c.args.nodes.now) b.i_is refl refl (c.loop-turns.invariant.0 k h) in
+          let into = enters_back c.args.nodes.now c.requires.circuit (c.loop-turns.place.index - 1) c.loop-turns.place.turns.items k c.in-Some-Close.turns c.in-Some-Close.field-0-1 here b.node_is in
+          moved (tree_of c.args.nodes.now) refl (sym c.push.ensures.items) refl into.place),
+      no_open_back c.args.nodes.now c.requires.circuit (c.loop-turns.place.index - 1) c.in-Some-Close.turns c.in-Some-Close.field-0-1 b.node_is,
+    )

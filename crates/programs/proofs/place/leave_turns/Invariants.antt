@@ -1,0 +1,9 @@
+use Rattle.std.proofs.Common.{slice_get, ◌-◌, length}
+use Rattle.programs.specs.Steps.{KeepsStep, IsNoClose}
+use Rattle.programs.proofs.place.leave_turns.Given as goal
+
+abbrev pub invariant-loop-turns : goal.invariant-loop-turns
+invariant-loop-turns l = KeepsStep l.nodes l.initial.place l.place
+
+abbrev pub decreases-loop-turns : goal.decreases-loop-turns
+decreases-loop-turns l = length l.nodes - l.place.index

@@ -1,0 +1,8 @@
+use Rattle.programs.specs.Steps.{KeepsStep, IsNoOpen, node_before}
+use Rattle.programs.proofs.place.leave_turns_back.Given as goal
+
+abbrev pub invariant-loop-length : goal.invariant-loop-length
+invariant-loop-length l = KeepsStep l.nodes l.initial.place l.place
+
+abbrev pub decreases-loop-length : goal.decreases-loop-length
+decreases-loop-length l = l.place.index

@@ -1,0 +1,10 @@
+use Rattle.std.proofs.Common.{◌≡◌, Some, None}
+use Rattle.std.specs.Prelude.{slice_get}
+use Rattle.programs.specs.declared.node.Node.TheVariants.{Do}
+use Rattle.programs.proofs.PlaceMoves.{over_step}
+use Rattle.programs.proofs.place.next.Goals as goal
+
+pub returns-in-Some-Do : goal.returns-in-Some-Do
+returns-in-Some-Do c k h =
+    let node : slice_get c.args.nodes.now c.args.place.now.index ≡ Some (Do c.in-Some-Do.step) = cc in
+    over_step c.args.nodes.now c.requires.circuit c.args.place.now c.args.place.now k c.in-Some-Do.step h node

@@ -1,0 +1,74 @@
+-- The steps that pieces write, what is kept of their faults, and what a pass over the unrolled steps of parts finds of
+-- them. Pieces stand in the order of a circuit's text, and a block stands for its turns. (Stim's circuit format.)
+use Rattle.std.specs.Prelude.{◌≡◌, ◌≢◌, ◌≤◌, ℕ, Bool, true, false, List, [], ◌∷◌, ◌++◌, All, length, reverse, take}
+use Rattle.std.specs.List.{list_all}
+use Rattle.std.specs.Option.{unwrap_or}
+use Rattle.step_model.specs.declared.step.Term.{Term}
+use Rattle.step_model.specs.Listing.{Listing, Kept}
+use Rattle.step_model.specs.Probabilities.{probability_bound}
+use Rattle.step_model.specs.WellFormed.{is_I}
+use Rattle.programs.specs.declared.by_hand.Entry.{Entry}
+use Rattle.programs.specs.declared.by_hand.Piece.{Piece}
+use Rattle.programs.specs.declared.by_hand.Piece.TheVariants.{Do, Open, Close}
+use Rattle.programs.specs.declared.by_hand.fit.Totals.{Totals}
+use Rattle.programs.specs.declared.place.Place.{Place}
+use Rattle.programs.specs.declared.program.Parts.{Parts}
+use Rattle.programs.specs.declared.step.Counts.{Counts}
+use Rattle.programs.specs.declared.step.TextStep.{TextStep}
+use Rattle.programs.specs.Builders.{OpenBlock, Building}
+use Rattle.programs.specs.Fits.{text_fits, is_kept}
+use Rattle.programs.specs.Made.{kept_in, text_steps, listing_of}
+use Rattle.programs.specs.Numbering.{no_counts, counts_over, FeedBack}
+use Rattle.programs.specs.Steps.{IsAt}
+use Rattle.programs.specs.Trees.{repeated}
+
+-- the steps that pieces write behind those that are here, where these blocks are open, the innermost first
+abbrev pub written : List Piece → List OpenBlock → List TextStep → List TextStep
+written [] outer here = here
+written (Do s ∷ pieces) outer here = written pieces outer (here ++ s ∷ [])
+written (Open n ∷ pieces) outer here = written pieces (record { before = here; turns = n } ∷ outer) []
+written (Close ∷ pieces) [] here = here
+written (Close ∷ pieces) (b ∷ outer) here = written pieces outer (b.before ++ repeated b.turns here)
+
+-- a builder behind a piece has what it had before it
+abbrev pub Puts : Piece → Building → Building → Type 0
+Puts piece old new =
+    (pieces : List Piece) → written (piece ∷ pieces) (reverse old.outer) old.here ≡ written pieces (reverse new.outer) new.here
+
+-- what is kept of a fault: its text, that text's bound and its letters
+abbrev pub kept_of : Entry → Kept
+kept_of entry =
+    record { text = entry.text.now; bound = unwrap_or (probability_bound entry.text.now) 0; terms = entry.terms.now }
+
+-- the program that parts make, its records and collapses being those of its steps
+abbrev pub counted_listing : {A : Type 0} → Parts A → Listing
+counted_listing parts =
+    let made = counts_over no_counts (text_steps parts) in
+    record (listing_of parts) { records = made.records; collapses = made.collapses }
+
+-- these steps fit, and make so much
+pub record StepsFit {A : Type 0} (parts : Parts A) (steps : List TextStep) (made : Counts) : Type 0 where
+  pub texts_fit : list_all (text_fits parts.qubits) steps ≡ true
+  pub all_kept : list_all (is_kept (kept_in parts) parts.products) steps ≡ true
+  pub feedback : FeedBack no_counts steps
+  pub counted : made ≡ counts_over no_counts steps
+
+-- so do the first of the unrolled steps, up to a place
+pub record FitsUpTo {A : Type 0} (parts : Parts A) (place : Place) (count : ℕ) (made : Counts) : Type 0 where
+  pub at_place : IsAt parts.nodes.items place count
+  pub fit : StepsFit parts (take count (text_steps parts)) made
+
+-- all of them do, a million at most
+pub record AllFit {A : Type 0} (parts : Parts A) (totals : Totals) : Type 0 where
+  pub fit : StepsFit parts (text_steps parts) totals.counts
+  pub counted : totals.steps ≡ length (text_steps parts)
+  pub few : totals.steps ≤ 1000000
+
+-- the first of these letters is not I, and no other is at its qubit
+pub record StandsApart (first : Term) (others : List Term) : Type 0 where
+  pub letter : is_I first.letter ≡ false
+  pub alone : All (λ term. term.qubit ≢ first.qubit) others
+
+abbrev pub BeginsApart : List Term → Type 0
+BeginsApart [] = ⊥
+BeginsApart (first ∷ others) = StandsApart first others

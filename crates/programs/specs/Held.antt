@@ -1,0 +1,24 @@
+-- What a program's nodes are to its steps.
+use Rattle.std.specs.Prelude.{◌≡◌, ◌<◌, ◌^◌, ℕ, List, length, slice_get, Some}
+use Rattle.step_model.specs.Listing.{Listing}
+use Rattle.programs.specs.declared.node.Node.{Node}
+use Rattle.programs.specs.declared.program.Text.{Text}
+use Rattle.programs.specs.declared.step.Counts.{Counts}
+use Rattle.programs.specs.declared.step.Step.{Step}
+use Rattle.programs.specs.Listed.{listed_steps}
+use Rattle.programs.specs.Named.{IsStepOf}
+use Rattle.programs.specs.Numbering.{no_counts, numbered, counts_over, FeedBack}
+use Rattle.programs.specs.Trees.{IsCircuit, tree_of, unrolled}
+
+-- these nodes write the steps of a program, so many, that make so much
+pub record Held (program : Listing) (nodes : List Node) (count : ℕ) (made : Counts) : Type 0 where
+  pub circuit : IsCircuit nodes
+  pub feedback : FeedBack no_counts (unrolled (tree_of nodes))
+  pub few_steps : length (unrolled (tree_of nodes)) < 2 ^ 32
+  pub steps_counted : count ≡ length (unrolled (tree_of nodes))
+  pub counted : made ≡ counts_over no_counts (unrolled (tree_of nodes))
+  pub steps : program.steps ≡ listed_steps program.qubits program.products no_counts (unrolled (tree_of nodes))
+  pub named : (k : ℕ) (s : Step) → slice_get (numbered no_counts (unrolled (tree_of nodes))) k ≡ Some s → IsStepOf program s
+
+abbrev pub HoldsText : Listing → Text → Type 0
+HoldsText program text = Held program text.nodes.now text.steps text.counts

@@ -1,0 +1,33 @@
+-- What the steps of a program name is there: qubits, a gate of its arity, a letter other than I, records, products,
+-- and faults, each of the entry that it is named with.
+use Rattle.std.specs.Prelude.{⊤, ◌≡◌, ◌≢◌, ◌<◌, ℕ, length, Option, None, Some}
+use Rattle.gate_table.specs.Images.{arity_of}
+use Rattle.pauli_word.specs.declared.letter.Letter.TheVariants.{I}
+use Rattle.step_model.specs.Listing.{Listing, fault_at}
+use Rattle.programs.specs.declared.step.FaultName.{FaultName}
+use Rattle.programs.specs.declared.step.Step.{Step}
+use Rattle.programs.specs.declared.step.Step.TheVariants.{One, Two, Collapse, CollapseWord, Fault, Feedback}
+
+-- a fault is there, and so is what is kept of it
+pub record IsNamed (program : Listing) (name : FaultName) : Type 0 where
+  pub number : name.number < length program.faults
+  pub entry : name.entry < length program.kept
+  pub of_entry : (fault_at program name.number).entry ≡ name.entry
+
+abbrev pub IsNamedFlip : Listing → Option FaultName → Type 0
+IsNamedFlip program None = ⊤
+IsNamedFlip program (Some name) = IsNamed program name
+
+abbrev pub IsRecord : Listing → Option ℕ → Type 0
+IsRecord program None = ⊤
+IsRecord program (Some r) = r < program.records
+
+abbrev pub IsStepOf : Listing → Step → Type 0
+IsStepOf program (One gate q) = (arity_of gate ≡ 1) × (q < program.qubits)
+IsStepOf program (Two gate a b) = (arity_of gate ≡ 2) × (a < program.qubits) × (b < program.qubits) × (a ≢ b)
+IsStepOf program (Collapse letter q rec reset inverted flip) =
+    (letter ≢ I) × (q < program.qubits) × IsRecord program rec × IsNamedFlip program flip
+IsStepOf program (CollapseWord p rec inverted flip) =
+    (p < length program.products) × IsRecord program rec × IsNamedFlip program flip
+IsStepOf program (Fault name) = IsNamed program name
+IsStepOf program (Feedback letter q r) = (letter ≢ I) × (q < program.qubits) × (r < program.records)

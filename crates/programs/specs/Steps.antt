@@ -1,0 +1,58 @@
+-- What moves of a place do: some keep how many steps stand before it, others go over one.
+use Rattle.std.specs.Prelude.{⊤, ◌≡◌, ◌+◌, ℕ, zero, suc, List, length, Option, None, Some, slice_get}
+use Rattle.programs.specs.declared.node.Node.{Node}
+use Rattle.programs.specs.declared.step.TextStep.{TextStep}
+use Rattle.programs.specs.declared.node.Node.TheVariants.{Do, Open, Close}
+use Rattle.programs.specs.declared.place.Place.{Place}
+use Rattle.programs.specs.Trees.{tree_of, unrolled}
+use Rattle.programs.specs.Places.{IsPlace}
+
+-- k steps stand before the place
+abbrev pub IsAt : List Node → Place → ℕ → Type 0
+IsAt nodes place k = IsPlace (tree_of nodes) place.index place.turns.items k
+
+abbrev pub KeepsStep : List Node → Place → Place → Type 0
+KeepsStep nodes old new = (k : ℕ) → IsAt nodes old k → IsAt nodes new k
+
+abbrev pub IsNoOpen : Option Node → Type 0
+IsNoOpen None = ⊤
+IsNoOpen (Some (Do step)) = ⊤
+IsNoOpen (Some (Open turns size)) = ⊥
+IsNoOpen (Some (Close turns size)) = ⊤
+
+abbrev pub IsNoClose : Option Node → Type 0
+IsNoClose None = ⊤
+IsNoClose (Some (Do step)) = ⊤
+IsNoClose (Some (Open turns size)) = ⊤
+IsNoClose (Some (Close turns size)) = ⊥
+
+abbrev pub node_before : List Node → ℕ → Option Node
+node_before nodes zero = None
+node_before nodes (suc i) = slice_get nodes i
+
+-- the step after the place and one step more before it, or none at the end
+pub record GoesOver (nodes : List Node) (old new : Place) (step : TextStep) (k : ℕ) : Type 0 where
+  pub step_is : slice_get (unrolled (tree_of nodes)) k ≡ Some step
+  pub place : IsAt nodes new (k + 1)
+
+pub record StaysAtEnd (nodes : List Node) (old new : Place) (k : ℕ) : Type 0 where
+  pub k_is : k ≡ length (unrolled (tree_of nodes))
+  pub place : IsAt nodes new k
+
+abbrev pub NextStep : List Node → Place → Place → Option TextStep → Type 0
+NextStep nodes old new None = (k : ℕ) → IsAt nodes old k → StaysAtEnd nodes old new k
+NextStep nodes old new (Some step) = (k : ℕ) → IsAt nodes old k → GoesOver nodes old new step k
+
+pub record GoesBackOver (nodes : List Node) (old new : Place) (step : TextStep) (k : ℕ) : Type 0 where
+  pub m : ℕ
+  pub k_is : k ≡ m + 1
+  pub step_is : slice_get (unrolled (tree_of nodes)) m ≡ Some step
+  pub place : IsAt nodes new m
+
+pub record StaysAtStart (nodes : List Node) (old new : Place) (k : ℕ) : Type 0 where
+  pub k_is : k ≡ 0
+  pub place : IsAt nodes new k
+
+abbrev pub PreviousStep : List Node → Place → Place → Option TextStep → Type 0
+PreviousStep nodes old new None = (k : ℕ) → IsAt nodes old k → StaysAtStart nodes old new k
+PreviousStep nodes old new (Some step) = (k : ℕ) → IsAt nodes old k → GoesBackOver nodes old new step k

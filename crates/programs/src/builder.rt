@@ -1,0 +1,118 @@
+ghost use Rattle.std.specs.Prelude.{◌≡◌, ◌<◌, [], ◌∷◌, ◌++◌, length, OnOk, OnErr};
+ghost use Rattle.programs.specs.Builders.{Closes};
+ghost use Rattle.programs.specs.Trees.{IsCircuit, tree_of, unrolled};
+
+use crate::node::Node;
+use crate::place::LEVELS;
+use crate::step::TextStep;
+use arrayvec::ArrayVec;
+use std::alloc::{AllocError, Allocator};
+use std::marker::Model;
+
+/// What an open block stands behind: how many nodes of what it stands in; and its turns.
+#[derive(Clone, Copy, Debug, Default, PartialEq, Eq)]
+pub struct Outer {
+    pub length: usize,
+    pub turns: u64,
+}
+
+/// A circuit with its blocks as it is written down, from its start on. A block without steps leaves nothing, whatever
+/// its turns.
+#[derive(Drop)]
+pub struct CircuitBuilder<A: Allocator + Copy> {
+    nodes: Vec<Node, A>,
+    outer: ArrayVec<Outer, LEVELS>,
+    // How many nodes the innermost open block has so far, or the circuit where none is open.
+    count: usize,
+}
+
+impl<A: Allocator + Copy> Model for CircuitBuilder<A> {
+    ghost use Rattle.programs.specs.Builders.{Building, Builds, building};
+
+    ghost Value = { Building };
+
+    ghost view = { λ b. building b.nodes.items b.outer.items };
+
+    ghost invariant = { λ b. Builds b.nodes.items b.outer.items b.count };
+}
+
+impl<A: Allocator + Copy> CircuitBuilder<A> {
+    /// A circuit without steps. Takes no memory.
+    pub fn new(alloc: A) -> Self
+        ensures { result ≡ record { outer = []; here = [] } }
+    {
+        CircuitBuilder {
+            nodes: Vec::new(alloc),
+            outer: ArrayVec::new(),
+            count: 0,
+        }
+    }
+
+    /// How many blocks are open.
+    pub fn depth(&self) -> usize
+        ensures { result ≡ length self.now.outer }
+    {
+        self.outer.len()
+    }
+
+    /// Appends a step. It may fail only where memory runs out.
+    pub fn push(&mut self, step: TextStep) -> Result<(), AllocError>
+        ensures ok { OnOk result (self.new ≡ record self.old { here = self.old.here ++ step ∷ [] }) }
+        ensures err { OnErr result (self.new ≡ self.old) }
+    {
+        self.nodes.push(Node::Do(step))?;
+        self.count += 1;
+        Ok(())
+    }
+
+    /// Opens a block of so many turns. It may fail only where memory runs out.
+    pub fn open(&mut self, turns: u64) -> Result<(), AllocError>
+        requires turns { 0 < turns }
+        requires room { length self.old.outer < 32 }
+        ensures ok { OnOk result (self.new ≡ record { outer = self.old.outer ++ record { before = self.old.here; turns = turns } ∷ []; here = [] }) }
+        ensures err { OnErr result (self.new ≡ self.old) }
+    {
+        self.nodes.push(Node::Open { turns, length: 0 })?;
+        self.outer.push(Outer {
+            length: self.count,
+            turns,
+        });
+        self.count = 0;
+        Ok(())
+    }
+
+    /// Closes the innermost block. It may fail only where memory runs out.
+    pub fn close(&mut self) -> Result<(), AllocError>
+        requires { 0 < length self.old.outer }
+        ensures ok { OnOk result (Closes self.old self.new) }
+        ensures err { OnErr result (self.new ≡ self.old) }
+    {
+        self.nodes.reserve(1)?;
+        let Outer { length, turns } = self.outer.pop().unwrap();
+        let start = self.nodes.len() - self.count - 1;
+        if self.count == 0 {
+            self.nodes.truncate(start);
+            self.count = length;
+        } else {
+            self.nodes[start] = Node::Open {
+                turns,
+                length: self.count,
+            };
+            self.nodes.push_reserved(Node::Close {
+                turns,
+                length: self.count,
+            });
+            self.count += length + 2;
+        }
+        Ok(())
+    }
+
+    /// The nodes of the circuit.
+    pub fn finish(self) -> Vec<Node, A>
+        requires { self.outer ≡ [] }
+        ensures circuit { IsCircuit result.items }
+        ensures steps { unrolled (tree_of result.items) ≡ self.here }
+    {
+        self.nodes
+    }
+}

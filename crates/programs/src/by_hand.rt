@@ -1,0 +1,201 @@
+//! Programs written by hand, as tests need them: all that a program asks for is tested here, over its unrolled steps.
+ghost use Rattle.std.specs.Prelude.{◌≡◌, [], map, true, IfOk, IfSome, Some};
+ghost use Rattle.step_model.specs.Probabilities.{probability_bound};
+ghost use Rattle.programs.specs.ByHand.{written, kept_of, Puts};
+ghost use Rattle.programs.specs.Listed.{listed_steps, made_faults};
+ghost use Rattle.programs.specs.Made.{entries_of};
+ghost use Rattle.programs.specs.Numbering.{no_counts, counts_over};
+ghost use Rattle.programs.specs.Trees.{IsCircuit, tree_of, unrolled};
+
+mod fit;
+
+use crate::builder::CircuitBuilder;
+use crate::node::Node;
+use crate::place::LEVELS;
+use crate::program::{EntryPart, Parts, Program};
+use crate::step::{Counts, TextStep};
+use fit::checked;
+use flat_lists::FlatLists;
+use std::alloc::{AllocError, Allocator};
+use step_model::Term;
+
+/// A piece of a circuit: a step, the start of a block of so many turns, or its end.
+#[derive(Clone, Copy, Debug, PartialEq, Eq)]
+pub enum Piece {
+    Do(TextStep),
+    Open(u64),
+    Close,
+}
+
+/// What is kept of a fault: a probability's text, one of 0, 1, 0.5 and 0.25, and its letters at qubits.
+#[derive(Clone, Copy, Drop)]
+pub struct Entry<'a> {
+    pub text: &'a [u8],
+    pub terms: &'a [Term],
+}
+
+/// What a program has beside its circuit.
+#[derive(Clone, Copy, Drop)]
+pub struct Lists<'a> {
+    pub entries: &'a [Entry<'a>],
+    pub products: &'a [&'a [Term]],
+    pub detectors: &'a [&'a [u32]],
+    pub observables: &'a [&'a [u32]],
+    pub coordinates: &'a [&'a [i64]],
+}
+
+/// The program of these pieces and lists, where they make one that has a million steps at most.
+pub fn program_of<'a, A: Allocator + Copy>(
+    alloc: A,
+    qubits: u32,
+    pieces: &[Piece],
+    lists: Lists<'a>,
+) -> Result<Option<Program<'a, A>>, AllocError>
+    ensures qubits { IfOk result (λ o. IfSome o (λ p. p.qubits ≡ qubits)) }
+    ensures steps { IfOk result (λ o. IfSome o (λ p. p.steps ≡ listed_steps qubits p.products no_counts (written pieces.now [] []))) }
+    ensures detectors { IfOk result (λ o. IfSome o (λ p. p.detectors ≡ map (λ list. list.now) lists.entry.detectors.now)) }
+    ensures observables { IfOk result (λ o. IfSome o (λ p. p.observables ≡ map (λ list. list.now) lists.entry.observables.now)) }
+    ensures coordinates { IfOk result (λ o. IfSome o (λ p. p.coordinates ≡ map (λ list. list.now) lists.entry.coordinates.now)) }
+    ensures kept { IfOk result (λ o. IfSome o (λ p. p.kept ≡ map kept_of lists.entry.entries.now)) }
+    ensures faults { IfOk result (λ o. IfSome o (λ p. p.faults ≡ made_faults p.kept no_counts (written pieces.now [] []))) }
+    ensures records { IfOk result (λ o. IfSome o (λ p. p.records ≡ (counts_over no_counts (written pieces.now [] [])).records)) }
+    ensures collapses { IfOk result (λ o. IfSome o (λ p. p.collapses ≡ (counts_over no_counts (written pieces.now [] [])).collapses)) }
+    ensures products { IfOk result (λ o. IfSome o (λ p. p.products ≡ map (λ list. list.now) lists.entry.products.now)) }
+{
+    let Some(nodes) = nodes_of(alloc, pieces)? else {
+        return Ok(None);
+    };
+    let Some(kept) = kept_parts(alloc, lists.entries)? else {
+        return Ok(None);
+    };
+    Ok(checked(Parts {
+        qubits,
+        steps: 0,
+        counts: Counts {
+            records: 0,
+            collapses: 0,
+            faults: 0,
+        },
+        nodes,
+        detectors: flat(alloc, lists.detectors)?,
+        observables: flat(alloc, lists.observables)?,
+        coordinates: flat(alloc, lists.coordinates)?,
+        entries: kept.entries,
+        terms: kept.terms,
+        products: flat(alloc, lists.products)?,
+    }))
+}
+
+// The nodes of a circuit in pieces, where its blocks are whole, have a turn and aren't too deep.
+fn nodes_of<A: Allocator + Copy>(
+    alloc: A,
+    pieces: &[Piece],
+) -> Result<Option<Vec<Node, A>>, AllocError>
+    ensures circuit { IfOk result (λ nodes. IfSome nodes (λ v. IsCircuit v.items)) }
+    ensures steps { IfOk result (λ nodes. IfSome nodes (λ v. unrolled (tree_of v.items) ≡ written pieces.now [] [])) }
+{
+    let mut builder = CircuitBuilder::new(alloc);
+    for piece in pieces {
+        if !put(&mut builder, *piece)? {
+            return Ok(None);
+        }
+    }
+    if builder.depth() > 0 {
+        return Ok(None);
+    }
+    Ok(Some(builder.finish()))
+}
+
+// Puts a piece behind those that are there, where it may stand.
+fn put<A: Allocator + Copy>(
+    builder: &mut CircuitBuilder<A>,
+    piece: Piece,
+) -> Result<bool, AllocError>
+    ensures { IfOk result (λ fits. fits ≡ true → Puts piece builder.old builder.new) }
+{
+    match piece {
+        Piece::Do(step) => {
+            builder.push(step)?;
+            Ok(true)
+        }
+        Piece::Open(turns) => {
+            if turns == 0 || builder.depth() >= LEVELS {
+                return Ok(false);
+            }
+            builder.open(turns)?;
+            Ok(true)
+        }
+        Piece::Close => {
+            if builder.depth() == 0 {
+                return Ok(false);
+            }
+            builder.close()?;
+            Ok(true)
+        }
+    }
+}
+
+// What is kept of faults: the texts of their probabilities with their bounds, and their letters at qubits.
+#[derive(Drop)]
+struct KeptParts<'a, A: Allocator + Copy> {
+    entries: Vec<EntryPart<'a>, A>,
+    terms: FlatLists<Term, A>,
+}
+
+// These entries as a program keeps them, where their texts are of those that can be read here.
+fn kept_parts<'a, A: Allocator + Copy>(
+    alloc: A,
+    entries: &'a [Entry<'a>],
+) -> Result<Option<KeptParts<'a, A>>, AllocError>
+    ensures { IfOk result (λ o. IfSome o (λ kept. entries_of kept.entries.items kept.terms ≡ map kept_of entries.now)) }
+{
+    let mut parts = Vec::new(alloc);
+    let mut terms = FlatLists::new(alloc);
+    for entry in entries {
+        let Some(bound) = bound_of(entry.text) else {
+            return Ok(None);
+        };
+        parts.push(EntryPart {
+            text: entry.text,
+            bound,
+        })?;
+        terms.push(entry.terms)?;
+    }
+    Ok(Some(KeptParts {
+        entries: parts,
+        terms,
+    }))
+}
+
+// Lists as they are kept.
+fn flat<T: Copy, A: Allocator + Copy>(
+    alloc: A,
+    lists: &[&[T]],
+) -> Result<FlatLists<T, A>, AllocError>
+    ensures { IfOk result (λ kept. kept ≡ map (λ list. list.now) lists.now) }
+{
+    let mut kept = FlatLists::new(alloc);
+    for list in lists {
+        kept.push(*list)?;
+    }
+    Ok(kept)
+}
+
+// Floor of a probability times 2^64.
+pub(crate) fn bound_of(text: &[u8]) -> Option<u128>
+    ensures { IfSome result (λ bound. probability_bound text.now ≡ Some bound) }
+{
+    if text == b"0".as_slice() {
+        return Some(0);
+    }
+    if text == b"1".as_slice() {
+        return Some(1 << 64);
+    }
+    if text == b"0.5".as_slice() {
+        return Some(1 << 63);
+    }
+    if text == b"0.25".as_slice() {
+        return Some(1 << 62);
+    }
+    None
+}

@@ -1,0 +1,257 @@
+//! Whether parts make a program: their steps are walked over and counted.
+ghost use Rattle.std.specs.Prelude.{◌≡◌, ◌<◌, ◌^◌, nat_lt, nat_abs, length, true, All, IfSome, Some};
+ghost use Rattle.step_model.specs.Probabilities.{probability_bound};
+ghost use Rattle.step_model.specs.WellFormed.{TermsFit, ProductFits, CoordinatesFit, is_I};
+ghost use Rattle.programs.specs.ByHand.{AllFit, BeginsApart, counted_listing};
+ghost use Rattle.programs.specs.Fits.{letter_fits, text_fits, flip_is_kept, recording_is_kept, is_kept};
+ghost use Rattle.programs.specs.Made.{kept_in, EntryFits};
+ghost use Rattle.programs.specs.Numbering.{feeds_back};
+ghost use Rattle.programs.specs.Trees.{IsCircuit};
+
+use crate::by_hand::bound_of;
+use crate::place::{Place, next};
+use crate::program::{EntryPart, Parts, Program};
+use crate::step::{Counts, Recording, TextStep, after};
+use arrayvec::ArrayVec;
+use flat_lists::FlatLists;
+use pauli_word::Letter;
+use std::alloc::Allocator;
+use step_model::Term;
+
+// How many steps a circuit has once unrolled, and what they make.
+#[derive(Clone, Copy, Debug, PartialEq, Eq)]
+struct Totals {
+    steps: usize,
+    counts: Counts,
+}
+
+// The program of these parts, once their steps are counted.
+pub(crate) fn checked<'a, A: Allocator + Copy>(parts: Parts<'a, A>) -> Option<Program<'a, A>>
+    requires { IsCircuit parts.nodes.items }
+    ensures { IfSome result (λ p. p ≡ counted_listing parts.entry) }
+{
+    let Some(totals) = total_of(&parts) else {
+        return None;
+    };
+    let records = totals.counts.records;
+    if !entries_fit(&parts) {
+        return None;
+    }
+    if !products_fit(&parts) {
+        return None;
+    }
+    if !lists_fit(&parts.detectors, records) || parts.detectors.len() > 1000000 {
+        return None;
+    }
+    if !lists_fit(&parts.observables, records) || parts.observables.len() > 1024 {
+        return None;
+    }
+    if !coordinates_fit(&parts.coordinates) || parts.coordinates.len() != parts.detectors.len() {
+        return None;
+    }
+    Some(Program::new(Parts {
+        steps: totals.steps,
+        counts: totals.counts,
+        ..parts
+    }))
+}
+
+// Goes over the unrolled steps, a million at most.
+fn total_of<A: Allocator + Copy>(parts: &Parts<'_, A>) -> Option<Totals>
+    requires { IsCircuit parts.now.nodes.items }
+    ensures { IfSome result (AllFit parts.now) }
+{
+    let nodes = parts.nodes.as_slice();
+    let mut place = Place {
+        index: 0,
+        turns: ArrayVec::new(),
+    };
+    let mut counts = Counts {
+        records: 0,
+        collapses: 0,
+        faults: 0,
+    };
+    for steps in 0..1000001 {
+        let Some(step) = next(nodes, &mut place) else {
+            return Some(Totals { steps, counts });
+        };
+        if !step_fits(parts, counts, step) {
+            return None;
+        }
+        counts = after(counts, step);
+    }
+    None
+}
+
+fn step_fits<A: Allocator + Copy>(parts: &Parts<'_, A>, counts: Counts, step: TextStep) -> bool
+    ensures text { result ≡ true → text_fits parts.now.qubits step ≡ true }
+    ensures kept { result ≡ true → is_kept (kept_in parts.now) parts.now.products step ≡ true }
+    ensures feeds { result ≡ true → feeds_back counts step }
+{
+    text_fits(parts.qubits, step) && is_kept(parts, step) && feeds_back(counts, step)
+}
+
+fn text_fits(qubits: u32, step: TextStep) -> bool
+    ensures { result ≡ text_fits qubits step }
+{
+    match step {
+        TextStep::One { gate, q } => (gate.arity() == 1) & (q < qubits),
+        TextStep::Two { gate, a, b } => (gate.arity() == 2)
+            & (a < qubits)
+            & (b < qubits)
+            & (a != b),
+        TextStep::Collapse { letter, qubit, .. } => letter_fits(qubits, letter, qubit),
+        TextStep::CollapseWord { .. } | TextStep::Fault(_) => true,
+        TextStep::Feedback { letter, q, .. } => letter_fits(qubits, letter, q),
+    }
+}
+
+fn letter_fits(qubits: u32, letter: Letter, q: u32) -> bool
+    ensures { result ≡ letter_fits qubits letter q }
+{
+    !is_i(letter) & (q < qubits)
+}
+
+fn is_i(letter: Letter) -> bool
+    ensures { result ≡ is_I letter }
+{
+    letter == Letter::I
+}
+
+fn is_kept<A: Allocator + Copy>(parts: &Parts<'_, A>, step: TextStep) -> bool
+    ensures { result ≡ true → is_kept (kept_in parts.now) parts.now.products step ≡ true }
+{
+    match step {
+        TextStep::Collapse { recording, .. } => recording_is_kept(parts, recording),
+        TextStep::CollapseWord { product, recording } => {
+            ((product as usize) < parts.products.len()) & recording_is_kept(parts, recording)
+        }
+        TextStep::Fault(e) => is_entry(parts, e),
+        TextStep::One { .. } | TextStep::Two { .. } | TextStep::Feedback { .. } => true,
+    }
+}
+
+fn recording_is_kept<A: Allocator + Copy>(
+    parts: &Parts<'_, A>,
+    recording: Option<Recording>,
+) -> bool
+    ensures { result ≡ true → recording_is_kept (kept_in parts.now) recording ≡ true }
+{
+    match recording {
+        Some(Recording { flip: Some(e), .. }) => is_flip(parts, e),
+        _ => true,
+    }
+}
+
+// Whether there is an entry of this number.
+fn is_entry<A: Allocator + Copy>(parts: &Parts<'_, A>, e: u32) -> bool
+    ensures { result ≡ true → nat_lt e (length (kept_in parts.now)) ≡ true }
+{
+    ((e as usize) < parts.entries.len()) & ((e as usize) < parts.terms.len())
+}
+
+// Whether it is one without letters.
+fn is_flip<A: Allocator + Copy>(parts: &Parts<'_, A>, e: u32) -> bool
+    ensures { result ≡ true → flip_is_kept (kept_in parts.now) (Some e) ≡ true }
+{
+    is_entry(parts, e) && parts.terms.get(e as usize).is_empty()
+}
+
+fn feeds_back(counts: Counts, step: TextStep) -> bool
+    ensures { result ≡ true → feeds_back counts step }
+{
+    match step {
+        TextStep::Feedback { back, .. } => (1 <= back) & (back <= counts.records),
+        _ => true,
+    }
+}
+
+// Whether a part has the bound of its text.
+fn part_fits(part: EntryPart<'_>) -> bool
+    ensures { result ≡ true → probability_bound part.entry.text.now ≡ Some part.entry.bound }
+{
+    match bound_of(part.text) {
+        Some(bound) => bound == part.bound,
+        None => false,
+    }
+}
+
+fn entries_fit<A: Allocator + Copy>(parts: &Parts<'_, A>) -> bool
+    ensures { result ≡ true → All (EntryFits parts.now.qubits) (kept_in parts.now) }
+{
+    for e in 0..parts.entries.len().min(parts.terms.len()) {
+        if !part_fits(parts.entries[e]) {
+            return false;
+        }
+        if !terms_fit(parts.terms.get(e), parts.qubits) {
+            return false;
+        }
+    }
+    true
+}
+
+fn terms_fit(terms: &[Term], qubits: u32) -> bool
+    ensures { result ≡ true → TermsFit qubits terms.now }
+{
+    terms.iter().all(|term| term.qubit < qubits)
+}
+
+fn products_fit<A: Allocator + Copy>(parts: &Parts<'_, A>) -> bool
+    ensures { result ≡ true → All (ProductFits parts.now.qubits) parts.now.products }
+{
+    for p in 0..parts.products.len() {
+        let terms = parts.products.get(p);
+        if !terms_fit(terms, parts.qubits) || !begins_apart(terms) {
+            return false;
+        }
+    }
+    true
+}
+
+// Whether the first of these letters is not I, and no other is at its qubit: then their product is no identity.
+fn begins_apart(terms: &[Term]) -> bool
+    ensures { result ≡ true → BeginsApart terms.now }
+{
+    if terms.is_empty() || is_i(terms[0].letter) {
+        return false;
+    }
+    let first = terms[0].qubit;
+    terms[1..].iter().all(|term| term.qubit != first)
+}
+
+// Whether lists name records that are made.
+fn lists_fit<A: Allocator + Copy>(lists: &FlatLists<u32, A>, records: u32) -> bool
+    ensures { result ≡ true → All (All (λ r. r < records)) lists.now }
+{
+    for list in 0..lists.len() {
+        if !are_made(lists.get(list), records) {
+            return false;
+        }
+    }
+    true
+}
+
+fn are_made(named: &[u32], records: u32) -> bool
+    ensures { result ≡ true → All (λ r. r < records) named.now }
+{
+    named.iter().all(|number| *number < records)
+}
+
+fn coordinates_fit<A: Allocator + Copy>(lists: &FlatLists<i64, A>) -> bool
+    ensures { result ≡ true → All CoordinatesFit lists.now }
+{
+    for list in 0..lists.len() {
+        if lists.get(list).len() > 16 || !are_small(lists.get(list)) {
+            return false;
+        }
+    }
+    true
+}
+
+fn are_small(coordinates: &[i64]) -> bool
+    ensures { result ≡ true → All (λ c. nat_abs c < 10 ^ 18) coordinates.now }
+{
+    coordinates
+        .iter()
+        .all(|c| c.unsigned_abs() < 1000000000000000000)
+}

@@ -1,0 +1,18 @@
+//! Programs: circuits kept with their blocks and no list of steps, and a walk over their steps in place.
+#![tactic(auto)]
+
+mod builder;
+pub mod by_hand;
+mod node;
+mod place;
+mod program;
+mod step;
+#[cfg(test)]
+mod tests;
+mod walk;
+
+pub use builder::CircuitBuilder;
+pub use node::Node;
+pub use program::{EntryPart, Parts, Program, Text};
+pub use step::{Counts, FaultName, Recording, Step, TextStep};
+pub use walk::Walk;

@@ -1,0 +1,10 @@
+use crate::step::TextStep;
+
+/// A piece of a circuit with its blocks, in the order of its text: a step, or an end of a block. Both ends say how
+/// many turns the block has, and how many nodes stand between them.
+#[derive(Clone, Copy, Debug, PartialEq, Eq)]
+pub enum Node {
+    Do(TextStep),
+    Open { turns: u64, length: usize },
+    Close { turns: u64, length: usize },
+}

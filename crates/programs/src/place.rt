@@ -1,0 +1,191 @@
+ghost use Rattle.std.specs.Prelude.{◌≡◌, ◌<◌, ◌+◌, ℕ, None, IfSome, slice_get};
+ghost use Rattle.programs.specs.Trees.{IsCircuit};
+ghost use Rattle.programs.specs.Steps.{IsAt, KeepsStep, IsNoOpen, IsNoClose, NextStep, PreviousStep, node_before};
+
+use crate::node::Node;
+use crate::step::TextStep;
+use arrayvec::ArrayVec;
+
+/// How deep blocks may stand inside one another.
+pub const LEVELS: usize = 32;
+
+/// A place between two nodes: the number of the nodes before it, and the turn of each block that is open there, the
+/// outermost first, counted from 0.
+#[derive(Drop)]
+pub struct Place {
+    pub index: usize,
+    pub turns: ArrayVec<u64, LEVELS>,
+}
+
+// The node after a place.
+#[inline(always)]
+fn node_at(nodes: &[Node], index: usize) -> Option<Node>
+    ensures { result ≡ slice_get nodes.now index }
+{
+    if index < nodes.len() {
+        Some(nodes[index])
+    } else {
+        None
+    }
+}
+
+// The turn after one of so many.
+fn turn_after(turn: u64, turns: u64) -> Option<u64>
+    requires { turn < turns }
+    ensures more { IfSome result (λ next. (next ≡ turn + 1) × (next < turns)) }
+    ensures last { result ≡ None → turn + 1 ≡ turns }
+{
+    if turn + 1 < turns {
+        Some(turn + 1)
+    } else {
+        None
+    }
+}
+
+// Goes over the ends of turns.
+fn leave_turns(nodes: &[Node], place: &mut Place)
+    requires circuit { IsCircuit nodes.now }
+    requires place { (k : ℕ) × IsAt nodes.now place.old k }
+    ensures kept { KeepsStep nodes.now place.old place.new }
+    ensures no_close { IsNoClose (slice_get nodes.now place.new.index) }
+{
+    while let Some(Node::Close { turns, length }) = node_at(nodes, place.index) {
+        let turn = place.turns.pop().unwrap();
+        match turn_after(turn, turns) {
+            Some(next) => {
+                place.turns.push(next);
+                place.index -= length;
+                return;
+            }
+            None => place.index += 1,
+        }
+    }
+}
+
+// Goes into the first turns of blocks.
+fn enter_turns(nodes: &[Node], place: &mut Place)
+    requires circuit { IsCircuit nodes.now }
+    requires place { (k : ℕ) × IsAt nodes.now place.old k }
+    requires no_close { IsNoClose (slice_get nodes.now place.old.index) }
+    ensures kept { KeepsStep nodes.now place.old place.new }
+    ensures no_close { IsNoClose (slice_get nodes.now place.new.index) }
+    ensures no_open { IsNoOpen (slice_get nodes.now place.new.index) }
+{
+    while let Some(Node::Open { .. }) = node_at(nodes, place.index) {
+        place.turns.push(0);
+        place.index += 1;
+    }
+}
+
+// The step after a place, and goes over it.
+#[inline(always)]
+pub fn next(nodes: &[Node], place: &mut Place) -> Option<TextStep>
+    requires circuit { IsCircuit nodes.now }
+    requires place { (k : ℕ) × IsAt nodes.now place.old k }
+    ensures { NextStep nodes.now place.old place.new result }
+{
+    match node_at(nodes, place.index) {
+        Some(Node::Do(step)) => {
+            place.index += 1;
+            Some(step)
+        }
+        _ => next_past_turns(nodes, place),
+    }
+}
+
+// The same over the ends and starts of turns, which stand at few places.
+#[inline(never)]
+fn next_past_turns(nodes: &[Node], place: &mut Place) -> Option<TextStep>
+    requires circuit { IsCircuit nodes.now }
+    requires place { (k : ℕ) × IsAt nodes.now place.old k }
+    ensures { NextStep nodes.now place.old place.new result }
+{
+    leave_turns(nodes, place);
+    enter_turns(nodes, place);
+    match node_at(nodes, place.index) {
+        Some(Node::Do(step)) => {
+            place.index += 1;
+            Some(step)
+        }
+        _ => None,
+    }
+}
+
+// Goes back over the starts of turns.
+fn leave_turns_back(nodes: &[Node], place: &mut Place)
+    requires circuit { IsCircuit nodes.now }
+    requires place { (k : ℕ) × IsAt nodes.now place.old k }
+    ensures kept { KeepsStep nodes.now place.old place.new }
+    ensures no_open { IsNoOpen (node_before nodes.now place.new.index) }
+{
+    while let Some(Node::Open { length, .. }) = node_before(nodes, place.index) {
+        let turn = place.turns.pop().unwrap();
+        if 0 < turn {
+            place.turns.push(turn - 1);
+            place.index += length;
+            return;
+        }
+        place.index -= 1;
+    }
+}
+
+// Goes back into the last turns of blocks.
+fn enter_turns_back(nodes: &[Node], place: &mut Place)
+    requires circuit { IsCircuit nodes.now }
+    requires place { (k : ℕ) × IsAt nodes.now place.old k }
+    requires no_open { IsNoOpen (node_before nodes.now place.old.index) }
+    ensures kept { KeepsStep nodes.now place.old place.new }
+    ensures no_open { IsNoOpen (node_before nodes.now place.new.index) }
+    ensures no_close { IsNoClose (node_before nodes.now place.new.index) }
+{
+    while let Some(Node::Close { turns, .. }) = node_before(nodes, place.index) {
+        place.turns.push(turns - 1);
+        place.index -= 1;
+    }
+}
+
+// The step before a place, and goes back over it.
+#[inline(always)]
+pub fn previous(nodes: &[Node], place: &mut Place) -> Option<TextStep>
+    requires circuit { IsCircuit nodes.now }
+    requires place { (k : ℕ) × IsAt nodes.now place.old k }
+    ensures { PreviousStep nodes.now place.old place.new result }
+{
+    match node_before(nodes, place.index) {
+        Some(Node::Do(step)) => {
+            place.index -= 1;
+            Some(step)
+        }
+        _ => previous_past_turns(nodes, place),
+    }
+}
+
+// The same over the starts and ends of turns.
+#[inline(never)]
+fn previous_past_turns(nodes: &[Node], place: &mut Place) -> Option<TextStep>
+    requires circuit { IsCircuit nodes.now }
+    requires place { (k : ℕ) × IsAt nodes.now place.old k }
+    ensures { PreviousStep nodes.now place.old place.new result }
+{
+    leave_turns_back(nodes, place);
+    enter_turns_back(nodes, place);
+    match node_before(nodes, place.index) {
+        Some(Node::Do(step)) => {
+            place.index -= 1;
+            Some(step)
+        }
+        _ => None,
+    }
+}
+
+// The node before a place.
+#[inline(always)]
+fn node_before(nodes: &[Node], index: usize) -> Option<Node>
+    ensures { result ≡ node_before nodes.now index }
+{
+    if 0 < index && index <= nodes.len() {
+        Some(nodes[index - 1])
+    } else {
+        None
+    }
+}

@@ -1,0 +1,183 @@
+ghost use Rattle.std.specs.Prelude.{◌≡◌, ◌<◌, [], length, slice_index_or};
+ghost use Rattle.step_model.specs.Listing.{none_kept, kept_at};
+ghost use Rattle.step_model.specs.WellFormed.{IsWellFormed};
+ghost use Rattle.programs.specs.Held.{HoldsText};
+ghost use Rattle.programs.specs.Made.{listing_of, PartsFit};
+
+use crate::node::Node;
+use crate::step::Counts;
+use flat_lists::FlatLists;
+use std::alloc::Allocator;
+use std::marker::Model;
+use step_model::Term;
+
+/// What is kept of a fault, once for each place of the text: the text of its probability, and floor of probability
+/// times 2^64.
+#[derive(Clone, Copy, Drop)]
+pub struct EntryPart<'a> {
+    pub text: &'a [u8],
+    pub bound: u128,
+}
+
+/// What a program is made of: its circuit with its blocks, how many steps that has once unrolled and what these make,
+/// and what is kept of its faults, a list of letters at qubits for each entry, and of the products that it measures.
+#[derive(Drop)]
+pub struct Parts<'a, A: Allocator + Copy> {
+    pub qubits: u32,
+    pub steps: usize,
+    pub counts: Counts,
+    pub nodes: Vec<Node, A>,
+    pub detectors: FlatLists<u32, A>,
+    pub observables: FlatLists<u32, A>,
+    pub coordinates: FlatLists<i64, A>,
+    pub entries: Vec<EntryPart<'a>, A>,
+    pub terms: FlatLists<Term, A>,
+    pub products: FlatLists<Term, A>,
+}
+
+/// A circuit with its blocks, how many steps it has once unrolled, and what they make.
+#[derive(Clone, Copy, Drop)]
+pub struct Text<'a> {
+    pub nodes: &'a [Node],
+    pub steps: usize,
+    pub counts: Counts,
+}
+
+/// A circuit with its blocks, seen as its unrolled steps.
+#[derive(Drop)]
+pub struct Program<'a, A: Allocator + Copy> {
+    parts: Parts<'a, A>,
+}
+
+impl<'a, A: Allocator + Copy> Model for Program<'a, A> {
+    ghost use Rattle.step_model.specs.Listing.{Listing};
+
+    ghost Value = { Listing };
+
+    ghost use Rattle.programs.specs.Made.{listing_of, PartsFit};
+
+    ghost view = { λ p. listing_of p.parts };
+
+    ghost invariant = { λ p. PartsFit p.parts };
+}
+
+impl<'a, A: Allocator + Copy> Program<'a, A> {
+    /// The program that these parts make.
+    pub fn new(parts: Parts<'a, A>) -> Self
+        requires { PartsFit parts }
+        ensures { result ≡ listing_of parts.entry }
+    {
+        Program { parts }
+    }
+
+    /// The circuit with its blocks.
+    pub(crate) fn text(&self) -> Text<'_>
+        ensures { HoldsText self.now result }
+    {
+        Text {
+            nodes: self.parts.nodes.as_slice(),
+            steps: self.parts.steps,
+            counts: self.parts.counts,
+        }
+    }
+
+    /// Does nothing: every program is well formed.
+    pub fn well_formed(&self)
+        ensures { IsWellFormed self.now }
+    {
+        // The proof looks inside.
+        let _parts = &self.parts;
+    }
+
+    pub fn qubits(&self) -> u32
+        ensures { result ≡ self.now.qubits }
+    {
+        self.parts.qubits
+    }
+
+    pub fn record_count(&self) -> u32
+        ensures { result ≡ self.now.records }
+    {
+        self.parts.counts.records
+    }
+
+    pub fn collapse_count(&self) -> u32
+        ensures { result ≡ self.now.collapses }
+    {
+        self.parts.counts.collapses
+    }
+
+    pub fn fault_count(&self) -> u32
+        ensures { result ≡ length self.now.faults }
+    {
+        self.parts.counts.faults
+    }
+
+    pub fn detector_count(&self) -> usize
+        ensures { result ≡ length self.now.detectors }
+    {
+        self.parts.detectors.len()
+    }
+
+    pub fn observable_count(&self) -> usize
+        ensures { result ≡ length self.now.observables }
+    {
+        self.parts.observables.len()
+    }
+
+    /// The records of a detector, each as often as it is listed.
+    pub fn detector(&self, d: usize) -> &[u32]
+        requires { d < length self.now.detectors }
+        ensures { result.now ≡ slice_index_or self.now.detectors d [] }
+    {
+        self.parts.detectors.get(d)
+    }
+
+    /// The records of an observable, each as often as it is listed.
+    pub fn observable(&self, k: usize) -> &[u32]
+        requires { k < length self.now.observables }
+        ensures { result.now ≡ slice_index_or self.now.observables k [] }
+    {
+        self.parts.observables.get(k)
+    }
+
+    /// The coordinates of a detector.
+    pub fn coordinates(&self, d: usize) -> &[i64]
+        requires { d < length self.now.detectors }
+        ensures { result.now ≡ slice_index_or self.now.coordinates d [] }
+    {
+        self.parts.coordinates.get(d)
+    }
+
+    /// The text of the probability that is kept at a number.
+    pub fn entry_text(&self, e: u32) -> &'a [u8]
+        requires { e < length self.now.kept }
+        ensures { result.now ≡ (kept_at self.now e).text }
+    {
+        self.parts.entries[e as usize].text
+    }
+
+    /// Floor of that probability times 2^64.
+    pub fn entry_bound(&self, e: u32) -> u128
+        requires { e < length self.now.kept }
+        ensures { result ≡ (kept_at self.now e).bound }
+    {
+        self.parts.entries[e as usize].bound
+    }
+
+    /// The letters at qubits that a fault of this entry applies: none where it flips a record.
+    pub fn entry_terms(&self, e: u32) -> &[Term]
+        requires { e < length self.now.kept }
+        ensures { result.now ≡ (kept_at self.now e).terms }
+    {
+        self.parts.terms.get(e as usize)
+    }
+
+    /// A product of letters at qubits that collapses measure.
+    pub fn product(&self, p: u32) -> &[Term]
+        requires { p < length self.now.products }
+        ensures { result.now ≡ slice_index_or self.now.products p [] }
+    {
+        self.parts.products.get(p as usize)
+    }
+}

@@ -1,0 +1,260 @@
+ghost use Rattle.std.specs.Prelude.{◌≡◌, ◌+◌, ◌<◌, ◌≤◌, ◌^◌};
+ghost use Rattle.programs.specs.Numbering.{record_number, is_inverted, named, flip_name, numbered_step, counts_after, counts_before, made_by, made_in_collapse, feeds_back};
+
+use gate_table::Gate;
+use pauli_word::Letter;
+
+/// What a collapse records: whether its outcome is inverted, and the kept fault that flips it.
+#[derive(Clone, Copy, Debug, PartialEq, Eq)]
+pub struct Recording {
+    pub inverted: bool,
+    pub flip: Option<u32>,
+}
+
+/// A step as a circuit's text has it, at each turn of its blocks the same: faults and products are named by what is
+/// kept of them, and a record by how many records back it is, the last being 1.
+#[derive(Clone, Copy, Debug, PartialEq, Eq)]
+pub enum TextStep {
+    One {
+        gate: Gate,
+        q: u32,
+    },
+    Two {
+        gate: Gate,
+        a: u32,
+        b: u32,
+    },
+    /// Measures a letter at a qubit, and resets the qubit or leaves it.
+    Collapse {
+        letter: Letter,
+        qubit: u32,
+        reset: bool,
+        recording: Option<Recording>,
+    },
+    /// Measures a kept product of letters at qubits.
+    CollapseWord {
+        product: u32,
+        recording: Option<Recording>,
+    },
+    Fault(u32),
+    /// Applies a letter where an earlier record is 1.
+    Feedback {
+        letter: Letter,
+        q: u32,
+        back: u32,
+    },
+}
+
+/// A fault's number, and the number of what is kept of it.
+#[derive(Clone, Copy, Debug, PartialEq, Eq)]
+pub struct FaultName {
+    pub number: u32,
+    pub entry: u32,
+}
+
+/// One step of a program. Qubits, records, faults and products are numbered from 0.
+#[derive(Clone, Copy, Debug, PartialEq, Eq)]
+pub enum Step {
+    One {
+        gate: Gate,
+        q: u32,
+    },
+    Two {
+        gate: Gate,
+        a: u32,
+        b: u32,
+    },
+    /// Measures a letter at a qubit, and resets the qubit or leaves it; `rec` is none where nothing is recorded.
+    Collapse {
+        letter: Letter,
+        qubit: u32,
+        rec: Option<u32>,
+        reset: bool,
+        inverted: bool,
+        flip: Option<FaultName>,
+    },
+    /// Measures the kept product of this number.
+    CollapseWord {
+        product: u32,
+        rec: Option<u32>,
+        inverted: bool,
+        flip: Option<FaultName>,
+    },
+    Fault(FaultName),
+    /// Applies a letter where an earlier record is 1.
+    Feedback {
+        letter: Letter,
+        q: u32,
+        rec: u32,
+    },
+}
+
+/// How many records, collapses and faults stand before a place.
+#[derive(Clone, Copy, Debug, PartialEq, Eq)]
+pub struct Counts {
+    pub records: u32,
+    pub collapses: u32,
+    pub faults: u32,
+}
+
+// The number of a collapse's record.
+#[inline(always)]
+fn record_number(counts: Counts, recording: Option<Recording>) -> Option<u32>
+    ensures { result ≡ record_number counts recording }
+{
+    match recording {
+        Some(_) => Some(counts.records),
+        None => None,
+    }
+}
+
+#[inline(always)]
+fn is_inverted(recording: Option<Recording>) -> bool
+    ensures { result ≡ is_inverted recording }
+{
+    match recording {
+        Some(recording) => recording.inverted,
+        None => false,
+    }
+}
+
+// The next fault, of an entry.
+#[inline(always)]
+fn fault_name(counts: Counts, entry: u32) -> FaultName
+    ensures { result ≡ named counts.faults entry }
+{
+    FaultName {
+        number: counts.faults,
+        entry,
+    }
+}
+
+// The fault that flips a collapse's record.
+#[inline(always)]
+fn flip_name(counts: Counts, recording: Option<Recording>) -> Option<FaultName>
+    ensures { result ≡ flip_name counts recording }
+{
+    match recording {
+        Some(
+            Recording {
+                flip: Some(entry),
+                ..
+            },
+        ) => Some(fault_name(counts, entry)),
+        _ => None,
+    }
+}
+
+/// A step of the text with the numbers that it has at a place.
+#[inline(always)]
+pub fn number(counts: Counts, step: TextStep) -> Step
+    requires { feeds_back counts step }
+    ensures { result ≡ numbered_step counts step }
+{
+    match step {
+        TextStep::One { gate, q } => Step::One { gate, q },
+        TextStep::Two { gate, a, b } => Step::Two { gate, a, b },
+        TextStep::Collapse {
+            letter,
+            qubit,
+            reset,
+            recording,
+        } => Step::Collapse {
+            letter,
+            qubit,
+            rec: record_number(counts, recording),
+            reset,
+            inverted: is_inverted(recording),
+            flip: flip_name(counts, recording),
+        },
+        TextStep::CollapseWord { product, recording } => Step::CollapseWord {
+            product,
+            rec: record_number(counts, recording),
+            inverted: is_inverted(recording),
+            flip: flip_name(counts, recording),
+        },
+        TextStep::Fault(entry) => Step::Fault(fault_name(counts, entry)),
+        TextStep::Feedback { letter, q, back } => Step::Feedback {
+            letter,
+            q,
+            rec: counts.records - back,
+        },
+    }
+}
+
+// How many records, collapses and faults a collapse makes.
+#[inline(always)]
+fn made_in_collapse(recording: Option<Recording>) -> Counts
+    ensures { result ≡ made_in_collapse recording }
+{
+    match recording {
+        None => Counts {
+            records: 0,
+            collapses: 1,
+            faults: 0,
+        },
+        Some(Recording { flip: None, .. }) => Counts {
+            records: 1,
+            collapses: 1,
+            faults: 0,
+        },
+        Some(Recording { flip: Some(_), .. }) => Counts {
+            records: 1,
+            collapses: 1,
+            faults: 1,
+        },
+    }
+}
+
+// How many a step makes.
+#[inline(always)]
+fn made(step: TextStep) -> Counts
+    ensures { result ≡ made_by step }
+{
+    match step {
+        TextStep::Collapse { recording, .. } => made_in_collapse(recording),
+        TextStep::CollapseWord { recording, .. } => made_in_collapse(recording),
+        TextStep::Fault(_) => Counts {
+            records: 0,
+            collapses: 0,
+            faults: 1,
+        },
+        _ => Counts {
+            records: 0,
+            collapses: 0,
+            faults: 0,
+        },
+    }
+}
+
+/// The counts behind a step.
+#[inline(always)]
+pub fn after(counts: Counts, step: TextStep) -> Counts
+    requires records { counts.records + 1 < 2 ^ 32 }
+    requires collapses { counts.collapses + 1 < 2 ^ 32 }
+    requires faults { counts.faults + 1 < 2 ^ 32 }
+    ensures { result ≡ counts_after counts step }
+{
+    let more = made(step);
+    Counts {
+        records: counts.records + more.records,
+        collapses: counts.collapses + more.collapses,
+        faults: counts.faults + more.faults,
+    }
+}
+
+/// The counts before a step.
+#[inline(always)]
+pub fn before(counts: Counts, step: TextStep) -> Counts
+    requires records { (made_by step).records ≤ counts.records }
+    requires collapses { (made_by step).collapses ≤ counts.collapses }
+    requires faults { (made_by step).faults ≤ counts.faults }
+    ensures { result ≡ counts_before counts step }
+{
+    let fewer = made(step);
+    Counts {
+        records: counts.records - fewer.records,
+        collapses: counts.collapses - fewer.collapses,
+        faults: counts.faults - fewer.faults,
+    }
+}

@@ -1,0 +1,108 @@
+ghost use Rattle.std.specs.Prelude.{◌≡◌, ◌+◌, ◌-◌, ◌==◌, if◌then◌else◌, nat_lt, length, None, IfSome, option_map, slice_get};
+ghost use Rattle.programs.specs.Listed.{listed};
+ghost use Rattle.programs.specs.Named.{IsStepOf};
+
+use crate::place::{Place, next, previous};
+use crate::program::{Program, Text};
+use crate::step::{Counts, Step, after, before, number};
+use arrayvec::ArrayVec;
+use std::alloc::Allocator;
+use std::marker::Model;
+
+/// A walk over the steps of a program, block by block, in place.
+#[derive(Drop)]
+pub struct Walk<'a, 'p, A: Allocator + Copy> {
+    program: &'a Program<'p, A>,
+    text: Text<'a>,
+    place: Place,
+    counts: Counts,
+    steps: usize,
+}
+
+impl<'a, 'p, A: Allocator + Copy> Model for Walk<'a, 'p, A> {
+    ghost use Rattle.programs.specs.Walks.{Walked};
+
+    ghost Value = { Walked };
+
+    ghost use Rattle.programs.specs.WalkStates.{IsWalkOf};
+
+    ghost view = { λ w. record { program = w.program.now; place = w.steps } };
+
+    ghost invariant = { λ w. IsWalkOf w.program.now w.text w.place w.counts w.steps };
+}
+
+impl<'a, 'p, A: Allocator + Copy> Walk<'a, 'p, A> {
+    /// Before the first step.
+    pub fn start(program: &'a Program<'p, A>) -> Self
+        ensures program { result.program ≡ program.now }
+        ensures place { result.place ≡ 0 }
+    {
+        Walk {
+            program,
+            text: program.text(),
+            place: Place {
+                index: 0,
+                turns: ArrayVec::new(),
+            },
+            counts: Counts {
+                records: 0,
+                collapses: 0,
+                faults: 0,
+            },
+            steps: 0,
+        }
+    }
+
+    /// Behind the last step.
+    pub fn end(program: &'a Program<'p, A>) -> Self
+        ensures program { result.program ≡ program.now }
+        ensures place { result.place ≡ length program.now.steps }
+    {
+        let text = program.text();
+        Walk {
+            program,
+            text,
+            place: Place {
+                index: text.nodes.len(),
+                turns: ArrayVec::new(),
+            },
+            counts: text.counts,
+            steps: text.steps,
+        }
+    }
+
+    /// The step after this place, over which it goes; none at the end, where nothing changes.
+    #[inline(always)]
+    pub fn next_step(&mut self) -> Option<Step>
+        ensures step { option_map (listed self.old.program.qubits self.old.program.products) result ≡ slice_get self.old.program.steps self.old.place }
+        ensures named { IfSome result (IsStepOf self.old.program) }
+        ensures program { self.new.program ≡ self.old.program }
+        ensures place { self.new.place ≡ (if nat_lt self.old.place (length self.old.program.steps) then self.old.place + 1 else self.old.place) }
+    {
+        let step = match next(self.text.nodes, &mut self.place) {
+            Some(step) => step,
+            None => return None,
+        };
+        let numbered = number(self.counts, step);
+        self.counts = after(self.counts, step);
+        self.steps += 1;
+        Some(numbered)
+    }
+
+    /// The step before this place, over which it goes back; none at the start, where nothing changes.
+    #[inline(always)]
+    pub fn previous_step(&mut self) -> Option<Step>
+        ensures step { option_map (listed self.old.program.qubits self.old.program.products) result ≡ (if self.old.place == 0 then None else slice_get self.old.program.steps (self.old.place - 1)) }
+        ensures named { IfSome result (IsStepOf self.old.program) }
+        ensures program { self.new.program ≡ self.old.program }
+        ensures place { self.new.place ≡ self.old.place - 1 }
+    {
+        let step = match previous(self.text.nodes, &mut self.place) {
+            Some(step) => step,
+            None => return None,
+        };
+        self.counts = before(self.counts, step);
+        self.steps -= 1;
+        Some(number(self.counts, step))
+    }
+}
