@@ -1,0 +1,106 @@
+-- How many records a run has made, and the loop over the steps of a run.
+use Rattle.std.proofs.Common.{◌≡◌, ℕ, zero, suc, inl, inr, ◌+◌, ◌<◌, ◌≤◌, Bool, true, false, List, [], ◌∷◌, ◌++◌, length, get_or, drop, refl, sym, ap, ap₂, ◌∙◌, arith, append-nil, append_assoc, length-append}
+use Rattle.std.specs.Prelude.{Option, Some, None, is_some, slice_get, nat_lt, if◌then◌else◌}
+use Rattle.std.specs.List.{list_all}
+use Rattle.std.proofs.lemmas.Bool.{and_parts, lt-ltb}
+use Rattle.std.proofs.lemmas.List.{drop_more, drop_all}
+use Rattle.std.proofs.lemmas.List.FromFn.{length-range_with_len}
+use Rattle.std.proofs.lemmas.Option.{slice_get_cases, slice_get_within, get_or_from_slice_get}
+use Rattle.step_model.specs.Listing.{Listing, ListedStep, One, Two, Collapse, Fault, Feedback, Measured, Recorded}
+use Rattle.step_model.specs.Runs.{RunState, start, next, run_from, records_of}
+use Rattle.step_model.specs.WellFormed.{IsWellFormed, step_records, records_made, step_fits}
+use Rattle.step_model.proofs.StateIsGroup.{list_all-pass}
+use Rattle.forward_sim.specs.SameRuns.{IsSameRun}
+use Rattle.forward_sim.proofs.SameStates.{same-run_from}
+
+length-next : (program : Listing) (faults : List Bool) (step : ListedStep) (m : RunState) → length (next program faults step m).records ≡ length m.records + length (step_records step)
+length-next program faults (One g q) m = omega arith
+length-next program faults (Two g a b) m = omega arith
+length-next program faults (Collapse c None) m = omega arith
+length-next program faults (Collapse c (Some r)) m = length-append m.records _
+length-next program faults (Fault f) m = omega arith
+length-next program faults (Feedback w r) m = omega arith
+
+pub length-run_from : (program : Listing) (faults : List Bool) (steps : List ListedStep) (m : RunState) → length (run_from program faults steps m).records ≡ length m.records + length (records_made steps)
+length-run_from program faults [] m = omega arith
+length-run_from program faults (step ∷ steps) m =
+    omega (arith, length-run_from program faults steps (next program faults step m), length-next program faults step m, length-append (step_records step) (records_made steps))
+
+-- a run makes as many records as its program has
+pub length-records_of : (program : Listing) (faults coins : List Bool) → IsWellFormed program → length (records_of program faults coins) ≡ program.records
+length-records_of program faults coins well_formed =
+    let made : length (records_made program.steps) ≡ program.records =
+    ap length well_formed.records_in_order ∙ length-range_with_len 0 program.records in
+    omega (arith, made, length-run_from program faults program.steps (start coins))
+
+-- between two steps: the steps that are left, run from here, make the records of the whole run
+abbrev pub MakesRest : Listing → List Bool → List Bool → ℕ → RunState → Type 0
+MakesRest program faults coins place m =
+    (run_from program faults (drop place program.steps) m).records ≡ records_of program faults coins
+
+-- the step at a place stands first in what is left
+left : (program : Listing) (place : ℕ) (step : ListedStep) → Some step ≡ slice_get program.steps place → drop place program.steps ≡ step ∷ drop (place + 1) program.steps
+left program place step at =
+    drop_more program.steps place step (slice_get_within program.steps place step (sym at))
+    ∙ ap (λ s. s ∷ drop (place + 1) program.steps) (get_or_from_slice_get program.steps place step step (sym at))
+
+all_fit : (program : Listing) → IsWellFormed program → list_all (step_fits program) program.steps ≡ true
+all_fit program well_formed = list_all-pass (step_fits program) program.steps well_formed.steps_fit
+
+list_all-drop : {X : Type 0} (test : X → Bool) (k : ℕ) (xs : List X) → list_all test xs ≡ true → list_all test (drop k xs) ≡ true
+list_all-drop test zero xs h = h
+list_all-drop test (suc k) [] h = h
+list_all-drop test (suc k) (x ∷ xs) h = list_all-drop test k xs (and_parts (test x) (list_all test xs) h).1
+
+-- a run from the start's states makes them all
+pub rest_at_start : (program : Listing) (faults coins : List Bool) (m : RunState) → IsWellFormed program → IsSameRun program.qubits m (start coins) → MakesRest program faults coins 0 m
+rest_at_start program faults coins m well_formed same =
+    same-run_from program faults program.steps m (start coins) (all_fit program well_formed) same
+
+-- the step at a place fits, and there is room for its record
+pub record StepIsNext (program : Listing) (place : ℕ) (step : ListedStep) (m : RunState) : Type 0 where
+  pub below : place < length program.steps
+  pub fits : step_fits program step ≡ true
+  pub rest_fit : list_all (step_fits program) (drop (place + 1) program.steps) ≡ true
+  pub room : length m.records + length (step_records step) ≤ program.records
+
+pub step_is_next : (program : Listing) (faults coins : List Bool) (place : ℕ) (step : ListedStep) (m : RunState) → IsWellFormed program → Some step ≡ slice_get program.steps place → MakesRest program faults coins place m → StepIsNext program place step m
+step_is_next program faults coins place step m well_formed at rest =
+    let after = drop (place + 1) program.steps in
+    let made : length (records_made (drop place program.steps)) ≡ length (step_records step) + length (records_made after) =
+    ap (λ steps. length (records_made steps)) (left program place step at)
+    ∙ length-append (step_records step) (records_made after) in
+    let whole : length (run_from program faults (drop place program.steps) m).records ≡ program.records =
+    ap length rest ∙ length-records_of program faults coins well_formed in
+    let all : list_all (step_fits program) (step ∷ after) ≡ true =
+    ap (list_all (step_fits program)) (sym (left program place step at))
+    ∙ list_all-drop (step_fits program) place program.steps (all_fit program well_formed) in
+    let parts = and_parts (step_fits program step) (list_all (step_fits program) after) all in
+    record {
+      below = slice_get_within program.steps place step (sym at);
+      fits = parts.0;
+      rest_fit = parts.1;
+      room = omega (arith, made, whole, length-run_from program faults (drop place program.steps) m);
+    }
+
+-- a run that has taken the step at a place is one between the next two
+pub rest_after_step : (program : Listing) (faults coins : List Bool) (place : ℕ) (step : ListedStep) (m after : RunState) → IsWellFormed program → Some step ≡ slice_get program.steps place → MakesRest program faults coins place m → IsSameRun program.qubits after (next program faults step m) → MakesRest program faults coins (place + 1) after
+rest_after_step program faults coins place step m after well_formed at rest same =
+    same-run_from program faults (drop (place + 1) program.steps) after (next program faults step m) (step_is_next program faults coins place step m well_formed at rest).rest_fit same
+    ∙ ap (λ steps. (run_from program faults steps m).records) (sym (left program place step at))
+    ∙ rest
+
+past : {X : Type 0} (xs : List X) (i : ℕ) → None ≡ slice_get xs i → drop i xs ≡ []
+past xs i none = elim (slice_get_cases xs i).1 [
+  | inl within ↦ cc
+  | inr over ↦ drop_all i xs over.0
+]
+
+-- behind the last step the records are all
+pub records_at_end : (program : Listing) (faults coins : List Bool) (place : ℕ) (m : RunState) → None ≡ slice_get program.steps place → MakesRest program faults coins place m → m.records ≡ records_of program faults coins
+records_at_end program faults coins place m none rest =
+    ap (λ steps. (run_from program faults steps m).records) (sym (past program.steps place none)) ∙ rest
+
+-- a walk that has gone over a step is behind it
+pub place_after : (place steps new : ℕ) → place < steps → new ≡ (if nat_lt place steps then place + 1 else place) → new ≡ place + 1
+place_after place steps new below moved = moved ∙ ap (λ b. if b then place + 1 else place) (lt-ltb place steps below)

@@ -1,0 +1,17 @@
+use Rattle.std.proofs.Common.{◌≡◌, true}
+use Rattle.pauli_word.specs.States.{applied}
+use Rattle.step_model.specs.Listing.{word_of_terms}
+use Rattle.forward_sim.specs.Machines.{qubit_count, run_of}
+use Rattle.forward_sim.proofs.TermWords.{AppliesRest}
+use Rattle.forward_sim.proofs.machine.Machine.apply_terms.Given as goal
+
+-- the letters that are left lead from here to where all lead
+abbrev pub invariant-loop-term : goal.invariant-loop-term
+invariant-loop-term g l =
+    record {
+      qubits : qubit_count l.self ≡ qubit_count l.fn.self;
+      rest : AppliesRest (qubit_count l.fn.self) l.terms l.term-index (run_of l.self).state (applied true (word_of_terms (qubit_count l.fn.self) l.terms) (run_of l.fn.self).state);
+      coins : l.self.coins ≡ l.fn.self.coins;
+      records : l.self.records ≡ l.fn.self.records;
+      room : l.self.room ≡ l.fn.self.room;
+    }

@@ -1,0 +1,25 @@
+-- What a run holds between two steps, and what a part of a step makes of it.
+use Rattle.std.specs.Prelude.{◌≡◌, ℕ, Bool, List}
+use Rattle.step_model.specs.Runs.{RunState}
+use Rattle.tableau.specs.Rows.{Rows, row_count, state_of}
+use Rattle.forward_sim.specs.SameRuns.{IsSameRun}
+
+-- the rows of the tableau, the coins of the collapses to come, the records so far, and for how many there is room
+pub record Running : Type 0 where
+  pub rows : Rows
+  pub coins : List Bool
+  pub records : List Bool
+  pub room : ℕ
+
+abbrev pub qubit_count : Running → ℕ
+qubit_count r = row_count r.rows
+
+-- where the run stands
+abbrev pub run_of : Running → RunState
+run_of r = record { state = state_of r.rows; coins = r.coins; records = r.records }
+
+-- from `old` it has come to a run that can't be told from m
+pub record ComesTo (old new : Running) (m : RunState) : Type 0 where
+  pub qubits : qubit_count new ≡ qubit_count old
+  pub room : new.room ≡ old.room
+  pub run : IsSameRun (qubit_count old) (run_of new) m

@@ -1,0 +1,81 @@
+ghost use Rattle.std.specs.Prelude.{◌≡◌, ◌+◌, ◌<◌, [], length, IfOk, IfErr};
+ghost use Rattle.std.specs.List.{All};
+ghost use Rattle.pauli_word.specs.Parity.{exclusive_or};
+ghost use Rattle.step_model.specs.Faults.{memory_fault};
+ghost use Rattle.step_model.specs.Targets.{difference, parity, target_at};
+
+use crate::records::Records;
+use programs::Program;
+use std::alloc::{AllocError, Allocator};
+use step_model::Fault;
+
+/// Of each detector and then of each observable, whether its parity in a run differs from that in a reference run.
+pub fn detections<A: Allocator + Copy>(
+    alloc: A,
+    program: &Program<'_, A>,
+    records: &Records<A>,
+    reference: &Records<A>,
+) -> Result<Vec<bool, A>, Fault>
+    requires records_fit { length records.now ≡ program.now.records }
+    requires reference_fit { length reference.now ≡ program.now.records }
+    ensures ok { IfOk result (λ answers. answers.items ≡ difference program.now records.now reference.now) }
+    ensures err { IfErr result (λ fault. fault ≡ memory_fault) }
+{
+    differences(alloc, program, records, reference).map_err(|_| Fault::MEMORY)
+}
+
+// The answers, one after another in memory taken before the first.
+fn differences<A: Allocator + Copy>(
+    alloc: A,
+    program: &Program<'_, A>,
+    records: &Records<A>,
+    reference: &Records<A>,
+) -> Result<Vec<bool, A>, AllocError>
+    requires records_fit { length records.now ≡ program.now.records }
+    requires reference_fit { length reference.now ≡ program.now.records }
+    ensures { IfOk result (λ answers. answers.items ≡ difference program.now records.now reference.now) }
+{
+    let targets = target_count(program);
+    let mut answers = Vec::with_capacity(alloc, targets)?;
+    for number in 0..targets {
+        let named = target(program, number);
+        answers.push_reserved(differs(named, records, reference));
+    }
+    Ok(answers)
+}
+
+// How many detectors and observables there are.
+fn target_count<A: Allocator + Copy>(program: &Program<'_, A>) -> usize
+    ensures { result ≡ length program.now.detectors + length program.now.observables }
+{
+    program.well_formed();
+    program.detector_count() + program.observable_count()
+}
+
+// The records that a detector or an observable names: detectors come first.
+fn target<'b, A: Allocator + Copy>(program: &'b Program<'_, A>, number: usize) -> &'b [u32]
+    requires { number < length program.now.detectors + length program.now.observables }
+    ensures value { result.now ≡ target_at program.now number }
+    ensures within { All (λ r. r < program.now.records) result.now }
+{
+    program.well_formed();
+    let detectors = program.detector_count();
+    if number < detectors {
+        program.detector(number)
+    } else {
+        program.observable(number - detectors)
+    }
+}
+
+// Whether the parities of the records named differ.
+fn differs<A: Allocator + Copy>(named: &[u32], records: &Records<A>, reference: &Records<A>) -> bool
+    requires records_fit { All (λ r. r < length records.now) named.now }
+    requires reference_fit { All (λ r. r < length reference.now) named.now }
+    ensures { result ≡ exclusive_or (parity named.now records.now) (parity named.now reference.now) }
+{
+    let mut differ = false;
+    for index in named {
+        differ ^= records.get(*index as usize) ^ reference.get(*index as usize);
+    }
+    differ
+}

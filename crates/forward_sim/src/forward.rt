@@ -1,0 +1,47 @@
+ghost use Rattle.std.specs.Prelude.{◌≡◌, length, IfOk, IfErr};
+ghost use Rattle.step_model.specs.Faults.{memory_fault};
+ghost use Rattle.step_model.specs.Runs.{records_of};
+
+use crate::machine::Machine;
+use crate::records::Records;
+use crate::steps::take_step;
+use programs::{Program, Walk};
+use std::alloc::{AllocError, Allocator};
+use step_model::Fault;
+
+/// The records of a run in which these faults happen and the collapses take these coins: a truth value a fault and one
+/// a collapse. A fault or a coin that isn't there is false.
+///
+/// All memory is taken before the first step.
+pub fn run<A: Allocator + Copy>(
+    alloc: A,
+    program: &Program<'_, A>,
+    faults: &[bool],
+    coins: &[bool],
+) -> Result<Records<A>, Fault>
+    ensures ok { IfOk result (λ records. records ≡ records_of program.now faults.now coins.now) }
+    ensures count { IfOk result (λ records. length records ≡ program.now.records) }
+    ensures err { IfErr result (λ fault. fault ≡ memory_fault) }
+{
+    take_steps(alloc, program, faults, coins).map_err(|_| Fault::MEMORY)
+}
+
+// Takes all steps of the program.
+fn take_steps<A: Allocator + Copy>(
+    alloc: A,
+    program: &Program<'_, A>,
+    faults: &[bool],
+    coins: &[bool],
+) -> Result<Records<A>, AllocError>
+    ensures ok { IfOk result (λ records. records ≡ records_of program.now faults.now coins.now) }
+    ensures count { IfOk result (λ records. length records ≡ program.now.records) }
+{
+    program.well_formed();
+    let qubits = program.qubits() as usize;
+    let mut machine = Machine::start(alloc, qubits, program.record_count() as usize, coins)?;
+    let mut walk = Walk::start(program);
+    while let Some(step) = walk.next_step() {
+        take_step(&mut machine, program, faults, step);
+    }
+    Ok(machine.into_records())
+}

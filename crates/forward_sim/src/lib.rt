@@ -1,0 +1,18 @@
+//! Runs of a program forward: the records that it makes under given faults and coins, and the detections in them.
+//! Beside these the coins and the numbers that a user gives for a run.
+#![tactic(auto)]
+
+mod difference;
+mod forward;
+mod letters;
+mod lists;
+mod machine;
+mod products;
+mod records;
+mod steps;
+mod values;
+
+pub use difference::detections;
+pub use forward::run;
+pub use lists::{read_coins, read_numbers};
+pub use records::Records;

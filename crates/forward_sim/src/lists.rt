@@ -1,0 +1,109 @@
+//! What a user gives beside a circuit: a text of coins, and a list of numbers.
+ghost use Rattle.std.specs.Prelude.{◌≡◌, ◌⊎◌, false, None, Some, IfOk, IfErr, MatchBool, length, map, replicate};
+ghost use Rattle.std.specs.List.{list_all};
+ghost use Rattle.step_model.specs.declared.fault.Cause.TheVariants.{CoinCount, FaultNumber};
+ghost use Rattle.step_model.specs.Faults.{memory_fault, without_line};
+ghost use Rattle.forward_sim.specs.Lists.{coins_of, is_one, is_zero_or_one, number_below, numbers_of};
+
+use programs::Program;
+use std::alloc::{AllocError, Allocator};
+use step_model::{Cause, Fault};
+
+const COIN_COUNT: Fault = Fault {
+    cause: Cause::CoinCount,
+    line: 0,
+};
+
+const FAULT_NUMBER: Fault = Fault {
+    cause: Cause::FaultNumber,
+    line: 0,
+};
+
+/// The coins that a text gives a run of the program.
+pub fn read_coins<A: Allocator + Copy>(
+    alloc: A,
+    program: &Program<'_, A>,
+    text: &[u8],
+) -> Result<Vec<bool, A>, Fault>
+    ensures ok { IfOk result (λ v. coins_of program.now.collapses text.now ≡ Some v.items) }
+    ensures err { IfErr result (λ e. (e ≡ memory_fault)
+        ⊎ ((e ≡ without_line CoinCount) × (coins_of program.now.collapses text.now ≡ None))) }
+{
+    let collapses = program.collapse_count() as usize;
+    if text.len() != collapses || !are_zeros_and_ones(text) {
+        return Err(COIN_COUNT);
+    }
+    ones(alloc, text).map_err(|_| Fault::MEMORY)
+}
+
+fn are_zeros_and_ones(text: &[u8]) -> bool
+    ensures { result ≡ list_all is_zero_or_one text.now }
+{
+    text.iter().all(|b| *b == b'0' || *b == b'1')
+}
+
+/// For each byte, whether it is a digit 1.
+fn ones<A: Allocator + Copy>(alloc: A, text: &[u8]) -> Result<Vec<bool, A>, AllocError>
+    ensures { IfOk result (λ v. v.items ≡ map is_one text.now) }
+{
+    text.iter().map(|b| *b == b'1').collect(alloc)
+}
+
+/// The number that a piece of a list writes, where it is one and below a count. It is kept at the count once it
+/// reaches that, however many digits follow.
+fn number_below(count: usize, piece: &[u8]) -> Option<usize>
+    ensures { result ≡ number_below count piece.now }
+{
+    let mut n = 0usize;
+    for digit in piece {
+        if !digit.is_ascii_digit() {
+            return None;
+        }
+        n = n
+            .saturating_mul(10)
+            .saturating_add((*digit - b'0') as usize)
+            .min(count);
+    }
+    (!piece.is_empty() && n < count).then_some(n)
+}
+
+/// Marks each number that a text lists, where none has its mark yet. Answers whether it is a list of numbers that
+/// have a mark, none twice; the marks are of no use if not.
+fn mark_numbers(marks: &mut [bool], text: &[u8]) -> bool
+    requires { marks.old ≡ replicate (length marks.old) false }
+    ensures { MatchBool result (numbers_of (length marks.old) text.now ≡ Some marks.new)
+        (numbers_of (length marks.old) text.now ≡ None) }
+{
+    if text.is_empty() {
+        return true;
+    }
+    for piece in text.split(|b| *b == b',') {
+        let Some(n) = number_below(marks.len(), piece) else {
+            return false;
+        };
+        if marks[n] {
+            return false;
+        }
+        marks[n] = true;
+    }
+    true
+}
+
+/// For each number below a count, whether a list names it.
+pub fn read_numbers<A: Allocator + Copy>(
+    alloc: A,
+    count: usize,
+    text: &[u8],
+) -> Result<Vec<bool, A>, Fault>
+    ensures ok { IfOk result (λ v. numbers_of count text.now ≡ Some v.items) }
+    ensures err { IfErr result (λ e. (e ≡ memory_fault)
+        ⊎ ((e ≡ without_line FaultNumber) × (numbers_of count text.now ≡ None))) }
+{
+    let Ok(mut marks) = vec![in alloc; false; count] else {
+        return Err(Fault::MEMORY);
+    };
+    if !mark_numbers(&mut marks, text) {
+        return Err(FAULT_NUMBER);
+    }
+    Ok(marks)
+}

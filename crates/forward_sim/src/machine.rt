@@ -1,0 +1,144 @@
+ghost use Rattle.std.specs.Prelude.{◌≡◌, ◌≢◌, ◌+◌, ◌<◌, ◌≤◌, ◌++◌, ◌∷◌, [], true, false, length, drop, IfOk, is_some, if◌then◌else◌, slice_index_or};
+ghost use Rattle.gate_table.specs.Images.{arity_of};
+ghost use Rattle.gate_table.specs.WordImages.{preimage_at, preimage_at_two};
+ghost use Rattle.pauli_word.specs.States.{applied};
+ghost use Rattle.pauli_word.specs.Words.{lone_letter};
+ghost use Rattle.step_model.specs.Listing.{word_of_terms};
+ghost use Rattle.step_model.specs.Runs.{start, next_coin};
+ghost use Rattle.step_model.specs.WellFormed.{TermsFit};
+ghost use Rattle.forward_sim.specs.Machines.{ComesTo, qubit_count, run_of};
+ghost use Rattle.forward_sim.specs.SameRuns.{IsSameRun};
+
+use crate::records::Records;
+use crate::values::value_at;
+use gate_table::Gate;
+use pauli_word::{Letter, Word};
+use std::alloc::{AllocError, Allocator};
+use std::marker::Model;
+use step_model::Term;
+use tableau::Tableau;
+
+/// What a run holds between two steps. All of its memory is taken before the first.
+#[derive(Drop)]
+pub(crate) struct Machine<'c, A: Allocator + Copy> {
+    pub(crate) tableau: Tableau<A>,
+    // for a product that is measured
+    pub(crate) word: Word<A>,
+    // those of the collapses to come
+    coins: &'c [bool],
+    records: Vec<bool, A>,
+}
+
+impl<'c, A: Allocator + Copy> Model for Machine<'c, A> {
+    ghost use Rattle.std.specs.Prelude.{◌≡◌, length, vec_capacity};
+    ghost use Rattle.tableau.specs.Rows.{row_count};
+    ghost use Rattle.forward_sim.specs.Machines.{Running};
+
+    ghost Value = { Running };
+
+    ghost view = { λ m. record { rows = m.tableau; coins = m.coins.now; records = m.records.items; room = vec_capacity m.records } };
+
+    ghost invariant = { λ m. length m.word.letters ≡ row_count m.tableau };
+}
+
+impl<'c, A: Allocator + Copy> Machine<'c, A> {
+    /// All qubits 0, no records, and room for `records`.
+    pub(crate) fn start(
+        alloc: A,
+        qubits: usize,
+        records: usize,
+        coins: &'c [bool],
+    ) -> Result<Self, AllocError>
+        ensures qubits { IfOk result (λ m. qubit_count m ≡ qubits) }
+        ensures room { IfOk result (λ m. m.room ≡ records) }
+        ensures run { IfOk result (λ m. IsSameRun qubits (run_of m) (start coins.now)) }
+    {
+        Ok(Machine {
+            tableau: Tableau::start(alloc, qubits)?,
+            word: Word::identity(alloc, qubits)?,
+            coins,
+            records: Vec::with_capacity(alloc, records)?,
+        })
+    }
+
+    /// The records made.
+    pub(crate) fn into_records(self) -> Records<A>
+        ensures { result ≡ self.entry.records }
+    {
+        Records::new(self.records)
+    }
+
+    /// Takes the coin of the next collapse: one that isn't there is 0.
+    pub(crate) fn take_coin(&mut self) -> bool
+        ensures coin { result ≡ next_coin self.old.coins }
+        ensures taken { self.new ≡ record self.old { coins = drop 1 self.old.coins } }
+    {
+        if self.coins.is_empty() {
+            return false;
+        }
+        let coin = self.coins[0];
+        self.coins = &self.coins[1..];
+        coin
+    }
+
+    /// Records a value, where there is a number for it.
+    pub(crate) fn keep(&mut self, number: Option<u32>, value: bool)
+        requires { length self.old.records + (if is_some number then 1 else 0) ≤ self.old.room }
+        ensures { self.new ≡ record self.old { records = if is_some number then self.old.records ++ value ∷ [] else self.old.records } }
+    {
+        if number.is_some() {
+            self.records.push_reserved(value);
+        }
+    }
+
+    /// The record of a number.
+    pub(crate) fn record(&self, number: u32) -> bool
+        ensures { result ≡ slice_index_or self.now.records number false }
+    {
+        value_at(self.records.as_slice(), number)
+    }
+
+    /// Applies a gate to a qubit.
+    pub(crate) fn apply_one(&mut self, gate: Gate, qubit: u32)
+        requires arity { arity_of gate ≡ 1 }
+        requires inside { qubit < qubit_count self.old }
+        ensures { ComesTo self.old self.new (record (run_of self.old) { state = λ p. (run_of self.old).state (preimage_at gate qubit p) }) }
+    {
+        self.tableau.apply(gate, qubit as usize, 0);
+    }
+
+    /// Applies a gate to two qubits.
+    pub(crate) fn apply_two(&mut self, gate: Gate, a: u32, b: u32)
+        requires arity { arity_of gate ≡ 2 }
+        requires first_inside { a < qubit_count self.old }
+        requires second_inside { b < qubit_count self.old }
+        requires differ { a ≢ b }
+        ensures { ComesTo self.old self.new (record (run_of self.old) { state = λ p. (run_of self.old).state (preimage_at_two gate a b p) }) }
+    {
+        self.tableau.apply(gate, a as usize, b as usize);
+    }
+
+    /// Applies a letter at a qubit, as the gate of that name.
+    pub(crate) fn apply_letter(&mut self, letter: Letter, qubit: u32)
+        requires { qubit < qubit_count self.old }
+        ensures { ComesTo self.old self.new (record (run_of self.old) { state = applied true (lone_letter (qubit_count self.old) qubit letter) (run_of self.old).state }) }
+    {
+        let gate = match letter {
+            Letter::I => Gate::I,
+            Letter::X => Gate::X,
+            Letter::Y => Gate::Y,
+            Letter::Z => Gate::Z,
+        };
+        self.apply_one(gate, qubit);
+    }
+
+    /// Applies a product of letters at qubits.
+    pub(crate) fn apply_terms(&mut self, terms: &[Term])
+        requires { TermsFit (qubit_count self.old) terms.now }
+        ensures { ComesTo self.old self.new (record (run_of self.old) { state = applied true (word_of_terms (qubit_count self.old) terms.now) (run_of self.old).state }) }
+    {
+        for term in terms {
+            self.apply_letter(term.letter, term.qubit);
+        }
+    }
+}

@@ -1,0 +1,9 @@
+ghost use Rattle.std.specs.Prelude.{◌≡◌, false, slice_index_or};
+
+/// The value at an index: a value that isn't there is false.
+pub(crate) fn value_at(values: &[bool], index: u32) -> bool
+    ensures { result ≡ slice_index_or values.now index false }
+{
+    let index = index as usize;
+    index < values.len() && values[index]
+}

@@ -1,0 +1,33 @@
+use Rattle.std.proofs.Common.{◌<◌, false, length, ap, sym, ◌∙◌, arith}
+use Rattle.pauli_word.specs.Words.{identity_word, no_letters}
+use Rattle.tableau.specs.EncodingSteps.{code_of}
+use Rattle.tableau.proofs.FirstLetters.{first-all}
+use Rattle.tableau.proofs.PairWords.{encode_size, encode_commutes, encode_more}
+use Rattle.tableau.proofs.collapse.encode.Goals as goal
+
+pub loop-qubit-init : goal.loop-qubit-init
+loop-qubit-init g c =
+    c.clear.ensures
+    ∙ (ap identity_word c.requires.code
+    ∙ (sym (c.requires.tableau.clifford.keeps.identity false) ∙ ap (λ m. code_of (length c.args.rows.now.items) c.args.rows.now.items (no_letters m)) (sym c.requires.word)))
+
+pub multiply-requires-clause-size : goal.multiply-requires-clause-size
+multiply-requires-clause-size g c =
+    let within : c.loop-qubit.qubit < length c.args.rows.now.items = omega (arith, c.loop-qubit-test.true, c.len-qubit-end.ensures) in
+    encode_size c.args.rows.now.items c.requires.tableau c.args.word.now.letters c.loop-qubit.qubit c.requires.word within c.loop-qubit.code c.loop-qubit.invariant c.index.result.now c.index.ensures
+
+pub multiply-requires-clause-commuting : goal.multiply-requires-clause-commuting
+multiply-requires-clause-commuting g c =
+    let within : c.loop-qubit.qubit < length c.args.rows.now.items = omega (arith, c.loop-qubit-test.true, c.len-qubit-end.ensures) in
+    encode_commutes c.args.rows.now.items c.requires.tableau c.args.word.now.letters c.loop-qubit.qubit c.requires.word within c.loop-qubit.code c.loop-qubit.invariant c.index.result.now c.index.ensures
+
+pub loop-qubit-preserved : goal.loop-qubit-preserved
+loop-qubit-preserved g c =
+    let within : c.loop-qubit.qubit < length c.args.rows.now.items = omega (arith, c.loop-qubit-test.true, c.len-qubit-end.ensures) in
+    encode_more c.args.rows.now.items c.requires.tableau c.args.word.now.letters c.loop-qubit.qubit c.requires.word within c.loop-qubit.code c.loop-qubit.invariant c.index.result.now c.index.ensures
+    c.multiply.new.word c.letter.result c.letter.ensures c.multiply.ensures
+
+pub returns : goal.returns
+returns g c =
+    c.loop-qubit.invariant
+    ∙ ap (code_of (length c.args.rows.now.items) c.args.rows.now.items) (first-all c.loop-qubit.qubit c.args.word.now.letters (omega (arith, c.loop-qubit-test.false, c.len-qubit-end.ensures, c.requires.word)))

@@ -1,0 +1,22 @@
+-- Maps of the signed words of n letters that keep length, the identity, what anticommutes and products, and have an
+-- inverse that keeps them too, as conjugations by Clifford unitaries are. A turn by a word is one: it is conjugation by
+-- 1 + i times that word over the root of 2. (Nielsen and Chuang, Quantum Computation and Quantum Information, section
+-- 10.5.2.)
+use Rattle.std.specs.Prelude.{◌≡◌, ℕ, true, length, if◌then◌else◌}
+use Rattle.pauli_word.specs.WordMaps.{KeepsWords}
+use Rattle.pauli_word.specs.Words.{Signed, anticommute, product, with_sign_changed}
+
+pub record IsClifford (n : ℕ) (f : Signed → Signed) : Type 0 where
+  pub keeps : KeepsWords n f
+  pub back : Signed → Signed
+  pub back_keeps : KeepsWords n back
+  pub left : (p : Signed) → length p.letters ≡ n → back (f p) ≡ p
+  pub right : (p : Signed) → length p.letters ≡ n → f (back p) ≡ p
+
+-- the turn by a word m: what commutes with m stays, and what doesn't is multiplied by -i m from the right
+abbrev pub turned : Signed → Signed → Signed
+turned m v = if anticommute v.letters m.letters then product v m else v
+
+-- the twist about a word u by a word y that commutes with it: two turns that leave u as it is
+abbrev pub twisted : Signed → Signed → Signed → Signed
+twisted u y v = turned (with_sign_changed true (product y u)) (turned y v)

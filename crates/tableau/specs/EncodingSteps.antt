@@ -1,0 +1,112 @@
+-- What each step does to the rows kept. A gate replaces the rows of its qubits by the codes of the preimages of X and Z
+-- there. A Pauli word changes the signs of the rows whose letters anticommute with it. A collapse looks at the code of
+-- its word: where that has only I and Z the outcome is its sign, and the rows stay. Else let k be the first qubit where
+-- the code x, with the coin's sign, has X or Y, and let y be x with I there. Each row is twisted about Z at k by y, and
+-- goes through a gate at k; together they make Z at k of x, and X at k of Z at k.
+-- (Gidney, Quantum 5, 497 (2021), section 4.)
+use Rattle.std.specs.Prelude.{◌≡◌, ◌<◌, ℕ, Bool, true, false, List, ◌∷◌, Option, None, Some, length, map, slice_set}
+use Rattle.std.specs.List.{range_with_len}
+use Rattle.gate_table.specs.declared.gate.Gate.{Gate}
+use Rattle.gate_table.specs.declared.gate.Gate.TheVariants as gate
+use Rattle.gate_table.specs.Images.{image1, image2, inverse_of}
+use Rattle.gate_table.specs.WordImages.{image_at, preimage_at, preimage_at_two}
+use Rattle.pauli_word.specs.declared.letter.Letter.{Letter}
+use Rattle.pauli_word.specs.declared.letter.Letter.TheVariants.{I, X, Z}
+use Rattle.pauli_word.specs.Letters.{letters_clash}
+use Rattle.pauli_word.specs.Parity.{exclusive_or}
+use Rattle.pauli_word.specs.Words.{Signed, signed, anticommute, with_sign_changed, product, lone_letter, letter_at, lowest_X_or_Y}
+use Rattle.tableau.specs.CliffordMaps.{twisted}
+use Rattle.tableau.specs.Encoding.{Pair, word_of, encoded}
+
+-- a letter at a qubit, of sign plus
+abbrev pub lone : ℕ → ℕ → Letter → Signed
+lone n q a = signed (lone_letter n q a) false
+
+-- at the start
+abbrev pub start_pair : ℕ → ℕ → Pair
+start_pair n q = (lone n q X, lone n q Z)
+
+abbrev pub start_rows : ℕ → List Pair
+start_rows n = map (start_pair n) (range_with_len 0 n)
+
+-- what a map makes of X and Z at a qubit
+abbrev pub pair_under : ℕ → (Signed → Signed) → ℕ → Pair
+pair_under n f q = (f (lone n q X), f (lone n q Z))
+
+-- the word of a letter's preimage under a one-qubit gate
+abbrev pub preimage_word : ℕ → Gate → Pair → Letter → Signed
+preimage_word n g r a = with_sign_changed (image1 (inverse_of g) a).1 (word_of n r (image1 (inverse_of g) a).0)
+
+-- the word of the preimage of two letters at two qubits under a two-qubit gate
+abbrev pub preimage_product : ℕ → Gate → Pair → Pair → Letter × Letter → Signed
+preimage_product n g r s p =
+    let image = image2 (inverse_of g) p.0 p.1 in
+    with_sign_changed image.2 (product (word_of n r image.0) (word_of n s image.1))
+
+abbrev pub after_one : ℕ → Gate → ℕ → List Pair → List Pair
+after_one n g q rows = slice_set rows q (pair_under n (λ p. encoded n rows (preimage_at g q p)) q)
+
+abbrev pub after_two : ℕ → Gate → ℕ → ℕ → List Pair → List Pair
+after_two n g a b rows =
+    slice_set (slice_set rows a (pair_under n (λ p. encoded n rows (preimage_at_two g a b p)) a)) b
+    (pair_under n (λ p. encoded n rows (preimage_at_two g a b p)) b)
+
+-- the pair of a qubit where a letter is applied to it
+abbrev pub pair_after : Letter → Pair → Pair
+pair_after a r = (with_sign_changed (letters_clash X a) r.0, with_sign_changed (letters_clash Z a) r.1)
+
+-- a gate that does what a letter does
+abbrev pub AppliesLetter : Gate → Letter → Type 0
+AppliesLetter g a = (n : ℕ) (r : Pair) → (preimage_word n g r X, preimage_word n g r Z) ≡ pair_after a r
+
+abbrev pub after_word : List Letter → List Pair → List Pair
+after_word (a ∷ w) (r ∷ rows) = pair_after a r ∷ after_word w rows
+after_word w rows = rows
+
+-- every row mapped
+abbrev pub mapped : (Signed → Signed) → List Pair → List Pair
+mapped c rows = map (λ r. (c r.0, c r.1)) rows
+
+-- the code of letters, of sign plus
+abbrev pub code_of : ℕ → List Pair → List Letter → Signed
+code_of n rows w = encoded n rows (signed w false)
+
+-- a word with I at a qubit
+abbrev pub without : ℕ → Signed → Signed
+without k x = signed (slice_set x.letters k I) x.negative
+
+-- a gate that makes X of Z, and Z of what a twist about Z makes of X or of Y
+abbrev pub turning_gate : Letter → Gate
+turning_gate X = gate.CXYZ
+turning_gate a = gate.SqrtY
+
+abbrev pub row_map : ℕ → ℕ → Signed → Signed → Signed
+row_map n k x v = image_at (turning_gate (letter_at x.letters k)) k (twisted (lone n k Z) (without k x) v)
+
+abbrev pub collapsed_at : ℕ → Option ℕ → Signed → List Pair → List Pair
+collapsed_at n None x rows = rows
+collapsed_at n (Some k) x rows = mapped (row_map n k x) rows
+
+abbrev pub outcome_at : Option ℕ → Signed → Bool → Bool
+outcome_at None x coin = x.negative
+outcome_at (Some k) x coin = coin
+
+-- the rows after a collapse of the word with this code
+abbrev pub after_collapse : ℕ → Signed → Bool → List Pair → List Pair
+after_collapse n x coin rows = collapsed_at n (lowest_X_or_Y x.letters) (with_sign_changed coin x) rows
+
+abbrev pub outcome_of : Signed → Bool → Bool
+outcome_of x coin = outcome_at (lowest_X_or_Y x.letters) x coin
+
+-- the words of a twist about Z at k: one with I there, and minus its product with Z there
+pub record IsPivot (n k : ℕ) (r : Pair) : Type 0 where
+  pub inside : k < n
+  pub rest_size : length r.0.letters ≡ n
+  pub rest : letter_at r.0.letters k ≡ I
+  pub turned : r.1 ≡ with_sign_changed true (product r.0 (lone n k Z))
+
+-- which words of a pair anticommute with y, a code but for its letter a at k: those whose letter, X or Z, clashes with the
+-- letter w that is measured at the pair's qubit, unless their letter at k clashes with a, and then the others
+pub record ClashesAt (w a : Letter) (k : ℕ) (y : Signed) (r : Pair) : Type 0 where
+  pub x : anticommute r.0.letters y.letters ≡ exclusive_or (letters_clash X w) (letters_clash (letter_at r.0.letters k) a)
+  pub z : anticommute r.1.letters y.letters ≡ exclusive_or (letters_clash Z w) (letters_clash (letter_at r.1.letters k) a)

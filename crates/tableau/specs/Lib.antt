@@ -1,0 +1,5 @@
+pub mod CliffordMaps
+pub mod Decoding
+pub mod Encoding
+pub mod EncodingSteps
+pub mod Rows

@@ -1,0 +1,100 @@
+//! The pair of words that X and Z at one qubit become, and the words of other letters there.
+ghost use Rattle.std.specs.Prelude.{◌≡◌, ◌<◌, length, true, false, IfOk};
+ghost use Rattle.pauli_word.specs.Words.{anticommute, product, identity_word, with_sign_changed};
+ghost use Rattle.tableau.specs.Encoding.{HasLength, word_of};
+ghost use Rattle.tableau.specs.EncodingSteps.{pair_after, start_pair};
+
+use pauli_word::{Letter, Word};
+use std::alloc::{AllocError, Allocator};
+
+/// The words of X and of Z.
+pub(crate) type Pair<A> = (Word<A>, Word<A>);
+
+pub(crate) fn identity_pair<A: Allocator + Copy>(alloc: A, n: usize) -> Result<Pair<A>, AllocError>
+    ensures { IfOk result (λ r. r ≡ (identity_word n, identity_word n)) }
+{
+    Ok((Word::identity(alloc, n)?, Word::identity(alloc, n)?))
+}
+
+/// X and Z at a qubit, as they are.
+pub(crate) fn start_pair<A: Allocator + Copy>(
+    alloc: A,
+    n: usize,
+    qubit: usize,
+) -> Result<Pair<A>, AllocError>
+    requires { qubit < n }
+    ensures { IfOk result (λ r. r ≡ start_pair n qubit) }
+{
+    let mut x = Word::identity(alloc, n)?;
+    x.set_letter(qubit, Letter::X);
+    let mut z = Word::identity(alloc, n)?;
+    z.set_letter(qubit, Letter::Z);
+    Ok((x, z))
+}
+
+/// Multiplies by the word of a letter. The word commutes with those of its qubit.
+pub(crate) fn multiply<A: Allocator + Copy>(word: &mut Word<A>, pair: &Pair<A>, letter: Letter)
+    requires size { HasLength (length word.old.letters) pair.now }
+    requires commuting { anticommute word.old.letters pair.now.1.letters ≡ false }
+    ensures { word.new ≡ product word.old (word_of (length word.old.letters) pair.now letter) }
+{
+    match letter {
+        Letter::I => {}
+        Letter::X => {
+            word.times(&pair.0);
+        }
+        Letter::Y => {
+            word.times(&pair.0);
+            word.times(&pair.1);
+            change_sign(word, true);
+        }
+        Letter::Z => {
+            word.times(&pair.1);
+        }
+    }
+}
+
+/// Makes a word that of a letter, with its sign changed where `minus`.
+pub(crate) fn set_word<A: Allocator + Copy>(
+    word: &mut Word<A>,
+    pair: &Pair<A>,
+    letter: Letter,
+    minus: bool,
+)
+    requires { HasLength (length word.old.letters) pair.now }
+    ensures { word.new ≡ with_sign_changed minus (word_of (length word.old.letters) pair.now letter) }
+{
+    match letter {
+        Letter::I => word.clear(),
+        Letter::X => word.copy_from(&pair.0),
+        Letter::Y => {
+            word.copy_from(&pair.0);
+            word.times(&pair.1);
+            change_sign(word, true);
+        }
+        Letter::Z => word.copy_from(&pair.1),
+    }
+    change_sign(word, minus);
+}
+
+/// Changes the sign where `minus`.
+pub(crate) fn change_sign<A: Allocator + Copy>(word: &mut Word<A>, minus: bool)
+    ensures { word.new ≡ with_sign_changed minus word.old }
+{
+    word.set_sign(minus ^ word.sign());
+}
+
+pub(crate) fn swap<A: Allocator + Copy>(first: &mut Pair<A>, second: &mut Pair<A>)
+    ensures first { first.new ≡ second.old }
+    ensures second { second.new ≡ first.old }
+{
+    std::mem::swap(first, second);
+}
+
+/// Applies a letter to the qubit: the words of the letters that anticommute with it change their signs.
+pub(crate) fn apply_letter<A: Allocator + Copy>(pair: &mut Pair<A>, letter: Letter)
+    ensures { pair.new ≡ pair_after letter pair.old }
+{
+    change_sign(&mut pair.0, Letter::X.clashes(letter));
+    change_sign(&mut pair.1, Letter::Z.clashes(letter));
+}

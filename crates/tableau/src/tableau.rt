@@ -1,0 +1,173 @@
+ghost use Rattle.std.specs.Prelude.{◌≡◌, ◌≢◌, ◌<◌, true, false, length, IfOk, IfSome, IfNone};
+ghost use Rattle.gate_table.specs.Images.{arity_of};
+ghost use Rattle.gate_table.specs.WordImages.{preimage_at, preimage_at_two};
+ghost use Rattle.pauli_word.specs.States.{start_state, applied, is_decided, outcome, collapsed, correcting};
+ghost use Rattle.pauli_word.specs.Words.{lone_letter, signed};
+ghost use Rattle.tableau.specs.Rows.{row_count, state_of, destabilizer_at, HasState, IsReplaced};
+
+pub mod laws;
+
+use crate::collapse::{collapse_code, encode};
+use crate::decode::decode;
+use crate::gates::{apply_letters, apply_one, apply_two};
+use crate::pairs::{Pair, identity_pair, set_word, start_pair};
+use gate_table::Gate;
+use pauli_word::{Letter, Word};
+use std::alloc::{AllocError, Allocator};
+use std::marker::Model;
+
+/// The state of n qubits, seen as the n stabilizer rows whose products are its words, and n destabilizer rows.
+///
+/// It keeps the rows of the inverse circuit, from which those are read: a gate changes the rows of its qubits alone,
+/// and an outcome that isn't random is read off a product. `start` alone takes memory.
+#[derive(Drop)]
+pub struct Tableau<A: Allocator + Copy> {
+    rows: Vec<Pair<A>, A>,
+    first: Pair<A>,
+    second: Pair<A>,
+}
+
+impl<A: Allocator + Copy> Model for Tableau<A> {
+    ghost use Rattle.std.specs.Prelude.{length};
+    ghost use Rattle.tableau.specs.Decoding.{rows_seen};
+    ghost use Rattle.tableau.specs.Encoding.{HasLength, IsTableau};
+    ghost use Rattle.tableau.specs.Rows.{Rows};
+
+    ghost Value = { Rows };
+
+    ghost view = { λ t. rows_seen t.rows.items };
+
+    ghost invariant = { λ t. IsTableau (length t.rows.items) t.rows.items × HasLength (length t.rows.items) t.first × HasLength (length t.rows.items) t.second };
+}
+
+impl<A: Allocator + Copy> Tableau<A> {
+    /// The state in which all of `n` qubits are 0.
+    pub fn start(alloc: A, n: usize) -> Result<Self, AllocError>
+        ensures len { IfOk result (λ t. row_count t ≡ n) }
+        ensures state { IfOk result (λ t. HasState t start_state) }
+    {
+        let mut rows = Vec::with_capacity(alloc, n)?;
+        for q in 0..n {
+            rows.push(start_pair(alloc, n, q)?)?;
+        }
+        Ok(Tableau {
+            rows,
+            first: identity_pair(alloc, n)?,
+            second: identity_pair(alloc, n)?,
+        })
+    }
+
+    /// How many qubits there are.
+    pub fn len(&self) -> usize
+        ensures { result ≡ row_count self.now }
+    {
+        self.rows.len()
+    }
+
+    /// Applies a gate, to the qubit `a` or to the qubits `a` and `b`. A one-qubit gate takes no notice of `b`.
+    pub fn apply(&mut self, gate: Gate, a: usize, b: usize)
+        requires first_inside { a < row_count self.old }
+        requires second_inside { arity_of gate ≡ 2 → b < row_count self.old }
+        requires differ { arity_of gate ≡ 2 → a ≢ b }
+        ensures len { row_count self.new ≡ row_count self.old }
+        ensures one { arity_of gate ≡ 1 → HasState self.new (λ p. state_of self.old (preimage_at gate a p)) }
+        ensures two { arity_of gate ≡ 2 → HasState self.new (λ p. state_of self.old (preimage_at_two gate a b p)) }
+    {
+        if gate.arity() == 1 {
+            self.apply_one(gate, a);
+        } else {
+            self.apply_two(gate, a, b);
+        }
+    }
+
+    fn apply_one(&mut self, gate: Gate, qubit: usize)
+        requires arity { arity_of gate ≡ 1 }
+        requires inside { qubit < row_count self.old }
+        ensures len { row_count self.new ≡ row_count self.old }
+        ensures state { HasState self.new (λ p. state_of self.old (preimage_at gate qubit p)) }
+    {
+        apply_one(&mut self.rows, &mut self.first, gate, qubit);
+    }
+
+    fn apply_two(&mut self, gate: Gate, a: usize, b: usize)
+        requires arity { arity_of gate ≡ 2 }
+        requires first_inside { a < row_count self.old }
+        requires second_inside { b < row_count self.old }
+        requires differ { a ≢ b }
+        ensures len { row_count self.new ≡ row_count self.old }
+        ensures state { HasState self.new (λ p. state_of self.old (preimage_at_two gate a b p)) }
+    {
+        apply_two(
+            &mut self.rows,
+            &mut self.first,
+            &mut self.second,
+            gate,
+            a,
+            b,
+        );
+    }
+
+    /// Applies a Pauli word, whose sign says nothing.
+    pub fn apply_word(&mut self, word: &Word<A>)
+        requires { length word.now.letters ≡ row_count self.old }
+        ensures len { row_count self.new ≡ row_count self.old }
+        ensures state { HasState self.new (applied true word.now.letters (state_of self.old)) }
+    {
+        apply_letters(&mut self.rows, word);
+    }
+
+    /// Measures a letter at a qubit: the outcome, and the row that was replaced where it was random.
+    pub fn collapse(&mut self, letter: Letter, qubit: usize, coin: bool) -> (bool, Option<usize>)
+        requires { qubit < row_count self.old }
+        ensures len { row_count self.new ≡ row_count self.old }
+        ensures outcome { result.0 ≡ outcome (state_of self.old) (lone_letter (row_count self.old) qubit letter) coin }
+        ensures state { HasState self.new (collapsed (lone_letter (row_count self.old) qubit letter) coin (state_of self.old)) }
+        ensures decided { IfNone result.1 (is_decided (state_of self.old) (lone_letter (row_count self.old) qubit letter) ≡ true) }
+        ensures random { IfSome result.1 (λ row. is_decided (state_of self.old) (lone_letter (row_count self.old) qubit letter) ≡ false) }
+        ensures replaced { IfSome result.1 (IsReplaced self.old self.new (lone_letter (row_count self.old) qubit letter)) }
+    {
+        self.second.0.clear();
+        self.second.0.set_letter(qubit, letter);
+        set_word(&mut self.first.0, &self.rows[qubit], letter, false);
+        collapse_code(&mut self.rows, &self.second.0, &mut self.first, coin)
+    }
+
+    /// Measures a word, its sign taken for plus: the outcome, and the row that was replaced where it was random.
+    pub fn collapse_word(&mut self, word: &Word<A>, coin: bool) -> (bool, Option<usize>)
+        requires { length word.now.letters ≡ row_count self.old }
+        ensures len { row_count self.new ≡ row_count self.old }
+        ensures outcome { result.0 ≡ outcome (state_of self.old) word.now.letters coin }
+        ensures state { HasState self.new (collapsed word.now.letters coin (state_of self.old)) }
+        ensures decided { IfNone result.1 (is_decided (state_of self.old) word.now.letters ≡ true) }
+        ensures random { IfSome result.1 (λ row. is_decided (state_of self.old) word.now.letters ≡ false) }
+        ensures replaced { IfSome result.1 (IsReplaced self.old self.new word.now.letters) }
+    {
+        encode(&self.rows, word, &mut self.first.0);
+        collapse_code(&mut self.rows, word, &mut self.first, coin)
+    }
+
+    /// Ends the reset of a qubit whose letter was measured: where the outcome is 1, applies the letter that turns it
+    /// into 0.
+    pub fn reset_after(&mut self, letter: Letter, qubit: usize, outcome: bool)
+        requires { qubit < row_count self.old }
+        ensures len { row_count self.new ≡ row_count self.old }
+        ensures state { HasState self.new (applied outcome (lone_letter (row_count self.old) qubit (correcting letter)) (state_of self.old)) }
+    {
+        if outcome {
+            match letter {
+                Letter::I => {}
+                Letter::X => self.apply_one(Gate::Z, qubit),
+                Letter::Y | Letter::Z => self.apply_one(Gate::X, qubit),
+            }
+        }
+    }
+
+    /// Makes a word the destabilizer of a row, with sign plus.
+    pub fn destabilizer(&self, row: usize, word: &mut Word<A>)
+        requires inside { row < row_count self.now }
+        requires lengths { length word.old.letters ≡ row_count self.now }
+        ensures { word.new ≡ signed (destabilizer_at self.now row).letters false }
+    {
+        decode(&self.rows, row, word);
+    }
+}
