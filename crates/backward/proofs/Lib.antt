@@ -1,0 +1,12 @@
+pub mod ColumnLemmas
+pub mod Judging
+pub mod PassSets
+pub mod PassLines
+pub mod PassPlaces
+pub mod PassSteps
+pub mod PassWords
+pub mod Sensitivities
+pub mod RangeLemmas
+pub mod SetLemmas
+pub mod TransposedLemmas
+pub mod WordLemmas

@@ -1,0 +1,261 @@
+-- The targets that list each record, gone back over feedback, and found from the lists of all targets.
+use Rattle.std.proofs.Common.{◌≡◌, ◌≢◌, ℕ, ◌+◌, ◌<◌, ◌==◌, nat_lt, Bool, true, false, not, ◌&&◌, List, [], ◌∷◌, map, length, get_or, set, inl, inr, refl, ap, ap₂, subst, sym, ◌∙◌, arith, length-set, get_or-set_same, get_or-set_other}
+use Rattle.std.specs.Prelude.{All, replicate, filter, cond}
+use Rattle.std.specs.List.{range_with_len}
+use Rattle.std.proofs.lemmas.Bool.{cases_eq, cases_lt, eq-eqb, ne_eqb, lt-ltb, le-ltb}
+use Rattle.std.proofs.lemmas.List.{get_or_default, get_or-replicate, length-replicate}
+use Rattle.std.proofs.lemmas.List.FromFn.{length-map-range_with_len, get_or-map-range_with_len, fill_by_all}
+use Rattle.pauli_word.specs.declared.letter.Letter.{Letter}
+use Rattle.pauli_word.specs.Parity.{exclusive_or}
+use Rattle.pauli_word.specs.Words.{anticommute}
+use Rattle.pauli_word.proofs.Parities.{exclusive_or-false, exclusive_or_assoc, exclusive_or_left_comm}
+use Rattle.step_model.specs.Listing.{Listing, ListedStep, Feedback}
+use Rattle.step_model.specs.Targets.{targets_of, target_at, is_listed}
+use Rattle.backward.specs.Collapses.{toggled, toggled_each}
+use Rattle.backward.specs.Passes.{sensitivity_before, listing_set, listing_sets}
+use Rattle.backward.specs.RecordSets.{toggled_in, toggled_in_each}
+use Rattle.backward.proofs.RangeLemmas.{listed_in_range, set-map-range, map_agree}
+
+and_same : (a b : Bool) → b ≡ true → a ≡ (a && b)
+and_same false b h = refl
+and_same true b h = sym h
+
+and_false : (a b : Bool) → b ≡ false → (a && b) ≡ false
+and_false false b h = refl
+and_false true b h = h
+
+abbrev target_count : Listing → ℕ
+target_count program = length (targets_of program)
+
+-- ---- toggling
+pub length-toggled_each : (ts : List ℕ) (bits : List Bool) → length (toggled_each ts bits) ≡ length bits
+length-toggled_each [] bits = refl
+length-toggled_each (t ∷ ts) bits = length-toggled_each ts (toggled t bits) ∙ length-set bits t (not (get_or bits t false))
+
+toggled_at : (t k : ℕ) (bits : List Bool) → k < length bits → get_or (toggled t bits) k false ≡ exclusive_or (t == k) (get_or bits k false)
+toggled_at t k bits h =
+    elim (cases_eq t k) as (λ _. get_or (toggled t bits) k false ≡ exclusive_or (t == k) (get_or bits k false)) [
+      | inl e ↦
+          ap (λ j. get_or (toggled j bits) k false) e
+          ∙ (get_or-set_same bits k (not (get_or bits k false)) false h
+          ∙ ap (λ b. exclusive_or b (get_or bits k false)) (sym (eq-eqb t k e)))
+      | inr ne ↦
+          get_or-set_other bits t k (not (get_or bits t false)) false (λ e. ne (sym e))
+          ∙ ap (λ b. exclusive_or b (get_or bits k false)) (sym (ne_eqb t k ne))
+    ]
+
+-- each place is toggled as often as it is listed
+pub toggled_each_at : (ts : List ℕ) (k : ℕ) (bits : List Bool) → k < length bits → get_or (toggled_each ts bits) k false ≡ exclusive_or (is_listed ts k) (get_or bits k false)
+toggled_each_at [] k bits h = refl
+toggled_each_at (t ∷ ts) k bits h =
+    toggled_each_at ts k (toggled t bits) (omega (arith, h, length-set bits t (not (get_or bits t false))))
+    ∙ (ap (exclusive_or (is_listed ts k)) (toggled_at t k bits h)
+    ∙ (exclusive_or_left_comm (is_listed ts k) (t == k) (get_or bits k false)
+    ∙ sym (exclusive_or_assoc (t == k) (is_listed ts k) (get_or bits k false))))
+
+-- ---- feedback: its record is toggled for the targets whose sensitivity anticommutes
+pub listing_sets-feedback : (program : Listing) (w : List Letter) (r : ℕ) (steps : List ListedStep) → r < program.records
+    → set (listing_sets program steps) r (toggled_each (filter (λ d. anticommute (sensitivity_before program steps d).word w) (range_with_len 0 (length (targets_of program)))) (get_or (listing_sets program steps) r []))
+    ≡ listing_sets program (Feedback w r ∷ steps)
+listing_sets-feedback program w r steps within =
+    ap (λ row. set (listing_sets program steps) r (toggled_each hit row)) (get_or-map-range_with_len (listing_set program steps) 0 program.records r r [] within (omega arith))
+    ∙ set-map-range (listing_set program steps) (listing_set program (Feedback w r ∷ steps)) program.records r (toggled_each hit (listing_set program steps r)) within here elsewhere
+  where
+    anticommutes : ℕ → Bool
+    anticommutes d = anticommute (sensitivity_before program steps d).word w
+
+    hit : List ℕ
+    hit = filter anticommutes (range_with_len 0 (target_count program))
+
+    lists : ℕ → ℕ → Bool
+    lists s d = is_listed (sensitivity_before program steps d).records s
+
+    after : ℕ → ℕ → Bool
+    after s d = is_listed (sensitivity_before program (Feedback w r ∷ steps) d).records s
+
+    added_one : (b : Bool) (s : ℕ) (named : List ℕ) → exclusive_or (b && (r == s)) (is_listed named s) ≡ is_listed (cond b (r ∷ named) named) s
+    added_one true s named = refl
+    added_one false s named = refl
+
+    long : length (listing_set program steps r) ≡ target_count program
+    long = length-map-range_with_len (lists r) 0 (target_count program)
+
+    here : toggled_each hit (listing_set program steps r) ≡ listing_set program (Feedback w r ∷ steps) r
+    here =
+        fill_by_all (after r) (toggled_each hit (listing_set program steps r)) (target_count program) false
+        (length-toggled_each hit (listing_set program steps r) ∙ long)
+        (λ k lt. toggled_each_at hit k (listing_set program steps r) (omega (arith, lt, long))
+        ∙ (ap₂ exclusive_or (listed_in_range anticommutes k 0 (target_count program) (omega arith) (omega (arith, lt)))
+        (get_or-map-range_with_len (lists r) 0 (target_count program) k k false lt (omega arith))
+        ∙ (ap (λ b. exclusive_or b (lists r k)) (and_same (anticommutes k) (r == r) (eq-eqb r r refl))
+        ∙ added_one (anticommutes k) r (sensitivity_before program steps k).records)))
+
+    elsewhere : (s : ℕ) → s ≢ r → listing_set program steps s ≡ listing_set program (Feedback w r ∷ steps) s
+    elsewhere s ne =
+        map_agree (lists s) (after s)
+        (λ d. ap (λ b. exclusive_or b (lists s d)) (sym (and_false (anticommutes d) (r == s) (ne_eqb r s (λ e. ne (sym e)))))
+        ∙ added_one (anticommutes d) s (sensitivity_before program steps d).records)
+        (range_with_len 0 (target_count program))
+
+-- ---- the sets from the lists: those of the targets from t on have been gone through
+abbrev pub listed_from : Listing → ℕ → ℕ → ℕ → Bool
+listed_from program t r d = not (nat_lt d t) && is_listed (target_at program d) r
+
+abbrev pub listing_from : Listing → ℕ → List (List Bool)
+listing_from program t =
+    map (λ r. map (listed_from program t r) (range_with_len 0 (length (targets_of program)))) (range_with_len 0 program.records)
+
+pub length-toggled_in_each : (t : ℕ) (named : List ℕ) (sets : List (List Bool)) → length (toggled_in_each t named sets) ≡ length sets
+length-toggled_in_each t [] sets = refl
+length-toggled_in_each t (r ∷ named) sets = length-toggled_in_each t named (toggled_in t r sets) ∙ length-set sets r (toggled t (get_or sets r []))
+
+-- at a record the target is toggled as often as the record is listed
+toggled_in_at : (t s : ℕ) (named : List ℕ) (sets : List (List Bool)) (d : ℕ) → s < length sets → d < length (get_or sets s [])
+    → get_or (get_or (toggled_in_each t named sets) s []) d false ≡ exclusive_or ((t == d) && is_listed named s) (get_or (get_or sets s []) d false)
+toggled_in_at t s [] sets d hs hd = ap (λ b. exclusive_or b (get_or (get_or sets s []) d false)) (none (t == d))
+  where
+    none : (b : Bool) → false ≡ (b && false)
+    none false = refl
+    none true = refl
+toggled_in_at t s (r ∷ named) sets d hs hd =
+    elim (cases_eq s r) as (λ _. get_or (get_or (toggled_in_each t (r ∷ named) sets) s []) d false ≡ exclusive_or ((t == d) && is_listed (r ∷ named) s) (get_or (get_or sets s []) d false)) [
+      | inl e ↦
+          let row : get_or next s [] ≡ toggled t (get_or sets s []) = ap (λ j. get_or next j []) e ∙ (get_or-set_same sets r (toggled t (get_or sets r [])) [] (omega (arith, hs, e)) ∙ ap (λ j. toggled t (get_or sets j [])) (sym e)) in
+          toggled_in_at t s named next d (omega (arith, hs, size)) (omega (arith, hd, ap length row, length-set (get_or sets s []) t (not (get_or (get_or sets s []) t false))))
+          ∙ (ap (λ (bits : List Bool). exclusive_or ((t == d) && is_listed named s) (get_or bits d false)) row
+          ∙ (ap (exclusive_or ((t == d) && is_listed named s)) (toggled_at t d (get_or sets s []) hd)
+          ∙ both (t == d) (is_listed named s) (r == s) (get_or (get_or sets s []) d false) (eq-eqb r s (sym e))))
+      | inr ne ↦
+          let row : get_or next s [] ≡ get_or sets s [] = get_or-set_other sets r s (toggled t (get_or sets r [])) [] ne in
+          toggled_in_at t s named next d (omega (arith, hs, size)) (omega (arith, hd, ap length row))
+          ∙ (ap (λ (bits : List Bool). exclusive_or ((t == d) && is_listed named s) (get_or bits d false)) row
+          ∙ ap (λ b. exclusive_or ((t == d) && exclusive_or b (is_listed named s)) (get_or (get_or sets s []) d false)) (sym (ne_eqb r s (λ e. ne (sym e)))))
+    ]
+  where
+    next : List (List Bool)
+    next = toggled_in t r sets
+
+    size : length next ≡ length sets
+    size = length-set sets r (toggled t (get_or sets r []))
+
+    both : (a b c x : Bool) → c ≡ true → exclusive_or (a && b) (exclusive_or a x) ≡ exclusive_or (a && exclusive_or c b) x
+    both a b false x h = cc
+    both false b true x h = refl
+    both true false true x h = refl
+    both true true true false h = refl
+    both true true true true h = refl
+
+-- rows with the same bits at each place
+rows_same : (program : Listing) (sets : List (List Bool)) (f : ℕ → ℕ → Bool) → length sets ≡ program.records → ((r : ℕ) → r < program.records → length (get_or sets r []) ≡ length (targets_of program))
+    → ((r d : ℕ) → r < program.records → d < length (targets_of program) → get_or (get_or sets r []) d false ≡ f r d)
+    → sets ≡ map (λ r. map (f r) (range_with_len 0 (length (targets_of program)))) (range_with_len 0 program.records)
+rows_same program sets f size long same =
+    fill_by_all (λ r. map (f r) (range_with_len 0 (target_count program))) sets program.records [] size
+    (λ r lt. fill_by_all (f r) (get_or sets r []) (target_count program) false (long r lt) (λ d below. same r d lt below))
+
+-- a row keeps its length
+toggled_in_long : (t : ℕ) (named : List ℕ) (sets : List (List Bool)) (m s : ℕ) → s < length sets → ((r : ℕ) → r < length sets → length (get_or sets r []) ≡ m) → length (get_or (toggled_in_each t named sets) s []) ≡ m
+toggled_in_long t [] sets m s h long = long s h
+toggled_in_long t (r ∷ named) sets m s h long =
+    toggled_in_long t named (toggled_in t r sets) m s (omega (arith, h, size))
+    (λ k lt. elim (cases_eq k r) as (λ _. length (get_or (toggled_in t r sets) k []) ≡ m) [
+      | inl e ↦
+          ap (λ j. length (get_or (toggled_in t r sets) j [])) e
+          ∙ (ap length (get_or-set_same sets r (toggled t (get_or sets r [])) [] (omega (arith, lt, size, e)))
+          ∙ (length-set (get_or sets r []) t (not (get_or (get_or sets r []) t false)) ∙ long r (omega (arith, lt, size, e))))
+      | inr ne ↦ ap length (get_or-set_other sets r k (toggled t (get_or sets r [])) [] ne) ∙ long k (omega (arith, lt, size))
+    ])
+  where
+    size : length (toggled_in t r sets) ≡ length sets
+    size = length-set sets r (toggled t (get_or sets r []))
+
+pub listing_from-rows : (program : Listing) (t r : ℕ) → r < program.records → get_or (listing_from program t) r [] ≡ map (listed_from program t r) (range_with_len 0 (length (targets_of program)))
+listing_from-rows program t r h = get_or-map-range_with_len (λ r. map (listed_from program t r) (range_with_len 0 (target_count program))) 0 program.records r r [] h (omega arith)
+
+pub length-listing_from : (program : Listing) (t : ℕ) → length (listing_from program t) ≡ program.records
+length-listing_from program t = length-map-range_with_len (λ r. map (listed_from program t r) (range_with_len 0 (target_count program))) 0 program.records
+
+pub listing_from-long : (program : Listing) (t r : ℕ) → r < program.records → length (get_or (listing_from program t) r []) ≡ length (targets_of program)
+listing_from-long program t r h = ap length (listing_from-rows program t r h) ∙ length-map-range_with_len (listed_from program t r) 0 (target_count program)
+
+-- one target more
+pub listing_from-more : (program : Listing) (t : ℕ) → t < length (targets_of program) → toggled_in_each t (target_at program t) (listing_from program (t + 1)) ≡ listing_from program t
+listing_from-more program t within =
+    rows_same program (toggled_in_each t (target_at program t) before) (listed_from program t)
+    (length-toggled_in_each t (target_at program t) before ∙ size)
+    (λ r lt. toggled_in_long t (target_at program t) before (target_count program) r (omega (arith, lt, size)) (λ k below. listing_from-long program (t + 1) k (omega (arith, below, size))))
+    (λ r d lt below.
+    toggled_in_at t r (target_at program t) before d (omega (arith, lt, size)) (omega (arith, below, listing_from-long program (t + 1) r lt))
+    ∙ (ap (exclusive_or ((t == d) && is_listed (target_at program t) r))
+    (ap (λ row. get_or row d false) (listing_from-rows program (t + 1) r lt)
+    ∙ get_or-map-range_with_len (listed_from program (t + 1) r) 0 (target_count program) d d false below (omega arith))
+    ∙ by_order r d))
+  where
+    before : List (List Bool)
+    before = listing_from program (t + 1)
+
+    size : length before ≡ program.records
+    size = length-listing_from program (t + 1)
+
+    by_order : (r d : ℕ) → exclusive_or ((t == d) && is_listed (target_at program t) r) (listed_from program (t + 1) r d) ≡ listed_from program t r d
+    by_order r d =
+        elim (cases_eq t d) as (λ _. exclusive_or ((t == d) && is_listed (target_at program t) r) (listed_from program (t + 1) r d) ≡ listed_from program t r d) [
+          | inl e ↦
+              ap₂ (λ b c. exclusive_or (b && is_listed (target_at program t) r) (not c && is_listed (target_at program d) r)) (eq-eqb t d e) (lt-ltb d (t + 1) (omega (arith, e)))
+              ∙ (exclusive_or-false (is_listed (target_at program t) r)
+              ∙ (ap (λ k. is_listed (target_at program k) r) e ∙ ap (λ b. not b && is_listed (target_at program d) r) (sym (le-ltb d t (omega (arith, e))))))
+          | inr ne ↦
+              ap (λ b. exclusive_or (b && is_listed (target_at program t) r) (listed_from program (t + 1) r d)) (ne_eqb t d ne)
+              ∙ elim (cases_lt d t) as (λ _. listed_from program (t + 1) r d ≡ listed_from program t r d) [
+                | inl lt ↦ ap₂ (λ b c. not b && c) (lt-ltb d (t + 1) (omega (arith, lt))) refl ∙ sym (ap (λ b. not b && is_listed (target_at program d) r) (lt-ltb d t lt))
+                | inr le ↦ ap (λ b. not b && is_listed (target_at program d) r) (le-ltb d (t + 1) (omega (arith, le, ne))) ∙ sym (ap (λ b. not b && is_listed (target_at program d) r) (le-ltb d t le))
+              ]
+        ]
+
+-- before any target, and after all
+pub listing_from-none : (program : Listing) (sets : List (List Bool)) → sets ≡ replicate program.records (replicate (length (targets_of program)) false) → sets ≡ listing_from program (length (targets_of program))
+listing_from-none program sets e =
+    e ∙ rows_same program empty (listed_from program (target_count program))
+    (length-replicate program.records (replicate (target_count program) false))
+    (λ r lt. ap length (row r lt) ∙ length-replicate (target_count program) false)
+    (λ r d lt below. ap (λ bits. get_or bits d false) (row r lt)
+    ∙ (get_or-replicate (target_count program) d false false below
+    ∙ ap (λ b. not b && is_listed (target_at program d) r) (sym (lt-ltb d (target_count program) below))))
+  where
+    empty : List (List Bool)
+    empty = replicate program.records (replicate (target_count program) false)
+
+    row : (r : ℕ) → r < program.records → get_or empty r [] ≡ replicate (target_count program) false
+    row r lt = get_or-replicate program.records r (replicate (target_count program) false) [] lt
+
+pub listing_from-all : (program : Listing) → listing_from program 0 ≡ listing_sets program []
+listing_from-all program =
+    map_agree (λ r. map (listed_from program 0 r) (range_with_len 0 (target_count program))) (listing_set program [])
+    (λ r. map_agree (listed_from program 0 r) (λ d. is_listed (target_at program d) r)
+    (λ d. ap (λ b. not b && is_listed (target_at program d) r) (le-ltb d 0 (omega arith)))
+    (range_with_len 0 (target_count program)))
+    (range_with_len 0 program.records)
+
+-- ---- what a loop over the targets needs
+pub sets_take_targets : (program : Listing) (t n : ℕ) (sets : List (List Bool)) → sets ≡ listing_from program n → t < length (targets_of program) → All (λ set. t < length set) sets
+sets_take_targets program t n sets e h k d lt =
+    let within : k < program.records = omega (arith, lt, ap length e, length-listing_from program n) in
+    let read : get_or sets k d ≡ get_or (listing_from program n) k [] = ap (λ s. get_or s k d) e ∙ get_or_default (listing_from program n) k d [] (omega (arith, within, length-listing_from program n)) in
+    omega (arith, h, ap length read, listing_from-long program n k within)
+
+pub records_within : (program : Listing) (t n : ℕ) (named : List ℕ) (sets : List (List Bool)) → All (All (λ r. r < program.records)) (targets_of program) → t < length (targets_of program) → named ≡ target_at program t → sets ≡ listing_from program n → All (λ r. r < length sets) named
+records_within program t n named sets all h is e k d lt =
+    let fits : All (λ r. r < program.records) named = subst (All (λ r. r < program.records)) (sym is) (all t [] h) in
+    let low = fits k d lt in
+    omega (arith, low, ap length e, length-listing_from program n)
+
+-- ---- sizes
+pub length-listing_sets : (program : Listing) (steps : List ListedStep) → length (listing_sets program steps) ≡ program.records
+length-listing_sets program steps = length-map-range_with_len (listing_set program steps) 0 program.records
+
+pub listing_sets-long : (program : Listing) (steps : List ListedStep) (sets : List (List Bool)) → sets ≡ listing_sets program steps → All (λ set. length set ≡ length (targets_of program)) sets
+listing_sets-long program steps sets e =
+    subst (All (λ set. length set ≡ target_count program)) (sym e)
+    (λ k d lt.
+    ap length (get_or-map-range_with_len (listing_set program steps) 0 program.records k k d (omega (arith, lt, length-listing_sets program steps)) (omega arith))
+    ∙ length-map-range_with_len (λ d. is_listed (sensitivity_before program steps d).records k) 0 (target_count program))

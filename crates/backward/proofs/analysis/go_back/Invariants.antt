@@ -1,0 +1,15 @@
+use Rattle.std.proofs.Common.{◌≡◌, ◌≤◌, length, drop}
+use Rattle.backward.specs.Passes.{IsPassed}
+use Rattle.backward.proofs.analysis.go_back.Given as goal
+
+-- what is kept is what is found from the place of the walk on
+abbrev pub invariant-loop : goal.invariant-loop
+invariant-loop g l =
+    record {
+      program_is : l.walk.program ≡ l.program;
+      within : l.walk.place ≤ length l.program.steps;
+      passed : IsPassed l.program (drop l.walk.place l.program.steps) (g.T.Tracker.tracked l.tracker) l.found.sets.items l.found.lines.lines l.found.latest.items l.found.left;
+    }
+
+abbrev pub decreases-loop : goal.decreases-loop
+decreases-loop g l = l.walk.place

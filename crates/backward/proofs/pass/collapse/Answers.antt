@@ -1,0 +1,59 @@
+use Rattle.std.proofs.Common.{◌<◌, ◌-◌, length, refl, ap, ap₂, subst, sym, ◌∙◌}
+use Rattle.std.specs.Prelude.{All}
+use Rattle.std.specs.List.Sorted.{IsStrictlyIncreasing}
+use Rattle.std.proofs.lemmas.Result.{on_ok_weaker}
+use Rattle.step_model.specs.Targets.{targets_of}
+use Rattle.backward.specs.Collapses.{undone_collapse, noted}
+use Rattle.backward.specs.Passes.{with_flip}
+use Rattle.backward.proofs.PassPlaces.{hit_in_range}
+use Rattle.backward.proofs.RangeLemmas.{members_at-ascend, members_at-within, record_has_set, record_named}
+use Rattle.backward.proofs.pass.collapse.Goals as goal
+
+pub note-requires : goal.note-requires
+note-requires g c =
+    let program = c.args.program.now in
+    let tracked = g.T.Tracker.tracked c.args.tracker.now in
+    subst (λ n. All (λ t. t < n) c.as_slice.result.now) (sym c.requires.size.latest)
+    (subst (All (λ t. t < length (targets_of program))) (sym (c.as_slice.ensures.value ∙ c.in_ok-hit.ensures.hit))
+    (hit_in_range program c.args.terms.now tracked c.requires.size.words))
+
+pub undo_collapse-requires-clause-ascending : goal.undo_collapse-requires-clause-ascending
+undo_collapse-requires-clause-ascending g c =
+    subst IsStrictlyIncreasing (sym (c.as_slice-3.ensures.value ∙ c.in_ok-list_record.ensures)) (members_at-ascend c.args.found.now.sets.items c.args.rec)
+
+pub undo_collapse-requires-clause-named : goal.undo_collapse-requires-clause-named
+undo_collapse-requires-clause-named g c =
+    let program = c.args.program.now in
+    let sets = c.args.found.now.sets.items in
+    let count = ap (λ t. length t.words) c.in_ok-hit.ensures.same ∙ c.requires.size.words in
+    subst (λ n. All (λ t. t < n) c.as_slice-3.result.now) (sym count)
+    (subst (All (λ t. t < length (targets_of program))) (sym (c.as_slice-3.ensures.value ∙ c.in_ok-list_record.ensures))
+    (members_at-within sets c.args.rec (length (targets_of program))
+    (record_has_set c.args.rec program.records (length sets) c.requires.size.sets (record_named program c.args.rec c.requires.rec)) c.requires.size.sets_long))
+
+pub returns-clause-words : goal.returns-clause-words
+returns-clause-words g c =
+    let targets = c.as_slice-3.ensures.value ∙ c.in_ok-list_record.ensures in
+    on_ok_weaker c.undo_collapse.result
+    (λ h. h ∙ ap₂ (λ named tracked. undone_collapse named c.args.terms.now c.args.reset tracked) targets c.in_ok-hit.ensures.same)
+    c.undo_collapse.ensures
+
+pub returns-clause-sets : goal.returns-clause-sets
+returns-clause-sets g c = on_ok_weaker c.undo_collapse.result (λ h. refl) c.undo_collapse.ensures
+
+pub returns-clause-lines : goal.returns-clause-lines
+returns-clause-lines g c =
+    let f = c.args.found.now in
+    let targets = c.as_slice-2.ensures.value ∙ c.in_ok-list_record.ensures in
+    on_ok_weaker c.undo_collapse.result
+    (λ h. c.in_ok-note_flip.ensures ∙ ap (λ named. with_flip c.args.program.now c.args.flip named f.lines) targets)
+    c.undo_collapse.ensures
+
+pub returns-clause-latest : goal.returns-clause-latest
+returns-clause-latest g c =
+    let f = c.args.found.now in
+    let hit = c.as_slice.ensures.value ∙ c.in_ok-hit.ensures.hit in
+    on_ok_weaker c.undo_collapse.result (λ h. c.note.ensures ∙ ap (λ named. noted (f.left - 1) named f.latest.items) hit) c.undo_collapse.ensures
+
+pub returns-clause-left : goal.returns-clause-left
+returns-clause-left g c = on_ok_weaker c.undo_collapse.result (λ h. refl) c.undo_collapse.ensures

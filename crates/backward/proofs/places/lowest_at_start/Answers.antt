@@ -1,0 +1,41 @@
+use Rattle.std.proofs.Common.{◌≡◌, ◌<◌, ◌∷◌, [], ℕ, List, None, length, ap, ap₂, subst, sym, ◌∙◌, arith}
+use Rattle.std.specs.Prelude.{All, replicate}
+use Rattle.pauli_word.specs.declared.letter.Letter.TheVariants.{Z}
+use Rattle.step_model.specs.declared.step.Term.{Term}
+use Rattle.step_model.specs.Targets.{targets_of}
+use Rattle.backward.specs.Collapses.{noted}
+use Rattle.backward.specs.Passes.{tracked_before}
+use Rattle.backward.specs.Tracked.{anticommuting}
+use Rattle.backward.proofs.PassPlaces.{lowest_below-none, lowest_below-more, length-lowest_below, hit_in_range}
+use Rattle.backward.proofs.PassWords.{words_count}
+use Rattle.backward.proofs.places.lowest_at_start.Goals as goal
+
+pub loop-qubit-init : goal.loop-qubit-init
+loop-qubit-init g c =
+    record {
+      words = c.requires;
+      lowest = c.in_ok-lowest.ensures ∙ (ap (λ (n : ℕ). replicate n None) c.target_count.ensures.count ∙ lowest_below-none c.args.program.now);
+    }
+
+pub note-requires : goal.note-requires
+note-requires g c =
+    let program = c.args.program.now in
+    let terms : List Term = record { qubit = c.loop-qubit.qubit; letter = Z } ∷ [] in
+    let count : length c.loop-qubit.lowest.items ≡ length (targets_of program) = ap length c.loop-qubit.invariant.lowest ∙ length-lowest_below program c.loop-qubit.qubit in
+    let hit = c.as_slice.ensures.value ∙ (c.in_ok-hit.ensures.hit ∙ ap (anticommuting terms) c.loop-qubit.invariant.words) in
+    subst (λ n. All (λ t. t < n) c.as_slice.result.now) (sym count)
+    (subst (All (λ t. t < length (targets_of program))) (sym hit) (hit_in_range program terms (tracked_before program program.steps) (words_count program program.steps)))
+
+pub loop-qubit-preserved : goal.loop-qubit-preserved
+loop-qubit-preserved g c =
+    let program = c.args.program.now in
+    let qubit = c.loop-qubit.qubit in
+    let terms : List Term = record { qubit = qubit; letter = Z } ∷ [] in
+    let hit = c.as_slice.ensures.value ∙ (c.in_ok-hit.ensures.hit ∙ ap (anticommuting terms) c.loop-qubit.invariant.words) in
+    record {
+      words = c.in_ok-hit.ensures.same ∙ c.loop-qubit.invariant.words;
+      lowest =
+          c.note.ensures
+          ∙ (ap₂ (noted qubit) hit c.loop-qubit.invariant.lowest
+          ∙ lowest_below-more program qubit c.well_formed-2.ensures.steps_fit (omega (arith, c.loop-qubit-test.true, c.qubits-qubit-end.ensures)));
+    }

@@ -1,0 +1,10 @@
+use Rattle.std.proofs.Common.{◌≡◌}
+use Rattle.backward.specs.Passes.{tracked_before, lowest_below}
+use Rattle.backward.proofs.places.lowest_at_start.Given as goal
+
+abbrev pub invariant-loop-qubit : goal.invariant-loop-qubit
+invariant-loop-qubit g l =
+    record {
+      words : g.T.Tracker.tracked l.tracker ≡ tracked_before l.program l.program.steps;
+      lowest : l.lowest.items ≡ lowest_below l.program l.qubit;
+    }

@@ -1,0 +1,34 @@
+use Rattle.std.proofs.Common.{ap, ap₂, subst, sym, ◌∙◌}
+use Rattle.bit_rows.specs.Rows.{xor_rows}
+use Rattle.backward.specs.Sets.{DescendsBelow, row_of_set, xor_sets}
+use Rattle.backward.proofs.SetLemmas.{row_of_xor_sets, same_count, DescendsBelow-xor_sets}
+use Rattle.backward.proofs.sparse_set.SparseSetTargetSet.add.Goals as goal
+
+pub invariant_of-self : goal.invariant_of-self
+invariant_of-self g c =
+    let m = c.self.inside.targets in
+    let mine = c.self.inside.items.items in
+    let other = c.other.inside.items.items in
+    let counted = same_count m c.other.inside.targets mine other _ _ c.self.view_is c.other.view_is c.requires.other in
+    let made = ap (λ v. v.items) c.swap.ensures.x_after ∙ (c.in-Ok.ensures ∙ ap₂ xor_sets c.as_slice.ensures c.as_slice-2.ensures) in
+    subst (DescendsBelow m) (sym made)
+    (DescendsBelow-xor_sets m mine other c.self.invariant (subst (λ n. DescendsBelow n other) (sym counted) c.other.invariant))
+
+pub invariant_of-spare : goal.invariant_of-spare
+invariant_of-spare g c =
+    let m = c.self.inside.targets in
+    let mine = c.self.inside.items.items in
+    let spare = c.spare.inside.items.items in
+    let counted = same_count c.spare.inside.targets m spare mine _ _ c.spare.view_is c.self.view_is c.requires.spare in
+    subst (DescendsBelow c.spare.inside.targets) (sym (ap (λ v. v.items) c.swap.ensures.y_after))
+    (subst (λ n. DescendsBelow n mine) (sym counted) c.self.invariant)
+
+pub returns-in-Ok-clause-ok : goal.returns-in-Ok-clause-ok
+returns-in-Ok-clause-ok g c =
+    let m = c.self.inside.targets in
+    let mine = c.self.inside.items.items in
+    let other = c.other.inside.items.items in
+    let counted = same_count m c.other.inside.targets mine other _ _ c.self.view_is c.other.view_is c.requires.other in
+    ap (row_of_set m) (ap (λ v. v.items) c.swap.ensures.x_after ∙ (c.in-Ok.ensures ∙ ap₂ xor_sets c.as_slice.ensures c.as_slice-2.ensures))
+    ∙ (row_of_xor_sets m mine other
+    ∙ ap₂ xor_rows c.self.view_is (ap (λ n. row_of_set n other) counted ∙ c.other.view_is))

@@ -1,0 +1,13 @@
+use Rattle.std.proofs.Common.{◌≡◌, ◌≤◌, length, drop}
+use Rattle.std.specs.Prelude.{reverse}
+use Rattle.backward.proofs.sparse_set.list_ascending.Given as goal
+
+abbrev pub invariant-loop-left : goal.invariant-loop-left
+invariant-loop-left g l =
+    record {
+      within : l.left ≤ length l.items;
+      made : l.into.items ≡ reverse (drop l.left l.items);
+    }
+
+abbrev pub decreases-loop-left : goal.decreases-loop-left
+decreases-loop-left g l = l.left

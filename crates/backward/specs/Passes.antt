@@ -1,0 +1,79 @@
+-- Going back over the steps of a program: the words that a tracker keeps, the targets that list each record, the error
+-- lines found on the way, and where targets are random. (Gottesman, arXiv:quant-ph/9807006: words carried through a
+-- circuit.)
+use Rattle.std.specs.Prelude.{◌≡◌, ℕ, ◌+◌, Bool, List, [], ◌∷◌, ◌++◌, map, filter, length, take, Option, None, Some, option_map}
+use Rattle.std.specs.List.{range_with_len, flat_map}
+use Rattle.step_model.specs.ErrorModels.{ErrorLine, ErrorModel}
+use Rattle.step_model.specs.Hits.{hits_at}
+use Rattle.step_model.specs.Listing.{Listing, ListedStep, fault_at, kept_at}
+use Rattle.programs.specs.declared.step.FaultName.{FaultName}
+use Rattle.step_model.specs.Sensitivities.{Sensitivity, sensitivity, collapse_count, latest_place, lowest_X_or_Y}
+use Rattle.step_model.specs.Targets.{targets_of, target_at, is_listed}
+use Rattle.step_model.specs.WellFormed.{step_faults}
+use Rattle.backward.specs.Tracked.{Tracked}
+
+-- the sensitivity of a target before these steps, which are the last
+abbrev pub sensitivity_before : Listing → List ListedStep → ℕ → Sensitivity
+sensitivity_before program steps d = sensitivity program.qubits (target_at program d) steps
+
+-- what is tracked before these steps
+abbrev pub tracked_before : Listing → List ListedStep → Tracked
+tracked_before program steps =
+    record {
+      qubits = program.qubits;
+      words = map (λ d. (sensitivity_before program steps d).word) (range_with_len 0 (length (targets_of program)));
+    }
+
+-- for each target whether its sensitivity lists a record an odd number of times
+abbrev pub listing_set : Listing → List ListedStep → ℕ → List Bool
+listing_set program steps r =
+    map (λ d. is_listed (sensitivity_before program steps d).records r) (range_with_len 0 (length (targets_of program)))
+
+-- the same for each record
+abbrev pub listing_sets : Listing → List ListedStep → List (List Bool)
+listing_sets program steps = map (listing_set program steps) (range_with_len 0 program.records)
+
+-- the error line of a fault that hits these targets; none where there are none
+abbrev pub line_for : List ℕ → List ℕ → List ErrorLine
+line_for text [] = []
+line_for text (t ∷ ts) = record { text = text; targets = t ∷ ts } ∷ []
+
+abbrev pub with_line : List ℕ → List ℕ → ErrorModel → ErrorModel
+with_line text targets model = record model { lines = model.lines ++ line_for text targets }
+
+-- the line of a recorded flip, where there is one, for these targets
+abbrev pub with_flip : Listing → Option FaultName → List ℕ → ErrorModel → ErrorModel
+with_flip program None targets model = model
+with_flip program (Some name) targets model = with_line (kept_at program name.entry).text targets model
+
+-- the targets that a fault hits at a step, and its line; the steps are those after it
+abbrev pub hit_at : Listing → ListedStep → List ListedStep → ℕ → List ℕ
+hit_at program step steps f =
+    filter (λ d. hits_at program f step (sensitivity_before program steps d)) (range_with_len 0 (length (targets_of program)))
+
+abbrev pub line_at : Listing → ListedStep → List ListedStep → ℕ → List ErrorLine
+line_at program step steps f = line_for (fault_at program f).text (hit_at program step steps f)
+
+-- the lines found going back over these steps, the last of them first
+abbrev pub lines_found : Listing → List ListedStep → List ErrorLine
+lines_found program [] = []
+lines_found program (step ∷ steps) = lines_found program steps ++ flat_map (line_at program step steps) (step_faults step)
+
+-- for each target its latest collapse from these steps on that anticommutes; `before` collapses come before them
+abbrev pub latest_before : Listing → ℕ → List ListedStep → List (Option ℕ)
+latest_before program before steps =
+    map (λ d. option_map (λ k. before + k) (latest_place program.qubits (target_at program d) steps))
+    (range_with_len 0 (length (targets_of program)))
+
+-- for each target the lowest qubit below q at which its word at the start has X or Y
+abbrev pub lowest_below : Listing → ℕ → List (Option ℕ)
+lowest_below program q =
+    map (λ d. lowest_X_or_Y (take q (sensitivity_before program program.steps d).word)) (range_with_len 0 (length (targets_of program)))
+
+-- what is kept before these steps
+pub record IsPassed (program : Listing) (steps : List ListedStep) (tracked : Tracked) (record_sets : List (List Bool)) (found : List ErrorLine) (places : List (Option ℕ)) (left : ℕ) : Type 0 where
+  pub words : tracked ≡ tracked_before program steps
+  pub sets : record_sets ≡ listing_sets program steps
+  pub lines : found ≡ lines_found program steps
+  pub latest : places ≡ latest_before program left steps
+  pub counted : left + collapse_count steps ≡ program.collapses

@@ -1,0 +1,54 @@
+-- Words kept by qubit: for each qubit a column, the letters that all words have there. The words are the columns
+-- transposed. A column is kept as two rows of bits, one bit a word: X in the letter, and Z in it.
+use Rattle.std.specs.Prelude.{◌≡◌, ◌≤◌, ◌^◌, ℕ, Bool, ◌&&◌, List, [], ◌∷◌, false, map, length, All, slice_index_or, slice_set}
+use Rattle.std.specs.List.{range_with_len}
+use Rattle.pauli_word.specs.declared.letter.Letter.{Letter}
+use Rattle.pauli_word.specs.declared.letter.Letter.TheVariants.{I, X, Y, Z}
+use Rattle.pauli_word.specs.Letters.{letter_product}
+use Rattle.pauli_word.specs.Parity.{exclusive_or}
+use Rattle.pauli_word.specs.Words.{letter_at}
+use Rattle.backward.specs.Tracked.{Tracked}
+
+-- the word of target t
+abbrev pub word_at : List (List Letter) → ℕ → List Letter
+word_at columns t = map (λ column. letter_at column t) columns
+
+-- the words of m targets
+abbrev pub transposed : ℕ → List (List Letter) → List (List Letter)
+transposed m columns = map (word_at columns) (range_with_len 0 m)
+
+abbrev pub tracked_of : ℕ → List (List Letter) → Tracked
+tracked_of m columns = record { qubits = length columns; words = transposed m columns }
+
+-- the image of a letter, from the images of X and Z, signs left out
+abbrev pub combined : Letter → Letter → Letter → Letter
+combined x z I = I
+combined x z X = x
+combined x z Y = letter_product x z
+combined x z Z = z
+
+-- a row, plus another where b
+abbrev pub xor_where : Bool → List Bool → List Bool → List Bool
+xor_where b (p ∷ ps) (q ∷ qs) = exclusive_or p (b && q) ∷ xor_where b ps qs
+xor_where b ps qs = ps
+
+-- a row with the bit at t turned where b
+abbrev pub flipped_where : Bool → ℕ → List Bool → List Bool
+flipped_where b t row = slice_set row t (exclusive_or b (slice_index_or row t false))
+
+-- a column with a letter multiplied in at a place, and at each place of a list
+abbrev pub times_at : Letter → ℕ → List Letter → List Letter
+times_at letter t column = slice_set column t (letter_product letter (letter_at column t))
+
+abbrev pub times_each : Letter → List ℕ → List Letter → List Letter
+times_each letter [] column = column
+times_each letter (t ∷ ts) column = times_each letter ts (times_at letter t column)
+
+-- columns, spare columns and spare sets for m targets
+pub record IsTransposed (m : ℕ) (columns : List (List Letter)) (first second : List Letter) (set spare : List Bool) : Type 0 where
+  pub columns_long : All (λ column. length column ≡ m) columns
+  pub first_long : length first ≡ m
+  pub second_long : length second ≡ m
+  pub set_long : length set ≡ m
+  pub spare_long : length spare ≡ m
+  pub few : m ≤ 2 ^ 32

@@ -1,0 +1,170 @@
+ghost use Rattle.std.specs.Prelude.{◌≡◌, ◌<◌, map, length, All, IfOk, OnOk};
+ghost use Rattle.bit_rows.specs.Rows.{xor_rows};
+ghost use Rattle.pauli_word.specs.Bits.{x_bit, z_bit, letters_of};
+ghost use Rattle.pauli_word.specs.Letters.{letters_clash};
+ghost use Rattle.pauli_word.specs.Words.{letters_product, no_letters};
+ghost use Rattle.backward.specs.Transposed.{combined, xor_where, times_each, times_at, flipped_where};
+
+use crate::target_set::TargetSet;
+use pauli_word::Letter;
+use std::alloc::AllocError;
+use std::marker::Model;
+
+/// The letters that all words have at one qubit: the targets whose letter has an X in it, and those whose letter has
+/// a Z, where Y has both.
+#[derive(Drop)]
+pub(crate) struct Column<S: TargetSet> {
+    x: S,
+    z: S,
+}
+
+impl<S: TargetSet> Model for Column<S> {
+    ghost use Rattle.std.specs.Prelude.{◌≡◌, List, length};
+    ghost use Rattle.pauli_word.specs.declared.letter.Letter.{Letter};
+    ghost use Rattle.pauli_word.specs.Bits.{letters_of};
+
+    ghost Value = { List Letter };
+
+    ghost view = { λ c. letters_of (S.bits c.x) (S.bits c.z) };
+
+    ghost invariant = { λ c. length (S.bits c.x) ≡ length (S.bits c.z) };
+}
+
+impl<S: TargetSet> Column<S> {
+    /// The letters of two sets.
+    pub(crate) fn of(x: S, z: S) -> Self
+        requires { length (S.bits x) ≡ length (S.bits z) }
+        ensures { result ≡ letters_of (S.bits x) (S.bits z) }
+    {
+        Column { x, z }
+    }
+
+    /// Makes every letter I.
+    pub(crate) fn clear(&mut self)
+        ensures { self.new ≡ no_letters (length self.old) }
+    {
+        self.x.clear();
+        self.z.clear();
+    }
+
+    /// Exchanges two columns.
+    pub(crate) fn swap(&mut self, other: &mut Column<S>)
+        ensures first { self.new ≡ other.old }
+        ensures second { other.new ≡ self.old }
+    {
+        std::mem::swap(self, other);
+    }
+
+    /// Makes each letter the image of that of another column, from the images of X and Z.
+    pub(crate) fn set_image(
+        &mut self,
+        from: &Column<S>,
+        x: Letter,
+        z: Letter,
+        spare: &mut S,
+    ) -> Result<(), AllocError>
+        requires from { length from.now ≡ length self.old }
+        requires spare { length (S.bits spare.old) ≡ length self.old }
+        ensures ok { OnOk result (self.new ≡ map (combined x z) from.now) }
+        ensures len { length self.new ≡ length self.old }
+        ensures spare { length (S.bits spare.new) ≡ length (S.bits spare.old) }
+    {
+        self.clear();
+        self.add_image(from, x, z, spare)
+    }
+
+    /// Multiplies each letter by the image of that of another column, from the images of X and Z.
+    pub(crate) fn add_image(
+        &mut self,
+        from: &Column<S>,
+        x: Letter,
+        z: Letter,
+        spare: &mut S,
+    ) -> Result<(), AllocError>
+        requires from { length from.now ≡ length self.old }
+        requires spare { length (S.bits spare.old) ≡ length self.old }
+        ensures ok { OnOk result (self.new ≡ letters_product self.old (map (combined x z) from.now)) }
+        ensures len { length self.new ≡ length self.old }
+        ensures spare { length (S.bits spare.new) ≡ length (S.bits spare.old) }
+    {
+        add_where(has_x(x), &mut self.x, &from.x, spare)?;
+        add_where(has_x(z), &mut self.x, &from.z, spare)?;
+        add_where(has_z(x), &mut self.z, &from.x, spare)?;
+        add_where(has_z(z), &mut self.z, &from.z, spare)
+    }
+
+    /// Toggles the targets whose letter here clashes with this one.
+    pub(crate) fn toggle_clashing(
+        &self,
+        letter: Letter,
+        set: &mut S,
+        spare: &mut S,
+    ) -> Result<(), AllocError>
+        requires set { length (S.bits set.old) ≡ length self.now }
+        requires spare { length (S.bits spare.old) ≡ length self.now }
+        ensures ok { OnOk result (S.bits set.new ≡ xor_rows (S.bits set.old) (map (letters_clash letter) self.now)) }
+        ensures len { length (S.bits set.new) ≡ length (S.bits set.old) }
+        ensures spare { length (S.bits spare.new) ≡ length (S.bits spare.old) }
+    {
+        add_where(has_z(letter), set, &self.x, spare)?;
+        add_where(has_x(letter), set, &self.z, spare)
+    }
+
+    /// Multiplies the letters of these targets by a letter.
+    pub(crate) fn times_each(&mut self, targets: &[u32], letter: Letter) -> Result<(), AllocError>
+        requires { All (λ t. t < length self.old) targets.now }
+        ensures ok { OnOk result (self.new ≡ times_each letter targets.now self.old) }
+        ensures len { length self.new ≡ length self.old }
+    {
+        for t in targets {
+            self.times_at(*t, letter)?;
+        }
+        Ok(())
+    }
+
+    fn times_at(&mut self, t: u32, letter: Letter) -> Result<(), AllocError>
+        requires { t < length self.old }
+        ensures ok { OnOk result (self.new ≡ times_at letter t self.old) }
+        ensures len { length self.new ≡ length self.old }
+    {
+        toggle_where(has_x(letter), &mut self.x, t)?;
+        toggle_where(has_z(letter), &mut self.z, t)
+    }
+}
+
+fn has_x(letter: Letter) -> bool
+    ensures { result ≡ x_bit letter }
+{
+    matches!(letter, Letter::X | Letter::Y)
+}
+
+fn has_z(letter: Letter) -> bool
+    ensures { result ≡ z_bit letter }
+{
+    matches!(letter, Letter::Y | Letter::Z)
+}
+
+// Adds a set to another where `add`.
+fn add_where<S: TargetSet>(
+    add: bool,
+    set: &mut S,
+    other: &S,
+    spare: &mut S,
+) -> Result<(), AllocError>
+    requires other { length (S.bits set.old) ≡ length (S.bits other.now) }
+    requires spare { length (S.bits spare.old) ≡ length (S.bits set.old) }
+    ensures sum { OnOk result (S.bits set.new ≡ xor_where add (S.bits set.old) (S.bits other.now)) }
+    ensures len { length (S.bits set.new) ≡ length (S.bits set.old) }
+    ensures spare { length (S.bits spare.new) ≡ length (S.bits spare.old) }
+{
+    if add { set.add(other, spare) } else { Ok(()) }
+}
+
+// Toggles a target where `toggle`.
+fn toggle_where<S: TargetSet>(toggle: bool, set: &mut S, t: u32) -> Result<(), AllocError>
+    requires { t < length (S.bits set.old) }
+    ensures ok { OnOk result (S.bits set.new ≡ flipped_where toggle t (S.bits set.old)) }
+    ensures len { length (S.bits set.new) ≡ length (S.bits set.old) }
+{
+    if toggle { set.toggle(t) } else { Ok(()) }
+}

@@ -1,0 +1,19 @@
+//! Going back over the steps of a program with one unsigned Pauli word a target: which targets each fault hits, and
+//! which target is random.
+#![tactic(auto)]
+
+mod analysis;
+mod collapse;
+mod column;
+mod pass;
+mod places;
+mod record_sets;
+mod sparse_set;
+mod target_set;
+mod targets;
+mod tracker;
+mod words;
+
+pub use analysis::{Analysed, analyse};
+pub use tracker::Tracker;
+pub use words::{DenseWords, QubitSets, Words};

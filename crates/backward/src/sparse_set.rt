@@ -1,0 +1,156 @@
+//! A set of targets as the list of those in it.
+ghost use Rattle.std.specs.Prelude.{◌≡◌, ◌<◌, ◌≤◌, ◌-◌, ◌∷◌, [], ℕ, false, length, replicate, reverse, slice_index, OnOk, OnErr};
+ghost use Rattle.backward.specs.Sets.{xor_sets, DescendsBelow};
+
+use crate::target_set::TargetSet;
+use smallvec::SmallVec;
+use std::alloc::{AllocError, Allocator};
+use std::marker::Model;
+
+/// A set of targets as the list of those in it, the greatest first: where targets come from the greatest down, adding
+/// one appends it.
+#[derive(Drop)]
+pub struct SparseSet<'a, A: Allocator + Copy> {
+    targets: usize,
+    // On a borrowed allocator: how large a SmallVec is has to be known.
+    items: SmallVec<u32, 4, &'a A>,
+}
+
+impl<'a, A: Allocator + Copy> Model for SparseSet<'a, A> {
+    ghost use Rattle.std.specs.Prelude.{List, Bool};
+    ghost use Rattle.backward.specs.Sets.{row_of_set, DescendsBelow};
+
+    ghost Value = { List Bool };
+
+    ghost view = { λ s. row_of_set s.targets s.items.items };
+
+    ghost invariant = { λ s. DescendsBelow s.targets s.items.items };
+}
+
+impl<'a, A: Allocator + Copy> SparseSet<'a, A> {
+    /// None of so many targets. Takes no memory.
+    pub fn none(alloc: &'a A, targets: usize) -> Self
+        ensures { result ≡ replicate targets false }
+    {
+        SparseSet {
+            targets,
+            items: SmallVec::new(alloc),
+        }
+    }
+}
+
+impl<'a, A: Allocator + Copy> TargetSet for SparseSet<'a, A> {
+    ghost bits = { λ set. set };
+
+    fn copy(&self) -> Result<Self, AllocError> {
+        Ok(SparseSet {
+            targets: self.targets,
+            items: SmallVec::from_slice(*self.items.allocator(), self.items.as_slice())?,
+        })
+    }
+
+    fn clear(&mut self) {
+        self.items.clear();
+    }
+
+    fn toggle(&mut self, target: u32) -> Result<(), AllocError> {
+        toggle_in(&mut self.items, target)
+    }
+
+    fn add(&mut self, other: &Self, spare: &mut Self) -> Result<(), AllocError> {
+        spare.items.clear();
+        match merge(
+            self.items.as_slice(),
+            other.items.as_slice(),
+            &mut spare.items,
+        ) {
+            Ok(()) => {
+                std::mem::swap(&mut self.items, &mut spare.items);
+                Ok(())
+            }
+            Err(error) => {
+                spare.items.clear();
+                Err(error)
+            }
+        }
+    }
+
+    fn list<B: Allocator + Copy>(&self, into: &mut Vec<u32, B>) -> Result<(), AllocError> {
+        list_ascending(self.items.as_slice(), into)
+    }
+}
+
+// Takes a target out of a descending list, or puts it in at its place.
+fn toggle_in<A: Allocator + Copy>(
+    items: &mut SmallVec<u32, 4, A>,
+    target: u32,
+) -> Result<(), AllocError>
+    ensures ok { OnOk result ((m : ℕ) → DescendsBelow m items.old.items → items.new.items ≡ xor_sets (target ∷ []) items.old.items) }
+    ensures err { OnErr result (items.new.items ≡ items.old.items) }
+    ensures descends { (m : ℕ) → target < m → DescendsBelow m items.old.items → DescendsBelow m items.new.items }
+{
+    let place = place_of(items.as_slice(), target);
+    if place > 0 && items.as_slice()[place - 1] == target {
+        let _ = items.remove(place - 1);
+    } else {
+        items.insert(place, target)?;
+    }
+    Ok(())
+}
+
+// The place from which on all are less than the target, searched for from the end.
+fn place_of(items: &[u32], target: u32) -> usize
+    ensures within { result ≤ length items.now }
+    ensures below { (k : ℕ) → result ≤ k → k < length items.now → slice_index items.now k < target }
+    ensures above { 0 < result → target ≤ slice_index items.now (result - 1) }
+{
+    let mut place = items.len();
+    while place > 0 && items[place - 1] < target {
+        place -= 1;
+    }
+    place
+}
+
+// Appends the exclusive or of two descending lists.
+fn merge<A: Allocator + Copy>(
+    first: &[u32],
+    second: &[u32],
+    into: &mut SmallVec<u32, 4, A>,
+) -> Result<(), AllocError>
+    requires { into.old.items ≡ [] }
+    ensures { OnOk result (into.new.items ≡ xor_sets first.now second.now) }
+{
+    let mut i = 0;
+    let mut j = 0;
+    while i < first.len() && j < second.len() {
+        let x = first[i];
+        let y = second[j];
+        if y < x {
+            into.push(x)?;
+            i += 1;
+        } else if x < y {
+            into.push(y)?;
+            j += 1;
+        } else {
+            i += 1;
+            j += 1;
+        }
+    }
+    into.extend_from_slice(&first[i..])?;
+    into.extend_from_slice(&second[j..])
+}
+
+fn list_ascending<B: Allocator + Copy>(
+    items: &[u32],
+    into: &mut Vec<u32, B>,
+) -> Result<(), AllocError>
+    ensures { OnOk result (into.new.items ≡ reverse items.now) }
+{
+    into.clear();
+    let mut left = items.len();
+    while left > 0 {
+        left -= 1;
+        into.push(items[left])?;
+    }
+    Ok(())
+}

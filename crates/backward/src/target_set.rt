@@ -1,0 +1,73 @@
+//! Sets of targets, which tracked words are kept in.
+ghost use Rattle.std.specs.Prelude.{◌≡◌, ◌<◌, ◌≤◌, ◌^◌, false, not, length, filter, replicate, IfOk, OnOk, List, Bool, slice_index_or, slice_set};
+ghost use Rattle.std.specs.List.{range_with_len};
+ghost use Rattle.bit_rows.specs.Rows.{xor_rows};
+ghost use Rattle.backward.specs.TargetSets.{members};
+
+use bit_rows::BitRow;
+use std::alloc::{AllocError, Allocator};
+
+/// A set of targets, of a number of targets that stays. An error leaves the set as it was.
+pub trait TargetSet: Drop {
+    // For each target whether it is in the set.
+    ghost bits: { Self → List Bool };
+
+    /// A copy, on the same allocator.
+    fn copy(&self) -> Result<Self, AllocError>
+        ensures { IfOk result (λ set. bits set ≡ bits self.now) };
+
+    /// Takes all targets out.
+    fn clear(&mut self)
+        ensures { bits self.new ≡ replicate (length (bits self.old)) false };
+
+    /// Puts a target in that isn't there, or takes it out.
+    fn toggle(&mut self, target: u32) -> Result<(), AllocError>
+        requires { target < length (bits self.old) }
+        ensures ok { OnOk result (bits self.new ≡ slice_set (bits self.old) target (not (slice_index_or (bits self.old) target false))) }
+        ensures len { length (bits self.new) ≡ length (bits self.old) };
+
+    /// Toggles each target of another set. What the spare one held is lost.
+    fn add(&mut self, other: &Self, spare: &mut Self) -> Result<(), AllocError>
+        requires other { length (bits self.old) ≡ length (bits other.now) }
+        requires spare { length (bits spare.old) ≡ length (bits self.old) }
+        ensures ok { OnOk result (bits self.new ≡ xor_rows (bits self.old) (bits other.now)) }
+        ensures len { length (bits self.new) ≡ length (bits self.old) }
+        ensures spare { length (bits spare.new) ≡ length (bits spare.old) };
+
+    /// Puts the targets in the set into `into`, ascending, in place of what it held.
+    fn list<B: Allocator + Copy>(&self, into: &mut Vec<u32, B>) -> Result<(), AllocError>
+        requires { length (bits self.now) ≤ 2 ^ 32 }
+        ensures { OnOk result (into.new.items ≡ members (bits self.now)) };
+}
+
+impl<A: Allocator + Copy> TargetSet for BitRow<A> {
+    ghost bits = { λ row. row };
+
+    fn copy(&self) -> Result<Self, AllocError> {
+        BitRow::copy(self)
+    }
+
+    fn clear(&mut self) {
+        BitRow::clear(self);
+    }
+
+    fn toggle(&mut self, target: u32) -> Result<(), AllocError> {
+        self.flip(target as usize);
+        Ok(())
+    }
+
+    fn add(&mut self, other: &Self, _spare: &mut Self) -> Result<(), AllocError> {
+        self.xor_from(other);
+        Ok(())
+    }
+
+    fn list<B: Allocator + Copy>(&self, into: &mut Vec<u32, B>) -> Result<(), AllocError> {
+        into.clear();
+        for t in 0..self.len() {
+            if self.get(t) {
+                into.push(t as u32)?;
+            }
+        }
+        Ok(())
+    }
+}

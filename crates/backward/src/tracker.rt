@@ -1,0 +1,55 @@
+ghost use Rattle.std.specs.Prelude.{◌≡◌, ◌≢◌, ◌<◌, length, All, OnOk};
+ghost use Rattle.std.specs.List.Sorted.{IsStrictlyIncreasing};
+ghost use Rattle.gate_table.specs.Images.{arity_of};
+ghost use Rattle.backward.specs.Tracked.{Tracked, each_word, undone_one, undone_two, with_I_at, added, anticommuting};
+
+use gate_table::Gate;
+use pauli_word::Letter;
+use std::alloc::{AllocError, Allocator};
+use step_model::Term;
+
+/// One unsigned word a target, taken back over the steps of a program: the words of the detectors, then those of the
+/// observables. Lists of targets ascend.
+///
+/// After an error nothing is said of the words, and the tracker is not used again.
+pub trait Tracker {
+    // The words, in the order of their targets, and how many qubits they have.
+    ghost tracked: { Self → Tracked };
+
+    /// Makes each word the one whose image it was under a one-qubit gate.
+    fn undo1(&mut self, gate: Gate, q: usize) -> Result<(), AllocError>
+        requires arity { arity_of gate ≡ 1 }
+        requires in_range { q < (tracked self.old).qubits }
+        ensures { OnOk result (tracked self.new ≡ each_word (undone_one gate q) (tracked self.old)) };
+
+    /// Makes each word the one whose image it was under a two-qubit gate.
+    fn undo2(&mut self, gate: Gate, a: usize, b: usize) -> Result<(), AllocError>
+        requires arity { arity_of gate ≡ 2 }
+        requires first_in_range { a < (tracked self.old).qubits }
+        requires second_in_range { b < (tracked self.old).qubits }
+        requires different { a ≢ b }
+        ensures { OnOk result (tracked self.new ≡ each_word (undone_two gate a b) (tracked self.old)) };
+
+    /// Multiplies the words of these targets, which ascend, by a letter at a qubit.
+    fn add(&mut self, targets: &[u32], letter: Letter, q: usize) -> Result<(), AllocError>
+        requires ascending { IsStrictlyIncreasing targets.now }
+        requires named { All (λ t. t < length (tracked self.old).words) targets.now }
+        requires in_range { q < (tracked self.old).qubits }
+        ensures { OnOk result (tracked self.new ≡ added targets.now letter q (tracked self.old)) };
+
+    /// Puts I at a qubit of each word. Takes no memory.
+    fn clear(&mut self, q: usize)
+        requires { q < (tracked self.old).qubits }
+        ensures { tracked self.new ≡ each_word (with_I_at q) (tracked self.old) };
+
+    /// Puts into `hit`, in place of what it held, the targets whose words anticommute with the product of these
+    /// letters at qubits, ascending. The words stay.
+    fn hit<B: Allocator + Copy>(
+        &mut self,
+        terms: &[Term],
+        hit: &mut Vec<u32, B>,
+    ) -> Result<(), AllocError>
+        requires { All (λ term. term.qubit < (tracked self.old).qubits) terms.now }
+        ensures hit { OnOk result (hit.new.items ≡ anticommuting terms.now (tracked self.old)) }
+        ensures same { OnOk result (tracked self.new ≡ tracked self.old) };
+}

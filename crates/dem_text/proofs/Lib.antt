@@ -1,0 +1,2 @@
+mod ErrorLineLemmas
+mod TextLemmas

@@ -1,0 +1,10 @@
+use Rattle.pieces.specs.Pushed.{Pushes}
+use Rattle.std.proofs.Common.{take}
+use Rattle.std.specs.List.{flat_map}
+use Rattle.dem_text.specs.ModelText.{line_text}
+use Rattle.dem_text.proofs.text.write_lines.Given as goal
+
+abbrev pub invariant-loop-line : goal.invariant-loop-line
+invariant-loop-line g l =
+    Pushes g.W.Sink.taken g.W.Sink.failures l.fn.sink l.sink l.fn.out l.out
+    (flat_map (line_text l.model.detectors) (take l.line l.model.lines))

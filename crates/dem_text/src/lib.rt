@@ -1,0 +1,8 @@
+//! Error models: for each fault that flips something, what it flips; and their text.
+#![tactic(auto)]
+
+mod model;
+mod text;
+
+pub use model::Model;
+pub use text::write;

@@ -1,0 +1,161 @@
+//! The text of an error model, on its way to a sink.
+ghost use Rattle.std.specs.Prelude.{◌≡◌, ◌<◌, decimal, length, IfErr, OnOk, OnErr};
+ghost use Rattle.std.specs.Fmt.{signed_decimal};
+ghost use Rattle.dem_text.specs.ModelText.{target_text, targets_text, line_text, more_coordinates_text, coordinates_text, detector_text, observable_text, lines_text, detectors_text, observables_text, model_text};
+ghost use Rattle.pieces.specs.Pushed.{Pushes};
+ghost use Rattle.step_model.specs.Ends.{Takes, TakesBeginning, write_failures};
+ghost use Rattle.step_model.specs.Faults.{write_fault};
+
+use crate::Model;
+use itoa::Buffer;
+use pieces::Pieces;
+use std::alloc::Allocator;
+use step_model::{Fault, Sink};
+
+/// Writes the text of a model. It takes no memory, and fails only where the sink fails; a beginning of the text has
+/// then gone out, and the sink is not called again.
+pub fn write<'a, A: Allocator + Copy, W: Sink>(
+    model: &Model<'a, A>,
+    sink: &mut W,
+) -> Result<(), Fault>
+    ensures all { OnOk result (Takes (W.taken sink.old) (W.taken sink.new) (model_text model.now)) }
+
+    ensures fault { IfErr result (λ e. e ≡ write_fault) }
+    ensures beginning { OnErr result (TakesBeginning (W.taken sink.old) (W.taken sink.new) (model_text model.now)) }
+
+    // One more where the sink failed, else as it was.
+    ensures count { W.failures sink.new ≡ write_failures result (W.failures sink.old) }
+{
+    let mut out = Pieces::new();
+    write_lines(&mut out, sink, model);
+    write_detectors(&mut out, sink, model);
+    write_observables(&mut out, sink, model);
+    out.finish(sink)
+}
+
+fn write_lines<'a, A: Allocator + Copy, W: Sink>(
+    out: &mut Pieces,
+    sink: &mut W,
+    model: &Model<'a, A>,
+)
+    ensures { Pushes W.taken W.failures sink.old sink.new out.old out.new (lines_text model.now) }
+{
+    let detectors = model.detector_count();
+    for line in 0..model.line_count() {
+        write_line(out, sink, detectors, model.text(line), model.targets(line));
+    }
+}
+
+fn write_line<W: Sink>(
+    out: &mut Pieces,
+    sink: &mut W,
+    detectors: usize,
+    probability: &[u8],
+    targets: &[u32],
+)
+    ensures { Pushes W.taken W.failures sink.old sink.new out.old out.new (line_text detectors (record { text = probability.now; targets = targets.now })) }
+{
+    out.push(sink, b"error(");
+    out.push(sink, probability);
+    out.push(sink, b")");
+    write_targets(out, sink, detectors, targets);
+    out.push(sink, b"\n");
+}
+
+fn write_targets<W: Sink>(out: &mut Pieces, sink: &mut W, detectors: usize, targets: &[u32])
+    ensures { Pushes W.taken W.failures sink.old sink.new out.old out.new (targets_text detectors targets.now) }
+{
+    for target in targets {
+        write_target(out, sink, detectors, *target as usize);
+    }
+}
+
+// A target after its space.
+fn write_target<W: Sink>(out: &mut Pieces, sink: &mut W, detectors: usize, target: usize)
+    ensures { Pushes W.taken W.failures sink.old sink.new out.old out.new (target_text detectors target) }
+{
+    if target < detectors {
+        out.push(sink, b" D");
+        write_number(out, sink, target);
+    } else {
+        out.push(sink, b" L");
+        write_number(out, sink, target - detectors);
+    }
+}
+
+fn write_detectors<'a, A: Allocator + Copy, W: Sink>(
+    out: &mut Pieces,
+    sink: &mut W,
+    model: &Model<'a, A>,
+)
+    ensures { Pushes W.taken W.failures sink.old sink.new out.old out.new (detectors_text model.now) }
+{
+    for detector in 0..model.detector_count() {
+        write_detector(out, sink, detector, model.coordinates(detector));
+    }
+}
+
+fn write_detector<W: Sink>(out: &mut Pieces, sink: &mut W, detector: usize, coordinates: &[i64])
+    ensures { Pushes W.taken W.failures sink.old sink.new out.old out.new (detector_text detector coordinates.now) }
+{
+    out.push(sink, b"detector");
+    write_coordinates(out, sink, coordinates);
+    out.push(sink, b" D");
+    write_number(out, sink, detector);
+    out.push(sink, b"\n");
+}
+
+fn write_coordinates<W: Sink>(out: &mut Pieces, sink: &mut W, coordinates: &[i64])
+    ensures { Pushes W.taken W.failures sink.old sink.new out.old out.new (coordinates_text coordinates.now) }
+{
+    if let [first, more @ ..] = coordinates {
+        out.push(sink, b"(");
+        write_whole(out, sink, *first);
+        write_more_coordinates(out, sink, more);
+        out.push(sink, b")");
+    }
+}
+
+fn write_more_coordinates<W: Sink>(out: &mut Pieces, sink: &mut W, coordinates: &[i64])
+    ensures { Pushes W.taken W.failures sink.old sink.new out.old out.new (more_coordinates_text coordinates.now) }
+{
+    for coordinate in coordinates {
+        out.push(sink, b", ");
+        write_whole(out, sink, *coordinate);
+    }
+}
+
+fn write_observables<'a, A: Allocator + Copy, W: Sink>(
+    out: &mut Pieces,
+    sink: &mut W,
+    model: &Model<'a, A>,
+)
+    ensures { Pushes W.taken W.failures sink.old sink.new out.old out.new (observables_text model.now) }
+{
+    for observable in 0..model.observable_count() {
+        write_observable(out, sink, observable);
+    }
+}
+
+fn write_observable<W: Sink>(out: &mut Pieces, sink: &mut W, observable: usize)
+    ensures { Pushes W.taken W.failures sink.old sink.new out.old out.new (observable_text observable) }
+{
+    out.push(sink, b"logical_observable L");
+    write_number(out, sink, observable);
+    out.push(sink, b"\n");
+}
+
+fn write_number<W: Sink>(out: &mut Pieces, sink: &mut W, number: usize)
+    ensures { Pushes W.taken W.failures sink.old sink.new out.old out.new (decimal number) }
+{
+    out.push(sink, Buffer::new().format(number).as_bytes());
+}
+
+fn write_whole<W: Sink>(out: &mut Pieces, sink: &mut W, number: i64)
+    ensures { Pushes W.taken W.failures sink.old sink.new out.old out.new (signed_decimal number) }
+{
+    out.push(sink, Buffer::new().format(number).as_bytes());
+}
+
+#[cfg(test)]
+mod tests;

@@ -1,0 +1,4 @@
+mod FrameSteps
+mod Passing
+mod TermWords
+mod Walking

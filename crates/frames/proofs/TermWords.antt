@@ -1,0 +1,40 @@
+-- A product of letters at qubits, letter by letter.
+use Rattle.std.proofs.Common.{◌≡◌, ℕ, ◌<◌, Bool, true, false, List, [], ◌∷◌, length, refl, sym, ap₂, ◌∙◌}
+use Rattle.std.specs.Prelude.{not}
+use Rattle.std.specs.Bool.{beq}
+use Rattle.pauli_word.specs.declared.letter.Letter.{Letter}
+use Rattle.pauli_word.specs.Letters.{letters_clash}
+use Rattle.pauli_word.specs.Parity.{exclusive_or}
+use Rattle.pauli_word.specs.Words.{anticommute, letter_at, lone_letter, letters_product, no_letters}
+use Rattle.pauli_word.proofs.LoneLetters.{length-lone_letter, letters_product_of_no_letters}
+use Rattle.pauli_word.proofs.WordLaws.{letters_product_comm, anticommute_comm, anticommute-product}
+use Rattle.step_model.specs.declared.step.Term.{Term}
+use Rattle.step_model.specs.Listing.{word_of_terms}
+use Rattle.step_model.proofs.StepNumbers.{length-word_of_terms}
+use Rattle.run_laws.proofs.ShiftWords.{anticommute-lone}
+
+-- a word meets the first letter, and then those that are left
+pub anticommute-term : (n : ℕ) (w : List Letter) (term : Term) (terms : List Term) → length w ≡ n → term.qubit < n
+    → anticommute w (word_of_terms n (term ∷ terms)) ≡ exclusive_or (letters_clash (letter_at w term.qubit) term.letter) (anticommute w (word_of_terms n terms))
+anticommute-term n w term terms size inside =
+    let lone = lone_letter n term.qubit term.letter in
+    let rest = word_of_terms n terms in
+    anticommute_comm w (letters_product lone rest)
+    ∙ (anticommute-product lone rest w (length-lone_letter n term.qubit term.letter ∙ sym (length-word_of_terms n terms))
+    ∙ ap₂ exclusive_or
+    (anticommute_comm lone w ∙ anticommute-lone w n term.qubit term.letter size inside)
+    (anticommute_comm rest w))
+
+-- one letter is a product
+pub word_of_one : (n q : ℕ) (a : Letter) → word_of_terms n (record { qubit = q; letter = a } ∷ []) ≡ lone_letter n q a
+word_of_one n q a =
+    letters_product_comm (lone_letter n q a) (no_letters n) ∙ letters_product_of_no_letters n (lone_letter n q a) (length-lone_letter n q a)
+
+-- a parity that is turned where there is a clash
+pub turned : (odd clash rest : Bool) → exclusive_or (not (beq odd clash)) rest ≡ exclusive_or odd (exclusive_or clash rest)
+turned false false rest = refl
+turned false true rest = refl
+turned true false false = refl
+turned true false true = refl
+turned true true false = refl
+turned true true true = refl

@@ -1,0 +1,3 @@
+pub mod Flips
+pub mod Pairs
+pub mod Passes

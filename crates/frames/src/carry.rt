@@ -1,0 +1,75 @@
+ghost use Rattle.std.specs.Prelude.{◌≡◌, ◌++◌, drop, length, IfOk, IfErr, OnOk};
+ghost use Rattle.step_model.specs.Faults.{memory_fault};
+ghost use Rattle.step_model.specs.Frames.{flips_from, flips_of};
+
+use crate::collapses::go_past;
+use crate::frame::Frame;
+use pauli_word::Word;
+use programs::{Program, Walk};
+use std::alloc::{AllocError, Allocator};
+use step_model::{Cause, Fault, Place};
+
+/// Which collapses a frame flips, one truth value a collapse, that begins as this word at a place: those up to and with
+/// the collapse behind which it begins are not flipped. The word's sign is left out, and no fault happens. A refusal is
+/// for want of memory.
+pub fn flips<A: Allocator + Copy>(
+    alloc: A,
+    program: &Program<'_, A>,
+    place: Place,
+    word: &Word<A>,
+) -> Result<Vec<bool, A>, Fault>
+    requires { length word.now.letters ≡ program.now.qubits }
+    ensures ok { IfOk result (λ flips. flips.items ≡ flips_of program.now place word.now.letters) }
+    ensures err { IfErr result (λ e. e ≡ memory_fault) }
+{
+    match flips_at(alloc, program, place, word) {
+        Ok(flips) => Ok(flips),
+        Err(_) => Err(Fault {
+            cause: Cause::Memory,
+            line: 0,
+        }),
+    }
+}
+
+pub(crate) fn flips_at<A: Allocator + Copy>(
+    alloc: A,
+    program: &Program<'_, A>,
+    place: Place,
+    word: &Word<A>,
+) -> Result<Vec<bool, A>, AllocError>
+    requires { length word.now.letters ≡ program.now.qubits }
+    ensures { IfOk result (λ flips. flips.items ≡ flips_of program.now place word.now.letters) }
+{
+    let mut walk = Walk::start(program);
+    let mut flips = Vec::new(alloc);
+    let mut made = 0;
+    if let Place::After(collapse) = place {
+        flips.resize(collapse as usize + 1, false)?;
+        if let Some(passed) = go_past(program, &mut walk, collapse) {
+            made = passed.made;
+        }
+    }
+    let mut frame = Frame::begin(alloc, word.copy()?, made)?;
+    push_flips(program, &mut walk, &mut frame, &mut flips)?;
+    Ok(flips)
+}
+
+// Appends the flips of the collapses to come.
+fn push_flips<A: Allocator + Copy>(
+    program: &Program<'_, A>,
+    walk: &mut Walk<'_, '_, A>,
+    frame: &mut Frame<A>,
+    flips: &mut Vec<bool, A>,
+) -> Result<(), AllocError>
+    requires program { walk.old.program ≡ program.now }
+    requires size { length frame.old.word ≡ program.now.qubits }
+    ensures { OnOk result (flips.new.items ≡ flips.old.items ++ flips_from program.now.qubits frame.old (drop walk.old.place program.now.steps)) }
+{
+    program.well_formed();
+    while let Some(step) = walk.next_step() {
+        if let Some(flip) = frame.carry(program, step)? {
+            flips.push(flip)?;
+        }
+    }
+    Ok(())
+}

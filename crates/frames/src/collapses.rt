@@ -1,0 +1,61 @@
+//! The way from the start of a program to a collapse.
+ghost use Rattle.std.specs.Prelude.{◌≡◌, ℕ, List, [], drop, slice_index_or};
+ghost use Rattle.programs.specs.Listed.{listed};
+ghost use Rattle.step_model.specs.Frames.{steps_after_each};
+ghost use Rattle.step_model.specs.Sensitivities.{is_collapse};
+ghost use Rattle.step_model.specs.declared.step.Term.{Term};
+ghost use Rattle.frames.specs.Passes.{made_after, Passes};
+
+use programs::{Program, Step, Walk};
+use std::alloc::Allocator;
+
+/// A collapse that was gone over, and how many records there are then.
+#[derive(Clone, Copy, Drop)]
+pub(crate) struct Passed {
+    pub(crate) step: Step,
+    pub(crate) made: usize,
+}
+
+/// Goes forward from the start over the collapse of a number; to the end, where there is none of it.
+pub(crate) fn go_past<A: Allocator + Copy>(
+    program: &Program<'_, A>,
+    walk: &mut Walk<'_, '_, A>,
+    collapse: u32,
+) -> Option<Passed>
+    requires program { walk.old.program ≡ program.now }
+    requires start { walk.old.place ≡ 0 }
+    ensures program { walk.new.program ≡ program.now }
+    ensures rest { drop walk.new.place program.now.steps ≡ slice_index_or (steps_after_each program.now.steps) collapse [] }
+    ensures passed { Passes program.now collapse result }
+{
+    program.well_formed();
+    let mut made = 0;
+    let mut before = 0;
+    while let Some(step) = walk.next_step() {
+        made = records_after(made, step);
+        if is_collapse(step) {
+            if before == collapse {
+                return Some(Passed { step, made });
+            }
+            before += 1;
+        }
+    }
+    None
+}
+
+// How many records there are after a step, by the number of its own where it makes one.
+fn records_after(made: usize, step: Step) -> usize
+    ensures { result ≡ made_after made step }
+{
+    match step {
+        Step::Collapse { rec: Some(r), .. } | Step::CollapseWord { rec: Some(r), .. } => r as usize
+            + 1,
+        _ => made,
+    }
+}
+
+fn is_collapse(step: Step) -> bool
+    ensures { (n : ℕ) (products : List (List Term)) → result ≡ is_collapse (listed n products step) }
+{
+    matches!(step, Step::Collapse { .. } | Step::CollapseWord { .. })
+}

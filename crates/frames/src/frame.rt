@@ -1,0 +1,134 @@
+ghost use Rattle.std.specs.Prelude.{◌≡◌, ◌<◌, [], ◌++◌, length, IfOk, OnOk, slice_index_or, false, if◌then◌else◌};
+ghost use Rattle.std.specs.Option.{option_to_list};
+ghost use Rattle.pauli_word.specs.Words.{anticommute, lone_letter, letters_product, signed};
+ghost use Rattle.gate_table.specs.Images.{arity_of};
+ghost use Rattle.gate_table.specs.WordImages.{image_at, image_at_two};
+ghost use Rattle.programs.specs.Listed.{listed};
+ghost use Rattle.programs.specs.Named.{IsStepOf};
+ghost use Rattle.step_model.specs.Frames.{begun, carried};
+ghost use Rattle.step_model.specs.Listing.{word_of_terms};
+ghost use Rattle.step_model.specs.Sensitivities.{multiplied};
+ghost use Rattle.step_model.specs.WellFormed.{TermsFit};
+ghost use Rattle.frames.specs.Flips.{flip_of, recorded_flips};
+
+use crate::words::{anticommutes, multiply_at};
+use gate_table::Gate;
+use pauli_word::{Letter, Word};
+use programs::{Program, Step};
+use std::alloc::{AllocError, Allocator};
+use std::marker::Model;
+
+/// A frame on its way: its word, and whether it flips each record so far.
+#[derive(Drop)]
+pub(crate) struct Frame<A: Allocator + Copy> {
+    word: Word<A>,
+    records: Vec<bool, A>,
+}
+
+impl<A: Allocator + Copy> Model for Frame<A> {
+    ghost use Rattle.step_model.specs.Frames.{Frame as Seen};
+
+    ghost Value = { Seen };
+
+    ghost view = { λ f. record { word = f.word.letters; records = f.records.items } };
+}
+
+impl<A: Allocator + Copy> Frame<A> {
+    /// A frame that begins as a word, and flips none of so many records before.
+    pub(crate) fn begin(alloc: A, word: Word<A>, made: usize) -> Result<Self, AllocError>
+        ensures { IfOk result (λ frame. frame ≡ begun word.letters made) }
+    {
+        let records = Vec::from_elem(alloc, false, made)?;
+        Ok(Frame { word, records })
+    }
+
+    /// Carries the frame over a step, and answers its flip where the step is a collapse.
+    pub(crate) fn carry(
+        &mut self,
+        program: &Program<'_, A>,
+        step: Step,
+    ) -> Result<Option<bool>, AllocError>
+        requires named { IsStepOf program.now step }
+        requires size { length self.old.word ≡ program.now.qubits }
+        ensures flip { IfOk result (λ flip. flip ≡ flip_of program.now.qubits self.old (listed program.now.qubits program.now.products step)) }
+        ensures carried { OnOk result (self.new ≡ carried program.now.qubits (listed program.now.qubits program.now.products step) self.old) }
+    {
+        match step {
+            Step::One { gate, q } => self.move_one(gate, q as usize),
+            Step::Two { gate, a, b } => self.move_two(gate, a as usize, b as usize),
+            Step::Collapse {
+                letter,
+                qubit,
+                rec,
+                reset,
+                ..
+            } => {
+                let flip = self.word.letter(qubit as usize).clashes(letter);
+                self.record(rec, flip)?;
+                if reset {
+                    self.word.set_letter(qubit as usize, Letter::I);
+                }
+                return Ok(Some(flip));
+            }
+            Step::CollapseWord { product, rec, .. } => {
+                let flip = self.meets(program, product);
+                self.record(rec, flip)?;
+                return Ok(Some(flip));
+            }
+            Step::Fault(_) => {}
+            Step::Feedback { letter, q, rec } => self.feed_back(rec, q as usize, letter),
+        }
+        Ok(None)
+    }
+
+    fn move_one(&mut self, gate: Gate, q: usize)
+        requires arity { arity_of gate ≡ 1 }
+        requires there { q < length self.old.word }
+        ensures { self.new ≡ record self.old { word = (image_at gate q (signed self.old.word false)).letters } }
+    {
+        let (letter, _) = gate.image1(self.word.letter(q));
+        self.word.set_letter(q, letter);
+    }
+
+    fn move_two(&mut self, gate: Gate, a: usize, b: usize)
+        requires arity { arity_of gate ≡ 2 }
+        requires first { a < length self.old.word }
+        requires second { b < length self.old.word }
+        ensures { self.new ≡ record self.old { word = (image_at_two gate a b (signed self.old.word false)).letters } }
+    {
+        let (first, second, _) = gate.image2(self.word.letter(a), self.word.letter(b));
+        self.word.set_letter(a, first);
+        self.word.set_letter(b, second);
+    }
+
+    // Whether the frame anticommutes with a product of the program.
+    fn meets(&self, program: &Program<'_, A>, product: u32) -> bool
+        requires there { product < length program.now.products }
+        requires size { length self.now.word ≡ program.now.qubits }
+        ensures { result ≡ anticommute self.now.word (word_of_terms program.now.qubits (slice_index_or program.now.products product [])) }
+    {
+        program.well_formed();
+        anticommutes(&self.word, program.product(product))
+    }
+
+    // Notes whether a collapse's record is flipped, where it makes one.
+    fn record(&mut self, rec: Option<u32>, flip: bool) -> Result<(), AllocError>
+        ensures { OnOk result (self.new ≡ record self.old { records = self.old.records ++ recorded_flips rec flip }) }
+    {
+        if rec.is_some() {
+            self.records.push(flip)?;
+        }
+        Ok(())
+    }
+
+    // Takes in a letter that is applied where an earlier record is 1, if the frame flips that record.
+    fn feed_back(&mut self, rec: u32, q: usize, letter: Letter)
+        requires { q < length self.old.word }
+        ensures { self.new ≡ record self.old { word = multiplied (slice_index_or self.old.records rec false) (lone_letter (length self.old.word) q letter) self.old.word } }
+    {
+        let rec = rec as usize;
+        if rec < self.records.len() && self.records[rec] {
+            multiply_at(&mut self.word, q, letter);
+        }
+    }
+}

@@ -1,0 +1,113 @@
+ghost use Rattle.std.specs.Prelude.{◌≡◌, ℕ, Some, length, IfOk, IfErr};
+ghost use Rattle.step_model.specs.Faults.{memory_fault};
+ghost use Rattle.step_model.specs.Frames.{first_word, zero_coins, pair_coins};
+ghost use Rattle.programs.specs.Listed.{listed};
+ghost use Rattle.programs.specs.Named.{IsStepOf};
+ghost use Rattle.step_model.specs.Sensitivities.{place_of, collapse_word};
+ghost use Rattle.frames.specs.Pairs.{PairDiffers};
+
+use crate::carry::flips_at;
+use crate::collapses::go_past;
+use crate::words::product_of;
+use pauli_word::{Letter, Word};
+use programs::{Program, Step, Walk};
+use run_laws::shift::pair_disagrees;
+use std::alloc::{AllocError, Allocator};
+use step_model::{Cause, Fault, Place, Term};
+
+/// The two coin lists of a place, one coin a collapse: zeros, and the flips of the frame that begins there, as the word
+/// that the place's collapse measures, or as Z at a qubit of the start. The runs under the two differ in each target
+/// that has this place. A refusal is for want of memory.
+pub fn coin_pair<A: Allocator + Copy>(
+    alloc: A,
+    program: &Program<'_, A>,
+    place: Place,
+) -> Result<(Vec<bool, A>, Vec<bool, A>), Fault>
+    ensures first { IfOk result (λ pair. pair.0.items ≡ zero_coins program.now) }
+    ensures second { IfOk result (λ pair. pair.1.items ≡ pair_coins program.now place) }
+    ensures differ { IfOk result (λ pair. (d : ℕ) → place_of program.now d ≡ Some place → PairDiffers program.now d pair.0.items pair.1.items) }
+    ensures err { IfErr result (λ e. e ≡ memory_fault) }
+{
+    program.well_formed();
+    pair_disagrees();
+    match pair_at(alloc, program, place) {
+        Ok(pair) => Ok(pair),
+        Err(_) => Err(Fault {
+            cause: Cause::Memory,
+            line: 0,
+        }),
+    }
+}
+
+fn pair_at<A: Allocator + Copy>(
+    alloc: A,
+    program: &Program<'_, A>,
+    place: Place,
+) -> Result<(Vec<bool, A>, Vec<bool, A>), AllocError>
+    ensures first { IfOk result (λ pair. pair.0.items ≡ zero_coins program.now) }
+    ensures second { IfOk result (λ pair. pair.1.items ≡ pair_coins program.now place) }
+{
+    let mut zeros = Vec::new(alloc);
+    zeros.resize(program.collapse_count() as usize, false)?;
+    let word = word_at(alloc, program, place)?;
+    let flips = flips_at(alloc, program, place, &word)?;
+    Ok((zeros, flips))
+}
+
+// The word as which the frame of a place begins: the identity, where there is no such place.
+fn word_at<A: Allocator + Copy>(
+    alloc: A,
+    program: &Program<'_, A>,
+    place: Place,
+) -> Result<Word<A>, AllocError>
+    ensures word { IfOk result (λ word. word.letters ≡ first_word program.now place) }
+    ensures size { IfOk result (λ word. length word.letters ≡ program.now.qubits) }
+{
+    let qubits = program.qubits() as usize;
+    match place {
+        Place::Start(qubit) => {
+            if qubit < program.qubits() {
+                product_of(
+                    alloc,
+                    qubits,
+                    &[Term {
+                        qubit,
+                        letter: Letter::Z,
+                    }],
+                )
+            } else {
+                Word::identity(alloc, qubits)
+            }
+        }
+        Place::After(collapse) => {
+            let mut walk = Walk::start(program);
+            match go_past(program, &mut walk, collapse) {
+                Some(passed) => word_measured(alloc, program, passed.step),
+                None => Word::identity(alloc, qubits),
+            }
+        }
+    }
+}
+
+// The word that a step measures: the identity, where it is no collapse.
+fn word_measured<A: Allocator + Copy>(
+    alloc: A,
+    program: &Program<'_, A>,
+    step: Step,
+) -> Result<Word<A>, AllocError>
+    requires { IsStepOf program.now step }
+    ensures word { IfOk result (λ word. word.letters ≡ collapse_word program.now.qubits (listed program.now.qubits program.now.products step)) }
+    ensures size { IfOk result (λ word. length word.letters ≡ program.now.qubits) }
+{
+    program.well_formed();
+    let qubits = program.qubits() as usize;
+    match step {
+        Step::Collapse { letter, qubit, .. } => product_of(
+            alloc,
+            qubits,
+            &[Term { qubit, letter }],
+        ),
+        Step::CollapseWord { product, .. } => product_of(alloc, qubits, program.product(product)),
+        _ => Word::identity(alloc, qubits),
+    }
+}

@@ -1,0 +1,3 @@
+pub mod Finishing
+pub mod Items
+pub mod Pushing

@@ -1,0 +1,6 @@
+-- What is seen of bytes that go out in pieces: those that are held back, and whether the sink has failed.
+use Rattle.std.specs.Prelude.{ℕ, List, Bool}
+
+pub record Held : Type 0 where
+  pub bytes : List ℕ
+  pub failed : Bool
