@@ -1,0 +1,2 @@
+pub mod ScanLemmas
+mod LexingLemmas

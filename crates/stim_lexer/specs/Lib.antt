@@ -1,0 +1,4 @@
+pub mod Bytes
+pub mod Lines
+pub mod Cut
+pub mod Lexing

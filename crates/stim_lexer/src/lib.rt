@@ -1,0 +1,13 @@
+//! The lines of a circuit's text, one after another and cut into slices of it: name, arguments, targets and braces.
+//! Nothing is judged but bytes that may not stand in a text, and no memory is taken.
+#![tactic(auto)]
+
+mod lexer;
+mod line;
+mod scan;
+#[cfg(test)]
+mod tests;
+
+pub use lexer::Lexer;
+pub use line::{Braces, Line};
+pub use scan::{after_blanks, cut_at, is_blank};

@@ -1,0 +1,158 @@
+ghost use Rattle.std.specs.Prelude.{◌≡◌, ◌+◌, ◌<◌, ◌==◌, ◌∷◌, length, not, position};
+ghost use Rattle.std.specs.List.{list_any, list_all, before_first, after_first, position_or_len};
+ghost use Rattle.stim_lexer.specs.Bytes.{is_blank, is_bad_byte, is_brace, ends_name, from_first, after_blanks, begins_with};
+ghost use Rattle.stim_lexer.specs.Cut.{in_brackets, after_brackets, leaves_open};
+ghost use Rattle.stim_lexer.specs.Lines.{lines_of};
+
+use memchr::memchr;
+
+/// Whether a byte is a space, a tab or a carriage return.
+pub fn is_blank(byte: u8) -> bool
+    ensures { result ≡ is_blank byte }
+{
+    byte == b' ' || byte == b'\t' || byte == b'\r'
+}
+
+/// Whether a byte ends a name.
+fn ends_name(byte: u8) -> bool
+    ensures { result ≡ ends_name byte }
+{
+    is_blank(byte) || byte == b'[' || byte == b'(' || byte == b'{' || byte == b'}' || byte == b'#'
+}
+
+/// Whether a text has only blanks.
+pub(crate) fn is_blank_text(text: &[u8]) -> bool
+    ensures { result ≡ list_all is_blank text.now }
+{
+    text.iter().all(|byte| is_blank(*byte))
+}
+
+/// Whether a text has a byte that is neither a blank nor printable.
+pub(crate) fn any_bad_byte(text: &[u8]) -> bool
+    ensures { result ≡ list_any is_bad_byte text.now }
+{
+    text.iter()
+        .any(|byte| !is_blank(*byte) && !(32..=126).contains(byte))
+}
+
+/// Where the first byte stands that isn't a blank.
+fn place_after_blanks(text: &[u8]) -> Option<usize>
+    ensures { result ≡ position (λ b. not (is_blank b)) text.now }
+{
+    text.iter().position(|byte| !is_blank(*byte))
+}
+
+/// Where the first byte stands that ends a name.
+fn place_of_name_end(text: &[u8]) -> Option<usize>
+    ensures { result ≡ position ends_name text.now }
+{
+    text.iter().position(|byte| ends_name(*byte))
+}
+
+/// Where the first brace stands.
+fn place_of_brace(text: &[u8]) -> Option<usize>
+    ensures { result ≡ position is_brace text.now }
+{
+    text.iter().position(|byte| *byte == b'{' || *byte == b'}')
+}
+
+/// Where a byte first stands, or the text's length.
+fn place_of(text: &[u8], byte: u8) -> usize
+    ensures { result ≡ position_or_len (λ b. b == byte) text.now }
+{
+    memchr(byte, text).unwrap_or(text.len())
+}
+
+/// A text without the blanks in front.
+#[tactic(auto, using(crate::proofs::ScanLemmas::places))]
+pub fn after_blanks(text: &[u8]) -> &[u8]
+    ensures { result.now ≡ after_blanks text.now }
+{
+    let place = place_after_blanks(text).unwrap_or(text.len());
+    text.split_at(place).1
+}
+
+/// A text up to the byte that ends a name, and from there on.
+#[tactic(auto, using(crate::proofs::ScanLemmas::places))]
+pub(crate) fn cut_name(text: &[u8]) -> (&[u8], &[u8])
+    ensures name { result.0.now ≡ before_first ends_name text.now }
+    ensures after { result.1.now ≡ from_first ends_name text.now }
+{
+    let place = place_of_name_end(text).unwrap_or(text.len());
+    text.split_at(place)
+}
+
+/// A text from its first brace on.
+#[tactic(auto, using(crate::proofs::ScanLemmas::places))]
+pub(crate) fn from_brace(text: &[u8]) -> &[u8]
+    ensures { result.now ≡ from_first is_brace text.now }
+{
+    let place = place_of_brace(text).unwrap_or(text.len());
+    text.split_at(place).1
+}
+
+/// A text up to the first of a byte, and from there on. Where the byte is nowhere, all stands before it.
+pub fn cut_at(text: &[u8], byte: u8) -> (&[u8], &[u8])
+    ensures before { result.0.now ≡ before_first (λ b. b == byte) text.now }
+    ensures after { result.1.now ≡ from_first (λ b. b == byte) text.now }
+    ensures len { length result.0.now + length result.1.now ≡ length text.now }
+{
+    text.split_at(place_of(text, byte))
+}
+
+/// What follows the first of a byte, or nothing where the byte is nowhere; and whether it stands somewhere.
+fn after_byte(text: &[u8], byte: u8) -> (&[u8], bool)
+    ensures after { result.0.now ≡ after_first (λ b. b == byte) text.now }
+    ensures found { result.1 ≡ list_any (λ b. b == byte) text.now }
+{
+    let (_, rest) = cut_at(text, byte);
+    match rest {
+        [_, after @ ..] => (after, true),
+        [] => (rest, false),
+    }
+}
+
+/// What stands in brackets or parentheses, and what follows them.
+#[derive(Clone, Copy)]
+pub(crate) struct Bracketed<'a> {
+    pub inside: &'a [u8],
+    pub after: &'a [u8],
+    pub stays_open: bool,
+}
+
+/// Cuts a text that may begin with an opening byte, after blanks, at the first closing one.
+pub(crate) fn cut_brackets(text: &[u8], opening: u8, closing: u8) -> Bracketed<'_>
+    ensures inside { result.inside.now ≡ in_brackets (λ b. b == opening) (λ b. b == closing) text.now }
+    ensures after { result.after.now ≡ after_brackets (λ b. b == opening) (λ b. b == closing) text.now }
+    ensures stays_open { result.stays_open ≡ leaves_open (λ b. b == opening) (λ b. b == closing) text.now }
+{
+    match after_blanks(text) {
+        [first, opened @ ..] if *first == opening => {
+            let (inside, _) = cut_at(opened, closing);
+            let (after, closed) = after_byte(opened, closing);
+            Bracketed {
+                inside,
+                after,
+                stays_open: !closed,
+            }
+        }
+        _ => Bracketed {
+            inside: &[],
+            after: text,
+            stays_open: false,
+        },
+    }
+}
+
+/// The first line of a text, and what follows its line feed.
+pub(crate) fn first_line(text: &[u8]) -> (&[u8], &[u8])
+    requires { 0 < length text.now }
+    ensures lines { lines_of text.now ≡ result.0.now ∷ lines_of result.1.now }
+    ensures len { length result.1.now < length text.now }
+{
+    let (line, rest) = cut_at(text, b'\n');
+    match rest {
+        [_, after @ ..] => (line, after),
+        [] => (line, rest),
+    }
+}

@@ -1,0 +1,32 @@
+-- The questions of arguments, asked of texts that are lent.
+use Rattle.std.proofs.Common.{◌≡◌, ℕ, Bool, true, false, not, ◌&&◌, ◌||◌, List, [], ◌∷◌, length, Bor, refl, ap, ◌∙◌}
+use Rattle.std.specs.List.{list_all, list_any}
+use Rattle.std.proofs.lemmas.List.{length-map}
+use Rattle.std.proofs.lemmas.List.Folds.{list_all-map}
+use Rattle.stim_parser.specs.declared.forms.ArgumentForm.{ArgumentForm}
+use Rattle.stim_parser.specs.Limits.{has_argument_beyond, has_wrong_arguments, has_wrong_probability, is_argument, is_argument_beyond, is_probability, is_wrong_count, takes_probability}
+use Rattle.stim_parser.specs.Said.{texts_of}
+
+pub wrong_count : (form : ArgumentForm) (lent : List (Bor (List ℕ))) → is_wrong_count form (length lent) ≡ true → has_wrong_arguments form (texts_of lent) ≡ true
+unfolding has_wrong_arguments
+wrong_count form lent e =
+    ap (λ b. b || not (list_all (is_argument form) (texts_of lent))) (ap (is_wrong_count form) (length-map lent (λ text. text.now)) ∙ e)
+
+pub right_count : (form : ArgumentForm) (lent : List (Bor (List ℕ))) → is_wrong_count form (length lent) ≡ false
+    → has_wrong_arguments form (texts_of lent) ≡ not (list_all (λ argument. is_argument form argument.now) lent)
+unfolding has_wrong_arguments
+right_count form lent e =
+    ap (λ b. b || not (list_all (is_argument form) (texts_of lent))) (ap (is_wrong_count form) (length-map lent (λ text. text.now)) ∙ e)
+    ∙ ap not (list_all-map (is_argument form) (λ text. text.now) lent)
+
+pub wrong_probability : (form : ArgumentForm) (lent : List (Bor (List ℕ))) (b : Bool) → takes_probability form ≡ b
+    → has_wrong_probability form (texts_of lent) ≡ (b && not (list_all (λ argument. is_probability argument.now) lent))
+unfolding has_wrong_probability
+wrong_probability form lent b e =
+    ap (λ takes. takes && not (list_all is_probability (texts_of lent))) e
+    ∙ ap (λ all. b && not all) (list_all-map is_probability (λ text. text.now) lent)
+
+pub argument_beyond : (form : ArgumentForm) (lent : List (Bor (List ℕ))) → has_argument_beyond form (texts_of lent) ≡ list_any (λ argument. is_argument_beyond form argument.now) lent
+unfolding has_argument_beyond
+argument_beyond form [] = refl
+argument_beyond form (text ∷ lent) = ap (λ b. is_argument_beyond form text.now || b) (argument_beyond form lent)

@@ -1,0 +1,18 @@
+mod ArgumentLemmas
+mod CheckLemmas
+mod DigitLemmas
+mod JudgeLemmas
+mod NameLemmas
+mod PieceLemmas
+mod TargetLemmas
+mod SignificantLemmas
+mod FlatLemmas
+mod FitLemmas
+mod TreeLemmas
+mod TextLemmas
+mod CoordinateLemmas
+mod WrittenLemmas
+pub mod TargetNumbers
+pub mod RecordTargets
+pub mod NumberArguments
+pub mod FewArguments

@@ -1,0 +1,11 @@
+use Rattle.std.proofs.Common.{◌≡◌, ℕ, ◌+◌, ◌++◌, map, length, List}
+use Rattle.std.specs.Option.{option_map_or}
+use Rattle.std.specs.List.{slice_split}
+use Rattle.stim_parser.specs.Arguments.{is_comma, parts_of, trimmed}
+use Rattle.stim_parser.proofs.arguments.read_arguments.Given as goal
+
+abbrev pub invariant-loop-rest : goal.invariant-loop-rest
+invariant-loop-rest l = map (λ argument. argument.now) l.found.items ++ map trimmed (parts_of l.rest) ≡ map trimmed (slice_split is_comma l.fn.text)
+
+abbrev pub decreases-loop-rest : goal.decreases-loop-rest
+decreases-loop-rest l = option_map_or (λ text. length text.now + 1) l.rest 0

@@ -1,0 +1,54 @@
+-- What a circuit's tree keeps: each instruction fits what its operation takes, each block has a turn, and no more blocks stand
+-- inside one another than may. (Stim's circuit format; the limits are this project's.)
+use Rattle.std.specs.Prelude.{⊤, ◌≡◌, ◌<◌, ◌≤◌, nat_le, ℕ, suc, max, Bool, false, true, not, List, [], ◌∷◌}
+use Rattle.std.specs.List.{list_all}
+use Rattle.step_model.specs.WellFormed.{is_I}
+use Rattle.stim_parser.specs.declared.operation.Keyword.TheVariants.{Does}
+use Rattle.stim_parser.specs.declared.operation.Operation.{Operation}
+use Rattle.stim_parser.specs.declared.operation.Operation.TheVariants.{Measures, Resets, MeasuresAndResets, Errs}
+use Rattle.stim_parser.specs.declared.target.Target.{Target}
+use Rattle.stim_parser.specs.declared.target.Target.TheVariants.{Back, Pauli}
+use Rattle.stim_parser.specs.Instructions.{argument_form, target_form}
+use Rattle.stim_parser.specs.Limits.{has_wrong_arguments, has_wrong_probability, has_argument_beyond, are_of_form, has_target_beyond, has_wrong_count, has_same_qubit}
+use Rattle.stim_parser.specs.Trees.{Tree, Nothing, Then, Block}
+use Rattle.stim_parser.specs.Verdicts.{Instruction, deepest}
+
+-- an operation and a target as a text can write them: no letter is I, and a record is at least one back
+abbrev pub operation_is_written : Operation → Bool
+operation_is_written (Measures l) = not (is_I l)
+operation_is_written (Resets l) = not (is_I l)
+operation_is_written (MeasuresAndResets l) = not (is_I l)
+operation_is_written (Errs l) = not (is_I l)
+operation_is_written operation = true
+
+abbrev pub target_is_written : Target → Bool
+target_is_written (Back k) = nat_le 1 k
+target_is_written (Pauli inverted l q) = not (is_I l)
+target_is_written target = true
+
+-- an instruction with arguments and targets as it takes them
+pub record Fits (i : Instruction) : Type 0 where
+  pub arguments : has_wrong_arguments (argument_form (Does i.operation)) i.arguments ≡ false
+  pub probability : has_wrong_probability (argument_form (Does i.operation)) i.arguments ≡ false
+  pub arguments_within : has_argument_beyond (argument_form (Does i.operation)) i.arguments ≡ false
+  pub targets : are_of_form (target_form (Does i.operation)) i.targets ≡ true
+  pub targets_within : has_target_beyond (target_form (Does i.operation)) i.targets ≡ false
+  pub count : has_wrong_count (target_form (Does i.operation)) i.targets ≡ false
+  pub different : has_same_qubit (target_form (Does i.operation)) i.targets ≡ false
+  pub operation_written : operation_is_written i.operation ≡ true
+  pub targets_written : list_all target_is_written i.targets ≡ true
+
+-- how deep blocks stand inside one another
+abbrev pub depth : Tree → ℕ
+depth Nothing = 0
+depth (Then instruction rest) = depth rest
+depth (Block line turns body rest) = max (suc (depth body)) (depth rest)
+
+abbrev pub AllFit : Tree → Type 0
+AllFit Nothing = ⊤
+AllFit (Then instruction rest) = Fits instruction × AllFit rest
+AllFit (Block line turns body rest) = (0 < turns) × AllFit body × AllFit rest
+
+pub record IsCircuit (tree : Tree) : Type 0 where
+  pub fit : AllFit tree
+  pub shallow : depth tree ≤ deepest

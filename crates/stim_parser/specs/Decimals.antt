@@ -1,0 +1,22 @@
+-- A number text taken apart, in slices of it.
+use Rattle.std.specs.Prelude.{◌≡◌, ℕ, ◌+◌, ◌<◌, ◌≤◌, true, ◌++◌, length}
+use Rattle.std.specs.Char.{is_ascii_digit}
+use Rattle.std.specs.List.{list_all}
+use Rattle.step_model.specs.Probabilities.{Decimal}
+use Rattle.stim_parser.specs.declared.decimal.Parts.{Parts}
+
+abbrev pub decimal_in : Parts → Decimal
+decimal_in parts =
+    record {
+      digits = parts.whole.now ++ parts.fraction.now;
+      after_point = length parts.fraction.now;
+      negative = parts.negative;
+      exponent = parts.exponent;
+    }
+
+-- the parts of a text of so many bytes: digits, of which there are no more than bytes, and a small exponent
+pub record IsOfText (bytes : ℕ) (parts : Parts) : Type 0 where
+  pub whole : list_all is_ascii_digit parts.whole.now ≡ true
+  pub fraction : list_all is_ascii_digit parts.fraction.now ≡ true
+  pub length : length parts.whole.now + length parts.fraction.now ≤ bytes
+  pub exponent : parts.exponent < 1000

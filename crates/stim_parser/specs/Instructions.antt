@@ -1,0 +1,148 @@
+-- The instructions of a circuit: their names, and for each which arguments and which targets it takes. Names are
+-- compared without regard to case. Some names of the format are known and left out of this profile.
+-- (Stim's gate reference, github.com/quantumlib/Stim, doc/gates.md: the titles, "Alternate name", "Parens Arguments" and
+-- "Targets"; which names are left out is this project's choice.)
+use Rattle.std.specs.Prelude.{ℕ, ◌==◌, Bool, if◌then◌else◌, List, [], ◌∷◌, Option, None, Some, codes, find, option_map}
+use Rattle.std.specs.Borrow.{Bor}
+use Rattle.std.specs.Str.{str_eq_ignore_ascii_case}
+use Rattle.std.specs.List.{list_any}
+use Rattle.std.specs.Option.{option_or}
+use Rattle.pauli_word.specs.declared.letter.Letter.TheVariants.{X, Y, Z}
+use Rattle.gate_table.specs.declared.gate.Gate.{Gate}
+use Rattle.gate_table.specs.declared.gate.Gate.TheVariants as gate
+use Rattle.gate_table.specs.Images.{arity_of}
+use Rattle.gate_table.specs.Names.{gate_named}
+use Rattle.stim_parser.specs.declared.operation.Operation.TheVariants.{Applies, Measures, Resets, MeasuresAndResets, MeasuresProducts, Errs, ErrsTogether, Detects, Observes, Ticks, PlacesQubits, ShiftsCoordinates}
+use Rattle.stim_parser.specs.declared.operation.Keyword.{Keyword}
+use Rattle.stim_parser.specs.declared.operation.Keyword.TheVariants.{Does, Repeats}
+use Rattle.stim_parser.specs.declared.forms.ArgumentForm.{ArgumentForm}
+use Rattle.stim_parser.specs.declared.forms.ArgumentForm.TheVariants.{NoArguments, ProbabilityAtWill, OneProbability, WholeNumbers, Decimals, OneNumber}
+use Rattle.stim_parser.specs.declared.forms.TargetForm.{TargetForm}
+use Rattle.stim_parser.specs.declared.forms.TargetForm.TheVariants.{NoTargets, Qubits, QubitsInvertedAtWill, QubitPairs, PairsRecordFirst, PairsOneRecord, Paulis, Products, Records, Turns}
+
+-- ---- the table
+
+-- a gate of one qubit takes qubits, and one of two qubits takes pairs of them from the left; the first of a pair of CX
+-- or CY, and either one of a pair of CZ, may be a record in place of a qubit
+abbrev pub gate_targets : Gate → TargetForm
+gate_targets gate.CX = PairsRecordFirst
+gate_targets gate.CY = PairsRecordFirst
+gate_targets gate.CZ = PairsOneRecord
+gate_targets g = if arity_of g == 1 then Qubits else QubitPairs
+
+-- the arguments that each keyword takes
+abbrev pub argument_form : Keyword → ArgumentForm
+argument_form (Does (Measures l)) = ProbabilityAtWill
+argument_form (Does (MeasuresAndResets l)) = ProbabilityAtWill
+argument_form (Does MeasuresProducts) = ProbabilityAtWill
+argument_form (Does (Errs l)) = OneProbability
+argument_form (Does ErrsTogether) = OneProbability
+argument_form (Does Detects) = WholeNumbers
+argument_form (Does Observes) = OneNumber
+argument_form (Does PlacesQubits) = Decimals
+argument_form (Does ShiftsCoordinates) = WholeNumbers
+argument_form keyword = NoArguments
+
+-- the targets that each keyword takes
+abbrev pub target_form : Keyword → TargetForm
+target_form (Does (Applies g)) = gate_targets g
+target_form (Does (Measures l)) = QubitsInvertedAtWill
+target_form (Does (MeasuresAndResets l)) = QubitsInvertedAtWill
+target_form (Does MeasuresProducts) = Products
+target_form (Does (Resets l)) = Qubits
+target_form (Does (Errs l)) = Qubits
+target_form (Does ErrsTogether) = Paulis
+target_form (Does Detects) = Records
+target_form (Does Observes) = Records
+target_form (Does Ticks) = NoTargets
+target_form (Does PlacesQubits) = Qubits
+target_form (Does ShiftsCoordinates) = NoTargets
+target_form Repeats = Turns
+
+-- ---- names
+
+-- the names of keywords that are no gates, and their aliases
+abbrev pub other_names : List (List ℕ × Keyword)
+other_names =
+    (codes "M", Does (Measures Z))
+    ∷ (codes "MZ", Does (Measures Z))
+    ∷ (codes "MX", Does (Measures X))
+    ∷ (codes "MY", Does (Measures Y))
+    ∷ (codes "R", Does (Resets Z))
+    ∷ (codes "RZ", Does (Resets Z))
+    ∷ (codes "RX", Does (Resets X))
+    ∷ (codes "RY", Does (Resets Y))
+    ∷ (codes "MR", Does (MeasuresAndResets Z))
+    ∷ (codes "MRZ", Does (MeasuresAndResets Z))
+    ∷ (codes "MRX", Does (MeasuresAndResets X))
+    ∷ (codes "MRY", Does (MeasuresAndResets Y))
+    ∷ (codes "MPP", Does MeasuresProducts)
+    ∷ (codes "X_ERROR", Does (Errs X))
+    ∷ (codes "Y_ERROR", Does (Errs Y))
+    ∷ (codes "Z_ERROR", Does (Errs Z))
+    ∷ (codes "CORRELATED_ERROR", Does ErrsTogether)
+    ∷ (codes "E", Does ErrsTogether)
+    ∷ (codes "DETECTOR", Does Detects)
+    ∷ (codes "OBSERVABLE_INCLUDE", Does Observes)
+    ∷ (codes "TICK", Does Ticks)
+    ∷ (codes "QUBIT_COORDS", Does PlacesQubits)
+    ∷ (codes "SHIFT_COORDS", Does ShiftsCoordinates)
+    ∷ (codes "REPEAT", Repeats)
+    ∷ []
+
+-- the keyword of the first name that equals the text
+abbrev pub named_in : List (List ℕ × Keyword) → List ℕ → Option Keyword
+named_in entries text = option_map (λ entry. entry.1) (find (λ entry. str_eq_ignore_ascii_case entry.0 text) entries)
+
+-- the same in a list whose names are borrowed
+unfoldable pub named_in_rows : List (Bor (List ℕ) × Keyword) → List ℕ → Option Keyword
+named_in_rows rows text = option_map (λ row. row.1) (find (λ row. str_eq_ignore_ascii_case row.0.now text) rows)
+
+abbrev pub other_named : List ℕ → Option Keyword
+other_named name = named_in other_names name
+
+-- the keyword that a name names
+unfoldable pub keyword_named : List ℕ → Option Keyword
+keyword_named name = option_or (option_map (λ g. Does (Applies g)) (gate_named name)) (other_named name)
+
+-- the names that are known and left out: several exclusive errors in one instruction, errors that depend on others, and
+-- further gates and measurements
+abbrev pub left_out_names : List (List ℕ)
+left_out_names =
+    codes "DEPOLARIZE1"
+    ∷ codes "DEPOLARIZE2"
+    ∷ codes "PAULI_CHANNEL_1"
+    ∷ codes "PAULI_CHANNEL_2"
+    ∷ codes "HERALDED_ERASE"
+    ∷ codes "HERALDED_PAULI_CHANNEL_1"
+    ∷ codes "ELSE_CORRELATED_ERROR"
+    ∷ codes "I_ERROR"
+    ∷ codes "II"
+    ∷ codes "II_ERROR"
+    ∷ codes "MXX"
+    ∷ codes "MYY"
+    ∷ codes "MZZ"
+    ∷ codes "SPP"
+    ∷ codes "SPP_DAG"
+    ∷ codes "MPAD"
+    ∷ codes "CXSWAP"
+    ∷ codes "SWAPCX"
+    ∷ codes "CZSWAP"
+    ∷ codes "SWAPCZ"
+    ∷ codes "H_NXY"
+    ∷ codes "H_NXZ"
+    ∷ codes "H_NYZ"
+    ∷ codes "C_NXYZ"
+    ∷ codes "C_XNYZ"
+    ∷ codes "C_XYNZ"
+    ∷ codes "C_NZYX"
+    ∷ codes "C_ZNYX"
+    ∷ codes "C_ZYNX"
+    ∷ []
+
+abbrev pub is_left_out : List ℕ → Bool
+is_left_out name = list_any (λ left_out. str_eq_ignore_ascii_case left_out name) left_out_names
+
+-- the same in a list whose names are borrowed
+unfoldable pub is_among_rows : List (Bor (List ℕ)) → List ℕ → Bool
+is_among_rows rows name = list_any (λ row. str_eq_ignore_ascii_case row.now name) rows

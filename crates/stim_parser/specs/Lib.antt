@@ -1,0 +1,16 @@
+pub mod Numbers
+pub mod Significant
+pub mod Decimals
+pub mod Pieces
+pub mod Targets
+pub mod Arguments
+pub mod Instructions
+pub mod Limits
+pub mod Verdicts
+pub mod Said
+pub mod Texts
+pub mod Trees
+pub mod Circuits
+pub mod Flat
+pub mod Unfinished
+pub mod Coordinates

@@ -1,0 +1,202 @@
+-- What an instruction or the start of a block asks of its arguments and of its targets. Each question has an answer by
+-- itself; in which order they are asked is said apart. An instruction fits where no question finds anything wrong.
+-- (Stim's circuit format, github.com/quantumlib/Stim, doc/file_format_stim_circuit.md, "Instruction Types", and doc/gates.md;
+-- the limits are this project's.)
+use Rattle.std.specs.Prelude.{ℕ, ◌==◌, ◌%◌, nat_lt, Bool, true, false, not, ◌&&◌, ◌||◌, List, [], ◌∷◌, length, Option, is_none, is_some, unwrap_or}
+use Rattle.std.specs.List.{list_any, list_all}
+use Rattle.step_model.specs.Probabilities.{decimal_of, probability_bound}
+use Rattle.stim_lexer.specs.Bytes.{is_empty}
+use Rattle.stim_parser.specs.declared.forms.ArgumentForm.{ArgumentForm}
+use Rattle.stim_parser.specs.declared.forms.ArgumentForm.TheVariants.{NoArguments, ProbabilityAtWill, OneProbability, WholeNumbers, Decimals, OneNumber}
+use Rattle.stim_parser.specs.declared.forms.TargetForm.{TargetForm}
+use Rattle.stim_parser.specs.declared.forms.TargetForm.TheVariants.{NoTargets, Qubits, QubitsInvertedAtWill, QubitPairs, PairsRecordFirst, PairsOneRecord, Paulis, Products, Records, Turns}
+use Rattle.stim_parser.specs.declared.target.Target.{Target}
+use Rattle.stim_parser.specs.declared.target.Target.TheVariants.{Plain, Inverted, Back, Pauli, Star}
+use Rattle.stim_parser.specs.Numbers.{is_number, is_whole_number, without_minus, value_of, is_coordinate_beyond, is_number_beyond, is_qubit_beyond}
+
+-- ---- arguments
+
+-- a number of arguments that an instruction doesn't take
+abbrev pub is_wrong_count : ArgumentForm → ℕ → Bool
+is_wrong_count NoArguments n = not (n == 0)
+is_wrong_count ProbabilityAtWill n = nat_lt 1 n
+is_wrong_count OneProbability n = not (n == 1)
+is_wrong_count WholeNumbers n = nat_lt 16 n
+is_wrong_count Decimals n = nat_lt 16 n
+is_wrong_count OneNumber n = not (n == 1)
+
+abbrev pub is_decimal : List ℕ → Bool
+is_decimal text = is_some (decimal_of (without_minus text))
+
+-- an argument of the form asked; a probability's form is asked later, and here only that it isn't empty
+abbrev pub is_argument : ArgumentForm → List ℕ → Bool
+is_argument WholeNumbers text = is_whole_number text
+is_argument Decimals text = is_decimal text
+is_argument OneNumber text = is_number text
+is_argument form text = not (is_empty text)
+
+unfoldable pub has_wrong_arguments : ArgumentForm → List (List ℕ) → Bool
+has_wrong_arguments form arguments =
+    is_wrong_count form (length arguments) || not (list_all (is_argument form) arguments)
+
+abbrev pub takes_probability : ArgumentForm → Bool
+takes_probability ProbabilityAtWill = true
+takes_probability OneProbability = true
+takes_probability form = false
+
+abbrev pub is_probability : List ℕ → Bool
+is_probability text = is_some (probability_bound text)
+
+unfoldable pub has_wrong_probability : ArgumentForm → List (List ℕ) → Bool
+has_wrong_probability form arguments = takes_probability form && not (list_all is_probability arguments)
+
+abbrev pub is_argument_beyond : ArgumentForm → List ℕ → Bool
+is_argument_beyond WholeNumbers text = is_coordinate_beyond text
+is_argument_beyond OneNumber text = is_number_beyond (value_of text)
+is_argument_beyond form text = false
+
+unfoldable pub has_argument_beyond : ArgumentForm → List (List ℕ) → Bool
+has_argument_beyond form arguments = list_any (is_argument_beyond form) arguments
+
+-- ---- forms of targets
+
+abbrev pub is_plain : Target → Bool
+is_plain (Plain n) = true
+is_plain target = false
+
+abbrev pub is_plain_or_inverted : Target → Bool
+is_plain_or_inverted (Plain n) = true
+is_plain_or_inverted (Inverted n) = true
+is_plain_or_inverted target = false
+
+abbrev pub is_back : Target → Bool
+is_back (Back k) = true
+is_back target = false
+
+abbrev pub is_plain_or_back : Target → Bool
+is_plain_or_back (Plain n) = true
+is_plain_or_back (Back k) = true
+is_plain_or_back target = false
+
+-- a letter at a qubit, without a `!`
+abbrev pub is_pauli : Target → Bool
+is_pauli (Pauli inverted l q) = not inverted
+is_pauli target = false
+
+-- pairs from the left, of which the first of each may be a record; where a second one isn't there, the first is asked
+-- alone
+abbrev pub are_pairs_record_first : List Target → Bool
+are_pairs_record_first [] = true
+are_pairs_record_first (a ∷ []) = is_plain_or_back a
+are_pairs_record_first (a ∷ b ∷ rest) = is_plain_or_back a && is_plain b && are_pairs_record_first rest
+
+-- two targets of which one may be a record
+abbrev pub is_pair_of_one_record : Target → Target → Bool
+is_pair_of_one_record a b = is_plain_or_back a && is_plain_or_back b && not (is_back a && is_back b)
+
+-- pairs from the left, of which either one may be a record, and not both
+abbrev pub are_pairs_one_record : List Target → Bool
+are_pairs_one_record [] = true
+are_pairs_one_record (a ∷ []) = is_plain_or_back a
+are_pairs_one_record (a ∷ b ∷ rest) = is_pair_of_one_record a b && are_pairs_one_record rest
+
+-- a factor of a product, with a `!` or without
+abbrev pub is_factor : Target → Bool
+is_factor (Pauli inverted l q) = true
+is_factor target = false
+
+abbrev pub is_joining : Target → Bool
+is_joining Star = true
+is_joining target = false
+
+abbrev pub begins_with_factor : List Target → Bool
+begins_with_factor [] = false
+begins_with_factor (target ∷ rest) = is_factor target
+
+-- factors and stars, each star before a factor
+abbrev pub are_factors : List Target → Bool
+are_factors [] = true
+are_factors (target ∷ rest) =
+    (is_factor target || (is_joining target && begins_with_factor rest)) && are_factors rest
+
+-- factors and the stars that join them: none stands first
+abbrev pub are_products : List Target → Bool
+are_products [] = true
+are_products (target ∷ rest) = is_factor target && are_factors rest
+
+-- targets of the form that an instruction takes
+unfoldable pub are_of_form : TargetForm → List Target → Bool
+are_of_form NoTargets targets = true
+are_of_form Qubits targets = list_all is_plain targets
+are_of_form QubitsInvertedAtWill targets = list_all is_plain_or_inverted targets
+are_of_form QubitPairs targets = list_all is_plain targets
+are_of_form PairsRecordFirst targets = are_pairs_record_first targets
+are_of_form PairsOneRecord targets = are_pairs_one_record targets
+are_of_form Paulis targets = list_all is_pauli targets
+are_of_form Products targets = are_products targets
+are_of_form Records targets = list_all is_back targets
+are_of_form Turns targets = list_all is_plain targets
+
+-- ---- limits of targets
+
+abbrev pub is_target_beyond : TargetForm → Target → Bool
+is_target_beyond Turns (Plain n) = is_number_beyond n
+is_target_beyond form (Plain q) = is_qubit_beyond q
+is_target_beyond form (Inverted q) = is_qubit_beyond q
+is_target_beyond form (Back k) = is_number_beyond k
+is_target_beyond form (Pauli inverted l q) = is_qubit_beyond q
+is_target_beyond form Star = false
+
+unfoldable pub has_target_beyond : TargetForm → List Target → Bool
+has_target_beyond form targets = list_any (is_target_beyond form) targets
+
+-- ---- how many targets
+
+abbrev pub is_odd : ℕ → Bool
+is_odd n = n % 2 == 1
+
+-- a number of targets that an instruction doesn't take; one that takes none is asked apart
+unfoldable pub has_wrong_count : TargetForm → List Target → Bool
+has_wrong_count QubitPairs targets = is_odd (length targets)
+has_wrong_count PairsRecordFirst targets = is_odd (length targets)
+has_wrong_count PairsOneRecord targets = is_odd (length targets)
+has_wrong_count Turns targets = not (length targets == 1)
+has_wrong_count form targets = false
+
+-- ---- qubits named twice
+
+abbrev pub is_same_qubit : Target → Target → Bool
+is_same_qubit (Plain p) (Plain q) = p == q
+is_same_qubit a b = false
+
+-- a pair from the left that names one qubit twice
+abbrev pub has_pair_of_one : List Target → Bool
+has_pair_of_one [] = false
+has_pair_of_one (a ∷ []) = false
+has_pair_of_one (a ∷ b ∷ rest) = is_same_qubit a b || has_pair_of_one rest
+
+abbrev pub is_factor_at : ℕ → Target → Bool
+is_factor_at q (Pauli inverted l p) = q == p
+is_factor_at q target = false
+
+-- a product that goes on behind a factor, by a star and a factor each time, names this qubit
+abbrev pub goes_on_with : ℕ → List Target → Bool
+goes_on_with q [] = false
+goes_on_with q (a ∷ []) = false
+goes_on_with q (a ∷ b ∷ rest) = is_joining a && (is_factor_at q b || goes_on_with q rest)
+
+abbrev pub names_again : Target → List Target → Bool
+names_again (Pauli inverted l q) rest = goes_on_with q rest
+names_again target rest = false
+
+-- a product that names one qubit twice
+abbrev pub has_product_of_one : List Target → Bool
+has_product_of_one [] = false
+has_product_of_one (target ∷ rest) = names_again target rest || has_product_of_one rest
+
+unfoldable pub has_same_qubit : TargetForm → List Target → Bool
+has_same_qubit QubitPairs targets = has_pair_of_one targets
+has_same_qubit PairsRecordFirst targets = has_pair_of_one targets
+has_same_qubit PairsOneRecord targets = has_pair_of_one targets
+has_same_qubit Products targets = has_product_of_one targets
+has_same_qubit form targets = false

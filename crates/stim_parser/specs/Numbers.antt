@@ -1,0 +1,62 @@
+-- Numbers in a circuit's text. A number is digits, with zeros in front at will; a whole number is digits with an
+-- optional `-` before them. Each number has a limit: numbers of qubits a smaller one than others, and so have the
+-- coordinates of detectors. All numbers from 10^18 on are taken as one, which is beyond every limit.
+-- (Stim's circuit format, github.com/quantumlib/Stim, doc/file_format_stim_circuit.md; the limits are this project's.)
+use Rattle.std.specs.Prelude.{ℕ, ◌==◌, nat_lt, Bool, false, not, ◌&&◌, if◌then◌else◌, ℤ, pos, neg_ℤ, List, [], ◌∷◌, Option, None, Some, min}
+use Rattle.std.specs.Char.{is_ascii_digit}
+use Rattle.std.specs.List.{list_all}
+use Rattle.step_model.specs.Probabilities.{digits_value}
+use Rattle.stim_lexer.specs.Bytes.{is_empty}
+
+-- one digit or more, and no other byte
+abbrev pub is_number : List ℕ → Bool
+is_number text = not (is_empty text) && list_all is_ascii_digit text
+
+-- the least number that is beyond every limit
+abbrev pub beyond_all : ℕ
+beyond_all = 1_000_000_000_000_000_000
+
+-- the number that digits write, as far as limits tell numbers apart
+abbrev pub value_of : List ℕ → ℕ
+value_of digits = min (digits_value digits) beyond_all
+
+abbrev pub number_of : List ℕ → Option ℕ
+number_of text = if is_number text then Some (value_of text) else None
+
+-- a text without a `-` in front, and whether it has one
+abbrev pub without_minus : List ℕ → List ℕ
+without_minus [] = []
+without_minus (b ∷ text) = if b == 45 then text else b ∷ text
+
+abbrev pub has_minus : List ℕ → Bool
+has_minus [] = false
+has_minus (b ∷ text) = b == 45
+
+abbrev pub is_whole_number : List ℕ → Bool
+is_whole_number text = is_number (without_minus text)
+
+-- what a whole number counts, without its sign and with it
+abbrev pub magnitude_of : List ℕ → ℕ
+magnitude_of text = value_of (without_minus text)
+
+abbrev pub whole_value : List ℕ → ℤ
+whole_value text = if has_minus text then neg_ℤ (pos (magnitude_of text)) else pos (magnitude_of text)
+
+-- the greatest number of a qubit, the greatest magnitude of a coordinate, and the greatest of all other numbers
+abbrev pub greatest_qubit : ℕ
+greatest_qubit = 4095
+
+abbrev pub greatest_coordinate : ℕ
+greatest_coordinate = 1_000_000_000
+
+abbrev pub greatest_number : ℕ
+greatest_number = 999_999_999_999_999_999
+
+abbrev pub is_qubit_beyond : ℕ → Bool
+is_qubit_beyond q = nat_lt greatest_qubit q
+
+abbrev pub is_number_beyond : ℕ → Bool
+is_number_beyond n = nat_lt greatest_number n
+
+abbrev pub is_coordinate_beyond : List ℕ → Bool
+is_coordinate_beyond text = nat_lt greatest_coordinate (magnitude_of text)

@@ -1,0 +1,61 @@
+-- What a reader hands out of a cut line: the targets of an instruction stand apart from the rest, and its arguments are still
+-- the text in its parentheses. The questions that refuse a line are told apart here by what they are asked of.
+-- (Stim's circuit format, github.com/quantumlib/Stim, doc/file_format_stim_circuit.md; the causes and their order are
+-- this project's.)
+use Rattle.std.specs.Prelude.{ℕ, Bool, ◌||◌, List, [], ◌∷◌, map, find, Option, option_map}
+use Rattle.std.specs.Borrow.{Bor}
+use Rattle.step_model.specs.declared.fault.Cause.{Cause}
+use Rattle.step_model.specs.declared.fault.Cause.TheVariants as cause
+use Rattle.stim_lexer.specs.Cut.{Cut}
+use Rattle.stim_parser.specs.declared.forms.ArgumentForm.{ArgumentForm}
+use Rattle.stim_parser.specs.declared.judge.Said.{Said}
+use Rattle.stim_parser.specs.declared.judge.Said.TheVariants as said
+use Rattle.stim_parser.specs.declared.operation.Keyword.{Keyword}
+use Rattle.stim_parser.specs.declared.target.Target.{Target}
+use Rattle.stim_parser.specs.Arguments.{arguments_in}
+use Rattle.stim_parser.specs.Instructions.{argument_form, target_form}
+use Rattle.stim_parser.specs.Limits.{has_wrong_arguments, has_wrong_probability, has_argument_beyond, has_target_beyond, has_same_qubit}
+use Rattle.stim_parser.specs.Verdicts.{Reading, Takes, Opens, Closes, Refuses, read_targets, has_wrong_number, repeats_zero_times, opens_too_deep}
+
+-- what a line of a number says, with the targets that were read of it
+abbrev pub reading_in : ℕ → Said → List Target → Reading
+reading_in line (said.Takes operation arguments) targets =
+    Takes
+    (record {
+      line = line;
+      operation = operation;
+      arguments = arguments_in arguments.now;
+      targets = targets;
+    })
+reading_in line (said.Opens turns) targets = Opens turns
+reading_in line said.Closes targets = Closes
+reading_in line (said.Refuses c) targets = Refuses c
+
+-- texts that are lent
+abbrev pub texts_of : List (Bor (List ℕ)) → List (List ℕ)
+texts_of lent = map (λ text. text.now) lent
+
+-- ---- questions
+
+-- the cause of the first question that applies
+abbrev pub first_of : List (Bool × Cause) → Option Cause
+first_of asked = option_map (λ question. question.1) (find (λ question. question.0) asked)
+
+-- the questions of the arguments' number and form
+abbrev pub refusals_of_arguments : ArgumentForm → Cut → List (Bool × Cause)
+refusals_of_arguments form cut =
+    (cut.stays_open || has_wrong_arguments form (arguments_in cut.arguments), cause.Arguments)
+    ∷ (has_wrong_probability form (arguments_in cut.arguments), cause.Probability)
+    ∷ []
+
+-- the questions of numbers, and of how many targets there are, where each target is of its form
+abbrev pub refusals_of_amounts : ℕ → Keyword → Cut → List (Bool × Cause)
+refusals_of_amounts depth keyword cut =
+    let arguments = argument_form keyword in
+    let targets = target_form keyword in
+    (has_argument_beyond arguments (arguments_in cut.arguments) || has_target_beyond targets (read_targets targets cut.targets), cause.Number)
+    ∷ (has_wrong_number targets cut.targets, cause.Count)
+    ∷ (has_same_qubit targets (read_targets targets cut.targets), cause.SameQubit)
+    ∷ (repeats_zero_times targets cut.targets, cause.RepeatZero)
+    ∷ (opens_too_deep depth targets, cause.Depth)
+    ∷ []

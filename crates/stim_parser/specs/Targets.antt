@@ -1,0 +1,72 @@
+-- The targets of an instruction, as they are written. A qubit is a number (`5`, `005`); an inverted one is `!` and a
+-- number; a record is `rec[-k]`, k a number and at least 1: the kth last record; a Pauli target is one of `X Y Z x y z`
+-- and a number, and may have a `!` before it. A `*` joins the Pauli targets beside it into one product. Targets stand
+-- between blanks, and blanks round a `*` are left out at will.
+-- (Stim's circuit format, github.com/quantumlib/Stim, doc/file_format_stim_circuit.md, "Target Types".)
+use Rattle.std.specs.Prelude.{ℕ, ◌==◌, ◌-◌, nat_le, Bool, true, false, ◌&&◌, ◌||◌, if◌then◌else◌, List, [], ◌∷◌, length, take, drop, Option, None, Some, option_map, option_and_then, codes, bytes_eq, slice_index, slice_range}
+use Rattle.std.specs.Option.{option_or}
+use Rattle.pauli_word.specs.declared.letter.Letter.{Letter}
+use Rattle.pauli_word.specs.declared.letter.Letter.TheVariants as letter
+use Rattle.stim_lexer.specs.Bytes.{is_empty}
+use Rattle.stim_parser.specs.declared.target.Target.{Target}
+use Rattle.stim_parser.specs.declared.target.Target.TheVariants.{Plain, Inverted, Back, Pauli, Star}
+use Rattle.stim_parser.specs.Numbers.{number_of}
+use Rattle.stim_parser.specs.Pieces.{is_star, pieces_of}
+
+-- what a function gives of each element, where it gives something of all
+abbrev pub each_of : {X Y : Type 0} → (X → Option Y) → List X → Option (List Y)
+each_of f [] = Some []
+each_of f (x ∷ xs) = option_and_then (λ y. option_map (λ ys. y ∷ ys) (each_of f xs)) (f x)
+
+-- ---- a record
+
+-- what stands before a `]` at the end
+abbrev pub before_bracket : List ℕ → Option (List ℕ)
+before_bracket text =
+    if nat_le 1 (length text) && slice_index text (length text - 1) == 93
+    then Some (slice_range text 0 (length text - 1))
+    else None
+
+-- a number that isn't 0
+abbrev pub at_least_one : List ℕ → Option ℕ
+at_least_one digits = option_and_then (λ k. if k == 0 then None else Some k) (number_of digits)
+
+abbrev pub record_of : List ℕ → Option ℕ
+record_of piece =
+    if bytes_eq (take 5 piece) (codes "rec[-") then option_and_then at_least_one (before_bracket (drop 5 piece)) else None
+
+-- ---- a Pauli target
+
+-- the letter that a byte writes, in either case
+abbrev pub letter_of : ℕ → Option Letter
+letter_of b =
+    if b == 88 || b == 120 then Some letter.X
+    else
+    (if b == 89 || b == 121 then Some letter.Y else (if b == 90 || b == 122 then Some letter.Z else None))
+
+-- a letter and its qubit
+abbrev pub pauli_of : Bool → List ℕ → Option Target
+pauli_of inverted [] = None
+pauli_of inverted (b ∷ digits) = option_and_then (λ l. option_map (Pauli inverted l) (number_of digits)) (letter_of b)
+
+-- ---- any target
+
+-- what follows a `!`
+abbrev pub inverted_of : List ℕ → Option Target
+inverted_of text = option_or (option_map Inverted (number_of text)) (pauli_of true text)
+
+-- a target that is told by its first byte
+abbrev pub marked_of : List ℕ → Option Target
+marked_of [] = None
+marked_of (b ∷ text) =
+    if b == 33 then inverted_of text
+    else (if is_star b && is_empty text then Some Star else pauli_of false (b ∷ text))
+
+-- the target that a piece writes, in whichever form
+unfoldable pub target_of : List ℕ → Option Target
+target_of piece =
+    option_or (option_map Plain (number_of piece)) (option_or (option_map Back (record_of piece)) (marked_of piece))
+
+-- the targets of a text, where all can be read
+unfoldable pub targets_in : List ℕ → Option (List Target)
+targets_in text = each_of target_of (pieces_of text)

@@ -1,0 +1,103 @@
+ghost use Rattle.std.specs.Prelude.{◌≡◌, length};
+ghost use Rattle.std.specs.List.{list_all, list_any};
+ghost use Rattle.stim_parser.specs.Limits.{has_argument_beyond, has_wrong_arguments, has_wrong_probability, is_argument, is_argument_beyond, is_probability, is_wrong_count, takes_probability};
+ghost use Rattle.stim_parser.specs.Said.{texts_of};
+
+use crate::arguments::MOST_ARGUMENTS;
+use crate::digits::{is_number, value_of};
+use crate::forms::ArgumentForm;
+use crate::numbers::{is_coordinate_beyond, is_decimal, is_number_beyond, is_whole_number};
+use crate::probability::Probability;
+
+/// Whether a form has another number of arguments.
+fn is_wrong_count(form: ArgumentForm, count: usize) -> bool
+    ensures { result ≡ is_wrong_count form count }
+{
+    match form {
+        ArgumentForm::NoArguments => count != 0,
+        ArgumentForm::ProbabilityAtWill => count > 1,
+        ArgumentForm::OneProbability | ArgumentForm::OneNumber => count != 1,
+        ArgumentForm::WholeNumbers | ArgumentForm::Decimals => count > MOST_ARGUMENTS,
+    }
+}
+
+/// Whether an argument is of a form. Of a probability no more is asked here than that it isn't empty.
+fn is_argument(form: ArgumentForm, text: &[u8]) -> bool
+    ensures { result ≡ is_argument form text.now }
+{
+    match form {
+        ArgumentForm::WholeNumbers => is_whole_number(text),
+        ArgumentForm::Decimals => is_decimal(text),
+        ArgumentForm::OneNumber => is_number(text),
+        _ => !text.is_empty(),
+    }
+}
+
+/// Whether each argument is of a form.
+fn are_arguments(form: ArgumentForm, arguments: &[&[u8]]) -> bool
+    ensures { result ≡ list_all (λ argument. is_argument form argument.now) arguments.now }
+{
+    arguments
+        .iter()
+        .all(|argument| is_argument(form, *argument))
+}
+
+/// Whether arguments are of another number or another form.
+pub(crate) fn has_wrong_arguments(form: ArgumentForm, arguments: &[&[u8]]) -> bool
+    ensures { result ≡ has_wrong_arguments form (texts_of arguments.now) }
+{
+    is_wrong_count(form, arguments.len()) || !are_arguments(form, arguments)
+}
+
+/// Whether the arguments of a form are probabilities.
+fn takes_probability(form: ArgumentForm) -> bool
+    ensures { result ≡ takes_probability form }
+{
+    matches!(
+        form,
+        ArgumentForm::ProbabilityAtWill | ArgumentForm::OneProbability
+    )
+}
+
+/// Whether each argument is a probability that is accepted.
+fn are_probabilities(arguments: &[&[u8]]) -> bool
+    ensures { result ≡ list_all (λ argument. is_probability argument.now) arguments.now }
+{
+    arguments
+        .iter()
+        .all(|argument| Probability::read(*argument).is_some())
+}
+
+/// Whether an argument is to be a probability and isn't one that is accepted.
+pub(crate) fn has_wrong_probability(form: ArgumentForm, arguments: &[&[u8]]) -> bool
+    ensures { result ≡ has_wrong_probability form (texts_of arguments.now) }
+{
+    takes_probability(form) && !are_probabilities(arguments)
+}
+
+/// Whether an argument is beyond its limit.
+fn is_argument_beyond(form: ArgumentForm, text: &[u8]) -> bool
+    ensures { result ≡ is_argument_beyond form text.now }
+{
+    match form {
+        ArgumentForm::WholeNumbers => is_coordinate_beyond(text),
+        ArgumentForm::OneNumber => is_number_beyond(value_of(text)),
+        _ => false,
+    }
+}
+
+/// Whether some of the arguments are beyond their limit.
+fn are_beyond(form: ArgumentForm, arguments: &[&[u8]]) -> bool
+    ensures { result ≡ list_any (λ argument. is_argument_beyond form argument.now) arguments.now }
+{
+    arguments
+        .iter()
+        .any(|argument| is_argument_beyond(form, *argument))
+}
+
+/// Whether one of the arguments is beyond its limit.
+pub(crate) fn has_argument_beyond(form: ArgumentForm, arguments: &[&[u8]]) -> bool
+    ensures { result ≡ has_argument_beyond form (texts_of arguments.now) }
+{
+    are_beyond(form, arguments)
+}

@@ -1,0 +1,62 @@
+ghost use Rattle.std.specs.Prelude.{◌≡◌, ◌+◌, true, length, not, position};
+ghost use Rattle.std.specs.Char.{is_ascii_digit};
+ghost use Rattle.std.specs.List.{list_all};
+ghost use Rattle.step_model.specs.Probabilities.{front_digits, after_digits};
+ghost use Rattle.stim_parser.specs.Numbers.{is_number, number_of, value_of};
+
+/// The least number that is beyond every limit.
+pub(crate) const BEYOND_ALL: u64 = 1_000_000_000_000_000_000;
+
+/// The number that digits write, or the one beyond every limit where it is greater.
+pub(crate) fn value_of(digits: &[u8]) -> u64
+    ensures { result ≡ value_of digits.now }
+{
+    let mut value: u64 = 0;
+    for digit in digits {
+        value = (10 * value + digit.saturating_sub(b'0') as u64).min(BEYOND_ALL);
+    }
+    value
+}
+
+/// Whether a text has only digits.
+fn are_digits(text: &[u8]) -> bool
+    ensures { result ≡ list_all is_ascii_digit text.now }
+{
+    text.iter().all(|byte| byte.is_ascii_digit())
+}
+
+/// Whether a text is one digit or more.
+pub(crate) fn is_number(text: &[u8]) -> bool
+    ensures { result ≡ is_number text.now }
+{
+    !text.is_empty() && are_digits(text)
+}
+
+/// The number that a text writes, where it is digits.
+pub(crate) fn number_of(text: &[u8]) -> Option<u64>
+    ensures { result ≡ number_of text.now }
+{
+    if is_number(text) {
+        Some(value_of(text))
+    } else {
+        None
+    }
+}
+
+/// Where the first byte stands that isn't a digit.
+fn place_after_digits(text: &[u8]) -> Option<usize>
+    ensures { result ≡ position (λ b. not (is_ascii_digit b)) text.now }
+{
+    text.iter().position(|byte| !byte.is_ascii_digit())
+}
+
+/// The digits at the front of a text, and what follows them.
+pub(crate) fn cut_digits(text: &[u8]) -> (&[u8], &[u8])
+    ensures front { result.0.now ≡ front_digits text.now }
+    ensures after { result.1.now ≡ after_digits text.now }
+    ensures digits { list_all is_ascii_digit result.0.now ≡ true }
+    ensures len { length result.0.now + length result.1.now ≡ length text.now }
+{
+    let place = place_after_digits(text).unwrap_or(text.len());
+    text.split_at(place)
+}

@@ -1,0 +1,114 @@
+ghost use Rattle.std.specs.Prelude.{◌≡◌};
+ghost use Rattle.stim_parser.specs.Instructions.{is_among_rows, is_left_out, keyword_named, named_in_rows};
+
+use crate::operation::{Keyword, Operation};
+use gate_table::Gate;
+use pauli_word::Letter;
+
+/// Each name that is no gate's, in capitals, and what it says.
+static OTHER_NAMES: [(&'static [u8], Keyword); 24] = [
+    (b"M", Keyword::Does(Operation::Measures(Letter::Z))),
+    (b"MZ", Keyword::Does(Operation::Measures(Letter::Z))),
+    (b"MX", Keyword::Does(Operation::Measures(Letter::X))),
+    (b"MY", Keyword::Does(Operation::Measures(Letter::Y))),
+    (b"R", Keyword::Does(Operation::Resets(Letter::Z))),
+    (b"RZ", Keyword::Does(Operation::Resets(Letter::Z))),
+    (b"RX", Keyword::Does(Operation::Resets(Letter::X))),
+    (b"RY", Keyword::Does(Operation::Resets(Letter::Y))),
+    (
+        b"MR",
+        Keyword::Does(Operation::MeasuresAndResets(Letter::Z)),
+    ),
+    (
+        b"MRZ",
+        Keyword::Does(Operation::MeasuresAndResets(Letter::Z)),
+    ),
+    (
+        b"MRX",
+        Keyword::Does(Operation::MeasuresAndResets(Letter::X)),
+    ),
+    (
+        b"MRY",
+        Keyword::Does(Operation::MeasuresAndResets(Letter::Y)),
+    ),
+    (b"MPP", Keyword::Does(Operation::MeasuresProducts)),
+    (b"X_ERROR", Keyword::Does(Operation::Errs(Letter::X))),
+    (b"Y_ERROR", Keyword::Does(Operation::Errs(Letter::Y))),
+    (b"Z_ERROR", Keyword::Does(Operation::Errs(Letter::Z))),
+    (b"CORRELATED_ERROR", Keyword::Does(Operation::ErrsTogether)),
+    (b"E", Keyword::Does(Operation::ErrsTogether)),
+    (b"DETECTOR", Keyword::Does(Operation::Detects)),
+    (b"OBSERVABLE_INCLUDE", Keyword::Does(Operation::Observes)),
+    (b"TICK", Keyword::Does(Operation::Ticks)),
+    (b"QUBIT_COORDS", Keyword::Does(Operation::PlacesQubits)),
+    (b"SHIFT_COORDS", Keyword::Does(Operation::ShiftsCoordinates)),
+    (b"REPEAT", Keyword::Repeats),
+];
+
+/// The names that are known and left out, in capitals.
+static LEFT_OUT_NAMES: [&'static [u8]; 29] = [
+    b"DEPOLARIZE1",
+    b"DEPOLARIZE2",
+    b"PAULI_CHANNEL_1",
+    b"PAULI_CHANNEL_2",
+    b"HERALDED_ERASE",
+    b"HERALDED_PAULI_CHANNEL_1",
+    b"ELSE_CORRELATED_ERROR",
+    b"I_ERROR",
+    b"II",
+    b"II_ERROR",
+    b"MXX",
+    b"MYY",
+    b"MZZ",
+    b"SPP",
+    b"SPP_DAG",
+    b"MPAD",
+    b"CXSWAP",
+    b"SWAPCX",
+    b"CZSWAP",
+    b"SWAPCZ",
+    b"H_NXY",
+    b"H_NXZ",
+    b"H_NYZ",
+    b"C_NXYZ",
+    b"C_XNYZ",
+    b"C_XYNZ",
+    b"C_NZYX",
+    b"C_ZNYX",
+    b"C_ZYNX",
+];
+
+/// The keyword of the first row whose name is the text, in any case.
+#[tactic(auto, unfolding(crate::specs::Instructions::named_in_rows))]
+fn look_up(rows: &[(&[u8], Keyword)], text: &[u8]) -> Option<Keyword>
+    ensures { result ≡ named_in_rows rows.now text.now }
+{
+    rows.iter()
+        .find(|row| row.0.eq_ignore_ascii_case(text))
+        .map(|row| row.1)
+}
+
+/// Whether a name is among rows, in any case.
+#[tactic(auto, unfolding(crate::specs::Instructions::is_among_rows))]
+fn is_among(rows: &[&[u8]], name: &[u8]) -> bool
+    ensures { result ≡ is_among_rows rows.now name.now }
+{
+    rows.iter().any(|row| row.eq_ignore_ascii_case(name))
+}
+
+/// The keyword that a name names, in any case.
+pub(crate) fn keyword_named(name: &[u8]) -> Option<Keyword>
+    ensures { result ≡ keyword_named name.now }
+{
+    match Gate::named(name) {
+        Some(gate) => Some(Keyword::Does(Operation::Applies(gate))),
+        None => look_up(&OTHER_NAMES, name),
+    }
+}
+
+/// Whether a name is known and left out.
+pub(crate) fn is_left_out(name: &[u8]) -> bool
+    ensures { result ≡ is_left_out name.now }
+{
+    is_among(&LEFT_OUT_NAMES, name)
+}

@@ -1,0 +1,67 @@
+ghost use Rattle.std.specs.Prelude.{◌≡◌};
+ghost use Rattle.stim_parser.specs.Limits.{is_decimal};
+ghost use Rattle.stim_parser.specs.Numbers.{is_coordinate_beyond, is_number_beyond, is_qubit_beyond, is_whole_number, magnitude_of, without_minus};
+
+use crate::decimal::decimal_of;
+use crate::digits::{is_number, value_of};
+
+/// The greatest number of a qubit.
+const GREATEST_QUBIT: u64 = 4_095;
+
+/// The greatest magnitude of a coordinate.
+const GREATEST_COORDINATE: u64 = 1_000_000_000;
+
+/// The greatest of all other numbers.
+const GREATEST_NUMBER: u64 = 999_999_999_999_999_999;
+
+/// A text without a `-` in front.
+fn without_minus(text: &[u8]) -> &[u8]
+    ensures { result.now ≡ without_minus text.now }
+{
+    match text {
+        [b'-', rest @ ..] => rest,
+        _ => text,
+    }
+}
+
+/// Whether a text is digits, with a `-` in front at will.
+pub(crate) fn is_whole_number(text: &[u8]) -> bool
+    ensures { result ≡ is_whole_number text.now }
+{
+    is_number(without_minus(text))
+}
+
+/// Whether a text is a number text, with a `-` in front at will.
+pub(crate) fn is_decimal(text: &[u8]) -> bool
+    ensures { result ≡ is_decimal text.now }
+{
+    decimal_of(without_minus(text)).is_some()
+}
+
+/// What a whole number counts without its sign.
+pub(crate) fn magnitude_of(text: &[u8]) -> u64
+    ensures { result ≡ magnitude_of text.now }
+{
+    value_of(without_minus(text))
+}
+
+/// Whether a coordinate is beyond its limit.
+pub(crate) fn is_coordinate_beyond(text: &[u8]) -> bool
+    ensures { result ≡ is_coordinate_beyond text.now }
+{
+    magnitude_of(text) > GREATEST_COORDINATE
+}
+
+/// Whether a number that is neither a qubit's nor a coordinate is beyond its limit.
+pub(crate) fn is_number_beyond(number: u64) -> bool
+    ensures { result ≡ is_number_beyond number }
+{
+    number > GREATEST_NUMBER
+}
+
+/// Whether the number of a qubit is beyond its limit.
+pub(crate) fn is_qubit_beyond(qubit: u64) -> bool
+    ensures { result ≡ is_qubit_beyond qubit }
+{
+    qubit > GREATEST_QUBIT
+}

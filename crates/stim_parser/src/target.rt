@@ -1,0 +1,134 @@
+ghost use Rattle.std.specs.Prelude.{◌≡◌, None, Some, option_map, IfOk, MatchBool};
+ghost use Rattle.stim_parser.specs.Targets.{at_least_one, before_bracket, inverted_of, letter_of, marked_of, pauli_of, record_of, target_of, targets_in};
+
+use crate::digits::number_of;
+use crate::piece::next_piece;
+use pauli_word::Letter;
+use std::alloc::{AllocError, Allocator};
+
+/// A target as it is written. All numbers from 10^18 on are one, which is beyond every limit.
+#[derive(Clone, Copy, Debug, PartialEq, Eq)]
+pub enum Target {
+    /// A number alone: a qubit, or how often a block is repeated.
+    Plain(u64),
+    /// A qubit with `!` before it.
+    Inverted(u64),
+    /// A record, by how far back it lies, from 1.
+    Back(u64),
+    /// Whether `!` stands before it, a letter and its qubit.
+    Pauli(bool, Letter, u64),
+    /// A `*`, which joins the Pauli targets beside it.
+    Star,
+}
+
+/// What stands before a closing bracket at the end.
+fn before_bracket(text: &[u8]) -> Option<&[u8]>
+    ensures { option_map (λ inner. inner.now) result ≡ before_bracket text.now }
+{
+    match text {
+        [inner @ .., b']'] => Some(inner),
+        _ => None,
+    }
+}
+
+/// A number that isn't 0.
+fn at_least_one(digits: &[u8]) -> Option<u64>
+    ensures { result ≡ at_least_one digits.now }
+{
+    match number_of(digits)? {
+        0 => None,
+        number => Some(number),
+    }
+}
+
+/// How far back the record of a piece `rec[-k]` lies.
+fn record_of(piece: &[u8]) -> Option<u64>
+    ensures { result ≡ record_of piece.now }
+{
+    let rest = piece.strip_prefix(b"rec[-")?;
+    let digits = before_bracket(rest)?;
+    at_least_one(digits)
+}
+
+/// The letter that a byte writes, in either case.
+fn letter_of(byte: u8) -> Option<Letter>
+    ensures { result ≡ letter_of byte }
+{
+    match byte {
+        b'X' | b'x' => Some(Letter::X),
+        b'Y' | b'y' => Some(Letter::Y),
+        b'Z' | b'z' => Some(Letter::Z),
+        _ => None,
+    }
+}
+
+/// A letter and its qubit, after a `!` or not.
+fn pauli_of(inverted: bool, text: &[u8]) -> Option<Target>
+    ensures { result ≡ pauli_of inverted text.now }
+{
+    match text {
+        [first, digits @ ..] => {
+            let letter = letter_of(*first)?;
+            let qubit = number_of(digits)?;
+            Some(Target::Pauli(inverted, letter, qubit))
+        }
+        [] => None,
+    }
+}
+
+/// The target whose `!` stands before the text.
+fn inverted_of(text: &[u8]) -> Option<Target>
+    ensures { result ≡ inverted_of text.now }
+{
+    match number_of(text) {
+        Some(qubit) => Some(Target::Inverted(qubit)),
+        None => pauli_of(true, text),
+    }
+}
+
+/// A target that is told by its first byte.
+fn marked_of(piece: &[u8]) -> Option<Target>
+    ensures { result ≡ marked_of piece.now }
+{
+    match piece {
+        [] => None,
+        [b'!', rest @ ..] => inverted_of(rest),
+        [b'*'] => Some(Target::Star),
+        _ => pauli_of(false, piece),
+    }
+}
+
+/// The target that a piece writes.
+#[tactic(auto, unfolding(crate::specs::Targets::target_of))]
+fn target_of(piece: &[u8]) -> Option<Target>
+    ensures { result ≡ target_of piece.now }
+{
+    if let Some(number) = number_of(piece) {
+        return Some(Target::Plain(number));
+    }
+    if let Some(back) = record_of(piece) {
+        return Some(Target::Back(back));
+    }
+    marked_of(piece)
+}
+
+/// Puts the targets of a text in place of those that were there. Answers whether each of its pieces is a target.
+pub(crate) fn read_targets<A: Allocator + Copy>(
+    targets: &mut Vec<Target, A>,
+    text: &[u8],
+) -> Result<bool, AllocError>
+    ensures { IfOk result (λ all. MatchBool all
+        (targets_in text.now ≡ Some targets.new.items)
+        (targets_in text.now ≡ None)) }
+{
+    targets.clear();
+    let mut rest = text;
+    while let Some((piece, after)) = next_piece(rest) {
+        let Some(target) = target_of(piece) else {
+            return Ok(false);
+        };
+        targets.push(target)?;
+        rest = after;
+    }
+    Ok(true)
+}

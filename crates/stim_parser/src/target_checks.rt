@@ -1,0 +1,125 @@
+ghost use Rattle.std.specs.Prelude.{◌≡◌, length};
+ghost use Rattle.std.specs.List.{list_all, list_any};
+ghost use Rattle.stim_parser.specs.Limits.{are_of_form, has_same_qubit, has_target_beyond, has_wrong_count, is_back, is_odd, is_pauli, is_plain, is_plain_or_inverted, is_target_beyond};
+
+use crate::forms::TargetForm;
+use crate::numbers::{is_number_beyond, is_qubit_beyond};
+use crate::pairs::{
+    are_pairs_one_record, are_pairs_record_first, has_pair_of_one, is_back, is_plain,
+};
+use crate::products::{are_products, has_product_of_one};
+use crate::target::Target;
+
+/// Whether a target is a number, with a `!` before it or not.
+fn is_plain_or_inverted(target: Target) -> bool
+    ensures { result ≡ is_plain_or_inverted target }
+{
+    matches!(target, Target::Plain(_) | Target::Inverted(_))
+}
+
+/// Whether a target is a letter at a qubit, without a `!`.
+fn is_pauli(target: Target) -> bool
+    ensures { result ≡ is_pauli target }
+{
+    matches!(target, Target::Pauli(false, _, _))
+}
+
+fn are_plain(targets: &[Target]) -> bool
+    ensures { result ≡ list_all is_plain targets.now }
+{
+    targets.iter().all(|target| is_plain(*target))
+}
+
+fn are_plain_or_inverted(targets: &[Target]) -> bool
+    ensures { result ≡ list_all is_plain_or_inverted targets.now }
+{
+    targets.iter().all(|target| is_plain_or_inverted(*target))
+}
+
+fn are_paulis(targets: &[Target]) -> bool
+    ensures { result ≡ list_all is_pauli targets.now }
+{
+    targets.iter().all(|target| is_pauli(*target))
+}
+
+fn are_back(targets: &[Target]) -> bool
+    ensures { result ≡ list_all is_back targets.now }
+{
+    targets.iter().all(|target| is_back(*target))
+}
+
+/// Whether targets are of a form. Their number isn't asked.
+#[tactic(auto, unfolding(crate::specs::Limits::are_of_form))]
+pub(crate) fn are_of_form(form: TargetForm, targets: &[Target]) -> bool
+    ensures { result ≡ are_of_form form targets.now }
+{
+    match form {
+        TargetForm::NoTargets => true,
+        TargetForm::Qubits | TargetForm::QubitPairs | TargetForm::Turns => are_plain(targets),
+        TargetForm::QubitsInvertedAtWill => are_plain_or_inverted(targets),
+        TargetForm::PairsRecordFirst => are_pairs_record_first(targets),
+        TargetForm::PairsOneRecord => are_pairs_one_record(targets),
+        TargetForm::Paulis => are_paulis(targets),
+        TargetForm::Products => are_products(targets),
+        TargetForm::Records => are_back(targets),
+    }
+}
+
+/// Whether a number alone, a qubit or how often a block is repeated, is beyond its limit.
+fn is_plain_beyond(form: TargetForm, number: u64) -> bool
+    ensures { result ≡ is_target_beyond form (Target.Plain number) }
+{
+    match form {
+        TargetForm::Turns => is_number_beyond(number),
+        _ => is_qubit_beyond(number),
+    }
+}
+
+/// Whether a target's number is beyond its limit.
+fn is_target_beyond(form: TargetForm, target: Target) -> bool
+    ensures { result ≡ is_target_beyond form target }
+{
+    match target {
+        Target::Plain(number) => is_plain_beyond(form, number),
+        Target::Back(back) => is_number_beyond(back),
+        Target::Inverted(qubit) => is_qubit_beyond(qubit),
+        Target::Pauli(_, _, qubit) => is_qubit_beyond(qubit),
+        Target::Star => false,
+    }
+}
+
+/// Whether the number of one of the targets is beyond its limit.
+#[tactic(auto, unfolding(crate::specs::Limits::has_target_beyond))]
+pub(crate) fn has_target_beyond(form: TargetForm, targets: &[Target]) -> bool
+    ensures { result ≡ has_target_beyond form targets.now }
+{
+    targets.iter().any(|target| is_target_beyond(form, *target))
+}
+
+/// Whether a form has another number of targets. One that has none is not asked here.
+#[tactic(auto, unfolding(crate::specs::Limits::has_wrong_count))]
+pub(crate) fn has_wrong_count(form: TargetForm, targets: &[Target]) -> bool
+    ensures { result ≡ has_wrong_count form targets.now }
+{
+    match form {
+        TargetForm::QubitPairs | TargetForm::PairsRecordFirst | TargetForm::PairsOneRecord => {
+            targets.len() % 2 == 1
+        }
+        TargetForm::Turns => targets.len() != 1,
+        _ => false,
+    }
+}
+
+/// Whether a pair or a product names one qubit twice.
+#[tactic(auto, unfolding(crate::specs::Limits::has_same_qubit))]
+pub(crate) fn has_same_qubit(form: TargetForm, targets: &[Target]) -> bool
+    ensures { result ≡ has_same_qubit form targets.now }
+{
+    match form {
+        TargetForm::QubitPairs | TargetForm::PairsRecordFirst | TargetForm::PairsOneRecord => {
+            has_pair_of_one(targets)
+        }
+        TargetForm::Products => has_product_of_one(targets),
+        _ => false,
+    }
+}
