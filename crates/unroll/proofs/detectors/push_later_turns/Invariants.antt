@@ -1,0 +1,8 @@
+use Rattle.std.proofs.Common.{◌≡◌, ◌*◌, ◌++◌, drop}
+use Rattle.unroll.specs.Detecting.{records_moved}
+use Rattle.unroll.specs.Gathered.{later}
+use Rattle.unroll.proofs.detectors.push_later_turns.Given as goal
+
+abbrev pub invariant-loop-turn : goal.invariant-loop-turn
+invariant-loop-turn g l =
+    l.lists ≡ l.fn.lists ++ later (λ n. records_moved (n * l.by)) l.turn (drop l.first l.fn.lists)

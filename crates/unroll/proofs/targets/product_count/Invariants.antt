@@ -1,0 +1,12 @@
+use Rattle.std.proofs.Common.{◌≡◌, ◌+◌, ◌≤◌, length}
+use Rattle.unroll.specs.Made.{products_of}
+use Rattle.unroll.proofs.targets.product_count.Given as goal
+
+abbrev pub invariant-loop-parts : goal.invariant-loop-parts
+invariant-loop-parts l = record {
+  value : l.count + length (products_of l.rest) ≡ length (products_of l.targets);
+  few : l.count + length l.rest ≤ length l.targets;
+}
+
+abbrev pub decreases-loop-parts : goal.decreases-loop-parts
+decreases-loop-parts l = length l.rest

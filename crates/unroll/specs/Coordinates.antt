@@ -1,0 +1,43 @@
+-- The coordinates of a circuit's detectors, in the order in which they are reached: those that a detector states, each
+-- with the offset of its place added. SHIFT_COORDS adds its numbers to the offset, place by place; a place that no
+-- shift names has the offset 0. Places that a detector doesn't state are left out.
+-- (Stim's gate reference, github.com/quantumlib/Stim, doc/gates.md, "DETECTOR" and "SHIFT_COORDS".)
+use Rattle.std.specs.Prelude.{ℕ, ℤ, ◌+ℤ◌, List, [], ◌∷◌, ◌++◌, map}
+use Rattle.stim_parser.specs.declared.operation.Operation.{Operation}
+use Rattle.stim_parser.specs.declared.operation.Operation.TheVariants.{Detects, ShiftsCoordinates}
+use Rattle.stim_parser.specs.Numbers.{whole_value}
+use Rattle.stim_parser.specs.Trees.{Tree}
+use Rattle.stim_parser.specs.Verdicts.{Instruction}
+use Rattle.unroll.specs.Flattened.{reached}
+
+-- the offset with a shift added
+abbrev pub shifted : List ℤ → List ℤ → List ℤ
+shifted [] shift = shift
+shifted offset [] = offset
+shifted (o ∷ offset) (s ∷ shift) = (o +ℤ s) ∷ shifted offset shift
+
+-- what is stated, with the offset added
+abbrev pub placed : List ℤ → List ℤ → List ℤ
+placed offset [] = []
+placed [] stated = stated
+placed (o ∷ offset) (c ∷ stated) = (o +ℤ c) ∷ placed offset stated
+
+-- the offset after an operation with these arguments
+abbrev pub offset_after : List ℤ → Operation → List (List ℕ) → List ℤ
+offset_after offset ShiftsCoordinates arguments = shifted offset (map whole_value arguments)
+offset_after offset operation arguments = offset
+
+-- the coordinates of an operation's detectors: of one or of none
+abbrev pub operation_coordinates : List ℤ → Operation → List (List ℕ) → List (List ℤ)
+operation_coordinates offset Detects arguments = placed offset (map whole_value arguments) ∷ []
+operation_coordinates offset operation arguments = []
+
+-- the coordinates of instructions' detectors, from this offset on
+unfoldable pub coordinates_from : List ℤ → List Instruction → List (List ℤ)
+coordinates_from offset [] = []
+coordinates_from offset (i ∷ instructions) =
+    operation_coordinates offset i.operation i.arguments
+    ++ coordinates_from (offset_after offset i.operation i.arguments) instructions
+
+abbrev pub coordinates_of : Tree → List (List ℤ)
+coordinates_of tree = coordinates_from [] (reached tree)

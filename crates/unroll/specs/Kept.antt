@@ -1,0 +1,75 @@
+-- What is kept of a circuit's faults and products, once for each place of the text. A measurement with a probability keeps
+-- it once for all its records; an error of one letter keeps an entry for each target, CORRELATED_ERROR one entry for its
+-- line. An entry is the text of the probability as it stands, without the blanks round it, its bound, and the letters at
+-- qubits that the fault applies: none where it flips a record. MPP keeps each of its products.
+-- (Stim's gate reference, github.com/quantumlib/Stim, doc/gates.md.)
+use Rattle.std.specs.Prelude.{ℕ, List, [], ◌∷◌, map, unwrap_or}
+use Rattle.std.specs.List.{flat_map, slice_index_or}
+use Rattle.pauli_word.specs.declared.letter.Letter.{Letter}
+use Rattle.pauli_word.specs.declared.letter.Letter.TheVariants as letter
+use Rattle.step_model.specs.declared.step.Term.{Term}
+use Rattle.step_model.specs.Listing.{Kept}
+use Rattle.step_model.specs.Probabilities.{probability_bound}
+use Rattle.stim_parser.specs.declared.operation.Operation.{Operation}
+use Rattle.stim_parser.specs.declared.operation.Operation.TheVariants.{Measures, MeasuresAndResets, MeasuresProducts, Errs, ErrsTogether}
+use Rattle.stim_parser.specs.declared.target.Target.{Target}
+use Rattle.stim_parser.specs.declared.target.Target.TheVariants.{Pauli}
+use Rattle.stim_parser.specs.Trees.{Tree}
+use Rattle.stim_parser.specs.Verdicts.{Instruction}
+use Rattle.unroll.specs.Flattened.{written}
+use Rattle.unroll.specs.Made.{qubit_of, products_of}
+
+-- the first argument of an instruction, or nothing
+abbrev pub first_argument : List (List ℕ) → List ℕ
+first_argument arguments = slice_index_or arguments 0 []
+
+abbrev pub entry_of : List Term → List ℕ → Kept
+entry_of terms probability =
+    record { text = probability; bound = unwrap_or (probability_bound probability) 0; terms = terms }
+
+-- a letter at the qubit of a target, and a Pauli target as it is written
+abbrev pub term_at : Letter → Target → Term
+term_at l target = record { qubit = qubit_of target; letter = l }
+
+abbrev pub letter_at : Target → Letter
+letter_at (Pauli inverted l q) = l
+letter_at target = letter.I
+
+abbrev pub term_of : Target → Term
+term_of target = term_at (letter_at target) target
+
+-- the entry of one letter at a target
+abbrev pub entry_at : Letter → List ℕ → Target → Kept
+entry_at l probability target = entry_of (term_at l target ∷ []) probability
+
+-- the entry of a measurement, where it has a probability
+abbrev pub flip_entries : List (List ℕ) → List Kept
+flip_entries [] = []
+flip_entries (probability ∷ arguments) = entry_of [] probability ∷ []
+
+-- the entries of an operation with these arguments and targets
+abbrev pub operation_entries : Operation → List (List ℕ) → List Target → List Kept
+operation_entries (Measures l) arguments targets = flip_entries arguments
+operation_entries (MeasuresAndResets l) arguments targets = flip_entries arguments
+operation_entries MeasuresProducts arguments targets = flip_entries arguments
+operation_entries (Errs l) arguments targets = map (entry_at l (first_argument arguments)) targets
+operation_entries ErrsTogether arguments targets = entry_of (map term_of targets) (first_argument arguments) ∷ []
+operation_entries operation arguments targets = []
+
+abbrev pub entries_of : Instruction → List Kept
+entries_of instruction = operation_entries instruction.operation instruction.arguments instruction.targets
+
+-- the products of an operation with these targets, each as letters at qubits
+abbrev pub operation_products : Operation → List Target → List (List Term)
+operation_products MeasuresProducts targets = map (map term_of) (products_of targets)
+operation_products operation targets = []
+
+abbrev pub products_in : Instruction → List (List Term)
+products_in instruction = operation_products instruction.operation instruction.targets
+
+-- all that is kept of a tree, in the order of its text
+abbrev pub kept_entries : Tree → List Kept
+kept_entries tree = flat_map entries_of (written tree)
+
+abbrev pub kept_products : Tree → List (List Term)
+kept_products tree = flat_map products_in (written tree)

@@ -1,0 +1,120 @@
+-- What a circuit takes, counted on its tree without unrolling it. An instruction is a step, and each of its targets is
+-- one more, where a record in a pair is a target and a product is one; each turn of a block is a step too. A measurement
+-- makes a record and a collapse of each target, MPP of each product, a reset a collapse. The qubits are those up to the
+-- greatest that any instruction names. (Which of these have a limit is this project's choice.)
+use Rattle.std.specs.Prelude.{ℕ, Bool, is_some, slice_get, ◌+◌, ◌*◌, ◌/◌, ◌==◌, max, if◌then◌else◌, List, [], ◌∷◌, length}
+use Rattle.gate_table.specs.Images.{arity_of}
+use Rattle.stim_parser.specs.declared.operation.Operation.{Operation}
+use Rattle.stim_parser.specs.declared.operation.Operation.TheVariants.{Applies, Measures, Resets, MeasuresAndResets, MeasuresProducts, Errs, ErrsTogether, Detects}
+use Rattle.stim_parser.specs.declared.target.Target.{Target}
+use Rattle.stim_parser.specs.declared.target.Target.TheVariants.{Plain, Inverted, Back, Pauli, Star}
+use Rattle.stim_parser.specs.Trees.{Tree, Nothing, Then, Block}
+use Rattle.stim_parser.specs.Verdicts.{Instruction}
+use Rattle.unroll.specs.Flattened.{written}
+use Rattle.unroll.specs.Made.{products_of}
+
+-- ---- sums
+
+-- the sum of a count over the instructions that are reached, with so many more for each turn of a block
+unfoldable pub total : ℕ → (Instruction → ℕ) → Tree → ℕ
+total turn count Nothing = 0
+total turn count (Then instruction rest) = count instruction + total turn count rest
+total turn count (Block line turns body rest) = turns * (turn + total turn count body) + total turn count rest
+
+-- ---- counts of an instruction
+
+-- how many targets an operation has in these, a product being one
+abbrev pub target_count : Operation → List Target → ℕ
+target_count MeasuresProducts targets = length (products_of targets)
+target_count operation targets = length targets
+
+-- of so many targets, how many records, collapses and detectors an operation makes
+abbrev pub records_made : Operation → ℕ → ℕ
+records_made (Measures l) targets = targets
+records_made (MeasuresAndResets l) targets = targets
+records_made MeasuresProducts targets = targets
+records_made operation targets = 0
+
+abbrev pub collapses_made : Operation → ℕ → ℕ
+collapses_made (Resets l) targets = targets
+collapses_made operation targets = records_made operation targets
+
+abbrev pub detectors_made : Operation → ℕ
+detectors_made Detects = 1
+detectors_made operation = 0
+
+abbrev pub step_count : Instruction → ℕ
+step_count i = 1 + target_count i.operation i.targets
+
+abbrev pub record_count : Instruction → ℕ
+record_count i = records_made i.operation (target_count i.operation i.targets)
+
+abbrev pub collapse_count : Instruction → ℕ
+collapse_count i = collapses_made i.operation (target_count i.operation i.targets)
+
+abbrev pub detector_count : Instruction → ℕ
+detector_count i = detectors_made i.operation
+
+-- how many faults an operation makes of so many targets: a measurement one of each record, where it has a probability
+abbrev pub faults_made : Operation → Bool → ℕ → ℕ
+faults_made (Errs l) flips targets = targets
+faults_made ErrsTogether flips targets = 1
+faults_made operation flips targets = if flips then records_made operation targets else 0
+
+-- whether an instruction has an argument
+abbrev pub has_argument : Instruction → Bool
+has_argument i = is_some (slice_get i.arguments 0)
+
+abbrev pub fault_count : Instruction → ℕ
+fault_count i = faults_made i.operation (has_argument i) (target_count i.operation i.targets)
+
+-- how many steps of a program an operation makes of so many targets
+abbrev pub steps_made : Operation → ℕ → ℕ
+steps_made (Applies g) targets = if arity_of g == 1 then targets else targets / 2
+steps_made (Errs l) targets = targets
+steps_made ErrsTogether targets = 1
+steps_made operation targets = collapses_made operation targets
+
+abbrev pub made_count : Instruction → ℕ
+made_count i = steps_made i.operation (target_count i.operation i.targets)
+
+-- ---- totals of a tree
+
+abbrev pub step_total : Tree → ℕ
+step_total tree = total 1 step_count tree
+
+abbrev pub record_total : Tree → ℕ
+record_total tree = total 0 record_count tree
+
+abbrev pub collapse_total : Tree → ℕ
+collapse_total tree = total 0 collapse_count tree
+
+abbrev pub detector_total : Tree → ℕ
+detector_total tree = total 0 detector_count tree
+
+abbrev pub fault_total : Tree → ℕ
+fault_total tree = total 0 fault_count tree
+
+abbrev pub made_total : Tree → ℕ
+made_total tree = total 0 made_count tree
+
+-- ---- qubits
+
+-- one more than the qubit that a target names, and 0 where it names none
+abbrev pub qubits_to : Target → ℕ
+qubits_to (Plain q) = q + 1
+qubits_to (Inverted q) = q + 1
+qubits_to (Pauli inverted l q) = q + 1
+qubits_to (Back k) = 0
+qubits_to Star = 0
+
+abbrev pub qubits_named : List Target → ℕ
+qubits_named [] = 0
+qubits_named (target ∷ targets) = max (qubits_to target) (qubits_named targets)
+
+abbrev pub qubits_over : List Instruction → ℕ
+qubits_over [] = 0
+qubits_over (instruction ∷ instructions) = max (qubits_named instruction.targets) (qubits_over instructions)
+
+abbrev pub qubit_total : Tree → ℕ
+qubit_total tree = qubits_over (written tree)

@@ -1,0 +1,70 @@
+ghost use Rattle.std.specs.Prelude.{◌≡◌};
+ghost use Rattle.unroll.specs.Totals.{records_made, collapses_made, detectors_made, faults_made, steps_made};
+
+use stim_parser::Operation;
+
+/// How many records an operation makes of so many targets, a product being one.
+pub(crate) fn records_made(operation: Operation, targets: usize) -> usize
+    ensures { result ≡ records_made operation targets }
+{
+    match operation {
+        Operation::Measures(_) | Operation::MeasuresAndResets(_) | Operation::MeasuresProducts =>
+            targets,
+        _ => 0,
+    }
+}
+
+/// How many collapses an operation makes of so many targets.
+pub(crate) fn collapses_made(operation: Operation, targets: usize) -> usize
+    ensures { result ≡ collapses_made operation targets }
+{
+    match operation {
+        Operation::Resets(_) => targets,
+        _ => records_made(operation, targets),
+    }
+}
+
+/// How many detectors an operation makes.
+pub(crate) fn detectors_made(operation: Operation) -> usize
+    ensures { result ≡ detectors_made operation }
+{
+    match operation {
+        Operation::Detects => 1,
+        _ => 0,
+    }
+}
+
+/// How many faults an operation makes of so many targets, where its records may flip or not.
+pub(crate) fn faults_made(operation: Operation, flips: bool, targets: usize) -> usize
+    ensures { result ≡ faults_made operation flips targets }
+{
+    match operation {
+        Operation::Errs(_) => targets,
+        Operation::ErrsTogether => 1,
+        _ => {
+            if flips {
+                records_made(operation, targets)
+            } else {
+                0
+            }
+        }
+    }
+}
+
+/// How many steps of a program an operation makes of so many targets.
+pub(crate) fn steps_made(operation: Operation, targets: usize) -> usize
+    ensures { result ≡ steps_made operation targets }
+{
+    match operation {
+        Operation::Applies(gate) => {
+            if gate.arity() == 1 {
+                targets
+            } else {
+                targets / 2
+            }
+        }
+        Operation::Errs(_) => targets,
+        Operation::ErrsTogether => 1,
+        _ => collapses_made(operation, targets),
+    }
+}

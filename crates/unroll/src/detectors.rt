@@ -1,0 +1,163 @@
+ghost use Rattle.std.specs.Prelude.{◌≡◌, ◌+◌, ◌-◌, ◌*◌, ◌<◌, ◌≤◌, ◌^◌, ◌++◌, All, None, drop, length, map, slice_range, IfOk, OnOk};
+ghost use Rattle.unroll.specs.Detecting.{records_moved};
+ghost use Rattle.unroll.specs.Detectors.{detectors_of, operation_detectors, record_named, records_named};
+ghost use Rattle.unroll.specs.Gathered.{later};
+ghost use Rattle.unroll.specs.Refusals.{first_far_line};
+ghost use Rattle.unroll.specs.Totals.{record_count, record_total};
+
+use crate::blocks::{LEVELS, OpenBlock};
+use crate::counts::records_made;
+use crate::marks::Mark;
+use crate::targets::target_count;
+use arrayvec::ArrayVec;
+use flat_lists::FlatLists;
+use std::alloc::{AllocError, Allocator};
+use stim_parser::{Circuit, Item, Operation, Target};
+
+/// The record that a target names after so many, or the first where it reaches further back.
+pub(crate) fn record_named(records: u64, target: Target) -> u32
+    requires { records < 2 ^ 32 }
+    ensures { result ≡ record_named records target }
+{
+    match target {
+        Target::Back(k) => records.saturating_sub(k) as u32,
+        _ => 0,
+    }
+}
+
+/// The records that targets name after so many.
+fn records_named<A: Allocator + Copy>(
+    alloc: A,
+    records: u64,
+    targets: &[Target],
+) -> Result<Vec<u32, A>, AllocError>
+    requires { records < 2 ^ 32 }
+    ensures { IfOk result (λ named. named.items ≡ records_named records targets.now) }
+{
+    let mut named = Vec::new(alloc);
+    for target in targets {
+        named.push(record_named(records, *target))?;
+    }
+    Ok(named)
+}
+
+/// Appends the detector of an instruction after so many records, where it is one.
+fn push_detector<A: Allocator + Copy>(
+    alloc: A,
+    detectors: &mut FlatLists<u32, A>,
+    records: u64,
+    operation: Operation,
+    targets: &[Target],
+) -> Result<(), AllocError>
+    requires { records < 2 ^ 32 }
+    ensures { OnOk result (detectors.new ≡ detectors.old ++ operation_detectors records operation targets.now) }
+{
+    match operation {
+        Operation::Detects => {
+            let named = records_named(alloc, records, targets)?;
+            detectors.push(&named)
+        }
+        _ => Ok(()),
+    }
+}
+
+/// Puts these records, each so many further on, in place of those that were there.
+fn copy_moved<A: Allocator + Copy>(
+    moved: &mut Vec<u32, A>,
+    records: &[u32],
+    by: u32,
+) -> Result<(), AllocError>
+    requires { All (λ r. r + by < 2 ^ 32) records.now }
+    ensures { OnOk result (moved.new.items ≡ records_moved by records.now) }
+{
+    moved.clear();
+    for record in records {
+        moved.push(*record + by)?;
+    }
+    Ok(())
+}
+
+/// Appends copies of the lists from one place to another, each record so many further on.
+fn push_moved<A: Allocator + Copy>(
+    alloc: A,
+    lists: &mut FlatLists<u32, A>,
+    first: usize,
+    end: usize,
+    by: u32,
+) -> Result<(), AllocError>
+    requires ordered { first ≤ end }
+    requires within { end ≤ length lists.old }
+    requires small { All (All (λ r. r + by < 2 ^ 32)) (slice_range lists.old first end) }
+    ensures { OnOk result (lists.new ≡ lists.old ++ map (records_moved by) (slice_range lists.old first end)) }
+{
+    let mut moved = Vec::new(alloc);
+    for k in first..end {
+        copy_moved(&mut moved, lists.get(k), by)?;
+        lists.push(&moved)?;
+    }
+    Ok(())
+}
+
+/// Appends what so many later turns of a block give, where the lists from a place on are those of its first turn and each
+/// turn makes so many records. No turn is gone over where the first gave nothing.
+fn push_later_turns<A: Allocator + Copy>(
+    alloc: A,
+    lists: &mut FlatLists<u32, A>,
+    first: usize,
+    turns: u64,
+    by: u64,
+) -> Result<(), AllocError>
+    requires few { turns * by < 2 ^ 32 }
+    requires small { All (All (λ r. r + turns * by < 2 ^ 32)) lists.old }
+    ensures { OnOk result (lists.new ≡ lists.old ++ later (λ n. records_moved (n * by)) turns (drop first lists.old)) }
+{
+    let end = lists.len();
+    if end <= first {
+        return Ok(());
+    }
+    for turn in 0..turns {
+        push_moved(alloc, lists, first, end, ((turn + 1) * by) as u32)?;
+    }
+    Ok(())
+}
+
+/// The records of each detector of a circuit, in the order in which the detectors are reached. A block is gone over once,
+/// whatever its turns.
+pub(crate) fn detectors_of<A: Allocator + Copy>(
+    alloc: A,
+    circuit: &Circuit<'_, A>,
+) -> Result<FlatLists<u32, A>, AllocError>
+    requires near { first_far_line 0 circuit.now ≡ None }
+    requires few { record_total circuit.now < 2 ^ 32 }
+    ensures { IfOk result (λ detectors. detectors ≡ detectors_of circuit.now) }
+{
+    circuit.fits();
+    let mut detectors = FlatLists::new(alloc);
+    let mut records: u64 = 0;
+    let mut blocks: ArrayVec<OpenBlock<Mark<u64>>, LEVELS> = ArrayVec::new();
+    for i in 0..circuit.len() {
+        match circuit.item(i) {
+            Item::Does(instruction) => {
+                let operation = instruction.operation;
+                let targets = instruction.targets;
+                push_detector(alloc, &mut detectors, records, operation, targets)?;
+                records += records_made(operation, target_count(operation, targets)) as u64;
+            }
+            Item::Begins { turns, .. } => blocks.push(OpenBlock {
+                turns,
+                before: Mark {
+                    place: records,
+                    found: detectors.len(),
+                },
+            }),
+            Item::Ends => {
+                let block = blocks.pop().unwrap();
+                let later = block.turns.saturating_sub(1);
+                let by = records.saturating_sub(block.before.place);
+                push_later_turns(alloc, &mut detectors, block.before.found, later, by)?;
+                records += later * by;
+            }
+        }
+    }
+    Ok(detectors)
+}

@@ -1,0 +1,155 @@
+ghost use Rattle.std.specs.Prelude.{◌≡◌, ◌≤◌, [], ◌∷◌, ◌++◌, All, length, map, unwrap_or, OnOk};
+ghost use Rattle.programs.specs.Made.{entries_of};
+ghost use Rattle.stim_parser.specs.Flat.{instruction_in};
+ghost use Rattle.unroll.specs.Kept.{entries_of as entries_made, entry_at, entry_of, first_argument, flip_entries, letter_at, term_at, term_of};
+ghost use Rattle.unroll.specs.Pushed.{IsSmall};
+ghost use Rattle.unroll.specs.Totals.{qubits_to};
+ghost use Rattle.step_model.specs.Probabilities.{probability_bound};
+
+use crate::targets::qubit_of;
+use flat_lists::FlatLists;
+use pauli_word::Letter;
+use programs::EntryPart;
+use std::alloc::{AllocError, Allocator};
+use step_model::Term;
+use stim_parser::{Instruction, Operation, Probability, Target};
+
+/// What is kept of a circuit's faults, and beside each its letters at qubits.
+#[derive(Drop)]
+pub(crate) struct Entries<'a, A: Allocator + Copy> {
+    pub parts: Vec<EntryPart<'a>, A>,
+    pub terms: FlatLists<Term, A>,
+    ghost each: { length parts.items ≡ length terms },
+}
+
+/// Floor of a probability times 2^64, and 0 where the text is none.
+fn bound_of(text: &[u8]) -> u128
+    ensures { result ≡ unwrap_or (probability_bound text.now) 0 }
+{
+    match Probability::read(text) {
+        Some(probability) => probability.bound(),
+        None => 0,
+    }
+}
+
+/// The letter of a target.
+pub(crate) fn letter_at(target: Target) -> Letter
+    ensures { result ≡ letter_at target }
+{
+    match target {
+        Target::Pauli(_, letter, _) => letter,
+        _ => Letter::I,
+    }
+}
+
+/// A letter at the qubit of a target.
+pub(crate) fn term_at(letter: Letter, target: Target) -> Term
+    requires { qubits_to target ≤ 4096 }
+    ensures { result ≡ term_at letter target }
+{
+    Term {
+        qubit: qubit_of(target),
+        letter,
+    }
+}
+
+/// Puts the letters of targets in place of those that were there.
+fn name_terms<A: Allocator + Copy>(
+    terms: &mut Vec<Term, A>,
+    targets: &[Target],
+) -> Result<(), AllocError>
+    requires { All IsSmall targets.now }
+    ensures { OnOk result (terms.new.items ≡ map term_of targets.now) }
+{
+    terms.clear();
+    for target in targets {
+        terms.push(term_at(letter_at(*target), *target))?;
+    }
+    Ok(())
+}
+
+/// One entry more, of a probability's text and letters at qubits.
+fn push_entry<'a, A: Allocator + Copy>(
+    entries: &mut Entries<'a, A>,
+    text: &'a [u8],
+    terms: &[Term],
+) -> Result<(), AllocError>
+    ensures { OnOk result (entries_of entries.new.parts.items entries.new.terms
+        ≡ entries_of entries.old.parts.items entries.old.terms ++ entry_of terms.now text.now ∷ []) }
+{
+    let bound = bound_of(text);
+    // Room for the part first, so that each part has its terms where memory runs out.
+    entries.parts.reserve(1)?;
+    entries.terms.push(terms)?;
+    entries.parts.push_reserved(EntryPart { text, bound });
+    Ok(())
+}
+
+/// An entry of one letter at each target.
+fn push_entries<'a, A: Allocator + Copy>(
+    entries: &mut Entries<'a, A>,
+    letter: Letter,
+    text: &'a [u8],
+    targets: &[Target],
+) -> Result<(), AllocError>
+    requires { All IsSmall targets.now }
+    ensures { OnOk result (entries_of entries.new.parts.items entries.new.terms
+        ≡ entries_of entries.old.parts.items entries.old.terms ++ map (entry_at letter text.now) targets.now) }
+{
+    for target in targets {
+        push_entry(entries, text, &[term_at(letter, *target)])?;
+    }
+    Ok(())
+}
+
+/// The first argument of an instruction, or nothing where there is none.
+fn first_argument<'a>(instruction: Instruction<'_, 'a>) -> &'a [u8]
+    ensures { result.now ≡ first_argument (instruction_in instruction.entry).arguments }
+{
+    match instruction.first_argument() {
+        Some(text) => text,
+        None => &[],
+    }
+}
+
+/// The entry of a measurement, where it has a probability.
+fn push_flip<'a, A: Allocator + Copy>(
+    entries: &mut Entries<'a, A>,
+    instruction: Instruction<'_, 'a>,
+) -> Result<(), AllocError>
+    ensures { OnOk result (entries_of entries.new.parts.items entries.new.terms
+        ≡ entries_of entries.old.parts.items entries.old.terms ++ flip_entries (instruction_in instruction.entry).arguments) }
+{
+    match instruction.first_argument() {
+        Some(text) => push_entry(entries, text, &[]),
+        None => Ok(()),
+    }
+}
+
+/// The entries of an instruction.
+pub(crate) fn push_instruction<'a, A: Allocator + Copy>(
+    entries: &mut Entries<'a, A>,
+    terms: &mut Vec<Term, A>,
+    instruction: Instruction<'_, 'a>,
+) -> Result<(), AllocError>
+    requires { All IsSmall instruction.targets.now }
+    ensures { OnOk result (entries_of entries.new.parts.items entries.new.terms
+        ≡ entries_of entries.old.parts.items entries.old.terms ++ entries_made (instruction_in instruction.entry)) }
+{
+    match instruction.operation {
+        Operation::Measures(_) | Operation::MeasuresAndResets(_) | Operation::MeasuresProducts => {
+            push_flip(entries, instruction)
+        }
+        Operation::Errs(letter) => push_entries(
+            entries,
+            letter,
+            first_argument(instruction),
+            instruction.targets,
+        ),
+        Operation::ErrsTogether => {
+            name_terms(terms, instruction.targets)?;
+            push_entry(entries, first_argument(instruction), terms)
+        }
+        _ => Ok(()),
+    }
+}

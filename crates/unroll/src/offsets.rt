@@ -1,0 +1,106 @@
+ghost use Rattle.std.specs.Prelude.{◌≡◌, ◌-◌, ◌*◌, ◌<◌, ◌≤◌, ◌^◌, ◌≤ℤ◌, pos, neg_ℤ, All, length, map};
+ghost use Rattle.unroll.specs.Placing.{IsSmall, added_by, down_of, moved_to, raised_by, turned_by, up_of};
+
+use arrayvec::ArrayVec;
+
+/// How many coordinates a detector has at most.
+pub(crate) const AXES: usize = 16;
+
+/// How far shifts have moved each coordinate up so far, and how far down. Neither count ever falls.
+#[derive(Clone, Copy, Default)]
+pub(crate) struct Offset {
+    pub up: [u64; AXES],
+    pub down: [u64; AXES],
+}
+
+/// How far a number goes up.
+fn up_of(number: i64) -> u64
+    ensures { result ≡ up_of number }
+{
+    if number < 0 { 0 } else { number.unsigned_abs() }
+}
+
+/// How far a number goes down.
+fn down_of(number: i64) -> u64
+    ensures { result ≡ down_of number }
+{
+    if number < 0 { number.unsigned_abs() } else { 0 }
+}
+
+/// How far each number goes up.
+pub(crate) fn ups(numbers: &[i64]) -> ArrayVec<u64, AXES>
+    requires { length numbers.now ≤ AXES }
+    ensures { result.items ≡ map up_of numbers.now }
+{
+    let mut found = ArrayVec::new();
+    for number in numbers {
+        found.push(up_of(*number));
+    }
+    found
+}
+
+/// How far each number goes down.
+pub(crate) fn downs(numbers: &[i64]) -> ArrayVec<u64, AXES>
+    requires { length numbers.now ≤ AXES }
+    ensures { result.items ≡ map down_of numbers.now }
+{
+    let mut found = ArrayVec::new();
+    for number in numbers {
+        found.push(down_of(*number));
+    }
+    found
+}
+
+/// Adds to counts, place by place.
+pub(crate) fn raise(counts: &mut [u64], more: &[u64])
+    requires { All (λ n. n < 2 ^ 62) (raised_by counts.old more.now) }
+    ensures { counts.new ≡ raised_by counts.old more.now }
+{
+    for j in 0..more.len().min(counts.len()) {
+        counts[j] += more[j];
+    }
+}
+
+/// Takes counts behind a turn on by so many more turns, where these were the counts before it.
+pub(crate) fn turn(counts: &mut [u64], before: &[u64], turns: u64)
+    requires same { length before.now ≡ length counts.old }
+    requires small { All (λ n. n < 2 ^ 62) (turned_by turns before.now counts.old) }
+    ensures { counts.new ≡ turned_by turns before.now counts.old }
+{
+    for j in 0..counts.len() {
+        let count = counts[j];
+        counts[j] = count + turns * count.saturating_sub(before[j]);
+    }
+}
+
+/// How much so many turns add to counts, by those before and behind one of them.
+pub(crate) fn added(turns: u64, before: &[u64], after: &[u64]) -> ArrayVec<u64, AXES>
+    requires few { length after.now ≤ AXES }
+    requires same { length before.now ≡ length after.now }
+    requires small { All (λ n. n < 2 ^ 62) (added_by turns before.now after.now) }
+    ensures { result.items ≡ added_by turns before.now after.now }
+{
+    let mut found = ArrayVec::new();
+    for j in 0..after.len() {
+        found.push(turns * after[j].saturating_sub(before[j]));
+    }
+    found
+}
+
+/// Coordinates moved up by these counts, and down by those.
+pub(crate) fn moved(stated: &[i64], up: &[u64], down: &[u64]) -> ArrayVec<i64, AXES>
+    requires few { length stated.now ≤ AXES }
+    requires up { length stated.now ≤ length up.now }
+    requires down { length stated.now ≤ length down.now }
+    requires small { All IsSmall stated.now }
+    requires small_up { All (λ n. n < 2 ^ 62) up.now }
+    requires small_down { All (λ n. n < 2 ^ 62) down.now }
+    ensures { result.items ≡ moved_to up.now down.now stated.now }
+{
+    let mut found = ArrayVec::new();
+    for j in 0..stated.len() {
+        let raised = stated[j] + up[j] as i64;
+        found.push(raised - down[j] as i64);
+    }
+    found
+}

@@ -1,0 +1,245 @@
+ghost use Rattle.std.specs.Prelude.{◌≡◌, ◌+◌, ◌<◌, ◌^◌, ◌≤◌, All, length, map, OnOk};
+ghost use Rattle.pauli_word.specs.Parity.{exclusive_or};
+ghost use Rattle.unroll.specs.Made.{fault_steps, fed_letter, is_inverted, operation_steps, pair_step, pair_steps, product_steps, products_of, record_back};
+ghost use Rattle.unroll.specs.Pushed.{Adds, IsSmall, single_step};
+ghost use Rattle.unroll.specs.Totals.{qubits_to};
+
+use crate::targets::{end_of_factor, qubit_of};
+use gate_table::Gate;
+use pauli_word::Letter;
+use programs::{CircuitBuilder, Recording, TextStep};
+use std::alloc::{AllocError, Allocator};
+use stim_parser::{Operation, Target};
+
+/// What an operation does to each of its targets by itself.
+#[derive(Clone, Copy)]
+enum Single {
+    Applies(Gate),
+    Measures {
+        letter: Letter,
+        reset: bool,
+        flip: Option<u32>,
+    },
+    Resets(Letter),
+}
+
+/// Whether a target has a `!`.
+fn is_inverted(target: Target) -> bool
+    ensures { result ≡ is_inverted target }
+{
+    match target {
+        Target::Inverted(_) => true,
+        Target::Pauli(inverted, _, _) => inverted,
+        _ => false,
+    }
+}
+
+/// Whether one of the two holds, and not both.
+fn exclusive_or(a: bool, b: bool) -> bool
+    ensures { result ≡ exclusive_or a b }
+{
+    if a { !b } else { b }
+}
+
+/// The letter that a record in a pair of this gate applies.
+fn fed_letter(gate: Gate) -> Letter
+    ensures { result ≡ fed_letter gate }
+{
+    match gate {
+        Gate::CX => Letter::X,
+        Gate::CY => Letter::Y,
+        _ => Letter::Z,
+    }
+}
+
+fn single_step(single: Single, target: Target) -> TextStep
+    requires { qubits_to target ≤ 4096 }
+    ensures { result ≡ single_step single target }
+{
+    let q = qubit_of(target);
+    match single {
+        Single::Applies(gate) => TextStep::One { gate, q },
+        Single::Measures {
+            letter,
+            reset,
+            flip,
+        } => TextStep::Collapse {
+            letter,
+            qubit: q,
+            reset,
+            recording: Some(Recording {
+                inverted: is_inverted(target),
+                flip,
+            }),
+        },
+        Single::Resets(letter) => TextStep::Collapse {
+            letter,
+            qubit: q,
+            reset: true,
+            recording: None,
+        },
+    }
+}
+
+/// How many records back a target is, where it is a record.
+fn record_back(target: Target) -> Option<u64>
+    ensures { result ≡ record_back target }
+{
+    match target {
+        Target::Back(k) => Some(k),
+        _ => None,
+    }
+}
+
+/// The step of a pair: a gate, or feedback where one of the two is a record.
+fn pair_step(gate: Gate, a: Target, b: Target) -> TextStep
+    requires first { IsSmall a }
+    requires second { IsSmall b }
+    ensures { result ≡ pair_step gate a b }
+{
+    match (record_back(a), record_back(b)) {
+        (Some(k), _) => TextStep::Feedback {
+            letter: fed_letter(gate),
+            q: qubit_of(b),
+            back: k as u32,
+        },
+        (None, Some(k)) => TextStep::Feedback {
+            letter: fed_letter(gate),
+            q: qubit_of(a),
+            back: k as u32,
+        },
+        (None, None) => TextStep::Two {
+            gate,
+            a: qubit_of(a),
+            b: qubit_of(b),
+        },
+    }
+}
+
+fn push_singles<A: Allocator + Copy>(
+    builder: &mut CircuitBuilder<A>,
+    single: Single,
+    targets: &[Target],
+) -> Result<(), AllocError>
+    requires { All IsSmall targets.now }
+    ensures { OnOk result (Adds (map (single_step single) targets.now) builder.old builder.new) }
+{
+    for target in targets {
+        builder.push(single_step(single, *target))?;
+    }
+    Ok(())
+}
+
+fn push_pairs<A: Allocator + Copy>(
+    builder: &mut CircuitBuilder<A>,
+    gate: Gate,
+    targets: &[Target],
+) -> Result<(), AllocError>
+    requires { All IsSmall targets.now }
+    ensures { OnOk result (Adds (pair_steps gate targets.now) builder.old builder.new) }
+{
+    let mut rest = targets;
+    while let Some(first) = rest.split_first() {
+        let Some(second) = first.1.split_first() else {
+            return Ok(());
+        };
+        builder.push(pair_step(gate, *first.0, *second.0))?;
+        rest = second.1;
+    }
+    Ok(())
+}
+
+/// A fault of each target; what is kept of the first has this number.
+fn push_faults<A: Allocator + Copy>(
+    builder: &mut CircuitBuilder<A>,
+    first: u32,
+    targets: &[Target],
+) -> Result<(), AllocError>
+    requires { first + length targets.now < 2 ^ 32 }
+    ensures { OnOk result (Adds (fault_steps first targets.now) builder.old builder.new) }
+{
+    let mut entry = first;
+    for _ in targets {
+        builder.push(TextStep::Fault(entry))?;
+        entry += 1;
+    }
+    Ok(())
+}
+
+/// A collapse of each product; the first is kept at this number.
+fn push_products<A: Allocator + Copy>(
+    builder: &mut CircuitBuilder<A>,
+    flip: Option<u32>,
+    first: u32,
+    targets: &[Target],
+) -> Result<(), AllocError>
+    requires { first + length targets.now < 2 ^ 32 }
+    ensures { OnOk result (Adds (product_steps flip first (products_of targets.now)) builder.old builder.new) }
+{
+    let mut product = first;
+    let mut inverted = false;
+    let mut rest = targets;
+    while let Some(parts) = rest.split_first() {
+        inverted = exclusive_or(inverted, is_inverted(*parts.0));
+        let (joined, behind) = end_of_factor(parts.1);
+        rest = behind;
+        if joined {
+            continue;
+        }
+        builder.push(TextStep::CollapseWord {
+            product,
+            recording: Some(Recording { inverted, flip }),
+        })?;
+        product += 1;
+        inverted = false;
+    }
+    Ok(())
+}
+
+/// Appends the steps of an operation with these targets, where so many entries and products are kept before it.
+pub(crate) fn push_steps<A: Allocator + Copy>(
+    builder: &mut CircuitBuilder<A>,
+    operation: Operation,
+    entries: u32,
+    products: u32,
+    flip: Option<u32>,
+    targets: &[Target],
+) -> Result<(), AllocError>
+    requires small { All IsSmall targets.now }
+    requires entries { entries + length targets.now < 2 ^ 32 }
+    requires products { products + length targets.now < 2 ^ 32 }
+    ensures { OnOk result (Adds (operation_steps operation entries products flip targets.now) builder.old builder.new) }
+{
+    match operation {
+        Operation::Applies(gate) => {
+            if gate.arity() == 1 {
+                push_singles(builder, Single::Applies(gate), targets)
+            } else {
+                push_pairs(builder, gate, targets)
+            }
+        }
+        Operation::Measures(letter) => push_singles(
+            builder,
+            Single::Measures {
+                letter,
+                reset: false,
+                flip,
+            },
+            targets,
+        ),
+        Operation::MeasuresAndResets(letter) => push_singles(
+            builder,
+            Single::Measures {
+                letter,
+                reset: true,
+                flip,
+            },
+            targets,
+        ),
+        Operation::Resets(letter) => push_singles(builder, Single::Resets(letter), targets),
+        Operation::MeasuresProducts => push_products(builder, flip, products, targets),
+        Operation::Errs(_) => push_faults(builder, entries, targets),
+        Operation::ErrsTogether => builder.push(TextStep::Fault(entries)),
+        _ => Ok(()),
+    }
+}

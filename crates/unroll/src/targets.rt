@@ -1,0 +1,119 @@
+ghost use Rattle.std.specs.Prelude.{◌≡◌, ◌≤◌, All, length};
+ghost use Rattle.stim_parser.specs.Limits.{is_joining};
+ghost use Rattle.unroll.specs.Made.{products_of, qubit_of};
+ghost use Rattle.unroll.specs.Pushed.{FollowsFactor};
+ghost use Rattle.unroll.specs.Refusals.{is_far, reaches_far};
+ghost use Rattle.unroll.specs.Totals.{qubits_named, qubits_to, target_count};
+
+use stim_parser::{Operation, Target};
+
+/// One more than the qubit that a target names, and 0 where it names none.
+fn qubits_to(target: Target) -> u32
+    requires { qubits_to target ≤ 4096 }
+    ensures { result ≡ qubits_to target }
+{
+    match target {
+        Target::Plain(q) | Target::Inverted(q) | Target::Pauli(_, _, q) => q as u32 + 1,
+        Target::Back(_) | Target::Star => 0,
+    }
+}
+
+/// The qubit that a target names.
+pub(crate) fn qubit_of(target: Target) -> u32
+    requires { qubits_to target ≤ 4096 }
+    ensures { result ≡ qubit_of target }
+{
+    match target {
+        Target::Plain(q) | Target::Inverted(q) | Target::Pauli(_, _, q) => q as u32,
+        Target::Back(_) | Target::Star => 0,
+    }
+}
+
+/// One more than the greatest qubit that targets name, and 0 where they name none.
+pub(crate) fn qubits_named(targets: &[Target]) -> u32
+    requires { All (λ target. qubits_to target ≤ 4096) targets.now }
+    ensures value { result ≡ qubits_named targets.now }
+    ensures small { result ≤ 4096 }
+{
+    let mut qubits: u32 = 0;
+    for target in targets {
+        qubits = qubits.max(qubits_to(*target));
+    }
+    qubits
+}
+
+/// Whether a target is a record further back than so many.
+fn is_far(records: u64, target: Target) -> bool
+    ensures { result ≡ is_far records target }
+{
+    match target {
+        Target::Back(k) => records < k,
+        _ => false,
+    }
+}
+
+/// Whether one of these targets is a record further back than so many.
+pub(crate) fn reaches_far(records: u64, targets: &[Target]) -> bool
+    ensures { result ≡ reaches_far records targets.now }
+{
+    for target in targets {
+        if is_far(records, *target) {
+            return true;
+        }
+    }
+    false
+}
+
+fn is_star(target: Target) -> bool
+    ensures { result ≡ is_joining target }
+{
+    match target {
+        Target::Star => true,
+        _ => false,
+    }
+}
+
+/// Whether a star joins a factor to what stands behind it, and what follows the factor and the star.
+pub(crate) fn end_of_factor(after: &[Target]) -> (bool, &[Target])
+    ensures { FollowsFactor after.now result.0 result.1.now }
+{
+    match after {
+        [star, behind @ ..] => {
+            if is_star(*star) {
+                (!behind.is_empty(), behind)
+            } else {
+                (false, after)
+            }
+        }
+        [] => (false, after),
+    }
+}
+
+/// How many products targets make.
+fn product_count(targets: &[Target]) -> usize
+    ensures value { result ≡ length (products_of targets.now) }
+    ensures few { result ≤ length targets.now }
+{
+    let mut count = 0;
+    let mut rest = targets;
+    while let Some(parts) = rest.split_first() {
+        let (joined, behind) = end_of_factor(parts.1);
+        rest = behind;
+        if joined {
+            continue;
+        }
+        count += 1;
+    }
+    count
+}
+
+/// How many targets an operation has in these, a product being one.
+pub(crate) fn target_count(operation: Operation, targets: &[Target]) -> usize
+    ensures value { result ≡ target_count operation targets.now }
+    ensures few { result ≤ length targets.now }
+{
+    match operation {
+        Operation::MeasuresProducts => product_count(targets),
+        _ => targets.len(),
+    }
+}

@@ -1,0 +1,167 @@
+ghost use Rattle.std.specs.Prelude.{◌≡◌, ◌<◌, Some, IsSome, ◌↔◌};
+ghost use Rattle.arrayvec.specs.ArrayVec.{array_vec_len};
+ghost use Rattle.stim_parser.specs.Circuits.{Fits};
+ghost use Rattle.stim_parser.specs.Flat.{instruction_in, item_in};
+ghost use Rattle.unroll.specs.Passes.{CanStand, Passes};
+ghost use Rattle.unroll.specs.Summed.{AreTotals, capped_sum, far_line_after, nothing_summed, repeated_sum, summing, totals_after, totals_repeated};
+ghost use Rattle.unroll.specs.Totals.{fault_count, has_argument};
+
+use crate::blocks::{LEVELS, OpenBlock};
+use crate::counts::{collapses_made, detectors_made, faults_made, records_made, steps_made};
+use crate::targets::{reaches_far, target_count};
+use arrayvec::ArrayVec;
+use std::alloc::Allocator;
+use stim_parser::{Circuit, Instruction, Item};
+
+/// What a circuit takes up to a place of its text, at the first turn of the blocks that are open there: what counts
+/// towards its limits, its faults, the steps that its program has, and the first line that reaches back before the
+/// first record. A sum that doesn't fit stays at the greatest number that does.
+#[derive(Clone, Copy, Default)]
+pub(crate) struct Totals {
+    pub records: u64,
+    pub collapses: u64,
+    pub detectors: u64,
+    pub faults: u64,
+    pub steps: u64,
+    pub made: u64,
+    pub far_line: Option<u64>,
+}
+
+/// The totals up to a place of a circuit, and the blocks that are open there.
+#[derive(Drop)]
+struct Summing {
+    totals: Totals,
+    blocks: ArrayVec<OpenBlock<Totals>, LEVELS>,
+}
+
+fn capped_sum(sum: u64, more: usize) -> u64
+    ensures { result ≡ capped_sum sum more }
+{
+    sum.saturating_add(more as u64)
+}
+
+/// A sum behind all turns of a block, by the sums before it and behind its first turn.
+fn repeated_sum(turns: u64, before: u64, after: u64) -> u64
+    ensures { result ≡ repeated_sum turns before after }
+{
+    let more = turns
+        .saturating_sub(1)
+        .saturating_mul(after.saturating_sub(before));
+    after.saturating_add(more)
+}
+
+/// The first line that reaches back before the first record, where an instruction follows so many records.
+fn far_line_after(records: u64, instruction: Instruction<'_, '_>, found: Option<u64>) -> Option<u64>
+    ensures { result ≡ far_line_after records (instruction_in instruction.entry) found }
+{
+    match found {
+        Some(line) => Some(line),
+        None => {
+            if reaches_far(records, instruction.targets) {
+                Some(instruction.line)
+            } else {
+                None
+            }
+        }
+    }
+}
+
+/// Whether an instruction has an argument.
+fn has_argument(instruction: Instruction<'_, '_>) -> bool
+    ensures { result ≡ has_argument (instruction_in instruction.entry) }
+{
+    instruction.first_argument().is_some()
+}
+
+/// How many faults an instruction makes.
+fn fault_count(instruction: Instruction<'_, '_>) -> usize
+    ensures { result ≡ fault_count (instruction_in instruction.entry) }
+{
+    let targets = target_count(instruction.operation, instruction.targets);
+    let flips = has_argument(instruction);
+    faults_made(instruction.operation, flips, targets)
+}
+
+impl Totals {
+    /// What nothing takes.
+    fn none() -> Totals
+        ensures { result ≡ nothing_summed }
+    {
+        Totals {
+            records: 0,
+            collapses: 0,
+            detectors: 0,
+            faults: 0,
+            steps: 0,
+            made: 0,
+            far_line: None,
+        }
+    }
+
+    /// The totals behind one more instruction.
+    fn after(self, instruction: Instruction<'_, '_>) -> Totals
+        ensures { result ≡ totals_after (instruction_in instruction.entry) self }
+    {
+        let operation = instruction.operation;
+        let targets = target_count(operation, instruction.targets);
+        Totals {
+            records: capped_sum(self.records, records_made(operation, targets)),
+            collapses: capped_sum(self.collapses, collapses_made(operation, targets)),
+            detectors: capped_sum(self.detectors, detectors_made(operation)),
+            faults: capped_sum(self.faults, fault_count(instruction)),
+            steps: capped_sum(self.steps, 1 + targets),
+            made: capped_sum(self.made, steps_made(operation, targets)),
+            far_line: far_line_after(self.records, instruction, self.far_line),
+        }
+    }
+
+    /// The totals behind all turns of a block, from those before it and these, behind its first turn.
+    fn repeated(self, turns: u64, before: Totals) -> Totals
+        ensures { result ≡ totals_repeated turns before self }
+    {
+        Totals {
+            records: repeated_sum(turns, before.records, self.records),
+            collapses: repeated_sum(turns, before.collapses, self.collapses),
+            detectors: repeated_sum(turns, before.detectors, self.detectors),
+            faults: repeated_sum(turns, before.faults, self.faults),
+            steps: repeated_sum(turns, before.steps, self.steps.saturating_add(1)),
+            made: repeated_sum(turns, before.made, self.made),
+            far_line: self.far_line,
+        }
+    }
+}
+
+impl Summing {
+    /// Goes past an item.
+    fn pass(&mut self, item: Item<'_, '_>)
+        requires { CanStand (item_in item) (array_vec_len self.old.blocks) }
+        ensures { Passes summing (item_in item.entry) self.old.totals self.old.blocks.items self.new.totals self.new.blocks.items }
+    {
+        match item {
+            Item::Does(instruction) => self.totals = self.totals.after(instruction),
+            Item::Begins { turns, .. } => self.blocks.push(OpenBlock {
+                turns,
+                before: self.totals,
+            }),
+            Item::Ends => {
+                let block = self.blocks.pop().unwrap();
+                self.totals = self.totals.repeated(block.turns, block.before);
+            }
+        }
+    }
+}
+
+/// The totals of a circuit.
+pub(crate) fn totals_of<A: Allocator + Copy>(circuit: &Circuit<'_, A>) -> Totals
+    ensures { AreTotals circuit.now result }
+{
+    circuit.fits();
+    let mut summing = Summing {
+        totals: Totals::none(),
+        blocks: ArrayVec::new(),
+    };
+    for i in 0..circuit.len() {
+        summing.pass(circuit.item(i));
+    }
+    summing.totals
+}
