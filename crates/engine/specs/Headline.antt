@@ -1,0 +1,45 @@
+-- What an analysis promises of the bytes that it writes for a text. Where it is done, they are the text of an error model
+-- that fits the program for which the text stands, and that is exact: for every set of its faults and any two coin
+-- lists, the detectors and observables that differ between the faulty run under the first and the noiseless run under
+-- the second are the exclusive sum of those faults' targets in the model. So no target is random.
+-- Where it names a random target, it gives two coin lists under which the noiseless runs differ in that target, and no
+-- lower target is random, detectors being lower than observables.
+use Rattle.std.specs.Prelude.{◌≡◌, ◌≢◌, ◌<◌, ◌∷◌, ◌++◌, ℕ, Bool, List, length, codes, Ok}
+use Rattle.step_model.specs.ErrorModels.{ErrorModel, Fits, IsExact}
+use Rattle.step_model.specs.Listing.{Listing}
+use Rattle.step_model.specs.Targets.{targets_of, noiseless_parity, AreCoins, IsRandom}
+use Rattle.dem_text.specs.ModelText.{model_text, target_text}
+use Rattle.first_reader.specs.Unrolled.{program_of}
+use Rattle.engine.specs.Output.{line_of}
+
+-- the bytes are the text of a model of the program that is exact
+pub record IsExactIn (program : Listing) (bytes : List ℕ) : Type 0 where
+  pub faults : List ℕ
+  pub model : ErrorModel
+  pub written : bytes ≡ model_text model
+  pub fits : Fits program faults model
+  pub exact : IsExact program faults model
+  pub none_random : (d : ℕ) → d < length (targets_of program) → IsRandom program d → ⊥
+
+-- the bytes name the lowest random target of the program, and two coin lists that show it
+pub record IsRandomIn (program : Listing) (bytes : List ℕ) : Type 0 where
+  pub target : ℕ
+  pub first : List Bool
+  pub second : List Bool
+  pub written : bytes ≡ codes "random" ++ target_text (length program.detectors) target ++ 10 ∷ line_of first ++ line_of second
+  pub in_range : target < length (targets_of program)
+  pub first_coins : AreCoins program first
+  pub second_coins : AreCoins program second
+  pub disagree : noiseless_parity program first target ≢ noiseless_parity program second target
+  pub lowest : (d : ℕ) → d < target → IsRandom program d → ⊥
+
+-- the same of the program for which a text stands
+pub record IsExactFor (text bytes : List ℕ) : Type 0 where
+  pub program : Listing
+  pub stands_for : program_of text ≡ Ok program
+  pub exact : IsExactIn program bytes
+
+pub record IsRandomFor (text bytes : List ℕ) : Type 0 where
+  pub program : Listing
+  pub stands_for : program_of text ≡ Ok program
+  pub random : IsRandomIn program bytes

@@ -1,0 +1,110 @@
+-- What is written for an order and a circuit's text, and how that ends, as a function of the two. A refused order writes
+-- one line that says why. A run writes the line of its records and the line of how its targets differ from those of the
+-- run without faults whose coins are all 0. An analysis writes the program's error model; or, where a target is random,
+-- three lines: the lowest random target, and two coin lists that give it different parities in runs without faults.
+-- (Stim's result format 01 and detector error model format; the lines of a random target are this project's own.)
+use Rattle.std.specs.Prelude.{ℕ, Bool, if◌then◌else◌, List, [], ◌∷◌, ◌++◌, length, map, codes, decimal, Option, None, Some, ok_or, Result, Ok, Err}
+use Rattle.std.specs.Option.{option_copied}
+use Rattle.step_model.specs.declared.fault.Fault.{Fault}
+use Rattle.step_model.specs.declared.fault.Cause.TheVariants.{CoinCount, FaultNumber}
+use Rattle.step_model.specs.declared.step.Place.{Place}
+use Rattle.step_model.specs.Faults.{cause_number, without_line}
+use Rattle.step_model.specs.Frames.{zero_coins, pair_coins}
+use Rattle.step_model.specs.HitModels.{model_of}
+use Rattle.step_model.specs.Listing.{Listing}
+use Rattle.step_model.specs.Runs.{records_of}
+use Rattle.step_model.specs.Targets.{difference}
+use Rattle.dem_text.specs.ModelText.{model_text, target_text}
+use Rattle.first_reader.specs.Unrolled.{program_of}
+use Rattle.forward_sim.specs.Lists.{coins_of, numbers_of}
+use Rattle.engine.specs.Findings.{lowest_placed}
+use Rattle.engine.specs.declared.order.Order.{Order}
+use Rattle.engine.specs.declared.order.Order.TheVariants.{Run, Analyze}
+use Rattle.engine.specs.declared.order.Status.{Status}
+use Rattle.engine.specs.declared.order.Status.TheVariants.{Done, Refused, Random}
+
+-- what is written, and how that ends
+pub record Output : Type 0 where
+  pub bytes : List ℕ
+  pub status : Status
+
+abbrev pub done : List ℕ → Output
+done bytes = record { bytes = bytes; status = Done }
+
+-- the character 1 or 0
+abbrev pub digit_of : Bool → ℕ
+digit_of value = if value then 49 else 48
+
+-- a character for each truth value, and then a line feed
+abbrev pub line_of : List Bool → List ℕ
+line_of values = map digit_of values ++ 10 ∷ []
+
+-- the line that says why an order is refused
+abbrev pub refusal_line : Fault → List ℕ
+refusal_line fault =
+    codes "refused " ++ decimal (cause_number fault.cause) ++ codes " line " ++ decimal fault.line ++ 10 ∷ []
+
+abbrev pub refusal : Fault → Output
+refusal fault = record { bytes = refusal_line fault; status = Refused }
+
+-- the coins of a run: those that a text gives, or all 0 where there is no text
+abbrev pub run_coins : Listing → Option (List ℕ) → Option (List Bool)
+run_coins program None = Some (zero_coins program)
+run_coins program (Some text) = coins_of program.collapses text
+
+-- the two lines of a run
+abbrev pub run_lines : Listing → List Bool → List Bool → List ℕ
+run_lines program faults coins =
+    let records = records_of program faults coins in
+    let reference = records_of program [] (zero_coins program) in
+    line_of records ++ line_of (difference program records reference)
+
+-- the next step, where none before it refused
+infixl 10 ◌>>=◌
+abbrev pub ◌>>=◌ : {T U : Type 0} → Result T Fault → (T → Result U Fault) → Result U Fault
+(Ok value) >>= next = next value
+(Err fault) >>= next = Err fault
+
+-- what a run of a program writes, or why it is refused: by its coins first, then by its faults
+abbrev pub program_output : Option (List ℕ) → List ℕ → Listing → Result Output Fault
+program_output coin_text fault_text program = do
+  coins ← ok_or (run_coins program coin_text) (without_line CoinCount)
+  faults ← ok_or (numbers_of (length program.faults) fault_text) (without_line FaultNumber)
+  Ok (done (run_lines program faults coins))
+
+-- the same of the program for which a text stands, where it stands for one
+abbrev pub run_output : Option (List ℕ) → List ℕ → List ℕ → Result Output Fault
+run_output coin_text fault_text text = program_of text >>= program_output coin_text fault_text
+
+-- the three lines of a random target with its place
+abbrev pub random_lines : Listing → ℕ → Place → List ℕ
+random_lines program d place =
+    codes "random" ++ target_text (length program.detectors) d ++ 10 ∷ line_of (zero_coins program) ++ line_of (pair_coins program place)
+
+-- what is found of a program: its error model, or a random target
+abbrev pub finding : Listing → Option (ℕ × Place) → Output
+finding program None = done (model_text (model_of program))
+finding program (Some (d, place)) = record { bytes = random_lines program d place; status = Random }
+
+abbrev pub found_in : Listing → Output
+found_in program = finding program (lowest_placed program)
+
+-- what an analysis writes, or why it is refused
+abbrev pub analysis_output : List ℕ → Result Output Fault
+analysis_output text = do
+  program ← program_of text
+  Ok (found_in program)
+
+-- what an order writes for a circuit's text, or why it is refused
+abbrev pub order_output : Order → List ℕ → Result Output Fault
+order_output (Run coins faults) text = run_output (option_copied coins) faults.now text
+order_output Analyze text = analysis_output text
+
+-- where an order is refused, the line that says why is written and nothing else
+abbrev pub refused_or : Result Output Fault → Output
+refused_or (Ok output) = output
+refused_or (Err fault) = refusal fault
+
+-- what is written for an order and a circuit's text, and how that ends
+abbrev pub output_of : Order → List ℕ → Output
+output_of order text = refused_or (order_output order text)

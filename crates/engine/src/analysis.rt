@@ -1,0 +1,107 @@
+//! The error model of a circuit, or a random target.
+ghost use Rattle.std.specs.Prelude.{◌≡◌, ◌⊎◌, ℕ, List, length, Ok, Err, IfOk, IfErr, OnOk, OnErr};
+ghost use Rattle.step_model.specs.Ends.{Takes, TakesSome, write_failures};
+ghost use Rattle.step_model.specs.Faults.{memory_fault, write_fault};
+ghost use Rattle.step_model.specs.Targets.{targets_of};
+ghost use Rattle.backward.specs.Tracked.{fresh};
+ghost use Rattle.engine.specs.declared.order.Status.TheVariants.{Done, Random};
+ghost use Rattle.engine.specs.Headline.{IsExactFor, IsExactIn, IsRandomFor, IsRandomIn};
+ghost use Rattle.engine.specs.Output.{analysis_output, found_in, refused_or};
+ghost use Rattle.engine.specs.Output as output;
+
+use crate::lines::random_lines;
+use crate::order::Status;
+use crate::refusing::refuse;
+use backward::{Analysed, QubitSets, Words, analyse};
+use first_reader::read_program;
+use frames::coin_pair;
+use programs::Program;
+use std::alloc::Allocator;
+use step_model::{Fault, Place, Sink, write_all};
+
+/// Writes what is found of a text's circuit, or why it is refused.
+pub(crate) fn answer_analysis<W: Sink, A: Allocator + Copy>(
+    alloc: A,
+    text: &[u8],
+    sink: &mut W,
+) -> Result<Status, Fault>
+    ensures written { OnOk result (Takes (W.taken sink.old) (W.taken sink.new) (refused_or (analysis_output text.now)).bytes) }
+    ensures status { IfOk result (λ status. status ≡ (refused_or (analysis_output text.now)).status) }
+    ensures exact { IfOk result (λ status. status ≡ Done →
+        (bytes : List ℕ) × Takes (W.taken sink.old) (W.taken sink.new) bytes × IsExactFor text.now bytes) }
+    ensures random { IfOk result (λ status. status ≡ Random →
+        (bytes : List ℕ) × Takes (W.taken sink.old) (W.taken sink.new) bytes × IsRandomFor text.now bytes) }
+    ensures fault { IfErr result (λ e. (e ≡ memory_fault) ⊎ (e ≡ write_fault)) }
+    ensures writes { W.failures sink.new ≡ write_failures result (W.failures sink.old) }
+    ensures beginning { OnErr result (TakesSome (W.taken sink.old) (W.taken sink.new) (refused_or (analysis_output text.now)).bytes) }
+{
+    match read_program(alloc, text) {
+        Ok(program) => write_finding(alloc, &program, sink),
+        Err(fault) => refuse(alloc, fault, sink),
+    }
+}
+
+/// Writes a program's error model, or the lowest target that is random and two coin lists that show it.
+fn write_finding<W: Sink, A: Allocator + Copy>(
+    alloc: A,
+    program: &Program<'_, A>,
+    sink: &mut W,
+) -> Result<Status, Fault>
+    ensures written { OnOk result (Takes (W.taken sink.old) (W.taken sink.new) (found_in program.now).bytes) }
+    ensures status { IfOk result (λ status. status ≡ (found_in program.now).status) }
+    ensures exact { IfOk result (λ status. status ≡ Done →
+        (bytes : List ℕ) × Takes (W.taken sink.old) (W.taken sink.new) bytes × IsExactIn program.now bytes) }
+    ensures random { IfOk result (λ status. status ≡ Random →
+        (bytes : List ℕ) × Takes (W.taken sink.old) (W.taken sink.new) bytes × IsRandomIn program.now bytes) }
+    ensures fault { IfErr result (λ e. (e ≡ memory_fault) ⊎ (e ≡ write_fault)) }
+    ensures writes { W.failures sink.new ≡ write_failures result (W.failures sink.old) }
+    ensures beginning { OnErr result (TakesSome (W.taken sink.old) (W.taken sink.new) (found_in program.now).bytes) }
+{
+    program.well_formed();
+    match analyse(alloc, program, fresh_words(&alloc, program)?)? {
+        Analysed::Model(model) => {
+            dem_text::write(&model, sink)?;
+            Ok(Status::Done)
+        }
+        Analysed::Random { which, place } => {
+            let lines = random_text(alloc, program, which as usize, place)?;
+            write_all(sink, lines.as_slice())?;
+            Ok(Status::Random)
+        }
+    }
+}
+
+/// Words for the targets of a program, each the identity.
+fn fresh_words<'s, A: Allocator + Copy>(
+    alloc: &'s A,
+    program: &Program<'_, A>,
+) -> Result<QubitSets<'s, A>, Fault>
+    ensures ok { IfOk result (λ words. words ≡ fresh program.now.qubits (length (targets_of program.now))) }
+    ensures err { IfErr result (λ e. e ≡ memory_fault) }
+{
+    program.well_formed();
+    let targets = program.detector_count() + program.observable_count();
+    Words::sparse(alloc, program.qubits() as usize, targets).map_err(|_| Fault::MEMORY)
+}
+
+/// The lines of a random target with its place.
+fn random_text<A: Allocator + Copy>(
+    alloc: A,
+    program: &Program<'_, A>,
+    target: usize,
+    place: Place,
+) -> Result<Vec<u8, A>, Fault>
+    ensures ok { IfOk result (λ lines. lines.items ≡ output.random_lines program.now target place) }
+    ensures err { IfErr result (λ e. e ≡ memory_fault) }
+{
+    let (first, second) = coin_pair(alloc, program, place)?;
+    let detectors = program.detector_count();
+    random_lines(
+        alloc,
+        detectors,
+        target,
+        first.as_slice(),
+        second.as_slice(),
+    )
+    .map_err(|_| Fault::MEMORY)
+}

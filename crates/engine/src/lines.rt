@@ -1,0 +1,101 @@
+//! The lines of runs, of random targets and of refusals. Each text is built in one block of memory.
+ghost use Rattle.std.specs.Prelude.{◌≡◌, ◌++◌, ◌<◌, ◌∷◌, ◌+◌, codes, length, IfOk, OnOk};
+ghost use Rattle.dem_text.specs.ModelText.{target_text};
+ghost use Rattle.engine.specs.Output.{digit_of, line_of, refusal_line};
+
+use forward_sim::Records;
+use itoa::Buffer;
+use std::alloc::{AllocError, Allocator};
+use step_model::Fault;
+
+/// The line of a run's records, and the line of its detections.
+pub(crate) fn run_lines<A: Allocator + Copy>(
+    alloc: A,
+    records: &Records<A>,
+    detections: &[bool],
+) -> Result<Vec<u8, A>, AllocError>
+    ensures { IfOk result (λ text. text.items ≡ line_of records.now ++ line_of detections.now) }
+{
+    let length = records.len().saturating_add(detections.len());
+    let mut text = Vec::with_capacity(alloc, length.saturating_add(2))?;
+    for index in 0..records.len() {
+        text.push(digit(records.get(index)))?;
+    }
+    text.push(b'\n')?;
+    push_line(&mut text, detections)?;
+    Ok(text)
+}
+
+/// The line that names a random target, and the two coin lists that show it.
+pub(crate) fn random_lines<A: Allocator + Copy>(
+    alloc: A,
+    detectors: usize,
+    target: usize,
+    first: &[bool],
+    second: &[bool],
+) -> Result<Vec<u8, A>, AllocError>
+    ensures { IfOk result (λ text. text.items ≡ codes "random" ++ target_text detectors target ++ 10 ∷ line_of first.now ++ line_of second.now) }
+{
+    // The word and its space, a letter, twenty digits, and three line feeds.
+    let length = first.len().saturating_add(second.len());
+    let mut text = Vec::with_capacity(alloc, length.saturating_add(31))?;
+    text.extend_from_slice(b"random")?;
+    push_target(&mut text, detectors, target)?;
+    text.push(b'\n')?;
+    push_line(&mut text, first)?;
+    push_line(&mut text, second)?;
+    Ok(text)
+}
+
+// A target after its space. Detectors are numbered before observables.
+fn push_target<A: Allocator + Copy>(
+    text: &mut Vec<u8, A>,
+    detectors: usize,
+    target: usize,
+) -> Result<(), AllocError>
+    ensures { OnOk result (text.new.items ≡ text.old.items ++ target_text detectors target) }
+{
+    let mut digits = Buffer::new();
+    if target < detectors {
+        text.extend_from_slice(b" D")?;
+        text.extend_from_slice(digits.format(target).as_bytes())?;
+    } else {
+        text.extend_from_slice(b" L")?;
+        text.extend_from_slice(digits.format(target - detectors).as_bytes())?;
+    }
+    Ok(())
+}
+
+fn push_line<A: Allocator + Copy>(text: &mut Vec<u8, A>, values: &[bool]) -> Result<(), AllocError>
+    ensures { OnOk result (text.new.items ≡ text.old.items ++ line_of values.now) }
+{
+    for value in values {
+        text.push(digit(*value))?;
+    }
+    text.push(b'\n')?;
+    Ok(())
+}
+
+fn digit(value: bool) -> u8
+    ensures { result ≡ digit_of value }
+{
+    if value { b'1' } else { b'0' }
+}
+
+/// The line that says why an order is refused.
+pub(crate) fn refusal_text<A: Allocator + Copy>(
+    alloc: A,
+    fault: Fault,
+) -> Result<Vec<u8, A>, AllocError>
+    ensures { IfOk result (λ text. text.items ≡ refusal_line fault) }
+{
+    // The words, three digits, twenty digits and a line feed.
+    let mut text = Vec::with_capacity(alloc, 40)?;
+    let mut digits = Buffer::new();
+    text.extend_from_slice(b"refused ")?;
+    text.extend_from_slice(digits.format(fault.cause.number()).as_bytes())?;
+    text.extend_from_slice(b" line ")?;
+    text.extend_from_slice(digits.format(fault.line).as_bytes())?;
+    text.push(b'\n')?;
+    Ok(text)
+}

@@ -1,0 +1,128 @@
+//! The lines of a run.
+ghost use Rattle.std.specs.Prelude.{◌≡◌, ◌⊎◌, [], false, length, replicate, None, Some, Ok, Err, IfOk, IfErr, OnOk, OnErr};
+ghost use Rattle.std.specs.Option.{option_copied};
+ghost use Rattle.step_model.specs.declared.fault.Cause.TheVariants.{CoinCount};
+ghost use Rattle.step_model.specs.Ends.{Takes, TakesSome, write_failures};
+ghost use Rattle.step_model.specs.Faults.{memory_fault, without_line, write_fault};
+ghost use Rattle.step_model.specs.Frames.{zero_coins};
+ghost use Rattle.step_model.specs.Runs.{records_of};
+ghost use Rattle.engine.specs.Output.{done, program_output, refused_or, run_coins, run_output};
+ghost use Rattle.engine.specs.Output as output;
+
+use crate::lines::run_lines;
+use crate::order::Status;
+use crate::refusing::refuse;
+use first_reader::read_program;
+use forward_sim::{Records, detections, read_coins, read_numbers, run};
+use programs::Program;
+use std::alloc::Allocator;
+use step_model::{Fault, Sink, write_all};
+
+/// Writes the lines of a run of a text's circuit, or why it is refused.
+pub(crate) fn answer_run<W: Sink, A: Allocator + Copy>(
+    alloc: A,
+    coins: Option<&[u8]>,
+    faults: &[u8],
+    text: &[u8],
+    sink: &mut W,
+) -> Result<Status, Fault>
+    ensures written { OnOk result (Takes (W.taken sink.old) (W.taken sink.new)
+        (refused_or (run_output (option_copied coins.entry) faults.now text.now)).bytes) }
+    ensures status { IfOk result (λ status.
+        status ≡ (refused_or (run_output (option_copied coins.entry) faults.now text.now)).status) }
+    ensures fault { IfErr result (λ e. (e ≡ memory_fault) ⊎ (e ≡ write_fault)) }
+    ensures writes { W.failures sink.new ≡ write_failures result (W.failures sink.old) }
+    ensures beginning { OnErr result (TakesSome (W.taken sink.old) (W.taken sink.new)
+        (refused_or (run_output (option_copied coins.entry) faults.now text.now)).bytes) }
+{
+    match run_text(alloc, coins, faults, text) {
+        Ok(lines) => {
+            write_all(sink, lines.as_slice())?;
+            Ok(Status::Done)
+        }
+        Err(fault) => refuse(alloc, fault, sink),
+    }
+}
+
+/// What a run of a text's circuit writes, or why it is refused.
+fn run_text<A: Allocator + Copy>(
+    alloc: A,
+    coins: Option<&[u8]>,
+    faults: &[u8],
+    text: &[u8],
+) -> Result<Vec<u8, A>, Fault>
+    ensures ok { IfOk result (λ lines. run_output (option_copied coins.entry) faults.now text.now ≡ Ok (done lines.items)) }
+    ensures err { IfErr result (λ e. (e ≡ memory_fault)
+        ⊎ (run_output (option_copied coins.entry) faults.now text.now ≡ Err e)) }
+{
+    let program = read_program(alloc, text)?;
+    run_program(alloc, &program, coins, faults)
+}
+
+/// What a run of a program writes, or why it is refused.
+fn run_program<A: Allocator + Copy>(
+    alloc: A,
+    program: &Program<'_, A>,
+    coins: Option<&[u8]>,
+    faults: &[u8],
+) -> Result<Vec<u8, A>, Fault>
+    ensures ok { IfOk result (λ lines. program_output (option_copied coins.entry) faults.now program.now ≡ Ok (done lines.items)) }
+    ensures err { IfErr result (λ e. (e ≡ memory_fault)
+        ⊎ (program_output (option_copied coins.entry) faults.now program.now ≡ Err e)) }
+{
+    let coins = coins_given(alloc, program, coins)?;
+    let faults = read_numbers(alloc, program.fault_count() as usize, faults)?;
+    lines_of_run(alloc, program, faults.as_slice(), coins.as_slice())
+}
+
+/// The coins that a text gives, or all 0 where there is no text.
+fn coins_given<A: Allocator + Copy>(
+    alloc: A,
+    program: &Program<'_, A>,
+    text: Option<&[u8]>,
+) -> Result<Vec<bool, A>, Fault>
+    ensures ok { IfOk result (λ coins. run_coins program.now (option_copied text.entry) ≡ Some coins.items) }
+    ensures err { IfErr result (λ e. (e ≡ memory_fault)
+        ⊎ ((e ≡ without_line CoinCount) × (run_coins program.now (option_copied text.entry) ≡ None))) }
+{
+    match text {
+        Some(text) => read_coins(alloc, program, text),
+        None => all_false(alloc, program.collapse_count() as usize),
+    }
+}
+
+fn all_false<A: Allocator + Copy>(alloc: A, count: usize) -> Result<Vec<bool, A>, Fault>
+    ensures ok { IfOk result (λ values. values.items ≡ replicate count false) }
+    ensures err { IfErr result (λ e. e ≡ memory_fault) }
+{
+    vec![in alloc; false; count].map_err(|_| Fault::MEMORY)
+}
+
+/// The lines of a run with these faults and coins.
+fn lines_of_run<A: Allocator + Copy>(
+    alloc: A,
+    program: &Program<'_, A>,
+    faults: &[bool],
+    coins: &[bool],
+) -> Result<Vec<u8, A>, Fault>
+    ensures ok { IfOk result (λ lines. lines.items ≡ output.run_lines program.now faults.now coins.now) }
+    ensures err { IfErr result (λ e. e ≡ memory_fault) }
+{
+    let records = run(alloc, program, faults, coins)?;
+    let reference = noiseless_records(alloc, program)?;
+    let detections = detections(alloc, program, &records, &reference)?;
+    run_lines(alloc, &records, detections.as_slice()).map_err(|_| Fault::MEMORY)
+}
+
+/// The records of the run in which no fault happens and every coin is 0.
+fn noiseless_records<A: Allocator + Copy>(
+    alloc: A,
+    program: &Program<'_, A>,
+) -> Result<Records<A>, Fault>
+    ensures ok { IfOk result (λ records. records ≡ records_of program.now [] (zero_coins program.now)) }
+    ensures count { IfOk result (λ records. length records ≡ program.now.records) }
+    ensures err { IfErr result (λ e. e ≡ memory_fault) }
+{
+    let coins = all_false(alloc, program.collapse_count() as usize)?;
+    run(alloc, program, &[], coins.as_slice())
+}

@@ -1,0 +1,76 @@
+//! Orders on a circuit, from its bytes to the bytes of the answer.
+ghost use Rattle.std.specs.Prelude.{◌≡◌, ◌⊎◌, ℕ, List, [], Some, IfOk, IfErr, IfSome, OnOk, OnErr, OnSome};
+ghost use Rattle.step_model.specs.Ends.{HandsOutSome, IsAtEnd, Takes, TakesSome, read_failures, write_failures};
+ghost use Rattle.step_model.specs.Faults.{memory_fault, read_fault, write_fault};
+ghost use Rattle.engine.specs.declared.order.Order.TheVariants.{Analyze};
+ghost use Rattle.engine.specs.declared.order.Status.TheVariants.{Done, Random};
+ghost use Rattle.engine.specs.Headline.{IsExactFor, IsRandomFor};
+ghost use Rattle.engine.specs.Output.{output_of};
+
+use crate::analysis::answer_analysis;
+use crate::order::{Order, Status};
+use crate::running::answer_run;
+use std::alloc::Allocator;
+use step_model::{Fault, Sink, Source, read_all};
+
+/// Reads a circuit to the end of its source, and writes to the sink what the order asks of it, or the one line that
+/// says why it is refused. All memory is had before the first byte is written. A source or a sink that failed isn't
+/// called again.
+pub fn serve<R: Source, W: Sink, A: Allocator + Copy>(
+    alloc: A,
+    order: &Order<'_>,
+    source: &mut R,
+    sink: &mut W,
+) -> Result<Status, Fault>
+    // Of a source that tells its bytes, all are read, and what is written is the output for them and nothing else.
+    ensures read { OnOk result (OnSome (R.left source.old) (R.left source.new ≡ Some [])) }
+    ensures written { OnOk result (IfSome (R.left source.old) (λ text.
+        Takes (W.taken sink.old) (W.taken sink.new) (output_of order.now text).bytes)) }
+    ensures status { IfOk result (λ status. IfSome (R.left source.old) (λ text.
+        status ≡ (output_of order.now text).status)) }
+
+    // The headline: an analysis that is done wrote the text of a model that fits the circuit and is exact.
+    ensures exact { IfOk result (λ status. order.now ≡ Analyze → status ≡ Done → IfSome (R.left source.old) (λ text.
+        (bytes : List ℕ) × Takes (W.taken sink.old) (W.taken sink.new) bytes × IsExactFor text bytes)) }
+
+    // Its second half: a target that an analysis names as random differs under the two coin lists that it gives.
+    ensures random { IfOk result (λ status. order.now ≡ Analyze → status ≡ Random → IfSome (R.left source.old) (λ text.
+        (bytes : List ℕ) × Takes (W.taken sink.old) (W.taken sink.new) bytes × IsRandomFor text bytes)) }
+
+    // The source failed, the sink failed, or there was no memory: each count has one more exactly where its end failed.
+    ensures fault { IfErr result (λ e. (e ≡ memory_fault) ⊎ (e ≡ read_fault) ⊎ (e ≡ write_fault)) }
+    ensures reads { R.failures source.new ≡ read_failures result (R.failures source.old) }
+    ensures writes { W.failures sink.new ≡ write_failures result (W.failures sink.old) }
+
+    // After an error a beginning of the output is written, and none of it unless all was read.
+    ensures rest { OnErr result (HandsOutSome (R.left source.old) (R.left source.new)) }
+    ensures unread { OnErr result ((W.taken sink.new ≡ W.taken sink.old) ⊎ IsAtEnd (R.left source.new)) }
+    ensures beginning { OnErr result (IfSome (R.left source.old) (λ text.
+        TakesSome (W.taken sink.old) (W.taken sink.new) (output_of order.now text).bytes)) }
+{
+    let text = read_all(alloc, source)?;
+    answer(alloc, order, text.as_slice(), sink)
+}
+
+/// Writes what an order asks of a text.
+fn answer<W: Sink, A: Allocator + Copy>(
+    alloc: A,
+    order: &Order<'_>,
+    text: &[u8],
+    sink: &mut W,
+) -> Result<Status, Fault>
+    ensures written { OnOk result (Takes (W.taken sink.old) (W.taken sink.new) (output_of order.now text.now).bytes) }
+    ensures status { IfOk result (λ status. status ≡ (output_of order.now text.now).status) }
+    ensures exact { IfOk result (λ status. order.now ≡ Analyze → status ≡ Done →
+        (bytes : List ℕ) × Takes (W.taken sink.old) (W.taken sink.new) bytes × IsExactFor text.now bytes) }
+    ensures random { IfOk result (λ status. order.now ≡ Analyze → status ≡ Random →
+        (bytes : List ℕ) × Takes (W.taken sink.old) (W.taken sink.new) bytes × IsRandomFor text.now bytes) }
+    ensures fault { IfErr result (λ e. (e ≡ memory_fault) ⊎ (e ≡ write_fault)) }
+    ensures writes { W.failures sink.new ≡ write_failures result (W.failures sink.old) }
+    ensures beginning { OnErr result (TakesSome (W.taken sink.old) (W.taken sink.new) (output_of order.now text.now).bytes) }
+{
+    match *order {
+        Order::Run { coins, faults } => answer_run(alloc, coins, faults, text, sink),
+        Order::Analyze => answer_analysis(alloc, text, sink),
+    }
+}

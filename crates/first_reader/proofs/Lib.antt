@@ -1,0 +1,17 @@
+pub mod CircuitLemmas
+pub mod ClassicalLemmas
+pub mod ClassicalSteps
+pub mod CountLemmas
+pub mod DetectorLemmas
+pub mod EntryLemmas
+pub mod FittingLemmas
+pub mod LineLemmas
+pub mod LoopLemmas
+pub mod ParseLemmas
+pub mod PlainNodes
+pub mod ProbabilityLemmas
+pub mod ReadingLemmas
+pub mod StepLoops
+pub mod StepTests
+pub mod TargetLemmas
+pub mod UnrolledLemmas

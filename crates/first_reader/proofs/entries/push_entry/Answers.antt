@@ -1,0 +1,11 @@
+use Rattle.std.proofs.Common.{◌≡◌, List, [], ◌∷◌, ◌++◌, ap}
+use Rattle.programs.specs.declared.program.EntryPart.{EntryPart}
+use Rattle.first_reader.proofs.EntryLemmas.{entries_of-push}
+use Rattle.first_reader.proofs.entries.push_entry.Goals as goal
+
+pub returns : goal.returns
+returns g c =
+    let entries = c.args.entries.now in
+    let part = c.args.part in
+    let parts_are : c.push_reserved.new.self.items ≡ entries.parts.items ++ part ∷ [] = rw c.push_reserved.ensures.items (ap (λ (ps : List EntryPart). ps ++ part ∷ []) c.in_ok-reserve.ensures.items) in
+    rw (parts_are, c.in_ok-push.ensures.ok) (entries_of-push entries.parts.items entries.terms part c.args.qubit entries.each)

@@ -1,0 +1,10 @@
+pub mod Circuits
+pub mod Classical
+pub mod Detectors
+pub mod Instructions
+pub mod Lines
+pub mod MadeParts
+pub mod Parsed
+pub mod Pieces
+pub mod Totals
+pub mod Unrolled

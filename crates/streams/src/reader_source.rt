@@ -1,0 +1,63 @@
+ghost use Rattle.std.specs.Prelude.{◌≡◌, None};
+
+use std::io::{ErrorKind, Read};
+use step_model::{Fault, Source};
+
+/// How many bytes a reader is asked for at most in a call.
+const PIECE: usize = 4096;
+
+/// The bytes of a reader. It reads into an array of its own, so that a failed call leaves the caller's buffer alone.
+#[derive(Drop)]
+pub struct ReaderSource<R: Read + Drop> {
+    reader: R,
+    failures: u64,
+}
+
+impl<R: Read + Drop> ReaderSource<R> {
+    /// The bytes that a reader hands out.
+    pub fn new(reader: R) -> Self
+        ensures { result ≡ record { reader = reader; failures = 0 } }
+    {
+        ReaderSource {
+            reader,
+            failures: 0,
+        }
+    }
+
+    /// How many calls failed; the count stands still at 2^64 - 1.
+    pub fn failures(&self) -> u64
+        ensures { result ≡ self.now.failures }
+    {
+        self.failures
+    }
+
+    /// The reader.
+    pub fn reader(&self) -> &R
+        ensures { result.now ≡ self.now.reader }
+    {
+        &self.reader
+    }
+}
+
+impl<R: Read + Drop> Source for ReaderSource<R> {
+    ghost left = { λ _. None };
+
+    ghost failures = { λ s. s.failures };
+
+    fn read(&mut self, buffer: &mut [u8]) -> Result<usize, Fault> {
+        let mut piece = [0u8; PIECE];
+        let room = buffer.len().min(PIECE);
+        for _ in 0..u64::MAX {
+            match self.reader.read(&mut piece[..room]) {
+                Ok(n) => {
+                    buffer[..n].copy_from_slice(&piece[..n]);
+                    return Ok(n);
+                }
+                Err(error) if error.kind() == ErrorKind::Interrupted => {}
+                Err(_) => break,
+            }
+        }
+        self.failures = self.failures.saturating_add(1);
+        Err(Fault::READ)
+    }
+}

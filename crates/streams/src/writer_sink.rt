@@ -1,0 +1,55 @@
+ghost use Rattle.std.specs.Prelude.{◌≡◌, None};
+
+use std::io::{ErrorKind, Write};
+use step_model::{Fault, Sink};
+
+/// The bytes that a writer takes. One that takes none of some bytes has failed.
+#[derive(Drop)]
+pub struct WriterSink<W: Write + Drop> {
+    writer: W,
+    failures: u64,
+}
+
+impl<W: Write + Drop> WriterSink<W> {
+    /// The bytes that a writer takes.
+    pub fn new(writer: W) -> Self
+        ensures { result ≡ record { writer = writer; failures = 0 } }
+    {
+        WriterSink {
+            writer,
+            failures: 0,
+        }
+    }
+
+    /// How many calls failed; the count stands still at 2^64 - 1.
+    pub fn failures(&self) -> u64
+        ensures { result ≡ self.now.failures }
+    {
+        self.failures
+    }
+
+    /// The writer.
+    pub fn writer(&self) -> &W
+        ensures { result.now ≡ self.now.writer }
+    {
+        &self.writer
+    }
+}
+
+impl<W: Write + Drop> Sink for WriterSink<W> {
+    ghost taken = { λ _. None };
+
+    ghost failures = { λ s. s.failures };
+
+    fn write(&mut self, bytes: &[u8]) -> Result<usize, Fault> {
+        for _ in 0..u64::MAX {
+            match self.writer.write(bytes) {
+                Ok(n) if 0 < n || bytes.is_empty() => return Ok(n),
+                Err(error) if error.kind() == ErrorKind::Interrupted => {}
+                _ => break,
+            }
+        }
+        self.failures = self.failures.saturating_add(1);
+        Err(Fault::WRITE)
+    }
+}

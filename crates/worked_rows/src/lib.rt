@@ -1,0 +1,6 @@
+//! Tests of `serve` over memory: worked rows, drawn circuits, ends of bytes that fail, and ample memory. The crate has
+//! nothing but tests.
+#![tactic(auto)]
+
+#[cfg(test)]
+mod tests;
