@@ -1,6 +1,0 @@
-use Rattle.std.proofs.Common.{◌≡◌}
-use Rattle.stabsim.proofs.streams.WriterSinkSink.write.Given as goal
-
--- no call failed so far, but for those that a signal interrupted
-abbrev pub invariant-loop : goal.invariant-loop
-invariant-loop g l = l.self.failures ≡ l.fn.self.failures

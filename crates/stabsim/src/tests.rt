@@ -1,0 +1,113 @@
+//! What the program writes and how it ends, for its words and its input, by a runtime of the tests' own.
+mod runtime;
+
+use crate::respond;
+use runtime::{FAILS, TestRuntime};
+use std::test::Fail;
+
+const PAIR: &str = "X_ERROR(0.1) 0\nCX 0 1\nM 0 1\n";
+
+const DETECTED: &str = "X_ERROR(0.1) 0\nM 0\nDETECTOR rec[-1]\n";
+
+/// What a command line writes for an input, and how it ends.
+#[test]
+fn words_to_bytes_and_status(rt: HostRuntime) -> Result<(), Fail> {
+    let table: [(&[&str], &str, &str, u8); 24] = [
+        (&["run"], PAIR, "00\n\n", 0),
+        (&["run", "--faults", "0"], PAIR, "11\n\n", 0),
+        (&["run", "--faults=0"], PAIR, "11\n\n", 0),
+        (&["run", "--coins", "01"], PAIR, "00\n\n", 0),
+        (
+            &["run", "--coins", "01", "--faults", "0"],
+            PAIR,
+            "11\n\n",
+            0,
+        ),
+        (
+            &["run", "--faults", "0", "--coins", "10"],
+            PAIR,
+            "11\n\n",
+            0,
+        ),
+        (&["run", "--faults", ""], PAIR, "00\n\n", 0),
+        (&["run", "--faults", "1"], PAIR, "refused 51 line 0\n", 2),
+        (&["run", "--faults", "0,0"], PAIR, "refused 51 line 0\n", 2),
+        (&["run", "--coins", ""], PAIR, "refused 50 line 0\n", 2),
+        (&["run", "--coins", "0"], PAIR, "refused 50 line 0\n", 2),
+        (
+            &["run"],
+            "M 0\nDETECTOR rec[-2]\n",
+            "refused 22 line 2\n",
+            2,
+        ),
+        (&["run"], DETECTED, "0\n0\n", 0),
+        (&["run", "--faults", "0"], DETECTED, "1\n1\n", 0),
+        (&["analyze"], DETECTED, "error(0.1) D0\ndetector D0\n", 0),
+        (&["analyze"], "", "", 0),
+        (&["analyze", "--coins", "0"], DETECTED, "usage\n", 2),
+        (&[], DETECTED, "usage\n", 2),
+        (&["walk"], DETECTED, "usage\n", 2),
+        (&["run", "analyze"], DETECTED, "usage\n", 2),
+        (&["run", "--coins"], DETECTED, "usage\n", 2),
+        (&["run", "--shots", "1"], DETECTED, "usage\n", 2),
+        (
+            &["run", "--coins", "0", "--coins", "0"],
+            DETECTED,
+            "usage\n",
+            2,
+        ),
+        (&["analyze", "x"], DETECTED, "usage\n", 2),
+    ];
+    for (words, input, output, status) in table {
+        let test = TestRuntime::new(rt.alloc(), words, input.as_bytes());
+        let ended = respond(&test);
+        assert_eq!(rt; test.taken()?.as_slice(), output.as_bytes(), "{words:?}");
+        assert_eq!(rt; ended, status, "{words:?}");
+    }
+    Ok(())
+}
+
+/// Help goes to the output, and its status is 0: of the program, and of each subcommand.
+#[test]
+fn help_is_written(rt: HostRuntime) -> Result<(), Fail> {
+    let table: [(&[&str], &str); 6] = [
+        (&["--help"], "Simulates or analyses"),
+        (&["--help"], "Exit status: 0 done; 1 memory ran out"),
+        (&["run", "--help"], "One digit 0 or 1 for each collapse"),
+        (&["run", "--help"], "Example: stabsim run --faults 0 < "),
+        (&["analyze", "--help"], "Writes the detector error model"),
+        (&["analyze", "--help"], "Example: stabsim analyze < "),
+    ];
+    for (words, text) in table {
+        let test = TestRuntime::new(rt.alloc(), words, b"");
+        assert_eq!(rt; respond(&test), 0, "{words:?}");
+        let written = String::from_utf8(test.taken()?)?;
+        assert!(rt; written.contains(text), "{words:?}: {written}");
+    }
+    Ok(())
+}
+
+/// Where the output takes nothing the status is 1, whatever was asked.
+#[test]
+fn a_closed_output_ends_with_1(rt: HostRuntime) {
+    let table: [&[&str]; 5] = [
+        &["run"],
+        &["analyze"],
+        &["run", "--faults", "9"],
+        &["--help"],
+        &["walk"],
+    ];
+    for words in table {
+        let test = TestRuntime::new(rt.alloc(), words, DETECTED.as_bytes()).with_closed_output();
+        assert_eq!(rt; respond(&test), 1, "{words:?}");
+    }
+}
+
+/// A word that isn't UTF-8 is refused with the line `usage`.
+#[test]
+fn a_word_of_other_bytes_is_refused(rt: HostRuntime) -> Result<(), Fail> {
+    let test = TestRuntime::new(rt.alloc(), &["run", "--coins", FAILS], PAIR.as_bytes());
+    assert_eq!(rt; respond(&test), 2);
+    assert_eq!(rt; test.taken()?.as_slice(), b"usage\n".as_slice());
+    Ok(())
+}
