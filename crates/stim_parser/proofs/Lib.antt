@@ -16,3 +16,4 @@ pub mod TargetNumbers
 pub mod RecordTargets
 pub mod NumberArguments
 pub mod FewArguments
+pub mod CoordinateArguments

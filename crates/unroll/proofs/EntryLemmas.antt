@@ -1,5 +1,5 @@
 -- One more entry at the end.
-use Rattle.std.proofs.Common.{◌≡◌, ℕ, suc, List, [], ◌∷◌, ◌++◌, length, refl, ap}
+use Rattle.std.proofs.Common.{◌≡◌, suc, List, [], ◌∷◌, ◌++◌, length, refl, ap}
 use Rattle.std.proofs.Math.Nat.{suc_inj}
 use Rattle.programs.specs.declared.program.EntryPart.{EntryPart}
 use Rattle.programs.specs.Made.{entries_of}

@@ -8,7 +8,7 @@ use Rattle.stim_parser.specs.Trees.{Tree, Nothing, Then, Block, items_of}
 use Rattle.stim_parser.specs.Verdicts.{Instruction}
 use Rattle.unroll.specs.Flattened.{written}
 use Rattle.unroll.specs.Items.{instructions_in, item_qubits, IsSound}
-use Rattle.unroll.specs.Totals.{qubits_named, qubits_over, qubit_total}
+use Rattle.unroll.specs.Totals.{qubits_over, qubit_total}
 use Rattle.unroll.proofs.FarLemmas.{EachDoes, EachOf, each-tree}
 use Rattle.unroll.proofs.PassLemmas.{drop_got}
 

@@ -1,13 +1,12 @@
 -- A pass over a circuit's items in their order is a pass over its tree.
-use Rattle.std.proofs.Common.{◌≡◌, ℕ, zero, suc, ◌+◌, ◌<◌, ◌≤◌, List, [], ◌∷◌, ◌++◌, length, drop, reverse, Option, None, Some, refl, sym, ap, ◌∙◌, subst, append_assoc, append-nil, arith, length-append}
-use Rattle.std.specs.Prelude.{slice_get, max}
+use Rattle.std.proofs.Common.{◌≡◌, ℕ, zero, suc, ◌+◌, ◌<◌, ◌≤◌, List, [], ◌∷◌, ◌++◌, length, drop, reverse, Some, refl, sym, ap, ◌∙◌, subst, append_assoc, append-nil, arith, length-append}
+use Rattle.std.specs.Prelude.{slice_get}
 use Rattle.std.proofs.lemmas.List.{reverse-append, drop_all}
 use Rattle.stim_parser.specs.Circuits.{AllFit, Fits, IsCircuit, depth}
 use Rattle.stim_parser.specs.Texts.{Item, Does, Begins, Ends}
 use Rattle.stim_parser.specs.Trees.{Tree, Nothing, Then, Block, items_of}
-use Rattle.stim_parser.specs.Verdicts.{Instruction}
 use Rattle.unroll.specs.declared.blocks.OpenBlock.{OpenBlock}
-use Rattle.unroll.specs.Passes.{Pass, behind, opened, CanStand, HasClosed, Passes}
+use Rattle.unroll.specs.Passes.{Pass, behind, opened, CanStand, Passes}
 
 -- the state behind items, where these blocks are open, the innermost first
 abbrev pub run : {S : Type 0} → Pass S → List Item → List (OpenBlock S) → S → S

@@ -241,3 +241,7 @@ pub placed-tree : (t : Tree) → AllFit t → (behind (gathering placing) t unpl
 placed-tree t fit =
     ap (λ (s : Gathered Offset (List ℤ)). s.found) (gathered placing t unplaced (are_steady unmoved t fit unmoved-wide))
     ∙ given-coordinates [] unmoved (reached t) unmoved-wide (few-tree t fit) unmoved-is
+
+pub place-tree : (t : Tree) → AllFit t → (behind (gathering placing) t unplaced).place ≡ place_behind placing unmoved (reached t)
+place-tree t fit =
+    ap (λ (s : Gathered Offset (List ℤ)). s.place) (gathered placing t unplaced (are_steady unmoved t fit unmoved-wide))

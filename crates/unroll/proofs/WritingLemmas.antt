@@ -1,5 +1,5 @@
 -- A circuit's steps, entries and products, made one item after another.
-use Rattle.std.proofs.Common.{◌≡◌, ℕ, ◌+◌, List, [], ◌∷◌, ◌++◌, length, refl, sym, ap, ◌∙◌, append_assoc, append-nil, length-append}
+use Rattle.std.proofs.Common.{◌≡◌, ◌+◌, List, [], ◌∷◌, ◌++◌, length, refl, sym, ap, ◌∙◌, append_assoc, append-nil, length-append}
 use Rattle.std.specs.List.{flat_map}
 use Rattle.programs.specs.declared.step.TextStep.{TextStep}
 use Rattle.programs.specs.Builders.{OpenBlock}
@@ -8,7 +8,6 @@ use Rattle.step_model.specs.declared.step.Term.{Term}
 use Rattle.step_model.specs.Listing.{Kept}
 use Rattle.stim_parser.specs.Texts.{Item, Does, Begins, Ends}
 use Rattle.stim_parser.specs.Trees.{Tree, Nothing, Then, Block, items_of}
-use Rattle.stim_parser.specs.Verdicts.{Instruction}
 use Rattle.unroll.specs.Flattened.{written}
 use Rattle.unroll.specs.Kept.{entries_of, kept_entries, kept_products, products_in}
 use Rattle.unroll.specs.Steps.{instruction_steps, steps_from, steps_of}

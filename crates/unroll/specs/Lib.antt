@@ -8,6 +8,7 @@ pub mod Observables
 pub mod Coordinates
 pub mod Refusals
 pub mod Unrolled
+pub mod Programs
 pub mod Passes
 pub mod Summed
 pub mod Pushed
@@ -16,3 +17,6 @@ pub mod Gathered
 pub mod Detecting
 pub mod Including
 pub mod Placing
+pub mod Assembled
+pub mod Beyond
+pub mod Drafts

@@ -5,7 +5,7 @@
 -- record. Of MPP each product is one collapse, and its record is inverted where an odd number of its factors has a `!`. An
 -- error of one letter is a fault of each target; CORRELATED_ERROR is one fault a line. Other instructions make no step.
 -- (Stim's gate reference, github.com/quantumlib/Stim, doc/gates.md.)
-use Rattle.std.specs.Prelude.{ℕ, ◌+◌, ◌==◌, Bool, true, false, if◌then◌else◌, List, [], ◌∷◌, length, map, Option, None, Some}
+use Rattle.std.specs.Prelude.{ℕ, ◌+◌, ◌==◌, Bool, true, false, if◌then◌else◌, List, [], ◌∷◌, map, Option, None, Some}
 use Rattle.std.specs.List.{onto_first}
 use Rattle.gate_table.specs.declared.gate.Gate.{Gate}
 use Rattle.gate_table.specs.declared.gate.Gate.TheVariants as gate

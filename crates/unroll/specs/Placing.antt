@@ -79,12 +79,17 @@ abbrev pub operation_places : Offset → Operation → List (List ℕ) → List 
 operation_places p Detects arguments = moved_to p.up p.down (map whole_value arguments) ∷ []
 operation_places p operation arguments = []
 
+-- an offset behind a turn, so many turns further on
+abbrev pub turned_on : ℕ → Offset → Offset → Offset
+turned_on turns before after =
+    record { up = turned_by turns before.up after.up; down = turned_by turns before.down after.down }
+
 abbrev pub placing : Gathering Offset (List ℤ)
 placing =
     record {
       next = λ p i. record { up = raised_by p.up (ups i); down = raised_by p.down (downs i) };
       gives = λ p i. operation_places p i.operation i.arguments;
-      onward = λ turns before after. record { up = turned_by (turns - 1) before.up after.up; down = turned_by (turns - 1) before.down after.down };
+      onward = λ turns. turned_on (turns - 1);
       moved = λ n before after. moved_to (added_by n before.up after.up) (added_by n before.down after.down);
     }
 

@@ -1,7 +1,7 @@
 -- The steps of an instruction as they are appended to a circuit that is written down from its start on, one target, one
 -- pair or one product at a time.
 -- (Stim's gate reference, github.com/quantumlib/Stim, doc/gates.md.)
-use Rattle.std.specs.Prelude.{◌≡◌, ◌+◌, ◌<◌, ◌≤◌, ◌^◌, ℕ, Bool, true, if◌then◌else◌, List, [], ◌∷◌, ◌++◌, length, Option, None, Some}
+use Rattle.std.specs.Prelude.{◌≡◌, ◌+◌, ◌<◌, ◌≤◌, ◌^◌, ℕ, Bool, true, if◌then◌else◌, List, [], ◌∷◌, ◌++◌, length, All, Option, Some}
 use Rattle.std.specs.List.{onto_first}
 use Rattle.pauli_word.specs.Parity.{exclusive_or}
 use Rattle.programs.specs.declared.step.TextStep.{TextStep}
@@ -11,7 +11,7 @@ use Rattle.stim_parser.specs.declared.target.Target.{Target}
 use Rattle.stim_parser.specs.declared.target.Target.TheVariants.{Back}
 use Rattle.unroll.specs.declared.steps.Single.{Single}
 use Rattle.unroll.specs.declared.steps.Single.TheVariants.{Applies, Measures, Resets}
-use Rattle.unroll.specs.Made.{is_inverted, is_product_inverted, measure_step, one_step, product_steps, products_of, recording, reset_step}
+use Rattle.unroll.specs.Made.{is_product_inverted, measure_step, one_step, product_steps, products_of, recording, reset_step}
 use Rattle.unroll.specs.Totals.{qubits_to}
 
 -- the innermost open block, or the circuit, has these steps more
@@ -39,6 +39,7 @@ pub record FollowsFactor (after : List Target) (joined : Bool) (behind : List Ta
   pub products : (factor : Target) → products_of (factor ∷ after) ≡ (if joined then onto_first factor (products_of behind) else (factor ∷ []) ∷ products_of behind)
   pub some : joined ≡ true → 0 < length behind
   pub fewer : length behind ≤ length after
+  pub small : All IsSmall after → All IsSmall behind
 
 -- the steps of products, of which the first begins with what is inverted so far
 abbrev pub carried_steps : Bool → Option ℕ → ℕ → List (List Target) → List TextStep

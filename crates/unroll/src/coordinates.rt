@@ -1,9 +1,19 @@
-ghost use Rattle.std.specs.Prelude.{◌≡◌, ◌<◌, ◌≤◌, ◌^◌, ◌++◌, All, length, map, slice_range, OnOk};
-ghost use Rattle.unroll.specs.Placing.{IsStated, moved_to};
+ghost use Rattle.std.specs.Prelude.{◌≡◌, ◌<◌, ◌≤◌, ◌^◌, ◌++◌, All, drop, length, map, slice_range, IfOk, OnOk};
+ghost use Rattle.stim_parser.specs.Circuits.{Fits};
+ghost use Rattle.stim_parser.specs.Flat.{instruction_in};
+ghost use Rattle.unroll.specs.Coordinates.{coordinates_of};
+ghost use Rattle.unroll.specs.Gathered.{later};
+ghost use Rattle.unroll.specs.Placing.{IsStated, added_by, moved_to, placing};
+ghost use Rattle.unroll.specs.Totals.{step_total};
 
-use crate::offsets::{AXES, moved};
+use crate::blocks::{LEVELS, OpenBlock};
+use crate::marks::Mark;
+use crate::offsets::{AXES, Offset, added, moved};
+use crate::shifts::{coordinates_read, shift, turn_on};
+use arrayvec::ArrayVec;
 use flat_lists::FlatLists;
 use std::alloc::{AllocError, Allocator};
+use stim_parser::{Circuit, Instruction, Item, Operation};
 
 /// Appends copies of the coordinates from one place to another, each moved up by these counts and down by those.
 fn push_moved<A: Allocator + Copy>(
@@ -27,4 +37,91 @@ fn push_moved<A: Allocator + Copy>(
         lists.push(coordinates.as_slice())?;
     }
     Ok(())
+}
+
+/// Appends the coordinates that an instruction gives at an offset, where it is a detector.
+fn push_coordinates<A: Allocator + Copy>(
+    lists: &mut FlatLists<i64, A>,
+    offset: &Offset,
+    instruction: Instruction<'_, '_>,
+) -> Result<(), AllocError>
+    requires fits { Fits (instruction_in instruction) }
+    requires small_up { All (λ n. n < 2 ^ 62) offset.now.up }
+    requires small_down { All (λ n. n < 2 ^ 62) offset.now.down }
+    ensures { OnOk result (lists.new ≡ lists.old ++ placing.gives offset.now (instruction_in instruction.entry)) }
+{
+    match instruction.operation {
+        Operation::Detects => {
+            let stated = coordinates_read(instruction);
+            let placed = moved(stated.as_slice(), &offset.up, &offset.down);
+            lists.push(placed.as_slice())
+        }
+        _ => Ok(()),
+    }
+}
+
+/// Appends what so many later turns of a block give, where this is where the pass stood before its first turn, and this the
+/// offset behind it. No turn is gone over where the first gave nothing.
+fn push_later_turns<A: Allocator + Copy>(
+    lists: &mut FlatLists<i64, A>,
+    before: &Mark<Offset>,
+    turns: u64,
+    after: &Offset,
+) -> Result<(), AllocError>
+    requires stated { All IsStated lists.old }
+    requires small_up { All (λ n. n < 2 ^ 62) (added_by turns before.now.place.up after.now.up) }
+    requires small_down { All (λ n. n < 2 ^ 62) (added_by turns before.now.place.down after.now.down) }
+    ensures { OnOk result (lists.new ≡ lists.old ++ later (λ n. placing.moved n before.now.place after.now) turns (drop before.now.found lists.old)) }
+{
+    let first = before.found;
+    let end = lists.len();
+    if end <= first {
+        return Ok(());
+    }
+    for turn in 0..turns {
+        let up = added(turn + 1, &before.place.up, &after.up);
+        let down = added(turn + 1, &before.place.down, &after.down);
+        push_moved(lists, first, end, up.as_slice(), down.as_slice())?;
+    }
+    Ok(())
+}
+
+/// The coordinates of each detector of a circuit, in the order in which the detectors are reached. A block is gone over
+/// once, whatever its turns.
+pub(crate) fn coordinates_of<A: Allocator + Copy>(
+    alloc: A,
+    circuit: &Circuit<'_, A>,
+) -> Result<FlatLists<i64, A>, AllocError>
+    requires few { step_total circuit.now ≤ 64_000_000 }
+    ensures { IfOk result (λ coordinates. coordinates ≡ coordinates_of circuit.now) }
+{
+    circuit.fits();
+    let mut coordinates = FlatLists::new(alloc);
+    let mut offset = Offset {
+        up: [0; AXES],
+        down: [0; AXES],
+    };
+    let mut blocks: ArrayVec<OpenBlock<Mark<Offset>>, LEVELS> = ArrayVec::new();
+    for i in 0..circuit.len() {
+        match circuit.item(i) {
+            Item::Does(instruction) => {
+                push_coordinates(&mut coordinates, &offset, instruction)?;
+                shift(&mut offset, instruction);
+            }
+            Item::Begins { turns, .. } => blocks.push(OpenBlock {
+                turns,
+                before: Mark {
+                    place: offset,
+                    found: coordinates.len(),
+                },
+            }),
+            Item::Ends => {
+                let block = blocks.pop().unwrap();
+                let later = block.turns.saturating_sub(1);
+                push_later_turns(&mut coordinates, &block.before, later, &offset)?;
+                turn_on(&mut offset, &block.before.place, later);
+            }
+        }
+    }
+    Ok(coordinates)
 }

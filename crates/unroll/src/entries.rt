@@ -22,6 +22,25 @@ pub(crate) struct Entries<'a, A: Allocator + Copy> {
     ghost each: { length parts.items ≡ length terms },
 }
 
+impl<'a, A: Allocator + Copy> Entries<'a, A> {
+    /// No entries. Takes no memory.
+    pub(crate) fn new(alloc: A) -> Self
+        ensures { entries_of result.parts.items result.terms ≡ [] }
+    {
+        Entries {
+            parts: Vec::new(alloc),
+            terms: FlatLists::new(alloc),
+        }
+    }
+
+    /// How many entries there are.
+    pub(crate) fn len(&self) -> usize
+        ensures { result ≡ length (entries_of self.now.parts.items self.now.terms) }
+    {
+        self.parts.len()
+    }
+}
+
 /// Floor of a probability times 2^64, and 0 where the text is none.
 fn bound_of(text: &[u8]) -> u128
     ensures { result ≡ unwrap_or (probability_bound text.now) 0 }

@@ -1,16 +1,26 @@
-//! The program of a circuit's tree, with its blocks kept, or why it has none.
+//! The program of a circuit's tree, with its blocks kept, or why it has none; and the program of a circuit's text.
 #![tactic(auto)]
 
+mod assembly;
 mod blocks;
 mod coordinates;
 mod counts;
 mod detectors;
 mod entries;
 mod inclusions;
+pub mod laws;
 mod marks;
 mod observables;
 mod offsets;
+mod products;
 mod qubits;
+mod reading;
+mod refusals;
+mod shifts;
 mod steps;
 mod targets;
 mod totals;
+mod writing;
+
+pub use assembly::unroll;
+pub use reading::read_program;

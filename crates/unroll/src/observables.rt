@@ -11,7 +11,7 @@ use std::alloc::{AllocError, Allocator};
 use stim_parser::{Circuit, Instruction, Item, Operation};
 
 /// How many observables there are for an instruction to name its own: none where it names none.
-fn named_to(instruction: Instruction<'_, '_>) -> u64
+pub(crate) fn named_to(instruction: Instruction<'_, '_>) -> u64
     ensures { result ≡ named_to (instruction_in instruction.entry).operation (instruction_in instruction.entry).arguments }
 {
     match instruction.operation {

@@ -2,7 +2,7 @@ ghost use Rattle.std.specs.Prelude.{◌≡◌, ◌+◌, ◌<◌, ◌^◌, ◌≤
 ghost use Rattle.pauli_word.specs.Parity.{exclusive_or};
 ghost use Rattle.unroll.specs.Made.{fault_steps, fed_letter, is_inverted, operation_steps, pair_step, pair_steps, product_steps, products_of, record_back};
 ghost use Rattle.unroll.specs.Pushed.{Adds, IsSmall, single_step};
-ghost use Rattle.unroll.specs.Totals.{qubits_to};
+ghost use Rattle.unroll.specs.Totals.{qubits_to, target_count};
 
 use crate::targets::{end_of_factor, qubit_of};
 use gate_table::Gate;
@@ -173,7 +173,7 @@ fn push_products<A: Allocator + Copy>(
     first: u32,
     targets: &[Target],
 ) -> Result<(), AllocError>
-    requires { first + length targets.now < 2 ^ 32 }
+    requires { first + length (products_of targets.now) < 2 ^ 32 }
     ensures { OnOk result (Adds (product_steps flip first (products_of targets.now)) builder.old builder.new) }
 {
     let mut product = first;
@@ -206,8 +206,8 @@ pub(crate) fn push_steps<A: Allocator + Copy>(
     targets: &[Target],
 ) -> Result<(), AllocError>
     requires small { All IsSmall targets.now }
-    requires entries { entries + length targets.now < 2 ^ 32 }
-    requires products { products + length targets.now < 2 ^ 32 }
+    requires entries { entries + target_count operation targets.now < 2 ^ 32 }
+    requires products { products + target_count operation targets.now < 2 ^ 32 }
     ensures { OnOk result (Adds (operation_steps operation entries products flip targets.now) builder.old builder.new) }
 {
     match operation {

@@ -1,8 +1,6 @@
-use Rattle.std.proofs.Common.{◌≡◌, List, [], ◌∷◌, ◌++◌, sym, ap, ap₂, ◌∙◌}
+use Rattle.std.proofs.Common.{◌≡◌, List, [], ◌∷◌, ◌++◌, ap, ◌∙◌}
 use Rattle.programs.specs.declared.program.EntryPart.{EntryPart}
 use Rattle.programs.specs.Made.{entries_of}
-use Rattle.step_model.specs.declared.step.Term.{Term}
-use Rattle.unroll.specs.Kept.{entry_of}
 use Rattle.unroll.proofs.EntryLemmas.{entries_of-push}
 use Rattle.unroll.proofs.entries.push_entry.Goals as goal
 

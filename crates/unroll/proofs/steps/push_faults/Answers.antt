@@ -1,6 +1,5 @@
-use Rattle.std.proofs.Common.{◌<◌, ◌+◌, List, drop, refl, ap, ◌∙◌, length, arith}
+use Rattle.std.proofs.Common.{refl, ap, arith}
 use Rattle.std.proofs.lemmas.List.{at_drop_more, drop_all}
-use Rattle.stim_parser.specs.declared.target.Target.{Target}
 use Rattle.stim_parser.specs.declared.target.Target.TheVariants.{Star}
 use Rattle.unroll.specs.Made.{fault_steps}
 use Rattle.unroll.proofs.PushLemmas.{adding-first, adding-next, added}

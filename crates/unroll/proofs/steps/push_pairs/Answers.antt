@@ -1,4 +1,4 @@
-use Rattle.std.proofs.Common.{List, ◌∷◌, ap, ◌∙◌, arith}
+use Rattle.std.proofs.Common.{List, ◌∷◌, ap, ◌∙◌}
 use Rattle.stim_parser.specs.declared.target.Target.{Target}
 use Rattle.unroll.specs.Made.{pair_steps}
 use Rattle.unroll.proofs.FitLemmas.{pair_small}

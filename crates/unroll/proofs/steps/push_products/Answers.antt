@@ -1,10 +1,10 @@
-use Rattle.std.proofs.Common.{Bool, List, Some, ap, sym, ◌∙◌, ◌+◌, arith}
+use Rattle.std.proofs.Common.{Bool, List, Some, length, ap, sym, ◌∙◌, arith}
 use Rattle.pauli_word.specs.Parity.{exclusive_or}
 use Rattle.programs.specs.declared.step.TextStep.TheVariants as step
 use Rattle.stim_parser.specs.declared.target.Target.{Target}
 use Rattle.unroll.specs.Made.{products_of, recording}
 use Rattle.unroll.specs.Pushed.{carried_steps}
-use Rattle.unroll.proofs.ProductLemmas.{carried-joined, carried-ended}
+use Rattle.unroll.proofs.ProductLemmas.{carried-joined, carried-ended, count-joined, count-ended}
 use Rattle.unroll.proofs.PushLemmas.{adding-next, adding-same}
 use Rattle.unroll.proofs.steps.push_products.Goals as goal
 
@@ -20,8 +20,18 @@ loop-parts-preserved-then-joined g c =
           (ap (λ (ts : List Target). carried_steps l.inverted c.args.flip l.product (products_of ts)) cut.0
           ∙ carried-joined l.inverted c.args.flip l.product c.in-Some.parts.0.now c.in-Some.parts.1.now e.result.1.now e.result.0 e.ensures c.if-joined.true
           ∙ ap (λ (b : Bool). carried_steps b c.args.flip l.product (products_of e.result.1.now)) (sym parity));
-      few = omega (arith, cut.1, e.ensures.fewer, l.invariant.few);
+      few =
+          omega
+          (arith, ap (λ (ts : List Target). length (products_of ts)) cut.0, count-joined c.in-Some.parts.0.now c.in-Some.parts.1.now e.result.1.now e.result.0 e.ensures c.if-joined.true, l.invariant.few);
     }
+
+pub overflow_add-product : goal.overflow_add-product
+overflow_add-product g c =
+    let cut = c.in-Some.ensures.cases in
+    let l = c.loop-parts in
+    let e = c.end_of_factor-joined in
+    omega
+    (arith, ap (λ (ts : List Target). length (products_of ts)) cut.0, count-ended c.in-Some.parts.0.now c.in-Some.parts.1.now e.result.1.now e.result.0 e.ensures c.if-joined.false, l.invariant.few, c.requires)
 
 pub loop-parts-preserved : goal.loop-parts-preserved
 loop-parts-preserved g c =
@@ -36,5 +46,7 @@ loop-parts-preserved g c =
           ∙ carried-ended l.inverted c.args.flip l.product c.in-Some.parts.0.now c.in-Some.parts.1.now e.result.1.now e.result.0 e.ensures c.if-joined.false)
           (ap (λ (b : Bool). step.CollapseWord l.product (Some (recording b c.args.flip))) parity)
           c.in_ok-push.ensures.ok;
-      few = omega (arith, cut.1, e.ensures.fewer, l.invariant.few);
+      few =
+          omega
+          (arith, ap (λ (ts : List Target). length (products_of ts)) cut.0, count-ended c.in-Some.parts.0.now c.in-Some.parts.1.now e.result.1.now e.result.0 e.ensures c.if-joined.false, l.invariant.few);
     }

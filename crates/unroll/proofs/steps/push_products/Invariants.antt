@@ -7,7 +7,7 @@ use Rattle.unroll.proofs.steps.push_products.Given as goal
 abbrev pub invariant-loop-parts : goal.invariant-loop-parts
 invariant-loop-parts g l = record {
   adding : IsAdding (carried_steps l.inverted l.flip l.product (products_of l.rest)) (product_steps l.flip l.first (products_of l.targets)) l.fn.builder l.builder;
-  few : l.product + length l.rest ≤ l.first + length l.targets;
+  few : l.product + length (products_of l.rest) ≤ l.first + length (products_of l.targets);
 }
 
 abbrev pub decreases-loop-parts : goal.decreases-loop-parts

@@ -1,4 +1,3 @@
-use Rattle.std.proofs.Common.{length}
 use Rattle.unroll.specs.Summed.{nothing_summed, summing}
 use Rattle.unroll.proofs.PassLemmas.{IsPassing}
 use Rattle.unroll.proofs.totals.totals_of.Given as goal

@@ -1,0 +1,124 @@
+-- The parts of a circuit's program fit, and make that program.
+use Rattle.std.proofs.Common.{◌≡◌, ℕ, ℤ, ◌<◌, ◌≤◌, ◌^◌, List, length, None, Some, Ok, Err, refl, sym, ap, ap₂, subst, ◌∙◌, arith}
+use Rattle.std.specs.Prelude.{All, min}
+use Rattle.std.specs.List.{list_all}
+use Rattle.std.proofs.Math.Nat.{min-eq_left}
+use Rattle.programs.specs.declared.program.Parts.{Parts}
+use Rattle.programs.specs.declared.step.Counts.{Counts}
+use Rattle.programs.specs.declared.step.TextStep.{TextStep}
+use Rattle.programs.specs.Fits.{is_kept, text_fits}
+use Rattle.programs.specs.Made.{EntryFits, PartsFit, text_steps}
+use Rattle.programs.specs.Made as made
+use Rattle.programs.specs.Numbering.{FeedBack, counts_over, no_counts}
+use Rattle.step_model.specs.declared.fault.Fault.{Fault}
+use Rattle.step_model.specs.declared.step.Term.{Term}
+use Rattle.step_model.specs.Listing.{Kept, Listing}
+use Rattle.step_model.specs.WellFormed.{CoordinatesFit, ProductFits}
+use Rattle.stim_parser.specs.Circuits.{IsCircuit}
+use Rattle.stim_parser.specs.Trees.{Tree}
+use Rattle.unroll.specs.declared.totals.Totals.{Totals}
+use Rattle.unroll.specs.Assembled.{ArePartsOf, counts_in}
+use Rattle.unroll.specs.Detectors.{detectors_of}
+use Rattle.unroll.specs.Kept.{kept_entries, kept_products}
+use Rattle.unroll.specs.Observables.{observables_of}
+use Rattle.unroll.specs.Refusals.{refusal_of}
+use Rattle.unroll.specs.Steps.{steps_of}
+use Rattle.unroll.specs.Summed.{AreTotals, greatest}
+use Rattle.unroll.specs.Totals.{collapse_total, fault_total, made_total, qubit_total, record_total}
+use Rattle.unroll.specs.Unrolled.{listing_of, program_of, unless_refused}
+use Rattle.unroll.proofs.CoordinateFits.{coordinates_fit}
+use Rattle.unroll.proofs.EntriesFit.{entries_fit}
+use Rattle.unroll.proofs.ProductsFit.{products_fit}
+use Rattle.unroll.proofs.RefusalLemmas.{within_limits}
+use Rattle.unroll.proofs.StepCounts.{counted, faults_few, made_few, steps_counted, steps_few}
+use Rattle.unroll.proofs.StepsKept.{all_kept}
+use Rattle.unroll.proofs.ReachedCounts.{coordinates_counted, detectors_counted, observables_few}
+use Rattle.unroll.proofs.RecordsThere.{detectors_fit, observables_fit}
+use Rattle.unroll.proofs.FeedbackLemmas.{fed_back}
+use Rattle.unroll.proofs.TextFits.{texts_fit}
+
+-- ---- the program that they make
+
+pub listing_is : {A : Type 0} (t : Tree) (parts : Parts A) → ArePartsOf t parts → made.listing_of parts ≡ listing_of t
+listing_is t parts p =
+    rw (p.qubits, p.counts, p.kept, p.products, p.detectors, p.observables, p.coordinates, p.unrolled) refl
+
+pub program_made : {A : Type 0} (t : Tree) (parts : Parts A) → refusal_of t ≡ None → ArePartsOf t parts → program_of t ≡ Ok (made.listing_of parts)
+program_made t parts h p =
+    ap (λ r. unless_refused r (listing_of t)) h ∙ ap (λ (l : Listing). Ok l) (sym (listing_is t parts p))
+
+pub program_refused : (t : Tree) (fault : Fault) → refusal_of t ≡ Some fault → program_of t ≡ Err fault
+program_refused t fault h = ap (λ r. unless_refused r (listing_of t)) h
+
+-- ---- they fit
+
+pub parts_fit : {A : Type 0} (t : Tree) (parts : Parts A) → IsCircuit t → refusal_of t ≡ None → ArePartsOf t parts → PartsFit parts
+parts_fit t parts circuit accepted p =
+    let within = within_limits t accepted in
+    let n = qubit_total t in
+    let steps = steps_of t in
+    let records : record_total t ≡ parts.counts.records = sym (ap (λ (c : Counts). c.records) p.counts) in
+    record {
+      circuit = p.circuit;
+      texts_fit = ap₂ (λ (m : ℕ) (ss : List TextStep). list_all (text_fits m) ss) p.qubits p.unrolled ∙ texts_fit t circuit;
+      all_kept =
+          ap₂ (λ (ks : List Kept) (ps : List (List Term)). list_all (is_kept ks ps) (text_steps parts)) p.kept p.products
+          ∙ (ap (λ (ss : List TextStep). list_all (is_kept (kept_entries t) (kept_products t)) ss) p.unrolled ∙ all_kept t);
+      feedback = subst (λ (ss : List TextStep). FeedBack no_counts ss) (sym p.unrolled) (fed_back t circuit within.near);
+      counted = p.counts ∙ (sym (counted t) ∙ ap (λ (ss : List TextStep). counts_over no_counts ss) (sym p.unrolled));
+      steps_counted = p.steps ∙ (sym (steps_counted t) ∙ ap length (sym p.unrolled));
+      few_steps = subst (λ (ss : List TextStep). length ss < 2 ^ 32) (sym p.unrolled) (steps_few t within.steps);
+      entries_fit =
+          subst (λ (m : ℕ). All (EntryFits m) (made.kept_in parts)) (sym p.qubits)
+          (subst (λ (ks : List Kept). All (EntryFits n) ks) (sym p.kept) (entries_fit t circuit));
+      products_fit =
+          subst (λ (m : ℕ). All (ProductFits m) parts.products) (sym p.qubits)
+          (subst (λ (ps : List (List Term)). All (ProductFits n) ps) (sym p.products) (products_fit t circuit));
+      detectors_fit =
+          subst (λ (ds : List (List ℕ)). All (All (λ r. r < parts.counts.records)) ds) (sym p.detectors)
+          (subst (λ (m : ℕ). All (All (λ r. r < m)) (detectors_of t)) records (detectors_fit t circuit within.near));
+      observables_fit =
+          subst (λ (ds : List (List ℕ)). All (All (λ r. r < parts.counts.records)) ds) (sym p.observables)
+          (subst (λ (m : ℕ). All (All (λ r. r < m)) (observables_of t)) records (observables_fit t circuit within.near));
+      coordinates_given =
+          ap length p.coordinates ∙ (coordinates_counted t ∙ (sym (detectors_counted t) ∙ ap length (sym p.detectors)));
+      coordinates_fit = subst (λ (cs : List (List ℤ)). All CoordinatesFit cs) (sym p.coordinates) (coordinates_fit t circuit within.steps);
+      few_detectors = omega (arith, ap length p.detectors, detectors_counted t, within.detectors);
+      few_observables = omega (arith, ap length p.observables, observables_few t within.observables);
+    }
+
+-- ---- no total is cut off
+
+small-min : (a b : ℕ) → a ≤ 64_000_000 → b ≡ min a greatest → b ≡ a
+small-min a b h e = e ∙ min-eq_left (omega (arith, h))
+
+-- the totals that a program keeps are those of the circuit, and small
+pub record AreWhole (t : Tree) (totals : Totals) : Type 0 where
+  pub records : totals.records ≡ record_total t
+  pub collapses : totals.collapses ≡ collapse_total t
+  pub faults : totals.faults ≡ fault_total t
+  pub made : totals.made ≡ made_total t
+  pub few_records : totals.records < 2 ^ 32
+  pub few_collapses : totals.collapses < 2 ^ 32
+  pub few_faults : totals.faults < 2 ^ 32
+
+pub totals_whole : (t : Tree) (totals : Totals) → refusal_of t ≡ None → AreTotals t totals → AreWhole t totals
+totals_whole t totals accepted are =
+    let within = within_limits t accepted in
+    let made_small : made_total t ≤ 64_000_000 = omega (arith, made_few t, within.steps) in
+    let faults_small : fault_total t ≤ 64_000_000 = omega (arith, faults_few t, within.steps) in
+    let records = small-min (record_total t) totals.records (omega (arith, within.records)) are.records in
+    let collapses = small-min (collapse_total t) totals.collapses (omega (arith, within.collapses)) are.collapses in
+    let faults = small-min (fault_total t) totals.faults faults_small are.faults in
+    record {
+      records = records;
+      collapses = collapses;
+      faults = faults;
+      made = small-min (made_total t) totals.made made_small are.made;
+      few_records = omega (arith, records, within.records);
+      few_collapses = omega (arith, collapses, within.collapses);
+      few_faults = omega (arith, faults, faults_small);
+    }
+
+pub counts_are : (t : Tree) (totals : Totals) → AreWhole t totals → record { records = totals.records; collapses = totals.collapses; faults = totals.faults } ≡ counts_in t
+counts_are t totals whole = rw (whole.records, whole.collapses, whole.faults) refl

@@ -1,0 +1,138 @@
+-- The coordinates of a circuit's detectors are few to each detector, and within a limit that the circuit's steps set.
+use Rattle.std.proofs.Common.{◌≡◌, ◌≤◌, ◌<◌, ◌+◌, ◌*◌, ℕ, zero, suc, ℤ, ◌+ℤ◌, List, [], ◌∷◌, ◌++◌, length, map, refl, ap, arith, length-append}
+use Rattle.std.specs.Prelude.{⊤, All, nat_abs, ◌^◌}
+use Rattle.std.proofs.lemmas.Int.{ints}
+use Rattle.std.proofs.lemmas.List.{length-map}
+use Rattle.std.proofs.lemmas.List.Elements.{All-append, All-cons, All-head, All-nil, All-tail, All-weaker}
+use Rattle.step_model.specs.WellFormed.{CoordinatesFit}
+use Rattle.stim_parser.specs.declared.operation.Operation.{Operation}
+use Rattle.stim_parser.specs.declared.operation.Operation.TheVariants.{Detects, ShiftsCoordinates}
+use Rattle.stim_parser.specs.Circuits.{AllFit, IsCircuit}
+use Rattle.stim_parser.specs.Numbers.{whole_value}
+use Rattle.stim_parser.specs.Trees.{Tree, Nothing, Then, Block}
+use Rattle.stim_parser.specs.Verdicts.{Instruction}
+use Rattle.unroll.specs.Coordinates.{coordinates_from, coordinates_of, offset_after, operation_coordinates, placed, shifted}
+use Rattle.unroll.specs.Flattened.{copies, reached}
+use Rattle.unroll.specs.Totals.{step_count, step_total, total}
+use Rattle.stim_parser.proofs.CoordinateArguments.{AreUpTo, HasCoordinates, has_coordinates, most}
+
+-- ---- how many instructions are reached
+
+length-copies : (n : ℕ) (is : List Instruction) → length (copies n is) ≡ n * length is
+length-copies zero is = omega arith
+length-copies (suc n) is = omega (arith, length-append is (copies n is), length-copies n is)
+
+more-turns : (n a b : ℕ) → a ≤ b → n * a ≤ n * (1 + b)
+more-turns zero a b h = omega arith
+more-turns (suc n) a b h =
+    let rest = more-turns n a b h in
+    omega (arith, h, rest)
+
+pub few-reached : (t : Tree) → length (reached t) ≤ step_total t
+unfolding total
+few-reached Nothing = omega arith
+few-reached (Then i rest) = omega (arith, few-reached rest)
+few-reached (Block line turns body rest) =
+    let here = more-turns turns (length (reached body)) (total 1 step_count body) (few-reached body) in
+    let count = length-append (copies turns (reached body)) (reached rest) in
+    omega (arith, count, length-copies turns (reached body), here, few-reached rest)
+
+-- ---- what is reached states coordinates within their limit
+
+abbrev pub HaveCoordinates : List Instruction → Type 0
+HaveCoordinates [] = ⊤
+HaveCoordinates (i ∷ is) = HasCoordinates i.operation i.arguments × HaveCoordinates is
+
+have-append : (is js : List Instruction) → HaveCoordinates is → HaveCoordinates js → HaveCoordinates (is ++ js)
+have-append [] js h k = k
+have-append (i ∷ is) js h k = (h.0, have-append is js h.1 k)
+
+have-copies : (n : ℕ) (is : List Instruction) → HaveCoordinates is → HaveCoordinates (copies n is)
+have-copies zero is h = tt
+have-copies (suc n) is h = have-append is (copies n is) h (have-copies n is h)
+
+pub have-coordinates : (t : Tree) → AllFit t → HaveCoordinates (reached t)
+have-coordinates Nothing fit = tt
+have-coordinates (Then i rest) fit = (has_coordinates i fit.0, have-coordinates rest fit.1)
+have-coordinates (Block line turns body rest) fit =
+    have-append (copies turns (reached body)) (reached rest) (have-copies turns (reached body) (have-coordinates body fit.1)) (have-coordinates rest fit.2)
+
+-- ---- offsets
+
+abbrev IsUpTo : ℕ → ℤ → Type 0
+IsUpTo n z = nat_abs z ≤ n
+
+sum-up-to : (a b : ℤ) (n : ℕ) → nat_abs a ≤ n → nat_abs b ≤ most → nat_abs (a +ℤ b) ≤ n + most
+sum-up-to a b n h k = omega (arith, ints, h, k)
+
+wider : (n : ℕ) (zs : List ℤ) → AreUpTo n zs → AreUpTo (n + most) zs
+wider n zs h = All-weaker (IsUpTo n) (IsUpTo (n + most)) (λ z k. omega (arith, k)) zs h
+
+widened : (n : ℕ) (zs : List ℤ) → AreUpTo most zs → AreUpTo (n + most) zs
+widened n zs h = All-weaker (IsUpTo most) (IsUpTo (n + most)) (λ z k. omega (arith, k)) zs h
+
+shifted-up-to : (n : ℕ) (o s : List ℤ) → AreUpTo n o → AreUpTo most s → AreUpTo (n + most) (shifted o s)
+shifted-up-to n [] s h k = widened n s k
+shifted-up-to n (a ∷ o) [] h k = wider n (a ∷ o) h
+shifted-up-to n (a ∷ o) (b ∷ s) h k =
+    All-cons (IsUpTo (n + most)) (a +ℤ b) (shifted o s)
+    (sum-up-to a b n (All-head (IsUpTo n) a o h) (All-head (IsUpTo most) b s k))
+    (shifted-up-to n o s (All-tail (IsUpTo n) a o h) (All-tail (IsUpTo most) b s k))
+
+placed-up-to : (n : ℕ) (o s : List ℤ) → AreUpTo n o → AreUpTo most s → AreUpTo (n + most) (placed o s)
+placed-up-to n [] [] h k = All-nil (IsUpTo (n + most))
+placed-up-to n [] (b ∷ s) h k = widened n (b ∷ s) k
+placed-up-to n (a ∷ o) [] h k = All-nil (IsUpTo (n + most))
+placed-up-to n (a ∷ o) (b ∷ s) h k =
+    All-cons (IsUpTo (n + most)) (a +ℤ b) (placed o s)
+    (sum-up-to a b n (All-head (IsUpTo n) a o h) (All-head (IsUpTo most) b s k))
+    (placed-up-to n o s (All-tail (IsUpTo n) a o h) (All-tail (IsUpTo most) b s k))
+
+length-placed : (o s : List ℤ) → length (placed o s) ≡ length s
+length-placed [] [] = refl
+length-placed [] (b ∷ s) = refl
+length-placed (a ∷ o) [] = refl
+length-placed (a ∷ o) (b ∷ s) = ap suc (length-placed o s)
+
+after-up-to : (n : ℕ) (o : List ℤ) (op : Operation) (arguments : List (List ℕ)) → HasCoordinates op arguments → AreUpTo n o → AreUpTo (n + most) (offset_after o op arguments)
+after-up-to n o ShiftsCoordinates arguments has h = shifted-up-to n o (map whole_value arguments) h has.within
+after-up-to n o op arguments has h = wider n o h
+
+-- ---- detectors
+
+-- at most sixteen coordinates of magnitudes up to a number
+pub record ArePlaced (n : ℕ) (zs : List ℤ) : Type 0 where
+  pub few : length zs ≤ 16
+  pub within : AreUpTo n zs
+
+placed-here : (n limit : ℕ) (o : List ℤ) (op : Operation) (arguments : List (List ℕ)) → HasCoordinates op arguments → AreUpTo n o → n + most ≤ limit → All (ArePlaced limit) (operation_coordinates o op arguments)
+placed-here n limit o Detects arguments has h le =
+    let s = map whole_value arguments in
+    All-cons (ArePlaced limit) (placed o s) []
+    (record {
+      few = omega (arith, length-placed o s, length-map arguments whole_value, has.few);
+      within = All-weaker (IsUpTo (n + most)) (IsUpTo limit) (λ z k. omega (arith, k, le)) (placed o s) (placed-up-to n o s h has.within);
+    })
+    (All-nil (ArePlaced limit))
+placed-here n limit o op arguments has h le = All-nil (ArePlaced limit)
+
+all-placed : (n limit : ℕ) (o : List ℤ) (is : List Instruction) → HaveCoordinates is → AreUpTo n o → n + most * length is ≤ limit → All (ArePlaced limit) (coordinates_from o is)
+unfolding coordinates_from
+all-placed n limit o [] has h le = All-nil (ArePlaced limit)
+all-placed n limit o (i ∷ is) has h le =
+    All-append (ArePlaced limit) (operation_coordinates o i.operation i.arguments) (coordinates_from (offset_after o i.operation i.arguments) is)
+    (placed-here n limit o i.operation i.arguments has.0 h (omega (arith, le)))
+    (all-placed (n + most) limit (offset_after o i.operation i.arguments) is has.1 (after-up-to n o i.operation i.arguments has.0 h) (omega (arith, le)))
+
+fits-placed : (zs : List ℤ) → ArePlaced 64_000_000_000_000_000 zs → CoordinatesFit zs
+fits-placed zs h =
+    record {
+      few = h.few;
+      within = All-weaker (IsUpTo 64_000_000_000_000_000) (λ z. nat_abs z < 10 ^ 18) (λ z k. omega (arith, k)) zs h.within;
+    }
+
+pub coordinates_fit : (t : Tree) → IsCircuit t → step_total t ≤ 64_000_000 → All CoordinatesFit (coordinates_of t)
+coordinates_fit t circuit few =
+    let count = few-reached t in
+    All-weaker (ArePlaced 64_000_000_000_000_000) CoordinatesFit fits-placed (coordinates_of t)
+    (all-placed 0 64_000_000_000_000_000 [] (reached t) (have-coordinates t circuit.fit) (All-nil (IsUpTo 0)) (omega (arith, count, few)))

@@ -1,0 +1,28 @@
+-- The qubits that an instruction of a circuit names are the circuit's.
+use Rattle.std.proofs.Common.{◌≡◌, ℕ, ◌≤◌, List, [], ◌∷◌, ◌++◌, arith}
+use Rattle.std.specs.Prelude.{max}
+use Rattle.stim_parser.specs.Circuits.{AllFit, Fits, IsCircuit}
+use Rattle.stim_parser.specs.Trees.{Tree, Nothing, Then, Block}
+use Rattle.stim_parser.specs.Verdicts.{Instruction}
+use Rattle.unroll.specs.Flattened.{written}
+use Rattle.unroll.specs.Totals.{qubits_named, qubits_over, qubit_total}
+use Rattle.unroll.proofs.FarLemmas.{EachOf}
+
+-- an instruction fits, on so many qubits
+pub record FitsOn (n : ℕ) (i : Instruction) : Type 0 where
+  pub fits : Fits i
+  pub within : qubits_named i.targets ≤ n
+
+qubits_over-append : (is js : List Instruction) → qubits_over (is ++ js) ≡ max (qubits_over is) (qubits_over js)
+qubits_over-append [] js = omega arith
+qubits_over-append (i ∷ is) js = omega (arith, qubits_over-append is js)
+
+fits_on : (n : ℕ) (t : Tree) → AllFit t → qubits_over (written t) ≤ n → EachOf (FitsOn n) t
+fits_on n Nothing h le = tt
+fits_on n (Then i rest) h le = (record { fits = h.0; within = omega (arith, le) }, fits_on n rest h.1 (omega (arith, le)))
+fits_on n (Block line turns body rest) h le =
+    let both = qubits_over-append (written body) (written rest) in
+    (fits_on n body h.1 (omega (arith, le, both)), fits_on n rest h.2 (omega (arith, le, both)))
+
+pub circuit_fits_on : (t : Tree) → IsCircuit t → EachOf (FitsOn (qubit_total t)) t
+circuit_fits_on t circuit = fits_on (qubit_total t) t circuit.fit (omega arith)

@@ -1,0 +1,158 @@
+use Rattle.std.proofs.Common.{◌+◌, ◌++◌, [], ◌∷◌, ℕ, length, refl, ap, ◌∙◌, arith}
+use Rattle.stim_parser.specs.Flat.{instruction_in}
+use Rattle.unroll.specs.Placing.{downs, placing, raised_by, turned_by, turned_on, ups}
+use Rattle.unroll.proofs.PlacingLoops.{HasPopped, placing-begins, placing-does, placing-done, placing-ends, placing-first, placing-fits, placing-room, placing-same, placing-some, placing-stated, placing-up-to, small-added, small-counts, with_turns}
+use Rattle.unroll.proofs.coordinates.coordinates_of.Goals as goal
+use Rattle.unroll.proofs.coordinates.coordinates_of.Goals.{in-Does+in_ok-push_coordinates-in-Does, in-Begins, in-Ends+in_ok-push_later_turns-in-Ends}
+
+pub loop-i-init : goal.loop-i-init
+loop-i-init g c =
+    placing-first c.args.circuit.now _ c.new-coordinates.result c.new-blocks.result.items c.fits.ensures c.requires.few refl c.new-coordinates.ensures c.new-blocks.ensures
+
+pub push_coordinates-requires-clause-fits : goal.push_coordinates-requires-clause-fits
+push_coordinates-requires-clause-fits g c =
+    placing-fits c.args.circuit.now c.loop-i.i c.loop-i.offset c.loop-i.coordinates c.loop-i.blocks.items (instruction_in c.in-Does.instruction) c.loop-i.invariant c.in-Does.ensures
+
+pub push_coordinates-requires-clause-small_up : goal.push_coordinates-requires-clause-small_up
+push_coordinates-requires-clause-small_up g c =
+    let within = placing-up-to c.args.circuit.now c.loop-i.i c.loop-i.offset c.loop-i.coordinates c.loop-i.blocks.items c.loop-i.invariant in
+    small-counts c.loop-i.offset.up within.up
+
+pub push_coordinates-requires-clause-small_down : goal.push_coordinates-requires-clause-small_down
+push_coordinates-requires-clause-small_down g c =
+    let within = placing-up-to c.args.circuit.now c.loop-i.i c.loop-i.offset c.loop-i.coordinates c.loop-i.blocks.items c.loop-i.invariant in
+    small-counts c.loop-i.offset.down within.down
+
+pub shift-requires-clause-fits : goal.shift-requires-clause-fits
+shift-requires-clause-fits g c =
+    placing-fits c.args.circuit.now c.loop-i.i c.loop-i.offset c.loop-i.coordinates c.loop-i.blocks.items (instruction_in c.in-Does.instruction) c.loop-i.invariant c.in-Does.ensures
+
+pub shift-requires-clause-small_up : goal.shift-requires-clause-small_up
+shift-requires-clause-small_up g c =
+    let t = c.args.circuit.now in
+    let i = c.loop-i.i in
+    let p = c.loop-i.offset in
+    let found = c.loop-i.coordinates in
+    let blocks = c.loop-i.blocks.items in
+    let x = instruction_in c.in-Does.instruction in
+    let next = placing-does t i p found blocks x c.loop-i.invariant c.in-Does.ensures in
+    let within = placing-up-to t (i + 1) (placing.next p x) (found ++ placing.gives p x) blocks next in
+    small-counts (raised_by p.up (ups x)) within.up
+
+pub shift-requires-clause-small_down : goal.shift-requires-clause-small_down
+shift-requires-clause-small_down g c =
+    let t = c.args.circuit.now in
+    let i = c.loop-i.i in
+    let p = c.loop-i.offset in
+    let found = c.loop-i.coordinates in
+    let blocks = c.loop-i.blocks.items in
+    let x = instruction_in c.in-Does.instruction in
+    let next = placing-does t i p found blocks x c.loop-i.invariant c.in-Does.ensures in
+    let within = placing-up-to t (i + 1) (placing.next p x) (found ++ placing.gives p x) blocks next in
+    small-counts (raised_by p.down (downs x)) within.down
+
+pub push-requires : goal.push-requires
+push-requires g c =
+    (omega arith, placing-room c.args.circuit.now c.loop-i.i c.loop-i.offset c.loop-i.coordinates c.loop-i.blocks.items c.in-Begins.line c.in-Begins.turns c.loop-i.invariant c.in-Begins.ensures)
+
+pub unwrap-block-requires : goal.unwrap-block-requires
+unwrap-block-requires g c =
+    c.pop.ensures.variant.1 (placing-some c.args.circuit.now c.loop-i.i c.loop-i.offset c.loop-i.coordinates c.loop-i.blocks.items c.loop-i.invariant c.in-Ends.ensures)
+
+pub push_later_turns-requires-clause-stated : goal.push_later_turns-requires-clause-stated
+push_later_turns-requires-clause-stated g c =
+    placing-stated c.args.circuit.now c.loop-i.i c.loop-i.offset c.loop-i.coordinates c.loop-i.blocks.items c.loop-i.invariant
+
+pub push_later_turns-requires-clause-small_up : goal.push_later_turns-requires-clause-small_up
+push_later_turns-requires-clause-small_up g c =
+    let t = c.args.circuit.now in
+    let i = c.loop-i.i in
+    let p = c.loop-i.offset in
+    let found = c.loop-i.coordinates in
+    let blocks = c.loop-i.blocks.items in
+    let n = c.saturating_sub-later.result in
+    let block = c.unwrap-block.result in
+    let popped : HasPopped blocks c.pop.new.self.items c.pop.result block n = record { rest_is = c.pop.ensures.items; block_is = c.unwrap-block.ensures; turns_is = c.saturating_sub-later.ensures } in
+    let next = placing-ends t i p found blocks c.pop.new.self.items c.pop.result block n c.loop-i.invariant c.in-Ends.ensures popped in
+    let within = placing-up-to t (i + 1) (turned_on n block.before.place p) (with_turns n block p found) c.pop.new.self.items next in
+    small-added n block.before.place.up p.up (small-counts (turned_by n block.before.place.up p.up) within.up)
+
+pub push_later_turns-requires-clause-small_down : goal.push_later_turns-requires-clause-small_down
+push_later_turns-requires-clause-small_down g c =
+    let t = c.args.circuit.now in
+    let i = c.loop-i.i in
+    let p = c.loop-i.offset in
+    let found = c.loop-i.coordinates in
+    let blocks = c.loop-i.blocks.items in
+    let n = c.saturating_sub-later.result in
+    let block = c.unwrap-block.result in
+    let popped : HasPopped blocks c.pop.new.self.items c.pop.result block n = record { rest_is = c.pop.ensures.items; block_is = c.unwrap-block.ensures; turns_is = c.saturating_sub-later.ensures } in
+    let next = placing-ends t i p found blocks c.pop.new.self.items c.pop.result block n c.loop-i.invariant c.in-Ends.ensures popped in
+    let within = placing-up-to t (i + 1) (turned_on n block.before.place p) (with_turns n block p found) c.pop.new.self.items next in
+    small-added n block.before.place.down p.down (small-counts (turned_by n block.before.place.down p.down) within.down)
+
+pub turn_on-requires-clause-small_up : goal.turn_on-requires-clause-small_up
+turn_on-requires-clause-small_up g c =
+    let t = c.args.circuit.now in
+    let i = c.loop-i.i in
+    let p = c.loop-i.offset in
+    let found = c.loop-i.coordinates in
+    let blocks = c.loop-i.blocks.items in
+    let n = c.saturating_sub-later.result in
+    let block = c.unwrap-block.result in
+    let popped : HasPopped blocks c.pop.new.self.items c.pop.result block n = record { rest_is = c.pop.ensures.items; block_is = c.unwrap-block.ensures; turns_is = c.saturating_sub-later.ensures } in
+    let next = placing-ends t i p found blocks c.pop.new.self.items c.pop.result block n c.loop-i.invariant c.in-Ends.ensures popped in
+    let within = placing-up-to t (i + 1) (turned_on n block.before.place p) (with_turns n block p found) c.pop.new.self.items next in
+    small-counts (turned_by n block.before.place.up p.up) within.up
+
+pub turn_on-requires-clause-small_down : goal.turn_on-requires-clause-small_down
+turn_on-requires-clause-small_down g c =
+    let t = c.args.circuit.now in
+    let i = c.loop-i.i in
+    let p = c.loop-i.offset in
+    let found = c.loop-i.coordinates in
+    let blocks = c.loop-i.blocks.items in
+    let n = c.saturating_sub-later.result in
+    let block = c.unwrap-block.result in
+    let popped : HasPopped blocks c.pop.new.self.items c.pop.result block n = record { rest_is = c.pop.ensures.items; block_is = c.unwrap-block.ensures; turns_is = c.saturating_sub-later.ensures } in
+    let next = placing-ends t i p found blocks c.pop.new.self.items c.pop.result block n c.loop-i.invariant c.in-Ends.ensures popped in
+    let within = placing-up-to t (i + 1) (turned_on n block.before.place p) (with_turns n block p found) c.pop.new.self.items next in
+    small-counts (turned_by n block.before.place.down p.down) within.down
+
+pub loop-i-preserved : goal.loop-i-preserved
+loop-i-preserved g c =
+    let t = c.args.circuit.now in
+    let i = c.loop-i.i in
+    let p = c.loop-i.offset in
+    let found = c.loop-i.coordinates in
+    let blocks = c.loop-i.blocks.items in
+    elim c.match-item.branch [
+      | in-Does+in_ok-push_coordinates-in-Does w ↦
+          let x = instruction_in w.in-Does.instruction in
+          placing-same t (i + 1) (placing.next p x) c.match-item.offset (found ++ placing.gives p x) c.match-item.coordinates blocks c.match-item.blocks.items
+          (placing-does t i p found blocks x c.loop-i.invariant w.in-Does.ensures)
+          (w.offset-is ∙ w.shift.ensures)
+          (w.coordinates-is ∙ w.in_ok-push_coordinates-in-Does.ensures)
+          (ap (λ v. v.items) w.blocks-is)
+      | in-Begins w ↦
+          placing-same t (i + 1) p c.match-item.offset found c.match-item.coordinates (blocks ++ record { turns = w.in-Begins.turns; before = record { place = p; found = length found } } ∷ []) c.match-item.blocks.items
+          (placing-begins t i p found blocks w.in-Begins.line w.in-Begins.turns c.loop-i.invariant w.in-Begins.ensures)
+          w.offset-is
+          w.coordinates-is
+          (ap (λ v. v.items) w.blocks-is
+          ∙ w.push.ensures.items
+          ∙ ap (λ (n : ℕ). blocks ++ record { turns = w.in-Begins.turns; before = record { place = p; found = n } } ∷ []) w.len.ensures)
+      | in-Ends+in_ok-push_later_turns-in-Ends w ↦
+          let n = w.saturating_sub-later.result in
+          let block = w.unwrap-block.result in
+          let popped : HasPopped blocks w.pop.new.self.items w.pop.result block n = record { rest_is = w.pop.ensures.items; block_is = w.unwrap-block.ensures; turns_is = w.saturating_sub-later.ensures } in
+          placing-same t (i + 1) (turned_on n block.before.place p) c.match-item.offset (with_turns n block p found) c.match-item.coordinates w.pop.new.self.items c.match-item.blocks.items
+          (placing-ends t i p found blocks w.pop.new.self.items w.pop.result block n c.loop-i.invariant w.in-Ends.ensures popped)
+          (w.offset-is ∙ w.turn_on.ensures)
+          (w.coordinates-is ∙ w.in_ok-push_later_turns-in-Ends.ensures)
+          (ap (λ v. v.items) w.blocks-is)
+    ]
+
+pub returns : goal.returns
+returns g c =
+    placing-done c.args.circuit.now c.loop-i.i c.loop-i.offset c.loop-i.coordinates c.loop-i.blocks.items c.loop-i.invariant (omega (arith, c.len-i-end.ensures))

@@ -1,0 +1,6 @@
+use Rattle.unroll.specs.Drafts.{draft_of}
+use Rattle.unroll.proofs.DraftLemmas.{IsDrafting}
+use Rattle.unroll.proofs.writing.written_of.Given as goal
+
+abbrev pub invariant-loop-i : goal.invariant-loop-i
+invariant-loop-i g l = IsDrafting l.circuit l.i (draft_of l.writing)

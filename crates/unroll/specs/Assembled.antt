@@ -1,0 +1,46 @@
+-- The parts that make the program of a circuit: its steps with their blocks, how many there are once unrolled, and what
+-- stands beside them.
+-- (Stim's circuit format, github.com/quantumlib/Stim, doc/file_format_stim_circuit.md.)
+use Rattle.std.specs.Prelude.{◌≡◌}
+use Rattle.programs.specs.declared.program.Parts.{Parts}
+use Rattle.programs.specs.declared.step.Counts.{Counts}
+use Rattle.programs.specs.Made.{entries_of, kept_in, text_steps}
+use Rattle.programs.specs.Trees.{IsCircuit, tree_of, unrolled}
+use Rattle.stim_parser.specs.Trees.{Tree}
+use Rattle.unroll.specs.declared.assembly.Lists.{Lists}
+use Rattle.unroll.specs.declared.writing.Written.{Written}
+use Rattle.unroll.specs.Coordinates.{coordinates_of}
+use Rattle.unroll.specs.Detectors.{detectors_of}
+use Rattle.unroll.specs.Kept.{kept_entries, kept_products}
+use Rattle.unroll.specs.Observables.{observables_of}
+use Rattle.unroll.specs.Steps.{steps_of}
+use Rattle.unroll.specs.Totals.{collapse_total, fault_total, made_total, qubit_total, record_total}
+
+abbrev pub counts_in : Tree → Counts
+counts_in tree = record { records = record_total tree; collapses = collapse_total tree; faults = fault_total tree }
+
+-- the parts are those of the tree's program
+pub record ArePartsOf {A : Type 0} (tree : Tree) (parts : Parts A) : Type 0 where
+  pub qubits : parts.qubits ≡ qubit_total tree
+  pub steps : parts.steps ≡ made_total tree
+  pub counts : parts.counts ≡ counts_in tree
+  pub circuit : IsCircuit parts.nodes.items
+  pub unrolled : text_steps parts ≡ steps_of tree
+  pub detectors : parts.detectors ≡ detectors_of tree
+  pub observables : parts.observables ≡ observables_of tree
+  pub coordinates : parts.coordinates ≡ coordinates_of tree
+  pub kept : kept_in parts ≡ kept_entries tree
+  pub products : parts.products ≡ kept_products tree
+
+-- these are the tree's steps with their blocks, and what is kept of them
+pub record IsWritten {A : Type 0} (tree : Tree) (written : Written A) : Type 0 where
+  pub circuit : IsCircuit written.nodes.items
+  pub steps : unrolled (tree_of written.nodes.items) ≡ steps_of tree
+  pub kept : entries_of written.entries.parts.items written.entries.terms ≡ kept_entries tree
+  pub products : written.products ≡ kept_products tree
+
+-- these are the tree's targets, and the coordinates of its detectors
+pub record HasLists {A : Type 0} (tree : Tree) (lists : Lists A) : Type 0 where
+  pub detectors : lists.detectors ≡ detectors_of tree
+  pub observables : lists.observables ≡ observables_of tree
+  pub coordinates : lists.coordinates ≡ coordinates_of tree

@@ -1,0 +1,110 @@
+ghost use Rattle.std.specs.Prelude.{◌≡◌, ◌⊎◌, None, Ok, Err, IfOk, IfErr};
+ghost use Rattle.step_model.specs.Faults.{memory_fault};
+ghost use Rattle.programs.specs.Made.{listing_of as made_of, PartsFit};
+ghost use Rattle.unroll.specs.Assembled.{ArePartsOf, HasLists, IsWritten};
+ghost use Rattle.unroll.specs.Refusals.{refusal_of};
+ghost use Rattle.unroll.specs.Summed.{AreTotals};
+ghost use Rattle.unroll.specs.Unrolled.{listing_of, program_of};
+
+use crate::coordinates::coordinates_of;
+use crate::detectors::detectors_of;
+use crate::observables::observables_of;
+use crate::qubits::qubit_total;
+use crate::refusals::refusal_of;
+use crate::totals::{Totals, totals_of};
+use crate::writing::{Written, written_of};
+use flat_lists::FlatLists;
+use programs::{Counts, Parts, Program};
+use std::alloc::{AllocError, Allocator};
+use step_model::Fault;
+use stim_parser::Circuit;
+
+/// The targets of a circuit's program, and the coordinates of its detectors.
+#[derive(Drop)]
+struct Lists<A: Allocator + Copy> {
+    detectors: FlatLists<u32, A>,
+    observables: FlatLists<u32, A>,
+    coordinates: FlatLists<i64, A>,
+}
+
+/// The targets of a circuit's program, and their coordinates.
+fn lists_of<A: Allocator + Copy>(alloc: A, circuit: &Circuit<'_, A>) -> Result<Lists<A>, AllocError>
+    requires { refusal_of circuit.now ≡ None }
+    ensures { IfOk result (HasLists circuit.now) }
+{
+    let detectors = detectors_of(alloc, circuit)?;
+    let observables = observables_of(alloc, circuit)?;
+    let coordinates = coordinates_of(alloc, circuit)?;
+    Ok(Lists {
+        detectors,
+        observables,
+        coordinates,
+    })
+}
+
+/// The parts of a circuit's program, put together.
+fn assembled<'a, A: Allocator + Copy>(
+    circuit: &Circuit<'a, A>,
+    totals: Totals,
+    written: Written<'a, A>,
+    lists: Lists<A>,
+) -> Parts<'a, A>
+    requires accepted { refusal_of circuit.now ≡ None }
+    requires totals { AreTotals circuit.now totals }
+    requires written { IsWritten circuit.now written }
+    requires lists { HasLists circuit.now lists }
+    ensures { ArePartsOf circuit.now result }
+{
+    circuit.fits();
+    Parts {
+        qubits: qubit_total(circuit),
+        steps: totals.made as usize,
+        counts: Counts {
+            records: totals.records as u32,
+            collapses: totals.collapses as u32,
+            faults: totals.faults as u32,
+        },
+        nodes: written.nodes,
+        detectors: lists.detectors,
+        observables: lists.observables,
+        coordinates: lists.coordinates,
+        entries: written.entries.parts,
+        terms: written.entries.terms,
+        products: written.products,
+    }
+}
+
+/// The parts of the program of a circuit that has one.
+fn parts_of<'a, A: Allocator + Copy>(
+    alloc: A,
+    circuit: &Circuit<'a, A>,
+    totals: Totals,
+) -> Result<Parts<'a, A>, AllocError>
+    requires accepted { refusal_of circuit.now ≡ None }
+    requires totals { AreTotals circuit.now totals }
+    ensures { IfOk result (ArePartsOf circuit.now) }
+{
+    let written = written_of(alloc, circuit)?;
+    let lists = lists_of(alloc, circuit)?;
+    Ok(assembled(circuit, totals, written, lists))
+}
+
+/// The program of a circuit, or why it has none. Time and memory grow with the text and with the records that detectors
+/// and observables name, and not with the turns of blocks.
+pub fn unroll<'a, A: Allocator + Copy>(
+    alloc: A,
+    circuit: &Circuit<'a, A>,
+) -> Result<Program<'a, A>, Fault>
+    ensures ok { IfOk result (λ program. program_of circuit.now ≡ Ok program) }
+    ensures err { IfErr result (λ fault. (fault ≡ memory_fault) ⊎ (program_of circuit.now ≡ Err fault)) }
+{
+    circuit.fits();
+    let totals = totals_of(circuit);
+    if let Some(fault) = refusal_of(circuit, &totals) {
+        return Err(fault);
+    }
+    match parts_of(alloc, circuit, totals) {
+        Ok(parts) => Ok(Program::new(parts)),
+        Err(_) => Err(Fault::MEMORY),
+    }
+}

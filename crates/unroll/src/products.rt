@@ -1,0 +1,52 @@
+ghost use Rattle.std.specs.Prelude.{◌≡◌, ◌++◌, All, map, OnOk};
+ghost use Rattle.unroll.specs.Kept.{operation_products, term_of};
+ghost use Rattle.unroll.specs.Made.{products_of};
+ghost use Rattle.unroll.specs.Pushed.{IsSmall};
+
+use crate::entries::{letter_at, term_at};
+use crate::targets::end_of_factor;
+use flat_lists::FlatLists;
+use std::alloc::{AllocError, Allocator};
+use step_model::Term;
+use stim_parser::{Operation, Target};
+
+/// Appends the products of targets. The letters of each are gathered in `terms`.
+fn push_each_product<A: Allocator + Copy>(
+    products: &mut FlatLists<Term, A>,
+    terms: &mut Vec<Term, A>,
+    targets: &[Target],
+) -> Result<(), AllocError>
+    requires { All IsSmall targets.now }
+    ensures { OnOk result (products.new ≡ products.old ++ map (map term_of) (products_of targets.now)) }
+{
+    terms.clear();
+    let mut rest = targets;
+    while let Some(parts) = rest.split_first() {
+        let factor = *parts.0;
+        terms.push(term_at(letter_at(factor), factor))?;
+        let (joined, behind) = end_of_factor(parts.1);
+        rest = behind;
+        if joined {
+            continue;
+        }
+        products.push(terms)?;
+        terms.clear();
+    }
+    Ok(())
+}
+
+/// Appends the products of an operation with these targets.
+pub(crate) fn push_kept_products<A: Allocator + Copy>(
+    products: &mut FlatLists<Term, A>,
+    terms: &mut Vec<Term, A>,
+    operation: Operation,
+    targets: &[Target],
+) -> Result<(), AllocError>
+    requires small { All IsSmall targets.now }
+    ensures { OnOk result (products.new ≡ products.old ++ operation_products operation targets.now) }
+{
+    match operation {
+        Operation::MeasuresProducts => push_each_product(products, terms, targets),
+        _ => Ok(()),
+    }
+}

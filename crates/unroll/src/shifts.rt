@@ -1,0 +1,48 @@
+ghost use Rattle.std.specs.Prelude.{◌≡◌, ◌<◌, ◌^◌, [], All, unwrap_or};
+ghost use Rattle.stim_parser.specs.Circuits.{Fits};
+ghost use Rattle.stim_parser.specs.Coordinates.{coordinates_in};
+ghost use Rattle.stim_parser.specs.Flat.{instruction_in};
+ghost use Rattle.unroll.specs.Placing.{downs, placing, raised_by, turned_by, turned_on, ups};
+
+use crate::offsets::{AXES, Offset, downs, raise, turn, ups};
+use arrayvec::ArrayVec;
+use stim_parser::{Instruction, Operation};
+
+/// An instruction's arguments as coordinates, and none where they aren't coordinates.
+pub(crate) fn coordinates_read(instruction: Instruction<'_, '_>) -> ArrayVec<i64, AXES>
+    ensures { result.items ≡ unwrap_or (coordinates_in (instruction_in instruction.entry).arguments) [] }
+{
+    match instruction.coordinates() {
+        Some(found) => found,
+        None => ArrayVec::new(),
+    }
+}
+
+/// Takes an offset past an instruction.
+pub(crate) fn shift(offset: &mut Offset, instruction: Instruction<'_, '_>)
+    requires fits { Fits (instruction_in instruction) }
+    requires small_up { All (λ n. n < 2 ^ 62) (raised_by offset.old.up (ups (instruction_in instruction))) }
+    requires small_down { All (λ n. n < 2 ^ 62) (raised_by offset.old.down (downs (instruction_in instruction))) }
+    ensures { offset.new ≡ placing.next offset.old (instruction_in instruction.entry) }
+{
+    match instruction.operation {
+        Operation::ShiftsCoordinates => {
+            let numbers = coordinates_read(instruction);
+            let up = ups(numbers.as_slice());
+            let down = downs(numbers.as_slice());
+            raise(&mut offset.up, up.as_slice());
+            raise(&mut offset.down, down.as_slice());
+        }
+        _ => {}
+    }
+}
+
+/// Takes an offset behind the first turn of a block on by so many more turns, where this is the offset before the block.
+pub(crate) fn turn_on(offset: &mut Offset, before: &Offset, turns: u64)
+    requires small_up { All (λ n. n < 2 ^ 62) (turned_by turns before.now.up offset.old.up) }
+    requires small_down { All (λ n. n < 2 ^ 62) (turned_by turns before.now.down offset.old.down) }
+    ensures { offset.new ≡ turned_on turns before.now offset.old }
+{
+    turn(&mut offset.up, &before.up, turns);
+    turn(&mut offset.down, &before.down, turns);
+}
