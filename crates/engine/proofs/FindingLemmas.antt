@@ -6,7 +6,7 @@ use Rattle.std.specs.Prelude.{None, Ok, List}
 use Rattle.std.proofs.lemmas.Option.{none-some}
 use Rattle.backward.specs.Places.{NoneIsRandom, IsLowestRandom}
 use Rattle.dem_text.specs.ModelText.{model_text}
-use Rattle.first_reader.specs.Unrolled.{program_of}
+use Rattle.unroll.specs.Programs.{program_in}
 use Rattle.step_model.specs.ErrorModels.{ErrorModel}
 use Rattle.run_laws.proofs.Exactness.{model_fits, model_is_exact}
 use Rattle.run_laws.proofs.PairLaws.{pair_disagrees, random_exactly_with_place}
@@ -73,5 +73,5 @@ target_goes_out program which place bytes lines lowest e h =
     e ∙ (h ∙ sym (ap (λ output. output.bytes) (found_some program which place lowest)))
 
 -- what is found of the program for which a text stands is what an analysis of the text writes
-pub found_of_text : (text : List ℕ) (program : Listing) → program_of text ≡ Ok program → analysis_output text ≡ Ok (found_in program)
+pub found_of_text : (text : List ℕ) (program : Listing) → program_in text ≡ Ok program → analysis_output text ≡ Ok (found_in program)
 found_of_text text program h = ap (λ read. read >>= (λ p. Ok (found_in p))) h

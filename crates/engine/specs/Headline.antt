@@ -9,7 +9,7 @@ use Rattle.step_model.specs.ErrorModels.{ErrorModel, Fits, IsExact}
 use Rattle.step_model.specs.Listing.{Listing}
 use Rattle.step_model.specs.Targets.{targets_of, noiseless_parity, AreCoins, IsRandom}
 use Rattle.dem_text.specs.ModelText.{model_text, target_text}
-use Rattle.first_reader.specs.Unrolled.{program_of}
+use Rattle.unroll.specs.Programs.{program_in}
 use Rattle.engine.specs.Output.{line_of}
 
 -- the bytes are the text of a model of the program that is exact
@@ -36,10 +36,10 @@ pub record IsRandomIn (program : Listing) (bytes : List ℕ) : Type 0 where
 -- the same of the program for which a text stands
 pub record IsExactFor (text bytes : List ℕ) : Type 0 where
   pub program : Listing
-  pub stands_for : program_of text ≡ Ok program
+  pub stands_for : program_in text ≡ Ok program
   pub exact : IsExactIn program bytes
 
 pub record IsRandomFor (text bytes : List ℕ) : Type 0 where
   pub program : Listing
-  pub stands_for : program_of text ≡ Ok program
+  pub stands_for : program_in text ≡ Ok program
   pub random : IsRandomIn program bytes

@@ -15,7 +15,7 @@ use Rattle.step_model.specs.Listing.{Listing}
 use Rattle.step_model.specs.Runs.{records_of}
 use Rattle.step_model.specs.Targets.{difference}
 use Rattle.dem_text.specs.ModelText.{model_text, target_text}
-use Rattle.first_reader.specs.Unrolled.{program_of}
+use Rattle.unroll.specs.Programs.{program_in}
 use Rattle.forward_sim.specs.Lists.{coins_of, numbers_of}
 use Rattle.engine.specs.Findings.{lowest_placed}
 use Rattle.engine.specs.declared.order.Order.{Order}
@@ -74,7 +74,7 @@ program_output coin_text fault_text program = do
 
 -- the same of the program for which a text stands, where it stands for one
 abbrev pub run_output : Option (List ℕ) → List ℕ → List ℕ → Result Output Fault
-run_output coin_text fault_text text = program_of text >>= program_output coin_text fault_text
+run_output coin_text fault_text text = program_in text >>= program_output coin_text fault_text
 
 -- the three lines of a random target with its place
 abbrev pub random_lines : Listing → ℕ → Place → List ℕ
@@ -92,7 +92,7 @@ found_in program = finding program (lowest_placed program)
 -- what an analysis writes, or why it is refused
 abbrev pub analysis_output : List ℕ → Result Output Fault
 analysis_output text = do
-  program ← program_of text
+  program ← program_in text
   Ok (found_in program)
 
 -- what an order writes for a circuit's text, or why it is refused

@@ -13,11 +13,11 @@ use crate::lines::random_lines;
 use crate::order::Status;
 use crate::refusing::refuse;
 use backward::{Analysed, QubitSets, Words, analyse};
-use first_reader::read_program;
 use frames::coin_pair;
 use programs::Program;
 use std::alloc::Allocator;
 use step_model::{Fault, Place, Sink, write_all};
+use unroll::read_program;
 
 /// Writes what is found of a text's circuit, or why it is refused.
 pub(crate) fn answer_analysis<W: Sink, A: Allocator + Copy>(

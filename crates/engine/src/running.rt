@@ -12,11 +12,11 @@ ghost use Rattle.engine.specs.Output as output;
 use crate::lines::run_lines;
 use crate::order::Status;
 use crate::refusing::refuse;
-use first_reader::read_program;
 use forward_sim::{Records, detections, read_coins, read_numbers, run};
 use programs::Program;
 use std::alloc::Allocator;
 use step_model::{Fault, Sink, write_all};
+use unroll::read_program;
 
 /// Writes the lines of a run of a text's circuit, or why it is refused.
 pub(crate) fn answer_run<W: Sink, A: Allocator + Copy>(
