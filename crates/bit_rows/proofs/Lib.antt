@@ -5,3 +5,4 @@ pub mod RowTotals
 pub mod Carries
 pub mod Blocks
 pub mod Lanes
+pub mod Blanks

@@ -1,4 +1,5 @@
 -- Words of a list that were combined with those of another, from one index up to another.
+-- (This project's own.)
 use Rattle.std.specs.Prelude.{◌≡◌, ◌<◌, ◌≤◌, ℕ, List, slice_index, bit_xor}
 
 -- new has the exclusive or of first and second from low up to high, and the words of first elsewhere

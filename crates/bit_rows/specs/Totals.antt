@@ -1,4 +1,5 @@
 -- Sums over the numbers below a bound.
+-- (This project's own.)
 use Rattle.std.specs.Prelude.{ℕ, zero, suc, ◌+◌}
 
 -- f 0 + f 1 + .. , over the numbers below n

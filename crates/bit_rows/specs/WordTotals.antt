@@ -1,5 +1,6 @@
 -- What the loops over words count, bit by bit: the common ones of two lists of words, and the powers of i of two words
 -- of letters whose x bits and z bits are four lists of words.
+-- (This project's own.)
 use Rattle.std.specs.Prelude.{Bool, ℕ, ◌+◌, ◌*◌, ◌&&◌, if◌then◌else◌, List, slice_index}
 use Rattle.bit_rows.specs.Rows.{letter_phase}
 use Rattle.bit_rows.specs.Totals.{total}

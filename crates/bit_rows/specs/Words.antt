@@ -1,5 +1,6 @@
 -- A row kept in words of 64 bits: place i is bit i % 64 of word i / 64, the lowest bit first. The bits of the last
 -- word that no place uses are 0.
+-- (This project's own.)
 use Rattle.std.specs.Prelude.{◌≡◌, ◌<◌, ◌≤◌, ◌==◌, Bool, false, ℕ, ◌+◌, ◌/◌, ◌%◌, ◌^◌, List, map, length, slice_index}
 use Rattle.std.specs.Int.{bit_at}
 use Rattle.std.specs.List.{range_with_len}

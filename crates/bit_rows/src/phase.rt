@@ -35,7 +35,7 @@ fn power_of_blocks(xa: &[u64], za: &[u64], xb: &[u64], zb: &[u64]) -> u32
     power_of_lanes(&ones.to_array(), &twos.to_array())
 }
 
-fn power_of_lanes(ones: &[u64], twos: &[u64]) -> u32
+pub(crate) fn power_of_lanes(ones: &[u64], twos: &[u64]) -> u32
     requires { length ones.now ≡ length twos.now }
     ensures { result ≡ carried_by ones.now twos.now (length ones.now) % 4 }
 {
@@ -48,7 +48,7 @@ fn power_of_lanes(ones: &[u64], twos: &[u64]) -> u32
 
 // What two carry words hold.
 #[inline(always)]
-fn power_held(ones: u64, twos: u64) -> u32
+pub(crate) fn power_held(ones: u64, twos: u64) -> u32
     ensures value { result ≡ carried ones twos }
     ensures small { result ≤ 192 }
 {
@@ -57,7 +57,7 @@ fn power_held(ones: u64, twos: u64) -> u32
 
 // Adds the powers of i of 64 letters to those that the carry words hold, modulo 4.
 #[inline(always)]
-fn carry(ones: u64, twos: u64, xa: u64, za: u64, xb: u64, zb: u64) -> (u64, u64)
+pub(crate) fn carry(ones: u64, twos: u64, xa: u64, za: u64, xb: u64, zb: u64) -> (u64, u64)
     ensures { carried result.0 result.1 % 4 ≡ (carried ones twos + word_phase xa za xb zb) % 4 }
 {
     let turned = xa & zb;
@@ -68,7 +68,7 @@ fn carry(ones: u64, twos: u64, xa: u64, za: u64, xb: u64, zb: u64) -> (u64, u64)
 
 // The same in each of eight lanes.
 #[inline(always)]
-fn carry_block(
+pub(crate) fn carry_block(
     ones: u64x8,
     twos: u64x8,
     xa: &[u64],

@@ -2,6 +2,7 @@ ghost use Rattle.std.specs.Prelude.{◌≡◌, ◌↔◌, ◌<◌, List, Bool, f
 ghost use Rattle.bit_rows.specs.Rows.{xor_rows, and_parity_of, phase_of, first_one_of};
 
 use crate::bits::{all_zero, bit_at_place, first_place, flip_bit, put_bit};
+use crate::multiply::multiply_words;
 use crate::parity::has_odd_common_ones;
 use crate::phase::power_of_words;
 use crate::xor::xor_words;
@@ -115,6 +116,23 @@ impl<A: Allocator + Copy> BitRow<A> {
         xor_words(self.words.as_mut_slice(), other.words.as_slice());
     }
 
+    /// Multiplies the word with x bits `xa` and z bits `za` by that with `xb` and `zb` from the right: answers the power of
+    /// i, 0 to 3, of their product.
+    pub fn multiply(xa: &mut BitRow<A>, za: &mut BitRow<A>, xb: &BitRow<A>, zb: &BitRow<A>) -> u8
+        requires za { length za.old ≡ length xa.old }
+        requires xb { length xb.now ≡ length xa.old }
+        requires zb { length zb.now ≡ length xa.old }
+        ensures power { result ≡ phase_of xa.old za.old xb.now zb.now }
+        ensures x { xa.new ≡ xor_rows xa.old xb.now }
+        ensures z { za.new ≡ xor_rows za.old zb.now }
+        ensures x_len { length xa.new ≡ length xa.old }
+        ensures z_len { length za.new ≡ length za.old }
+    {
+        let x = xb.words.as_slice();
+        let z = zb.words.as_slice();
+        multiply_words(xa.words.as_mut_slice(), za.words.as_mut_slice(), x, z)
+    }
+
     /// Whether the number of places with both bits set is odd.
     pub fn and_parity(&self, other: &BitRow<A>) -> bool
         requires { length self.now ≡ length other.now }
@@ -152,6 +170,3 @@ impl<A: Allocator + Copy> BitRow<A> {
         )
     }
 }
-
-#[cfg(test)]
-mod tests;

@@ -15,7 +15,7 @@ pub(crate) fn xor_words(first: &mut [u64], second: &[u64])
 }
 
 // The whole blocks of eight words.
-fn xor_blocks(first: &mut [u64], second: &[u64])
+pub(crate) fn xor_blocks(first: &mut [u64], second: &[u64])
     requires { length first.old ≡ length second.now }
     ensures { XorsWithin first.old second.now first.new 0 (length second.now / 8 * 8) }
 {
@@ -25,7 +25,7 @@ fn xor_blocks(first: &mut [u64], second: &[u64])
 }
 
 #[inline(always)]
-fn xor_block(first: &mut [u64], second: &[u64], at: usize)
+pub(crate) fn xor_block(first: &mut [u64], second: &[u64], at: usize)
     requires own { at + 8 ≤ length first.old }
     requires other { at + 8 ≤ length second.now }
     ensures { XorsWithin first.old second.now first.new at (at + 8) }

@@ -1,6 +1,7 @@
 -- Maps of the signed words of n letters that keep what makes a state's words a group: length, the identity with its
 -- sign, which words anticommute, and products with their signs. Conjugations by Clifford unitaries are such maps.
 -- (Nielsen and Chuang, Quantum Computation and Quantum Information, section 10.5.2.)
+-- (Conjugation by Clifford gates: Aaronson and Gottesman, Phys. Rev. A 70, 052328.)
 use Rattle.std.specs.Prelude.{◌≡◌, ℕ, Bool, length}
 use Rattle.pauli_word.specs.Words.{Signed, signed, anticommute, product, no_letters}
 

@@ -106,10 +106,8 @@ impl<A: Allocator + Copy> Word<A> {
         ensures brings_minus { result ≡ is_minus (letters_power self.old.letters other.now.letters) }
     {
         // -1 and -i are the powers 2 and 3
-        let power = BitRow::phase_step(&self.x, &self.z, &other.x, &other.z);
+        let power = BitRow::multiply(&mut self.x, &mut self.z, &other.x, &other.z);
         let minus = power >= 2;
-        self.x.xor_from(&other.x);
-        self.z.xor_from(&other.z);
         self.negative = self.negative ^ other.negative ^ minus;
         minus
     }
@@ -133,6 +131,3 @@ impl<A: Allocator + Copy> Word<A> {
         self.set_sign(false);
     }
 }
-
-#[cfg(test)]
-mod tests;

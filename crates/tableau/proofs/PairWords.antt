@@ -184,9 +184,12 @@ module _ (rows : List Pair) (is : IsTableau (length rows) rows) where
       pub second_made : (new : Pair) → new ≡ (preimage_product m g r s (I, X), preimage_product m g r s (I, Z)) → new ≡ pair_under n f b
       second_made new e = e ∙ ap₂ (λ x z. (x, z)) (both_read (I, X) ∙ second_is X) (both_read (I, Z) ∙ second_is Z)
 
+      pub pairs_commute : (x y : Letter) → anticommute (word_of m r x).letters (word_of m s y).letters ≡ false
+      pairs_commute x y =
+          ap (λ k. anticommute (word_of k r x).letters (word_of k s y).letters) m_is
+          ∙ (ap₂ (λ t u. anticommute (word_of n t x).letters (word_of n u y).letters) (pair_read n rows a r a_in r_is) (pair_read n rows b s b_in s_is)
+          ∙ (ap (λ v. anticommute v.letters (word_of n (pair_at n rows b) y).letters) (sym (row_encoded n rows is a x a_in))
+          ∙ code_commutes (lone_letter n a x) b (length-lone_letter n a x) b_in (at_b x) y))
+
       pub two_commute : (x : Letter) → anticommute (word_of m r x).letters s.1.letters ≡ false
-      two_commute x =
-          ap (λ k. anticommute (word_of k r x).letters s.1.letters) m_is
-          ∙ (ap₂ (λ t u. anticommute (word_of n t x).letters u.1.letters) (pair_read n rows a r a_in r_is) (pair_read n rows b s b_in s_is)
-          ∙ (ap (λ v. anticommute v.letters (pair_at n rows b).1.letters) (sym (row_encoded n rows is a x a_in))
-          ∙ code_commutes (lone_letter n a x) b (length-lone_letter n a x) b_in (at_b x) Z))
+      two_commute x = pairs_commute x Z

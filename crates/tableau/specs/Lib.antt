@@ -3,3 +3,4 @@ pub mod Decoding
 pub mod Encoding
 pub mod EncodingSteps
 pub mod Rows
+pub mod ControlledSteps

@@ -1,5 +1,5 @@
 //! The collapse of a word: its code tells the outcome, or the turn that all rows take.
-ghost use Rattle.std.specs.Prelude.{◌≡◌, ◌<◌, ℕ, length, true, false, All};
+ghost use Rattle.std.specs.Prelude.{◌≡◌, ◌<◌, ℕ, length, true, false, All, IfSome, IsTrue};
 ghost use Rattle.gate_table.specs.Images.{arity_of};
 ghost use Rattle.gate_table.specs.WordImages.{image_at};
 ghost use Rattle.pauli_word.specs.declared.letter.Letter.TheVariants.{Z};
@@ -7,8 +7,8 @@ ghost use Rattle.pauli_word.specs.Letters.{letters_clash};
 ghost use Rattle.pauli_word.specs.Parity.{exclusive_or};
 ghost use Rattle.pauli_word.specs.Words.{anticommute, letter_at, with_sign_changed, lowest_X_or_Y};
 ghost use Rattle.tableau.specs.CliffordMaps.{twisted};
-ghost use Rattle.tableau.specs.Encoding.{HasLength, IsTableau, pair_at};
-ghost use Rattle.tableau.specs.EncodingSteps.{lone, mapped, code_of, without, turning_gate, after_collapse, outcome_of, IsPivot, ClashesAt};
+ghost use Rattle.tableau.specs.Encoding.{HasLength, IsTableau, pair_at, word_of};
+ghost use Rattle.tableau.specs.EncodingSteps.{lone, mapped, code_of, without, turning_gate, after_collapse, outcome_of, IsPivot, ClashesAt, IsApart, IsDiagonal};
 
 use crate::pairs::{Pair, change_sign, multiply};
 use gate_table::Gate;
@@ -29,6 +29,26 @@ pub(crate) fn encode<A: Allocator + Copy>(
     code.clear();
     for qubit in 0..rows.len() {
         multiply(code, &rows[qubit], word.letter(qubit));
+    }
+}
+
+/// The sign of a letter's word, where that is one of the pair and has only I and Z. None says nothing.
+pub(crate) fn sign_seen<A: Allocator + Copy>(pair: &Pair<A>, letter: Letter) -> Option<bool>
+    ensures { IfSome result (λ minus. (n : ℕ) → IsDiagonal (word_of n pair.now letter) minus) }
+{
+    match letter {
+        Letter::X => diagonal_sign(&pair.0),
+        Letter::Z => diagonal_sign(&pair.1),
+        Letter::I | Letter::Y => None,
+    }
+}
+
+fn diagonal_sign<A: Allocator + Copy>(word: &Word<A>) -> Option<bool>
+    ensures { IfSome result (IsDiagonal word.now) }
+{
+    match word.lowest_x_or_y() {
+        None => Some(word.sign()),
+        Some(_) => None,
     }
 }
 
@@ -98,7 +118,7 @@ fn turn_rows<A: Allocator + Copy>(
     ensures { rows.new.items ≡ mapped (λ v. image_at (turning_gate letter) qubit (twisted (lone (length code.now.0.letters) qubit Z) code.now.0 v)) rows.old.items }
 {
     for row in 0..rows.len() {
-        turn_pair(&mut rows[row], code, letter, qubit, word.letter(row));
+        turn_pair(&mut rows[row], code, letter, qubit, word, row);
     }
 }
 
@@ -107,13 +127,19 @@ fn turn_pair<A: Allocator + Copy>(
     code: &Pair<A>,
     letter: Letter,
     qubit: usize,
-    measured: Letter,
+    word: &Word<A>,
+    row: usize,
 )
+    requires row { row < length word.now.letters }
     requires pivot { IsPivot (length code.now.0.letters) qubit code.now }
     requires size { HasLength (length code.now.0.letters) pair.old }
-    requires clashes { ClashesAt measured letter qubit code.now.0 pair.old }
+    requires clashes { ClashesAt (letter_at word.now.letters row) letter qubit code.now.0 pair.old }
     ensures { pair.new ≡ (image_at (turning_gate letter) qubit (twisted (lone (length code.now.0.letters) qubit Z) code.now.0 pair.old.0), image_at (turning_gate letter) qubit (twisted (lone (length code.now.0.letters) qubit Z) code.now.0 pair.old.1)) }
 {
+    if is_apart(pair, qubit, word, row) {
+        return;
+    }
+    let measured = word.letter(row);
     let gate = turning_gate(letter);
     twist(
         &mut pair.0,
@@ -131,6 +157,20 @@ fn turn_pair<A: Allocator + Copy>(
         Letter::Z.clashes(measured),
     );
     apply_gate(&mut pair.1, gate, qubit);
+}
+
+// Whether both words of a pair have I at the qubit, and the letter measured at the pair's own qubit is I: a turn leaves
+// such a pair as it is. Most pairs are so.
+#[inline(always)]
+fn is_apart<A: Allocator + Copy>(pair: &Pair<A>, qubit: usize, word: &Word<A>, row: usize) -> bool
+    requires x { qubit < length pair.now.0.letters }
+    requires z { qubit < length pair.now.1.letters }
+    requires row { row < length word.now.letters }
+    ensures { IsTrue result → IsApart (letter_at word.now.letters row) qubit pair.now }
+{
+    pair.0.letter(qubit) == Letter::I
+        && pair.1.letter(qubit) == Letter::I
+        && word.letter(row) == Letter::I
 }
 
 // Only rows with X or Y at the qubit are multiplied; others change no more than their letter there.

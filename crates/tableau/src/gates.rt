@@ -7,7 +7,10 @@ ghost use Rattle.pauli_word.specs.Words.{anticommute, product, with_sign_changed
 ghost use Rattle.tableau.specs.Encoding.{HasLength, IsTableau, word_of};
 ghost use Rattle.tableau.specs.EncodingSteps.{AppliesLetter, preimage_word, preimage_product, after_one, after_two, after_word};
 
-use crate::pairs::{Pair, apply_letter, change_sign, multiply, set_word, swap};
+use crate::controlled::{apply_controlled, controlled_letters};
+use crate::pairs::{
+    Pair, apply_letter, change_sign, exchange, multiply, multiply_first, set_word, swap,
+};
 use gate_table::Gate;
 use pauli_word::{Letter, Word};
 use std::alloc::Allocator;
@@ -28,7 +31,29 @@ pub(crate) fn apply_one<A: Allocator + Copy>(
 {
     match letter_of(gate) {
         Some(letter) => apply_letter(&mut rows[qubit], letter),
-        None => {
+        None => apply_turn(rows, spare, gate, qubit),
+    }
+}
+
+// A gate that is no letter. H exchanges the words and S multiplies one by the other; most make both anew.
+fn apply_turn<A: Allocator + Copy>(
+    rows: &mut Vec<Pair<A>, A>,
+    spare: &mut Pair<A>,
+    gate: Gate,
+    qubit: usize,
+)
+    requires arity { arity_of gate ≡ 1 }
+    requires inside { qubit < length rows.old.items }
+    requires tableau { IsTableau (length rows.old.items) rows.old.items }
+    requires spare { HasLength (length rows.old.items) spare.old }
+    ensures rows { rows.new.items ≡ after_one (length rows.old.items) gate qubit rows.old.items }
+    ensures spare { HasLength (length rows.old.items) spare.new }
+{
+    match gate {
+        Gate::H => exchange(&mut rows[qubit]),
+        Gate::S => multiply_first(&mut rows[qubit], false),
+        Gate::SDag => multiply_first(&mut rows[qubit], true),
+        _ => {
             set_preimages(spare, &rows[qubit], gate);
             swap(&mut rows[qubit], spare);
         }
@@ -62,8 +87,34 @@ fn set_preimages<A: Allocator + Copy>(new: &mut Pair<A>, pair: &Pair<A>, gate: G
     set_word(&mut new.1, pair, z, z_minus);
 }
 
-/// Applies a two-qubit gate; the pairs that it replaces are left in `first` and `second`.
+/// Applies a two-qubit gate. What it leaves in `first` and `second` says nothing.
 pub(crate) fn apply_two<A: Allocator + Copy>(
+    rows: &mut Vec<Pair<A>, A>,
+    first: &mut Pair<A>,
+    second: &mut Pair<A>,
+    gate: Gate,
+    a: usize,
+    b: usize,
+)
+    requires arity { arity_of gate ≡ 2 }
+    requires first_inside { a < length rows.old.items }
+    requires second_inside { b < length rows.old.items }
+    requires differ { a ≢ b }
+    requires tableau { IsTableau (length rows.old.items) rows.old.items }
+    requires first { HasLength (length rows.old.items) first.old }
+    requires second { HasLength (length rows.old.items) second.old }
+    ensures rows { rows.new.items ≡ after_two (length rows.old.items) gate a b rows.old.items }
+    ensures first { HasLength (length rows.old.items) first.new }
+    ensures second { HasLength (length rows.old.items) second.new }
+{
+    match controlled_letters(gate) {
+        Some(letters) => apply_controlled(rows, letters.0, letters.1, a, b),
+        None => apply_by_images(rows, first, second, gate, a, b),
+    }
+}
+
+// Makes all four words anew; the pairs that they replace are left in `first` and `second`.
+fn apply_by_images<A: Allocator + Copy>(
     rows: &mut Vec<Pair<A>, A>,
     first: &mut Pair<A>,
     second: &mut Pair<A>,

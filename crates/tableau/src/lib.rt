@@ -2,6 +2,7 @@
 #![tactic(auto)]
 
 mod collapse;
+mod controlled;
 mod decode;
 mod gates;
 mod pairs;

@@ -1,5 +1,6 @@
 //! The pair of words that X and Z at one qubit become, and the words of other letters there.
 ghost use Rattle.std.specs.Prelude.{◌≡◌, ◌<◌, length, true, false, IfOk};
+ghost use Rattle.pauli_word.specs.declared.letter.Letter.TheVariants.{Y};
 ghost use Rattle.pauli_word.specs.Words.{anticommute, product, identity_word, with_sign_changed};
 ghost use Rattle.tableau.specs.Encoding.{HasLength, word_of};
 ghost use Rattle.tableau.specs.EncodingSteps.{pair_after, start_pair};
@@ -32,10 +33,10 @@ pub(crate) fn start_pair<A: Allocator + Copy>(
     Ok((x, z))
 }
 
-/// Multiplies by the word of a letter. The word commutes with those of its qubit.
+/// Multiplies by the word of a letter. For Y the word commutes with that of Z.
 pub(crate) fn multiply<A: Allocator + Copy>(word: &mut Word<A>, pair: &Pair<A>, letter: Letter)
     requires size { HasLength (length word.old.letters) pair.now }
-    requires commuting { anticommute word.old.letters pair.now.1.letters ≡ false }
+    requires commuting { letter ≡ Y → anticommute word.old.letters pair.now.1.letters ≡ false }
     ensures { word.new ≡ product word.old (word_of (length word.old.letters) pair.now letter) }
 {
     match letter {
@@ -89,6 +90,22 @@ pub(crate) fn swap<A: Allocator + Copy>(first: &mut Pair<A>, second: &mut Pair<A
     ensures second { second.new ≡ first.old }
 {
     std::mem::swap(first, second);
+}
+
+/// Exchanges the words of a pair.
+pub(crate) fn exchange<A: Allocator + Copy>(pair: &mut Pair<A>)
+    ensures { pair.new ≡ (pair.old.1, pair.old.0) }
+{
+    std::mem::swap(&mut pair.0, &mut pair.1);
+}
+
+/// Multiplies the word of X by that of Z, and changes its sign where `minus`.
+pub(crate) fn multiply_first<A: Allocator + Copy>(pair: &mut Pair<A>, minus: bool)
+    requires { length pair.old.0.letters ≡ length pair.old.1.letters }
+    ensures { pair.new ≡ (with_sign_changed minus (product pair.old.0 pair.old.1), pair.old.1) }
+{
+    pair.0.times(&pair.1);
+    change_sign(&mut pair.0, minus);
 }
 
 /// Applies a letter to the qubit: the words of the letters that anticommute with it change their signs.

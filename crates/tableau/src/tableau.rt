@@ -7,7 +7,7 @@ ghost use Rattle.tableau.specs.Rows.{row_count, state_of, destabilizer_at, HasSt
 
 pub mod laws;
 
-use crate::collapse::{collapse_code, encode};
+use crate::collapse::{collapse_code, encode, sign_seen};
 use crate::decode::decode;
 use crate::gates::{apply_letters, apply_one, apply_two};
 use crate::pairs::{Pair, identity_pair, set_word, start_pair};
@@ -118,6 +118,27 @@ impl<A: Allocator + Copy> Tableau<A> {
 
     /// Measures a letter at a qubit: the outcome, and the row that was replaced where it was random.
     pub fn collapse(&mut self, letter: Letter, qubit: usize, coin: bool) -> (bool, Option<usize>)
+        requires { qubit < row_count self.old }
+        ensures len { row_count self.new ≡ row_count self.old }
+        ensures outcome { result.0 ≡ outcome (state_of self.old) (lone_letter (row_count self.old) qubit letter) coin }
+        ensures state { HasState self.new (collapsed (lone_letter (row_count self.old) qubit letter) coin (state_of self.old)) }
+        ensures decided { IfNone result.1 (is_decided (state_of self.old) (lone_letter (row_count self.old) qubit letter) ≡ true) }
+        ensures random { IfSome result.1 (λ row. is_decided (state_of self.old) (lone_letter (row_count self.old) qubit letter) ≡ false) }
+        ensures replaced { IfSome result.1 (IsReplaced self.old self.new (lone_letter (row_count self.old) qubit letter)) }
+    {
+        match sign_seen(&self.rows[qubit], letter) {
+            Some(outcome) => (outcome, None),
+            None => self.collapse_by_code(letter, qubit, coin),
+        }
+    }
+
+    // The same, with the letter's code made in a spare word.
+    fn collapse_by_code(
+        &mut self,
+        letter: Letter,
+        qubit: usize,
+        coin: bool,
+    ) -> (bool, Option<usize>)
         requires { qubit < row_count self.old }
         ensures len { row_count self.new ≡ row_count self.old }
         ensures outcome { result.0 ≡ outcome (state_of self.old) (lone_letter (row_count self.old) qubit letter) coin }

@@ -17,7 +17,7 @@ multiply-requires-clause-size g c =
     encode_size c.args.rows.now.items c.requires.tableau c.args.word.now.letters c.loop-qubit.qubit c.requires.word within c.loop-qubit.code c.loop-qubit.invariant c.index.result.now c.index.ensures
 
 pub multiply-requires-clause-commuting : goal.multiply-requires-clause-commuting
-multiply-requires-clause-commuting g c =
+multiply-requires-clause-commuting g c is_Y =
     let within : c.loop-qubit.qubit < length c.args.rows.now.items = omega (arith, c.loop-qubit-test.true, c.len-qubit-end.ensures) in
     encode_commutes c.args.rows.now.items c.requires.tableau c.args.word.now.letters c.loop-qubit.qubit c.requires.word within c.loop-qubit.code c.loop-qubit.invariant c.index.result.now c.index.ensures
 

@@ -16,4 +16,4 @@ pub returns-in-Y : goal.returns-in-Y
 returns-in-Y g c =
     c.change_sign.ensures
     ∙ (ap (with_sign_changed true) (c.times-in-Y-2.ensures.product ∙ ap (λ t. product t c.args.pair.now.1) c.times-in-Y.ensures.product)
-    ∙ times_Y (length c.args.word.now.letters) c.args.word.now c.args.pair.now c.args.letter refl c.requires.size c.requires.commuting c.in-Y.is)
+    ∙ times_Y (length c.args.word.now.letters) c.args.word.now c.args.pair.now c.args.letter refl c.requires.size (c.requires.commuting c.in-Y.is) c.in-Y.is)

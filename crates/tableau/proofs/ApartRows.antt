@@ -1,0 +1,50 @@
+-- A pair of words that have both I at the pivot, and whose own letter isn't measured, is as it was after a turn.
+use Rattle.std.proofs.Common.{◌≡◌, ◌≢◌, ℕ, false, length, set, refl, ap, ap₂, sym, ◌∙◌}
+use Rattle.std.proofs.lemmas.List.{set-get_or}
+use Rattle.gate_table.specs.declared.gate.Gate.{Gate}
+use Rattle.gate_table.specs.Images.{image1}
+use Rattle.gate_table.specs.WordImages.{image_at}
+use Rattle.gate_table.proofs.Identity.{image1-I}
+use Rattle.pauli_word.specs.declared.letter.Letter.{Letter}
+use Rattle.pauli_word.specs.declared.letter.Letter.TheVariants.{I, X, Y, Z}
+use Rattle.pauli_word.specs.Letters.{letters_clash}
+use Rattle.pauli_word.specs.Parity.{exclusive_or}
+use Rattle.pauli_word.specs.Words.{Signed, signed, anticommute, letter_at}
+use Rattle.pauli_word.proofs.LetterLaws.{letters_clash_comm, letters_clash_of_I}
+use Rattle.pauli_word.proofs.Parities.{exclusive_or-false}
+use Rattle.tableau.specs.CliffordMaps.{twisted}
+use Rattle.tableau.specs.Encoding.{Pair, HasLength}
+use Rattle.tableau.specs.EncodingSteps.{lone, IsApart, IsPivot, ClashesAt}
+use Rattle.tableau.proofs.TwistRows.{along_commuting}
+
+I_not_X : I ≢ X
+I_not_X e = cc
+
+I_not_Y : I ≢ Y
+I_not_Y e = cc
+
+-- a gate keeps a word that has I at its qubit
+image_kept : (g : Gate) (k : ℕ) (v : Signed) → letter_at v.letters k ≡ I → image_at g k v ≡ v
+image_kept g k v at =
+    let image = ap (image1 g) at ∙ image1-I g in
+    ap₂ signed
+    (ap (λ t. set v.letters k t.0) image ∙ (ap (set v.letters k) (sym at) ∙ set-get_or v.letters k I))
+    (ap (λ t. exclusive_or v.negative t.1) image ∙ exclusive_or-false v.negative)
+
+module _ (n k : ℕ) (code : Pair) (pivot : IsPivot n k code) (g : Gate) where
+  word_kept : (v : Signed) → length v.letters ≡ n → letter_at v.letters k ≡ I → anticommute v.letters code.0.letters ≡ false → v ≡ image_at g k (twisted (lone n k Z) code.0 v)
+  word_kept v size at commutes =
+      sym (image_kept g k v at)
+      ∙ ap (image_at g k) (along_commuting n k code pivot v size false false commutes refl I (sym at) I_not_X I_not_Y)
+
+  no_clash : (b w a c : Letter) → w ≡ I → c ≡ I → exclusive_or (letters_clash b w) (letters_clash c a) ≡ false
+  no_clash b w a c w_is c_is =
+      ap₂ exclusive_or
+      (ap (letters_clash b) w_is ∙ (letters_clash_comm b I ∙ letters_clash_of_I b))
+      (ap (λ t. letters_clash t a) c_is ∙ letters_clash_of_I a)
+
+  pub apart_kept : (w a : Letter) (r : Pair) → HasLength n r → ClashesAt w a k code.0 r → IsApart w k r → r ≡ (image_at g k (twisted (lone n k Z) code.0 r.0), image_at g k (twisted (lone n k Z) code.0 r.1))
+  apart_kept w a r size clashes is =
+      ap₂ (λ x z. (x, z))
+      (word_kept r.0 size.x is.x (clashes.x ∙ no_clash X w a (letter_at r.0.letters k) is.measured is.x))
+      (word_kept r.1 size.z is.z (clashes.z ∙ no_clash Z w a (letter_at r.1.letters k) is.measured is.z))

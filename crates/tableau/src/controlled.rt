@@ -1,0 +1,130 @@
+//! Controlled gates, in place: such a gate has a letter on each of its qubits, and the words of a qubit that clash with
+//! its own letter are multiplied by the word of the letter on the other. No word is copied.
+ghost use Rattle.std.specs.Prelude.{◌≡◌, ◌≢◌, ◌<◌, length, false, IfSome};
+ghost use Rattle.gate_table.specs.Images.{factor};
+ghost use Rattle.pauli_word.specs.declared.letter.Letter.{Letter};
+ghost use Rattle.pauli_word.specs.declared.letter.Letter.TheVariants.{Y};
+ghost use Rattle.pauli_word.specs.Words.{anticommute};
+ghost use Rattle.tableau.specs.ControlledSteps.{IsControlled, after_controlled, controlled_pair, CommuteWith};
+ghost use Rattle.tableau.specs.Encoding.{HasLength, IsTableau, word_of};
+
+use crate::pairs::{Pair, multiply};
+use gate_table::Gate;
+use pauli_word::Letter;
+use std::alloc::Allocator;
+
+/// The letters of a controlled gate on its first and its second qubit, where the first isn't Y.
+#[inline(always)]
+pub(crate) fn controlled_letters(gate: Gate) -> Option<(Letter, Letter)>
+    ensures { IfSome result (λ letters. IsControlled gate letters.0 letters.1) }
+{
+    match gate {
+        Gate::CX => Some((Letter::Z, Letter::X)),
+        Gate::CY => Some((Letter::Z, Letter::Y)),
+        Gate::CZ => Some((Letter::Z, Letter::Z)),
+        Gate::XCX => Some((Letter::X, Letter::X)),
+        Gate::XCY => Some((Letter::X, Letter::Y)),
+        Gate::XCZ => Some((Letter::X, Letter::Z)),
+        _ => None,
+    }
+}
+
+/// Applies the controlled gate with these letters to two qubits.
+pub(crate) fn apply_controlled<A: Allocator + Copy>(
+    rows: &mut Vec<Pair<A>, A>,
+    own: Letter,
+    other: Letter,
+    a: usize,
+    b: usize,
+)
+    requires own { own ≢ Y }
+    requires first_inside { a < length rows.old.items }
+    requires second_inside { b < length rows.old.items }
+    requires differ { a ≢ b }
+    requires tableau { IsTableau (length rows.old.items) rows.old.items }
+    ensures { rows.new.items ≡ after_controlled own other a b rows.old.items }
+{
+    if a < b {
+        multiply_ahead(rows.as_mut_slice(), own, other, a, b);
+    } else {
+        multiply_behind(rows.as_mut_slice(), own, other, a, b);
+    }
+}
+
+// The first qubit comes before the second.
+fn multiply_ahead<A: Allocator + Copy>(
+    rows: &mut [Pair<A>],
+    own: Letter,
+    other: Letter,
+    a: usize,
+    b: usize,
+)
+    requires own { own ≢ Y }
+    requires order { a < b }
+    requires inside { b < length rows.old }
+    requires tableau { IsTableau (length rows.old) rows.old }
+    ensures { rows.new ≡ after_controlled own other a b rows.old }
+{
+    let (front, back) = rows.split_at_mut(b);
+    multiply_both(&mut front[a], &mut back[0], own, other);
+}
+
+// The first qubit comes after the second.
+fn multiply_behind<A: Allocator + Copy>(
+    rows: &mut [Pair<A>],
+    own: Letter,
+    other: Letter,
+    a: usize,
+    b: usize,
+)
+    requires own { own ≢ Y }
+    requires order { b < a }
+    requires inside { a < length rows.old }
+    requires tableau { IsTableau (length rows.old) rows.old }
+    ensures { rows.new ≡ after_controlled own other a b rows.old }
+{
+    let (front, back) = rows.split_at_mut(a);
+    multiply_both(&mut back[0], &mut front[b], own, other);
+}
+
+// The words by which those of the second pair are multiplied are as they were: their letter doesn't clash with itself.
+fn multiply_both<A: Allocator + Copy>(
+    first: &mut Pair<A>,
+    second: &mut Pair<A>,
+    own: Letter,
+    other: Letter,
+)
+    requires own { own ≢ Y }
+    requires first { HasLength (length first.old.0.letters) first.old }
+    requires second { HasLength (length first.old.0.letters) second.old }
+    requires commuting { (a : Letter) → anticommute (word_of (length first.old.0.letters) first.old a).letters second.old.1.letters ≡ false }
+    ensures first { first.new ≡ controlled_pair (length first.old.0.letters) own other first.old second.old }
+    ensures second { second.new ≡ controlled_pair (length first.old.0.letters) other own second.old first.old }
+{
+    multiply_clashing(first, own, second, other);
+    multiply_clashing(second, other, first, own);
+}
+
+// Multiplies the words of a pair that clash with a letter by the word of another letter.
+fn multiply_clashing<A: Allocator + Copy>(
+    pair: &mut Pair<A>,
+    own: Letter,
+    others: &Pair<A>,
+    other: Letter,
+)
+    requires size { HasLength (length pair.old.0.letters) pair.old }
+    requires others { HasLength (length pair.old.0.letters) others.now }
+    requires commuting { other ≡ Y → CommuteWith others.now.1 pair.old }
+    ensures { pair.new ≡ controlled_pair (length pair.old.0.letters) own other pair.old others.now }
+{
+    multiply(&mut pair.0, others, factor(Letter::X.clashes(own), other));
+    multiply(&mut pair.1, others, factor(Letter::Z.clashes(own), other));
+}
+
+// A letter where it is a factor, else I.
+#[inline(always)]
+fn factor(taken: bool, letter: Letter) -> Letter
+    ensures { result ≡ factor taken letter }
+{
+    if taken { letter } else { Letter::I }
+}
