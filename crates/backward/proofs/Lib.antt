@@ -10,3 +10,4 @@ pub mod RangeLemmas
 pub mod SetLemmas
 pub mod TransposedLemmas
 pub mod WordLemmas
+pub mod MultiplyLemmas

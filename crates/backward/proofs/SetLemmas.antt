@@ -2,11 +2,12 @@
 use Rattle.std.proofs.Common.{◌≡◌, ℕ, zero, suc, ◌+◌, ◌-◌, ◌<◌, ◌≤◌, ◌==◌, nat_lt, Bool, true, false, not, List, [], ◌∷◌, ◌++◌, length, map, get_or, set, drop, inl, inr, refl, ap, ap₂, subst, sym, ◌∙◌, arith}
 use Rattle.std.specs.Prelude.{◌⊎◌, filter, reverse, replicate, insert, remove, if◌then◌else◌}
 use Rattle.std.specs.List.{range_with_len}
-use Rattle.std.proofs.lemmas.Bool.{ltb-true, ltb-false, lt-ltb, le-ltb, cases_eq, eq-eqb, ne_eqb}
+use Rattle.std.proofs.Math.Nat.{suc_inj}
+use Rattle.std.proofs.lemmas.Bool.{eqb-true, ltb-true, ltb-false, lt-ltb, le-ltb, cases_eq, eq-eqb, ne_eqb}
 use Rattle.backward.proofs.RangeLemmas.{filter_range_agree, filter_range_taken, filter_range_left, set-map-range}
 use Rattle.std.proofs.lemmas.List.{append-nil, drop_all, reverse-append}
 use Rattle.pauli_word.specs.Parity.{exclusive_or}
-use Rattle.pauli_word.proofs.Parities.{exclusive_or_assoc, exclusive_or_left_comm}
+use Rattle.pauli_word.proofs.Parities.{exclusive_or-false, exclusive_or_assoc, exclusive_or_left_comm}
 use Rattle.step_model.specs.Targets.{is_listed}
 use Rattle.backward.specs.Sets.{DescendsBelow, xor_step, xor_sets, row_of_set}
 use Rattle.backward.specs.TargetSets.{members}
@@ -192,3 +193,19 @@ reverse_is_members m xs h =
 pub same_count : (m n : ℕ) (xs ys : List ℕ) (p q : List Bool) → row_of_set m xs ≡ p → row_of_set n ys ≡ q → length p ≡ length q → m ≡ n
 same_count m n xs ys p q a b h =
     sym (length-row_of_set m xs) ∙ (ap length a ∙ (h ∙ (sym (ap length b) ∙ length-row_of_set n ys)))
+
+-- a set of none changes no row
+none_added : (row : List Bool) (k n : ℕ) → length row ≡ n → xor_rows row (map (is_listed []) (range_with_len k n)) ≡ row
+none_added [] k n h = refl
+none_added (b ∷ row) k zero h = cc
+none_added (b ∷ row) k (suc n) h = ap₂ (λ c r. c ∷ r) (exclusive_or-false b) (none_added row (k + 1) n (suc_inj h))
+
+no_elements : (set : List ℕ) → (length set == 0) ≡ true → set ≡ []
+no_elements [] h = refl
+no_elements (x ∷ others) h = absurd (omega (arith, eqb-true (suc (length others)) 0 h))
+
+pub add_none : (row other : List Bool) (n : ℕ) (set : List ℕ) → length row ≡ length other → (length set == 0) ≡ true → row_of_set n set ≡ other → row ≡ xor_rows row other
+add_none row other n set same none is =
+    let of_none : row_of_set n [] ≡ other = sym (ap (row_of_set n) (no_elements set none)) ∙ is in
+    let long : length row ≡ n = same ∙ (sym (ap length of_none) ∙ length-map-range_with_len (is_listed []) 0 n) in
+    sym (none_added row 0 n long) ∙ ap (xor_rows row) of_none

@@ -240,7 +240,7 @@ unfolding two_test
 two_tests gate.I = refl
 two_tests g = refl
 
-image2_combined : (g : Gate) (a b : Letter) → ((image2 g a b).0 ≡ letter_product (combined (image2 g X I).0 (image2 g Z I).0 a) (combined (image2 g I X).0 (image2 g I Z).0 b)) × ((image2 g a b).1 ≡ letter_product (combined (image2 g X I).1 (image2 g Z I).1 a) (combined (image2 g I X).1 (image2 g I Z).1 b))
+pub image2_combined : (g : Gate) (a b : Letter) → ((image2 g a b).0 ≡ letter_product (combined (image2 g X I).0 (image2 g Z I).0 a) (combined (image2 g I X).0 (image2 g I Z).0 b)) × ((image2 g a b).1 ≡ letter_product (combined (image2 g X I).1 (image2 g Z I).1 a) (combined (image2 g I X).1 (image2 g I Z).1 b))
 unfolding two_test
 image2_combined g a b =
     let passes = and_parts _ _ (at_two_letters (two_test g) (two_tests g) a b) in

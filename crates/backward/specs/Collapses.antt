@@ -1,4 +1,5 @@
 -- What going back over a collapse, a fault or feedback does to what is kept, whatever that is.
+-- (Sensitivities taken back over a circuit are told of by Gidney, Quantum 5, 497 (2021); how they are kept is this project's own.)
 use Rattle.std.specs.Prelude.{◌≡◌, ℕ, Bool, true, false, not, All, length, List, [], ◌∷◌, Option, None, Some, slice_index_or, slice_set}
 use Rattle.step_model.specs.declared.step.Term.{Term}
 use Rattle.step_model.specs.Listing.{Listing}

@@ -1,4 +1,5 @@
 -- Which target of a program is reported as random: the lowest that has a place, detectors before observables.
+-- (Sensitivities taken back over a circuit are told of by Gidney, Quantum 5, 497 (2021); how they are kept is this project's own.)
 use Rattle.std.specs.Prelude.{◌≡◌, ◌<◌, ℕ, length, Option, None, Some, option_map}
 use Rattle.step_model.specs.declared.step.Place.{Place}
 use Rattle.step_model.specs.declared.step.Place.TheVariants.{Start, After}

@@ -1,4 +1,5 @@
 -- What a tracker keeps: one unsigned word a target, on some number of qubits; and what each call makes of the words.
+-- (Sensitivities taken back over a circuit are told of by Gidney, Quantum 5, 497 (2021); how they are kept is this project's own.)
 use Rattle.std.specs.Prelude.{ℕ, ◌==◌, Bool, false, List, [], map, filter, length, replicate, slice_index_or, slice_set}
 use Rattle.std.specs.List.{range_with_len, list_any}
 use Rattle.gate_table.specs.declared.gate.Gate.{Gate}

@@ -1,5 +1,6 @@
 -- Words kept by qubit: for each qubit a column, the letters that all words have there. The words are the columns
 -- transposed. A column is kept as two rows of bits, one bit a word: X in the letter, and Z in it.
+-- (Sensitivities taken back over a circuit are told of by Gidney, Quantum 5, 497 (2021); how they are kept is this project's own.)
 use Rattle.std.specs.Prelude.{◌≡◌, ◌≤◌, ◌^◌, ℕ, Bool, ◌&&◌, List, [], ◌∷◌, false, map, length, All, slice_index_or, slice_set}
 use Rattle.std.specs.List.{range_with_len}
 use Rattle.pauli_word.specs.declared.letter.Letter.{Letter}
@@ -43,6 +44,12 @@ times_at letter t column = slice_set column t (letter_product letter (letter_at 
 abbrev pub times_each : Letter → List ℕ → List Letter → List Letter
 times_each letter [] column = column
 times_each letter (t ∷ ts) column = times_each letter ts (times_at letter t column)
+
+-- a word whose letters at two qubits are each multiplied by an image of the other
+abbrev pub multiplied_at : ℕ → ℕ → Letter × Letter → Letter × Letter → List Letter → List Letter
+multiplied_at a b to_first to_second w =
+    slice_set (slice_set w a (letter_product (letter_at w a) (combined to_first.0 to_first.1 (letter_at w b)))) b
+    (letter_product (letter_at w b) (combined to_second.0 to_second.1 (letter_at w a)))
 
 -- columns, spare columns and spare sets for m targets
 pub record IsTransposed (m : ℕ) (columns : List (List Letter)) (first second : List Letter) (set spare : List Bool) : Type 0 where

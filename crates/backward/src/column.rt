@@ -1,6 +1,7 @@
-ghost use Rattle.std.specs.Prelude.{◌≡◌, ◌<◌, map, length, All, IfOk, OnOk};
+ghost use Rattle.std.specs.Prelude.{◌≡◌, ◌<◌, map, length, true, All, IfOk, OnOk};
 ghost use Rattle.bit_rows.specs.Rows.{xor_rows};
 ghost use Rattle.pauli_word.specs.Bits.{x_bit, z_bit, letters_of};
+ghost use Rattle.pauli_word.specs.declared.letter.Letter.TheVariants.{I, X, Z};
 ghost use Rattle.pauli_word.specs.Letters.{letters_clash};
 ghost use Rattle.pauli_word.specs.Words.{letters_product, no_letters};
 ghost use Rattle.backward.specs.Transposed.{combined, xor_where, times_each, times_at, flipped_where};
@@ -73,6 +74,42 @@ impl<S: TargetSet> Column<S> {
         self.add_image(from, x, z, spare)
     }
 
+    /// Makes each letter its image, from the images of X and Z. What the spare column held is lost.
+    pub(crate) fn become_image(
+        &mut self,
+        x: Letter,
+        z: Letter,
+        other: &mut Column<S>,
+        spare: &mut S,
+    ) -> Result<(), AllocError>
+        requires other { length other.old ≡ length self.old }
+        requires spare { length (S.bits spare.old) ≡ length self.old }
+        ensures ok { OnOk result (self.new ≡ map (combined x z) self.old) }
+        ensures len { length self.new ≡ length self.old }
+        ensures other { length other.new ≡ length other.old }
+        ensures spare { length (S.bits spare.new) ≡ length (S.bits spare.old) }
+    {
+        match (x, z) {
+            (Letter::X, Letter::Z) => Ok(()),
+            (Letter::Z, Letter::X) => {
+                self.exchange();
+                Ok(())
+            }
+            _ => {
+                other.set_image(self, x, z, spare)?;
+                self.swap(other);
+                Ok(())
+            }
+        }
+    }
+
+    // Puts Z for X, and X for Z.
+    fn exchange(&mut self)
+        ensures { self.new ≡ map (combined Z X) self.old }
+    {
+        std::mem::swap(&mut self.x, &mut self.z);
+    }
+
     /// Multiplies each letter by the image of that of another column, from the images of X and Z.
     pub(crate) fn add_image(
         &mut self,
@@ -129,6 +166,48 @@ impl<S: TargetSet> Column<S> {
     {
         toggle_where(has_x(letter), &mut self.x, t)?;
         toggle_where(has_z(letter), &mut self.z, t)
+    }
+}
+
+/// Multiplies the letters of each of two columns by an image of those of the other: the second's image of what the first
+/// is multiplied by is I, so that it doesn't matter which goes first.
+pub(crate) fn multiply_both<S: TargetSet>(
+    first: &mut Column<S>,
+    second: &mut Column<S>,
+    to_first: (Letter, Letter),
+    to_second: (Letter, Letter),
+    spare: &mut S,
+) -> Result<(), AllocError>
+    requires same { length second.old ≡ length first.old }
+    requires spare { length (S.bits spare.old) ≡ length first.old }
+    requires x_is_lost { combined to_second.0 to_second.1 to_first.0 ≡ I }
+    requires z_is_lost { combined to_second.0 to_second.1 to_first.1 ≡ I }
+    ensures first { OnOk result (first.new ≡ letters_product first.old (map (combined to_first.0 to_first.1) second.old)) }
+    ensures second { OnOk result (second.new ≡ letters_product second.old (map (combined to_second.0 to_second.1) first.old)) }
+    ensures first_len { length first.new ≡ length first.old }
+    ensures second_len { length second.new ≡ length second.old }
+    ensures spare { length (S.bits spare.new) ≡ length (S.bits spare.old) }
+{
+    first.add_image(second, to_first.0, to_first.1, spare)?;
+    second.add_image(first, to_second.0, to_second.1, spare)
+}
+
+/// Whether X and Z are their own images.
+pub(crate) fn is_kept(x: Letter, z: Letter) -> bool
+    ensures { result ≡ true → (x ≡ X) × (z ≡ Z) }
+{
+    matches!((x, z), (Letter::X, Letter::Z))
+}
+
+/// Whether the image of a letter is I, from those of X and Z.
+pub(crate) fn is_lost(x: Letter, z: Letter, letter: Letter) -> bool
+    ensures { result ≡ true → combined x z letter ≡ I }
+{
+    match letter {
+        Letter::I => true,
+        Letter::X => matches!(x, Letter::I),
+        Letter::Z => matches!(z, Letter::I),
+        Letter::Y => matches!((x, z), (Letter::I, Letter::I)),
     }
 }
 

@@ -58,6 +58,9 @@ impl<'a, A: Allocator + Copy> TargetSet for SparseSet<'a, A> {
     }
 
     fn add(&mut self, other: &Self, spare: &mut Self) -> Result<(), AllocError> {
+        if other.items.as_slice().is_empty() {
+            return Ok(());
+        }
         spare.items.clear();
         match merge(
             self.items.as_slice(),

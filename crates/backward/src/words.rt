@@ -1,12 +1,14 @@
 ghost use Rattle.std.specs.Prelude.{◌≡◌, ◌<◌, ◌≤◌, ◌≢◌, ◌^◌, ◌∷◌, [], ℕ, false, length, All, IfOk, OnOk, map, replicate};
+ghost use Rattle.gate_table.specs.Images.{arity_of};
+ghost use Rattle.pauli_word.specs.declared.letter.Letter.TheVariants.{I};
 ghost use Rattle.std.specs.List.{range_with_len};
 ghost use Rattle.pauli_word.specs.Words.{anticommute};
 ghost use Rattle.step_model.specs.Listing.{word_of_terms};
-ghost use Rattle.backward.specs.Tracked.{fresh};
+ghost use Rattle.backward.specs.Tracked.{each_word, fresh, undone_two};
 ghost use Rattle.backward.specs.TargetSets.{members};
-ghost use Rattle.backward.specs.Transposed.{word_at};
+ghost use Rattle.backward.specs.Transposed.{combined, multiplied_at, word_at};
 
-use crate::column::Column;
+use crate::column::{Column, is_kept, is_lost, multiply_both};
 use crate::sparse_set::SparseSet;
 use crate::target_set::TargetSet;
 use crate::tracker::Tracker;
@@ -87,22 +89,42 @@ impl<S: TargetSet, A: Allocator + Copy> Words<S, A> {
             spare: none,
         })
     }
-}
 
-impl<S: TargetSet, A: Allocator + Copy> Tracker for Words<S, A> {
-    ghost tracked = { λ w. w };
-
-    fn undo1(&mut self, gate: Gate, q: usize) -> Result<(), AllocError> {
-        let inverse = gate.inverse();
-        let (x, _) = inverse.image1(Letter::X);
-        let (z, _) = inverse.image1(Letter::Z);
-        self.first
-            .set_image(&self.columns[q], x, z, &mut self.spare)?;
-        self.columns[q].swap(&mut self.first);
+    // Multiplies the letters at each of two qubits by an image of those at the other.
+    fn multiply(
+        &mut self,
+        a: usize,
+        b: usize,
+        to_first: (Letter, Letter),
+        to_second: (Letter, Letter),
+    ) -> Result<(), AllocError>
+        requires first_in_range { a < self.old.qubits }
+        requires second_in_range { b < self.old.qubits }
+        requires different { a ≢ b }
+        requires x_is_lost { combined to_second.0 to_second.1 to_first.0 ≡ I }
+        requires z_is_lost { combined to_second.0 to_second.1 to_first.1 ≡ I }
+        ensures { OnOk result (self.new ≡ each_word (multiplied_at a b to_first to_second) self.old) }
+    {
+        self.columns[a].swap(&mut self.first);
+        multiply_both(
+            &mut self.first,
+            &mut self.columns[b],
+            to_first,
+            to_second,
+            &mut self.spare,
+        )?;
+        self.columns[a].swap(&mut self.first);
         Ok(())
     }
 
-    fn undo2(&mut self, gate: Gate, a: usize, b: usize) -> Result<(), AllocError> {
+    // Any gate of two qubits, by the images of the letters at both.
+    fn undo_by_images(&mut self, gate: Gate, a: usize, b: usize) -> Result<(), AllocError>
+        requires arity { arity_of gate ≡ 2 }
+        requires first_in_range { a < self.old.qubits }
+        requires second_in_range { b < self.old.qubits }
+        requires different { a ≢ b }
+        ensures { OnOk result (self.new ≡ each_word (undone_two gate a b) self.old) }
+    {
         let inverse = gate.inverse();
         let (xa, xb, _) = inverse.image2(Letter::X, Letter::I);
         let (za, zb, _) = inverse.image2(Letter::Z, Letter::I);
@@ -119,6 +141,31 @@ impl<S: TargetSet, A: Allocator + Copy> Tracker for Words<S, A> {
         self.columns[a].swap(&mut self.first);
         self.columns[b].swap(&mut self.second);
         Ok(())
+    }
+}
+
+impl<S: TargetSet, A: Allocator + Copy> Tracker for Words<S, A> {
+    ghost tracked = { λ w. w };
+
+    fn undo1(&mut self, gate: Gate, q: usize) -> Result<(), AllocError> {
+        let inverse = gate.inverse();
+        let (x, _) = inverse.image1(Letter::X);
+        let (z, _) = inverse.image1(Letter::Z);
+        self.columns[q].become_image(x, z, &mut self.first, &mut self.spare)
+    }
+
+    fn undo2(&mut self, gate: Gate, a: usize, b: usize) -> Result<(), AllocError> {
+        let inverse = gate.inverse();
+        let xa = inverse.image2(Letter::X, Letter::I);
+        let za = inverse.image2(Letter::Z, Letter::I);
+        let xb = inverse.image2(Letter::I, Letter::X);
+        let zb = inverse.image2(Letter::I, Letter::Z);
+        let kept = is_kept(xa.0, za.0) && is_kept(xb.1, zb.1);
+        if kept && is_lost(xa.1, za.1, xb.0) && is_lost(xa.1, za.1, zb.0) {
+            self.multiply(a, b, (xb.0, zb.0), (xa.1, za.1))
+        } else {
+            self.undo_by_images(gate, a, b)
+        }
     }
 
     fn add(&mut self, targets: &[u32], letter: Letter, q: usize) -> Result<(), AllocError> {

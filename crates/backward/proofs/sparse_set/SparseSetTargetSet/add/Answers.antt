@@ -1,7 +1,7 @@
-use Rattle.std.proofs.Common.{ap, ap₂, subst, sym, ◌∙◌}
+use Rattle.std.proofs.Common.{ℕ, ◌==◌, List, length, ap, ap₂, subst, sym, ◌∙◌}
 use Rattle.bit_rows.specs.Rows.{xor_rows}
 use Rattle.backward.specs.Sets.{DescendsBelow, row_of_set, xor_sets}
-use Rattle.backward.proofs.SetLemmas.{row_of_xor_sets, same_count, DescendsBelow-xor_sets}
+use Rattle.backward.proofs.SetLemmas.{row_of_xor_sets, same_count, add_none, DescendsBelow-xor_sets}
 use Rattle.backward.proofs.sparse_set.SparseSetTargetSet.add.Goals as goal
 
 pub invariant_of-self : goal.invariant_of-self
@@ -10,7 +10,7 @@ invariant_of-self g c =
     let mine = c.self.inside.items.items in
     let other = c.other.inside.items.items in
     let counted = same_count m c.other.inside.targets mine other _ _ c.self.view_is c.other.view_is c.requires.other in
-    let made = ap (λ v. v.items) c.swap.ensures.x_after ∙ (c.in-Ok.ensures ∙ ap₂ xor_sets c.as_slice.ensures c.as_slice-2.ensures) in
+    let made = ap (λ v. v.items) c.swap.ensures.x_after ∙ (c.in-Ok.ensures ∙ ap₂ xor_sets c.as_slice-2.ensures c.as_slice-3.ensures) in
     subst (DescendsBelow m) (sym made)
     (DescendsBelow-xor_sets m mine other c.self.invariant (subst (λ n. DescendsBelow n other) (sym counted) c.other.invariant))
 
@@ -29,6 +29,11 @@ returns-in-Ok-clause-ok g c =
     let mine = c.self.inside.items.items in
     let other = c.other.inside.items.items in
     let counted = same_count m c.other.inside.targets mine other _ _ c.self.view_is c.other.view_is c.requires.other in
-    ap (row_of_set m) (ap (λ v. v.items) c.swap.ensures.x_after ∙ (c.in-Ok.ensures ∙ ap₂ xor_sets c.as_slice.ensures c.as_slice-2.ensures))
+    ap (row_of_set m) (ap (λ v. v.items) c.swap.ensures.x_after ∙ (c.in-Ok.ensures ∙ ap₂ xor_sets c.as_slice-2.ensures c.as_slice-3.ensures))
     ∙ (row_of_xor_sets m mine other
     ∙ ap₂ xor_rows c.self.view_is (ap (λ n. row_of_set n other) counted ∙ c.other.view_is))
+
+pub returns-then-is_empty-clause-ok : goal.returns-then-is_empty-clause-ok
+returns-then-is_empty-clause-ok g c =
+    let none = sym (ap (λ (xs : List ℕ). length xs == 0) c.as_slice.ensures) ∙ (sym c.is_empty.ensures ∙ c.if-is_empty.true) in
+    add_none c.args.self.now c.args.other.now c.other.inside.targets c.other.inside.items.items c.requires.other none c.other.view_is

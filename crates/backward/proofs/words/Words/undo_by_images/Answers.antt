@@ -8,7 +8,7 @@ use Rattle.pauli_word.specs.Words.{letters_product}
 use Rattle.backward.specs.Tracked.{Tracked, each_word, undone_two}
 use Rattle.backward.specs.Transposed.{combined}
 use Rattle.backward.proofs.TransposedLemmas.{tracked_two}
-use Rattle.backward.proofs.words.WordsTracker.undo2.Goals as goal
+use Rattle.backward.proofs.words.Words.undo_by_images.Goals as goal
 
 pub invariant_of-self-2 : goal.invariant_of-self-2
 invariant_of-self-2 g c =
