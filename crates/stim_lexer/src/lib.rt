@@ -5,8 +5,6 @@
 mod lexer;
 mod line;
 mod scan;
-#[cfg(test)]
-mod tests;
 
 pub use lexer::Lexer;
 pub use line::{Braces, Line};

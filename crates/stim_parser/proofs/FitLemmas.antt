@@ -1,6 +1,6 @@
 -- What a line says that isn't refused: an instruction fits, a block has a turn and stands where one more may be open, and
 -- a block is open where one is closed. Each question of the list was answered with no.
-use Rattle.std.proofs.Common.{◌≡◌, ℕ, ◌<◌, ◌==◌, Bool, true, false, not, ◌||◌, List, [], ◌∷◌, Option, None, Some, refl, sym, ap, ◌∙◌, inl, inr, arith}
+use Rattle.std.proofs.Common.{◌≡◌, ℕ, ◌<◌, ◌==◌, Bool, true, false, not, ◌||◌, List, [], ◌∷◌, Option, None, Some, refl, sym, inl, inr, arith}
 use Rattle.std.specs.Prelude.{⊤, find, option_map, nat_le}
 use Rattle.std.proofs.lemmas.Bool.{cases_Bool, true≢false}
 use Rattle.step_model.specs.declared.fault.Cause.{Cause}

@@ -17,3 +17,6 @@ pub mod RecordTargets
 pub mod NumberArguments
 pub mod FewArguments
 pub mod CoordinateArguments
+mod QubitSetLemmas
+mod ProductLemmas
+mod ProductSteps

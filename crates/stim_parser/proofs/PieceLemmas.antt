@@ -1,11 +1,11 @@
 -- The first piece of a text, by where it ends.
-use Rattle.std.proofs.Common.{◌≡◌, ℕ, suc, ◌+◌, ◌==◌, ◌<◌, ◌≤◌, Bool, true, false, not, ◌||◌, List, [], ◌∷◌, length, take, drop, refl, ap, sym, ◌∙◌, inl, inr, arith}
+use Rattle.std.proofs.Common.{◌≡◌, ℕ, suc, ◌+◌, ◌==◌, ◌<◌, ◌≤◌, Bool, true, false, not, List, [], ◌∷◌, length, take, drop, refl, ap, sym, ◌∙◌, inl, inr, arith}
 use Rattle.std.specs.Prelude.{max}
 use Rattle.std.specs.List.{position_or_len, onto_first}
 use Rattle.std.proofs.lemmas.Bool.{both_ways, cases_Bool, false≢true, not-true, or_from, or_parts}
 use Rattle.std.proofs.lemmas.List.{length-drop, nil_from_length}
 use Rattle.stim_lexer.specs.Bytes.{is_blank, after_blanks}
-use Rattle.stim_parser.specs.Pieces.{ends_here, ends_piece, is_star, pieces_of}
+use Rattle.stim_parser.specs.Pieces.{ends_piece, is_star, pieces_of}
 
 -- blanks in front belong to no piece
 pub pieces_of-after_blanks : (text : List ℕ) → pieces_of text ≡ pieces_of (after_blanks text)

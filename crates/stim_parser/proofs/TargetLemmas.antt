@@ -2,8 +2,7 @@
 use Rattle.std.proofs.Common.{◌≡◌, ℕ, List, [], ◌∷◌, ◌++◌, Option, None, Some, refl, ap, sym, append_assoc}
 use Rattle.std.proofs.lemmas.List.{append-nil}
 use Rattle.stim_parser.specs.declared.target.Target.{Target}
-use Rattle.stim_parser.specs.Pieces.{pieces_of}
-use Rattle.stim_parser.specs.Targets.{each_of, target_of, targets_in}
+use Rattle.stim_parser.specs.Targets.{each_of, target_of}
 
 -- the targets read before, and those of the pieces that follow
 abbrev pub with_front : List Target → Option (List Target) → Option (List Target)

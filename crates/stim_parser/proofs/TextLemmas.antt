@@ -1,6 +1,6 @@
 -- A text read line by line. A reader has the items so far and the lines of the open blocks; its text is those items, and then
 -- what the lines that are left make in those blocks.
-use Rattle.std.proofs.Common.{◌≡◌, ℕ, suc, ◌+◌, ◌<◌, ◌≤◌, Bool, true, false, List, [], ◌∷◌, ◌++◌, length, Option, None, Some, Result, Ok, Err, refl, ap, sym, ◌∙◌, append-nil, inl, inr, arith}
+use Rattle.std.proofs.Common.{◌≡◌, ℕ, ◌+◌, ◌<◌, List, [], ◌∷◌, ◌++◌, length, Option, None, Some, Result, Ok, Err, refl, ap, sym, ◌∙◌, append-nil, inl, inr, arith}
 use Rattle.std.specs.Prelude.{IfOk, IfErr, ◌⊎◌}
 use Rattle.std.proofs.lemmas.Bool.{cases_Bool}
 use Rattle.step_model.specs.Faults.{memory_fault}
@@ -10,7 +10,7 @@ use Rattle.stim_lexer.specs.Cut.{has_bad_byte}
 use Rattle.stim_lexer.specs.Lexing.{Unread, Numbered, after_silent, first_found, next_found, after_first_found, after_next}
 use Rattle.stim_lexer.specs.Lines.{says_nothing}
 use Rattle.stim_parser.specs.Flat.{IsWritten}
-use Rattle.stim_parser.specs.Texts.{Item, Does, Begins, Ends, items_in, items_from, at_end, before, followed, open_after, refused}
+use Rattle.stim_parser.specs.Texts.{Item, items_in, items_from, at_end, before, followed, open_after, refused}
 use Rattle.stim_parser.specs.Trees.{Tree, items_of, Writes, IsRefusedBy}
 use Rattle.stim_parser.specs.Unfinished.{Unfinished, reading_at, cause_in, line_items, after_line}
 use Rattle.stim_parser.specs.Verdicts.{Reading, Takes, Opens, Closes, Refuses, reading_of}

@@ -4,14 +4,13 @@ use Rattle.std.proofs.Common.{◌≡◌, ℕ, zero, suc, ◌+◌, ◌<◌, ◌�
 use Rattle.std.specs.Prelude.{IfOk, is_err, if◌then◌else◌}
 use Rattle.std.proofs.lemmas.Bool.{cases_Bool, false≢true}
 use Rattle.step_model.specs.declared.fault.Fault.{Fault}
-use Rattle.step_model.specs.declared.fault.Cause.TheVariants as cause
 use Rattle.stim_lexer.specs.Cut.{cut_of, has_bad_byte}
 use Rattle.stim_lexer.specs.Lines.{lines_of, says_nothing}
 use Rattle.stim_parser.specs.Circuits.{Fits, IsCircuit, AllFit, depth}
 use Rattle.stim_parser.specs.Flat.{IsWritten, tree_of, tree_of-items}
 use Rattle.stim_parser.specs.Texts.{Item, Does, Begins, Ends, items_in, items_from, followed, line_reading, open_after}
 use Rattle.stim_parser.specs.Trees.{Tree, Nothing, Then, Block, items_of, Writes, IsRefusedBy}
-use Rattle.stim_parser.specs.Verdicts.{Instruction, Reading, Takes, Opens, Closes, Refuses, reading_of}
+use Rattle.stim_parser.specs.Verdicts.{Instruction, Reading, Takes, Opens, Closes, Refuses}
 use Rattle.stim_parser.proofs.FitLemmas.{ReadingFits, reading_fits}
 
 -- ---- one tree

@@ -1,7 +1,7 @@
 -- The arguments of an instruction: what stands between the commas in its parentheses, without the blanks round it. There
 -- are none where all is blank.
 -- (Stim's circuit format, github.com/quantumlib/Stim, doc/file_format_stim_circuit.md, "Syntax".)
-use Rattle.std.specs.Prelude.{ℕ, ◌==◌, ◌-◌, Bool, if◌then◌else◌, List, [], ◌∷◌, length, take, map, Option, None, Some}
+use Rattle.std.specs.Prelude.{ℕ, ◌==◌, ◌-◌, Bool, if◌then◌else◌, List, [], length, take, map, Option, None, Some}
 use Rattle.std.specs.Borrow.{Bor}
 use Rattle.std.specs.List.{slice_split, suffix_len}
 use Rattle.stim_lexer.specs.Bytes.{is_blank, is_empty, after_blanks}

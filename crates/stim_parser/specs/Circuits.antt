@@ -1,6 +1,6 @@
 -- What a circuit's tree keeps: each instruction fits what its operation takes, each block has a turn, and no more blocks stand
 -- inside one another than may. (Stim's circuit format; the limits are this project's.)
-use Rattle.std.specs.Prelude.{⊤, ◌≡◌, ◌<◌, ◌≤◌, nat_le, ℕ, suc, max, Bool, false, true, not, List, [], ◌∷◌}
+use Rattle.std.specs.Prelude.{⊤, ◌≡◌, ◌<◌, ◌≤◌, nat_le, ℕ, suc, max, Bool, false, true, not}
 use Rattle.std.specs.List.{list_all}
 use Rattle.step_model.specs.WellFormed.{is_I}
 use Rattle.stim_parser.specs.declared.operation.Keyword.TheVariants.{Does}

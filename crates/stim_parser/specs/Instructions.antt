@@ -2,7 +2,7 @@
 -- compared without regard to case. Some names of the format are known and left out of this profile.
 -- (Stim's gate reference, github.com/quantumlib/Stim, doc/gates.md: the titles, "Alternate name", "Parens Arguments" and
 -- "Targets"; which names are left out is this project's choice.)
-use Rattle.std.specs.Prelude.{ℕ, ◌==◌, Bool, if◌then◌else◌, List, [], ◌∷◌, Option, None, Some, codes, find, option_map}
+use Rattle.std.specs.Prelude.{ℕ, ◌==◌, Bool, if◌then◌else◌, List, [], ◌∷◌, Option, codes, find, option_map}
 use Rattle.std.specs.Borrow.{Bor}
 use Rattle.std.specs.Str.{str_eq_ignore_ascii_case}
 use Rattle.std.specs.List.{list_any}

@@ -14,3 +14,5 @@ pub mod Circuits
 pub mod Flat
 pub mod Unfinished
 pub mod Coordinates
+pub mod QubitSets
+pub mod Products

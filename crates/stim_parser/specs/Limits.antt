@@ -2,7 +2,7 @@
 -- itself; in which order they are asked is said apart. An instruction fits where no question finds anything wrong.
 -- (Stim's circuit format, github.com/quantumlib/Stim, doc/file_format_stim_circuit.md, "Instruction Types", and doc/gates.md;
 -- the limits are this project's.)
-use Rattle.std.specs.Prelude.{ℕ, ◌==◌, ◌%◌, nat_lt, Bool, true, false, not, ◌&&◌, ◌||◌, List, [], ◌∷◌, length, Option, is_none, is_some, unwrap_or}
+use Rattle.std.specs.Prelude.{ℕ, ◌==◌, ◌%◌, nat_lt, Bool, true, false, not, ◌&&◌, ◌||◌, List, [], ◌∷◌, length, is_some}
 use Rattle.std.specs.List.{list_any, list_all}
 use Rattle.step_model.specs.Probabilities.{decimal_of, probability_bound}
 use Rattle.stim_lexer.specs.Bytes.{is_empty}

@@ -43,7 +43,7 @@ fn are_arguments(form: ArgumentForm, arguments: &[&[u8]]) -> bool
 }
 
 /// Whether arguments are of another number or another form.
-pub(crate) fn has_wrong_arguments(form: ArgumentForm, arguments: &[&[u8]]) -> bool
+pub fn has_wrong_arguments(form: ArgumentForm, arguments: &[&[u8]]) -> bool
     ensures { result ≡ has_wrong_arguments form (texts_of arguments.now) }
 {
     is_wrong_count(form, arguments.len()) || !are_arguments(form, arguments)
@@ -69,7 +69,7 @@ fn are_probabilities(arguments: &[&[u8]]) -> bool
 }
 
 /// Whether an argument is to be a probability and isn't one that is accepted.
-pub(crate) fn has_wrong_probability(form: ArgumentForm, arguments: &[&[u8]]) -> bool
+pub fn has_wrong_probability(form: ArgumentForm, arguments: &[&[u8]]) -> bool
     ensures { result ≡ has_wrong_probability form (texts_of arguments.now) }
 {
     takes_probability(form) && !are_probabilities(arguments)

@@ -44,7 +44,7 @@ fn cut_at_comma(text: &[u8]) -> (&[u8], Option<&[u8]>)
 }
 
 /// The arguments that stand in parentheses, where there are no more than an instruction takes.
-pub(crate) fn read_arguments(text: &[u8]) -> Option<ArrayVec<&[u8], MOST_ARGUMENTS>>
+pub fn read_arguments(text: &[u8]) -> Option<ArrayVec<&[u8], MOST_ARGUMENTS>>
     ensures { MatchOption result (MOST_ARGUMENTS < length (arguments_in text.now))
         (λ found. map (λ argument. argument.now) found.items ≡ arguments_in text.now) }
 {

@@ -41,7 +41,7 @@ pub(crate) fn are_coordinates(texts: &[&[u8]]) -> bool
 }
 
 /// What each whole number counts, in their order.
-pub(crate) fn whole_values(texts: &[&[u8]]) -> ArrayVec<i64, MOST_ARGUMENTS>
+pub fn whole_values(texts: &[&[u8]]) -> ArrayVec<i64, MOST_ARGUMENTS>
     requires { length texts.now ≤ MOST_ARGUMENTS }
     ensures { result.items ≡ map (λ text. whole_value text.now) texts.now }
 {

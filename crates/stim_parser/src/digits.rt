@@ -33,7 +33,7 @@ pub(crate) fn is_number(text: &[u8]) -> bool
 }
 
 /// The number that a text writes, where it is digits.
-pub(crate) fn number_of(text: &[u8]) -> Option<u64>
+pub fn number_of(text: &[u8]) -> Option<u64>
     ensures { result ≡ number_of text.now }
 {
     if is_number(text) {

@@ -6,7 +6,7 @@ use gate_table::Gate;
 
 /// Which arguments an instruction takes.
 #[derive(Clone, Copy, PartialEq, Eq)]
-pub(crate) enum ArgumentForm {
+pub enum ArgumentForm {
     NoArguments,
     /// None or one.
     ProbabilityAtWill,

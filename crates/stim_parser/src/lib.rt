@@ -21,18 +21,21 @@ mod parser;
 mod piece;
 mod probability;
 mod products;
+mod qubit_set;
 mod significant;
 mod target;
 mod target_checks;
-#[cfg(test)]
-mod tests;
-#[cfg(test)]
-mod text_tests;
 
-pub use arguments::MOST_ARGUMENTS;
+pub use argument_checks::{has_wrong_arguments, has_wrong_probability};
+pub use arguments::{MOST_ARGUMENTS, read_arguments};
 pub use circuit::{Circuit, Item};
+pub use coordinates::whole_values;
+pub use digits::number_of;
+pub use forms::ArgumentForm;
 pub use instruction::Instruction;
+pub use numbers::magnitude_of;
 pub use operation::Operation;
 pub use parser::parse;
+pub use piece::next_piece;
 pub use probability::Probability;
 pub use target::Target;

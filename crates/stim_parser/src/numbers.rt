@@ -39,7 +39,7 @@ pub(crate) fn is_decimal(text: &[u8]) -> bool
 }
 
 /// What a whole number counts without its sign.
-pub(crate) fn magnitude_of(text: &[u8]) -> u64
+pub fn magnitude_of(text: &[u8]) -> u64
     ensures { result ≡ magnitude_of text.now }
 {
     value_of(without_minus(text))

@@ -1,6 +1,10 @@
-ghost use Rattle.std.specs.Prelude.{◌≡◌, ◌&&◌, ◌||◌};
-ghost use Rattle.stim_parser.specs.Limits.{are_factors, are_products, begins_with_factor, goes_on_with, has_product_of_one, is_factor, is_factor_at, is_joining, names_again};
+ghost use Rattle.std.specs.Prelude.{◌≡◌, ◌≤◌, ◌&&◌, ◌||◌, ℕ, false, length, not, true, IfSome, MatchOption};
+ghost use Rattle.stim_parser.specs.declared.forms.TargetForm.TheVariants.{Products};
+ghost use Rattle.stim_parser.specs.Limits.{are_factors, are_products, begins_with_factor, goes_on_with, has_product_of_one, has_target_beyond, is_factor, is_factor_at, is_joining, is_target_beyond};
+ghost use Rattle.stim_parser.specs.Products.{goes_on_within, is_factor_within};
+ghost use Rattle.stim_parser.specs.QubitSets.{is_named};
 
+use crate::qubit_set::QubitSet;
 use crate::target::Target;
 
 /// Whether a target is a factor of a product, with a `!` or without.
@@ -58,53 +62,94 @@ pub(crate) fn are_products(targets: &[Target]) -> bool
     }
 }
 
-/// Whether a target is a factor at a qubit.
-fn is_factor_at(qubit: u64, target: Target) -> bool
-    ensures { result ≡ is_factor_at qubit target }
+/// Whether a target is a factor at a qubit of a set.
+fn is_factor_within(named: &QubitSet, target: Target) -> bool
+    requires { is_target_beyond Products target ≡ false }
+    ensures { result ≡ is_factor_within (is_named named.now.words) target }
 {
     match target {
-        Target::Pauli(_, _, other) => qubit == other,
+        Target::Pauli(_, _, qubit) => named.contains(qubit),
         _ => false,
     }
 }
 
-/// Whether a product goes on behind a factor, by a star and a factor each time, to one at this qubit.
-fn goes_on_with(qubit: u64, targets: &[Target]) -> bool
-    ensures { result ≡ goes_on_with qubit targets.now }
+/// Puts a factor's qubit into a set.
+fn put_in(named: &mut QubitSet, target: Target)
+    requires { is_target_beyond Products target ≡ false }
+    ensures { (q : ℕ) → is_named named.new.words q ≡ (is_factor_at q target || is_named named.old.words q) }
+{
+    if let Target::Pauli(_, _, qubit) = target {
+        named.insert(qubit);
+    }
+}
+
+/// Takes a factor's qubit out of a set.
+fn take_out(named: &mut QubitSet, target: Target)
+    requires { is_target_beyond Products target ≡ false }
+    ensures { (q : ℕ) → is_named named.new.words q ≡ (not (is_factor_at q target) && is_named named.old.words q) }
+{
+    if let Target::Pauli(_, _, qubit) = target {
+        named.remove(qubit);
+    }
+}
+
+/// Goes over a product behind its first factor and puts its qubits into a set. What follows the product is the answer,
+/// or nothing where the product names a qubit of the set or one qubit twice.
+fn go_over<'a>(named: &mut QubitSet, targets: &'a [Target]) -> Option<&'a [Target]>
+    requires { has_target_beyond Products targets.now ≡ false }
+    ensures again { MatchOption result
+        ((goes_on_within (is_named named.old.words) targets.now || has_product_of_one targets.now) ≡ true)
+        (λ after. (goes_on_within (is_named named.old.words) targets.now || has_product_of_one targets.now) ≡ has_product_of_one after.now) }
+    ensures named { IfSome result (λ after. (q : ℕ) → is_named named.new.words q ≡ (goes_on_with q targets.now || is_named named.old.words q)) }
+    ensures within { IfSome result (λ after. has_target_beyond Products after.now ≡ false) }
+    ensures less { IfSome result (λ after. length after.now ≤ length targets.now) }
 {
     let mut left = targets;
     while let [first, second, rest @ ..] = left {
         if !is_joining(*first) {
-            return false;
+            return Some(left);
         }
-        if is_factor_at(qubit, *second) {
-            return true;
+        if is_factor_within(named, *second) {
+            return None;
         }
+        put_in(named, *second);
         left = rest;
     }
-    false
+    Some(left)
 }
 
-/// Whether a product that goes on behind a factor names the factor's qubit again.
-fn names_again(target: Target, rest: &[Target]) -> bool
-    ensures { result ≡ names_again target rest.now }
-{
-    match target {
-        Target::Pauli(_, _, qubit) => goes_on_with(qubit, rest),
-        _ => false,
-    }
-}
-
-/// Whether a product names one qubit twice.
-pub(crate) fn has_product_of_one(targets: &[Target]) -> bool
-    ensures { result ≡ has_product_of_one targets.now }
+/// Goes over a product behind its first factor and takes its qubits out of a set.
+fn go_back(named: &mut QubitSet, targets: &[Target])
+    requires { has_target_beyond Products targets.now ≡ false }
+    ensures { (q : ℕ) → is_named named.new.words q ≡ (not (goes_on_with q targets.now) && is_named named.old.words q) }
 {
     let mut left = targets;
-    while let [target, rest @ ..] = left {
-        if names_again(*target, rest) {
-            return true;
+    while let [first, second, rest @ ..] = left {
+        if !is_joining(*first) {
+            return;
         }
+        take_out(named, *second);
         left = rest;
+    }
+}
+
+/// Whether a product names one qubit twice. Each target is gone over twice at most: one set serves all products, and
+/// what a product put in is taken out behind it, since a new set for each would cost a short one more than its factors
+/// do.
+pub(crate) fn has_product_of_one(targets: &[Target]) -> bool
+    requires { has_target_beyond Products targets.now ≡ false }
+    ensures { result ≡ has_product_of_one targets.now }
+{
+    let mut named = QubitSet::new();
+    let mut left = targets;
+    while let [first, rest @ ..] = left {
+        put_in(&mut named, *first);
+        let Some(after) = go_over(&mut named, rest) else {
+            return true;
+        };
+        go_back(&mut named, rest);
+        take_out(&mut named, *first);
+        left = after;
     }
     false
 }

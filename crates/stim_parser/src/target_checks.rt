@@ -1,4 +1,4 @@
-ghost use Rattle.std.specs.Prelude.{◌≡◌, length};
+ghost use Rattle.std.specs.Prelude.{◌≡◌, false, length};
 ghost use Rattle.std.specs.List.{list_all, list_any};
 ghost use Rattle.stim_parser.specs.Limits.{are_of_form, has_same_qubit, has_target_beyond, has_wrong_count, is_back, is_odd, is_pauli, is_plain, is_plain_or_inverted, is_target_beyond};
 
@@ -113,6 +113,7 @@ pub(crate) fn has_wrong_count(form: TargetForm, targets: &[Target]) -> bool
 /// Whether a pair or a product names one qubit twice.
 #[tactic(auto, unfolding(crate::specs::Limits::has_same_qubit))]
 pub(crate) fn has_same_qubit(form: TargetForm, targets: &[Target]) -> bool
+    requires { has_target_beyond form targets.now ≡ false }
     ensures { result ≡ has_same_qubit form targets.now }
 {
     match form {

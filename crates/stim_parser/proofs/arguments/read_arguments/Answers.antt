@@ -1,4 +1,4 @@
-use Rattle.std.proofs.Common.{◌≡◌, ◌∙◌, ◌++◌, ℕ, List, Bor, Option, ap, sym, map}
+use Rattle.std.proofs.Common.{◌∙◌, ◌++◌, ℕ, List, Bor, Option, ap, sym, map}
 use Rattle.std.proofs.lemmas.Bool.{eqb-true}
 use Rattle.std.proofs.lemmas.List.{append-nil, length-map}
 use Rattle.stim_parser.specs.Arguments.{arguments_in, parts_of, trimmed}

@@ -1,4 +1,4 @@
-use Rattle.std.proofs.Common.{◌≡◌, ℕ, Option, None, Some, Ok, ap, sym, ◌∙◌, inr, subst}
+use Rattle.std.proofs.Common.{◌≡◌, Option, None, Some, Ok, ap, sym, ◌∙◌, inr}
 use Rattle.std.proofs.lemmas.Result.{err_from_is_err_and}
 use Rattle.stim_lexer.specs.declared.line.Line.{Line}
 use Rattle.stim_lexer.specs.Lexing.{Numbered, answered, cut_in, next_found}

@@ -1,9 +1,10 @@
-use Rattle.std.proofs.Common.{◌≡◌, length}
-use Rattle.stim_parser.specs.Limits.{has_product_of_one}
+use Rattle.std.proofs.Common.{length}
+use Rattle.stim_parser.specs.QubitSets.{is_named}
+use Rattle.stim_parser.proofs.ProductSteps.{IsBetween}
 use Rattle.stim_parser.proofs.products.has_product_of_one.Given as goal
 
 abbrev pub invariant-loop-left : goal.invariant-loop-left
-invariant-loop-left l = has_product_of_one l.left ≡ has_product_of_one l.targets
+invariant-loop-left l = IsBetween (is_named l.named.words) l.left l.targets
 
 abbrev pub decreases-loop-left : goal.decreases-loop-left
 decreases-loop-left l = length l.left

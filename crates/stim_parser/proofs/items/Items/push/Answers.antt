@@ -1,4 +1,4 @@
-use Rattle.std.proofs.Common.{◌≡◌, ℕ, List, [], ◌∷◌, ◌++◌, length, ap, ap₂, sym, ◌∙◌}
+use Rattle.std.proofs.Common.{◌≡◌, ℕ, List, [], ◌∷◌, ◌++◌, length, ap, ap₂, ◌∙◌}
 use Rattle.stim_parser.specs.declared.items.Node.{Node}
 use Rattle.stim_parser.specs.declared.items.Node.TheVariants as node
 use Rattle.stim_parser.specs.declared.target.Target.{Target}

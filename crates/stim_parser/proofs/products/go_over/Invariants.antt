@@ -1,0 +1,10 @@
+use Rattle.std.proofs.Common.{length}
+use Rattle.stim_parser.specs.QubitSets.{is_named}
+use Rattle.stim_parser.proofs.ProductSteps.{IsOver}
+use Rattle.stim_parser.proofs.products.go_over.Given as goal
+
+abbrev pub invariant-loop-left : goal.invariant-loop-left
+invariant-loop-left l = IsOver (is_named l.named.words) (is_named l.initial.named.words) l.left l.targets
+
+abbrev pub decreases-loop-left : goal.decreases-loop-left
+decreases-loop-left l = length l.left
