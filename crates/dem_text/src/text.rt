@@ -156,6 +156,3 @@ fn write_whole<W: Sink>(out: &mut Pieces, sink: &mut W, number: i64)
 {
     out.push(sink, Buffer::new().format(number).as_bytes());
 }
-
-#[cfg(test)]
-mod tests;

@@ -4,6 +4,7 @@
 -- the second are the exclusive sum of those faults' targets in the model. So no target is random.
 -- Where it names a random target, it gives two coin lists under which the noiseless runs differ in that target, and no
 -- lower target is random, detectors being lower than observables.
+-- (Detectors, observables and their error models are Stim's, github.com/quantumlib/Stim; the promise is this project's own.)
 use Rattle.std.specs.Prelude.{◌≡◌, ◌≢◌, ◌<◌, ◌∷◌, ◌++◌, ℕ, Bool, List, length, codes, Ok}
 use Rattle.step_model.specs.ErrorModels.{ErrorModel, Fits, IsExact}
 use Rattle.step_model.specs.Listing.{Listing}

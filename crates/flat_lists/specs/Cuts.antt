@@ -1,6 +1,7 @@
 -- A list cut into pieces that lie one after another. The pieces are named by their ends alone: the first begins
 -- at a given place, each other where the one before it ends. The ends never fall, and the last piece ends where
 -- the list does, so no item is left out.
+-- (This project's own.)
 use Rattle.std.specs.Prelude.{◌≡◌, ℕ, ◌≤◌, List, [], ◌∷◌, slice_range}
 
 -- the pieces of a list, the first from the start, with these ends

@@ -7,9 +7,6 @@ ghost use Rattle.std.specs.Prelude.{◌≡◌, ◌<◌, ◌==◌, [], ◌∷◌,
 use std::alloc::{AllocError, Allocator};
 use std::marker::Model;
 
-#[cfg(test)]
-mod tests;
-
 /// Lists of items, in the order in which they were pushed.
 #[derive(Drop)]
 pub struct FlatLists<T: Copy, A: Allocator + Copy> {

@@ -1,5 +1,6 @@
 -- What a user gives beside a circuit: a text of coins, one digit 0 or 1 for each collapse, and a list of numbers, which
 -- is empty or has numbers in decimal digits joined by single commas. Zeros in front of a number change nothing.
+-- (This project's own.)
 use Rattle.std.specs.Prelude.{ℕ, ◌+◌, ◌-◌, ◌*◌, ◌==◌, nat_lt, Bool, true, false, not, ◌&&◌, ◌||◌, if◌then◌else◌, List, [], ◌∷◌, length, map, fold, replicate, Option, None, Some}
 use Rattle.std.specs.Char.{is_ascii_digit}
 use Rattle.std.specs.List.{list_all, list_any, range_with_len, slice_split}

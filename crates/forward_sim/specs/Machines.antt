@@ -1,4 +1,5 @@
 -- What a run holds between two steps, and what a part of a step makes of it.
+-- (Runs of stabilizer circuits: Aaronson and Gottesman, Phys. Rev. A 70, 052328.)
 use Rattle.std.specs.Prelude.{◌≡◌, ℕ, Bool, List}
 use Rattle.step_model.specs.Runs.{RunState}
 use Rattle.tableau.specs.Rows.{Rows, row_count, state_of}

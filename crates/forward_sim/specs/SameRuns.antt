@@ -1,5 +1,6 @@
 -- Two runs of n qubits that can't be told apart by what they measure: their states hold the same words of n letters,
 -- and the coins to come and the records so far are the same.
+-- (Runs of stabilizer circuits: Aaronson and Gottesman, Phys. Rev. A 70, 052328.)
 use Rattle.std.specs.Prelude.{◌≡◌, ℕ, length}
 use Rattle.pauli_word.specs.States.{State}
 use Rattle.pauli_word.specs.Words.{Signed}

@@ -53,11 +53,14 @@ impl<'c, A: Allocator + Copy> Machine<'c, A> {
         ensures room { IfOk result (λ m. m.room ≡ records) }
         ensures run { IfOk result (λ m. IsSameRun qubits (run_of m) (start coins.now)) }
     {
+        let records = Vec::with_capacity(alloc, records)?;
+        let word = Word::identity(alloc, qubits)?;
+        let tableau = Tableau::start(alloc, qubits)?;
         Ok(Machine {
-            tableau: Tableau::start(alloc, qubits)?,
-            word: Word::identity(alloc, qubits)?,
+            tableau,
+            word,
             coins,
-            records: Vec::with_capacity(alloc, records)?,
+            records,
         })
     }
 

@@ -1,7 +1,10 @@
-ghost use Rattle.std.specs.Prelude.{◌≡◌, ◌+◌, ◌≤◌, true, length, option_map};
-ghost use Rattle.programs.specs.Listed.{listed, number_of};
-ghost use Rattle.programs.specs.Named.{IsStepOf};
-ghost use Rattle.step_model.specs.Runs.{flip_happens, next};
+ghost use Rattle.std.specs.Prelude.{◌≡◌, ◌+◌, ◌<◌, ◌≤◌, true, false, if◌then◌else◌, is_some, length, option_map, slice_index_or};
+ghost use Rattle.pauli_word.specs.States.{applied};
+ghost use Rattle.pauli_word.specs.Words.{lone_letter};
+ghost use Rattle.programs.specs.Listed.{listed, measured, number_of};
+ghost use Rattle.programs.specs.Named.{IsNamed, IsStepOf};
+ghost use Rattle.step_model.specs.Listing.{Fault};
+ghost use Rattle.step_model.specs.Runs.{after_collapse, correction, flip_happens, next};
 ghost use Rattle.step_model.specs.WellFormed.{step_records};
 ghost use Rattle.forward_sim.specs.Machines.{ComesTo, qubit_count, run_of};
 
@@ -9,6 +12,7 @@ use crate::letters::collapse_letter;
 use crate::machine::Machine;
 use crate::products::collapse_product;
 use crate::values::value_at;
+use pauli_word::Letter;
 use programs::{FaultName, Program, Step};
 use std::alloc::Allocator;
 
@@ -36,8 +40,8 @@ pub(crate) fn take_step<A: Allocator + Copy>(
             inverted,
             flip,
         } => {
-            let seen = collapse_letter(machine, letter, qubit, reset);
-            machine.keep(rec, seen ^ (inverted ^ flip_happens(faults, flip)));
+            let changes = inverted ^ flip_happens(faults, flip);
+            collapse(machine, letter, qubit, reset, rec, changes);
         }
         Step::CollapseWord {
             product,
@@ -48,16 +52,59 @@ pub(crate) fn take_step<A: Allocator + Copy>(
             let seen = collapse_product(machine, program.product(product));
             machine.keep(rec, seen ^ (inverted ^ flip_happens(faults, flip)));
         }
-        Step::Fault(name) => {
-            if value_at(faults, name.number) {
-                machine.apply_terms(program.entry_terms(name.entry));
-            }
-        }
-        Step::Feedback { letter, q, rec } => {
-            if machine.record(rec) {
-                machine.apply_letter(letter, q);
-            }
-        }
+        Step::Fault(name) => take_fault(machine, program, faults, name),
+        Step::Feedback { letter, q, rec } => feed_back(machine, letter, q, rec),
+    }
+}
+
+// Measures a letter at a qubit, resets the qubit where `reset`, and records the outcome, changed where `changes`, where
+// there is a number for it.
+fn collapse<A: Allocator + Copy>(
+    machine: &mut Machine<'_, A>,
+    letter: Letter,
+    qubit: u32,
+    reset: bool,
+    rec: Option<u32>,
+    changes: bool,
+)
+    requires inside { qubit < qubit_count machine.old }
+    requires room { length machine.old.records + (if is_some rec then 1 else 0) ≤ machine.old.room }
+    ensures { let n = qubit_count machine.old in
+        ComesTo machine.old machine.new (after_collapse (lone_letter n qubit letter) (correction n (measured n reset letter qubit)) (is_some rec) changes (run_of machine.old)) }
+{
+    let seen = collapse_letter(machine, letter, qubit, reset);
+    machine.keep(rec, seen ^ changes);
+}
+
+// Applies the letters of a fault, where it happens.
+fn take_fault<A: Allocator + Copy>(
+    machine: &mut Machine<'_, A>,
+    program: &Program<'_, A>,
+    faults: &[bool],
+    name: FaultName,
+)
+    requires named { IsNamed program.now name }
+    requires qubits { qubit_count machine.old ≡ program.now.qubits }
+    ensures { ComesTo machine.old machine.new (next program.now faults.now (Fault name.number) (run_of machine.old)) }
+{
+    program.well_formed();
+    if value_at(faults, name.number) {
+        machine.apply_terms(program.entry_terms(name.entry));
+    }
+}
+
+// Applies a letter at a qubit, where a record is 1.
+fn feed_back<A: Allocator + Copy>(
+    machine: &mut Machine<'_, A>,
+    letter: Letter,
+    qubit: u32,
+    rec: u32,
+)
+    requires { qubit < qubit_count machine.old }
+    ensures { ComesTo machine.old machine.new (record (run_of machine.old) { state = applied (slice_index_or machine.old.records rec false) (lone_letter (qubit_count machine.old) qubit letter) (run_of machine.old).state }) }
+{
+    if machine.record(rec) {
+        machine.apply_letter(letter, qubit);
     }
 }
 

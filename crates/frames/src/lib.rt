@@ -10,6 +10,3 @@ mod words;
 
 pub use carry::flips;
 pub use pair::coin_pair;
-
-#[cfg(test)]
-mod tests;

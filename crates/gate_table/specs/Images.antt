@@ -3,6 +3,7 @@
 -- A controlled gate has a letter A on its first qubit and B on its second. The image of a letter on the first
 -- qubit is that letter, with the factor B on the second where the letter clashes with A; the image of a letter
 -- on the second is that letter, with the factor A on the first where the letter clashes with B.
+-- (Stim's gate reference, github.com/quantumlib/Stim, doc/gates.md.)
 use Rattle.std.specs.Prelude.{Bool, true, false, ℕ}
 use Rattle.pauli_word.specs.declared.letter.Letter.{Letter}
 use Rattle.pauli_word.specs.declared.letter.Letter.TheVariants.{I, X, Y, Z}

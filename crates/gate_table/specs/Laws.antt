@@ -1,6 +1,7 @@
 -- What holds of the images under every gate, as of any conjugation by a unitary: they keep products and which
 -- letters clash, and the inverse of a gate undoes it. A sign stands here as the power 1 or -1 of i.
 -- (Nielsen and Chuang, Quantum Computation and Quantum Information, section 10.5.2.)
+-- (Stim's gate reference, github.com/quantumlib/Stim, doc/gates.md.)
 use Rattle.std.specs.Prelude.{◌≡◌, false}
 use Rattle.pauli_word.specs.Parity.{exclusive_or}
 use Rattle.pauli_word.specs.declared.letter.Letter.{Letter}

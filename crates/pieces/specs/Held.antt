@@ -1,4 +1,5 @@
 -- What is seen of bytes that go out in pieces: those that are held back, and whether the sink has failed.
+-- (This project's own.)
 use Rattle.std.specs.Prelude.{ℕ, List, Bool}
 
 pub record Held : Type 0 where

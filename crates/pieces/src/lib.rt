@@ -110,6 +110,3 @@ impl Pieces {
         }
     }
 }
-
-#[cfg(test)]
-mod tests;

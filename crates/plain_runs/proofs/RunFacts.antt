@@ -73,13 +73,7 @@ pub records-more : (program : Listing) (faults coins : List Bool) (k n number : 
 records-more program faults coins k n number step count h e =
     sym (ap (λ (m : RunState). get_or m.records number false) (run-more program faults coins k n count h ∙ ap (λ s. next program faults s (run_state_after program faults coins k)) (sym e)))
 
--- the state after a collapse of a word, written out
-pub collapse-state : (program : Listing) (faults : List Bool) (m : RunState) (w : List Letter) (reset : Option Term) (r : Option Recorded) (p : Signed) → w ≡ measured_word program.qubits (measured w reset)
-    → corrected (correction program.qubits (measured w reset)) (outcome m.state w (next_coin m.coins)) (collapsed w (next_coin m.coins) m.state) p ≡ (next program faults (Collapse (measured w reset) r) m).state p
-collapse-state program faults m w reset r p e =
-    ap (λ v. corrected (correction program.qubits (measured w reset)) (outcome m.state v (next_coin m.coins)) (collapsed v (next_coin m.coins) m.state) p) e
-
--- the records after it go by the word alone
+-- the records after a collapse go by its word alone
 pub collapse-records : (program : Listing) (faults : List Bool) (m : RunState) (w : List Letter) (reset : Option Term) (r : Option Recorded) (number : ℕ) → w ≡ measured_word program.qubits (measured w reset)
     → get_or (next program faults (Collapse (Word w) r) m).records number false ≡ get_or (next program faults (Collapse (measured w reset) r) m).records number false
 collapse-records program faults m w reset r number e =

@@ -1,4 +1,5 @@
 -- A step with its words written out: the word that a collapse measures, and that which a fault or feedback applies.
+-- (This project's own.)
 use Rattle.std.specs.Prelude.{⊤, ◌≡◌, ◌<◌, ℕ, false, List, length, Option, None, Some, option_map, slice_index_or}
 use Rattle.gate_table.specs.Images.{arity_of}
 use Rattle.pauli_word.specs.declared.letter.Letter.{Letter}

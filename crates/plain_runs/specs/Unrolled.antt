@@ -1,4 +1,5 @@
 -- The steps of a program in a list, as a walk over it gives them.
+-- (This project's own.)
 use Rattle.std.specs.Prelude.{◌≡◌, List, map, All}
 use Rattle.step_model.specs.Listing.{Listing}
 use Rattle.programs.specs.declared.step.Step.{Step}

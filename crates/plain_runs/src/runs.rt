@@ -7,7 +7,7 @@ ghost use Rattle.step_model.specs.Runs.{correction, corrected, next_coin, flip_h
 ghost use Rattle.step_model.specs.Listing as listing;
 ghost use Rattle.step_model.specs.Sensitivities.{collapse_count, is_collapse};
 ghost use Rattle.plain_runs.specs.declared.plain_step.Recording.{Recording};
-ghost use Rattle.plain_runs.specs.PlainSteps.{ResetFits, measured, recorded, step_at};
+ghost use Rattle.plain_runs.specs.PlainSteps.{ResetFits, WordsFit, listed_step, measured, recorded, step_at};
 
 use crate::plain_step::{PlainStep, Recording, plain_step};
 use crate::unrolled::Unrolled;
@@ -76,39 +76,54 @@ fn is_in<A: Allocator + Copy>(
         return Ok(is_in_start_state(program.qubits() as usize, word));
     }
     let before = steps - 1;
-    match plain_step(alloc, program, before)? {
+    let step = plain_step(alloc, program, before)?;
+    is_in_after(alloc, program, faults, coins, before, &step, word)
+}
+
+// Whether a word is in the state after the first steps and one more, whose words are written out.
+#[cycle(state)]
+fn is_in_after<A: Allocator + Copy>(
+    alloc: A,
+    program: &Unrolled<'_, '_, A>,
+    faults: &[bool],
+    coins: &[bool],
+    steps: usize,
+    step: &PlainStep<A>,
+    word: &Word<A>,
+) -> Result<bool, AllocError>
+    requires within { steps ≤ length program.now.steps }
+    requires words { WordsFit program.now step.now }
+    requires letters { length word.now.letters ≡ program.now.qubits }
+    ensures { let before = run_state_after program.now faults.now coins.now steps in
+        IfOk result (λ is_in. is_in ≡ (next program.now faults.now (listed_step step.now) before).state word.now) }
+{
+    match step {
         PlainStep::One { gate, q } => {
-            let earlier = preimage(gate, q, word)?;
-            is_in(alloc, program, faults, coins, before, &earlier)
+            let earlier = preimage(*gate, *q, word)?;
+            is_in(alloc, program, faults, coins, steps, &earlier)
         }
         PlainStep::Two { gate, a, b } => {
-            let earlier = preimage_of_two(gate, a, b, word)?;
-            is_in(alloc, program, faults, coins, before, &earlier)
+            let earlier = preimage_of_two(*gate, *a, *b, word)?;
+            is_in(alloc, program, faults, coins, steps, &earlier)
         }
         PlainStep::Collapse {
             word: measured,
             reset,
             ..
-        } => {
-            is_in_collapsed(
-                alloc, program, faults, coins, before, &measured, reset, word,
-            )
-        }
+        } => { is_in_collapsed(alloc, program, faults, coins, steps, measured, *reset, word) }
         PlainStep::Fault {
             fault,
             word: applied,
         } => {
-            let happens = truth_at(faults, fault as usize);
-            is_in_applied(
-                alloc, program, faults, coins, before, happens, &applied, word,
-            )
+            let happens = truth_at(faults, *fault as usize);
+            is_in_applied(alloc, program, faults, coins, steps, happens, applied, word)
         }
         PlainStep::Feedback {
             word: applied,
             record,
         } => {
-            let fed = record_at(alloc, program, faults, coins, before, record)?;
-            is_in_applied(alloc, program, faults, coins, before, fed, &applied, word)
+            let fed = record_at(alloc, program, faults, coins, steps, *record)?;
+            is_in_applied(alloc, program, faults, coins, steps, fed, applied, word)
         }
     }
 }
@@ -266,14 +281,15 @@ fn record_at<A: Allocator + Copy>(
     }
     program.well_formed();
     let before = steps - 1;
-    match plain_step(alloc, program, before)? {
+    let step = plain_step(alloc, program, before)?;
+    match &step {
         PlainStep::Collapse {
             word,
             recording,
             ..
         } => {
             record_after(
-                alloc, program, faults, coins, before, &word, recording, number,
+                alloc, program, faults, coins, before, word, *recording, number,
             )
         }
         _ => record_at(alloc, program, faults, coins, before, number),

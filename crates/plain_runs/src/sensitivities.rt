@@ -1,9 +1,9 @@
 //! The sensitivity and the place of a target.
-ghost use Rattle.std.specs.Prelude.{◌≡◌, ◌<◌, ◌≤◌, ◌+◌, length, take, drop, IfOk, option_map};
+ghost use Rattle.std.specs.Prelude.{◌≡◌, ◌<◌, ◌≤◌, ◌+◌, [], length, take, drop, IfOk, OnOk, option_map};
 ghost use Rattle.pauli_word.specs.Words.{anticommute, letter_at};
-ghost use Rattle.step_model.specs.Sensitivities.{sensitivity, sensitivity_before, record_counts, collapse_word, collapse_count, latest_place, has_X_or_Y, lowest_X_or_Y, place_of};
+ghost use Rattle.step_model.specs.Sensitivities.{sensitivity, sensitivity_before, record_counts, cleared, multiplied, collapse_word, collapse_count, latest_place, has_X_or_Y, lowest_X_or_Y, place_of};
 ghost use Rattle.step_model.specs.Targets.{is_listed, targets_of};
-ghost use Rattle.plain_runs.specs.PlainSteps.{recorded, step_at};
+ghost use Rattle.plain_runs.specs.PlainSteps.{ResetFits, WordsFit, listed_step, measured, recorded, step_at};
 
 use crate::plain_step::{PlainStep, Recording, plain_step};
 use crate::runs::collapses_before;
@@ -13,7 +13,7 @@ use pauli_word::{Letter, Word};
 use programs::Program;
 use std::alloc::{AllocError, Allocator};
 use std::marker::Model;
-use step_model::Place;
+use step_model::{Place, Term};
 
 /// The sensitivity of a target at a place: a word, and the records so far whose flips flip the target.
 #[derive(Drop)]
@@ -90,70 +90,95 @@ fn sensitivity_after<A: Allocator + Copy>(
     ensures letters { IfOk result (λ s. length s.word ≡ program.now.qubits) }
 {
     let mut left = program.len();
-    let mut s = TargetSensitivity {
-        word: Word::identity(alloc, program.qubits() as usize)?,
-        records: Vec::from_slice(alloc, named)?,
-    };
+    let mut s = at_the_end(alloc, program.qubits(), named)?;
     while left > steps {
         left -= 1;
-        s = sensitivity_before(alloc, program, left, s)?;
+        go_back_over(alloc, program, left, &mut s)?;
     }
     Ok(s)
 }
 
-// The sensitivity before a step, from that after it.
-fn sensitivity_before<A: Allocator + Copy>(
+// The sensitivity after the last step.
+fn at_the_end<A: Allocator + Copy>(
+    alloc: A,
+    qubits: u32,
+    named: &[u32],
+) -> Result<TargetSensitivity<A>, AllocError>
+    ensures { IfOk result (λ s. s ≡ sensitivity qubits named.now []) }
+{
+    let word = Word::identity(alloc, qubits as usize)?;
+    let records = Vec::from_slice(alloc, named)?;
+    Ok(TargetSensitivity { word, records })
+}
+
+// Makes the sensitivity after a step that before it.
+fn go_back_over<A: Allocator + Copy>(
     alloc: A,
     program: &Unrolled<'_, '_, A>,
     step: usize,
-    after: TargetSensitivity<A>,
-) -> Result<TargetSensitivity<A>, AllocError>
+    s: &mut TargetSensitivity<A>,
+) -> Result<(), AllocError>
     requires within { step < length program.now.steps }
-    requires letters { length after.word ≡ program.now.qubits }
-    ensures before { IfOk result (λ s. s ≡ sensitivity_before program.now.qubits (step_at program.now step) after) }
-    ensures letters { IfOk result (λ s. length s.word ≡ program.now.qubits) }
+    requires letters { length s.old.word ≡ program.now.qubits }
+    ensures before { OnOk result (s.new ≡ sensitivity_before program.now.qubits (step_at program.now step) s.old) }
+    ensures letters { OnOk result (length s.new.word ≡ program.now.qubits) }
 {
-    program.well_formed();
-    let TargetSensitivity { word, mut records } = after;
-    match plain_step(alloc, program, step)? {
+    let plain = plain_step(alloc, program, step)?;
+    go_back_over_plain(program, &plain, s)
+}
+
+// The same of a step with its words written out.
+fn go_back_over_plain<A: Allocator + Copy>(
+    program: &Unrolled<'_, '_, A>,
+    step: &PlainStep<A>,
+    s: &mut TargetSensitivity<A>,
+) -> Result<(), AllocError>
+    requires words { WordsFit program.now step.now }
+    requires letters { length s.old.word ≡ program.now.qubits }
+    ensures before { OnOk result (s.new ≡ sensitivity_before program.now.qubits (listed_step step.now) s.old) }
+    ensures letters { OnOk result (length s.new.word ≡ program.now.qubits) }
+{
+    match step {
         PlainStep::One { gate, q } => {
-            let before = preimage(gate, q, &word)?;
-            Ok(TargetSensitivity {
-                word: before,
-                records,
-            })
+            s.word = preimage(*gate, *q, &s.word)?;
         }
         PlainStep::Two { gate, a, b } => {
-            let before = preimage_of_two(gate, a, b, &word)?;
-            Ok(TargetSensitivity {
-                word: before,
-                records,
-            })
+            s.word = preimage_of_two(*gate, *a, *b, &s.word)?;
         }
         PlainStep::Collapse {
-            word: measured,
+            word,
             reset,
             recording,
         } => {
-            let counts = record_counts(records.as_slice(), recording);
-            let clear = cleared(reset, &word)?;
-            let before = multiplied(counts, &measured, &clear, program.qubits())?;
-            Ok(TargetSensitivity {
-                word: before,
-                records,
-            })
+            let counts = record_counts(s.records.as_slice(), *recording);
+            s.word = before_collapse(counts, word, *reset, &s.word, program.qubits())?;
         }
-        PlainStep::Fault { .. } => Ok(TargetSensitivity { word, records }),
-        PlainStep::Feedback {
-            word: applied,
-            record,
-        } => {
-            if anticommutes(&word, &applied) {
-                records.insert(0, record)?;
+        PlainStep::Fault { .. } => {}
+        PlainStep::Feedback { word, record } => {
+            if anticommutes(&s.word, word) {
+                s.records.insert(0, *record)?;
             }
-            Ok(TargetSensitivity { word, records })
         }
     }
+    Ok(())
+}
+
+// The word of a sensitivity before a collapse, where its record counts or doesn't, from that after it.
+fn before_collapse<A: Allocator + Copy>(
+    counts: bool,
+    word: &Word<A>,
+    reset: Option<Term>,
+    after: &Word<A>,
+    qubits: u32,
+) -> Result<Word<A>, AllocError>
+    requires word { length word.now.letters ≡ qubits }
+    requires reset { ResetFits qubits reset }
+    requires after { length after.now.letters ≡ qubits }
+    ensures before { IfOk result (λ v. v.letters ≡ multiplied counts word.now.letters (cleared (measured word.now.letters reset) after.now.letters)) }
+    ensures letters { IfOk result (λ v. length v.letters ≡ qubits) }
+{
+    let clear = cleared(reset, after)?;
+    multiplied(counts, word, &clear, qubits)
 }
 
 // Whether the record of a collapse is listed an odd number of times.

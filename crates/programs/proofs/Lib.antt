@@ -17,3 +17,4 @@ pub mod Places
 pub mod ProductWords
 pub mod Reading
 pub mod WalkSteps
+pub mod WrittenLists

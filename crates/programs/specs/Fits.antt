@@ -1,5 +1,6 @@
 -- Whether a step of a text fits where it stands: it names qubits that there are, a gate of its arity, a letter other
 -- than I, and a fault and a product that are kept.
+-- (Stim's circuit format, github.com/quantumlib/Stim, doc/file_format_stim_circuit.md; how it is kept is this project's own.)
 use Rattle.std.specs.Prelude.{ℕ, ◌==◌, nat_lt, Bool, true, not, ◌&&◌, List, length, Option, None, Some}
 use Rattle.gate_table.specs.Images.{arity_of}
 use Rattle.pauli_word.specs.declared.letter.Letter.{Letter}

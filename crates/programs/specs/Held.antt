@@ -1,4 +1,5 @@
 -- What a program's nodes are to its steps.
+-- (Stim's circuit format, github.com/quantumlib/Stim, doc/file_format_stim_circuit.md; how it is kept is this project's own.)
 use Rattle.std.specs.Prelude.{◌≡◌, ◌<◌, ◌^◌, ℕ, List, length, slice_get, Some}
 use Rattle.step_model.specs.Listing.{Listing}
 use Rattle.programs.specs.declared.node.Node.{Node}

@@ -12,3 +12,4 @@ pub mod Steps
 pub mod Trees
 pub mod WalkStates
 pub mod Walks
+pub mod KeptLists

@@ -1,6 +1,7 @@
 -- The program that parts make, and what parts have to be: the tree of blocks is whole, each step of the text fits where
 -- it stands, and what is kept of faults and of products is there. That records and faults are in order is so by the
 -- numbering.
+-- (Stim's circuit format, github.com/quantumlib/Stim, doc/file_format_stim_circuit.md; how it is kept is this project's own.)
 use Rattle.std.specs.Prelude.{◌≡◌, ◌<◌, ◌≤◌, ◌^◌, ℕ, true, List, [], ◌∷◌, length, All, Some}
 use Rattle.std.specs.List.{list_all}
 use Rattle.step_model.specs.declared.step.Term.{Term}

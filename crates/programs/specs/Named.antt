@@ -1,5 +1,6 @@
 -- What the steps of a program name is there: qubits, a gate of its arity, a letter other than I, records, products,
 -- and faults, each of the entry that it is named with.
+-- (Stim's circuit format, github.com/quantumlib/Stim, doc/file_format_stim_circuit.md; how it is kept is this project's own.)
 use Rattle.std.specs.Prelude.{⊤, ◌≡◌, ◌≢◌, ◌<◌, ℕ, length, Option, None, Some}
 use Rattle.gate_table.specs.Images.{arity_of}
 use Rattle.pauli_word.specs.declared.letter.Letter.TheVariants.{I}

@@ -1,4 +1,5 @@
 -- What moves of a place do: some keep how many steps stand before it, others go over one.
+-- (Stim's circuit format, github.com/quantumlib/Stim, doc/file_format_stim_circuit.md; how it is kept is this project's own.)
 use Rattle.std.specs.Prelude.{⊤, ◌≡◌, ◌+◌, ℕ, zero, suc, List, length, Option, None, Some, slice_get}
 use Rattle.programs.specs.declared.node.Node.{Node}
 use Rattle.programs.specs.declared.step.TextStep.{TextStep}

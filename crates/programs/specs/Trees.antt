@@ -1,5 +1,6 @@
 -- A circuit with its blocks, and the list of steps that it stands for: a block of n turns is n copies of its body.
 -- It is kept flat, as it is written: a block's body stands between its two ends.
+-- (Stim's circuit format, github.com/quantumlib/Stim, doc/file_format_stim_circuit.md; how it is kept is this project's own.)
 use Rattle.std.specs.Prelude.{⊤, ◌≡◌, ◌<◌, ◌≤◌, ℕ, zero, suc, max, List, [], ◌∷◌, ◌++◌, length, drop, slice_index_or}
 use Rattle.programs.specs.declared.node.Node.{Node}
 use Rattle.programs.specs.declared.step.TextStep.{TextStep}

@@ -1,4 +1,5 @@
 -- What a walk keeps: its place is after so many steps, and its counts are theirs.
+-- (Stim's circuit format, github.com/quantumlib/Stim, doc/file_format_stim_circuit.md; how it is kept is this project's own.)
 use Rattle.std.specs.Prelude.{◌≡◌, ◌<◌, ◌^◌, ℕ, List, length, take}
 use Rattle.programs.specs.declared.node.Node.{Node}
 use Rattle.step_model.specs.Listing.{Listing}

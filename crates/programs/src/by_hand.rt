@@ -1,7 +1,8 @@
 //! Programs written by hand, as tests need them: all that a program asks for is tested here, over its unrolled steps.
-ghost use Rattle.std.specs.Prelude.{◌≡◌, [], map, true, IfOk, IfSome, Some};
+ghost use Rattle.std.specs.Prelude.{◌≡◌, [], map, true, IfOk, IfSome, OnOk, Some};
 ghost use Rattle.step_model.specs.Probabilities.{probability_bound};
 ghost use Rattle.programs.specs.ByHand.{written, kept_of, Puts};
+ghost use Rattle.programs.specs.KeptLists.{Keeps, KeepsNothing};
 ghost use Rattle.programs.specs.Listed.{listed_steps, made_faults};
 ghost use Rattle.programs.specs.Made.{entries_of};
 ghost use Rattle.programs.specs.Numbering.{no_counts, counts_over};
@@ -65,10 +66,20 @@ pub fn program_of<'a, A: Allocator + Copy>(
     let Some(nodes) = nodes_of(alloc, pieces)? else {
         return Ok(None);
     };
-    let Some(kept) = kept_parts(alloc, lists.entries)? else {
+    let mut parts = bare(alloc, qubits, nodes);
+    if !keep(&mut parts, lists)? {
         return Ok(None);
-    };
-    Ok(checked(Parts {
+    }
+    Ok(checked(parts))
+}
+
+// Parts with nothing beside their circuit.
+fn bare<'a, A: Allocator + Copy>(alloc: A, qubits: u32, nodes: Vec<Node, A>) -> Parts<'a, A>
+    ensures qubits { result.qubits ≡ qubits }
+    ensures nodes { result.nodes ≡ nodes }
+    ensures bare { KeepsNothing result }
+{
+    Parts {
         qubits,
         steps: 0,
         counts: Counts {
@@ -77,13 +88,30 @@ pub fn program_of<'a, A: Allocator + Copy>(
             faults: 0,
         },
         nodes,
-        detectors: flat(alloc, lists.detectors)?,
-        observables: flat(alloc, lists.observables)?,
-        coordinates: flat(alloc, lists.coordinates)?,
-        entries: kept.entries,
-        terms: kept.terms,
-        products: flat(alloc, lists.products)?,
-    }))
+        detectors: FlatLists::new(alloc),
+        observables: FlatLists::new(alloc),
+        coordinates: FlatLists::new(alloc),
+        entries: Vec::new(alloc),
+        terms: FlatLists::new(alloc),
+        products: FlatLists::new(alloc),
+    }
+}
+
+// Keeps these lists in parts without any, where the texts of the entries are of those that can be read here.
+fn keep<'a, A: Allocator + Copy>(
+    parts: &mut Parts<'a, A>,
+    lists: Lists<'a>,
+) -> Result<bool, AllocError>
+    requires { KeepsNothing parts.old }
+    ensures qubits { OnOk result (parts.new.qubits ≡ parts.old.qubits) }
+    ensures nodes { OnOk result (parts.new.nodes ≡ parts.old.nodes) }
+    ensures lists { IfOk result (λ fits. fits ≡ true → Keeps parts.new lists.entry) }
+{
+    keep_lists(&mut parts.detectors, lists.detectors)?;
+    keep_lists(&mut parts.observables, lists.observables)?;
+    keep_lists(&mut parts.coordinates, lists.coordinates)?;
+    keep_lists(&mut parts.products, lists.products)?;
+    keep_entries(&mut parts.entries, &mut parts.terms, lists.entries)
 }
 
 // The nodes of a circuit in pieces, where its blocks are whole, have a turn and aren't too deep.
@@ -135,25 +163,19 @@ fn put<A: Allocator + Copy>(
     }
 }
 
-// What is kept of faults: the texts of their probabilities with their bounds, and their letters at qubits.
-#[derive(Drop)]
-struct KeptParts<'a, A: Allocator + Copy> {
-    entries: Vec<EntryPart<'a>, A>,
-    terms: FlatLists<Term, A>,
-}
-
-// These entries as a program keeps them, where their texts are of those that can be read here.
-fn kept_parts<'a, A: Allocator + Copy>(
-    alloc: A,
+// Keeps these entries, where their texts are of those that can be read here.
+fn keep_entries<'a, A: Allocator + Copy>(
+    parts: &mut Vec<EntryPart<'a>, A>,
+    terms: &mut FlatLists<Term, A>,
     entries: &'a [Entry<'a>],
-) -> Result<Option<KeptParts<'a, A>>, AllocError>
-    ensures { IfOk result (λ o. IfSome o (λ kept. entries_of kept.entries.items kept.terms ≡ map kept_of entries.now)) }
+) -> Result<bool, AllocError>
+    requires parts { parts.old.items ≡ [] }
+    requires terms { terms.old ≡ [] }
+    ensures { IfOk result (λ fits. fits ≡ true → entries_of parts.new.items terms.new ≡ map kept_of entries.now) }
 {
-    let mut parts = Vec::new(alloc);
-    let mut terms = FlatLists::new(alloc);
     for entry in entries {
         let Some(bound) = bound_of(entry.text) else {
-            return Ok(None);
+            return Ok(false);
         };
         parts.push(EntryPart {
             text: entry.text,
@@ -161,24 +183,21 @@ fn kept_parts<'a, A: Allocator + Copy>(
         })?;
         terms.push(entry.terms)?;
     }
-    Ok(Some(KeptParts {
-        entries: parts,
-        terms,
-    }))
+    Ok(true)
 }
 
-// Lists as they are kept.
-fn flat<T: Copy, A: Allocator + Copy>(
-    alloc: A,
+// Keeps these lists.
+fn keep_lists<T: Copy, A: Allocator + Copy>(
+    kept: &mut FlatLists<T, A>,
     lists: &[&[T]],
-) -> Result<FlatLists<T, A>, AllocError>
-    ensures { IfOk result (λ kept. kept ≡ map (λ list. list.now) lists.now) }
+) -> Result<(), AllocError>
+    requires { kept.old ≡ [] }
+    ensures { OnOk result (kept.new ≡ map (λ list. list.now) lists.now) }
 {
-    let mut kept = FlatLists::new(alloc);
     for list in lists {
         kept.push(*list)?;
     }
-    Ok(kept)
+    Ok(())
 }
 
 // Floor of a probability times 2^64.

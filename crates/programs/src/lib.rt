@@ -7,8 +7,6 @@ mod node;
 mod place;
 mod program;
 mod step;
-#[cfg(test)]
-mod tests;
 mod walk;
 
 pub use builder::CircuitBuilder;

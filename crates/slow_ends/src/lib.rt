@@ -4,8 +4,6 @@
 
 mod slow_sink;
 mod slow_source;
-#[cfg(test)]
-mod tests;
 
 pub use slow_sink::SlowSink;
 pub use slow_source::SlowSource;

@@ -3,8 +3,6 @@
 #![tactic(auto)]
 
 mod reader_source;
-#[cfg(test)]
-mod tests;
 mod writer_sink;
 
 pub use reader_source::ReaderSource;

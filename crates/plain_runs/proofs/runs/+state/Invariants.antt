@@ -25,3 +25,6 @@ decreases-record_made g l = 4 * l.steps + 2
 
 abbrev pub decreases-record_after : goal.decreases-record_after
 decreases-record_after g l = 4 * l.steps + 3
+
+abbrev pub decreases-is_in_after : goal.decreases-is_in_after
+decreases-is_in_after g l = 4 * l.steps + 3

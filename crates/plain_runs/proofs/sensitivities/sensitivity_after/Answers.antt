@@ -14,8 +14,8 @@ loop-left-preserved g c =
       above = omega (arith, c.loop-left-test.true);
       within = omega (arith, c.loop-left.invariant.within);
       sensitivity =
-          c.in_ok-s.ensures.before
+          c.in_ok-go_back_over.ensures.before
           ∙ (ap (sensitivity_before program.qubits (step_at program i)) c.loop-left.invariant.sensitivity
           ∙ sym (sensitivity-more program c.args.named.now i c.loop-left.left next inside));
-      letters = c.in_ok-s.ensures.letters;
+      letters = c.in_ok-go_back_over.ensures.letters;
     }

@@ -1,0 +1,13 @@
+mod bits;
+mod coin_pairs;
+mod faults;
+mod held;
+mod judged;
+mod lines;
+mod lists;
+mod models;
+mod reader_ends;
+mod short_ends;
+mod texts;
+mod walks;
+mod words;

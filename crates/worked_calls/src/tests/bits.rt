@@ -1,0 +1,194 @@
+ghost use Rattle.std.specs.Prelude.{◌≡◌, ◌<◌, length, IfOk};
+
+use bit_rows::BitRow;
+use rand_core::{Rng, SeedableRng};
+use rand_pcg::Pcg64;
+use std::alloc::{AllocError, Global};
+use std::process::Abort;
+use std::test::Fail;
+
+const LENGTHS: [usize; 9] = [0, 1, 63, 64, 65, 511, 512, 513, 4096];
+
+// A row of ones.
+fn ones(alloc: Global, n: usize) -> Result<BitRow<Global>, AllocError>
+    ensures { IfOk result (λ row. length row ≡ n) }
+{
+    let mut row = BitRow::zeros(alloc, n)?;
+    for i in 0..n {
+        row.set(i, true);
+    }
+    Ok(row)
+}
+
+// A row of the lowest bits of a generator's words.
+fn drawn(alloc: Global, n: usize, seed: u64) -> Result<BitRow<Global>, AllocError>
+    ensures { IfOk result (λ row. length row ≡ n) }
+{
+    let mut row = BitRow::zeros(alloc, n)?;
+    let mut generator = Pcg64::seed_from_u64(seed);
+    for i in 0..n {
+        row.set(i, generator.next_u64() & 1 == 1);
+    }
+    Ok(row)
+}
+
+fn plain_parity(a: &BitRow<Global>, b: &BitRow<Global>) -> bool
+    requires { length a.now ≡ length b.now }
+{
+    let mut odd = false;
+    for i in 0..a.len() {
+        odd ^= a.get(i) && b.get(i);
+    }
+    odd
+}
+
+fn plain_letter(xa: bool, za: bool, xb: bool, zb: bool) -> u8
+    ensures { result < 4 }
+{
+    match (xa, za, xb, zb) {
+        (true, false, true, true) | (true, true, false, true) | (false, true, true, false) => 1,
+        (true, true, true, false) | (false, true, true, true) | (true, false, false, true) => 3,
+        _ => 0,
+    }
+}
+
+fn plain_phase(
+    xa: &BitRow<Global>,
+    za: &BitRow<Global>,
+    xb: &BitRow<Global>,
+    zb: &BitRow<Global>,
+) -> u8
+    requires za { length za.now ≡ length xa.now }
+    requires xb { length xb.now ≡ length xa.now }
+    requires zb { length zb.now ≡ length xa.now }
+{
+    let mut power = 0;
+    for i in 0..xa.len() {
+        power = (power + plain_letter(xa.get(i), za.get(i), xb.get(i), zb.get(i))) % 4;
+    }
+    power
+}
+
+#[test]
+fn all_x_times_all_y(rt: HostRuntime) -> Result<(), Fail> {
+    for (n, power) in [(63, 3), (64, 0), (65, 1), (130, 2)] {
+        let one = ones(rt.alloc(), n)?;
+        let zero = BitRow::zeros(rt.alloc(), n)?;
+        assert_eq!(rt; BitRow::phase_step(&one, &zero, &one, &one), power);
+    }
+    Ok(())
+}
+
+#[test]
+fn common_ones_of_two_rows_of_ones(rt: HostRuntime) -> Result<(), Fail> {
+    for (n, odd) in [(128, false), (129, true)] {
+        let a = ones(rt.alloc(), n)?;
+        let b = ones(rt.alloc(), n)?;
+        assert_eq!(rt; a.and_parity(&b), odd);
+    }
+    Ok(())
+}
+
+#[test]
+fn parities_place_by_place(rt: HostRuntime) -> Result<(), Fail> {
+    for n in LENGTHS {
+        let a = drawn(rt.alloc(), n, 1)?;
+        let b = drawn(rt.alloc(), n, 2)?;
+        assert_eq!(rt; a.and_parity(&b), plain_parity(&a, &b));
+    }
+    Ok(())
+}
+
+#[test]
+fn powers_place_by_place(rt: HostRuntime) -> Result<(), Fail> {
+    for n in LENGTHS {
+        let xa = drawn(rt.alloc(), n, 3)?;
+        let za = drawn(rt.alloc(), n, 4)?;
+        let xb = drawn(rt.alloc(), n, 5)?;
+        let zb = drawn(rt.alloc(), n, 6)?;
+        assert_eq!(rt;
+            BitRow::phase_step(&xa, &za, &xb, &zb),
+            plain_phase(&xa, &za, &xb, &zb)
+        );
+    }
+    Ok(())
+}
+
+// The first place with a set bit, place by place.
+fn plain_first_one(row: &BitRow<Global>) -> Option<usize> {
+    for i in 0..row.len() {
+        if row.get(i) {
+            return Some(i);
+        }
+    }
+    None
+}
+
+#[test]
+fn first_ones_place_by_place(rt: HostRuntime) -> Result<(), Fail> {
+    for n in LENGTHS {
+        let mut row = drawn(rt.alloc(), n, 9)?;
+        assert_eq!(rt; row.first_one(), plain_first_one(&row));
+        row.clear();
+        assert_eq!(rt; row.first_one(), None);
+        if n > 0 {
+            row.set(n - 1, true);
+            assert_eq!(rt; row.first_one(), Some(n - 1));
+        }
+    }
+    Ok(())
+}
+
+fn assert_sum(rt: &impl Abort, a: &BitRow<Global>, b: &BitRow<Global>, sum: &BitRow<Global>)
+    requires b { length b.now ≡ length a.now }
+    requires sum { length sum.now ≡ length a.now }
+{
+    for i in 0..a.len() {
+        assert_eq!(rt; sum.get(i), a.get(i) != b.get(i));
+    }
+}
+
+#[test]
+fn sums_place_by_place(rt: HostRuntime) -> Result<(), Fail> {
+    for n in LENGTHS {
+        let a = drawn(rt.alloc(), n, 7)?;
+        let b = drawn(rt.alloc(), n, 8)?;
+        let mut sum = a.copy()?;
+        sum.xor_from(&b);
+        assert_sum(&rt, &a, &b, &sum);
+    }
+    Ok(())
+}
+
+#[test]
+fn places(rt: HostRuntime) -> Result<(), Fail> {
+    let mut row = BitRow::zeros(rt.alloc(), 130)?;
+    assert_eq!(rt; row.len(), 130);
+    assert_eq!(rt; row.first_one(), None);
+    assert!(rt; row.is_zero());
+    row.set(129, true);
+    row.flip(70);
+    assert!(rt; row.get(129) && row.get(70) && !row.get(71));
+    assert_eq!(rt; row.first_one(), Some(70));
+    row.flip(70);
+    assert_eq!(rt; row.first_one(), Some(129));
+    assert!(rt; !row.is_zero());
+    row.set(129, false);
+    assert!(rt; row.is_zero());
+    Ok(())
+}
+
+#[test]
+fn whole_rows(rt: HostRuntime) -> Result<(), Fail> {
+    let mut long = ones(rt.alloc(), 65)?;
+    let mut short = BitRow::zeros(rt.alloc(), 3)?;
+    long.swap(&mut short);
+    assert_eq!(rt; (long.len(), short.len()), (3, 65));
+    assert_eq!(rt; (long.first_one(), short.first_one()), (None, Some(0)));
+    let mut copied = BitRow::zeros(rt.alloc(), short.len())?;
+    copied.copy_from(&short);
+    assert!(rt; !copied.is_zero());
+    copied.clear();
+    assert!(rt; copied.is_zero() && !short.is_zero());
+    Ok(())
+}

@@ -1,0 +1,156 @@
+//! Texts with what they say or why they are refused, written out by hand from the format's rules.
+use gate_table::Gate;
+use pauli_word::Letter;
+use step_model::Cause;
+use stim_parser::{Operation, Target};
+
+/// What an item is to say.
+#[derive(Clone, Copy, Debug)]
+pub(crate) enum Wanted {
+    Does(u64, Operation, &'static [u8], &'static [Target]),
+    Begins(u64, u64),
+    Ends,
+}
+
+/// A text and its items.
+pub(crate) type Written = (&'static [u8], &'static [Wanted]);
+
+const H: Operation = Operation::Applies(Gate::H);
+
+const M: Operation = Operation::Measures(Letter::Z);
+
+pub(crate) const WRITTEN: [Written; 12] = [
+    (b"", &[]),
+    (b"# nothing\n\n \t\r\n#", &[]),
+    (b"H 0", &[Wanted::Does(1, H, b"", &[Target::Plain(0)])]),
+    (
+        b"\r\n\tH 0 1\r\n\n# two\nM(0.1) !2\r",
+        &[
+            Wanted::Does(2, H, b"", &[Target::Plain(0), Target::Plain(1)]),
+            Wanted::Does(5, M, b"0.1", &[Target::Inverted(2)]),
+        ],
+    ),
+    (b"REPEAT 2 {\n}", &[Wanted::Begins(1, 2), Wanted::Ends]),
+    (
+        b"H 3\nREPEAT 2 {\n  M 3\n  REPEAT 005{ # five\n    H 4\n  }\n\n} # both\nTICK",
+        &[
+            Wanted::Does(1, H, b"", &[Target::Plain(3)]),
+            Wanted::Begins(2, 2),
+            Wanted::Does(3, M, b"", &[Target::Plain(3)]),
+            Wanted::Begins(4, 5),
+            Wanted::Does(5, H, b"", &[Target::Plain(4)]),
+            Wanted::Ends,
+            Wanted::Ends,
+            Wanted::Does(9, Operation::Ticks, b"", &[]),
+        ],
+    ),
+    (
+        b"REPEAT 1 {\n REPEAT 2 {\n }\n REPEAT 3 {\n }\n}\nREPEAT 999999999999999999 {\n}\n",
+        &[
+            Wanted::Begins(1, 1),
+            Wanted::Begins(2, 2),
+            Wanted::Ends,
+            Wanted::Begins(4, 3),
+            Wanted::Ends,
+            Wanted::Ends,
+            Wanted::Begins(7, 999_999_999_999_999_999),
+            Wanted::Ends,
+        ],
+    ),
+    (
+        b"H[a # b { } [] 0\nM[}](0.2)1",
+        &[
+            Wanted::Does(1, H, b"", &[Target::Plain(0)]),
+            Wanted::Does(2, M, b"0.2", &[Target::Plain(1)]),
+        ],
+    ),
+    (
+        b"DETECTOR( 1 , -2,007 ) rec[-1] rec[-03]",
+        &[Wanted::Does(
+            1,
+            Operation::Detects,
+            b" 1 , -2,007 ",
+            &[Target::Back(1), Target::Back(3)],
+        )],
+    ),
+    (
+        b"OBSERVABLE_INCLUDE(01023)\nE(0.1) X1 z2\nMPP X0*Y1",
+        &[
+            Wanted::Does(1, Operation::Observes, b"01023", &[]),
+            Wanted::Does(
+                2,
+                Operation::ErrsTogether,
+                b"0.1",
+                &[
+                    Target::Pauli(false, Letter::X, 1),
+                    Target::Pauli(false, Letter::Z, 2),
+                ],
+            ),
+            Wanted::Does(
+                3,
+                Operation::MeasuresProducts,
+                b"",
+                &[
+                    Target::Pauli(false, Letter::X, 0),
+                    Target::Star,
+                    Target::Pauli(false, Letter::Y, 1),
+                ],
+            ),
+        ],
+    ),
+    (
+        b"cx rec[-1] 2 0 1",
+        &[Wanted::Does(
+            1,
+            Operation::Applies(Gate::CX),
+            b"",
+            &[
+                Target::Back(1),
+                Target::Plain(2),
+                Target::Plain(0),
+                Target::Plain(1),
+            ],
+        )],
+    ),
+    (
+        b"X_ERROR(1) 4\nRY 1\nMRX 2\nQUBIT_COORDS(1.5) 0\nSHIFT_COORDS(1)",
+        &[
+            Wanted::Does(1, Operation::Errs(Letter::X), b"1", &[Target::Plain(4)]),
+            Wanted::Does(2, Operation::Resets(Letter::Y), b"", &[Target::Plain(1)]),
+            Wanted::Does(
+                3,
+                Operation::MeasuresAndResets(Letter::X),
+                b"",
+                &[Target::Plain(2)],
+            ),
+            Wanted::Does(4, Operation::PlacesQubits, b"1.5", &[Target::Plain(0)]),
+            Wanted::Does(5, Operation::ShiftsCoordinates, b"1", &[]),
+        ],
+    ),
+];
+
+/// Texts, and why and by which line each is refused.
+pub(crate) const REFUSED: [(&'static [u8], Cause, u64); 18] = [
+    (b"H 0\nFOO 0\nBAR 0", Cause::Name, 2),
+    (b"# a\n\nMPAD 0\nFOO", Cause::LeftOut, 3),
+    (b"H 0 \x7f\n}", Cause::Byte, 1),
+    (b"FOO\nH 0 \x7f", Cause::Name, 1),
+    (b"}", Cause::Block, 1),
+    (b"H 0\n\n# c\n } # d", Cause::Block, 4),
+    (b"REPEAT 2 {\n}\n}\n", Cause::Block, 3),
+    (b"REPEAT 2\n}", Cause::Block, 1),
+    (b"REPEAT 2 {\nH 0", Cause::Block, 1),
+    (
+        b"REPEAT 2 {\n REPEAT 3 {\n }\n REPEAT 4 {\n\n",
+        Cause::Block,
+        4,
+    ),
+    (b"REPEAT 2 {\n REPEAT 3 {\n }\n", Cause::Block, 1),
+    (b"REPEAT 2 {\nCX 0\n", Cause::Count, 2),
+    (b"REPEAT 0 {\n}", Cause::RepeatZero, 1),
+    (b"REPEAT 2 {\n}\nREPEAT 00 {\nFOO", Cause::RepeatZero, 3),
+    (b"H[ 0", Cause::Arguments, 1),
+    (b"M(2) 0\nM( 0", Cause::Probability, 1),
+    (b"H 0\nH 4096", Cause::Number, 2),
+    (b"H X0\r\nCX 1 1", Cause::Target, 1),
+];
