@@ -1,0 +1,82 @@
+-- The model of a text, put together from what was read of it.
+use Rattle.std.proofs.Common.{◌≡◌, ℕ, ◌≤◌, true, false, ℤ, List, [], None, Some, Ok, Err, ◌⊎◌, inl, inr, length, map, ap, ap₂, sym, ◌∙◌, arith}
+use Rattle.std.specs.Prelude.{if◌then◌else◌, option_map}
+use Rattle.std.specs.List.{range_with_len}
+use Rattle.std.specs.Option.{option_or}
+use Rattle.std.proofs.lemmas.List.FromFn.{length-map-range_with_len}
+use Rattle.step_model.specs.declared.fault.Cause.TheVariants as cause
+use Rattle.step_model.specs.declared.fault.Fault.{Fault}
+use Rattle.step_model.specs.ErrorModels.{ErrorModel}
+use Rattle.step_model.specs.Faults.{memory_fault, without_line}
+use Rattle.dem_parser.specs.Flat.{tree_of-items}
+use Rattle.dem_parser.specs.Meanings.{detector_count, error_lines, last_coordinates, meaning_of, observable_count}
+use Rattle.dem_parser.specs.Models.{first_beyond, has_many_lines, model_in, model_of_items, model_of_tree, placed_lines, unless_refused_by}
+use Rattle.dem_parser.specs.Shifts.{Placed}
+use Rattle.dem_parser.specs.Texts.{refused}
+use Rattle.dem_parser.specs.Trees.{IsRefusedBy, Tree, Writes}
+use Rattle.dem_parser.proofs.BuildLemmas.{with_lines}
+
+-- ---- the model of placed lines
+
+abbrev made : List Placed → ℕ → ℕ → List (List ℤ) → ℕ → ErrorModel
+made lines d o coordinates detectors =
+    record { lines = error_lines d o lines; coordinates = coordinates; detectors = detectors; observables = o }
+
+pub built : (lines : List Placed) (d o : ℕ) (cs : List (List ℤ)) (start after : ErrorModel) → d ≡ detector_count lines → o ≡ observable_count lines
+    → cs ≡ map (λ e. last_coordinates e [] lines) (range_with_len 0 d)
+    → start ≡ record { lines = []; coordinates = cs; detectors = length cs; observables = o }
+    → ((observables : ℕ) → detector_count lines ≤ d → observable_count lines ≤ observables → after ≡ with_lines start (error_lines d observables lines))
+    → after ≡ meaning_of lines
+built lines d o cs start after ed eo ec es h =
+    let long : length cs ≡ d = ap length ec ∙ length-map-range_with_len (λ e. last_coordinates e [] lines) 0 d in
+    h o (omega (arith, ed)) (omega (arith, eo))
+    ∙ ap (λ m. with_lines m (error_lines d o lines)) es
+    ∙ ap (made lines d o cs) long
+    ∙ ap (λ xs. made lines d o xs d) ec
+    ∙ ap₂ (λ n k. made lines n k (map (λ e. last_coordinates e [] lines) (range_with_len 0 n)) n) ed eo
+
+-- ---- the model of a tree
+
+pub many-lines : (t : Tree) → has_many_lines t ≡ true → model_of_tree t ≡ Err (without_line cause.DemSteps)
+many-lines t e =
+    ap
+    (λ b. unless_refused_by
+    (option_or (if b then Some (without_line cause.DemSteps) else None) (option_map (refused cause.DemNumber) (first_beyond (placed_lines t))))
+    (meaning_of (placed_lines t)))
+    e
+
+few-lines : (t : Tree) → has_many_lines t ≡ false → model_of_tree t ≡ unless_refused_by (option_map (refused cause.DemNumber) (first_beyond (placed_lines t))) (meaning_of (placed_lines t))
+few-lines t e =
+    ap
+    (λ b. unless_refused_by
+    (option_or (if b then Some (without_line cause.DemSteps) else None) (option_map (refused cause.DemNumber) (first_beyond (placed_lines t))))
+    (meaning_of (placed_lines t)))
+    e
+
+pub number-beyond : (t : Tree) (f : Fault) → has_many_lines t ≡ false
+    → (f ≡ memory_fault) ⊎ (option_map (refused cause.DemNumber) (first_beyond (placed_lines t)) ≡ Some f) → (f ≡ memory_fault) ⊎ (model_of_tree t ≡ Err f)
+number-beyond t f e (inl m) = inl m
+number-beyond t f e (inr r) = inr (few-lines t e ∙ ap (λ o. unless_refused_by o (meaning_of (placed_lines t))) r)
+
+pub whole-model : (t : Tree) (lines : List Placed) (m : ErrorModel) → has_many_lines t ≡ false → first_beyond (placed_lines t) ≡ None → lines ≡ placed_lines t
+    → m ≡ meaning_of lines → model_of_tree t ≡ Ok m
+whole-model t lines m e near same is =
+    few-lines t e
+    ∙ ap (λ o. unless_refused_by (option_map (refused cause.DemNumber) o) (meaning_of (placed_lines t))) near
+    ∙ ap (λ (n : ErrorModel). Ok n) (ap (λ ps. meaning_of ps) (sym same) ∙ sym is)
+
+-- ---- the model of a text
+
+pub written-model : (text : List ℕ) (t : Tree) → Writes text t → model_in text ≡ model_of_tree t
+written-model text t w = ap model_of_items w ∙ ap (λ u. model_of_tree u) (tree_of-items t)
+
+pub read-model : (text : List ℕ) (t : Tree) (m : ErrorModel) → Writes text t → model_of_tree t ≡ Ok m → model_in text ≡ Ok m
+read-model text t m w e = written-model text t w ∙ e
+
+pub refused-model : (text : List ℕ) (t : Tree) (f : Fault) → Writes text t → (f ≡ memory_fault) ⊎ (model_of_tree t ≡ Err f) → (f ≡ memory_fault) ⊎ (model_in text ≡ Err f)
+refused-model text t f w (inl m) = inl m
+refused-model text t f w (inr r) = inr (written-model text t w ∙ r)
+
+pub refused-lines : (text : List ℕ) (f : Fault) → (f ≡ memory_fault) ⊎ IsRefusedBy text f → (f ≡ memory_fault) ⊎ (model_in text ≡ Err f)
+refused-lines text f (inl m) = inl m
+refused-lines text f (inr r) = inr (ap model_of_items r)

@@ -1,0 +1,9 @@
+use Rattle.std.proofs.Common.{◌≡◌, drop}
+use Rattle.std.specs.Prelude.{max}
+use Rattle.dem_parser.specs.Meanings.{detectors_to, greatest_over, observables_to}
+use Rattle.dem_parser.proofs.counts.counts_of.Given as goal
+
+abbrev pub invariant-loop-i : goal.invariant-loop-i
+invariant-loop-i g l =
+    (max l.found.detectors (greatest_over detectors_to (drop l.i l.lines)) ≡ greatest_over detectors_to l.lines)
+    × (max l.found.observables (greatest_over observables_to (drop l.i l.lines)) ≡ greatest_over observables_to l.lines)

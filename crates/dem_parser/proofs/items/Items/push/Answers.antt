@@ -1,0 +1,21 @@
+use Rattle.std.proofs.Common.{◌≡◌, ℕ, List, [], ◌∷◌, ◌++◌, length, ap, ap₂, ◌∙◌}
+use Rattle.dem_parser.specs.declared.items.Node.{Node}
+use Rattle.dem_parser.specs.declared.items.Node.TheVariants as node
+use Rattle.dem_parser.specs.declared.target.Target.{Target}
+use Rattle.dem_parser.specs.Flat.{instruction_in, items_kept}
+use Rattle.dem_parser.specs.Texts.{Item, Does}
+use Rattle.dem_parser.proofs.FlatLemmas.{kept-more}
+use Rattle.dem_parser.proofs.items.Items.push.Goals as goal
+
+pub returns-clause-ok : goal.returns-clause-ok
+returns-clause-ok g c =
+    let i = c.args.instruction in
+    let lists = c.self.inside.targets in
+    let nodes : c.push_reserved.new.self.items ≡ c.self.inside.nodes.items ++ node.Does i.line i.operation i.arguments c.len-list.result ∷ [] =
+    c.push_reserved.ensures.items ∙ ap (λ (ns : List Node). ns ++ node.Does i.line i.operation i.arguments c.len-list.result ∷ []) c.reserve.ensures.items in
+    let made : items_kept c.push.new.self c.push_reserved.new.self.items ≡ items_kept (lists ++ i.targets.now ∷ []) (c.self.inside.nodes.items ++ node.Does i.line i.operation i.arguments (length lists) ∷ []) =
+    ap₂ (λ (ls : List (List Target)) (ns : List Node). items_kept ls ns) c.in_ok-push.ensures.ok
+    (nodes ∙ ap (λ (n : ℕ). c.self.inside.nodes.items ++ node.Does i.line i.operation i.arguments n ∷ []) c.len-list.ensures) in
+    made
+    ∙ kept-more lists c.self.inside.nodes.items i.targets.now i.line i.operation i.arguments c.self.invariant
+    ∙ ap (λ (is : List Item). is ++ Does (instruction_in i) ∷ []) c.self.view_is

@@ -1,0 +1,6 @@
+use Rattle.std.proofs.Common.{take}
+use Rattle.dem_parser.specs.Marked.{AreMarks}
+use Rattle.dem_parser.proofs.marks.marks_of.Given as goal
+
+abbrev pub invariant-loop-i : goal.invariant-loop-i
+invariant-loop-i g l = AreMarks l.lines l.detectors (take l.i l.lines) l.marks.items

@@ -1,0 +1,111 @@
+-- The error model that lines say where they are reached. Each `error` line is one of its lines, in their order: the text of
+-- its probability as it stood, and what it flips, which are the detectors and observables that it names an odd number of
+-- times; separators say nothing. The number of detectors is one more than the greatest that any line names, whether it
+-- cancels or not, or 0; and that of observables likewise. The coordinates of a detector are those of the last `detector`
+-- line that names it and gives any.
+-- (Stim's detector error model format, github.com/quantumlib/Stim, doc/file_format_dem_detector_error_model.md; which of
+-- several coordinates count is this project's choice.)
+use Rattle.std.specs.Prelude.{ℕ, ◌+◌, ◌==◌, max, Bool, true, false, not, ◌&&◌, if◌then◌else◌, ℤ, List, [], ◌∷◌, ◌++◌, map}
+use Rattle.std.specs.List.{filter, list_any, range_with_len}
+use Rattle.stim_lexer.specs.Bytes.{is_empty}
+use Rattle.pauli_word.specs.Parity.{exclusive_or}
+use Rattle.step_model.specs.ErrorModels.{ErrorLine, ErrorModel}
+use Rattle.dem_parser.specs.declared.operation.Operation.{Operation}
+use Rattle.dem_parser.specs.declared.operation.Operation.TheVariants.{Errs}
+use Rattle.dem_parser.specs.declared.target.Target.{Target}
+use Rattle.dem_parser.specs.declared.target.Target.TheVariants.{Detector, Observable}
+use Rattle.dem_parser.specs.Shifts.{Placed}
+
+-- ---- how many detectors and observables
+
+-- one more than the detector that a target names, or 0; and so for observables
+abbrev pub detectors_to : Target → ℕ
+detectors_to (Detector d) = d + 1
+detectors_to target = 0
+
+abbrev pub observables_to : Target → ℕ
+observables_to (Observable k) = k + 1
+observables_to target = 0
+
+-- the greatest count of targets, or 0
+abbrev pub greatest_of : (Target → ℕ) → List Target → ℕ
+greatest_of count [] = 0
+greatest_of count (target ∷ targets) = max (count target) (greatest_of count targets)
+
+unfoldable pub greatest_over : (Target → ℕ) → List Placed → ℕ
+greatest_over count [] = 0
+greatest_over count (placed ∷ rest) = max (greatest_of count placed.targets) (greatest_over count rest)
+
+abbrev pub detector_count : List Placed → ℕ
+detector_count lines = greatest_over detectors_to lines
+
+abbrev pub observable_count : List Placed → ℕ
+observable_count lines = greatest_over observables_to lines
+
+-- ---- what an error flips
+
+abbrev pub is_detector_of : ℕ → Target → Bool
+is_detector_of d (Detector e) = d == e
+is_detector_of d target = false
+
+abbrev pub is_observable_of : ℕ → Target → Bool
+is_observable_of k (Observable l) = k == l
+is_observable_of k target = false
+
+-- whether an odd number of targets pass
+abbrev pub is_odd_among : (Target → Bool) → List Target → Bool
+is_odd_among test [] = false
+is_odd_among test (target ∷ targets) = exclusive_or (test target) (is_odd_among test targets)
+
+-- the detectors below a number that targets name an odd number of times, ascending; and so for observables
+abbrev pub flipped_detectors : ℕ → List Target → List ℕ
+flipped_detectors detectors targets = filter (λ d. is_odd_among (is_detector_of d) targets) (range_with_len 0 detectors)
+
+abbrev pub flipped_observables : ℕ → List Target → List ℕ
+flipped_observables observables targets =
+    filter (λ k. is_odd_among (is_observable_of k) targets) (range_with_len 0 observables)
+
+-- detectors first, and observable k after all detectors and k more
+abbrev pub flipped : ℕ → ℕ → List Target → List ℕ
+flipped detectors observables targets =
+    flipped_detectors detectors targets ++ map (λ k. detectors + k) (flipped_observables observables targets)
+
+-- ---- error lines
+
+abbrev pub is_error : Operation → Bool
+is_error Errs = true
+is_error operation = false
+
+abbrev pub error_line : ℕ → ℕ → Placed → ErrorLine
+error_line detectors observables placed =
+    record { text = placed.text; targets = flipped detectors observables placed.targets }
+
+abbrev pub error_lines : ℕ → ℕ → List Placed → List ErrorLine
+error_lines detectors observables lines =
+    map (error_line detectors observables) (filter (λ placed. is_error placed.operation) lines)
+
+-- ---- coordinates
+
+-- whether a line gives coordinates to this detector
+abbrev pub gives_coordinates : ℕ → Placed → Bool
+gives_coordinates d placed = not (is_empty placed.coordinates) && list_any (is_detector_of d) placed.targets
+
+-- those that the last line gives that gives any, or these
+unfoldable pub last_coordinates : ℕ → List ℤ → List Placed → List ℤ
+last_coordinates d found [] = found
+last_coordinates d found (placed ∷ rest) =
+    last_coordinates d (if gives_coordinates d placed then placed.coordinates else found) rest
+
+abbrev pub coordinates_in : List Placed → List (List ℤ)
+coordinates_in lines = map (λ d. last_coordinates d [] lines) (range_with_len 0 (detector_count lines))
+
+-- ---- the model
+
+abbrev pub meaning_of : List Placed → ErrorModel
+meaning_of lines =
+    record {
+      lines = error_lines (detector_count lines) (observable_count lines) lines;
+      coordinates = coordinates_in lines;
+      detectors = detector_count lines;
+      observables = observable_count lines;
+    }

@@ -1,0 +1,65 @@
+-- The error model that a text writes, or why it writes none. Beyond the refusals of its lines, and after them, a text is
+-- refused where its blocks unroll to more than 4,000,000 lines; and then by the first line that is reached where it names
+-- a detector above 999,999 once shifted, or gives a coordinate of 10^18 or more in magnitude.
+-- (Stim's detector error model format, github.com/quantumlib/Stim, doc/file_format_dem_detector_error_model.md; the limits
+-- and the order of refusals are this project's.)
+use Rattle.std.specs.Prelude.{ℕ, nat_lt, nat_abs, Bool, ◌||◌, if◌then◌else◌, ℤ, List, Option, None, Some, option_map, find, Result, Ok, Err}
+use Rattle.std.specs.List.{list_any}
+use Rattle.std.specs.Option.{option_or}
+use Rattle.step_model.specs.declared.fault.Fault.{Fault}
+use Rattle.step_model.specs.declared.fault.Cause.TheVariants as cause
+use Rattle.step_model.specs.ErrorModels.{ErrorModel}
+use Rattle.step_model.specs.Faults.{without_line}
+use Rattle.stim_parser.specs.Numbers.{is_number_beyond}
+use Rattle.dem_parser.specs.Flat.{tree_of}
+use Rattle.dem_parser.specs.Limits.{has_target_beyond}
+use Rattle.dem_parser.specs.Meanings.{meaning_of}
+use Rattle.dem_parser.specs.Reached.{reached, block_lines}
+use Rattle.dem_parser.specs.Shifts.{Placed, no_shift, placed_from}
+use Rattle.dem_parser.specs.Texts.{Item, items_in, refused}
+use Rattle.dem_parser.specs.Trees.{Tree}
+
+-- how many lines blocks may unroll to
+abbrev pub most_lines : ℕ
+most_lines = 4_000_000
+
+abbrev pub has_many_lines : Tree → Bool
+has_many_lines tree = nat_lt most_lines (block_lines tree)
+
+-- the lines of a tree where they are reached
+abbrev pub placed_lines : Tree → List Placed
+placed_lines tree = placed_from no_shift (reached tree)
+
+-- a coordinate beyond its limit
+abbrev pub is_far : ℤ → Bool
+is_far c = is_number_beyond (nat_abs c)
+
+-- a number that is beyond its limit where the line is reached
+abbrev pub is_beyond : Placed → Bool
+is_beyond placed = has_target_beyond placed.targets || list_any is_far placed.coordinates
+
+-- the first line that has one
+abbrev pub first_beyond : List Placed → Option ℕ
+first_beyond lines = option_map (λ placed. placed.line) (find is_beyond lines)
+
+-- the refusal of a tree, where it has one
+abbrev pub refusal_of_tree : Tree → Option Fault
+refusal_of_tree tree =
+    option_or (if has_many_lines tree then Some (without_line cause.DemSteps) else None)
+    (option_map (refused cause.DemNumber) (first_beyond (placed_lines tree)))
+
+abbrev pub unless_refused_by : Option Fault → ErrorModel → Result ErrorModel Fault
+unless_refused_by None model = Ok model
+unless_refused_by (Some fault) model = Err fault
+
+-- the model of a tree, or its refusal
+abbrev pub model_of_tree : Tree → Result ErrorModel Fault
+model_of_tree tree = unless_refused_by (refusal_of_tree tree) (meaning_of (placed_lines tree))
+
+abbrev pub model_of_items : Result (List Item) Fault → Result ErrorModel Fault
+model_of_items (Ok items) = model_of_tree (tree_of items)
+model_of_items (Err fault) = Err fault
+
+-- the model of a text, or its refusal
+abbrev pub model_in : List ℕ → Result ErrorModel Fault
+model_in text = model_of_items (items_in text)

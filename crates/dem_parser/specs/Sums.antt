@@ -1,0 +1,38 @@
+-- The exclusive sum of error lines that are named: a truth value for each target, detectors first, which says whether an odd
+-- number of the targets of the lines named are this one.
+-- (Stim's detector error model format, github.com/quantumlib/Stim, doc/file_format_dem_detector_error_model.md.)
+use Rattle.std.specs.Prelude.{ℕ, zero, suc, ◌+◌, ◌==◌, Bool, false, not, ◌&&◌, if◌then◌else◌, List, [], ◌∷◌, map}
+use Rattle.std.specs.List.{range_with_len}
+use Rattle.pauli_word.specs.Parity.{exclusive_or}
+use Rattle.step_model.specs.ErrorModels.{ErrorLine, ErrorModel}
+
+-- whether a target is named an odd number of times
+abbrev pub is_flipped : ℕ → List ℕ → Bool
+is_flipped t [] = false
+is_flipped t (u ∷ targets) = exclusive_or (t == u) (is_flipped t targets)
+
+-- whether a target is flipped by an odd number of the lines named
+abbrev pub is_in_symptom : List Bool → List ErrorLine → ℕ → Bool
+is_in_symptom (named ∷ rest) (line ∷ lines) t = exclusive_or (named && is_flipped t line.targets) (is_in_symptom rest lines t)
+is_in_symptom named lines t = false
+
+abbrev pub symptom_of : ErrorModel → List Bool → List Bool
+symptom_of model named = map (is_in_symptom named model.lines) (range_with_len 0 (model.detectors + model.observables))
+
+-- ---- truth values turned round one after another
+
+-- the one at this place turned round; past the end all stay
+abbrev pub turned_at : List Bool → ℕ → List Bool
+turned_at [] t = []
+turned_at (b ∷ bits) zero = not b ∷ bits
+turned_at (b ∷ bits) (suc t) = b ∷ turned_at bits t
+
+-- those at these places, each as often as its place stands there
+abbrev pub turned : List Bool → List ℕ → List Bool
+turned bits [] = bits
+turned bits (t ∷ targets) = turned (turned_at bits t) targets
+
+-- by the targets of the lines named
+abbrev pub turned_by : List Bool → List Bool → List ErrorLine → List Bool
+turned_by bits (named ∷ rest) (line ∷ lines) = turned_by (if named then turned bits line.targets else bits) rest lines
+turned_by bits named lines = bits

@@ -1,0 +1,84 @@
+ghost use Rattle.std.specs.Prelude.{◌≡◌, ◌≤◌, ◌++◌, [], ◌∷◌, ℕ, IfOk};
+ghost use Rattle.dem_parser.specs.KeptLines.{placed_in};
+ghost use Rattle.dem_parser.specs.Meanings.{detector_count, detectors_to, error_lines, greatest_of, meaning_of, observable_count, observables_to};
+
+use crate::counts::counts_of;
+use crate::flips::read_flipped;
+use crate::marks::coordinates_of;
+use crate::operation::Operation;
+use crate::placed::{PlacedLine, PlacedLines};
+use dem_text::Model;
+use std::alloc::{AllocError, Allocator};
+
+/// Room for the numbers of a line's targets.
+#[derive(Drop)]
+struct Room<A: Allocator + Copy> {
+    numbers: Vec<u32, A>,
+    kept: Vec<u32, A>,
+}
+
+/// A count. One that does not fit would take more than memory holds.
+fn narrowed(count: u128) -> Result<u32, AllocError>
+    ensures { IfOk result (λ found. found ≡ count) }
+{
+    if count > u32::MAX as u128 {
+        return Err(AllocError);
+    }
+    Ok(count as u32)
+}
+
+/// Appends the error line that a line says, where it says one.
+fn push_error<'a, A: Allocator + Copy>(
+    model: &mut Model<'a, A>,
+    room: &mut Room<A>,
+    detectors: u32,
+    line: PlacedLine<'_, 'a>,
+) -> Result<(), AllocError>
+    ensures { IfOk result (λ _. (observables : ℕ) → greatest_of detectors_to line.entry.targets.now ≤ detectors → greatest_of observables_to line.entry.targets.now ≤ observables
+        → model.new ≡ record model.old { lines = model.old.lines ++ error_lines detectors observables (placed_in line.entry ∷ []) }) }
+{
+    match line.operation {
+        Operation::Errs => {
+            read_flipped(&mut room.numbers, &mut room.kept, detectors, line.targets)?;
+            model.push_line(line.text, room.kept.as_slice())?;
+            Ok(())
+        }
+        _ => Ok(()),
+    }
+}
+
+/// Appends the error lines that lines say.
+fn push_errors<'a, A: Allocator + Copy>(
+    alloc: A,
+    model: &mut Model<'a, A>,
+    detectors: u32,
+    lines: &PlacedLines<'a, A>,
+) -> Result<(), AllocError>
+    ensures { IfOk result (λ _. (observables : ℕ) → detector_count lines.now ≤ detectors → observable_count lines.now ≤ observables
+        → model.new ≡ record model.old { lines = model.old.lines ++ error_lines detectors observables lines.now }) }
+{
+    let mut room = Room {
+        numbers: Vec::new(alloc),
+        kept: Vec::new(alloc),
+    };
+    for i in 0..lines.len() {
+        push_error(model, &mut room, detectors, lines.get(i))?;
+    }
+    Ok(())
+}
+
+/// The error model that lines say where they are reached.
+pub(crate) fn model_of<'a, A: Allocator + Copy>(
+    alloc: A,
+    lines: &PlacedLines<'a, A>,
+) -> Result<Model<'a, A>, AllocError>
+    ensures { IfOk result (λ model. model ≡ meaning_of lines.now) }
+{
+    let counts = counts_of(lines);
+    let detectors = narrowed(counts.detectors)?;
+    let observables = narrowed(counts.observables)?;
+    let coordinates = coordinates_of(alloc, lines, detectors as usize)?;
+    let mut model = Model::new(alloc, coordinates, observables as usize);
+    push_errors(alloc, &mut model, detectors, lines)?;
+    Ok(model)
+}

@@ -1,0 +1,93 @@
+ghost use Rattle.std.specs.Prelude.{◌≡◌, ◌+◌, ◌<◌, ◌≤◌, ◌++◌, [], ◌∷◌, ℕ, List, All, IfOk};
+ghost use Rattle.std.specs.List.Sorted.{IsNonDecreasing};
+ghost use Rattle.dem_parser.specs.Meanings.{detectors_to, flipped, greatest_of, observables_to};
+ghost use Rattle.dem_parser.specs.Numbered.{numbered, numbers_of, odd_below};
+
+use crate::target::Target;
+use std::alloc::{AllocError, Allocator};
+
+/// A number of a target. One that does not fit would take more targets than memory holds.
+fn number_at(first: u32, number: u64) -> Result<u32, AllocError>
+    ensures { IfOk result (λ found. found ≡ first + number) }
+{
+    let Some(sum) = (first as u64).checked_add(number) else {
+        return Err(AllocError);
+    };
+    if sum > u32::MAX as u64 {
+        return Err(AllocError);
+    }
+    Ok(sum as u32)
+}
+
+/// Appends the number of a target, where there are so many detectors. A separator has none.
+fn push_number<A: Allocator + Copy>(
+    numbers: &mut Vec<u32, A>,
+    detectors: u32,
+    target: Target,
+) -> Result<(), AllocError>
+    ensures { IfOk result (λ _. numbers.new.items ≡ numbers.old.items ++ numbered detectors target) }
+{
+    match target {
+        Target::Detector(detector) => numbers.push(number_at(0, detector)?)?,
+        Target::Observable(observable) => numbers.push(number_at(detectors, observable)?)?,
+        _ => {}
+    }
+    Ok(())
+}
+
+/// Puts the numbers of targets in place of those that were there.
+fn read_numbers<A: Allocator + Copy>(
+    numbers: &mut Vec<u32, A>,
+    detectors: u32,
+    targets: &[Target],
+) -> Result<(), AllocError>
+    ensures { IfOk result (λ _. numbers.new.items ≡ numbers_of detectors targets.now) }
+{
+    numbers.clear();
+    for target in targets {
+        push_number(numbers, detectors, *target)?;
+    }
+    Ok(())
+}
+
+/// Takes a number off the end, or puts it there where it isn't.
+fn toggle<A: Allocator + Copy>(kept: &mut Vec<u32, A>, number: u32) -> Result<(), AllocError>
+    ensures there { IfOk result (λ _. (before : List ℕ) → kept.old.items ≡ before ++ number ∷ [] → kept.new.items ≡ before) }
+    ensures absent { IfOk result (λ _. All (λ n. n < number) kept.old.items → kept.new.items ≡ kept.old.items ++ number ∷ []) }
+{
+    if let Some(last) = kept.pop() {
+        if last == number {
+            return Ok(());
+        }
+        kept.push(last)?;
+    }
+    kept.push(number)?;
+    Ok(())
+}
+
+/// Puts the numbers that stand an odd number of times among ascending ones in place of those that were there.
+fn keep_odd<A: Allocator + Copy>(kept: &mut Vec<u32, A>, numbers: &[u32]) -> Result<(), AllocError>
+    requires { IsNonDecreasing numbers.now }
+    ensures { IfOk result (λ _. (n : ℕ) → All (λ m. m < n) numbers.now → kept.new.items ≡ odd_below n numbers.now) }
+{
+    kept.clear();
+    for number in numbers {
+        toggle(kept, *number)?;
+    }
+    Ok(())
+}
+
+/// Puts the numbers of what targets flip in place of those that were there.
+pub(crate) fn read_flipped<A: Allocator + Copy>(
+    numbers: &mut Vec<u32, A>,
+    kept: &mut Vec<u32, A>,
+    detectors: u32,
+    targets: &[Target],
+) -> Result<(), AllocError>
+    ensures { IfOk result (λ _. (observables : ℕ) → greatest_of detectors_to targets.now ≤ detectors → greatest_of observables_to targets.now ≤ observables → kept.new.items ≡ flipped detectors observables targets.now) }
+{
+    read_numbers(numbers, detectors, targets)?;
+    numbers.sort()?;
+    keep_odd(kept, numbers.as_slice())?;
+    Ok(())
+}

@@ -1,0 +1,39 @@
+//! The error model that a text writes, or why the text is refused.
+#![tactic(auto)]
+
+mod blocks;
+mod build;
+mod builder;
+mod checks;
+mod counts;
+mod flips;
+mod forms;
+mod instruction;
+mod items;
+mod judge;
+pub mod laws;
+mod line_counts;
+mod lines;
+mod marks;
+mod names;
+mod operation;
+mod parser;
+mod placed;
+mod placing;
+mod reached;
+#[cfg(test)]
+mod read_tests;
+mod reader;
+mod shifts;
+mod sums;
+mod target;
+#[cfg(test)]
+mod tests;
+
+pub use instruction::Instruction;
+pub use lines::{Item, ModelLines};
+pub use operation::Operation;
+pub use parser::parse;
+pub use reader::read;
+pub use sums::symptom;
+pub use target::Target;

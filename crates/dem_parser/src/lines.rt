@@ -1,0 +1,77 @@
+ghost use Rattle.std.specs.Prelude.{◌≡◌, ◌<◌, ◌==◌, Some, length, slice_get};
+ghost use Rattle.dem_parser.specs.Fitting.{IsAccepted};
+ghost use Rattle.dem_parser.specs.Flat.{item_in, IsWritten};
+ghost use Rattle.dem_parser.specs.Trees.{items_of};
+
+use crate::instruction::Instruction;
+use crate::items::Items;
+use std::alloc::Allocator;
+use std::marker::Model;
+
+/// What stands at a place of an error model: an instruction, the start of a block by its line and its turns, or the end of
+/// the innermost block.
+#[derive(Clone, Copy)]
+pub enum Item<'c, 'a> {
+    Does(Instruction<'c, 'a>),
+    Begins { line: u64, turns: u64 },
+    Ends,
+}
+
+/// An error model as its text writes it, its blocks among its instructions.
+#[derive(Drop)]
+pub struct ModelLines<'a, A: Allocator + Copy> {
+    items: Items<'a, A>,
+}
+
+impl<'a, A: Allocator + Copy> Model for ModelLines<'a, A> {
+    ghost use Rattle.dem_parser.specs.Flat.{IsWritten, coded_tree, tree_of};
+    ghost use Rattle.dem_parser.specs.Trees.{Tree};
+
+    ghost Value = { Tree };
+
+    ghost coded = { coded_tree };
+
+    ghost view = { λ c. tree_of c.items };
+
+    ghost invariant = { λ c. IsWritten c.items };
+}
+
+impl<'a, A: Allocator + Copy> ModelLines<'a, A> {
+    /// The model of these items.
+    pub(crate) fn new(items: Items<'a, A>) -> Self
+        requires { IsWritten items }
+        ensures { items_of result ≡ items.entry }
+    {
+        ModelLines { items }
+    }
+
+    /// How many items there are, the ends of blocks too.
+    pub fn len(&self) -> usize
+        ensures { result ≡ length (items_of self.now) }
+    {
+        self.items.len()
+    }
+
+    /// Whether there is no item.
+    pub fn is_empty(&self) -> bool
+        ensures { result ≡ (length (items_of self.now) == 0) }
+    {
+        self.len() == 0
+    }
+
+    /// The item at a place.
+    pub fn item(&self, i: usize) -> Item<'_, 'a>
+        requires { i < length (items_of self.now) }
+        ensures { Some (item_in result) ≡ slice_get (items_of self.now) i }
+    {
+        self.items.get(i)
+    }
+
+    /// Does nothing: each instruction of an error model fits, and its blocks have turns and do not stand too deep.
+    pub fn fits(&self)
+        ensures { IsAccepted self.now }
+    {
+        // The proof looks inside.
+        let _items = &self.items;
+    }
+}

@@ -1,0 +1,246 @@
+ghost use Rattle.std.specs.Prelude.{◌≡◌, ◌≤◌, ◌<◌, ◌+◌, ◌++◌, [], ◌∷◌, ℤ, Some, not, true, false, nat_lt, length, map, All, IfOk, IfErr, MatchBool, MatchOption, option_map, slice_index_or, pos, ◌+ℤ◌, ◌⊎◌, None};
+ghost use Rattle.std.specs.List.{list_any};
+ghost use Rattle.step_model.specs.declared.fault.Cause.TheVariants as cause;
+ghost use Rattle.step_model.specs.Faults.{memory_fault};
+ghost use Rattle.stim_parser.specs.Arguments.{arguments_in};
+ghost use Rattle.dem_parser.specs.Fitting.{Fits};
+ghost use Rattle.dem_parser.specs.Flat.{instruction_in};
+ghost use Rattle.dem_parser.specs.Gathered.{instructions_in};
+ghost use Rattle.dem_parser.specs.KeptLines.{shift_of};
+ghost use Rattle.dem_parser.specs.Limits.{greatest_detector, has_target_beyond, is_target_beyond};
+ghost use Rattle.dem_parser.specs.Models.{first_beyond, is_beyond, is_far};
+ghost use Rattle.dem_parser.specs.Shifts.{coordinates_given, moved, no_shift, placed_at, placed_from, shift_after, target_at};
+ghost use Rattle.dem_parser.specs.Texts.{refused};
+
+use crate::checks::{GREATEST_DETECTOR, GREATEST_NUMBER, is_target_beyond};
+use crate::instruction::Instruction;
+use crate::operation::Operation;
+use crate::placed::{PlacedLine, PlacedLines};
+use crate::shifts::{Shift, coordinates_read, first_text, pass, sum_at};
+use crate::target::Target;
+use std::alloc::{AllocError, Allocator};
+use step_model::{Cause, Fault};
+
+/// A detector's number once shifted; none where it is then beyond its limit.
+fn shifted(shift: u128, detector: u64) -> Option<u64>
+    ensures { MatchOption result (nat_lt greatest_detector (detector + shift) ≡ true)
+        (λ number. (number ≡ detector + shift) × (nat_lt greatest_detector number ≡ false)) }
+{
+    if shift > GREATEST_DETECTOR as u128 || detector > GREATEST_DETECTOR {
+        return None;
+    }
+    let number = detector + shift as u64;
+    if number > GREATEST_DETECTOR {
+        None
+    } else {
+        Some(number)
+    }
+}
+
+/// A target where detectors are shifted; none where its number is then beyond its limit.
+fn target_at(shift: u128, target: Target) -> Option<Target>
+    ensures { MatchOption result (is_target_beyond (target_at shift target) ≡ true)
+        (λ found. (found ≡ target_at shift target) × (is_target_beyond found ≡ false)) }
+{
+    match target {
+        Target::Detector(detector) => match shifted(shift, detector) {
+            Some(number) => Some(Target::Detector(number)),
+            None => None,
+        },
+        _ => {
+            if is_target_beyond(target) {
+                None
+            } else {
+                Some(target)
+            }
+        }
+    }
+}
+
+/// Puts targets where detectors are shifted in place of those that were there. Answers whether the number of none is then
+/// beyond its limit.
+fn place_targets<A: Allocator + Copy>(
+    found: &mut Vec<Target, A>,
+    shift: u128,
+    targets: &[Target],
+) -> Result<bool, AllocError>
+    ensures { IfOk result (λ within. MatchBool within
+        ((found.new.items ≡ map (target_at shift) targets.now) × (has_target_beyond (map (target_at shift) targets.now) ≡ false))
+        (has_target_beyond (map (target_at shift) targets.now) ≡ true)) }
+{
+    found.clear();
+    for target in targets {
+        match target_at(shift, *target) {
+            Some(placed) => found.push(placed)?,
+            None => return Ok(false),
+        }
+    }
+    Ok(true)
+}
+
+/// A coordinate within its limit; none where it is beyond.
+fn near(coordinate: i128) -> Option<i64>
+    ensures { MatchOption result (is_far coordinate ≡ true) (λ found. (found ≡ coordinate) × (is_far coordinate ≡ false)) }
+{
+    if coordinate.unsigned_abs() > GREATEST_NUMBER as u128 {
+        None
+    } else {
+        Some(coordinate as i64)
+    }
+}
+
+/// The coordinate at a place, moved; none where it is then beyond its limit.
+fn coordinate_at(offset: &[i128], stated: &[i64], place: usize) -> Result<Option<i64>, AllocError>
+    requires { place < length stated.now }
+    ensures { IfOk result (λ found. MatchOption found
+        (is_far (slice_index_or offset.now place (pos 0) +ℤ slice_index_or stated.now place (pos 0)) ≡ true)
+        (λ c. (c ≡ slice_index_or offset.now place (pos 0) +ℤ slice_index_or stated.now place (pos 0)) × (is_far c ≡ false))) }
+{
+    Ok(near(sum_at(offset, stated, place)?))
+}
+
+/// Puts coordinates that are stated, moved, in place of those that were there. Answers whether none is then beyond its
+/// limit.
+fn move_all<A: Allocator + Copy>(
+    found: &mut Vec<i64, A>,
+    offset: &[i128],
+    stated: &[i64],
+) -> Result<bool, AllocError>
+    ensures { IfOk result (λ within. MatchBool within
+        ((found.new.items ≡ moved offset.now stated.now) × (list_any is_far (moved offset.now stated.now) ≡ false))
+        (list_any is_far (moved offset.now stated.now) ≡ true)) }
+{
+    found.clear();
+    for place in 0..stated.len() {
+        match coordinate_at(offset, stated, place)? {
+            Some(coordinate) => found.push(coordinate)?,
+            None => return Ok(false),
+        }
+    }
+    Ok(true)
+}
+
+/// Puts the coordinates that an instruction gives in place of those that were there. Answers whether none is beyond its
+/// limit.
+fn place_coordinates<A: Allocator + Copy>(
+    found: &mut Vec<i64, A>,
+    offset: &[i128],
+    operation: Operation,
+    arguments: &[u8],
+) -> Result<bool, AllocError>
+    requires { length (arguments_in arguments.now) ≤ 16 }
+    ensures { IfOk result (λ within. MatchBool within
+        ((found.new.items ≡ coordinates_given operation (arguments_in arguments.now) offset.now) × (list_any is_far (coordinates_given operation (arguments_in arguments.now) offset.now) ≡ false))
+        (list_any is_far (coordinates_given operation (arguments_in arguments.now) offset.now) ≡ true)) }
+{
+    match operation {
+        Operation::Detects => move_all(found, offset, coordinates_read(arguments).as_slice()),
+        _ => {
+            found.clear();
+            Ok(true)
+        }
+    }
+}
+
+/// Room for the coordinates and the targets of the line that is placed.
+#[derive(Drop)]
+struct Room<A: Allocator + Copy> {
+    coordinates: Vec<i64, A>,
+    targets: Vec<Target, A>,
+}
+
+/// Appends an instruction where it is reached. Answers whether no number of it is beyond its limit there.
+fn place<'a, A: Allocator + Copy>(
+    placed: &mut PlacedLines<'a, A>,
+    room: &mut Room<A>,
+    shift: &Shift<A>,
+    instruction: Instruction<'_, 'a>,
+) -> Result<bool, AllocError>
+    requires { Fits (instruction_in instruction) }
+    ensures { IfOk result (λ within. MatchBool within
+        ((placed.new ≡ placed.old ++ placed_at (shift_of shift.now.detectors shift.now.offset.items) (instruction_in instruction.entry) ∷ [])
+        × (is_beyond (placed_at (shift_of shift.now.detectors shift.now.offset.items) (instruction_in instruction.entry)) ≡ false))
+        (is_beyond (placed_at (shift_of shift.now.detectors shift.now.offset.items) (instruction_in instruction.entry)) ≡ true)) }
+{
+    if !place_targets(&mut room.targets, shift.detectors, instruction.targets)? {
+        return Ok(false);
+    }
+    let offset = shift.offset.as_slice();
+    if !place_coordinates(
+        &mut room.coordinates,
+        offset,
+        instruction.operation,
+        instruction.arguments,
+    )? {
+        return Ok(false);
+    }
+    placed.push(PlacedLine {
+        line: instruction.line,
+        operation: instruction.operation,
+        text: first_text(instruction.arguments),
+        coordinates: room.coordinates.as_slice(),
+        targets: room.targets.as_slice(),
+    })?;
+    Ok(true)
+}
+
+/// Lines where they are reached, and where that goes on.
+#[derive(Drop)]
+struct Placing<'a, A: Allocator + Copy> {
+    placed: PlacedLines<'a, A>,
+    shift: Shift<A>,
+    room: Room<A>,
+}
+
+impl<'a, A: Allocator + Copy> Placing<'a, A> {
+    /// Goes past an instruction. Answers whether no number of it is beyond its limit there.
+    fn pass(&mut self, instruction: Instruction<'_, 'a>) -> Result<bool, AllocError>
+        requires { Fits (instruction_in instruction) }
+        ensures beyond { IfOk result (λ within. is_beyond (placed_at (shift_of self.old.shift.detectors self.old.shift.offset.items) (instruction_in instruction.entry)) ≡ not within) }
+        ensures placed { IfOk result (λ within. within ≡ true → self.new.placed ≡ self.old.placed ++ placed_at (shift_of self.old.shift.detectors self.old.shift.offset.items) (instruction_in instruction.entry) ∷ []) }
+        ensures shift { IfOk result (λ within. within ≡ true → shift_of self.new.shift.detectors self.new.shift.offset.items ≡ shift_after (instruction_in instruction.entry) (shift_of self.old.shift.detectors self.old.shift.offset.items)) }
+    {
+        if !place(&mut self.placed, &mut self.room, &self.shift, instruction)? {
+            return Ok(false);
+        }
+        pass(&mut self.shift, instruction)?;
+        Ok(true)
+    }
+}
+
+/// The lines of instructions where these are reached one after another, or the refusal of the first line with a number that
+/// is beyond its limit there.
+pub(crate) fn placed_lines<'a, A: Allocator + Copy>(
+    alloc: A,
+    instructions: &[Instruction<'_, 'a>],
+) -> Result<PlacedLines<'a, A>, Fault>
+    requires { All (λ i. Fits (instruction_in i)) instructions.now }
+    ensures placed { IfOk result (λ placed. placed ≡ placed_from no_shift (instructions_in instructions.now)) }
+    ensures within { IfOk result (λ placed. first_beyond (placed_from no_shift (instructions_in instructions.now)) ≡ None) }
+    ensures err { IfErr result (λ fault. (fault ≡ memory_fault) ⊎ (option_map (refused cause.DemNumber) (first_beyond (placed_from no_shift (instructions_in instructions.now))) ≡ Some fault)) }
+{
+    let mut placing = Placing {
+        placed: PlacedLines::new(alloc),
+        shift: Shift {
+            detectors: 0,
+            offset: Vec::new(alloc),
+        },
+        room: Room {
+            coordinates: Vec::new(alloc),
+            targets: Vec::new(alloc),
+        },
+    };
+    for instruction in instructions {
+        match placing.pass(*instruction) {
+            Ok(true) => {}
+            Ok(false) => {
+                return Err(Fault {
+                    cause: Cause::DemNumber,
+                    line: instruction.line,
+                });
+            }
+            Err(_) => return Err(Fault::MEMORY),
+        }
+    }
+    Ok(placing.placed)
+}

@@ -1,0 +1,67 @@
+ghost use Rattle.std.specs.Prelude.{◌≡◌, ◌⊎◌, IfOk, IfErr, None, Some, Ok, Err, option_map};
+ghost use Rattle.step_model.specs.declared.fault.Cause.TheVariants as cause;
+ghost use Rattle.step_model.specs.Faults.{memory_fault};
+ghost use Rattle.dem_parser.specs.Models.{first_beyond, model_in, model_of_tree, placed_lines};
+ghost use Rattle.dem_parser.specs.Texts.{refused};
+
+use crate::build::model_of;
+use crate::line_counts::has_many_lines;
+use crate::lines::ModelLines;
+use crate::parser::parse;
+use crate::placed::PlacedLines;
+use crate::placing::placed_lines;
+use crate::reached::reached_of;
+use dem_text::Model;
+use std::alloc::Allocator;
+use step_model::{Cause, Fault};
+
+/// The lines of a model where they are reached, or the refusal of the first with a number that is beyond its limit there.
+fn place<'a, A: Allocator + Copy>(
+    alloc: A,
+    lines: &ModelLines<'a, A>,
+) -> Result<PlacedLines<'a, A>, Fault>
+    ensures placed { IfOk result (λ placed. placed ≡ placed_lines lines.now) }
+    ensures within { IfOk result (λ placed. first_beyond (placed_lines lines.now) ≡ None) }
+    ensures err { IfErr result (λ fault. (fault ≡ memory_fault) ⊎ (option_map (refused cause.DemNumber) (first_beyond (placed_lines lines.now)) ≡ Some fault)) }
+{
+    lines.fits();
+    match reached_of(alloc, lines) {
+        Ok(reached) => placed_lines(alloc, reached.as_slice()),
+        Err(_) => Err(Fault::MEMORY),
+    }
+}
+
+/// The error model of lines and blocks, or its refusal.
+fn model_of_lines<'a, A: Allocator + Copy>(
+    alloc: A,
+    lines: &ModelLines<'a, A>,
+) -> Result<Model<'a, A>, Fault>
+    ensures ok { IfOk result (λ model. model_of_tree lines.now ≡ Ok model) }
+    ensures err { IfErr result (λ fault. (fault ≡ memory_fault) ⊎ (model_of_tree lines.now ≡ Err fault)) }
+{
+    if has_many_lines(lines) {
+        return Err(Fault {
+            cause: Cause::DemSteps,
+            line: 0,
+        });
+    }
+    let placed = match place(alloc, lines) {
+        Ok(placed) => placed,
+        Err(fault) => return Err(fault),
+    };
+    match model_of(alloc, &placed) {
+        Ok(model) => Ok(model),
+        Err(_) => Err(Fault::MEMORY),
+    }
+}
+
+/// The error model that a text writes, or its one refusal. Memory is refused only where it runs out.
+pub fn read<'a, A: Allocator + Copy>(alloc: A, text: &'a [u8]) -> Result<Model<'a, A>, Fault>
+    ensures ok { IfOk result (λ model. model_in text.now ≡ Ok model) }
+    ensures err { IfErr result (λ fault. (fault ≡ memory_fault) ⊎ (model_in text.now ≡ Err fault)) }
+{
+    match parse(alloc, text) {
+        Ok(lines) => model_of_lines(alloc, &lines),
+        Err(fault) => Err(fault),
+    }
+}

@@ -1,0 +1,126 @@
+ghost use Rattle.std.specs.Prelude.{◌≡◌, ◌≤◌, ◌<◌, ◌+ℤ◌, pos, [], length, map, slice_index_or, IfOk};
+ghost use Rattle.stim_parser.specs.Arguments.{arguments_in};
+ghost use Rattle.stim_parser.specs.Numbers.{whole_value};
+ghost use Rattle.dem_parser.specs.Fitting.{Fits};
+ghost use Rattle.dem_parser.specs.Flat.{instruction_in};
+ghost use Rattle.dem_parser.specs.KeptLines.{added_at, shift_of};
+ghost use Rattle.dem_parser.specs.Shifts.{both_offsets, shift_after};
+
+use crate::instruction::Instruction;
+use crate::judge::number_in;
+use crate::operation::Operation;
+use arrayvec::ArrayVec;
+use std::alloc::{AllocError, Allocator};
+use stim_parser::{MOST_ARGUMENTS, read_arguments, whole_values};
+
+/// By how much detectors are shifted where a line is reached, and each coordinate.
+#[derive(Drop)]
+pub(crate) struct Shift<A: Allocator + Copy> {
+    pub detectors: u128,
+    pub offset: Vec<i128, A>,
+}
+
+/// The text of the first argument, empty where there is none.
+pub(crate) fn first_text<'a>(arguments: &'a [u8]) -> &'a [u8]
+    requires { length (arguments_in arguments.now) ≤ MOST_ARGUMENTS }
+    ensures { result.now ≡ slice_index_or (arguments_in arguments.now) 0 [] }
+{
+    match read_arguments(arguments) {
+        Some(found) => match found.as_slice() {
+            [first, ..] => *first,
+            [] => &[],
+        },
+        None => &[],
+    }
+}
+
+/// Arguments as coordinates.
+pub(crate) fn coordinates_read(arguments: &[u8]) -> ArrayVec<i64, MOST_ARGUMENTS>
+    requires { length (arguments_in arguments.now) ≤ MOST_ARGUMENTS }
+    ensures { result.items ≡ map whole_value (arguments_in arguments.now) }
+{
+    match read_arguments(arguments) {
+        Some(found) => whole_values(found.as_slice()),
+        None => ArrayVec::new(),
+    }
+}
+
+/// A sum. One that does not fit would take more lines than memory holds.
+fn sum_of(a: i128, b: i64) -> Result<i128, AllocError>
+    ensures { IfOk result (λ sum. sum ≡ a +ℤ b) }
+{
+    match a.checked_add(b as i128) {
+        Some(sum) => Ok(sum),
+        None => Err(AllocError),
+    }
+}
+
+/// The number at a place of an offset, 0 past its end.
+fn number_at(offset: &[i128], place: usize) -> i128
+    ensures { result ≡ slice_index_or offset.now place (pos 0) }
+{
+    if place < offset.len() {
+        offset[place]
+    } else {
+        0
+    }
+}
+
+/// The sum of the numbers at a place of an offset and of another list.
+pub(crate) fn sum_at(offset: &[i128], more: &[i64], place: usize) -> Result<i128, AllocError>
+    requires { place < length more.now }
+    ensures { IfOk result (λ sum. sum ≡ slice_index_or offset.now place (pos 0) +ℤ slice_index_or more.now place (pos 0)) }
+{
+    sum_of(number_at(offset, place), more[place])
+}
+
+/// Adds the number at a place to that of an offset there, or puts it behind where the offset ends before.
+fn add_at<A: Allocator + Copy>(
+    offset: &mut Vec<i128, A>,
+    more: &[i64],
+    place: usize,
+) -> Result<(), AllocError>
+    requires { place < length more.now }
+    ensures { IfOk result (λ _. offset.new.items ≡ added_at offset.old.items place (slice_index_or more.now place (pos 0))) }
+{
+    if place < offset.len() {
+        let sum = sum_at(offset.as_slice(), more, place)?;
+        offset[place] = sum;
+        return Ok(());
+    }
+    offset.push(more[place] as i128)?;
+    Ok(())
+}
+
+/// Adds numbers to an offset, place by place. Where it ends they go on by themselves.
+fn add<A: Allocator + Copy>(offset: &mut Vec<i128, A>, more: &[i64]) -> Result<(), AllocError>
+    ensures { IfOk result (λ _. offset.new.items ≡ both_offsets offset.old.items more.now) }
+{
+    for place in 0..more.len() {
+        add_at(offset, more, place)?;
+    }
+    Ok(())
+}
+
+/// Takes a shift past an instruction.
+pub(crate) fn pass<A: Allocator + Copy>(
+    shift: &mut Shift<A>,
+    instruction: Instruction<'_, '_>,
+) -> Result<(), AllocError>
+    requires { Fits (instruction_in instruction) }
+    ensures { IfOk result (λ _. shift_of shift.new.detectors shift.new.offset.items ≡ shift_after (instruction_in instruction.entry) (shift_of shift.old.detectors shift.old.offset.items)) }
+{
+    match instruction.operation {
+        Operation::Shifts => {
+            let numbers = coordinates_read(instruction.arguments);
+            add(&mut shift.offset, numbers.as_slice())?;
+            let number = number_in(instruction.targets) as u128;
+            match shift.detectors.checked_add(number) {
+                Some(detectors) => shift.detectors = detectors,
+                None => return Err(AllocError),
+            }
+            Ok(())
+        }
+        _ => Ok(()),
+    }
+}

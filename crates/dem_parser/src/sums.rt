@@ -1,0 +1,63 @@
+ghost use Rattle.std.specs.Prelude.{◌≡◌, ◌+◌, false, if◌then◌else◌, replicate, IfOk};
+ghost use Rattle.dem_parser.specs.Sums.{symptom_of, turned, turned_at};
+
+use dem_text::Model;
+use std::alloc::{AllocError, Allocator};
+
+/// Turns a truth value round, where there is one at this place.
+fn turn_at(bits: &mut [bool], target: u32)
+    ensures { bits.new ≡ turned_at bits.old target }
+{
+    let place = target as usize;
+    if place < bits.len() {
+        bits[place] = !bits[place];
+    }
+}
+
+/// Turns the truth values at these places round, each as often as its place stands there.
+fn turn(bits: &mut [bool], targets: &[u32])
+    ensures { bits.new ≡ turned bits.old targets.now }
+{
+    for target in targets {
+        turn_at(bits, *target);
+    }
+}
+
+/// The same where they are named, and nothing where they are not.
+fn turn_if(named: bool, bits: &mut [bool], targets: &[u32])
+    ensures { bits.new ≡ (if named then turned bits.old targets.now else bits.old) }
+{
+    if named {
+        turn(bits, targets);
+    }
+}
+
+/// A truth value for each detector and each observable, none of them set.
+fn no_bits<A: Allocator + Copy>(
+    alloc: A,
+    detectors: usize,
+    observables: usize,
+) -> Result<Vec<bool, A>, AllocError>
+    ensures { IfOk result (λ bits. bits.items ≡ replicate (detectors + observables) false) }
+{
+    match detectors.checked_add(observables) {
+        Some(count) => vec![in alloc; false; count],
+        None => Err(AllocError),
+    }
+}
+
+/// What the error lines of a model flip that are named, all together: a truth value for each detector, then one for each
+/// observable. Two lines that flip the same cancel there. A line is named by the truth value at its number, from 0.
+pub fn symptom<A: Allocator + Copy>(
+    alloc: A,
+    model: &Model<'_, A>,
+    named: &[bool],
+) -> Result<Vec<bool, A>, AllocError>
+    ensures { IfOk result (λ bits. bits.items ≡ symptom_of model.now named.now) }
+{
+    let mut bits = no_bits(alloc, model.detector_count(), model.observable_count())?;
+    for line in 0..model.line_count().min(named.len()) {
+        turn_if(named[line], &mut bits, model.targets(line));
+    }
+    Ok(bits)
+}
