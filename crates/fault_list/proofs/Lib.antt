@@ -1,0 +1,5 @@
+pub mod TermLemmas
+pub mod FactorLemmas
+pub mod EffectLemmas
+pub mod LineLemmas
+pub mod WordSteps

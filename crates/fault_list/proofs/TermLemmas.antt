@@ -1,0 +1,79 @@
+-- The word that letters at qubits make, qubit by qubit.
+use Rattle.std.proofs.Common.{◌≡◌, ◌≢◌, ℕ, inl, inr, ◌+◌, ◌<◌, ◌≤◌, List, [], ◌∷◌, length, get_or, drop, refl, sym, ap, ap₂, ◌∙◌, arith}
+use Rattle.std.specs.Prelude.{if◌then◌else◌, All, ◌⊎◌}
+use Rattle.std.proofs.lemmas.Bool.Decides.{eqb_tells}
+use Rattle.std.proofs.lemmas.List.{length-replicate, get_or-replicate, get_or-set_same, get_or-set_other, drop_more, drop_all}
+use Rattle.std.proofs.lemmas.List.Elements.{All-head, All-tail}
+use Rattle.pauli_word.specs.declared.letter.Letter.{Letter}
+use Rattle.pauli_word.specs.declared.letter.Letter.TheVariants.{I}
+use Rattle.pauli_word.specs.Letters.{letter_product}
+use Rattle.pauli_word.specs.Words.{letter_at, lone_letter, no_letters}
+use Rattle.pauli_word.proofs.LetterLaws.{letter_product_assoc, letter_product-I}
+use Rattle.pauli_word.proofs.LoneLetters.{length-lone_letter}
+use Rattle.pauli_word.proofs.WordPlaces.{letter_at-product}
+use Rattle.step_model.specs.declared.step.Term.{Term}
+use Rattle.step_model.specs.Listing.{word_of_terms}
+use Rattle.step_model.specs.WellFormed.{TermsFit}
+use Rattle.step_model.proofs.StepNumbers.{length-word_of_terms}
+use Rattle.fault_list.specs.TermLetters.{letter_here, letter_in}
+
+abbrev pub no_term : Term
+no_term = record { qubit = 0; letter = I }
+
+abbrev pub term_at : List Term → ℕ → Term
+term_at terms i = get_or terms i no_term
+
+letter_at-lone_letter : (n : ℕ) (term : Term) (q : ℕ) → term.qubit < n → q < n → letter_at (lone_letter n term.qubit term.letter) q ≡ letter_here term q
+letter_at-lone_letter n term q inside below = elim (eqb_tells term.qubit q) [
+  | inl same ↦
+      ap (λ i. get_or (lone_letter n term.qubit term.letter) i I) (sym same.1)
+      ∙ (get_or-set_same (no_letters n) term.qubit term.letter I (omega (arith, inside, length-replicate n I))
+      ∙ ap (λ b. if b then term.letter else I) (sym same.0))
+  | inr other ↦
+      get_or-set_other (no_letters n) term.qubit q term.letter I (λ e. other.1 (sym e))
+      ∙ (get_or-replicate n q I I below
+      ∙ ap (λ b. if b then term.letter else I) (sym other.0))
+]
+
+pub letter_at-word : (n : ℕ) (terms : List Term) (q : ℕ) → TermsFit n terms → q < n → letter_at (word_of_terms n terms) q ≡ letter_in terms q
+letter_at-word n [] q fit below = get_or-replicate n q I I below
+letter_at-word n (term ∷ terms) q fit below =
+    letter_at-product (lone_letter n term.qubit term.letter) (word_of_terms n terms) q
+    (length-lone_letter n term.qubit term.letter ∙ sym (length-word_of_terms n terms))
+    ∙ ap₂ letter_product
+    (letter_at-lone_letter n term q (All-head (λ (t : Term). t.qubit < n) term terms fit) below)
+    (letter_at-word n terms q (All-tail (λ (t : Term). t.qubit < n) term terms fit) below)
+
+-- a qubit with no letter has I
+pub letter_in-none : (terms : List Term) (q : ℕ) → All (λ term. term.qubit ≢ q) terms → letter_in terms q ≡ I
+letter_in-none [] q away = refl
+letter_in-none (term ∷ terms) q away = elim (eqb_tells term.qubit q) [
+  | inl same ↦ absurd (All-head (λ (t : Term). t.qubit ≢ q) term terms away same.1)
+  | inr other ↦
+      ap (λ b. letter_product (if b then term.letter else I) (letter_in terms q)) other.0
+      ∙ letter_in-none terms q (All-tail (λ (t : Term). t.qubit ≢ q) term terms away)
+]
+
+-- between two qubits that were looked for one after the other there is no letter
+pub none_between : (terms : List Term) (from next q : ℕ) → All (λ term. (term.qubit < from) ⊎ (next ≤ term.qubit)) terms → from ≤ q → q < next → letter_in terms q ≡ I
+none_between terms from next q lowest after below =
+    letter_in-none terms q (λ k d within e. elim (lowest k d within) [
+      | inl before ↦ omega (arith, before, after, e)
+      | inr past ↦ omega (arith, past, below, e)
+    ])
+
+-- the letter so far, times that of the terms from i on, is the letter of all
+pub letter_none : (terms : List Term) (q : ℕ) → letter_product I (letter_in (drop 0 terms) q) ≡ letter_in terms q
+letter_none terms q = refl
+
+pub letter_more : (terms : List Term) (i q : ℕ) (letter : Letter) → i < length terms → letter_product letter (letter_in (drop i terms) q) ≡ letter_in terms q → letter_product (letter_product letter (letter_here (term_at terms i) q)) (letter_in (drop (i + 1) terms) q) ≡ letter_in terms q
+letter_more terms i q letter more so_far =
+    letter_product_assoc letter (letter_here (term_at terms i) q) (letter_in (drop (i + 1) terms) q)
+    ∙ (ap (λ ts. letter_product letter (letter_in ts q)) (sym (drop_more terms i no_term more))
+    ∙ so_far)
+
+pub letter_all : (terms : List Term) (i q : ℕ) (letter : Letter) → length terms ≤ i → letter_product letter (letter_in (drop i terms) q) ≡ letter_in terms q → letter ≡ letter_in terms q
+letter_all terms i q letter past so_far =
+    sym (letter_product-I letter)
+    ∙ (ap (λ ts. letter_product letter (letter_in ts q)) (sym (drop_all i terms past))
+    ∙ so_far)

@@ -1,0 +1,5 @@
+use Rattle.pieces.proofs.Pushing.{Pushes-trans}
+use Rattle.fault_list.proofs.text.write_record.Goals as goal
+
+pub returns : goal.returns
+returns g c = Pushes-trans (Pushes-trans c.push.ensures c.write_number.ensures) c.push-2.ensures

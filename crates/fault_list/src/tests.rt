@@ -1,0 +1,80 @@
+//! Lists of faults of small programs.
+use crate::write;
+use pauli_word::Letter;
+use programs::by_hand::{Entry, Lists, Piece, program_of};
+use programs::{Recording, TextStep};
+use std::test::Fail;
+use step_model::{MemorySink, Term};
+
+macro_rules! at {
+    ($qubit:literal, $letter:ident) => {
+        Term {
+            qubit: $qubit,
+            letter: Letter::$letter,
+        }
+    };
+}
+
+// E(0.25) X1 Z0 Y1, E(0.25) X0 X0, M(0.5) 0, E(1) Z11 Y2 X10
+const LISTS: Lists<'static> = Lists {
+    entries: &[
+        Entry {
+            text: b"0.25",
+            terms: &[at!(1, X), at!(0, Z), at!(1, Y)],
+        },
+        Entry {
+            text: b"0.25",
+            terms: &[at!(0, X), at!(0, X)],
+        },
+        Entry {
+            text: b"0.5",
+            terms: &[],
+        },
+        Entry {
+            text: b"1",
+            terms: &[at!(11, Z), at!(2, Y), at!(10, X)],
+        },
+    ],
+    products: &[],
+    detectors: &[],
+    observables: &[],
+    coordinates: &[],
+};
+
+// Twice over.
+const PIECES: &[Piece] = &[
+    Piece::Open(2),
+    Piece::Do(TextStep::Fault(0)),
+    Piece::Do(TextStep::Fault(1)),
+    Piece::Do(TextStep::Collapse {
+        letter: Letter::Z,
+        qubit: 0,
+        reset: false,
+        recording: Some(Recording {
+            inverted: false,
+            flip: Some(2),
+        }),
+    }),
+    Piece::Do(TextStep::Fault(3)),
+    Piece::Close,
+];
+
+const TEXT: &[u8] = b"0 0.25 Z0*Z1
+1 0.25 I
+2 0.5 rec[0]
+3 1 Y2*X10*Z11
+4 0.25 Z0*Z1
+5 0.25 I
+6 0.5 rec[1]
+7 1 Y2*X10*Z11
+coins 2
+";
+
+#[test]
+fn faults_of_two_turns(rt: HostRuntime) -> Result<(), Fail> {
+    let program = program_of(rt.alloc(), 12, PIECES, LISTS)?.expect(&rt, "it fits");
+    let mut sink = MemorySink::new(rt.alloc());
+    write(&program, &mut sink)?;
+    assert!(rt; sink.bytes() == TEXT);
+    Ok(())
+}

@@ -1,0 +1,106 @@
+//! The lines of the faults, on their way to a sink.
+ghost use Rattle.std.specs.Prelude.{◌≡◌, decimal, IfErr, OnOk, OnErr};
+ghost use Rattle.step_model.specs.Ends.{Takes, TakesBeginning, write_failures};
+ghost use Rattle.step_model.specs.Faults.{write_fault};
+ghost use Rattle.step_model.specs.Listing.{effect_at};
+ghost use Rattle.pieces.specs.Pushed.{Pushes};
+ghost use Rattle.fault_walk.specs.Found.{IsFaultOf};
+ghost use Rattle.fault_list.specs.FaultLines.{record_text, effect_text, fault_line, fault_lines, coins_line, list_text};
+
+use crate::word::{write_number, write_word};
+use fault_walk::{FoundFault, next_fault};
+use pieces::Pieces;
+use programs::{Program, Walk};
+use std::alloc::Allocator;
+use step_model::{Fault, Sink};
+
+/// Writes the list of a program's faults. It takes no memory, and fails only where the sink fails; a beginning of the
+/// text has then gone out, and the sink is not called again.
+pub fn write<'a, A: Allocator + Copy, W: Sink>(
+    program: &Program<'a, A>,
+    sink: &mut W,
+) -> Result<(), Fault>
+    ensures all { OnOk result (Takes (W.taken sink.old) (W.taken sink.new) (list_text program.now)) }
+
+    ensures fault { IfErr result (λ e. e ≡ write_fault) }
+    ensures beginning { OnErr result (TakesBeginning (W.taken sink.old) (W.taken sink.new) (list_text program.now)) }
+
+    // One more where the sink failed, else as it was.
+    ensures count { W.failures sink.new ≡ write_failures result (W.failures sink.old) }
+{
+    let mut out = Pieces::new();
+    write_faults(&mut out, sink, program);
+    write_coins(&mut out, sink, program.collapse_count());
+    out.finish(sink)
+}
+
+fn write_faults<'a, A: Allocator + Copy, W: Sink>(
+    out: &mut Pieces,
+    sink: &mut W,
+    program: &Program<'a, A>,
+)
+    ensures { Pushes W.taken W.failures sink.old sink.new out.old out.new (fault_lines program.now) }
+{
+    program.well_formed();
+    let mut walk = Walk::start(program);
+    while let Some(fault) = next_fault(&mut walk) {
+        write_line(out, sink, program, fault);
+    }
+}
+
+fn write_line<'a, A: Allocator + Copy, W: Sink>(
+    out: &mut Pieces,
+    sink: &mut W,
+    program: &Program<'a, A>,
+    fault: FoundFault,
+)
+    requires { IsFaultOf program.now fault }
+    ensures { Pushes W.taken W.failures sink.old sink.new out.old out.new (fault_line program.now fault.number) }
+{
+    write_number(out, sink, fault.number);
+    out.push(sink, b" ");
+    out.push(sink, program.entry_text(fault.entry));
+    out.push(sink, b" ");
+    write_effect(out, sink, program, fault);
+    out.push(sink, b"\n");
+}
+
+// What a fault does.
+fn write_effect<'a, A: Allocator + Copy, W: Sink>(
+    out: &mut Pieces,
+    sink: &mut W,
+    program: &Program<'a, A>,
+    fault: FoundFault,
+)
+    requires { IsFaultOf program.now fault }
+    ensures { Pushes W.taken W.failures sink.old sink.new out.old out.new (effect_text program.now.qubits (effect_at program.now fault.number)) }
+{
+    program.well_formed();
+    match fault.flips {
+        Some(r) => write_record(out, sink, r),
+        None => {
+            write_word(
+                out,
+                sink,
+                program.qubits(),
+                program.entry_terms(fault.entry),
+            )
+        }
+    }
+}
+
+fn write_record<W: Sink>(out: &mut Pieces, sink: &mut W, r: u32)
+    ensures { Pushes W.taken W.failures sink.old sink.new out.old out.new (record_text r) }
+{
+    out.push(sink, b"rec[");
+    write_number(out, sink, r);
+    out.push(sink, b"]");
+}
+
+fn write_coins<W: Sink>(out: &mut Pieces, sink: &mut W, collapses: u32)
+    ensures { Pushes W.taken W.failures sink.old sink.new out.old out.new (coins_line collapses) }
+{
+    out.push(sink, b"coins ");
+    write_number(out, sink, collapses);
+    out.push(sink, b"\n");
+}

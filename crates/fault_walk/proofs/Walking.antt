@@ -1,0 +1,41 @@
+-- What a walk that goes over a step leaves.
+use Rattle.std.proofs.Common.{◌≡◌, ◌+◌, ◌<◌, ◌∷◌, ◌++◌, length, drop, sym, ap, ap₂, ◌∙◌}
+use Rattle.std.specs.Prelude.{Some, None, option_map, slice_get, nat_lt, if◌then◌else◌}
+use Rattle.std.specs.Option.{option_to_list}
+use Rattle.std.proofs.lemmas.Option.{slice_get_within}
+use Rattle.step_model.specs.Listing.{Listing}
+use Rattle.step_model.specs.WellFormed.{faults_named}
+use Rattle.programs.specs.declared.step.Step.{Step}
+use Rattle.programs.specs.Listed.{listed}
+use Rattle.programs.specs.Walks.{Walked}
+use Rattle.fault_walk.specs.declared.FoundFault.{FoundFault}
+use Rattle.fault_walk.specs.Found.{fault_in, faults_left}
+use Rattle.fault_walk.proofs.FoundLaws.{faults_of_step, left_at, place_after, number_in}
+
+-- a walk went from one place to the next over a step
+pub record GoesOver (old new : Walked) (step : Step) : Type 0 where
+  pub at : Some (listed old.program.qubits old.program.products step) ≡ slice_get old.program.steps old.place
+  pub program : new.program ≡ old.program
+  pub place : new.place ≡ (if nat_lt old.place (length old.program.steps) then old.place + 1 else old.place)
+
+pub is_within : (old new : Walked) (step : Step) → GoesOver old new step → old.place < length old.program.steps
+is_within old new step over = slice_get_within old.program.steps old.place (listed old.program.qubits old.program.products step) (sym over.at)
+
+pub place_is : (old new : Walked) (step : Step) → GoesOver old new step → new.place ≡ old.place + 1
+place_is old new step over = place_after old.place (length old.program.steps) new.place (is_within old new step over) over.place
+
+left_over : (old new : Walked) (step : Step) → GoesOver old new step → faults_left old ≡ option_to_list (option_map number_in (fault_in step)) ++ faults_left new
+left_over old new step over =
+    left_at old.program.steps old.place (listed old.program.qubits old.program.products step) over.at
+    ∙ ap₂ (λ named rest. named ++ rest) (faults_of_step old.program.qubits old.program.products step)
+    (ap₂ (λ k (p : Listing). faults_named (drop k p.steps)) (sym (place_is old new step over)) (sym over.program))
+
+-- over a step with a fault
+pub left_met : (old new : Walked) (step : Step) (fault : FoundFault) → GoesOver old new step → fault_in step ≡ Some fault → faults_left old ≡ fault.number ∷ faults_left new
+left_met old new step fault over met =
+    left_over old new step over ∙ ap (λ o. option_to_list (option_map number_in o) ++ faults_left new) met
+
+-- over a step without one
+pub left_passed : (old new : Walked) (step : Step) → GoesOver old new step → fault_in step ≡ None → faults_left old ≡ faults_left new
+left_passed old new step over none =
+    left_over old new step over ∙ ap (λ o. option_to_list (option_map number_in o) ++ faults_left new) none

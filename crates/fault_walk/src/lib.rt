@@ -1,0 +1,67 @@
+//! The faults of a program in their order, met on a walk over its steps.
+#![tactic(auto)]
+
+ghost use Rattle.std.specs.Prelude.{◌≡◌, ◌∷◌, [], None, IfSome};
+ghost use Rattle.step_model.specs.WellFormed.{IsWellFormed};
+ghost use Rattle.fault_walk.specs.Found.{found, fault_in, faults_left, IsFaultOf};
+
+use programs::{FaultName, Step, Walk};
+use std::alloc::Allocator;
+
+/// A fault of a program: its number and that of what is kept of it, and the record that it flips, none where it
+/// applies letters at qubits.
+#[derive(Clone, Copy, Debug, PartialEq, Eq)]
+pub struct FoundFault {
+    pub number: u32,
+    pub entry: u32,
+    pub flips: Option<u32>,
+}
+
+/// Goes on over the next fault, and answers it; none where there is none any more.
+pub fn next_fault<'a, 'p, A: Allocator + Copy>(walk: &mut Walk<'a, 'p, A>) -> Option<FoundFault>
+    // As `Program::well_formed` says of each program.
+    requires { IsWellFormed walk.old.program }
+    ensures program { walk.new.program ≡ walk.old.program }
+    ensures next { IfSome result (λ fault. faults_left walk.old ≡ fault.number ∷ faults_left walk.new) }
+    ensures found { IfSome result (IsFaultOf walk.old.program) }
+    ensures end { result ≡ None → faults_left walk.old ≡ [] }
+{
+    while let Some(step) = walk.next_step() {
+        if let Some(fault) = fault_in(step) {
+            return Some(fault);
+        }
+    }
+    None
+}
+
+// The fault of a step.
+#[inline(always)]
+fn fault_in(step: Step) -> Option<FoundFault>
+    ensures { result ≡ fault_in step }
+{
+    match step {
+        Step::Fault(name) => Some(found(name, None)),
+        Step::Collapse {
+            rec: Some(r),
+            flip: Some(name),
+            ..
+        } => Some(found(name, Some(r))),
+        Step::CollapseWord {
+            rec: Some(r),
+            flip: Some(name),
+            ..
+        } => Some(found(name, Some(r))),
+        _ => None,
+    }
+}
+
+#[inline(always)]
+fn found(name: FaultName, flips: Option<u32>) -> FoundFault
+    ensures { result ≡ found name flips }
+{
+    FoundFault {
+        number: name.number,
+        entry: name.entry,
+        flips,
+    }
+}
