@@ -1,8 +1,14 @@
+mod agreement;
 mod analyses;
+mod destabilizers;
+mod drawn;
+mod gates;
+mod large;
 mod notation;
 mod runs;
 mod states;
 mod table;
+mod three_steps;
 
 use std::alloc::{AllocError, Global};
 use std::process::Abort;

@@ -1,0 +1,47 @@
+//! Large states whose records are known by hand, around the sizes at which a row of bits takes another machine word.
+mod ghz;
+mod steps;
+mod teleported;
+mod twice;
+
+use forward_sim::{Records, run};
+use programs::by_hand::{Lists, Piece, program_of};
+use rand_core::SeedableRng;
+use rand_core::utils::NextWord;
+use rand_pcg::Pcg64;
+use std::alloc::Global;
+use std::test::Fail;
+
+/// Numbers of qubits.
+const SIZES: [u32; 4] = [63, 64, 65, 130];
+
+/// As many coins as the largest circuit has collapses.
+type Coins = [bool; 256];
+
+fn drawn_coins(seed: u64) -> Coins {
+    let mut rng = Pcg64::seed_from_u64(seed);
+    let mut coins = [false; 256];
+    for coin in coins.iter_mut() {
+        *coin = rng.next_word() % 2 == 1;
+    }
+    coins
+}
+
+/// The records of a circuit without faults, where it is one.
+fn records_of(
+    alloc: Global,
+    qubits: u32,
+    pieces: &[Piece],
+    lists: Lists<'_>,
+    coins: &Coins,
+) -> Result<Option<Records<Global>>, Fail> {
+    let Some(program) = program_of(alloc, qubits, pieces, lists)? else {
+        return Ok(None);
+    };
+    Ok(Some(run(alloc, &program, &[], coins)?))
+}
+
+/// The coin of a collapse.
+fn coin_of(coins: &Coins, collapse: usize) -> bool {
+    coins.get(collapse).copied().unwrap_or(false)
+}
