@@ -1,5 +1,5 @@
-//! Tests of `serve` over memory: worked rows, drawn circuits, ends of bytes that fail, and ample memory. The crate has
-//! nothing but tests.
+//! Tests of `serve` over memory: worked rows, refusals, limits, known circuits, ends of bytes that fail, and ample memory. The
+//! crate has nothing but tests.
 #![tactic(auto)]
 
 #[cfg(test)]

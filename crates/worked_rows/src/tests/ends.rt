@@ -1,5 +1,6 @@
 //! Sources and sinks that move one byte a call and fail at one of their calls.
-use super::{PAIR, run_order};
+use super::PAIR;
+use super::checks::run_order;
 use engine::{Order, Status, serve};
 use slow_ends::{SlowSink, SlowSource};
 use std::alloc::Global;
@@ -19,9 +20,20 @@ fn served_slowly<'t>(
     (end, source, sink)
 }
 
-/// A run, an analysis and two refusals, with their outputs.
-const TABLE: [(Option<&str>, &str, &str); 4] = [
+/// Runs, analyses and refusals, with their outputs.
+const TABLE: [(Option<&str>, &str, &str); 7] = [
     (Some("0"), PAIR, "11\n\n"),
+    (
+        Some("1"),
+        "REPEAT 2 { # two\n  E(.1) X0\n  MR 0\n}",
+        "01\n\n",
+    ),
+    (
+        None,
+        "H 0\nMPP X0*Z1 Z0\nDETECTOR(5) rec[-1]",
+        "random D0\n00\n01\n",
+    ),
+    (None, "M 0\n\nFOO", "refused 11 line 3\n"),
     (
         None,
         "X_ERROR(0.5) 0\nM 0\nDETECTOR rec[-1]\n",

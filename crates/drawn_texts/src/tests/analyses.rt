@@ -1,0 +1,70 @@
+//! The analyses of a drawn text's program, by both trackers.
+ghost use Rattle.std.specs.Prelude.{◌≡◌, length, IfOk};
+ghost use Rattle.step_model.specs.Targets.{targets_of};
+ghost use Rattle.backward.specs.Tracked.{fresh};
+
+use super::drawing::Drawing;
+use super::models::model_holds;
+use super::randoms::random_holds;
+use super::{Finding, Tally};
+use backward::{Analysed, DenseWords, QubitSets, Words, analyse};
+use programs::Program;
+use std::alloc::Global;
+use step_model::{Fault, Place};
+
+/// What is found of a program: the dense tracker's answer is compared with runs, with the sparse tracker's, and with
+/// what is served.
+pub(super) fn finding_of(
+    alloc: Global,
+    program: &Program<'_, Global>,
+    drawing: &mut Drawing,
+    tally: &mut Tally,
+) -> Result<Finding, Fault> {
+    let analysed = analyse(alloc, program, dense_words(alloc, program)?)?;
+    if random_of(&analysed) != random_by_sparse(&alloc, program)? {
+        return Ok(Finding::Wrong("the trackers differ"));
+    }
+    match &analysed {
+        Analysed::Model(model) => model_holds(alloc, program, model, drawing, tally),
+        Analysed::Random { which, place } => {
+            random_holds(alloc, program, (*which, *place), drawing)
+        }
+    }
+}
+
+/// The random target and its place, by lists of targets.
+fn random_by_sparse(
+    alloc: &Global,
+    program: &Program<'_, Global>,
+) -> Result<Option<(u32, Place)>, Fault> {
+    let analysed = analyse(*alloc, program, sparse_words(alloc, program)?)?;
+    Ok(random_of(&analysed))
+}
+
+fn random_of(analysed: &Analysed<'_, Global>) -> Option<(u32, Place)> {
+    match analysed {
+        Analysed::Random { which, place } => Some((*which, *place)),
+        Analysed::Model(_) => None,
+    }
+}
+
+/// A word for each target, as rows of bits.
+fn dense_words(alloc: Global, program: &Program<'_, Global>) -> Result<DenseWords<Global>, Fault>
+    ensures { IfOk result (λ words. words ≡ fresh program.now.qubits (length (targets_of program.now))) }
+{
+    program.well_formed();
+    let targets = program.detector_count() + program.observable_count();
+    Words::dense(alloc, program.qubits() as usize, targets).map_err(|_| Fault::MEMORY)
+}
+
+/// The same, kept as lists.
+fn sparse_words<'s>(
+    alloc: &'s Global,
+    program: &Program<'_, Global>,
+) -> Result<QubitSets<'s, Global>, Fault>
+    ensures { IfOk result (λ words. words ≡ fresh program.now.qubits (length (targets_of program.now))) }
+{
+    program.well_formed();
+    let targets = program.detector_count() + program.observable_count();
+    Words::sparse(alloc, program.qubits() as usize, targets).map_err(|_| Fault::MEMORY)
+}

@@ -1,0 +1,227 @@
+//! What is written for texts, against what is wanted.
+use engine::{Order, Status, serve};
+use std::alloc::{AllocError, Global};
+use std::process::Abort;
+use std::test::Fail;
+use step_model::{Fault, MemorySink, MemorySource};
+
+/// A run with these coins, or all 0, and these faults.
+pub(super) fn run_order<'o>(coins: Option<&'o str>, faults: &'o str) -> Order<'o> {
+    Order::Run {
+        coins: coins.map(|text| text.as_bytes()),
+        faults: faults.as_bytes(),
+    }
+}
+
+/// What is written for a text, and how that ends.
+pub(super) fn served(
+    alloc: Global,
+    order: &Order<'_>,
+    text: &str,
+) -> Result<(Vec<u8>, Result<Status, Fault>), AllocError> {
+    let mut sink = MemorySink::new(alloc);
+    let end = serve(
+        alloc,
+        order,
+        &mut MemorySource::new(text.as_bytes()),
+        &mut sink,
+    );
+    Ok((Vec::from_slice(alloc, sink.bytes())?, end))
+}
+
+/// An order on a text writes this, and ends so.
+pub(super) fn check_output(
+    rt: &impl Abort,
+    alloc: Global,
+    order: &Order<'_>,
+    text: &str,
+    output: &str,
+    status: Status,
+) -> Result<(), Fail> {
+    let (written, end) = served(alloc, order, text)?;
+    let written = str::from_utf8(written.as_slice()).unwrap_or("no text");
+    let shown = text.get(..200).unwrap_or(text);
+    assert_eq!(rt; written, output, "{shown}");
+    assert_eq!(rt; end, Ok(status), "{shown}");
+    Ok(())
+}
+
+/// Each row has coins, or all 0, the faults, a text, and what `run` writes.
+pub(super) fn check_runs(
+    rt: &impl Abort,
+    alloc: Global,
+    rows: &[(Option<&str>, &str, &str, &str)],
+) -> Result<(), Fail> {
+    for (coins, faults, text, output) in rows {
+        let order = run_order(*coins, faults);
+        check_output(rt, alloc, &order, text, output, Status::Done)?;
+    }
+    Ok(())
+}
+
+/// Each row has a text, and what `run` writes where all coins are 0 and no fault happens.
+pub(super) fn check_plain_runs(
+    rt: &impl Abort,
+    alloc: Global,
+    rows: &[(&str, &str)],
+) -> Result<(), Fail> {
+    for (text, output) in rows {
+        let order = run_order(None, "");
+        check_output(rt, alloc, &order, text, output, Status::Done)?;
+    }
+    Ok(())
+}
+
+/// Each row has coins, or all 0, the faults, a text, and the line that refuses the run.
+pub(super) fn check_refused_runs(
+    rt: &impl Abort,
+    alloc: Global,
+    rows: &[(Option<&str>, &str, &str, &str)],
+) -> Result<(), Fail> {
+    for (coins, faults, text, line) in rows {
+        let order = run_order(*coins, faults);
+        check_output(rt, alloc, &order, text, line, Status::Refused)?;
+    }
+    Ok(())
+}
+
+/// Each row has a text, and the error model that `analyze` writes.
+pub(super) fn check_models(
+    rt: &impl Abort,
+    alloc: Global,
+    rows: &[(&str, &str)],
+) -> Result<(), Fail> {
+    for (text, output) in rows {
+        check_output(rt, alloc, &Order::Analyze, text, output, Status::Done)?;
+    }
+    Ok(())
+}
+
+/// Each row has a text of which a target is random, and what `analyze` writes.
+pub(super) fn check_random(
+    rt: &impl Abort,
+    alloc: Global,
+    rows: &[(&str, &str)],
+) -> Result<(), Fail> {
+    for (text, output) in rows {
+        check_output(rt, alloc, &Order::Analyze, text, output, Status::Random)?;
+    }
+    Ok(())
+}
+
+/// A text that both orders refuse with this line.
+pub(super) fn check_refusal(
+    rt: &impl Abort,
+    alloc: Global,
+    text: &str,
+    line: &str,
+) -> Result<(), Fail> {
+    let order = run_order(None, "");
+    check_output(rt, alloc, &order, text, line, Status::Refused)?;
+    check_output(rt, alloc, &Order::Analyze, text, line, Status::Refused)
+}
+
+/// Each row has a text and the line that both orders refuse it with.
+pub(super) fn check_refused(
+    rt: &impl Abort,
+    alloc: Global,
+    rows: &[(&str, &str)],
+) -> Result<(), Fail> {
+    for (text, line) in rows {
+        check_refusal(rt, alloc, text, line)?;
+    }
+    Ok(())
+}
+
+/// A text on which both orders are done, whatever they write.
+pub(super) fn check_taken(rt: &impl Abort, alloc: Global, text: &str) -> Result<(), Fail> {
+    for order in [run_order(None, ""), Order::Analyze] {
+        let (_, end) = served(alloc, &order, text)?;
+        assert_eq!(rt; end, Ok(Status::Done), "{}", text.len());
+    }
+    Ok(())
+}
+
+/// Texts on which both orders are done.
+pub(super) fn check_all_taken(rt: &impl Abort, alloc: Global, texts: &[&str]) -> Result<(), Fail> {
+    for text in texts {
+        check_taken(rt, alloc, text)?;
+    }
+    Ok(())
+}
+
+/// So many times a piece.
+pub(super) fn repeated(alloc: Global, piece: &str, times: usize) -> Result<String, AllocError> {
+    let mut text = String::new(alloc);
+    for _ in 0..times {
+        text.push_str(piece)?;
+    }
+    Ok(text)
+}
+
+/// Pieces of a text, one after another.
+pub(super) fn joined(alloc: Global, pieces: &[&str]) -> Result<String, AllocError> {
+    let mut text = String::new(alloc);
+    for piece in pieces {
+        text.push_str(piece)?;
+    }
+    Ok(text)
+}
+
+/// A run with these coins, or all 0, of a text of these pieces, and what it writes, in pieces too.
+pub(super) fn check_run_of(
+    rt: &impl Abort,
+    alloc: Global,
+    coins: Option<&str>,
+    pieces: &[&str],
+    output: &[&str],
+) -> Result<(), Fail> {
+    let text = joined(alloc, pieces)?;
+    let output = joined(alloc, output)?;
+    let order = run_order(coins, "");
+    check_output(
+        rt,
+        alloc,
+        &order,
+        text.as_str(),
+        output.as_str(),
+        Status::Done,
+    )
+}
+
+/// The error model of a text of these pieces, in pieces too.
+pub(super) fn check_model_of(
+    rt: &impl Abort,
+    alloc: Global,
+    pieces: &[&str],
+    model: &[&str],
+) -> Result<(), Fail> {
+    let text = joined(alloc, pieces)?;
+    let model = joined(alloc, model)?;
+    check_output(
+        rt,
+        alloc,
+        &Order::Analyze,
+        text.as_str(),
+        model.as_str(),
+        Status::Done,
+    )
+}
+
+/// A text of these pieces, which both orders refuse with this line, in pieces too.
+pub(super) fn check_refusal_of(
+    rt: &impl Abort,
+    alloc: Global,
+    pieces: &[&str],
+    line: &[&str],
+) -> Result<(), Fail> {
+    let text = joined(alloc, pieces)?;
+    let line = joined(alloc, line)?;
+    check_refusal(rt, alloc, text.as_str(), line.as_str())
+}
+
+/// A text of these pieces, on which both orders are done.
+pub(super) fn check_taken_of(rt: &impl Abort, alloc: Global, pieces: &[&str]) -> Result<(), Fail> {
+    let text = joined(alloc, pieces)?;
+    check_taken(rt, alloc, text.as_str())
+}

@@ -1,0 +1,49 @@
+//! Blocks, one inside another too.
+use crate::tests::checks::{check_models, check_runs};
+use std::test::Fail;
+
+/// The coins, or all 0, the faults, a text, and what `run` writes.
+const RUNS: [(Option<&str>, &str, &str, &str); 5] = [
+    (None, "", "REPEAT 2000000 {\nTICK\n}\n", "\n\n"),
+    (None, "", "REPEAT 2000001 {\nTICK\n}\n", "\n\n"),
+    (
+        None,
+        "0,1",
+        "R 0 1\nREPEAT 2 {\nX_ERROR(0.01) 0\nCX 0 1\nMR 1\nDETECTOR(0, 0) rec[-1]\nSHIFT_COORDS(0, 1)\n}\nM 0\nOBSERVABLE_INCLUDE(0) rec[-1]\n",
+        "100\n100\n",
+    ),
+    (
+        None,
+        "",
+        "REPEAT 2 {\nREPEAT 2 {\nX 0\nM 0\n}\nX 0\n}\n",
+        "1001\n\n",
+    ),
+    (None, "", "REPEAT 32000000 {\nTICK\n}\n", "\n\n"),
+];
+
+/// A text, and the error model that `analyze` writes.
+const MODELS: [(&str, &str); 4] = [
+    (
+        "R 0 1\nREPEAT 2 {\nX_ERROR(0.01) 0\nCX 0 1\nMR 1\nDETECTOR(0, 0) rec[-1]\nSHIFT_COORDS(0, 1)\n}\nM 0\nOBSERVABLE_INCLUDE(0) rec[-1]\n",
+        "error(0.01) D0 D1 L0\nerror(0.01) D1 L0\ndetector(0, 0) D0\ndetector(0, 1) D1\nlogical_observable L0\n",
+    ),
+    ("REPEAT 2000000 {\nTICK\n}\n", ""),
+    (
+        "X_ERROR(0.1) 0\nREPEAT 6 {\nM 0\nDETECTOR rec[-1]\n}\n",
+        "error(0.1) D0 D1 D2 D3 D4 D5\ndetector D0\ndetector D1\ndetector D2\ndetector D3\ndetector D4\ndetector D5\n",
+    ),
+    (
+        "REPEAT 2 {\nREPEAT 2 {\nX_ERROR(0.1) 0\nMR 0\nDETECTOR rec[-1]\n}\n}\n",
+        "error(0.1) D0\nerror(0.1) D1\nerror(0.1) D2\nerror(0.1) D3\ndetector D0\ndetector D1\ndetector D2\ndetector D3\n",
+    ),
+];
+
+#[test]
+fn runs(rt: HostRuntime) -> Result<(), Fail> {
+    check_runs(&rt, rt.alloc(), &RUNS)
+}
+
+#[test]
+fn models(rt: HostRuntime) -> Result<(), Fail> {
+    check_models(&rt, rt.alloc(), &MODELS)
+}
