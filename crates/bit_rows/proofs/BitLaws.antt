@@ -1,11 +1,11 @@
 -- One bit of a word: of an exclusive or, of an and, and of a word with one bit set, cleared or turned. The number of
 -- ones is the sum of the bits.
-use Rattle.std.proofs.Common.{lit<, lit≤, add-one, ◌≡◌, ℕ, zero, suc, ◌+◌, ◌*◌, ◌/◌, ◌%◌, ◌^◌, ◌<◌, ◌≤◌, Bool, true, false, not, cond, eqb, ◌&&◌, min, refl, sym, ap, ◌∙◌, arith, bit_and, bit_or, bit_xor, ⊎_elim}
+use Rattle.std.proofs.Common.{lit<, lit≤, add-one, ◌≡◌, ◌-◌, ℕ, zero, suc, ◌+◌, ◌*◌, ◌/◌, ◌%◌, ◌^◌, ◌<◌, ◌≤◌, Bool, true, false, not, cond, eqb, ◌&&◌, ◌||◌, min, max, refl, sym, ap, ◌∙◌, arith, bit_and, bit_or, bit_xor, ⊎_elim}
 use Rattle.std.specs.Int.{bit_at, bit_not, w64, trailing_zeros}
 use Rattle.std.specs.Int.RustNames.{count_ones}
 use Rattle.std.proofs.lemmas.Bool.{cases_eq, eq-eqb, ne_eqb}
 use Rattle.std.proofs.lemmas.Nat.{ones_cat, ones_le_self, zero_from_ones, shr_below, one_shl}
-use Rattle.std.proofs.lemmas.Nat.Bits.{bit_at-lt, bit_at_and, bit_at_xor, bit_at-suc, bit_at_lowest, bit_at-pow_same, bit_at-pow_other, bit_at_set_same, bit_at_set_other, bit_at_clear_same, bit_at_clear_other, bit_at-zero, same_from_bits_below, shr_and_one, bit_at-trailing_zeros}
+use Rattle.std.proofs.lemmas.Nat.Bits.{bit_at-lt, bit_at_and, bit_at_or, bit_at_not, bit_at_xor, bit_at-suc, bit_at_lowest, bit_at-pow_same, bit_at-pow_other, bit_at_set_same, bit_at_set_other, bit_at_clear_same, bit_at_clear_other, bit_at-zero, same_from_bits_below, shr_and_one, bit_at-trailing_zeros}
 use Rattle.bit_rows.specs.Rows.{exclusive_or}
 use Rattle.bit_rows.specs.Totals.{total}
 use Rattle.bit_rows.specs.Words.{bit_of}
@@ -46,6 +46,28 @@ bit_of-xor x y j = ap (λ v. eqb v 1) (bit_at_xor x y j) ∙ sum_of_bits (bit_at
 pub bit_of-and : (x y j : ℕ) → bit_of (bit_and x y) j ≡ (bit_of x j && bit_of y j)
 unfolding bit_of
 bit_of-and x y j = ap (λ v. eqb v 1) (bit_at_and x y j) ∙ least_of_bits (bit_at x j) (bit_at y j) (bit_at-lt x j) (bit_at-lt y j)
+
+greatest_of_bits : (a b : ℕ) → a < 2 → b < 2 → eqb (max a b) 1 ≡ (eqb a 1 || eqb b 1)
+greatest_of_bits zero zero p q = refl
+greatest_of_bits zero (suc zero) p q = refl
+greatest_of_bits (suc zero) zero p q = refl
+greatest_of_bits (suc zero) (suc zero) p q = refl
+greatest_of_bits (suc (suc a)) b p q = absurd (omega arith)
+greatest_of_bits zero (suc (suc b)) p q = absurd (omega arith)
+greatest_of_bits (suc zero) (suc (suc b)) p q = absurd (omega arith)
+
+pub bit_of-or : (x y j : ℕ) → bit_of (bit_or x y) j ≡ (bit_of x j || bit_of y j)
+unfolding bit_of
+bit_of-or x y j = ap (λ v. eqb v 1) (bit_at_or x y j) ∙ greatest_of_bits (bit_at x j) (bit_at y j) (bit_at-lt x j) (bit_at-lt y j)
+
+other_bit : (a : ℕ) → a < 2 → eqb (1 - a) 1 ≡ not (eqb a 1)
+other_bit zero h = refl
+other_bit (suc zero) h = refl
+other_bit (suc (suc a)) h = absurd (omega arith)
+
+pub bit_of-not : (x j : ℕ) → x < 2 ^ 64 → j < 64 → bit_of (bit_not w64 x) j ≡ not (bit_of x j)
+unfolding bit_of
+bit_of-not x j fits h = ap (λ v. eqb v 1) (bit_at_not w64 x j fits h) ∙ other_bit (bit_at x j) (bit_at-lt x j)
 
 pub bit_of-zero : (j : ℕ) → bit_of 0 j ≡ false
 unfolding bit_of

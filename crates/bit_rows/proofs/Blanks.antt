@@ -1,11 +1,11 @@
 -- The steps of the loops that multiply words of letters: words without letters, which are passed over, and those ahead.
 use Rattle.std.proofs.Common.{◌≡◌, ℕ, zero, suc, ◌+◌, ◌*◌, ◌/◌, ◌<◌, ◌≤◌, ◌%◌, Bool, true, false, List, [], ◌∷◌, length, get_or, refl, ap, ap₂, sym, ◌∙◌, arith, ⊎_elim, ◌-◌, bit_or, bit_xor}
 use Rattle.std.specs.Int.Bits.{xor_zero_r}
-use Rattle.std.specs.Simd.Lanes.{zip2, chunk, fold_l}
+use Rattle.std.specs.Simd.Lanes.{zip2, chunk, put_chunk, fold_l}
 use Rattle.std.proofs.lemmas.Bool.{cases_lt}
 use Rattle.std.proofs.lemmas.List.{get_or_past}
 use Rattle.std.proofs.lemmas.Nat.{le_or_l, le_or_r}
-use Rattle.std.proofs.lemmas.Simd.{length-chunk, get_or-chunk, get_or-zip2}
+use Rattle.std.proofs.lemmas.Simd.{length-chunk, length-zip2, get_or-zip2, get_or-put_chunk_at}
 use Rattle.bit_rows.specs.Rows.{letter_phase}
 use Rattle.bit_rows.specs.Spans.{XorsWithin}
 use Rattle.bit_rows.specs.Words.{bit_of}
@@ -45,15 +45,33 @@ fold-or f same a (x ∷ xs) h =
     place e each zero = e
     place e each (suc k) = each k
 
--- where the or of all lanes is 0 no word has a set bit
-pub no_letters_there : (f : ℕ → ℕ → ℕ) → ((a b : ℕ) → f a b ≡ bit_or a b) → (x z : List ℕ) (at : ℕ) → at + 8 ≤ length x → at + 8 ≤ length z → fold_l f 0 (zip2 bit_or (chunk at 8 x) (chunk at 8 z)) ≡ 0 → (k : ℕ) → k < 8 → (get_or x (at + k) 0 ≡ 0) × (get_or z (at + k) 0 ≡ 0)
-no_letters_there f same x z at x_in z_in h k within =
-    let a : length (chunk at 8 x) ≡ 8 = length-chunk at 8 x x_in in
-    let b : length (chunk at 8 z) ≡ 8 = length-chunk at 8 z z_in in
-    let lane : get_or (zip2 bit_or (chunk at 8 x) (chunk at 8 z)) k 0 ≡ bit_or (get_or x (at + k) 0) (get_or z (at + k) 0) =
-    get_or-zip2 bit_or (chunk at 8 x) (chunk at 8 z) k 0 0 0 (omega arith) (omega arith)
-    ∙ ap₂ bit_or (get_or-chunk at 8 x k 0 within) (get_or-chunk at 8 z k 0 within) in
-    either_zero (get_or x (at + k) 0) (get_or z (at + k) 0) (sym lane ∙ (fold-or f same 0 (zip2 bit_or (chunk at 8 x) (chunk at 8 z)) h).1 k)
+-- where the or of all lanes is 0 every lane is
+blank_lanes : (f : ℕ → ℕ → ℕ) → ((a b : ℕ) → f a b ≡ bit_or a b) → (xs zs : List ℕ) → length xs ≡ 4 → length zs ≡ 4 → fold_l f 0 (zip2 bit_or xs zs) ≡ 0
+    → (k : ℕ) → k < 4 → (get_or xs k 0 ≡ 0) × (get_or zs k 0 ≡ 0)
+blank_lanes f same xs zs x_long z_long h k within =
+    let lane : get_or (zip2 bit_or xs zs) k 0 ≡ bit_or (get_or xs k 0) (get_or zs k 0) = get_or-zip2 bit_or xs zs k 0 0 0 (omega (arith, x_long, within)) (omega (arith, z_long, within)) in
+    either_zero (get_or xs k 0) (get_or zs k 0) (sym lane ∙ (fold-or f same 0 (zip2 bit_or xs zs) h).1 k)
+
+sum_long : (first second : List ℕ) (at : ℕ) → at + 4 ≤ length first → at + 4 ≤ length second → length (zip2 bit_xor (chunk at 4 first) (chunk at 4 second)) ≡ 4
+sum_long first second at own other =
+    let a : length (chunk at 4 first) ≡ 4 = length-chunk at 4 first own in
+    let b : length (chunk at 4 second) ≡ 4 = length-chunk at 4 second other in
+    length-zip2 bit_xor (chunk at 4 first) (chunk at 4 second) (a ∙ sym b) ∙ a
+
+-- where the or of two sums is 0, so are the words written
+pub no_letters_left : (f : ℕ → ℕ → ℕ) → ((a b : ℕ) → f a b ≡ bit_or a b) → (xa za xb zb : List ℕ) (at : ℕ)
+    → at + 4 ≤ length xa → at + 4 ≤ length za → at + 4 ≤ length xb → at + 4 ≤ length zb
+    → fold_l f 0 (zip2 bit_or (zip2 bit_xor (chunk at 4 xa) (chunk at 4 xb)) (zip2 bit_xor (chunk at 4 za) (chunk at 4 zb))) ≡ 0
+    → (k : ℕ) → k < 4 → (get_or (put_chunk at xa (zip2 bit_xor (chunk at 4 xa) (chunk at 4 xb))) (at + k) 0 ≡ 0) × (get_or (put_chunk at za (zip2 bit_xor (chunk at 4 za) (chunk at 4 zb))) (at + k) 0 ≡ 0)
+no_letters_left f same xa za xb zb at p q r s none k h =
+    let xs : List ℕ = zip2 bit_xor (chunk at 4 xa) (chunk at 4 xb) in
+    let zs : List ℕ = zip2 bit_xor (chunk at 4 za) (chunk at 4 zb) in
+    let x_long : length xs ≡ 4 = sum_long xa xb at p r in
+    let z_long : length zs ≡ 4 = sum_long za zb at q s in
+    let zero = blank_lanes f same xs zs x_long z_long none k h in (
+      get_or-put_chunk_at at xa xs k 0 (omega (arith, x_long, h)) (omega (arith, x_long, p)) ∙ zero.0,
+      get_or-put_chunk_at at za zs k 0 (omega (arith, z_long, h)) (omega (arith, z_long, q)) ∙ zero.1,
+    )
 
 -- words of 0 change nothing
 pub XorsWithin-blank : (first second : List ℕ) (low high : ℕ) → ((k : ℕ) → low ≤ k → k < high → get_or second k 0 ≡ 0) → XorsWithin first second first low high
@@ -64,7 +82,7 @@ XorsWithin-blank first second low high blank =
       above = λ k h. refl;
     }
 
-pub blank_block : (words : List ℕ) (at : ℕ) → ((k : ℕ) → k < 8 → get_or words (at + k) 0 ≡ 0) → (k : ℕ) → at ≤ k → k < at + 8 → get_or words k 0 ≡ 0
+pub blank_block : (words : List ℕ) (at : ℕ) → ((k : ℕ) → k < 4 → get_or words (at + k) 0 ≡ 0) → (k : ℕ) → at ≤ k → k < at + 4 → get_or words k 0 ≡ 0
 blank_block words at blank k h l =
     let e : at + (k - at) ≡ k = omega (arith, h) in
     ap (λ j. get_or words j 0) (sym e) ∙ blank (k - at) (omega (arith, h, l))
@@ -77,9 +95,9 @@ ahead_phase xa xa' za za' xb zb at k x z =
     ap₂ (λ v w. word_phase v w (get_or xb (at + k) 0) (get_or zb (at + k) 0)) (x.above (at + k) (omega arith)) (z.above (at + k) (omega arith))
 
 -- fewer words than a block
-pub no_more_blocks : (xa za xb zb : List ℕ) (n : ℕ) → n < 8 → 0 ≡ words_phase xa za xb zb (n / 8 * 8) % 4
+pub no_more_blocks : (xa za xb zb : List ℕ) (n : ℕ) → n < 4 → 0 ≡ words_phase xa za xb zb (n / 4 * 4) % 4
 no_more_blocks xa za xb zb n h =
-    let none : n / 8 * 8 ≡ 0 = omega (arith, h) in
+    let none : n / 4 * 4 ≡ 0 = omega (arith, h) in
     sym (ap (λ m. words_phase xa za xb zb m % 4) none ∙ ap (λ s. s % 4) (words_phase-zero xa za xb zb))
 
 -- the same at the next word

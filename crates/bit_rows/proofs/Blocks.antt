@@ -34,24 +34,24 @@ XorsWithin-one first second i within =
       above = λ k h. get_or-set_other first i k word 0 (λ e. omega arith);
     }
 
-pub XorsWithin-block : (first second : List ℕ) (at : ℕ) → at + 8 ≤ length first → at + 8 ≤ length second
-    → XorsWithin first second (put_chunk at first (zip2 bit_xor (chunk at 8 first) (chunk at 8 second))) at (at + 8)
-XorsWithin-block first second at own other =
-    let a : length (chunk at 8 first) ≡ 8 = length-chunk at 8 first own in
-    let b : length (chunk at 8 second) ≡ 8 = length-chunk at 8 second other in
-    let block : List ℕ = zip2 bit_xor (chunk at 8 first) (chunk at 8 second) in
-    let long : length block ≡ 8 = length-zip2 bit_xor (chunk at 8 first) (chunk at 8 second) (a ∙ sym b) ∙ a in
+pub XorsWithin-block : (first second : List ℕ) (at n : ℕ) → at + n ≤ length first → at + n ≤ length second
+    → XorsWithin first second (put_chunk at first (zip2 bit_xor (chunk at n first) (chunk at n second))) at (at + n)
+XorsWithin-block first second at n own other =
+    let a : length (chunk at n first) ≡ n = length-chunk at n first own in
+    let b : length (chunk at n second) ≡ n = length-chunk at n second other in
+    let block : List ℕ = zip2 bit_xor (chunk at n first) (chunk at n second) in
+    let long : length block ≡ n = length-zip2 bit_xor (chunk at n first) (chunk at n second) (a ∙ sym b) ∙ a in
     record {
       below = λ k h. get_or-put_chunk_below at first block k 0 h;
       inside = λ k h l.
           let j : ℕ = k - at in
           let e : at + j ≡ k = omega arith in
-          let short : j < 8 = omega arith in
+          let short : j < n = omega arith in
           ap (λ v. get_or (put_chunk at first block) v 0) (sym e)
           ∙ get_or-put_chunk_at at first block j 0 (omega arith) (omega arith)
-          ∙ get_or-zip2 bit_xor (chunk at 8 first) (chunk at 8 second) j 0 0 0 (omega arith) (omega arith)
-          ∙ ap (λ v. bit_xor v (get_or (chunk at 8 second) j 0)) (get_or-chunk at 8 first j 0 short)
-          ∙ ap (λ v. bit_xor (get_or first (at + j) 0) v) (get_or-chunk at 8 second j 0 short)
+          ∙ get_or-zip2 bit_xor (chunk at n first) (chunk at n second) j 0 0 0 (omega arith) (omega arith)
+          ∙ ap (λ v. bit_xor v (get_or (chunk at n second) j 0)) (get_or-chunk at n first j 0 short)
+          ∙ ap (λ v. bit_xor (get_or first (at + j) 0) v) (get_or-chunk at n second j 0 short)
           ∙ ap (λ v. bit_xor (get_or first v 0) (get_or second v 0)) e;
       above = λ k h. get_or-put_chunk_above at first block k 0 (omega arith);
     }

@@ -52,7 +52,7 @@ abbrev clashing : (xa za xb zb : Bool) → Bool
 clashing xa za xb zb = exclusive_or (xa && zb) (za && xb)
 
 abbrev turning : (ones xa za xb zb : Bool) → Bool
-turning ones xa za xb zb = exclusive_or (exclusive_or (exclusive_or (exclusive_or (exclusive_or ones xa) xb) za) zb) (xa && zb)
+turning ones xa za xb zb = exclusive_or (exclusive_or (exclusive_or xa xb) (exclusive_or za zb)) (exclusive_or ones (xa && zb))
 
 -- at one place the carry bits afterwards hold the power that they held and that of the two letters, modulo 4
 abbrev carries_power : (ones twos xa za xb zb : Bool) → Bool
@@ -85,7 +85,7 @@ carried_by_bits ones twos =
 
 pub carried-step : (ones twos xa za xb zb : ℕ)
     → carried (bit_xor ones (bit_xor (bit_and xa zb) (bit_and za xb)))
-    (bit_xor twos (bit_and (bit_xor (bit_xor (bit_xor (bit_xor (bit_xor ones xa) xb) za) zb) (bit_and xa zb)) (bit_xor (bit_and xa zb) (bit_and za xb)))) % 4
+    (bit_xor twos (bit_and (bit_xor (bit_xor (bit_xor xa xb) (bit_xor za zb)) (bit_xor ones (bit_and xa zb))) (bit_xor (bit_and xa zb) (bit_and za xb)))) % 4
     ≡ (carried ones twos + word_phase xa za xb zb) % 4
 unfolding word_phase
 carried-step ones twos xa za xb zb =

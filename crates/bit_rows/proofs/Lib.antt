@@ -6,3 +6,4 @@ pub mod Carries
 pub mod Blocks
 pub mod Lanes
 pub mod Blanks
+pub mod Marked

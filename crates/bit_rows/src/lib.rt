@@ -3,6 +3,7 @@
 #![tactic(auto)]
 
 mod bits;
+mod marks;
 mod multiply;
 mod parity;
 mod phase;

@@ -1,90 +1,122 @@
 // The product of two words of letters in one pass: the x bits and the z bits of the first are lists of words that become those
-// of the product, and the power of i comes out. Eight words at a time, past those without letters in the second.
-ghost use Rattle.std.specs.Prelude.{◌≡◌, ℕ, ◌+◌, ◌*◌, ◌/◌, ◌%◌, ◌<◌, ◌≤◌, length, slice_index, bit_xor};
+// of the product, and the power of i comes out. Four words at a time, which leaves the carry words in registers of 16 bytes, past
+// the blocks without marks, which have no letters in the second.
+ghost use Rattle.std.specs.Prelude.{◌≡◌, ℕ, ◌+◌, ◌*◌, ◌/◌, ◌%◌, ◌<◌, ◌≤◌, true, length, slice_index, bit_xor};
+ghost use Rattle.bit_rows.specs.Marks.{BlanksBelow, MarksOnes};
 ghost use Rattle.bit_rows.specs.Spans.{XorsWithin};
 ghost use Rattle.bit_rows.specs.WordTotals.{carried, word_phase, words_phase};
 
+use crate::marks::{is_unmarked, mark_where};
 use crate::phase::{carry, carry_block, power_held, power_of_lanes};
-use crate::xor::xor_block;
 use std::simd::prelude::*;
 
-pub(crate) fn multiply_words(xa: &mut [u64], za: &mut [u64], xb: &[u64], zb: &[u64]) -> u8
-    requires za { length za.old ≡ length xa.old }
-    requires xb { length xb.now ≡ length xa.old }
-    requires zb { length zb.now ≡ length xa.old }
-    ensures power { result ≡ words_phase xa.old za.old xb.now zb.now (length xa.old) % 4 }
-    ensures x { (k : ℕ) → slice_index xa.new k ≡ bit_xor (slice_index xa.old k) (slice_index xb.now k) }
-    ensures z { (k : ℕ) → slice_index za.new k ≡ bit_xor (slice_index za.old k) (slice_index zb.now k) }
-{
-    let before = multiply_blocks(xa, za, xb, zb);
-    let mut ones = 0u64;
-    let mut twos = 0u64;
-    for i in xb.len() / 8 * 8..xb.len() {
-        (ones, twos) = carry(ones, twos, xa[i], za[i], xb[i], zb[i]);
-        xa[i] ^= xb[i];
-        za[i] ^= zb[i];
-    }
-    ((before + power_held(ones, twos)) % 4) as u8
-}
-
-// The whole blocks of eight words.
-fn multiply_blocks(xa: &mut [u64], za: &mut [u64], xb: &[u64], zb: &[u64]) -> u32
-    requires za { length za.old ≡ length xa.old }
-    requires xb { length xb.now ≡ length xa.old }
-    requires zb { length zb.now ≡ length xa.old }
-    ensures power { result ≡ words_phase xa.old za.old xb.now zb.now (length xb.now / 8 * 8) % 4 }
-    ensures x { XorsWithin xa.old xb.now xa.new 0 (length xb.now / 8 * 8) }
-    ensures z { XorsWithin za.old zb.now za.new 0 (length xb.now / 8 * 8) }
-{
-    if xb.len() < 8 {
-        return 0;
-    }
-    let mut ones = u64x8::splat(0);
-    let mut twos = u64x8::splat(0);
-    for block in 0..xb.len() / 8 {
-        (ones, twos) = multiply_block(ones, twos, xa, za, xb, zb, block * 8);
-    }
-    power_of_lanes(&ones.to_array(), &twos.to_array())
-}
-
-// One block; most of a long word has no letters.
-#[inline(always)]
-fn multiply_block(
-    ones: u64x8,
-    twos: u64x8,
+// Besides the power it answers marks of blocks in which no letter is left.
+pub(crate) fn multiply_words(
     xa: &mut [u64],
     za: &mut [u64],
     xb: &[u64],
     zb: &[u64],
-    at: usize,
-) -> (u64x8, u64x8)
-    requires xa { at + 8 ≤ length xa.old }
-    requires za { at + 8 ≤ length za.old }
-    requires xb { at + 8 ≤ length xb.now }
-    requires zb { at + 8 ≤ length zb.now }
-    ensures power { (k : ℕ) → k < 8 → carried (slice_index result.0 k) (slice_index result.1 k) % 4
-        ≡ (carried (slice_index ones k) (slice_index twos k)
-        + word_phase (slice_index xa.old (at + k)) (slice_index za.old (at + k))
-        (slice_index xb.now (at + k)) (slice_index zb.now (at + k))) % 4 }
-    ensures x { XorsWithin xa.old xb.now xa.new at (at + 8) }
-    ensures z { XorsWithin za.old zb.now za.new at (at + 8) }
+    marks: u64,
+) -> (u8, u64)
+    requires za { length za.old ≡ length xa.old }
+    requires xb { length xb.now ≡ length xa.old }
+    requires zb { length zb.now ≡ length xa.old }
+    requires x_marks { MarksOnes marks xb.now }
+    requires z_marks { MarksOnes marks zb.now }
+    ensures power { result.0 ≡ words_phase xa.old za.old xb.now zb.now (length xa.old) % 4 }
+    ensures x { (k : ℕ) → slice_index xa.new k ≡ bit_xor (slice_index xa.old k) (slice_index xb.now k) }
+    ensures z { (k : ℕ) → slice_index za.new k ≡ bit_xor (slice_index za.old k) (slice_index zb.now k) }
+    ensures blank { BlanksBelow result.1 xa.new za.new (length xa.old) }
 {
-    let bits = bits_of_block(xb, zb, at);
-    if bits == 0 {
-        return (ones, twos);
+    let (before, noted) = multiply_blocks(xa, za, xb, zb, marks);
+    let mut ones = 0u64;
+    let mut twos = 0u64;
+    for i in xb.len() / 4 * 4..xb.len() {
+        (ones, twos) = carry(ones, twos, xa[i], za[i], xb[i], zb[i]);
+        xa[i] ^= xb[i];
+        za[i] ^= zb[i];
     }
-    let carries = carry_block(ones, twos, xa, za, xb, zb, at);
-    xor_block(xa, xb, at);
-    xor_block(za, zb, at);
-    carries
+    (((before + power_held(ones, twos)) % 4) as u8, noted)
 }
 
-// The bits that any of eight words of either list has.
-#[inline(always)]
-fn bits_of_block(x: &[u64], z: &[u64], at: usize) -> u64
-    requires x { at + 8 ≤ length x.now }
-    requires z { at + 8 ≤ length z.now }
-    ensures { result ≡ 0 → (k : ℕ) → k < 8 → (slice_index x.now (at + k) ≡ 0) × (slice_index z.now (at + k) ≡ 0) }
+// The whole blocks of four words.
+fn multiply_blocks(xa: &mut [u64], za: &mut [u64], xb: &[u64], zb: &[u64], marks: u64) -> (u32, u64)
+    requires za { length za.old ≡ length xa.old }
+    requires xb { length xb.now ≡ length xa.old }
+    requires zb { length zb.now ≡ length xa.old }
+    requires x_marks { MarksOnes marks xb.now }
+    requires z_marks { MarksOnes marks zb.now }
+    ensures power { result.0 ≡ words_phase xa.old za.old xb.now zb.now (length xb.now / 4 * 4) % 4 }
+    ensures x { XorsWithin xa.old xb.now xa.new 0 (length xb.now / 4 * 4) }
+    ensures z { XorsWithin za.old zb.now za.new 0 (length xb.now / 4 * 4) }
+    ensures blank { BlanksBelow result.1 xa.new za.new (length xb.now / 4 * 4) }
 {
-    (u64x8::from_slice(&x[at..]) | u64x8::from_slice(&z[at..])).reduce_or()
+    if xb.len() < 4 {
+        return (0, 0);
+    }
+    let mut ones = u64x4::splat(0);
+    let mut twos = u64x4::splat(0);
+    let mut noted = 0u64;
+    for block in 0..xb.len() / 4 {
+        let (next_ones, next_twos, emptied) = multiply_block(
+            ones, twos, xa, za, xb, zb, marks, block,
+        );
+        ones = next_ones;
+        twos = next_twos;
+        noted = mark_where(noted, block, emptied);
+    }
+    (power_of_lanes(&ones.to_array(), &twos.to_array()), noted)
+}
+
+// One block, and whether no letter is left in it; most of a long word has no letters.
+#[inline(always)]
+fn multiply_block(
+    ones: u64x4,
+    twos: u64x4,
+    xa: &mut [u64],
+    za: &mut [u64],
+    xb: &[u64],
+    zb: &[u64],
+    marks: u64,
+    block: usize,
+) -> (u64x4, u64x4, bool)
+    requires xa { block * 4 + 4 ≤ length xa.old }
+    requires za { block * 4 + 4 ≤ length za.old }
+    requires xb { block * 4 + 4 ≤ length xb.now }
+    requires zb { block * 4 + 4 ≤ length zb.now }
+    requires x_marks { MarksOnes marks xb.now }
+    requires z_marks { MarksOnes marks zb.now }
+    ensures power { (k : ℕ) → k < 4 → carried (slice_index result.0 k) (slice_index result.1 k) % 4
+        ≡ (carried (slice_index ones k) (slice_index twos k)
+        + word_phase (slice_index xa.old (block * 4 + k)) (slice_index za.old (block * 4 + k))
+        (slice_index xb.now (block * 4 + k)) (slice_index zb.now (block * 4 + k))) % 4 }
+    ensures x { XorsWithin xa.old xb.now xa.new (block * 4) (block * 4 + 4) }
+    ensures z { XorsWithin za.old zb.now za.new (block * 4) (block * 4 + 4) }
+    ensures emptied { result.2 ≡ true → (k : ℕ) → k < 4 → (slice_index xa.new (block * 4 + k) ≡ 0) × (slice_index za.new (block * 4 + k) ≡ 0) }
+{
+    let unmarked = is_unmarked(marks, block);
+    if unmarked {
+        return (ones, twos, false);
+    }
+    let (next_ones, next_twos) = carry_block(ones, twos, xa, za, xb, zb, block * 4);
+    let bits = xor_both(xa, za, xb, zb, block * 4);
+    (next_ones, next_twos, bits == 0)
+}
+
+// Both sums are made before either is written, so that no word is read twice. Answers the bits that any of them has.
+#[inline(always)]
+fn xor_both(xa: &mut [u64], za: &mut [u64], xb: &[u64], zb: &[u64], at: usize) -> u64
+    requires xa { at + 4 ≤ length xa.old }
+    requires za { at + 4 ≤ length za.old }
+    requires xb { at + 4 ≤ length xb.now }
+    requires zb { at + 4 ≤ length zb.now }
+    ensures x { XorsWithin xa.old xb.now xa.new at (at + 4) }
+    ensures z { XorsWithin za.old zb.now za.new at (at + 4) }
+    ensures blank { result ≡ 0 → (k : ℕ) → k < 4 → (slice_index xa.new (at + k) ≡ 0) × (slice_index za.new (at + k) ≡ 0) }
+{
+    let x = u64x4::from_slice(&xa[at..]) ^ u64x4::from_slice(&xb[at..]);
+    let z = u64x4::from_slice(&za[at..]) ^ u64x4::from_slice(&zb[at..]);
+    x.copy_to_slice(&mut xa[at..]);
+    z.copy_to_slice(&mut za[at..]);
+    (x | z).reduce_or()
 }

@@ -1,4 +1,4 @@
-// The power of i of the product of two words of letters, whose x bits and z bits are lists of words, eight words at a
+// The power of i of the product of two words of letters, whose x bits and z bits are lists of words, four words at a
 // time.
 ghost use Rattle.std.specs.Prelude.{◌≡◌, ℕ, ◌+◌, ◌*◌, ◌/◌, ◌%◌, ◌<◌, ◌≤◌, length, slice_index};
 ghost use Rattle.bit_rows.specs.WordTotals.{carried, carried_by, word_phase, words_phase};
@@ -14,23 +14,23 @@ pub(crate) fn power_of_words(xa: &[u64], za: &[u64], xb: &[u64], zb: &[u64]) -> 
     let before = power_of_blocks(xa, za, xb, zb);
     let mut ones = 0u64;
     let mut twos = 0u64;
-    for i in xa.len() / 8 * 8..xa.len() {
+    for i in xa.len() / 4 * 4..xa.len() {
         (ones, twos) = carry(ones, twos, xa[i], za[i], xb[i], zb[i]);
     }
     ((before + power_held(ones, twos)) % 4) as u8
 }
 
-// That of the whole blocks of eight words.
+// That of the whole blocks of four words.
 fn power_of_blocks(xa: &[u64], za: &[u64], xb: &[u64], zb: &[u64]) -> u32
     requires za { length za.now ≡ length xa.now }
     requires xb { length xb.now ≡ length xa.now }
     requires zb { length zb.now ≡ length xa.now }
-    ensures { result ≡ words_phase xa.now za.now xb.now zb.now (length xa.now / 8 * 8) % 4 }
+    ensures { result ≡ words_phase xa.now za.now xb.now zb.now (length xa.now / 4 * 4) % 4 }
 {
-    let mut ones = u64x8::splat(0);
-    let mut twos = u64x8::splat(0);
-    for block in 0..xa.len() / 8 {
-        (ones, twos) = carry_block(ones, twos, xa, za, xb, zb, block * 8);
+    let mut ones = u64x4::splat(0);
+    let mut twos = u64x4::splat(0);
+    for block in 0..xa.len() / 4 {
+        (ones, twos) = carry_block(ones, twos, xa, za, xb, zb, block * 4);
     }
     power_of_lanes(&ones.to_array(), &twos.to_array())
 }
@@ -62,36 +62,36 @@ pub(crate) fn carry(ones: u64, twos: u64, xa: u64, za: u64, xb: u64, zb: u64) ->
 {
     let turned = xa & zb;
     let clash = turned ^ (za & xb);
-    let sign = ones ^ xa ^ xb ^ za ^ zb ^ turned;
+    let sign = (xa ^ xb) ^ (za ^ zb) ^ (ones ^ turned);
     (ones ^ clash, twos ^ (sign & clash))
 }
 
-// The same in each of eight lanes.
+// The same in each of four lanes.
 #[inline(always)]
 pub(crate) fn carry_block(
-    ones: u64x8,
-    twos: u64x8,
+    ones: u64x4,
+    twos: u64x4,
     xa: &[u64],
     za: &[u64],
     xb: &[u64],
     zb: &[u64],
     at: usize,
-) -> (u64x8, u64x8)
-    requires xa { at + 8 ≤ length xa.now }
-    requires za { at + 8 ≤ length za.now }
-    requires xb { at + 8 ≤ length xb.now }
-    requires zb { at + 8 ≤ length zb.now }
-    ensures { (k : ℕ) → k < 8 → carried (slice_index result.0 k) (slice_index result.1 k) % 4
+) -> (u64x4, u64x4)
+    requires xa { at + 4 ≤ length xa.now }
+    requires za { at + 4 ≤ length za.now }
+    requires xb { at + 4 ≤ length xb.now }
+    requires zb { at + 4 ≤ length zb.now }
+    ensures { (k : ℕ) → k < 4 → carried (slice_index result.0 k) (slice_index result.1 k) % 4
         ≡ (carried (slice_index ones k) (slice_index twos k)
         + word_phase (slice_index xa.now (at + k)) (slice_index za.now (at + k))
         (slice_index xb.now (at + k)) (slice_index zb.now (at + k))) % 4 }
 {
-    let xa = u64x8::from_slice(&xa[at..]);
-    let za = u64x8::from_slice(&za[at..]);
-    let xb = u64x8::from_slice(&xb[at..]);
-    let zb = u64x8::from_slice(&zb[at..]);
+    let xa = u64x4::from_slice(&xa[at..]);
+    let za = u64x4::from_slice(&za[at..]);
+    let xb = u64x4::from_slice(&xb[at..]);
+    let zb = u64x4::from_slice(&zb[at..]);
     let turns = xa & zb;
     let clashes = turns ^ (za & xb);
-    let signs = ones ^ xa ^ xb ^ za ^ zb ^ turns;
+    let signs = (xa ^ xb) ^ (za ^ zb) ^ (ones ^ turns);
     (ones ^ clashes, twos ^ (signs & clashes))
 }

@@ -2,6 +2,7 @@ ghost use Rattle.std.specs.Prelude.{◌≡◌, ◌↔◌, ◌<◌, List, Bool, f
 ghost use Rattle.bit_rows.specs.Rows.{xor_rows, and_parity_of, phase_of, first_one_of};
 
 use crate::bits::{all_zero, bit_at_place, first_place, flip_bit, put_bit};
+use crate::marks::{either, is_unmarked, mark, marks_of_sum};
 use crate::multiply::multiply_words;
 use crate::parity::has_odd_common_ones;
 use crate::phase::power_of_words;
@@ -16,17 +17,20 @@ use std::marker::Model;
 pub struct BitRow<A: Allocator + Copy> {
     words: Vec<u64, A>,
     places: usize,
+    // of the blocks of words that may have ones
+    marks: u64,
 }
 
 impl<A: Allocator + Copy> Model for BitRow<A> {
     ghost use Rattle.std.specs.Prelude.{List, Bool};
-    ghost use Rattle.bit_rows.specs.Words.{row_of, HoldsRow};
+    ghost use Rattle.bit_rows.specs.Marks.{KeepsRow};
+    ghost use Rattle.bit_rows.specs.Words.{row_of};
 
     ghost Value = { List Bool };
 
     ghost view = { λ r. row_of r.places r.words.items };
 
-    ghost invariant = { λ r. HoldsRow r.places r.words.items };
+    ghost invariant = { λ r. KeepsRow r.places r.marks r.words.items };
 }
 
 impl<A: Allocator + Copy> BitRow<A> {
@@ -37,6 +41,7 @@ impl<A: Allocator + Copy> BitRow<A> {
         Ok(BitRow {
             words: Vec::from_elem(alloc, 0u64, n.div_ceil(64))?,
             places: n,
+            marks: 0,
         })
     }
 
@@ -48,6 +53,7 @@ impl<A: Allocator + Copy> BitRow<A> {
         Ok(BitRow {
             words: Vec::from_slice(alloc, self.words.as_slice())?,
             places: self.places,
+            marks: self.marks,
         })
     }
 
@@ -63,6 +69,10 @@ impl<A: Allocator + Copy> BitRow<A> {
         requires { i < length self.now }
         ensures { result ≡ slice_index_or self.now i false }
     {
+        let unmarked = is_unmarked(self.marks, i / 256);
+        if unmarked {
+            return false;
+        }
         bit_at_place(self.words.as_slice(), i)
     }
 
@@ -72,6 +82,7 @@ impl<A: Allocator + Copy> BitRow<A> {
         ensures { self.new ≡ slice_set self.old i b }
     {
         put_bit(self.words.as_mut_slice(), i, b);
+        self.marks = mark(self.marks, i / 256);
     }
 
     /// Turns the bit at a place.
@@ -80,6 +91,7 @@ impl<A: Allocator + Copy> BitRow<A> {
         ensures { self.new ≡ slice_set self.old i (not (slice_index_or self.old i false)) }
     {
         flip_bit(self.words.as_mut_slice(), i);
+        self.marks = mark(self.marks, i / 256);
     }
 
     /// Exchanges two rows of any lengths.
@@ -98,6 +110,7 @@ impl<A: Allocator + Copy> BitRow<A> {
         self.words
             .as_mut_slice()
             .copy_from_slice(other.words.as_slice());
+        self.marks = other.marks;
     }
 
     /// Makes every bit 0.
@@ -105,6 +118,7 @@ impl<A: Allocator + Copy> BitRow<A> {
         ensures { self.new ≡ replicate (length self.old) false }
     {
         self.words.as_mut_slice().fill(0);
+        self.marks = 0;
     }
 
     /// Adds a row of this length by exclusive or, place by place.
@@ -114,6 +128,7 @@ impl<A: Allocator + Copy> BitRow<A> {
         ensures len { length self.new ≡ length self.old }
     {
         xor_words(self.words.as_mut_slice(), other.words.as_slice());
+        self.marks = either(self.marks, other.marks);
     }
 
     /// Multiplies the word with x bits `xa` and z bits `za` by that with `xb` and `zb` from the right: answers the power of
@@ -130,7 +145,17 @@ impl<A: Allocator + Copy> BitRow<A> {
     {
         let x = xb.words.as_slice();
         let z = zb.words.as_slice();
-        multiply_words(xa.words.as_mut_slice(), za.words.as_mut_slice(), x, z)
+        let marks = either(xb.marks, zb.marks);
+        let (power, noted) = multiply_words(
+            xa.words.as_mut_slice(),
+            za.words.as_mut_slice(),
+            x,
+            z,
+            marks,
+        );
+        xa.marks = marks_of_sum(xa.marks, xb.marks, noted);
+        za.marks = marks_of_sum(za.marks, zb.marks, noted);
+        power
     }
 
     /// Whether the number of places with both bits set is odd.

@@ -1,6 +1,7 @@
-ghost use Rattle.std.specs.Prelude.{◌≡◌, ◌++◌, drop, length, IfOk, IfErr, OnOk};
+ghost use Rattle.std.specs.Prelude.{◌≡◌, ◌++◌, List, [], drop, length, IfOk, IfErr, OnOk};
+ghost use Rattle.pauli_word.specs.declared.letter.Letter.{Letter};
 ghost use Rattle.step_model.specs.Faults.{memory_fault};
-ghost use Rattle.step_model.specs.Frames.{flips_from, flips_of};
+ghost use Rattle.step_model.specs.Frames.{begun, flips_from, flips_of};
 
 use crate::collapses::go_past;
 use crate::frame::Frame;
@@ -42,16 +43,33 @@ pub(crate) fn flips_at<A: Allocator + Copy>(
 {
     let mut walk = Walk::start(program);
     let mut flips = Vec::new(alloc);
-    let mut made = 0;
-    if let Place::After(collapse) = place {
-        flips.resize(collapse as usize + 1, false)?;
-        if let Some(passed) = go_past(program, &mut walk, collapse) {
-            made = passed.made;
-        }
-    }
+    let made = go_to(program, place, &mut walk, &mut flips)?;
     let mut frame = Frame::begin(alloc, word.copy()?, made)?;
     push_flips(program, &mut walk, &mut frame, &mut flips)?;
     Ok(flips)
+}
+
+// Goes to a place, over collapses that aren't flipped, and answers how many records there are then.
+fn go_to<A: Allocator + Copy>(
+    program: &Program<'_, A>,
+    place: Place,
+    walk: &mut Walk<'_, '_, A>,
+    flips: &mut Vec<bool, A>,
+) -> Result<usize, AllocError>
+    requires program { walk.old.program ≡ program.now }
+    requires start { walk.old.place ≡ 0 }
+    requires none { flips.old.items ≡ [] }
+    ensures program { OnOk result (walk.new.program ≡ program.now) }
+    ensures flips { IfOk result (λ made. (v : List Letter) → flips.new.items ++ flips_from program.now.qubits (begun v made) (drop walk.new.place program.now.steps) ≡ flips_of program.now place v) }
+{
+    let mut made = 0;
+    if let Place::After(collapse) = place {
+        flips.resize(collapse as usize + 1, false)?;
+        if let Some(passed) = go_past(program, walk, collapse) {
+            made = passed.made;
+        }
+    }
+    Ok(made)
 }
 
 // Appends the flips of the collapses to come.

@@ -22,3 +22,4 @@ pub mod ApartRows
 pub mod ControlledRows
 pub mod ControlledGates
 pub mod SeenOutcomes
+pub mod NewSizes

@@ -9,7 +9,7 @@ ghost use Rattle.tableau.specs.EncodingSteps.{AppliesLetter, preimage_word, prei
 
 use crate::controlled::{apply_controlled, controlled_letters};
 use crate::pairs::{
-    Pair, apply_letter, change_sign, exchange, multiply, multiply_first, set_word, swap,
+    Pair, apply_letter, change_sign, exchange, multiply, multiply_first, replace, set_word,
 };
 use gate_table::Gate;
 use pauli_word::{Letter, Word};
@@ -55,7 +55,7 @@ fn apply_turn<A: Allocator + Copy>(
         Gate::SDag => multiply_first(&mut rows[qubit], true),
         _ => {
             set_preimages(spare, &rows[qubit], gate);
-            swap(&mut rows[qubit], spare);
+            replace(&mut rows[qubit], spare);
         }
     }
 }
@@ -113,7 +113,7 @@ pub(crate) fn apply_two<A: Allocator + Copy>(
     }
 }
 
-// Makes all four words anew; the pairs that they replace are left in `first` and `second`.
+// Makes all four words anew, in `first` and `second`.
 fn apply_by_images<A: Allocator + Copy>(
     rows: &mut Vec<Pair<A>, A>,
     first: &mut Pair<A>,
@@ -149,8 +149,8 @@ fn apply_by_images<A: Allocator + Copy>(
         (Letter::I, Letter::X),
         (Letter::I, Letter::Z),
     );
-    swap(&mut rows[a], first);
-    swap(&mut rows[b], second);
+    replace(&mut rows[a], first);
+    replace(&mut rows[b], second);
 }
 
 // The words of the preimages of two pairs of letters.

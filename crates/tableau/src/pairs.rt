@@ -85,11 +85,15 @@ pub(crate) fn change_sign<A: Allocator + Copy>(word: &mut Word<A>, minus: bool)
     word.set_sign(minus ^ word.sign());
 }
 
-pub(crate) fn swap<A: Allocator + Copy>(first: &mut Pair<A>, second: &mut Pair<A>)
-    ensures first { first.new ≡ second.old }
-    ensures second { second.new ≡ first.old }
+/// Makes a pair equal to another, in its own memory. So pairs that follow one another stay so in memory, and a pass over all of
+/// them reads it in order.
+pub(crate) fn replace<A: Allocator + Copy>(pair: &mut Pair<A>, new: &Pair<A>)
+    requires x { length pair.old.0.letters ≡ length new.now.0.letters }
+    requires z { length pair.old.1.letters ≡ length new.now.1.letters }
+    ensures { pair.new ≡ new.now }
 {
-    std::mem::swap(first, second);
+    pair.0.copy_from(&new.0);
+    pair.1.copy_from(&new.1);
 }
 
 /// Exchanges the words of a pair.

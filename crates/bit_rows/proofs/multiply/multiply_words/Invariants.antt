@@ -1,4 +1,5 @@
 use Rattle.std.proofs.Common.{◌≡◌, ◌+◌, ◌%◌}
+use Rattle.bit_rows.specs.Marks.{BlanksBelow}
 use Rattle.bit_rows.specs.Spans.{XorsWithin}
 use Rattle.bit_rows.specs.WordTotals.{carried, words_phase}
 use Rattle.bit_rows.proofs.multiply.multiply_words.Given as goal
@@ -8,3 +9,4 @@ invariant-loop-i l =
     ((l.before + carried l.ones l.twos) % 4 ≡ words_phase l.fn.xa l.fn.za l.xb l.zb l.i % 4)
     × (XorsWithin l.fn.xa l.xb l.xa 0 l.i)
     × (XorsWithin l.fn.za l.zb l.za 0 l.i)
+    × (BlanksBelow l.noted l.xa l.za l.i)

@@ -1,5 +1,7 @@
 use Rattle.std.proofs.Common.{length, set, ap₂, sym, subst, ◌∙◌, get_or-set_other}
+use Rattle.pauli_word.specs.declared.letter.Letter.TheVariants.{I, X, Z}
 use Rattle.tableau.specs.Encoding.{HasLength}
+use Rattle.tableau.proofs.NewSizes.{two_size}
 use Rattle.tableau.proofs.PairWords.{pair_size, first_made, second_made, two_commute}
 use Rattle.tableau.proofs.gates.apply_by_images.Goals as goal
 
@@ -29,19 +31,54 @@ set_products-requires-2-clause-second g c =
 pub set_products-requires-2-clause-commuting : goal.set_products-requires-2-clause-commuting
 set_products-requires-2-clause-commuting g c = two_commute c.args.rows.now.items c.requires.tableau c.args.gate c.args.a c.args.b c.requires.first_inside c.requires.second_inside c.requires.differ c.index-3.result.now c.index-4.result.now c.index-3.ensures c.index-4.ensures (length c.args.second.now.0.letters) c.requires.second.x
 
+pub replace-requires-clause-x : goal.replace-requires-clause-x
+replace-requires-clause-x g c =
+    let old = pair_size c.args.rows.now.items c.requires.tableau c.args.a c.index_mut.result.now c.requires.first_inside c.index_mut.ensures.value in
+    let made = two_size (length c.args.rows.now.items) (length c.args.first.now.0.letters) c.args.gate c.index.result.now c.index-2.result.now c.set_products.new.new (X, I) (Z, I) c.requires.first.x
+    (pair_size c.args.rows.now.items c.requires.tableau c.args.a c.index.result.now c.requires.first_inside c.index.ensures)
+    (pair_size c.args.rows.now.items c.requires.tableau c.args.b c.index-2.result.now c.requires.second_inside c.index-2.ensures) c.set_products.ensures in
+    old.x ∙ sym made.x
+
+pub replace-requires-clause-z : goal.replace-requires-clause-z
+replace-requires-clause-z g c =
+    let old = pair_size c.args.rows.now.items c.requires.tableau c.args.a c.index_mut.result.now c.requires.first_inside c.index_mut.ensures.value in
+    let made = two_size (length c.args.rows.now.items) (length c.args.first.now.0.letters) c.args.gate c.index.result.now c.index-2.result.now c.set_products.new.new (X, I) (Z, I) c.requires.first.x
+    (pair_size c.args.rows.now.items c.requires.tableau c.args.a c.index.result.now c.requires.first_inside c.index.ensures)
+    (pair_size c.args.rows.now.items c.requires.tableau c.args.b c.index-2.result.now c.requires.second_inside c.index-2.ensures) c.set_products.ensures in
+    old.z ∙ sym made.z
+
+pub replace-requires-2-clause-x : goal.replace-requires-2-clause-x
+replace-requires-2-clause-x g c =
+    let old = pair_size c.args.rows.now.items c.requires.tableau c.args.b c.index_mut-2.result.now c.requires.second_inside
+    (c.index_mut-2.ensures.value ∙ get_or-set_other c.args.rows.now.items c.args.a c.args.b c.replace.new.pair c.index_mut-2.result.now (λ e. c.requires.differ (sym e))) in
+    let made = two_size (length c.args.rows.now.items) (length c.args.second.now.0.letters) c.args.gate c.index-3.result.now c.index-4.result.now c.set_products-2.new.new (I, X) (I, Z) c.requires.second.x
+    (pair_size c.args.rows.now.items c.requires.tableau c.args.a c.index-3.result.now c.requires.first_inside c.index-3.ensures)
+    (pair_size c.args.rows.now.items c.requires.tableau c.args.b c.index-4.result.now c.requires.second_inside c.index-4.ensures) c.set_products-2.ensures in
+    old.x ∙ sym made.x
+
+pub replace-requires-2-clause-z : goal.replace-requires-2-clause-z
+replace-requires-2-clause-z g c =
+    let old = pair_size c.args.rows.now.items c.requires.tableau c.args.b c.index_mut-2.result.now c.requires.second_inside
+    (c.index_mut-2.ensures.value ∙ get_or-set_other c.args.rows.now.items c.args.a c.args.b c.replace.new.pair c.index_mut-2.result.now (λ e. c.requires.differ (sym e))) in
+    let made = two_size (length c.args.rows.now.items) (length c.args.second.now.0.letters) c.args.gate c.index-3.result.now c.index-4.result.now c.set_products-2.new.new (I, X) (I, Z) c.requires.second.x
+    (pair_size c.args.rows.now.items c.requires.tableau c.args.a c.index-3.result.now c.requires.first_inside c.index-3.ensures)
+    (pair_size c.args.rows.now.items c.requires.tableau c.args.b c.index-4.result.now c.requires.second_inside c.index-4.ensures) c.set_products-2.ensures in
+    old.z ∙ sym made.z
+
 pub returns-clause-rows : goal.returns-clause-rows
 returns-clause-rows g c =
     ap₂ (λ x y. set (set c.args.rows.now.items c.args.a x) c.args.b y)
-    (c.swap.ensures.first ∙ first_made c.args.rows.now.items c.requires.tableau c.args.gate c.args.a c.args.b c.requires.first_inside c.requires.second_inside c.requires.differ c.index.result.now c.index-2.result.now c.index.ensures c.index-2.ensures (length c.args.first.now.0.letters) c.requires.first.x c.set_products.new.new c.set_products.ensures)
-    (c.swap-2.ensures.first ∙ second_made c.args.rows.now.items c.requires.tableau c.args.gate c.args.a c.args.b c.requires.first_inside c.requires.second_inside c.requires.differ c.index-3.result.now c.index-4.result.now c.index-3.ensures c.index-4.ensures (length c.args.second.now.0.letters) c.requires.second.x c.set_products-2.new.new c.set_products-2.ensures)
+    (c.replace.ensures ∙ first_made c.args.rows.now.items c.requires.tableau c.args.gate c.args.a c.args.b c.requires.first_inside c.requires.second_inside c.requires.differ c.index.result.now c.index-2.result.now c.index.ensures c.index-2.ensures (length c.args.first.now.0.letters) c.requires.first.x c.set_products.new.new c.set_products.ensures)
+    (c.replace-2.ensures ∙ second_made c.args.rows.now.items c.requires.tableau c.args.gate c.args.a c.args.b c.requires.first_inside c.requires.second_inside c.requires.differ c.index-3.result.now c.index-4.result.now c.index-3.ensures c.index-4.ensures (length c.args.second.now.0.letters) c.requires.second.x c.set_products-2.new.new c.set_products-2.ensures)
 
 pub returns-clause-first : goal.returns-clause-first
 returns-clause-first g c =
-    subst (HasLength (length c.args.rows.now.items)) (sym c.swap.ensures.second)
-    (pair_size c.args.rows.now.items c.requires.tableau c.args.a c.index_mut.result.now c.requires.first_inside c.index_mut.ensures.value)
+    two_size (length c.args.rows.now.items) (length c.args.first.now.0.letters) c.args.gate c.index.result.now c.index-2.result.now c.set_products.new.new (X, I) (Z, I) c.requires.first.x
+    (pair_size c.args.rows.now.items c.requires.tableau c.args.a c.index.result.now c.requires.first_inside c.index.ensures)
+    (pair_size c.args.rows.now.items c.requires.tableau c.args.b c.index-2.result.now c.requires.second_inside c.index-2.ensures) c.set_products.ensures
 
 pub returns-clause-second : goal.returns-clause-second
 returns-clause-second g c =
-    subst (HasLength (length c.args.rows.now.items)) (sym c.swap-2.ensures.second)
-    (pair_size c.args.rows.now.items c.requires.tableau c.args.b c.index_mut-2.result.now c.requires.second_inside
-    (c.index_mut-2.ensures.value ∙ get_or-set_other c.args.rows.now.items c.args.a c.args.b c.swap.new.first c.index_mut-2.result.now (λ e. c.requires.differ (sym e))))
+    two_size (length c.args.rows.now.items) (length c.args.second.now.0.letters) c.args.gate c.index-3.result.now c.index-4.result.now c.set_products-2.new.new (I, X) (I, Z) c.requires.second.x
+    (pair_size c.args.rows.now.items c.requires.tableau c.args.a c.index-3.result.now c.requires.first_inside c.index-3.ensures)
+    (pair_size c.args.rows.now.items c.requires.tableau c.args.b c.index-4.result.now c.requires.second_inside c.index-4.ensures) c.set_products-2.ensures

@@ -3,6 +3,7 @@ use Rattle.pauli_word.specs.declared.letter.Letter.TheVariants.{X, Z}
 use Rattle.pauli_word.specs.Words.{product}
 use Rattle.tableau.specs.Encoding.{HasLength}
 use Rattle.tableau.specs.EncodingSteps.{preimage_word}
+use Rattle.tableau.proofs.NewSizes.{one_size}
 use Rattle.tableau.proofs.PairWords.{pair_size, one_made}
 use Rattle.tableau.proofs.Turns.{changed_back}
 use Rattle.tableau.proofs.gates.apply_turn.Goals as goal
@@ -44,13 +45,27 @@ returns-in-SDag-clause-rows g c =
     (c.multiply_first-in-SDag.ensures
     ∙ sym (ap (λ h. (preimage_word (length c.args.rows.now.items) h c.index_mut-in-SDag.result.now X, preimage_word (length c.args.rows.now.items) h c.index_mut-in-SDag.result.now Z)) c.in-SDag.is)))
 
+pub replace-requires-clause-x : goal.replace-requires-clause-x
+replace-requires-clause-x g c =
+    let old = pair_size c.args.rows.now.items c.requires.tableau c.args.qubit c.index_mut-in_default.result.now c.requires.inside c.index_mut-in_default.ensures.value in
+    let made = one_size (length c.args.rows.now.items) (length c.args.spare.now.0.letters) c.args.gate c.index.result.now c.set_preimages.new.new c.requires.spare.x
+    (pair_size c.args.rows.now.items c.requires.tableau c.args.qubit c.index.result.now c.requires.inside c.index.ensures) c.set_preimages.ensures in
+    old.x ∙ sym made.x
+
+pub replace-requires-clause-z : goal.replace-requires-clause-z
+replace-requires-clause-z g c =
+    let old = pair_size c.args.rows.now.items c.requires.tableau c.args.qubit c.index_mut-in_default.result.now c.requires.inside c.index_mut-in_default.ensures.value in
+    let made = one_size (length c.args.rows.now.items) (length c.args.spare.now.0.letters) c.args.gate c.index.result.now c.set_preimages.new.new c.requires.spare.x
+    (pair_size c.args.rows.now.items c.requires.tableau c.args.qubit c.index.result.now c.requires.inside c.index.ensures) c.set_preimages.ensures in
+    old.z ∙ sym made.z
+
 pub returns-in_default-clause-rows : goal.returns-in_default-clause-rows
 returns-in_default-clause-rows g c =
     ap (set c.args.rows.now.items c.args.qubit)
-    (c.swap.ensures.first
+    (c.replace.ensures
     ∙ one_made c.args.rows.now.items c.requires.tableau c.args.gate c.args.qubit c.requires.inside (length c.args.spare.now.0.letters) c.index.result.now c.set_preimages.new.new c.requires.spare.x c.index.ensures c.set_preimages.ensures)
 
 pub returns-in_default-clause-spare : goal.returns-in_default-clause-spare
 returns-in_default-clause-spare g c =
-    subst (HasLength (length c.args.rows.now.items)) (sym c.swap.ensures.second)
-    (pair_size c.args.rows.now.items c.requires.tableau c.args.qubit c.index_mut-in_default.result.now c.requires.inside c.index_mut-in_default.ensures.value)
+    one_size (length c.args.rows.now.items) (length c.args.spare.now.0.letters) c.args.gate c.index.result.now c.set_preimages.new.new c.requires.spare.x
+    (pair_size c.args.rows.now.items c.requires.tableau c.args.qubit c.index.result.now c.requires.inside c.index.ensures) c.set_preimages.ensures

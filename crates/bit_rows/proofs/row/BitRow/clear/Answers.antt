@@ -1,14 +1,20 @@
 use Rattle.std.proofs.Common.{◌≡◌, ◌∙◌, sym, ap, subst, replicate, length, false}
-use Rattle.bit_rows.specs.Words.{HoldsRow, row_of}
+use Rattle.bit_rows.specs.Marks.{KeepsRow}
+use Rattle.bit_rows.specs.Words.{row_of}
+use Rattle.bit_rows.proofs.Marked.{marked_zeros}
 use Rattle.bit_rows.proofs.Places.{row_long, rewritten, held_zeros, row_of_zero_words}
 use Rattle.bit_rows.proofs.row.BitRow.clear.Goals as goal
 
 pub invariant_of-self : goal.invariant_of-self
 invariant_of-self g c =
     let cleared = c.fill.ensures.after (λ y h. h) in
-    let count = ap length c.as_mut_slice.ensures.value ∙ c.self.invariant.count in
-    rewritten (HoldsRow c.self.inside.places) _ _ c.fill.new.self c.self.inside.words.items c.as_mut_slice.ensures.len c.fill.ensures.len
-    (subst (HoldsRow c.self.inside.places) (sym cleared) (held_zeros c.self.inside.places (length c.as_mut_slice.result.now) c.self.invariant.fits count))
+    let count = ap length c.as_mut_slice.ensures.value ∙ c.self.invariant.held.count in
+    rewritten (KeepsRow c.self.inside.places 0) _ _ c.fill.new.self c.self.inside.words.items c.as_mut_slice.ensures.len c.fill.ensures.len
+    (subst (KeepsRow c.self.inside.places 0) (sym cleared)
+    (record {
+      held = held_zeros c.self.inside.places (length c.as_mut_slice.result.now) c.self.invariant.held.fits count;
+      marked = marked_zeros 0 (length c.as_mut_slice.result.now);
+    }))
 
 pub returns : goal.returns
 returns g c =

@@ -6,7 +6,7 @@ use Rattle.bit_rows.proofs.row.BitRow.is_zero.Goals as goal
 pub returns : goal.returns
 returns g c =
     let seen : row_of c.self.inside.places c.as_slice.result.now ≡ c.args.self.now = seen_by_slice _ _ _ _ _ refl c.as_slice.ensures.value c.self.view_is in
-    let held : HoldsRow c.self.inside.places c.as_slice.result.now = held_by_slice _ _ _ _ refl c.as_slice.ensures.value c.self.invariant in (
+    let held : HoldsRow c.self.inside.places c.as_slice.result.now = held_by_slice _ _ _ _ refl c.as_slice.ensures.value c.self.invariant.held in (
       λ yes. zero_row c.self.inside.places c.as_slice.result.now c.args.self.now seen (c.all_zero.ensures.0 yes),
       λ blank. c.all_zero.ensures.1 (zero_places c.self.inside.places c.as_slice.result.now c.args.self.now held seen blank),
     )

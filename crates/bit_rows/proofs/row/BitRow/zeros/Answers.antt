@@ -1,5 +1,7 @@
 use Rattle.std.proofs.Common.{◌≡◌, ◌∙◌, sym, ap, subst, arith}
-use Rattle.bit_rows.specs.Words.{HoldsRow, row_of, words_for}
+use Rattle.bit_rows.specs.Marks.{KeepsRow}
+use Rattle.bit_rows.specs.Words.{row_of, words_for}
+use Rattle.bit_rows.proofs.Marked.{marked_zeros}
 use Rattle.bit_rows.proofs.Places.{held_zeros, row_of_zero_words}
 use Rattle.bit_rows.proofs.row.BitRow.zeros.Goals as goal
 
@@ -7,7 +9,7 @@ pub invariant_of-result : goal.invariant_of-result
 invariant_of-result g c =
     let made = c.in_ok-from_elem.ensures.items_if_clones_equal (λ y h. h) in
     let count : c.div_ceil.result ≡ words_for c.args.n = omega (arith, c.div_ceil.ensures) in
-    subst (HoldsRow c.args.n) (sym made) (held_zeros c.args.n c.div_ceil.result c.ranges.n.fits count)
+    subst (KeepsRow c.args.n 0) (sym made) (record { held = held_zeros c.args.n c.div_ceil.result c.ranges.n.fits count; marked = marked_zeros 0 c.div_ceil.result })
 
 pub returns : goal.returns
 returns g c =
