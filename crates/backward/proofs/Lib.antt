@@ -1,5 +1,6 @@
 pub mod ColumnLemmas
 pub mod Judging
+pub mod LoneTerms
 pub mod PassSets
 pub mod PassLines
 pub mod PassPlaces

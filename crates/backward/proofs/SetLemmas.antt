@@ -1,11 +1,11 @@
 -- Sets of targets as descending lists.
-use Rattle.std.proofs.Common.{◌≡◌, ℕ, zero, suc, ◌+◌, ◌-◌, ◌<◌, ◌≤◌, ◌==◌, nat_lt, Bool, true, false, not, List, [], ◌∷◌, ◌++◌, length, map, get_or, set, drop, inl, inr, refl, ap, ap₂, subst, sym, ◌∙◌, arith}
+use Rattle.std.proofs.Common.{◌≡◌, ℕ, zero, suc, ◌+◌, ◌-◌, ◌<◌, ◌≤◌, ◌==◌, nat_lt, Bool, true, false, not, List, [], ◌∷◌, ◌++◌, length, map, get_or, set, drop, inl, inr, Result, Ok, Err, OnOk, OnErr, refl, ap, ap₂, subst, sym, ◌∙◌, arith}
 use Rattle.std.specs.Prelude.{◌⊎◌, filter, reverse, replicate, insert, remove, if◌then◌else◌}
 use Rattle.std.specs.List.{range_with_len}
 use Rattle.std.proofs.Math.Nat.{suc_inj}
 use Rattle.std.proofs.lemmas.Bool.{eqb-true, ltb-true, ltb-false, lt-ltb, le-ltb, cases_eq, eq-eqb, ne_eqb}
 use Rattle.backward.proofs.RangeLemmas.{filter_range_agree, filter_range_taken, filter_range_left, set-map-range}
-use Rattle.std.proofs.lemmas.List.{append-nil, drop_all, reverse-append}
+use Rattle.std.proofs.lemmas.List.{drop_all, reverse-append}
 use Rattle.pauli_word.specs.Parity.{exclusive_or}
 use Rattle.pauli_word.proofs.Parities.{exclusive_or-false, exclusive_or_assoc, exclusive_or_left_comm}
 use Rattle.step_model.specs.Targets.{is_listed}
@@ -103,12 +103,12 @@ reverse_is_listed (suc m) (x ∷ xs) h =
     next = omega arith
 
 -- ---- the end of a merge: one of the two is used up
-pub used_up : (first second : List ℕ) (i j : ℕ) → (length first ≤ i) ⊎ (length second ≤ j) → drop i first ++ drop j second ≡ xor_sets (drop i first) (drop j second)
-used_up first second i j (inl h) =
-    ap (λ l. l ++ drop j second) (drop_all i first h) ∙ sym (ap (λ l. xor_sets l (drop j second)) (drop_all i first h))
-used_up first second i j (inr h) =
-    ap (λ l. drop i first ++ l) (drop_all j second h)
-    ∙ (append-nil (drop i first) ∙ sym (ap (xor_sets (drop i first)) (drop_all j second h) ∙ xor_sets-nil (drop i first)))
+pub first_left : (first second : List ℕ) (i j : ℕ) → (length first ≤ i) ⊎ (length second ≤ j) → i < length first → drop i first ≡ xor_sets (drop i first) (drop j second)
+first_left first second i j (inl h) some = absurd (omega (arith, h, some))
+first_left first second i j (inr h) some = sym (ap (xor_sets (drop i first)) (drop_all j second h) ∙ xor_sets-nil (drop i first))
+
+pub second_left : (first second : List ℕ) (i j : ℕ) → length first ≤ i → drop j second ≡ xor_sets (drop i first) (drop j second)
+second_left first second i j h = sym (ap (λ l. xor_sets l (drop j second)) (drop_all i first h))
 
 -- ---- one target toggled
 get_below : (m : ℕ) (xs : List ℕ) (k : ℕ) → DescendsBelow m xs → k < length xs → get_or xs k 0 < m
@@ -200,7 +200,7 @@ none_added [] k n h = refl
 none_added (b ∷ row) k zero h = cc
 none_added (b ∷ row) k (suc n) h = ap₂ (λ c r. c ∷ r) (exclusive_or-false b) (none_added row (k + 1) n (suc_inj h))
 
-no_elements : (set : List ℕ) → (length set == 0) ≡ true → set ≡ []
+pub no_elements : (set : List ℕ) → (length set == 0) ≡ true → set ≡ []
 no_elements [] h = refl
 no_elements (x ∷ others) h = absurd (omega (arith, eqb-true (suc (length others)) 0 h))
 
@@ -209,3 +209,8 @@ add_none row other n set same none is =
     let of_none : row_of_set n [] ≡ other = sym (ap (row_of_set n) (no_elements set none)) ∙ is in
     let long : length row ≡ n = same ∙ (sym (ap length of_none) ∙ length-map-range_with_len (is_listed []) 0 n) in
     sym (none_added row 0 n long) ∙ ap (xor_rows row) of_none
+
+-- a copy of a descending list, where there was none and memory may run out
+pub descends_copied : {A V E : Type 0} (items : A → List ℕ) (r : Result V E) (old new : A) (m : ℕ) (other : List ℕ) → OnOk r (items new ≡ items old ++ other) → OnErr r (new ≡ old) → items old ≡ [] → DescendsBelow m other → DescendsBelow m (items new)
+descends_copied items (Ok v) old new m other ok err none h = subst (DescendsBelow m) (sym (ok ∙ ap (λ l. l ++ other) none)) h
+descends_copied items (Err e) old new m other ok err none h = subst (DescendsBelow m) (sym (ap items err ∙ none)) tt

@@ -15,6 +15,7 @@ use dem_text::Model;
 use flat_lists::FlatLists;
 use programs::{Program, Walk};
 use std::alloc::{AllocError, Allocator};
+use std::mem;
 use step_model::{Cause, Fault, Place};
 
 /// What an analysis answers.
@@ -91,7 +92,7 @@ fn judge<'s, 'a, A: Allocator + Copy, T: Tracker>(
     let lowest = lowest_at_start(alloc, program, tracker, &mut found.hit)?;
     match lowest_random(found.latest.as_slice(), lowest.as_slice()) {
         Some((which, place)) => Ok(Analysed::Random { which, place }),
-        None => Ok(Analysed::Model(model_from(alloc, program, &found.lines)?)),
+        None => Ok(Analysed::Model(model_from(alloc, program, &mut found.lines)?)),
     }
 }
 
@@ -109,23 +110,18 @@ fn go_back<'s, 'a, A: Allocator + Copy, T: Tracker>(
     Ok(())
 }
 
-// The model whose lines are these, which are in descending fault order.
+// The model whose lines are these, which are in descending fault order. They are taken out, and not copied.
 fn model_from<'a, A: Allocator + Copy>(
     alloc: A,
     program: &Program<'a, A>,
-    found: &Model<'a, A>,
+    found: &mut Model<'a, A>,
 ) -> Result<Model<'a, A>, AllocError>
-    requires { found.now.lines ≡ reverse (model_of program.now).lines }
+    requires { found.old.lines ≡ reverse (model_of program.now).lines }
     ensures { IfOk result (λ model. model ≡ model_of program.now) }
 {
     let coordinates = coordinates_of(alloc, program)?;
-    let mut model = Model::new(alloc, coordinates, program.observable_count());
-    let mut left = found.line_count();
-    while left > 0 {
-        left -= 1;
-        model.push_line(found.text(left), found.targets(left))?;
-    }
-    Ok(model)
+    let lines = mem::replace(found, Model::new(alloc, FlatLists::new(alloc), 0));
+    Ok(Model::in_reverse(lines, coordinates, program.observable_count()))
 }
 
 fn coordinates_of<'a, A: Allocator + Copy>(

@@ -1,4 +1,4 @@
-ghost use Rattle.std.specs.Prelude.{◌≡◌, ◌<◌, map, length, true, All, IfOk, OnOk};
+ghost use Rattle.std.specs.Prelude.{◌≡◌, ◌<◌, map, length, true, All, IfSome, OnOk};
 ghost use Rattle.bit_rows.specs.Rows.{xor_rows};
 ghost use Rattle.pauli_word.specs.Bits.{x_bit, z_bit, letters_of};
 ghost use Rattle.pauli_word.specs.declared.letter.Letter.TheVariants.{I, X, Z};
@@ -145,6 +145,18 @@ impl<S: TargetSet> Column<S> {
     {
         add_where(has_z(letter), set, &self.x, spare)?;
         add_where(has_x(letter), set, &self.z, spare)
+    }
+
+    /// The set of the targets whose letter here clashes with this one, where it is kept: an X clashes with a Z in a
+    /// letter, and a Z with an X.
+    pub(crate) fn kept_clashing(&self, letter: Letter) -> Option<&S>
+        ensures { IfSome result (λ set. S.bits set.now ≡ map (letters_clash letter) self.now) }
+    {
+        match letter {
+            Letter::X => Some(&self.z),
+            Letter::Z => Some(&self.x),
+            Letter::I | Letter::Y => None,
+        }
     }
 
     /// Multiplies the letters of these targets by a letter.

@@ -61,6 +61,9 @@ impl<'a, A: Allocator + Copy> TargetSet for SparseSet<'a, A> {
         if other.items.as_slice().is_empty() {
             return Ok(());
         }
+        if self.items.as_slice().is_empty() {
+            return self.items.extend_from_slice(other.items.as_slice());
+        }
         spare.items.clear();
         match merge(
             self.items.as_slice(),
@@ -139,8 +142,12 @@ fn merge<A: Allocator + Copy>(
             j += 1;
         }
     }
-    into.extend_from_slice(&first[i..])?;
-    into.extend_from_slice(&second[j..])
+    // one of them is used up
+    if i < first.len() {
+        into.extend_from_slice(&first[i..])
+    } else {
+        into.extend_from_slice(&second[j..])
+    }
 }
 
 fn list_ascending<B: Allocator + Copy>(
@@ -150,10 +157,11 @@ fn list_ascending<B: Allocator + Copy>(
     ensures { OnOk result (into.new.items ≡ reverse items.now) }
 {
     into.clear();
+    into.reserve(items.len())?;
     let mut left = items.len();
     while left > 0 {
         left -= 1;
-        into.push(items[left])?;
+        into.push_reserved(items[left]);
     }
     Ok(())
 }

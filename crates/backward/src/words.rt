@@ -181,6 +181,11 @@ impl<S: TargetSet, A: Allocator + Copy> Tracker for Words<S, A> {
         terms: &[Term],
         hit: &mut Vec<u32, B>,
     ) -> Result<(), AllocError> {
+        if let [term] = terms {
+            if let Some(set) = self.columns[term.qubit as usize].kept_clashing(term.letter) {
+                return set.list(hit);
+            }
+        }
         clashing(
             self.columns.as_slice(),
             terms,

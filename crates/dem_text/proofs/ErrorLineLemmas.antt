@@ -1,7 +1,7 @@
 -- The lines of a model, by their number, and one line more.
 use Rattle.std.proofs.Common.{◌≡◌, ℕ, zero, suc, ◌<◌, List, [], ◌∷◌, ◌++◌, length, get_or, refl, ap, arith}
 use Rattle.std.proofs.Math.Nat.{suc_inj}
-use Rattle.dem_text.specs.declared.model.LineText.{LineText}
+use Rattle.dem_text.specs.declared.lines.LineText.{LineText}
 use Rattle.dem_text.specs.ErrorLines.{lines_of, no_line}
 use Rattle.step_model.specs.ErrorModels.{ErrorLine}
 

@@ -1,2 +1,3 @@
 mod ErrorLineLemmas
+mod ShortLineLemmas
 mod TextLemmas

@@ -1,7 +1,7 @@
 -- The error lines of a model, kept as the texts of their probabilities and as their targets. (Stim's detector error
 -- model format, `error` instructions.)
 use Rattle.std.specs.Prelude.{ℕ, List, [], ◌∷◌, slice_index_or}
-use Rattle.dem_text.specs.declared.model.LineText.{LineText}
+use Rattle.dem_text.specs.declared.lines.LineText.{LineText}
 use Rattle.step_model.specs.ErrorModels.{ErrorLine, ErrorModel}
 
 -- the lines whose probabilities have these texts and which have these targets, one each

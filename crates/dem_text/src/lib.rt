@@ -1,7 +1,9 @@
 //! Error models: for each fault that flips something, what it flips; and their text.
 #![tactic(auto)]
 
+mod lines;
 mod model;
+mod short_lines;
 mod text;
 
 pub use model::Model;

@@ -1,42 +1,34 @@
-ghost use Rattle.std.specs.Prelude.{◌≡◌, ◌++◌, ◌∷◌, [], ◌<◌, length, OnOk, OnErr, slice_index_or};
+ghost use Rattle.std.specs.Prelude.{◌≡◌, ◌++◌, ◌∷◌, [], ◌<◌, length, reverse, OnOk, OnErr, slice_index_or};
 ghost use Rattle.dem_text.specs.ErrorLines.{line_at};
 
+use crate::lines::Lines;
 use flat_lists::FlatLists;
 use std::alloc::{AllocError, Allocator};
-
-/// The text of an error line's probability, a slice of the text that it was read from.
-#[derive(Clone, Copy, Drop)]
-pub(crate) struct LineText<'a> {
-    pub(crate) text: &'a [u8],
-}
 
 /// What the faults of a circuit flip: an error line for each fault that flips some target, and how many detectors,
 /// with what coordinates, and observables there are. Targets are numbered, the detectors first: observable k has the
 /// number of detectors and k more.
 #[derive(Drop)]
 pub struct Model<'a, A: Allocator + Copy> {
-    texts: Vec<LineText<'a>, A>,
-    targets: FlatLists<u32, A>,
+    // The lines: those of `back` from the last to the first, and then those of `front`.
+    back: Lines<'a, A>,
+    front: Lines<'a, A>,
     coordinates: FlatLists<i64, A>,
     observables: usize,
 }
 
 impl<'a, A: Allocator + Copy> std::marker::Model for Model<'a, A> {
-    ghost use Rattle.std.specs.Prelude.{◌≡◌, length};
+    ghost use Rattle.std.specs.Prelude.{◌++◌, length, reverse};
     ghost use Rattle.step_model.specs.ErrorModels.{ErrorModel};
 
     ghost Value = { ErrorModel };
 
-    ghost use Rattle.dem_text.specs.ErrorLines.{lines_of};
-
     ghost view = { λ m. record {
-      lines = lines_of m.texts.items m.targets;
+      lines = reverse m.back ++ m.front;
       coordinates = m.coordinates;
       detectors = length m.coordinates;
       observables = m.observables;
     } };
-
-    ghost invariant = { λ m. length m.texts.items ≡ length m.targets };
 }
 
 impl<'a, A: Allocator + Copy> Model<'a, A> {
@@ -45,8 +37,21 @@ impl<'a, A: Allocator + Copy> Model<'a, A> {
         ensures { result ≡ record { lines = []; coordinates = coordinates; detectors = length coordinates; observables = observables } }
     {
         Model {
-            texts: Vec::new(alloc),
-            targets: FlatLists::new(alloc),
+            back: Lines::new(alloc),
+            front: Lines::new(alloc),
+            coordinates,
+            observables,
+        }
+    }
+
+    /// A model with the lines of another in the opposite order, with a detector for each list of coordinates. Copies no
+    /// line.
+    pub fn in_reverse(lines: Self, coordinates: FlatLists<i64, A>, observables: usize) -> Self
+        ensures { result ≡ record { lines = reverse lines.entry.lines; coordinates = coordinates; detectors = length coordinates; observables = observables } }
+    {
+        Model {
+            back: lines.front,
+            front: lines.back,
             coordinates,
             observables,
         }
@@ -57,18 +62,14 @@ impl<'a, A: Allocator + Copy> Model<'a, A> {
         ensures ok { OnOk result (self.new ≡ record self.old { lines = self.old.lines ++ record { text = text.now; targets = targets.now } ∷ [] }) }
         ensures err { OnErr result (self.new ≡ self.old) }
     {
-        // Room for the text first, so that nothing changes where memory runs out.
-        self.texts.reserve(1)?;
-        self.targets.push(targets)?;
-        self.texts.push_reserved(LineText { text });
-        Ok(())
+        self.front.push(text, targets)
     }
 
     /// How many error lines there are.
     pub fn line_count(&self) -> usize
         ensures { result ≡ length self.now.lines }
     {
-        self.texts.len()
+        self.back.len() + self.front.len()
     }
 
     /// The text of a line's probability.
@@ -76,7 +77,12 @@ impl<'a, A: Allocator + Copy> Model<'a, A> {
         requires { line < length self.now.lines }
         ensures { result.now ≡ (line_at self.now line).text }
     {
-        self.texts[line].text
+        let back = self.back.len();
+        if line < back {
+            self.back.text(back - 1 - line)
+        } else {
+            self.front.text(line - back)
+        }
     }
 
     /// The targets that a line flips.
@@ -84,7 +90,12 @@ impl<'a, A: Allocator + Copy> Model<'a, A> {
         requires { line < length self.now.lines }
         ensures { result.now ≡ (line_at self.now line).targets }
     {
-        self.targets.get(line)
+        let back = self.back.len();
+        if line < back {
+            self.back.targets(back - 1 - line)
+        } else {
+            self.front.targets(line - back)
+        }
     }
 
     pub fn detector_count(&self) -> usize

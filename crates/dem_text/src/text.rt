@@ -1,12 +1,13 @@
 //! The text of an error model, on its way to a sink.
 ghost use Rattle.std.specs.Prelude.{◌≡◌, ◌<◌, decimal, length, IfErr, OnOk, OnErr};
 ghost use Rattle.std.specs.Fmt.{signed_decimal};
-ghost use Rattle.dem_text.specs.ModelText.{target_text, targets_text, line_text, more_coordinates_text, coordinates_text, detector_text, observable_text, lines_text, detectors_text, observables_text, model_text};
+ghost use Rattle.dem_text.specs.ModelText.{targets_text, line_text, more_coordinates_text, coordinates_text, detector_text, observable_text, lines_text, detectors_text, observables_text, model_text};
 ghost use Rattle.pieces.specs.Pushed.{Pushes};
 ghost use Rattle.step_model.specs.Ends.{Takes, TakesBeginning, write_failures};
 ghost use Rattle.step_model.specs.Faults.{write_fault};
 
 use crate::Model;
+use crate::short_lines::{ROOM, SHORT_TARGETS, SHORT_TEXT, line_before, targets_before};
 use itoa::Buffer;
 use pieces::Pieces;
 use std::alloc::Allocator;
@@ -40,15 +41,43 @@ fn write_lines<'a, A: Allocator + Copy, W: Sink>(
 )
     ensures { Pushes W.taken W.failures sink.old sink.new out.old out.new (lines_text model.now) }
 {
+    let mut buffer = [0; ROOM];
     let detectors = model.detector_count();
     for line in 0..model.line_count() {
-        write_line(out, sink, detectors, model.text(line), model.targets(line));
+        write_line(
+            out,
+            sink,
+            &mut buffer,
+            detectors,
+            model.text(line),
+            model.targets(line),
+        );
     }
 }
 
+// Most lines are short, and go out as one text.
 fn write_line<W: Sink>(
     out: &mut Pieces,
     sink: &mut W,
+    buffer: &mut [u8; ROOM],
+    detectors: usize,
+    probability: &[u8],
+    targets: &[u32],
+)
+    ensures { Pushes W.taken W.failures sink.old sink.new out.old out.new (line_text detectors (record { text = probability.now; targets = targets.now })) }
+{
+    if targets.len() <= SHORT_TARGETS && probability.len() <= SHORT_TEXT {
+        let start = line_before(buffer, detectors, probability, targets);
+        out.push(sink, &buffer[start..]);
+    } else {
+        write_long_line(out, sink, buffer, detectors, probability, targets);
+    }
+}
+
+fn write_long_line<W: Sink>(
+    out: &mut Pieces,
+    sink: &mut W,
+    buffer: &mut [u8; ROOM],
     detectors: usize,
     probability: &[u8],
     targets: &[u32],
@@ -58,28 +87,26 @@ fn write_line<W: Sink>(
     out.push(sink, b"error(");
     out.push(sink, probability);
     out.push(sink, b")");
-    write_targets(out, sink, detectors, targets);
+    write_targets(out, sink, buffer, detectors, targets);
     out.push(sink, b"\n");
 }
 
-fn write_targets<W: Sink>(out: &mut Pieces, sink: &mut W, detectors: usize, targets: &[u32])
+// As many targets at a time as the buffer holds.
+fn write_targets<W: Sink>(
+    out: &mut Pieces,
+    sink: &mut W,
+    buffer: &mut [u8; ROOM],
+    detectors: usize,
+    targets: &[u32],
+)
     ensures { Pushes W.taken W.failures sink.old sink.new out.old out.new (targets_text detectors targets.now) }
 {
-    for target in targets {
-        write_target(out, sink, detectors, *target as usize);
-    }
-}
-
-// A target after its space.
-fn write_target<W: Sink>(out: &mut Pieces, sink: &mut W, detectors: usize, target: usize)
-    ensures { Pushes W.taken W.failures sink.old sink.new out.old out.new (target_text detectors target) }
-{
-    if target < detectors {
-        out.push(sink, b" D");
-        write_number(out, sink, target);
-    } else {
-        out.push(sink, b" L");
-        write_number(out, sink, target - detectors);
+    let mut done = 0;
+    while done < targets.len() {
+        let next = done + SHORT_TARGETS.min(targets.len() - done);
+        let start = targets_before(buffer, ROOM, detectors, &targets[done..next]);
+        out.push(sink, &buffer[start..]);
+        done = next;
     }
 }
 

@@ -1,8 +1,22 @@
-use Rattle.std.proofs.Common.{arith}
-use Rattle.dem_text.specs.ModelText.{target_text}
-use Rattle.pieces.proofs.Items.{Pushes-item}
+use Rattle.std.proofs.Common.{◌≡◌, ◌+◌, ◌-◌, ◌++◌, length, take, drop, ap, ◌∙◌, rules, arith}
+use Rattle.dem_text.specs.ModelText.{targets_text}
+use Rattle.dem_text.proofs.ShortLineLemmas.{Pushes-one, rest_written, targets_more}
 use Rattle.dem_text.proofs.text.write_targets.Goals as goal
 
-pub loop-target-preserved : goal.loop-target-preserved
-loop-target-preserved g c =
-    Pushes-item (target_text c.args.detectors) c.args.targets.now c.loop-target.target-index 0 (omega arith) c.loop-target.invariant c.write_target.ensures
+pub loop-done-preserved : goal.loop-done-preserved
+loop-done-preserved g c =
+    let detectors = c.args.detectors in
+    let targets = c.args.targets.now in
+    let done = c.loop-done.done in
+    let some = c.min.result in
+    let start = c.targets_before-start.result in
+    let long : length c.targets_before-start.new.buffer ≡ 256 = search rules in
+    let old_long : length c.loop-done.buffer ≡ 256 = search rules in
+    let count : done + some - done ≡ some = omega arith in
+    let written =
+    rest_written c.targets_before-start.new.buffer c.loop-done.buffer (targets_text detectors (take (done + some - done) (drop done targets))) start long old_long c.targets_before-start.ensures.written
+    ∙ ap (λ n. targets_text detectors (take n (drop done targets))) count in
+    record {
+      within = omega (arith, c.min.ensures, c.loop-done.invariant.within);
+      pushed = Pushes-one c.loop-done.invariant.pushed c.push.ensures (ap (λ l. targets_text detectors (take done targets) ++ l) written ∙ targets_more detectors targets done some);
+    }

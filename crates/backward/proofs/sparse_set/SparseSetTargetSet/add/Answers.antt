@@ -1,7 +1,8 @@
-use Rattle.std.proofs.Common.{ℕ, ◌==◌, List, length, ap, ap₂, subst, sym, ◌∙◌}
+use Rattle.std.proofs.Common.{ℕ, ◌==◌, ◌++◌, List, length, ap, ap₂, subst, sym, ◌∙◌}
+use Rattle.std.proofs.lemmas.Result.{on_ok_weaker}
 use Rattle.bit_rows.specs.Rows.{xor_rows}
 use Rattle.backward.specs.Sets.{DescendsBelow, row_of_set, xor_sets}
-use Rattle.backward.proofs.SetLemmas.{row_of_xor_sets, same_count, add_none, DescendsBelow-xor_sets}
+use Rattle.backward.proofs.SetLemmas.{row_of_xor_sets, same_count, add_none, no_elements, descends_copied, DescendsBelow-xor_sets}
 use Rattle.backward.proofs.sparse_set.SparseSetTargetSet.add.Goals as goal
 
 pub invariant_of-self : goal.invariant_of-self
@@ -10,7 +11,30 @@ invariant_of-self g c =
     let mine = c.self.inside.items.items in
     let other = c.other.inside.items.items in
     let counted = same_count m c.other.inside.targets mine other _ _ c.self.view_is c.other.view_is c.requires.other in
-    let made = ap (λ v. v.items) c.swap.ensures.x_after ∙ (c.in-Ok.ensures ∙ ap₂ xor_sets c.as_slice-2.ensures c.as_slice-3.ensures) in
+    let none = no_elements mine (sym (ap (λ (xs : List ℕ). length xs == 0) c.as_slice-2.ensures) ∙ (sym c.is_empty-2.ensures ∙ c.if-is_empty-2.true)) in
+    descends_copied (λ v. v.items) c.extend_from_slice.result c.self.inside.items _ m _ c.extend_from_slice.ensures.ok c.extend_from_slice.ensures.err none
+    (subst (DescendsBelow m) (sym c.as_slice-then-is_empty-2.ensures) (subst (λ n. DescendsBelow n other) (sym counted) c.other.invariant))
+
+pub returns-then-is_empty-2-clause-ok : goal.returns-then-is_empty-2-clause-ok
+returns-then-is_empty-2-clause-ok g c =
+    let m = c.self.inside.targets in
+    let mine = c.self.inside.items.items in
+    let other = c.other.inside.items.items in
+    let counted = same_count m c.other.inside.targets mine other _ _ c.self.view_is c.other.view_is c.requires.other in
+    let none = no_elements mine (sym (ap (λ (xs : List ℕ). length xs == 0) c.as_slice-2.ensures) ∙ (sym c.is_empty-2.ensures ∙ c.if-is_empty-2.true)) in
+    on_ok_weaker c.extend_from_slice.result
+    (λ h. ap (row_of_set m) (h ∙ (ap₂ (λ a b. a ++ b) none c.as_slice-then-is_empty-2.ensures ∙ ap (λ l. xor_sets l other) (sym none)))
+    ∙ (row_of_xor_sets m mine other
+    ∙ ap₂ xor_rows c.self.view_is (ap (λ n. row_of_set n other) counted ∙ c.other.view_is)))
+    c.extend_from_slice.ensures.ok
+
+pub invariant_of-self-in-Ok : goal.invariant_of-self-in-Ok
+invariant_of-self-in-Ok g c =
+    let m = c.self.inside.targets in
+    let mine = c.self.inside.items.items in
+    let other = c.other.inside.items.items in
+    let counted = same_count m c.other.inside.targets mine other _ _ c.self.view_is c.other.view_is c.requires.other in
+    let made = ap (λ v. v.items) c.swap.ensures.x_after ∙ (c.in-Ok.ensures ∙ ap₂ xor_sets c.as_slice-3.ensures c.as_slice-4.ensures) in
     subst (DescendsBelow m) (sym made)
     (DescendsBelow-xor_sets m mine other c.self.invariant (subst (λ n. DescendsBelow n other) (sym counted) c.other.invariant))
 
@@ -29,7 +53,7 @@ returns-in-Ok-clause-ok g c =
     let mine = c.self.inside.items.items in
     let other = c.other.inside.items.items in
     let counted = same_count m c.other.inside.targets mine other _ _ c.self.view_is c.other.view_is c.requires.other in
-    ap (row_of_set m) (ap (λ v. v.items) c.swap.ensures.x_after ∙ (c.in-Ok.ensures ∙ ap₂ xor_sets c.as_slice-2.ensures c.as_slice-3.ensures))
+    ap (row_of_set m) (ap (λ v. v.items) c.swap.ensures.x_after ∙ (c.in-Ok.ensures ∙ ap₂ xor_sets c.as_slice-3.ensures c.as_slice-4.ensures))
     ∙ (row_of_xor_sets m mine other
     ∙ ap₂ xor_rows c.self.view_is (ap (λ n. row_of_set n other) counted ∙ c.other.view_is))
 

@@ -1,5 +1,5 @@
 use Rattle.dem_text.proofs.ErrorLineLemmas.{lines_of-push}
-use Rattle.dem_text.proofs.model.Model.push_line.Goals as goal
+use Rattle.dem_text.proofs.lines.Lines.push.Goals as goal
 
 pub returns-clause-ok : goal.returns-clause-ok
 returns-clause-ok g c =

@@ -1,20 +1,20 @@
-use Rattle.std.proofs.Common.{◌<◌, length, ap, sym, ◌∙◌, arith}
-use Rattle.dem_text.specs.ErrorLines.{line_at}
+use Rattle.std.proofs.Common.{◌<◌, length, get_or, ap, sym, ◌∙◌, arith}
+use Rattle.dem_text.specs.ErrorLines.{no_line}
 use Rattle.dem_text.proofs.ErrorLineLemmas.{length-lines_of, get_or-lines_of}
-use Rattle.dem_text.proofs.model.Model.targets.Goals as goal
+use Rattle.dem_text.proofs.lines.Lines.targets.Goals as goal
 
 pub get-requires : goal.get-requires
 get-requires g c =
     let same = length-lines_of c.self.inside.texts.items c.self.inside.targets c.self.invariant in
-    let counted = ap (λ m. length m.lines) c.self.view_is in
+    let counted = ap length c.self.view_is in
     omega (arith, same, counted, c.self.invariant, c.requires)
 
 pub returns : goal.returns
 returns g c =
     let texts = c.self.inside.texts.items in
     let same = length-lines_of texts c.self.inside.targets c.self.invariant in
-    let counted = ap (λ m. length m.lines) c.self.view_is in
+    let counted = ap length c.self.view_is in
     let within : c.args.line < length texts = omega (arith, same, counted, c.requires) in
     c.get.ensures.value
     ∙ (sym (ap (λ l. l.targets) (get_or-lines_of texts c.self.inside.targets c.args.line (record { text = record { ref_ptr = c.args.self.ref_ptr; now = c.get.result.now } }) c.self.invariant within))
-    ∙ ap (λ m. (line_at m c.args.line).targets) c.self.view_is)
+    ∙ ap (λ ls. (get_or ls c.args.line no_line).targets) c.self.view_is)

@@ -1,0 +1,107 @@
+//! The text of targets and of short lines, written into a buffer from its end on towards its start: so the digits of
+//! each number, which come last digit first, go to their place at once.
+ghost use Rattle.std.specs.Prelude.{◌≡◌, ◌≤◌, ◌+◌, ◌*◌, ◌∷◌, ◌++◌, decimal, length, drop};
+ghost use Rattle.dem_text.specs.ModelText.{target_text, targets_text, line_text};
+
+use itoa::write_digits;
+
+/// How long a buffer for short lines is.
+pub(crate) const ROOM: usize = 256;
+
+/// How many targets a short line has at most.
+pub(crate) const SHORT_TARGETS: usize = 16;
+
+/// How long the probability text of a short line is at most.
+pub(crate) const SHORT_TEXT: usize = 32;
+
+/// How long the text of a target is at most: a space, a letter and ten digits.
+const TARGET_TEXT: usize = 12;
+
+/// Writes a short line so that it ends where the buffer does, and answers where it starts.
+#[inline]
+pub(crate) fn line_before(
+    buffer: &mut [u8],
+    detectors: usize,
+    probability: &[u8],
+    targets: &[u32],
+) -> usize
+    requires room { length buffer.old ≡ 256 }
+    requires short { length probability.now ≤ 32 }
+    requires few { length targets.now ≤ 16 }
+    ensures within { result ≤ 256 }
+    ensures written { drop result buffer.new ≡ line_text detectors (record { text = probability.now; targets = targets.now }) }
+{
+    let at = text_before(buffer, ROOM, b"\n");
+    let at = targets_before(buffer, at, detectors, targets);
+    let at = text_before(buffer, at, b")");
+    let at = text_before(buffer, at, probability);
+    text_before(buffer, at, b"error(")
+}
+
+/// Writes some targets so that they end at `end`, and answers where they start.
+#[inline]
+pub(crate) fn targets_before(
+    buffer: &mut [u8],
+    end: usize,
+    detectors: usize,
+    targets: &[u32],
+) -> usize
+    requires within { end ≤ length buffer.old }
+    requires room { length targets.now * 12 ≤ end }
+    ensures within { result ≤ end }
+    ensures least { end ≤ result + length targets.now * 12 }
+    ensures written { drop result buffer.new ≡ targets_text detectors targets.now ++ drop end buffer.old }
+{
+    let mut left = targets.len();
+    let mut at = end;
+    while left > 0 {
+        left -= 1;
+        at = target_before(buffer, at, detectors, targets[left]);
+    }
+    at
+}
+
+// Writes a target after its space.
+#[inline(always)]
+fn target_before(buffer: &mut [u8], end: usize, detectors: usize, target: u32) -> usize
+    requires within { end ≤ length buffer.old }
+    requires room { 12 ≤ end }
+    ensures within { result ≤ end }
+    ensures least { end ≤ result + 12 }
+    ensures written { drop result buffer.new ≡ target_text detectors target ++ drop end buffer.old }
+{
+    let target = target as usize;
+    if target < detectors {
+        number_before(buffer, end, b'D', target as u32)
+    } else {
+        number_before(buffer, end, b'L', (target - detectors) as u32)
+    }
+}
+
+// Writes a number after a space and a letter.
+#[inline(always)]
+fn number_before(buffer: &mut [u8], end: usize, letter: u8, number: u32) -> usize
+    requires within { end ≤ length buffer.old }
+    requires room { 12 ≤ end }
+    ensures within { result ≤ end }
+    ensures least { end ≤ result + 12 }
+    ensures written { drop result buffer.new ≡ 32 ∷ letter ∷ decimal number ++ drop end buffer.old }
+{
+    let start = write_digits(number as u64, buffer, end);
+    buffer[start - 1] = letter;
+    buffer[start - 2] = b' ';
+    start - 2
+}
+
+// Writes some text.
+#[inline(always)]
+fn text_before(buffer: &mut [u8], end: usize, text: &[u8]) -> usize
+    requires within { end ≤ length buffer.old }
+    requires room { length text.now ≤ end }
+    ensures start { result + length text.now ≡ end }
+    ensures written { drop result buffer.new ≡ text.now ++ drop end buffer.old }
+{
+    let start = end - text.len();
+    buffer[start..end].copy_from_slice(text);
+    start
+}
