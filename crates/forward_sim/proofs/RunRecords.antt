@@ -1,12 +1,12 @@
 -- How many records a run has made, and the loop over the steps of a run.
-use Rattle.std.proofs.Common.{◌≡◌, ℕ, zero, suc, inl, inr, ◌+◌, ◌<◌, ◌≤◌, Bool, true, false, List, [], ◌∷◌, ◌++◌, length, get_or, drop, refl, sym, ap, ap₂, ◌∙◌, arith, append-nil, append_assoc, length-append}
-use Rattle.std.specs.Prelude.{Option, Some, None, is_some, slice_get, nat_lt, if◌then◌else◌}
+use Rattle.std.proofs.Common.{◌≡◌, ℕ, zero, suc, inl, inr, ◌+◌, ◌<◌, ◌≤◌, Bool, true, List, [], ◌∷◌, length, drop, sym, ap, ◌∙◌, arith, length-append}
+use Rattle.std.specs.Prelude.{Some, None, slice_get, nat_lt, if◌then◌else◌}
 use Rattle.std.specs.List.{list_all}
 use Rattle.std.proofs.lemmas.Bool.{and_parts, lt-ltb}
 use Rattle.std.proofs.lemmas.List.{drop_more, drop_all}
 use Rattle.std.proofs.lemmas.List.FromFn.{length-range_with_len}
 use Rattle.std.proofs.lemmas.Option.{slice_get_cases, slice_get_within, get_or_from_slice_get}
-use Rattle.step_model.specs.Listing.{Listing, ListedStep, One, Two, Collapse, Fault, Feedback, Measured, Recorded}
+use Rattle.step_model.specs.Listing.{Listing, ListedStep, One, Two, Collapse, Fault, Feedback}
 use Rattle.step_model.specs.Runs.{RunState, start, next, run_from, records_of}
 use Rattle.step_model.specs.WellFormed.{IsWellFormed, step_records, records_made, step_fits}
 use Rattle.step_model.proofs.StateIsGroup.{list_all-pass}
@@ -39,12 +39,12 @@ MakesRest program faults coins place m =
     (run_from program faults (drop place program.steps) m).records ≡ records_of program faults coins
 
 -- the step at a place stands first in what is left
-left : (program : Listing) (place : ℕ) (step : ListedStep) → Some step ≡ slice_get program.steps place → drop place program.steps ≡ step ∷ drop (place + 1) program.steps
+pub left : (program : Listing) (place : ℕ) (step : ListedStep) → Some step ≡ slice_get program.steps place → drop place program.steps ≡ step ∷ drop (place + 1) program.steps
 left program place step at =
     drop_more program.steps place step (slice_get_within program.steps place step (sym at))
     ∙ ap (λ s. s ∷ drop (place + 1) program.steps) (get_or_from_slice_get program.steps place step step (sym at))
 
-all_fit : (program : Listing) → IsWellFormed program → list_all (step_fits program) program.steps ≡ true
+pub all_fit : (program : Listing) → IsWellFormed program → list_all (step_fits program) program.steps ≡ true
 all_fit program well_formed = list_all-pass (step_fits program) program.steps well_formed.steps_fit
 
 list_all-drop : {X : Type 0} (test : X → Bool) (k : ℕ) (xs : List X) → list_all test xs ≡ true → list_all test (drop k xs) ≡ true
@@ -90,7 +90,7 @@ rest_after_step program faults coins place step m after well_formed at rest same
     ∙ ap (λ steps. (run_from program faults steps m).records) (sym (left program place step at))
     ∙ rest
 
-past : {X : Type 0} (xs : List X) (i : ℕ) → None ≡ slice_get xs i → drop i xs ≡ []
+pub past : {X : Type 0} (xs : List X) (i : ℕ) → None ≡ slice_get xs i → drop i xs ≡ []
 past xs i none = elim (slice_get_cases xs i).1 [
   | inl within ↦ cc
   | inr over ↦ drop_all i xs over.0

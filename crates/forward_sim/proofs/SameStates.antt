@@ -1,5 +1,5 @@
 -- Steps and measurements can't tell apart two states that hold the same words of n letters.
-use Rattle.std.proofs.Common.{◌≡◌, ℕ, Bool, true, false, ◌&&◌, List, [], ◌∷◌, ◌++◌, length, drop, refl, sym, ap, ap₂, ◌∙◌}
+use Rattle.std.proofs.Common.{◌≡◌, ℕ, Bool, true, false, ◌&&◌, List, [], ◌∷◌, ◌++◌, length, drop, sym, ap, ap₂, ◌∙◌}
 use Rattle.std.specs.List.{list_all}
 use Rattle.std.specs.Prelude.{Option, Some, None, is_some, slice_index_or, if◌then◌else◌}
 use Rattle.std.proofs.lemmas.Bool.{and_parts}
@@ -8,10 +8,10 @@ use Rattle.gate_table.proofs.WordImageLaws.{length-image_at}
 use Rattle.gate_table.proofs.PairImageLaws.{length-image_at_two}
 use Rattle.pauli_word.specs.declared.letter.Letter.{Letter}
 use Rattle.pauli_word.specs.Parity.{exclusive_or}
-use Rattle.pauli_word.specs.States.{State, applied, outcome, collapsed, is_decided}
-use Rattle.pauli_word.specs.Words.{Signed, signed, product, anticommute, with_sign_changed, letters_product}
+use Rattle.pauli_word.specs.States.{State, applied, outcome, collapsed}
+use Rattle.pauli_word.specs.Words.{signed, product, anticommute, with_sign_changed}
 use Rattle.pauli_word.proofs.WordLaws.{length-letters_product}
-use Rattle.step_model.specs.Listing.{Listing, ListedStep, One, Two, Collapse, Fault, Feedback, Measured, Recorded, measured_word, fault_word}
+use Rattle.step_model.specs.Listing.{Listing, ListedStep, One, Two, Collapse, Fault, Feedback, measured_word, fault_word}
 use Rattle.step_model.specs.Runs.{RunState, next_coin, corrected, after_collapse, correction, record_changes, happens, next, run_from}
 use Rattle.step_model.specs.WellFormed.{step_fits}
 use Rattle.step_model.proofs.StateIsGroup.{length-measured}

@@ -1,15 +1,15 @@
 -- The word that letters at qubits make: letter by letter it is multiplied into a word, or applied to a state.
-use Rattle.std.proofs.Common.{◌≡◌, ℕ, ◌+◌, ◌<◌, ◌≤◌, Bool, true, false, ◌&&◌, List, [], ◌∷◌, length, get_or, set, drop, refl, sym, ap, ap₂, ◌∙◌}
-use Rattle.std.proofs.lemmas.List.{length-replicate, drop_more, drop_all}
+use Rattle.std.proofs.Common.{◌≡◌, ℕ, ◌+◌, ◌<◌, ◌≤◌, true, List, length, get_or, set, drop, sym, ap, ap₂, ◌∙◌}
+use Rattle.std.proofs.lemmas.List.{drop_more, drop_all}
 use Rattle.pauli_word.specs.declared.letter.Letter.{Letter}
 use Rattle.pauli_word.specs.declared.letter.Letter.TheVariants.{I}
 use Rattle.pauli_word.specs.Letters.{letter_product}
 use Rattle.pauli_word.specs.Parity.{exclusive_or}
 use Rattle.pauli_word.specs.States.{State, applied}
-use Rattle.pauli_word.specs.Words.{Signed, signed, anticommute, letter_at, letters_product, lone_letter, no_letters, with_sign_changed}
+use Rattle.pauli_word.specs.Words.{signed, anticommute, letter_at, letters_product, lone_letter, no_letters, with_sign_changed}
 use Rattle.pauli_word.proofs.LoneLetters.{length-lone_letter, letters_product-lone_letter, letters_product_of_no_letters}
 use Rattle.pauli_word.proofs.Parities.{exclusive_or_assoc}
-use Rattle.pauli_word.proofs.WordLaws.{length-letters_product, letters_product_assoc, letters_product_comm, anticommute_comm, anticommute_of_none, anticommute-product}
+use Rattle.pauli_word.proofs.WordLaws.{letters_product_assoc, letters_product_comm, anticommute_comm, anticommute_of_none, anticommute-product}
 use Rattle.step_model.specs.declared.step.Term.{Term}
 use Rattle.step_model.specs.Listing.{word_of_terms}
 use Rattle.step_model.proofs.StepNumbers.{length-word_of_terms}

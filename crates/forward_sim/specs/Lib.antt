@@ -1,3 +1,5 @@
+pub mod Kept
 pub mod Lists
 pub mod Machines
+pub mod References
 pub mod SameRuns

@@ -1,7 +1,9 @@
 -- What a run holds between two steps, and what a part of a step makes of it.
 -- (Runs of stabilizer circuits: Aaronson and Gottesman, Phys. Rev. A 70, 052328.)
-use Rattle.std.specs.Prelude.{◌≡◌, ℕ, Bool, List}
-use Rattle.step_model.specs.Runs.{RunState}
+use Rattle.std.specs.Prelude.{◌≡◌, ℕ, Bool, if◌then◌else◌, List, [], ◌∷◌, ◌++◌, Option}
+use Rattle.pauli_word.specs.declared.letter.Letter.{Letter}
+use Rattle.pauli_word.specs.Parity.{exclusive_or}
+use Rattle.step_model.specs.Runs.{RunState, corrected}
 use Rattle.tableau.specs.Rows.{Rows, row_count, state_of}
 use Rattle.forward_sim.specs.SameRuns.{IsSameRun}
 
@@ -18,6 +20,15 @@ qubit_count r = row_count r.rows
 -- where the run stands
 abbrev pub run_of : Running → RunState
 run_of r = record { state = state_of r.rows; coins = r.coins; records = r.records }
+
+-- the run where a collapse has ended that saw an outcome: the outcome is corrected, and recorded with its changes
+abbrev pub ended : Option (List Letter) → Bool → Bool → Bool → RunState → RunState
+ended correction recorded seen changes m =
+    record {
+      state = corrected correction seen m.state;
+      coins = m.coins;
+      records = if recorded then m.records ++ exclusive_or seen changes ∷ [] else m.records;
+    }
 
 -- from `old` it has come to a run that can't be told from m
 pub record ComesTo (old new : Running) (m : RunState) : Type 0 where

@@ -1,10 +1,11 @@
 ghost use Rattle.std.specs.Prelude.{◌≡◌, ◌≢◌, ◌+◌, ◌<◌, ◌≤◌, ◌++◌, ◌∷◌, [], true, false, length, drop, IfOk, is_some, if◌then◌else◌, slice_index_or};
 ghost use Rattle.gate_table.specs.Images.{arity_of};
 ghost use Rattle.gate_table.specs.WordImages.{preimage_at, preimage_at_two};
-ghost use Rattle.pauli_word.specs.States.{applied};
+ghost use Rattle.pauli_word.specs.States.{applied, correcting};
 ghost use Rattle.pauli_word.specs.Words.{lone_letter};
 ghost use Rattle.step_model.specs.Listing.{word_of_terms};
-ghost use Rattle.step_model.specs.Runs.{start, next_coin};
+ghost use Rattle.programs.specs.Listed.{measured};
+ghost use Rattle.step_model.specs.Runs.{start, next_coin, corrected, correction};
 ghost use Rattle.step_model.specs.WellFormed.{TermsFit};
 ghost use Rattle.forward_sim.specs.Machines.{ComesTo, qubit_count, run_of};
 ghost use Rattle.forward_sim.specs.SameRuns.{IsSameRun};
@@ -82,6 +83,23 @@ impl<'c, A: Allocator + Copy> Machine<'c, A> {
         let coin = self.coins[0];
         self.coins = &self.coins[1..];
         coin
+    }
+
+    /// Ends the reset of a qubit whose letter was measured, where it is one.
+    pub(crate) fn correct(&mut self, letter: Letter, qubit: u32, reset: bool, seen: bool)
+        requires { qubit < qubit_count self.old }
+        ensures { ComesTo self.old self.new (record (run_of self.old) { state = corrected (correction (qubit_count self.old) (measured (qubit_count self.old) reset letter qubit)) seen (run_of self.old).state }) }
+    {
+        if reset {
+            self.reset_after(letter, qubit, seen);
+        }
+    }
+
+    fn reset_after(&mut self, letter: Letter, qubit: u32, seen: bool)
+        requires { qubit < qubit_count self.old }
+        ensures { ComesTo self.old self.new (record (run_of self.old) { state = applied seen (lone_letter (qubit_count self.old) qubit (correcting letter)) (run_of self.old).state }) }
+    {
+        self.tableau.reset_after(letter, qubit as usize, seen);
     }
 
     /// Records a value, where there is a number for it.

@@ -4,6 +4,7 @@ ghost use Rattle.pauli_word.specs.Words.{signed};
 ghost use Rattle.step_model.specs.Listing.{word_of_terms};
 ghost use Rattle.step_model.specs.Runs.{after_collapse, next_coin};
 ghost use Rattle.step_model.specs.WellFormed.{TermsFit};
+ghost use Rattle.forward_sim.specs.Kept.{NamesRow};
 ghost use Rattle.forward_sim.specs.Machines.{ComesTo, qubit_count, run_of};
 
 use crate::machine::Machine;
@@ -11,19 +12,20 @@ use pauli_word::Word;
 use std::alloc::Allocator;
 use step_model::Term;
 
-/// Measures a product of letters at qubits. Answers the outcome, and records nothing.
+/// Measures a product of letters at qubits: the outcome, and the row that was replaced where it was random. Records
+/// nothing.
 pub(crate) fn collapse_product<A: Allocator + Copy>(
     machine: &mut Machine<'_, A>,
     terms: &[Term],
-) -> bool
+) -> (bool, Option<usize>)
     requires { TermsFit (qubit_count machine.old) terms.now }
-    ensures outcome { result ≡ outcome (run_of machine.old).state (word_of_terms (qubit_count machine.old) terms.now) (next_coin machine.old.coins) }
+    ensures outcome { result.0 ≡ outcome (run_of machine.old).state (word_of_terms (qubit_count machine.old) terms.now) (next_coin machine.old.coins) }
     ensures run { ComesTo machine.old machine.new (after_collapse (word_of_terms (qubit_count machine.old) terms.now) None false false (run_of machine.old)) }
+    ensures row { NamesRow machine.old.rows machine.new.rows (word_of_terms (qubit_count machine.old) terms.now) result.1 }
 {
     let coin = machine.take_coin();
     set_product(&mut machine.word, terms);
-    let (seen, _) = machine.tableau.collapse_word(&machine.word, coin);
-    seen
+    machine.tableau.collapse_word(&machine.word, coin)
 }
 
 // Makes a word the product of letters at qubits, with sign plus.

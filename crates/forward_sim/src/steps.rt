@@ -6,7 +6,7 @@ ghost use Rattle.programs.specs.Named.{IsNamed, IsStepOf};
 ghost use Rattle.step_model.specs.Listing.{Fault};
 ghost use Rattle.step_model.specs.Runs.{after_collapse, correction, flip_happens, next};
 ghost use Rattle.step_model.specs.WellFormed.{step_records};
-ghost use Rattle.forward_sim.specs.Machines.{ComesTo, qubit_count, run_of};
+ghost use Rattle.forward_sim.specs.Machines.{ComesTo, ended, qubit_count, run_of};
 
 use crate::letters::collapse_letter;
 use crate::machine::Machine;
@@ -49,7 +49,7 @@ pub(crate) fn take_step<A: Allocator + Copy>(
             inverted,
             flip,
         } => {
-            let seen = collapse_product(machine, program.product(product));
+            let (seen, _) = collapse_product(machine, program.product(product));
             machine.keep(rec, seen ^ (inverted ^ flip_happens(faults, flip)));
         }
         Step::Fault(name) => take_fault(machine, program, faults, name),
@@ -72,7 +72,27 @@ fn collapse<A: Allocator + Copy>(
     ensures { let n = qubit_count machine.old in
         ComesTo machine.old machine.new (after_collapse (lone_letter n qubit letter) (correction n (measured n reset letter qubit)) (is_some rec) changes (run_of machine.old)) }
 {
-    let seen = collapse_letter(machine, letter, qubit, reset);
+    let (seen, _) = collapse_letter(machine, letter, qubit);
+    end_collapse(machine, letter, qubit, reset, seen, rec, changes);
+}
+
+/// Ends the collapse of a letter at a qubit that saw an outcome: resets the qubit where `reset`, and records the outcome,
+/// changed where `changes`, where there is a number for it.
+pub(crate) fn end_collapse<A: Allocator + Copy>(
+    machine: &mut Machine<'_, A>,
+    letter: Letter,
+    qubit: u32,
+    reset: bool,
+    seen: bool,
+    rec: Option<u32>,
+    changes: bool,
+)
+    requires inside { qubit < qubit_count machine.old }
+    requires room { length machine.old.records + (if is_some rec then 1 else 0) ≤ machine.old.room }
+    ensures { let n = qubit_count machine.old in
+        ComesTo machine.old machine.new (ended (correction n (measured n reset letter qubit)) (is_some rec) seen changes (run_of machine.old)) }
+{
+    machine.correct(letter, qubit, reset, seen);
     machine.keep(rec, seen ^ changes);
 }
 
@@ -93,8 +113,8 @@ fn take_fault<A: Allocator + Copy>(
     }
 }
 
-// Applies a letter at a qubit, where a record is 1.
-fn feed_back<A: Allocator + Copy>(
+/// Applies a letter at a qubit, where a record is 1.
+pub(crate) fn feed_back<A: Allocator + Copy>(
     machine: &mut Machine<'_, A>,
     letter: Letter,
     qubit: u32,

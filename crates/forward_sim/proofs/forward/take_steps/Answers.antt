@@ -1,10 +1,10 @@
 -- Each step leads from what is left before it to what is left behind it.
-use Rattle.std.proofs.Common.{◌≡◌, ◌+◌, length, refl, sym, ap, subst, ◌∙◌, arith}
+use Rattle.std.proofs.Common.{◌≡◌, ◌+◌, length, sym, ap, subst, ◌∙◌, arith}
 use Rattle.std.specs.Prelude.{Some, None, slice_get, nat_lt, if◌then◌else◌}
 use Rattle.programs.specs.Listed.{listed}
 use Rattle.step_model.specs.Listing.{Listing, ListedStep}
 use Rattle.step_model.specs.Runs.{next, records_of, start}
-use Rattle.forward_sim.specs.Machines.{qubit_count, run_of}
+use Rattle.forward_sim.specs.Machines.{run_of}
 use Rattle.forward_sim.specs.SameRuns.{IsSameRun}
 use Rattle.forward_sim.proofs.RunRecords.{MakesRest, StepIsNext, rest_at_start, step_is_next, rest_after_step, records_at_end, place_after, length-records_of}
 use Rattle.forward_sim.proofs.forward.take_steps.Given.{Over}

@@ -1,7 +1,6 @@
 -- Each letter goes from the word that is left into the word so far.
-use Rattle.std.proofs.Common.{◌≡◌, ◌+◌, ◌<◌, List, length, set, false, ap, ap₂, sym, ◌∙◌, length-set, subst, arith}
+use Rattle.std.proofs.Common.{◌≡◌, ◌+◌, length, set, ap, ap₂, sym, ◌∙◌, length-set, subst, arith}
 use Rattle.std.proofs.lemmas.List.{length-replicate}
-use Rattle.pauli_word.specs.declared.letter.Letter.{Letter}
 use Rattle.pauli_word.specs.declared.letter.Letter.TheVariants.{I}
 use Rattle.pauli_word.specs.Letters.{letter_product}
 use Rattle.pauli_word.specs.Words.{Signed, signed, letter_at, letters_product}

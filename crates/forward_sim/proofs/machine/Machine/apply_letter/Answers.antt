@@ -1,6 +1,5 @@
 -- The gate of a letter's name applies the letter.
 use Rattle.std.proofs.Common.{◌≡◌, sym, ap, ◌∙◌}
-use Rattle.pauli_word.specs.Words.{Signed}
 use Rattle.gate_table.specs.WordImages.{preimage_at}
 use Rattle.forward_sim.specs.Machines.{qubit_count, run_of}
 use Rattle.forward_sim.proofs.LetterGates.{gate_of, preimage_at-letter}

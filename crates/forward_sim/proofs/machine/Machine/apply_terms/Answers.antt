@@ -1,5 +1,5 @@
 -- Each letter goes from the word that is left into the state.
-use Rattle.std.proofs.Common.{◌≡◌, true, refl, subst, ◌∙◌}
+use Rattle.std.proofs.Common.{true, subst, ◌∙◌}
 use Rattle.pauli_word.specs.States.{applied}
 use Rattle.pauli_word.specs.Words.{lone_letter}
 use Rattle.step_model.specs.Listing.{word_of_terms}

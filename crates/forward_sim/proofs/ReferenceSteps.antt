@@ -1,0 +1,208 @@
+-- Collapses and the steps of a reference run: how they end, and what of them is kept.
+use Rattle.std.proofs.Common.{◌≡◌, ℕ, zero, suc, ◌+◌, ◌||◌, Bool, true, false, List, [], ◌∷◌, ◌++◌, length, drop, replicate, Option, Some, None, refl, sym, ap, ap₂, subst, ◌∙◌, arith, append-nil, append_assoc}
+use Rattle.std.specs.Prelude.{is_some, slice_get, if◌then◌else◌}
+use Rattle.std.specs.List.{list_all}
+use Rattle.std.proofs.lemmas.Bool.{and_parts}
+use Rattle.pauli_word.specs.declared.letter.Letter.{Letter}
+use Rattle.pauli_word.specs.Parity.{exclusive_or}
+use Rattle.pauli_word.specs.States.{State, outcome, collapsed, is_decided}
+use Rattle.pauli_word.specs.Words.{signed, lone_letter}
+use Rattle.pauli_word.proofs.Parities.{exclusive_or-false}
+use Rattle.step_model.specs.declared.step.Term.{Term}
+use Rattle.step_model.specs.Frames.{zero_coins}
+use Rattle.step_model.specs.Listing.{Listing, ListedStep, One, Two, Collapse, Fault, Feedback, measured_word, word_of_terms}
+use Rattle.step_model.specs.Runs.{RunState, start, next, next_coin, after_collapse, corrected, correction, run_from}
+use Rattle.step_model.specs.Sensitivities.{collapse_count}
+use Rattle.step_model.specs.WellFormed.{IsWellFormed, step_fits}
+use Rattle.step_model.proofs.StateIsGroup.{length-measured}
+use Rattle.step_model.proofs.StepNumbers.{length-word_of_terms}
+use Rattle.programs.specs.declared.step.FaultName.{FaultName}
+use Rattle.programs.specs.declared.step.Step.TheVariants as step
+use Rattle.programs.specs.Listed.{listed, measured}
+use Rattle.forward_sim.specs.Kept.{StepKeeps}
+use Rattle.forward_sim.specs.Machines.{Running, qubit_count, run_of, ended, ComesTo}
+use Rattle.forward_sim.specs.References.{ReferenceRun, IsEntry, AreEntries, IsReferenceOf}
+use Rattle.forward_sim.specs.SameRuns.{HoldSame, IsSameRun}
+use Rattle.forward_sim.proofs.RunRecords.{MakesRest, all_fit, left, past, records_at_end, step_is_next}
+use Rattle.forward_sim.proofs.SameStates.{same-corrected, same-next}
+
+-- a collapse that has ended
+ends : (old mid new : Running) (w : List Letter) (fix : Option (List Letter)) (recorded changes seen : Bool)
+    → ComesTo old mid (after_collapse w None false false (run_of old))
+    → seen ≡ outcome (run_of old).state w (next_coin old.coins)
+    → ComesTo mid new (ended fix recorded seen changes (run_of mid))
+    → ComesTo old new (after_collapse w fix recorded changes (run_of old))
+ends old mid new w fix recorded changes seen first seen_is second =
+    let s = (run_of old).state in
+    let measured_state = collapsed w (next_coin old.coins) s in
+    record {
+      qubits = second.qubits ∙ first.qubits;
+      room = second.room ∙ first.room;
+      run = record {
+        state = λ p size.
+            second.run.state p (size ∙ sym first.qubits)
+            ∙ same-corrected (qubit_count old) (run_of mid).state measured_state fix seen first.run.state p size
+            ∙ ap (λ b. corrected fix b measured_state p) seen_is;
+        coins = second.run.coins ∙ first.run.coins;
+        records =
+            second.run.records
+            ∙ ap₂ (λ rs b. if recorded then rs ++ exclusive_or b changes ∷ [] else rs) first.run.records seen_is;
+      };
+    }
+
+pub letter_ends : (old mid new : Running) (letter : Letter) (q : ℕ) (reset : Bool) (rec : Option ℕ) (changes seen : Bool)
+    → ComesTo old mid (after_collapse (lone_letter (qubit_count old) q letter) None false false (run_of old))
+    → seen ≡ outcome (run_of old).state (lone_letter (qubit_count old) q letter) (next_coin old.coins)
+    → ComesTo mid new (ended (correction (qubit_count mid) (measured (qubit_count mid) reset letter q)) (is_some rec) seen changes (run_of mid))
+    → ComesTo old new (after_collapse (lone_letter (qubit_count old) q letter) (correction (qubit_count old) (measured (qubit_count old) reset letter q)) (is_some rec) changes (run_of old))
+letter_ends old mid new letter q reset rec changes seen first seen_is second =
+    let n = qubit_count old in
+    ends old mid new (lone_letter n q letter) (correction n (measured n reset letter q)) (is_some rec) changes seen first seen_is
+    (subst (λ k. ComesTo mid new (ended (correction k (measured k reset letter q)) (is_some rec) seen changes (run_of mid))) first.qubits second)
+
+-- without faults a record is changed only where its collapse says so
+pub letter_next : (program : Listing) (products : List (List Term)) (letter : Letter) (q : ℕ) (rec : Option ℕ) (reset inverted : Bool) (flip : Option FaultName) (m : RunState)
+    → after_collapse (lone_letter program.qubits q letter) (correction program.qubits (measured program.qubits reset letter q)) (is_some rec) inverted m
+    ≡ next program [] (listed program.qubits products (step.Collapse letter q rec reset inverted flip)) m
+letter_next program products letter q None true inverted flip m = refl
+letter_next program products letter q None false inverted flip m = refl
+letter_next program products letter q (Some r) true inverted None m =
+    ap (λ b. after_collapse (lone_letter program.qubits q letter) (correction program.qubits (measured program.qubits true letter q)) true b m) (sym (exclusive_or-false inverted))
+letter_next program products letter q (Some r) true inverted (Some name) m =
+    ap (λ b. after_collapse (lone_letter program.qubits q letter) (correction program.qubits (measured program.qubits true letter q)) true b m) (sym (exclusive_or-false inverted))
+letter_next program products letter q (Some r) false inverted None m =
+    ap (λ b. after_collapse (lone_letter program.qubits q letter) None true b m) (sym (exclusive_or-false inverted))
+letter_next program products letter q (Some r) false inverted (Some name) m =
+    ap (λ b. after_collapse (lone_letter program.qubits q letter) None true b m) (sym (exclusive_or-false inverted))
+
+-- runs that can't be told apart keep the same
+same-entry : (n : ℕ) (s t : State) (w : List Letter) (entry : Option (List Term)) → HoldSame n s t → length w ≡ n → IsEntry n s w entry → IsEntry n t w entry
+same-entry n s t w None same size is =
+    let decided : is_decided s w ≡ is_decided t w = ap₂ (λ a b. a || b) (same (signed w false) size) (same (signed w true) size) in
+    sym decided ∙ is
+same-entry n s t w (Some terms) same size is =
+    let decided : is_decided s w ≡ is_decided t w = ap₂ (λ a b. a || b) (same (signed w false) size) (same (signed w true) size) in
+    let v = word_of_terms n terms in
+    let sign = is.1.in_state.0 in (
+      is.0,
+      record {
+        random = sym decided ∙ is.1.random;
+        in_state = (sign, sym (same (signed v sign) (length-word_of_terms n terms)) ∙ is.1.in_state.1);
+        anticommutes = is.1.anticommutes;
+      },
+    )
+
+pub same-entries : (program : Listing) (steps : List ListedStep) (m k : RunState) (replaced : List (Option (List Term))) → list_all (step_fits program) steps ≡ true → IsSameRun program.qubits m k → AreEntries program steps m replaced → AreEntries program steps k replaced
+same-entries program [] m k replaced fits same h = h
+same-entries program (One g q ∷ steps) m k replaced fits same h =
+    let parts = and_parts (step_fits program (One g q)) (list_all (step_fits program) steps) fits in
+    same-entries program steps (next program [] (One g q) m) (next program [] (One g q) k) replaced parts.1 (same-next program [] (One g q) m k parts.0 same) h
+same-entries program (Two g a b ∷ steps) m k replaced fits same h =
+    let parts = and_parts (step_fits program (Two g a b)) (list_all (step_fits program) steps) fits in
+    same-entries program steps (next program [] (Two g a b) m) (next program [] (Two g a b) k) replaced parts.1 (same-next program [] (Two g a b) m k parts.0 same) h
+same-entries program (Collapse c r ∷ steps) m k [] fits same h = h
+same-entries program (Collapse c r ∷ steps) m k (entry ∷ replaced) fits same h =
+    let parts = and_parts (step_fits program (Collapse c r)) (list_all (step_fits program) steps) fits in (
+      same-entry program.qubits m.state k.state (measured_word program.qubits c) entry same.state (length-measured program c r parts.0) h.0,
+      same-entries program steps (next program [] (Collapse c r) m) (next program [] (Collapse c r) k) replaced parts.1 (same-next program [] (Collapse c r) m k parts.0 same) h.1,
+    )
+same-entries program (Fault f ∷ steps) m k replaced fits same h =
+    let parts = and_parts (step_fits program (Fault f)) (list_all (step_fits program) steps) fits in
+    same-entries program steps (next program [] (Fault f) m) (next program [] (Fault f) k) replaced parts.1 (same-next program [] (Fault f) m k parts.0 same) h
+same-entries program (Feedback w r ∷ steps) m k replaced fits same h =
+    let parts = and_parts (step_fits program (Feedback w r)) (list_all (step_fits program) steps) fits in
+    same-entries program steps (next program [] (Feedback w r) m) (next program [] (Feedback w r) k) replaced parts.1 (same-next program [] (Feedback w r) m k parts.0 same) h
+
+-- coins that aren't there are coins that are 0
+abbrev with_coins : List Bool → RunState → RunState
+with_coins coins m = record m { coins = coins }
+
+zero_records : (program : Listing) (steps : List ListedStep) (count : ℕ) (m : RunState) → (run_from program [] steps (with_coins [] m)).records ≡ (run_from program [] steps (with_coins (replicate count false) m)).records
+zero_records program [] count m = refl
+zero_records program (One g q ∷ steps) count m = zero_records program steps count (next program [] (One g q) m)
+zero_records program (Two g a b ∷ steps) count m = zero_records program steps count (next program [] (Two g a b) m)
+zero_records program (Collapse c r ∷ steps) zero m = refl
+zero_records program (Collapse c r ∷ steps) (suc count) m = zero_records program steps count (next program [] (Collapse c r) (with_coins [] m))
+zero_records program (Fault f ∷ steps) count m = zero_records program steps count (next program [] (Fault f) m)
+zero_records program (Feedback w r ∷ steps) count m = zero_records program steps count (next program [] (Feedback w r) m)
+
+zero_entries : (program : Listing) (steps : List ListedStep) (count : ℕ) (m : RunState) (replaced : List (Option (List Term))) → AreEntries program steps (with_coins [] m) replaced → AreEntries program steps (with_coins (replicate count false) m) replaced
+zero_entries program [] count m replaced h = h
+zero_entries program (One g q ∷ steps) count m replaced h = zero_entries program steps count (next program [] (One g q) m) replaced h
+zero_entries program (Two g a b ∷ steps) count m replaced h = zero_entries program steps count (next program [] (Two g a b) m) replaced h
+zero_entries program (Collapse c r ∷ steps) zero m replaced h = h
+zero_entries program (Collapse c r ∷ steps) (suc count) m [] h = h
+zero_entries program (Collapse c r ∷ steps) (suc count) m (entry ∷ replaced) h = (h.0, zero_entries program steps count (next program [] (Collapse c r) (with_coins [] m)) replaced h.1)
+zero_entries program (Fault f ∷ steps) count m replaced h = zero_entries program steps count (next program [] (Fault f) m) replaced h
+zero_entries program (Feedback w r ∷ steps) count m replaced h = zero_entries program steps count (next program [] (Feedback w r) m) replaced h
+
+-- between two steps: what is kept of the steps that are left goes behind what is kept so far
+abbrev pub KeepsRest : Listing → ℕ → RunState → List (Option (List Term)) → Type 0
+KeepsRest program place m kept =
+    (rest : List (Option (List Term))) → AreEntries program (drop place program.steps) m rest → AreEntries program program.steps (start []) (kept ++ rest)
+
+pub keeps_at_start : (program : Listing) (m : RunState) (kept : List (Option (List Term))) → IsWellFormed program → IsSameRun program.qubits m (start []) → kept ≡ [] → KeepsRest program 0 m kept
+keeps_at_start program m kept well_formed same none rest h =
+    subst (λ k. AreEntries program program.steps (start []) (k ++ rest)) (sym none)
+    (same-entries program program.steps m (start []) rest (all_fit program well_formed) same h)
+
+-- a step that keeps what it has to, before steps of which the rest is kept
+record Behind (program : Listing) (step : ListedStep) (steps : List ListedStep) (m : RunState) (old new rest : List (Option (List Term))) : Type 0 where
+  pub all : List (Option (List Term))
+  pub kept : AreEntries program (step ∷ steps) m all
+  pub joined : old ++ all ≡ new ++ rest
+
+behind : (program : Listing) (step : ListedStep) (steps : List ListedStep) (m : RunState) (old new rest : List (Option (List Term))) → StepKeeps program.qubits m.state step old new → AreEntries program steps (next program [] step m) rest → Behind program step steps m old new rest
+behind program (One g q) steps m old new rest keeps h = record { all = rest; kept = h; joined = ap (λ o. o ++ rest) (sym keeps) }
+behind program (Two g a b) steps m old new rest keeps h = record { all = rest; kept = h; joined = ap (λ o. o ++ rest) (sym keeps) }
+behind program (Collapse c r) steps m old new rest keeps h =
+    record {
+      all = keeps.0 ∷ rest;
+      kept = (keeps.2, h);
+      joined = sym (ap (λ o. o ++ rest) keeps.1 ∙ append_assoc old (keeps.0 ∷ []) rest);
+    }
+behind program (Fault f) steps m old new rest keeps h = record { all = rest; kept = h; joined = ap (λ o. o ++ rest) (sym keeps) }
+behind program (Feedback w r) steps m old new rest keeps h = record { all = rest; kept = h; joined = ap (λ o. o ++ rest) (sym keeps) }
+
+pub keeps_after_step : (program : Listing) (place : ℕ) (step : ListedStep) (m after : RunState) (old new : List (Option (List Term))) → IsWellFormed program → Some step ≡ slice_get program.steps place → MakesRest program [] [] place m → IsSameRun program.qubits after (next program [] step m) → StepKeeps program.qubits m.state step old new → KeepsRest program place m old → KeepsRest program (place + 1) after new
+keeps_after_step program place step m after old new well_formed at makes same keeps so_far rest h =
+    let steps = drop (place + 1) program.steps in
+    let fits = (step_is_next program [] [] place step m well_formed at makes).rest_fit in
+    let with = behind program step steps m old new rest keeps (same-entries program steps after (next program [] step m) rest fits same h) in
+    subst (AreEntries program program.steps (start [])) with.joined
+    (so_far with.all (subst (λ l. AreEntries program l m with.all) (sym (left program place step at)) with.kept))
+
+-- behind the last step it is the reference run
+pub reference_at_end : (program : Listing) (place : ℕ) (m : RunState) (kept : List (Option (List Term))) → None ≡ slice_get program.steps place → MakesRest program [] [] place m → KeepsRest program place m kept → IsReferenceOf program (record { records = m.records; replaced = kept })
+reference_at_end program place m kept none makes keeps =
+    let nothing : AreEntries program (drop place program.steps) m [] = subst (λ l. AreEntries program l m []) (sym (past program.steps place none)) refl in
+    record {
+      records = records_at_end program [] [] place m none makes ∙ zero_records program program.steps program.collapses (start []);
+      replaced =
+          zero_entries program program.steps program.collapses (start []) kept
+          (subst (AreEntries program program.steps (start [])) (append-nil kept) (keeps [] nothing));
+    }
+
+-- there is an entry for each collapse
+length-entries : (program : Listing) (steps : List ListedStep) (m : RunState) (replaced : List (Option (List Term))) → AreEntries program steps m replaced → length replaced ≡ collapse_count steps
+length-entries program [] m replaced h = ap length h
+length-entries program (One g q ∷ steps) m replaced h =
+    let rest = length-entries program steps (next program [] (One g q) m) replaced h in
+    omega (arith, rest)
+length-entries program (Two g a b ∷ steps) m replaced h =
+    let rest = length-entries program steps (next program [] (Two g a b) m) replaced h in
+    omega (arith, rest)
+length-entries program (Collapse c r ∷ steps) m [] h = absurd h
+length-entries program (Collapse c r ∷ steps) m (entry ∷ replaced) h =
+    let rest = length-entries program steps (next program [] (Collapse c r) m) replaced h.1 in
+    omega (arith, rest)
+length-entries program (Fault f ∷ steps) m replaced h =
+    let rest = length-entries program steps (next program [] (Fault f) m) replaced h in
+    omega (arith, rest)
+length-entries program (Feedback w r ∷ steps) m replaced h =
+    let rest = length-entries program steps (next program [] (Feedback w r) m) replaced h in
+    omega (arith, rest)
+
+pub length-replaced : (program : Listing) (reference : ReferenceRun) → IsWellFormed program → IsReferenceOf program reference → length reference.replaced ≡ program.collapses
+length-replaced program reference well_formed is =
+    length-entries program program.steps (start (zero_coins program)) reference.replaced is.replaced ∙ well_formed.collapses_counted

@@ -1,0 +1,19 @@
+use Rattle.std.proofs.Common.{◌≡◌, ◌-◌, [], length}
+use Rattle.forward_sim.proofs.ReferenceSteps.{KeepsRest}
+use Rattle.forward_sim.proofs.RunRecords.{MakesRest}
+use Rattle.forward_sim.specs.Machines.{qubit_count, run_of}
+use Rattle.forward_sim.proofs.reference.follow_steps.Given as goal
+
+-- the steps that are left make the records of the whole run, and what is kept of them goes behind what is kept
+abbrev pub invariant-loop-step : goal.invariant-loop-step
+invariant-loop-step g l =
+    record {
+      program : l.walk.program ≡ l.program;
+      qubits : qubit_count l.machine ≡ l.program.qubits;
+      room : l.machine.room ≡ l.program.records;
+      rest : MakesRest l.program [] [] l.walk.place (run_of l.machine);
+      kept : KeepsRest l.program l.walk.place (run_of l.machine) l.replaced;
+    }
+
+abbrev pub decreases-loop-step : goal.decreases-loop-step
+decreases-loop-step g l = length l.program.steps - l.walk.place
