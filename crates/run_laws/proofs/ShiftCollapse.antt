@@ -68,7 +68,7 @@ outcome-shifted n v w s t coin shifted group size =
     ap₂ (λ x y. chosen x y (exclusive_or (anticommute v w) coin)) (shifted-plus n v w s t shifted size) (shifted-minus n v w s t shifted size)
     ∙ chosen-flipped (anticommute v w) (s (signed w false)) (s (signed w true)) coin (not_both n s w group size)
 
-is_decided-shifted : (n : ℕ) (v w : List Letter) (s t : State) → IsShifted n v s t → length w ≡ n → is_decided t w ≡ is_decided s w
+pub is_decided-shifted : (n : ℕ) (v w : List Letter) (s t : State) → IsShifted n v s t → length w ≡ n → is_decided t w ≡ is_decided s w
 is_decided-shifted n v w s t shifted size =
     ap₂ (λ x y. x || y) (shifted-plus n v w s t shifted size) (shifted-minus n v w s t shifted size)
     ∙ or-flipped (anticommute v w) (s (signed w false)) (s (signed w true))

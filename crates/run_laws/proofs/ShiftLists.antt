@@ -42,7 +42,7 @@ parity-joined (r ∷ named) flips values =
     ap₂ exclusive_or (get_or-joined flips values r) (parity-joined named flips values)
     ∙ exclusive_or_middle (get_or flips r false) (get_or values r false) (parity named flips) (parity named values)
 
-get_or-zeros : (n r : ℕ) → get_or (replicate n false) r false ≡ false
+pub get_or-zeros : (n r : ℕ) → get_or (replicate n false) r false ≡ false
 get_or-zeros zero r = refl
 get_or-zeros (suc n) zero = refl
 get_or-zeros (suc n) (suc r) = get_or-zeros n r

@@ -1,0 +1,16 @@
+use Rattle.std.proofs.Common.{◌≡◌, ◌-◌, length, drop}
+use Rattle.batch.proofs.Beside.{Beside}
+use Rattle.batch.proofs.follow.follow_steps.Given as goal
+
+-- the runs and the reference run stand before the same step
+abbrev pub invariant-loop-step : goal.invariant-loop-step
+invariant-loop-step g l =
+    record {
+      program : l.walk.program ≡ l.program;
+      qubits : length l.frames.letters ≡ length l.fn.frames.letters;
+      room : l.frames.room ≡ l.fn.frames.room;
+      beside : Beside l.program l.reference l.faults l.coins (drop l.walk.place l.program.steps) l.collapse l.frames;
+    }
+
+abbrev pub decreases-loop-step : goal.decreases-loop-step
+decreases-loop-step g l = length l.program.steps - l.walk.place

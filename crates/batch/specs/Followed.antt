@@ -1,0 +1,58 @@
+-- What a run's frame is, beside the reference run whose coins are all 0 and in which no fault happens, and how the frame
+-- goes over a step. Where the outcome of a collapse is random in the reference run, another run takes the outcome that
+-- its coin says: where that isn't what its frame makes of the reference's outcome, the frame is multiplied by a word of
+-- the reference's state that anticommutes with the word measured, which changes no state. (Pauli frames: Knill, Nature
+-- 434, 39 (2005); with a reference sample, as in Stim's frame simulator: Gidney, Quantum 5, 497 (2021), section 4.)
+use Rattle.std.specs.Prelude.{⊤, ◌≡◌, ℕ, Bool, true, List, [], Option, None, Some, option_map}
+use Rattle.std.specs.Borrow.{Bor}
+use Rattle.pauli_word.specs.declared.letter.Letter.{Letter}
+use Rattle.pauli_word.specs.Parity.{exclusive_or}
+use Rattle.pauli_word.specs.Words.{anticommute}
+use Rattle.step_model.specs.declared.step.Term.{Term}
+use Rattle.step_model.specs.Frames.{Frame}
+use Rattle.step_model.specs.Listing.{Listing, ListedStep, One, Two, Collapse, Fault, Feedback, word_of_terms, measured_word}
+use Rattle.step_model.specs.Sensitivities.{multiplied}
+use Rattle.step_model.specs.WellFormed.{TermsFit}
+use Rattle.run_laws.specs.Shifts.{carried_with}
+
+-- a frame, multiplied where b by the word that is kept of a collapse, if there is one
+abbrev pub turned_where : ℕ → Option (List Term) → Bool → Frame → Frame
+turned_where n None b v = v
+turned_where n (Some terms) b v = record v { word = multiplied b (word_of_terms n terms) v.word }
+
+-- a frame that meets a collapse of w, whose coin this is, and of which the reference run keeps these letters at qubits
+abbrev pub turned : ℕ → Option (List Term) → Bool → List Letter → Frame → Frame
+turned n replaced coin w v = turned_where n replaced (exclusive_or coin (anticommute v.word w)) v
+
+-- a frame that comes to a step
+abbrev pub turned_at : ℕ → Option (List Term) → Bool → ListedStep → Frame → Frame
+turned_at n replaced coin (One gate q) v = v
+turned_at n replaced coin (Two gate a b) v = v
+turned_at n replaced coin (Collapse c r) v = turned n replaced coin (measured_word n c) v
+turned_at n replaced coin (Fault f) v = v
+turned_at n replaced coin (Feedback w r) v = v
+
+-- and the frame behind the step, where these faults happen
+abbrev pub followed : Listing → List Bool → Option (List Term) → Bool → ListedStep → Frame → Frame
+followed program faults replaced coin step v =
+    carried_with program [] faults step (turned_at program.qubits replaced coin step v)
+
+-- letters at qubits, as they are given
+abbrev pub terms_of : Option (Bor (List Term)) → Option (List Term)
+terms_of replaced = option_map (λ terms. terms.now) replaced
+
+abbrev pub terms_or_none : Option (List Term) → List Term
+terms_or_none None = []
+terms_or_none (Some terms) = terms
+
+-- where letters at qubits are kept of a collapse of w, they are of n qubits and their word anticommutes with w
+abbrev pub Turns : ℕ → Option (List Term) → List Letter → Type 0
+Turns n None w = ⊤
+Turns n (Some terms) w = TermsFit n terms × (anticommute w (word_of_terms n terms) ≡ true)
+
+abbrev pub TurnsAt : ℕ → Option (List Term) → ListedStep → Type 0
+TurnsAt n replaced (One gate q) = ⊤
+TurnsAt n replaced (Two gate a b) = ⊤
+TurnsAt n replaced (Collapse c r) = Turns n replaced (measured_word n c)
+TurnsAt n replaced (Fault f) = ⊤
+TurnsAt n replaced (Feedback w r) = ⊤

@@ -1,0 +1,118 @@
+ghost use Rattle.std.specs.Prelude.{◌≡◌, ◌<◌, ◌+◌, ℕ, [], false, length, slice_index_or, IfOk, IfErr};
+ghost use Rattle.lanes.specs.Lanes.{lane_bit};
+ghost use Rattle.step_model.specs.Faults.{memory_fault};
+ghost use Rattle.step_model.specs.Targets.{difference, target_at};
+ghost use Rattle.batch.specs.Batches.{AreRuns, IsBatchOf, shot_records};
+
+use crate::follow::follow_steps;
+use crate::frames::Frames;
+use forward_sim::{Records, Reference};
+use lanes::{bit, spread, xor};
+use programs::Program;
+use std::alloc::{AllocError, Allocator};
+use std::marker::Model;
+use step_model::Fault;
+
+/// 64 runs of a program side by side, each with its own faults and coins: bit j of a word belongs to run j, the lowest
+/// bit to run 0. They are followed by their Pauli frames beside a reference run, which is made once.
+#[derive(Drop)]
+pub struct Batch<A: Allocator + Copy> {
+    reference: Reference<A>,
+    frames: Frames<A>,
+}
+
+impl<A: Allocator + Copy> Model for Batch<A> {
+    ghost use Rattle.std.specs.Prelude.{length};
+    ghost use Rattle.step_model.specs.Targets.{difference, target_at};
+    ghost use Rattle.batch.specs.Batches.{Followed};
+
+    ghost Value = { Followed };
+
+    ghost view = { λ b. record { reference = b.reference; flips = b.frames.flips; qubits = length b.frames.letters; room = b.frames.room } };
+}
+
+impl<A: Allocator + Copy> Batch<A> {
+    /// Makes the reference run, and takes the memory for all batches of the program.
+    pub fn new(alloc: A, program: &Program<'_, A>) -> Result<Self, Fault>
+        ensures ok { IfOk result (IsBatchOf program.now) }
+        ensures err { IfErr result (λ fault. fault ≡ memory_fault) }
+    {
+        let reference = Reference::of(alloc, program)?;
+        match start(alloc, program) {
+            Ok(frames) => Ok(Batch { reference, frames }),
+            Err(_) => Err(Fault::MEMORY),
+        }
+    }
+
+    /// Follows 64 runs from the start: `faults` says in a word for each fault in which of them it happens, and `coins`
+    /// has a word of coins for each collapse. A word that isn't there is 0. Takes no memory.
+    pub fn follow(&mut self, program: &Program<'_, A>, faults: &[u64], coins: &[u64])
+        requires { IsBatchOf program.now self.old }
+        ensures runs { AreRuns program.now faults.now coins.now self.new }
+        ensures reference { self.new.reference ≡ self.old.reference }
+        ensures batch { IsBatchOf program.now self.new }
+    {
+        self.frames.restart();
+        follow_steps(&mut self.frames, program, &self.reference, faults, coins);
+    }
+
+    /// The reference run's records: in it no fault happens and all coins are 0.
+    pub fn reference(&self) -> &Records<A>
+        ensures { result.now ≡ self.now.reference.records }
+    {
+        self.reference.records()
+    }
+
+    /// A record of a run.
+    pub fn record(&self, shot: u32, index: usize) -> bool
+        requires shot { shot < 64 }
+        requires index { index < length self.now.reference.records }
+        ensures { result ≡ slice_index_or (shot_records shot self.now) index false }
+    {
+        bit(self.records_word(index), shot)
+    }
+
+    /// A record of all runs, in lanes.
+    pub fn records_word(&self, index: usize) -> u64
+        requires { index < length self.now.reference.records }
+        ensures { (j : ℕ) → j < 64 → lane_bit j result ≡ slice_index_or (shot_records j self.now) index false }
+    {
+        let value = self.reference.records().get(index);
+        xor(self.frames.flips(index), spread(value))
+    }
+
+    /// In which of the runs, in lanes, the parity of a target differs from that in the reference run: the detectors come
+    /// first, and then the observables.
+    pub fn detections_word(&self, program: &Program<'_, A>, number: usize) -> u64
+        requires { number < length program.now.detectors + length program.now.observables }
+        ensures { (j : ℕ) → lane_bit j result ≡ slice_index_or (difference program.now (shot_records j self.now) self.now.reference.records) number false }
+    {
+        self.frames.parity(target(program, number))
+    }
+}
+
+// The records that a detector or an observable names.
+fn target<'b, A: Allocator + Copy>(program: &'b Program<'_, A>, number: usize) -> &'b [u32]
+    requires { number < length program.now.detectors + length program.now.observables }
+    ensures { result.now ≡ target_at program.now number }
+{
+    program.well_formed();
+    let detectors = program.detector_count();
+    if number < detectors {
+        program.detector(number)
+    } else {
+        program.observable(number - detectors)
+    }
+}
+
+// Memory for the frames of a program.
+fn start<A: Allocator + Copy>(alloc: A, program: &Program<'_, A>) -> Result<Frames<A>, AllocError>
+    ensures qubits { IfOk result (λ f. length f.letters ≡ program.now.qubits) }
+    ensures room { IfOk result (λ f. f.room ≡ program.now.records) }
+{
+    Frames::start(
+        alloc,
+        program.qubits() as usize,
+        program.record_count() as usize,
+    )
+}

@@ -1,0 +1,59 @@
+ghost use Rattle.std.specs.Prelude.{◌≡◌, ℕ, List, length};
+ghost use Rattle.forward_sim.specs.References.{IsReferenceOf};
+ghost use Rattle.lanes.specs.Lanes.{lane};
+ghost use Rattle.programs.specs.Listed.{listed};
+ghost use Rattle.run_laws.specs.Shifts.{flipped_by};
+ghost use Rattle.step_model.specs.Runs.{records_of};
+ghost use Rattle.step_model.specs.Sensitivities.{is_collapse};
+ghost use Rattle.step_model.specs.declared.step.Term.{Term};
+ghost use Rattle.batch.specs.Batches.{AreAtStart};
+
+use crate::frames::Frames;
+use crate::steps::{take_step, word_at};
+use forward_sim::Reference;
+use programs::{Program, Step, Walk};
+use std::alloc::Allocator;
+
+/// Takes the frames of 64 runs over all steps of a program.
+pub(crate) fn follow_steps<A: Allocator + Copy>(
+    frames: &mut Frames<A>,
+    program: &Program<'_, A>,
+    reference: &Reference<A>,
+    faults: &[u64],
+    coins: &[u64],
+)
+    requires reference { IsReferenceOf program.now reference.now }
+    requires qubits { length frames.old.letters ≡ program.now.qubits }
+    requires room { frames.old.room ≡ program.now.records }
+    requires start { AreAtStart frames.old }
+    ensures qubits { length frames.new.letters ≡ length frames.old.letters }
+    ensures room { frames.new.room ≡ frames.old.room }
+    ensures runs { (j : ℕ) → flipped_by (lane j frames.new.flips) reference.now.records ≡ records_of program.now (lane j faults.now) (lane j coins.now) }
+{
+    program.well_formed();
+    let _collapses = reference.collapse_count();
+    let mut walk = Walk::start(program);
+    let mut collapse = 0;
+    while let Some(step) = walk.next_step() {
+        if is_collapse(step) {
+            let replaced = reference.replaced(collapse);
+            take_step(
+                frames,
+                program,
+                faults,
+                replaced,
+                word_at(coins, collapse),
+                step,
+            );
+            collapse += 1;
+        } else {
+            take_step(frames, program, faults, None, 0, step);
+        }
+    }
+}
+
+fn is_collapse(step: Step) -> bool
+    ensures { (n : ℕ) (products : List (List Term)) → result ≡ is_collapse (listed n products step) }
+{
+    matches!(step, Step::Collapse { .. } | Step::CollapseWord { .. })
+}

@@ -1,0 +1,10 @@
+//! Runs of a program, 64 side by side, followed beside one reference run by their Pauli frames.
+#![tactic(auto)]
+
+mod batch;
+mod follow;
+mod frames;
+mod letters;
+mod steps;
+
+pub use batch::Batch;
