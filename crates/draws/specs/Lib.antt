@@ -1,1 +1,4 @@
+pub mod BoundRuns
 pub mod Drawn
+pub mod LaneDraws
+pub mod SideBySide

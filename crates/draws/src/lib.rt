@@ -1,8 +1,12 @@
 //! Drawn shots of a program: which of its faults happen, and which coins its collapses take.
 #![tactic(auto)]
 
+mod lane_draws;
+mod runs;
 mod shot;
+mod shots;
 #[cfg(test)]
 mod tests;
 
 pub use shot::Shot;
+pub use shots::Shots;

@@ -1,0 +1,104 @@
+// Shots drawn into the lanes of words.
+ghost use Rattle.std.specs.Prelude.{◌≡◌, ◌==◌, ◌||◌, ℕ, ◌+◌, ◌-◌, ◌<◌, ◌≤◌, nat_lt, if◌then◌else◌, length};
+ghost use Rattle.lanes.specs.Lanes.{lane_bit};
+ghost use Rattle.draws.specs.BoundRuns.{bounds_in};
+ghost use Rattle.draws.specs.Drawn.{after_words, word_at};
+ghost use Rattle.draws.specs.LaneDraws.{DrawsInto, coin_hits, fault_hits};
+ghost use Rattle.draws.specs.SideBySide.{AreDrawn, after_shots};
+
+use crate::runs::BoundRun;
+use lanes::with_bit;
+use rand_core::utils::NextWord;
+use rand_pcg::Pcg64;
+
+pub(crate) fn draw_lanes(
+    faults: &mut [u64],
+    coins: &mut [u64],
+    runs: &[BoundRun],
+    count: u32,
+    rng: &mut Pcg64,
+)
+    requires faults { length faults.old ≡ length (bounds_in runs.now) }
+    requires count { count ≤ 64 }
+    ensures drawn { AreDrawn (bounds_in runs.now) (length coins.old) count rng.old faults.new coins.new }
+    ensures taken { rng.new ≡ after_shots (length (bounds_in runs.now)) (length coins.old) count rng.old }
+{
+    faults.fill(0);
+    coins.fill(0);
+    for lane in 0..count {
+        draw_faults(faults, runs, lane, rng);
+        draw_coins(coins, lane, rng);
+    }
+}
+
+// A fault happens where its word is below its bound.
+fn draw_faults(faults: &mut [u64], runs: &[BoundRun], lane: u32, rng: &mut Pcg64)
+    requires faults { length faults.old ≡ length (bounds_in runs.now) }
+    requires lane { lane < 64 }
+    ensures drawn { DrawsInto lane 0 (length (bounds_in runs.now)) (fault_hits (bounds_in runs.now) rng.old) faults.old faults.new }
+    ensures taken { rng.new ≡ after_words (length (bounds_in runs.now)) rng.old }
+{
+    let mut start = 0;
+    for r in 0..runs.len() {
+        let end = start + runs[r].count;
+        draw_run(faults, start, end, runs[r].bound, lane, rng);
+        start = end;
+    }
+}
+
+// The same of faults of one bound.
+fn draw_run(faults: &mut [u64], start: usize, end: usize, bound: u128, lane: u32, rng: &mut Pcg64)
+    requires order { start ≤ end }
+    requires within { end ≤ length faults.old }
+    requires lane { lane < 64 }
+    ensures drawn { DrawsInto lane start end (λ f. nat_lt (word_at rng.old (f - start)) bound) faults.old faults.new }
+    ensures taken { rng.new ≡ after_words (end - start) rng.old }
+{
+    for f in start..end {
+        let word = u128::from(rng.next_word());
+        strike(faults, f, lane, word < bound);
+    }
+}
+
+// Hits are rare, so a word is written only where there is one.
+#[inline(always)]
+fn strike(faults: &mut [u64], f: usize, lane: u32, hit: bool)
+    requires within { f < length faults.old }
+    requires lane { lane < 64 }
+    ensures { DrawsInto lane f (f + 1) (λ _. hit) faults.old faults.new }
+{
+    if hit {
+        faults[f] = with_bit(faults[f], lane);
+    }
+}
+
+// A coin is its word's lowest bit.
+fn draw_coins(coins: &mut [u64], lane: u32, rng: &mut Pcg64)
+    requires { lane < 64 }
+    ensures drawn { DrawsInto lane 0 (length coins.old) (coin_hits rng.old) coins.old coins.new }
+    ensures taken { rng.new ≡ after_words (length coins.old) rng.old }
+{
+    for c in 0..coins.len() {
+        let coin = rng.next_word() % 2 == 1;
+        toss(coins, c, lane, coin);
+    }
+}
+
+#[inline(always)]
+fn toss(coins: &mut [u64], c: usize, lane: u32, coin: bool)
+    requires within { c < length coins.old }
+    requires lane { lane < 64 }
+    ensures { DrawsInto lane c (c + 1) (λ _. coin) coins.old coins.new }
+{
+    coins[c] = with_coin(coins[c], lane, coin);
+}
+
+// Coins are as often 1 as not, so no branch is taken on them.
+#[inline(always)]
+fn with_coin(word: u64, lane: u32, coin: bool) -> u64
+    requires { lane < 64 }
+    ensures { (j : ℕ) → lane_bit j result ≡ (if j == lane then (coin || lane_bit j word) else lane_bit j word) }
+{
+    let heads = with_bit(word, lane);
+    if coin { heads } else { word }
+}

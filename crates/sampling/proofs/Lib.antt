@@ -1,0 +1,5 @@
+pub mod Beginnings
+pub mod LineLemmas
+pub mod PushLemmas
+pub mod ShownLemmas
+pub mod TextLemmas

@@ -1,0 +1,86 @@
+-- The lines of shots, batch after batch.
+use Rattle.std.proofs.Common.{◌≡◌, ℕ, zero, suc, ◌+◌, ◌*◌, ◌<◌, ◌≤◌, List, [], ◌∷◌, ◌++◌, length, refl, sym, ap, ap₂, ◌∙◌, arith}
+use Rattle.std.specs.List.{flat_map, range_with_len}
+use Rattle.std.proofs.Math.Nat.{add-mul}
+use Rattle.std.proofs.lemmas.Grind.{flat_map-append}
+use Rattle.std.proofs.lemmas.List.{length-map}
+use Rattle.rand_pcg.specs.Lcg.{Lcg}
+use Rattle.step_model.specs.Listing.{Listing, ListedFault}
+use Rattle.lanes.specs.Lanes.{lane}
+use Rattle.draws.specs.Drawn.{after_words, bounds_of, drawn_coins, drawn_faults}
+use Rattle.draws.specs.SideBySide.{AreDrawn, after_shots}
+use Rattle.draws.proofs.WordLemmas.{after_words-add}
+use Rattle.sampling.specs.LaneLines.{lane_line, lane_lines}
+use Rattle.sampling.specs.Lines.{line_of}
+use Rattle.sampling.specs.Sampled.{lines_from, shot_generator}
+use Rattle.sampling.specs.Shown.{ShownOf, shown_line}
+
+-- so many numbers, and then so many more
+range-append : (a m n : ℕ) → range_with_len a (m + n) ≡ range_with_len a m ++ range_with_len (a + m) n
+range-append a zero n =
+    let start : a ≡ a + 0 = omega arith in
+    let count : 0 + n ≡ n = omega arith in
+    ap (range_with_len a) count ∙ ap (λ b. range_with_len b n) start
+range-append a (suc m) n =
+    let count : suc m + n ≡ suc (m + n) = omega arith in
+    let start : a + 1 + m ≡ a + suc m = omega arith in
+    ap (range_with_len a) count
+    ∙ ap (λ xs. a ∷ xs) (range-append (a + 1) m n ∙ ap (λ b. range_with_len (a + 1) m ++ range_with_len b n) start)
+
+-- texts by numbers from elsewhere on
+texts_moved : (f h : ℕ → List ℕ) (done k n : ℕ) → ((j : ℕ) → k ≤ j → j < k + n → f (done + j) ≡ h j)
+    → flat_map f (range_with_len (done + k) n) ≡ flat_map h (range_with_len k n)
+texts_moved f h done k zero same = refl
+texts_moved f h done k (suc n) same =
+    let next : done + k + 1 ≡ done + (k + 1) = omega arith in
+    ap₂ (λ text texts. text ++ texts)
+    (same k (omega arith) (omega arith))
+    (ap (λ a. flat_map f (range_with_len a n)) next
+    ∙ texts_moved f h done (k + 1) n (λ j low high. same j (omega (arith, low)) (omega (arith, high))))
+
+-- shots after shots
+pub shots_after : (faults collapses done j : ℕ) (g : Lcg)
+    → after_shots faults collapses j (after_shots faults collapses done g) ≡ after_shots faults collapses (done + j) g
+shots_after faults collapses done j g =
+    sym (after_words-add (done * (faults + collapses)) (j * (faults + collapses)) g)
+    ∙ ap (λ n. after_words n g) (sym (add-mul done j (faults + collapses)))
+
+-- the lines so far, and those of a batch
+pub lines_joined : (line : Listing → Lcg → List ℕ) (program : Listing) (done count : ℕ) (g : Lcg)
+    → lines_from line program done g ++ lines_from line program count (shot_generator program g done) ≡ lines_from line program (done + count) g
+lines_joined line program done count g =
+    let f : ℕ → List ℕ = λ k. line program (shot_generator program g k) in
+    let later : ℕ → List ℕ = λ k. line program (shot_generator program (shot_generator program g done) k) in
+    let start : 0 + done ≡ done + 0 = omega arith in
+    sym (ap (flat_map f) (range-append 0 done count)
+    ∙ (flat_map-append f (range_with_len 0 done) (range_with_len (0 + done) count)
+    ∙ ap (λ texts. lines_from line program done g ++ texts)
+    (ap (λ a. flat_map f (range_with_len a count)) start
+    ∙ texts_moved f later done 0 count
+    (λ j low high. ap (line program) (sym (shots_after (length program.faults) program.collapses done j g))))))
+
+pub no_lines : (line : Listing → Lcg → List ℕ) (program : Listing) (g : Lcg) → lines_from line program 0 g ≡ []
+no_lines line program g = refl
+
+-- the lines of a batch are those of its lanes
+pub batch_lines : (line : Listing → Lcg → List ℕ) (program : Listing) (count : ℕ) (g : Lcg) (words : List ℕ)
+    → ((j : ℕ) → j < count → line program (shot_generator program g j) ≡ lane_line words j)
+    → lane_lines words count ≡ lines_from line program count g
+batch_lines line program count g words same =
+    sym (texts_moved (λ k. line program (shot_generator program g k)) (lane_line words) 0 0 count
+    (λ j low high.
+    let here : 0 + j ≡ j = omega arith in
+    ap (λ k. line program (shot_generator program g k)) here ∙ same j (omega (arith, high))))
+
+-- the line of a shot that was drawn into a lane and run
+pub drawn_line : (shown : ShownOf) (program : Listing) (count j : ℕ) (g : Lcg) (faults coins words : List ℕ) → count ≤ 64 → j < count
+    → AreDrawn (bounds_of program) program.collapses count g faults coins
+    → ((i : ℕ) → i < 64 → lane i words ≡ shown program (lane i faults) (lane i coins))
+    → shown_line shown program (shot_generator program g j) ≡ lane_line words j
+drawn_line shown program count j g faults coins words few below drawn runs =
+    let n : length (bounds_of program) ≡ length program.faults = length-map program.faults (λ (fault : ListedFault). fault.bound) in
+    ap line_of
+    (ap₂ (shown program)
+    (ap (λ m. drawn_faults (bounds_of program) (after_shots m program.collapses j g)) (sym n) ∙ sym (drawn.faults j below))
+    (ap (λ m. drawn_coins program.collapses (after_words m (after_shots m program.collapses j g))) (sym n) ∙ sym (drawn.coins j below))
+    ∙ sym (runs j (omega (arith, few, below))))

@@ -1,0 +1,61 @@
+-- Drawn, run and written.
+use Rattle.std.proofs.Common.{◌≡◌, ◌+◌, length, sym, ap, ap₂, subst, ◌∙◌}
+use Rattle.std.proofs.lemmas.List.{length-map}
+use Rattle.step_model.specs.Listing.{ListedFault}
+use Rattle.draws.specs.Drawn.{bounds_of}
+use Rattle.draws.specs.SideBySide.{AreDrawn, after_shots}
+use Rattle.lanes.specs.Lanes.{lane}
+use Rattle.pieces.specs.Pushed.{Pushes}
+use Rattle.sampling.specs.LaneLines.{lane_lines}
+use Rattle.sampling.specs.Sampled.{lines_from}
+use Rattle.sampling.specs.Shown.{shown_line}
+use Rattle.sampling.proofs.TextLemmas.{batch_lines, drawn_line}
+use Rattle.sampling.proofs.batches.push_batch.Goals as goal
+
+pub run-requires : goal.run-requires
+run-requires g c =
+    let program = g.S.SideRuns.program c.args.runs.now in
+    let drawn = c.draw.ensures.drawn in
+    record {
+      faults =
+          ap length c.faults.ensures
+          ∙ (drawn.fault_count
+          ∙ (ap length c.requires.bounds ∙ length-map program.faults (λ (fault : ListedFault). fault.bound)));
+      coins = ap length c.coins.ensures ∙ (drawn.coin_count ∙ c.requires.coins);
+    }
+
+pub push_lines-requires : goal.push_lines-requires
+push_lines-requires g c =
+    record {
+      room = c.requires.line ∙ ap (λ n. n + 1) (sym c.run.ensures.size ∙ sym (ap length c.words.ensures));
+      count = c.requires.count;
+    }
+
+pub returns : goal.returns
+returns g c =
+    let program = g.S.SideRuns.program c.args.runs.now in
+    let shown = g.S.SideRuns.shown in
+    let words = g.S.SideRuns.lane_words c.run.new.self in
+    let rng = c.args.rng.now in
+    let count = c.args.count in
+    let faults = c.draw.new.self.faults in
+    let coins = c.draw.new.self.coins in
+    let bounds = c.args.drawn.now.bounds in
+    let n : length bounds ≡ length program.faults = ap length c.requires.bounds ∙ length-map program.faults (λ (fault : ListedFault). fault.bound) in
+    let drawn : AreDrawn (bounds_of program) program.collapses count rng faults coins =
+    subst (λ bs. AreDrawn bs program.collapses count rng faults coins) c.requires.bounds
+    (subst (λ m. AreDrawn bounds m count rng faults coins) c.requires.coins c.draw.ensures.drawn) in
+    let text : lane_lines c.words.result.now count ≡ lines_from (shown_line shown) program count rng =
+    ap (λ ws. lane_lines ws count) c.words.ensures
+    ∙ batch_lines (shown_line shown) program count rng words
+    (λ j below.
+    drawn_line shown program count j rng faults coins words c.requires.count below drawn
+    (λ i lane_below. c.run.ensures.shown i lane_below ∙ ap₂ (λ fs cs. shown program (lane i fs) (lane i cs)) c.faults.ensures c.coins.ensures)) in
+    record {
+      lines = subst (λ bytes. Pushes g.W.Sink.taken g.W.Sink.failures c.args.sink.now c.push_lines.new.sink c.args.out.now c.push_lines.new.out bytes) text c.push_lines.ensures.lines;
+      taken = c.draw.ensures.taken ∙ ap₂ (λ a b. after_shots a b count rng) n c.requires.coins;
+      program = c.run.ensures.program;
+      bounds = c.draw.ensures.bounds ∙ c.requires.bounds;
+      coins = c.draw.ensures.drawn.coin_count ∙ c.requires.coins;
+      line = c.push_lines.ensures.room ∙ (c.requires.line ∙ ap (λ n. n + 1) (sym c.run.ensures.size));
+    }

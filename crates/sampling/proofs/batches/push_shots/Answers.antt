@@ -1,0 +1,95 @@
+-- Batch after batch.
+use Rattle.std.proofs.Common.{◌≡◌, ◌+◌, ◌-◌, ◌++◌, length, refl, sym, ap, ap₂, subst, ◌∙◌, arith}
+use Rattle.step_model.specs.Listing.{Listing}
+use Rattle.pieces.specs.Pushed.{Pushes}
+use Rattle.pieces.proofs.Pushing.{Pushes-nil, Pushes-trans}
+use Rattle.draws.specs.Drawn.{bounds_of}
+use Rattle.draws.proofs.SideLemmas.{none_taken}
+use Rattle.sampling.specs.Sampled.{lines_from, shot_generator}
+use Rattle.sampling.specs.Shown.{shown_line}
+use Rattle.sampling.proofs.PushLemmas.{Pushes-failed}
+use Rattle.sampling.proofs.TextLemmas.{lines_joined, shots_after}
+use Rattle.sampling.proofs.batches.push_shots.Goals as goal
+
+pub loop-left-init : goal.loop-left-init
+loop-left-init g c =
+    let program = g.S.SideRuns.program c.args.runs.now in
+    let rng = c.args.rng.now in
+    let none : c.args.shots - c.args.shots ≡ 0 = omega arith in
+    record {
+      within = omega arith;
+      same = refl;
+      bounds = c.requires.bounds;
+      coins = c.requires.coins;
+      line = c.requires.line;
+      lines =
+          subst (λ n. Pushes g.W.Sink.taken g.W.Sink.failures c.args.sink.now c.args.sink.now c.args.out.now c.args.out.now (lines_from (shown_line g.S.SideRuns.shown) program n rng))
+          (sym none) Pushes-nil;
+      taken = sym (ap (shot_generator program rng) none ∙ none_taken (length program.faults) program.collapses rng);
+    }
+
+pub overflow_sub-left : goal.overflow_sub-left
+overflow_sub-left g c = omega (arith, c.from-left.ensures, c.next_count-count.ensures.within)
+
+pub push_batch-requires : goal.push_batch-requires
+push_batch-requires g c =
+    let at = c.loop-left.invariant in
+    record {
+      bounds = at.bounds ∙ ap bounds_of (sym at.same);
+      coins = at.coins ∙ ap (λ (p : Listing). p.collapses) (sym at.same);
+      line = at.line;
+      count = c.next_count-count.ensures.few;
+    }
+
+pub loop-left-preserved : goal.loop-left-preserved
+loop-left-preserved g c =
+    let line = shown_line g.S.SideRuns.shown in
+    let program = g.S.SideRuns.program c.args.runs.now in
+    let rng = c.args.rng.now in
+    let at = c.loop-left.invariant in
+    let batch = c.push_batch.ensures in
+    let size = c.next_count-count.ensures in
+    let count = c.next_count-count.result in
+    let done = c.args.shots - c.loop-left.left in
+    let left = c.loop-left.left - c.from-left.result in
+    let whole : done + count ≡ c.args.shots - left = omega (arith, size.within, at.within, c.from-left.ensures) in
+    let text : lines_from line program done rng ++ lines_from line (g.S.SideRuns.program c.loop-left.runs) count c.loop-left.rng ≡ lines_from line program (c.args.shots - left) rng =
+    ap₂ (λ p r. lines_from line program done rng ++ lines_from line p count r) at.same at.taken
+    ∙ (lines_joined line program done count rng
+    ∙ ap (λ n. lines_from line program n rng) whole) in
+    record {
+      within = omega (arith, at.within);
+      same = batch.program ∙ at.same;
+      bounds = batch.bounds ∙ ap bounds_of at.same;
+      coins = batch.coins ∙ ap (λ (p : Listing). p.collapses) at.same;
+      line = batch.line;
+      lines =
+          subst (λ bytes. Pushes g.W.Sink.taken g.W.Sink.failures c.args.sink.now c.push_batch.new.sink c.args.out.now c.push_batch.new.out bytes) text
+          (Pushes-trans at.lines batch.lines);
+      taken =
+          batch.taken
+          ∙ (ap₂ (λ p r. shot_generator p r count) at.same at.taken
+          ∙ (shots_after (length program.faults) program.collapses done count rng
+          ∙ ap (shot_generator program rng) whole));
+    }
+
+pub returns : goal.returns
+returns g c =
+    let all : c.args.shots - c.loop-left.left ≡ c.args.shots = omega arith in
+    subst (λ n. Pushes g.W.Sink.taken g.W.Sink.failures c.args.sink.now c.loop-left.sink c.args.out.now c.loop-left.out (lines_from (shown_line g.S.SideRuns.shown) (g.S.SideRuns.program c.args.runs.now) n c.args.rng.now))
+    all c.loop-left.invariant.lines
+
+-- what is left out changes nothing any more
+pub returns-then-has_failed : goal.returns-then-has_failed
+returns-then-has_failed g c =
+    let line = shown_line g.S.SideRuns.shown in
+    let program = g.S.SideRuns.program c.args.runs.now in
+    let rng = c.args.rng.now in
+    let at = c.loop-left.invariant in
+    let left = c.loop-left.left in
+    let done = c.args.shots - left in
+    let whole : done + left ≡ c.args.shots = omega (arith, at.within) in
+    let rest = lines_from line program left (shot_generator program rng done) in
+    subst (λ bytes. Pushes g.W.Sink.taken g.W.Sink.failures c.args.sink.now c.loop-left.sink c.args.out.now c.loop-left.out bytes)
+    (lines_joined line program done left rng ∙ ap (λ n. lines_from line program n rng) whole)
+    (Pushes-trans at.lines (Pushes-failed rest (sym c.has_failed.ensures ∙ c.if-has_failed.true)))

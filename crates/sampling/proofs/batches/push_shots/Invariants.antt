@@ -1,0 +1,23 @@
+use Rattle.std.proofs.Common.{◌≡◌, ◌+◌, ◌-◌, ◌≤◌, length}
+use Rattle.pieces.specs.Pushed.{Pushes}
+use Rattle.draws.specs.Drawn.{bounds_of}
+use Rattle.sampling.specs.Sampled.{lines_from, shot_generator}
+use Rattle.sampling.specs.Shown.{shown_line}
+use Rattle.sampling.proofs.batches.push_shots.Given as goal
+
+-- the lines of the shots so far were pushed, and the generator stands at the next one
+abbrev pub invariant-loop-left : goal.invariant-loop-left
+invariant-loop-left g l =
+    let program = g.S.SideRuns.program l.fn.runs in
+    record {
+      within : l.left ≤ l.shots;
+      same : g.S.SideRuns.program l.runs ≡ program;
+      bounds : l.drawn.bounds ≡ bounds_of program;
+      coins : length l.drawn.coins ≡ program.collapses;
+      line : length l.line ≡ length (g.S.SideRuns.lane_words l.runs) + 1;
+      lines : Pushes g.W.Sink.taken g.W.Sink.failures l.fn.sink l.sink l.fn.out l.out (lines_from (shown_line g.S.SideRuns.shown) program (l.shots - l.left) l.fn.rng);
+      taken : l.rng ≡ shot_generator program l.fn.rng (l.shots - l.left);
+    }
+
+abbrev pub decreases-loop-left : goal.decreases-loop-left
+decreases-loop-left g l = l.left

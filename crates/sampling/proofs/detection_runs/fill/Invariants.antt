@@ -1,0 +1,13 @@
+use Rattle.std.proofs.Common.{◌≡◌, ℕ, ◌<◌, false, length, get_or}
+use Rattle.lanes.specs.Lanes.{lane_bit}
+use Rattle.step_model.specs.Targets.{difference}
+use Rattle.batch.specs.Batches.{shot_records}
+use Rattle.sampling.proofs.detection_runs.fill.Given as goal
+
+-- the words so far are filled
+abbrev pub invariant-loop-index : goal.invariant-loop-index
+invariant-loop-index g l =
+    record {
+      size : length l.words ≡ length l.fn.words;
+      filled : (i : ℕ) → i < l.index → (j : ℕ) → lane_bit j (get_or l.words i 0) ≡ get_or (difference l.program (shot_records j l.batch) l.batch.reference.records) i false;
+    }

@@ -1,0 +1,45 @@
+-- The runs' records fill the words.
+use Rattle.std.proofs.Common.{◌≡◌, ℕ, ◌<◌, [], false, length, get_or, sym, ap, ◌∙◌, arith}
+use Rattle.lanes.specs.Lanes.{lane}
+use Rattle.step_model.specs.Frames.{zero_coins}
+use Rattle.step_model.specs.Runs.{records_of}
+use Rattle.forward_sim.proofs.RunRecords.{length-records_of}
+use Rattle.sampling.specs.ShownRuns.{ShownRuns}
+use Rattle.sampling.proofs.ShownLemmas.{lane_shows, rewritten}
+use Rattle.sampling.proofs.record_runs.RecordRunsSideRuns.run.Goals as goal
+
+pub fill-requires : goal.fill-requires
+fill-requires g c =
+    let program = c.self.inside.program.now in
+    ap length c.deref_mut.ensures.value
+    ∙ (c.self.invariant.1
+    ∙ sym (ap length c.follow.ensures.batch.reference.records ∙ length-records_of program [] (zero_coins program) c.well_formed-2.ensures))
+
+pub invariant_of-self : goal.invariant_of-self
+invariant_of-self g c = (
+  c.follow.ensures.batch,
+  ap length (rewritten _ c.fill.new.words _ (c.fill.ensures.size ∙ c.deref_mut.ensures.len))
+      ∙ (c.fill.ensures.size ∙ (ap length c.deref_mut.ensures.value ∙ c.self.invariant.1)),
+)
+
+pub returns-clause-size : goal.returns-clause-size
+returns-clause-size g c =
+    ap length (rewritten _ c.fill.new.words _ (c.fill.ensures.size ∙ c.deref_mut.ensures.len))
+    ∙ (c.fill.ensures.size ∙ (ap length c.deref_mut.ensures.value ∙ ap (λ (s : ShownRuns). length s.words) c.self.view_is))
+
+pub returns-clause-shown : goal.returns-clause-shown
+returns-clause-shown g c j below =
+    let program = c.self.inside.program.now in
+    let words = c.fill.new.words in
+    let faults = lane j c.args.faults.now in
+    let coins = lane j c.args.coins.now in
+    let size : length words ≡ length (records_of program faults coins) =
+    c.fill.ensures.size
+    ∙ (ap length c.deref_mut.ensures.value
+    ∙ (c.self.invariant.1 ∙ sym (length-records_of program faults coins c.well_formed-2.ensures))) in
+    ap (lane j) (rewritten _ words _ (c.fill.ensures.size ∙ c.deref_mut.ensures.len))
+    ∙ (lane_shows j words (records_of program faults coins) size
+    (λ i within.
+    c.fill.ensures.filled i (omega (arith, within, c.fill.ensures.size)) j below
+    ∙ ap (λ rs. get_or rs i false) (c.follow.ensures.runs j))
+    ∙ ap (λ (s : ShownRuns). records_of s.program faults coins) c.self.view_is)

@@ -1,0 +1,27 @@
+-- Word by word.
+use Rattle.std.proofs.Common.{◌≡◌, ℕ, ◌<◌, false, length, get_or, length-set, refl, ◌∙◌, arith}
+use Rattle.lanes.specs.Lanes.{lane_bit}
+use Rattle.batch.specs.Batches.{shot_records}
+use Rattle.sampling.proofs.ShownLemmas.{filled_more}
+use Rattle.sampling.proofs.record_runs.fill.Goals as goal
+
+pub loop-index-init : goal.loop-index-init
+loop-index-init g c = record { size = refl; filled = λ i below. absurd (omega arith) }
+
+pub records_word-requires : goal.records_word-requires
+records_word-requires g c = omega (arith, c.loop-index.invariant.size, c.requires)
+
+pub loop-index-preserved : goal.loop-index-preserved
+loop-index-preserved g c =
+    record {
+      size = length-set _ _ _ ∙ c.loop-index.invariant.size;
+      filled = filled_more (λ i w. (j : ℕ) → j < 64 → lane_bit j w ≡ get_or (shot_records j c.args.batch.now) i false) c.loop-index.words c.loop-index.index c.records_word.result
+          (omega (arith, c.loop-index.invariant.size)) c.loop-index.invariant.filled c.records_word.ensures;
+    }
+
+pub returns : goal.returns
+returns g c =
+    record {
+      size = c.loop-index.invariant.size;
+      filled = λ i below. c.loop-index.invariant.filled i (omega (arith, below));
+    }

@@ -1,0 +1,5 @@
+pub mod LaneLines
+pub mod Lines
+pub mod Sampled
+pub mod Shown
+pub mod ShownRuns

@@ -1,0 +1,103 @@
+//! Shots drawn, run and written, 64 at a time.
+ghost use Rattle.std.specs.Prelude.{◌≡◌, ◌+◌, ◌<◌, ◌≤◌, length, IfErr, OnOk, OnErr};
+ghost use Rattle.pieces.specs.Pushed.{Pushes};
+ghost use Rattle.step_model.specs.Ends.{Takes, TakesBeginning, write_failures};
+ghost use Rattle.step_model.specs.Faults.{write_fault};
+ghost use Rattle.draws.specs.Drawn.{bounds_of};
+ghost use Rattle.sampling.specs.Sampled.{lines_from, shot_generator, shots_text};
+ghost use Rattle.sampling.specs.Shown.{shown_line};
+
+use crate::lines::push_lines;
+use crate::side_runs::SideRuns;
+use draws::Shots;
+use pieces::Pieces;
+use rand_core::SeedableRng;
+use rand_pcg::Pcg64;
+use std::alloc::Allocator;
+use step_model::{Fault, Sink};
+
+/// Writes the lines of so many shots of a seed. `line` has room for one. It takes no memory, and fails only where the sink
+/// fails; a beginning of the text has then gone out, and the sink is not called again.
+pub fn write_shots<S: SideRuns, W: Sink, A: Allocator + Copy>(
+    drawn: &mut Shots<A>,
+    runs: &mut S,
+    line: &mut [u8],
+    shots: u64,
+    seed: u64,
+    sink: &mut W,
+) -> Result<(), Fault>
+    requires bounds { drawn.old.bounds ≡ bounds_of (S.program runs.old) }
+    requires coins { length drawn.old.coins ≡ (S.program runs.old).collapses }
+    requires line { length line.old ≡ length (S.lane_words runs.old) + 1 }
+    ensures all { OnOk result (Takes (W.taken sink.old) (W.taken sink.new) (shots_text (shown_line S.shown) shots seed (S.program runs.old))) }
+    ensures fault { IfErr result (λ e. e ≡ write_fault) }
+    ensures beginning { OnErr result (TakesBeginning (W.taken sink.old) (W.taken sink.new) (shots_text (shown_line S.shown) shots seed (S.program runs.old))) }
+    ensures count { W.failures sink.new ≡ write_failures result (W.failures sink.old) }
+{
+    let mut rng = Pcg64::seed_from_u64(seed);
+    let mut out = Pieces::new();
+    push_shots(&mut out, sink, drawn, runs, line, shots, &mut rng);
+    out.finish(sink)
+}
+
+fn push_shots<S: SideRuns, W: Sink, A: Allocator + Copy>(
+    out: &mut Pieces,
+    sink: &mut W,
+    drawn: &mut Shots<A>,
+    runs: &mut S,
+    line: &mut [u8],
+    shots: u64,
+    rng: &mut Pcg64,
+)
+    requires bounds { drawn.old.bounds ≡ bounds_of (S.program runs.old) }
+    requires coins { length drawn.old.coins ≡ (S.program runs.old).collapses }
+    requires line { length line.old ≡ length (S.lane_words runs.old) + 1 }
+    ensures { Pushes W.taken W.failures sink.old sink.new out.old out.new (lines_from (shown_line S.shown) (S.program runs.old) shots rng.old) }
+{
+    let mut left = shots;
+    while left > 0 {
+        // Nothing more goes out.
+        if out.has_failed() {
+            return;
+        }
+        let count = next_count(left);
+        push_batch(out, sink, drawn, runs, line, count, rng);
+        left -= u64::from(count);
+    }
+}
+
+// How many shots go into the next batch: the last one may be shorter.
+fn next_count(left: u64) -> u32
+    requires { 0 < left }
+    ensures some { 0 < result }
+    ensures few { result ≤ 64 }
+    ensures within { result ≤ left }
+{
+    if left < 64 { left as u32 } else { 64 }
+}
+
+// The lines of one batch.
+fn push_batch<S: SideRuns, W: Sink, A: Allocator + Copy>(
+    out: &mut Pieces,
+    sink: &mut W,
+    drawn: &mut Shots<A>,
+    runs: &mut S,
+    line: &mut [u8],
+    count: u32,
+    rng: &mut Pcg64,
+)
+    requires bounds { drawn.old.bounds ≡ bounds_of (S.program runs.old) }
+    requires coins { length drawn.old.coins ≡ (S.program runs.old).collapses }
+    requires line { length line.old ≡ length (S.lane_words runs.old) + 1 }
+    requires count { count ≤ 64 }
+    ensures lines { Pushes W.taken W.failures sink.old sink.new out.old out.new (lines_from (shown_line S.shown) (S.program runs.old) count rng.old) }
+    ensures taken { rng.new ≡ shot_generator (S.program runs.old) rng.old count }
+    ensures program { S.program runs.new ≡ S.program runs.old }
+    ensures bounds { drawn.new.bounds ≡ bounds_of (S.program runs.old) }
+    ensures coins { length drawn.new.coins ≡ (S.program runs.old).collapses }
+    ensures line { length line.new ≡ length (S.lane_words runs.new) + 1 }
+{
+    drawn.draw(count, rng);
+    runs.run(drawn.faults(), drawn.coins());
+    push_lines(out, sink, line, runs.words(), count);
+}

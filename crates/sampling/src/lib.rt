@@ -1,0 +1,13 @@
+//! Drawn shots of a program, run and written: their records, or how their targets differ from those of the reference run.
+#![tactic(auto)]
+
+mod batches;
+mod detection_runs;
+mod lines;
+mod orders;
+mod record_runs;
+mod side_runs;
+
+pub use batches::write_shots;
+pub use orders::{detect, sample};
+pub use side_runs::SideRuns;

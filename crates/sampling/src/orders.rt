@@ -1,0 +1,69 @@
+//! The records of drawn shots, or their detections.
+ghost use Rattle.std.specs.Prelude.{◌≡◌, ◌⊎◌, ◌+◌, length, replicate, IfOk, IfErr, OnOk, OnErr};
+ghost use Rattle.step_model.specs.Ends.{Takes, TakesSome, write_failures};
+ghost use Rattle.step_model.specs.Faults.{memory_fault, write_fault};
+ghost use Rattle.sampling.specs.Sampled.{detection_line, record_line, shots_text};
+
+use crate::batches::write_shots;
+use crate::detection_runs::DetectionRuns;
+use crate::record_runs::RecordRuns;
+use crate::side_runs::SideRuns;
+use draws::Shots;
+use programs::Program;
+use std::alloc::Allocator;
+use step_model::{Fault, Sink};
+
+/// Writes a line for each of so many shots of a seed: a digit for each record. All memory is taken before the first line
+/// goes out, and it doesn't grow with the shots.
+pub fn sample<W: Sink, A: Allocator + Copy>(
+    alloc: A,
+    program: &Program<'_, A>,
+    shots: u64,
+    seed: u64,
+    sink: &mut W,
+) -> Result<(), Fault>
+    ensures written { OnOk result (Takes (W.taken sink.old) (W.taken sink.new) (shots_text record_line shots seed program.now)) }
+    ensures fault { IfErr result (λ e. (e ≡ memory_fault) ⊎ (e ≡ write_fault)) }
+    ensures writes { W.failures sink.new ≡ write_failures result (W.failures sink.old) }
+    ensures beginning { OnErr result (TakesSome (W.taken sink.old) (W.taken sink.new) (shots_text record_line shots seed program.now)) }
+{
+    let mut drawn = Shots::new(alloc, program)?;
+    let mut runs = RecordRuns::new(alloc, program)?;
+    let mut line = room_for(alloc, runs.words())?;
+    write_shots(&mut drawn, &mut runs, &mut line, shots, seed, sink)
+}
+
+/// Writes a line for each of so many shots of a seed: a digit for each detector and then for each observable, whether its
+/// parity differs from that in the run without faults whose coins are all 0. All memory is taken before the first line
+/// goes out, and it doesn't grow with the shots.
+pub fn detect<W: Sink, A: Allocator + Copy>(
+    alloc: A,
+    program: &Program<'_, A>,
+    shots: u64,
+    seed: u64,
+    sink: &mut W,
+) -> Result<(), Fault>
+    ensures written { OnOk result (Takes (W.taken sink.old) (W.taken sink.new) (shots_text detection_line shots seed program.now)) }
+    ensures fault { IfErr result (λ e. (e ≡ memory_fault) ⊎ (e ≡ write_fault)) }
+    ensures writes { W.failures sink.new ≡ write_failures result (W.failures sink.old) }
+    ensures beginning { OnErr result (TakesSome (W.taken sink.old) (W.taken sink.new) (shots_text detection_line shots seed program.now)) }
+{
+    let mut drawn = Shots::new(alloc, program)?;
+    let mut runs = DetectionRuns::new(alloc, program)?;
+    let mut line = room_for(alloc, runs.words())?;
+    write_shots(&mut drawn, &mut runs, &mut line, shots, seed, sink)
+}
+
+// A line with a digit for each of these words, and its line feed.
+fn room_for<A: Allocator + Copy>(alloc: A, words: &[u64]) -> Result<Vec<u8, A>, Fault>
+    ensures ok { IfOk result (λ line. length line.items ≡ length words.now + 1) }
+    ensures err { IfErr result (λ e. e ≡ memory_fault) }
+{
+    let Ok(mut line) = vec![in alloc; b'0'; words.len()] else {
+        return Err(Fault::MEMORY);
+    };
+    if line.push(b'\n').is_err() {
+        return Err(Fault::MEMORY);
+    }
+    Ok(line)
+}
