@@ -4,7 +4,7 @@ mod JudgeLemmas
 mod CheckLemmas
 mod FlatLemmas
 mod FitLemmas
-mod TreeLemmas
+pub mod TreeLemmas
 mod TextLemmas
 mod PassLemmas
 mod LineCountLemmas
@@ -15,8 +15,8 @@ mod FrontLemmas
 mod ShiftLemmas
 mod PlaceLemmas
 mod CountLemmas
-mod FlipLemmas
-mod NumberLemmas
+pub mod FlipLemmas
+pub mod NumberLemmas
 mod MarkLemmas
 mod BuildLemmas
 mod ReadLemmas

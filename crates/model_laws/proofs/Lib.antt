@@ -1,0 +1,14 @@
+mod CutLemmas
+mod WordLemmas
+mod NumberLemmas
+mod AcceptedLemmas
+mod InstructionTexts
+mod LineCutLemmas
+mod LineReadLemmas
+mod TextReadLemmas
+mod ModelInstructions
+mod StandLemmas
+mod AscendingLemmas
+mod MeaningLemmas
+mod ReadModelLemmas
+pub mod ProgramLemmas

@@ -1,0 +1,155 @@
+-- The line of an instruction that fits is read as that instruction.
+use Rattle.std.proofs.Common.{◌≡◌, ℕ, ◌==◌, ◌<◌, true, false, List, [], ◌∷◌, ◌++◌, map, Some, decimal, refl, ap, ap₂, ◌∙◌, append-nil, arith}
+use Rattle.std.specs.List.{list_any, list_all, onto_first, slice_split}
+use Rattle.std.proofs.lemmas.Bool.{and_parts, false≢true, ltb-false, or_from, or_parts}
+use Rattle.stim_lexer.specs.Bytes.{after_blanks, is_blank, is_empty}
+use Rattle.stim_parser.specs.Arguments.{arguments_in, is_comma, trimmed}
+use Rattle.stim_parser.specs.Numbers.{greatest_number}
+use Rattle.stim_parser.specs.Pieces.{ends_here, ends_piece, is_star, pieces_of}
+use Rattle.stim_parser.specs.Targets.{each_of}
+use Rattle.dem_parser.specs.declared.operation.Operation.{Operation}
+use Rattle.dem_parser.specs.declared.operation.Operation.TheVariants.{Errs, Detects, Observes, Shifts}
+use Rattle.dem_parser.specs.declared.target.Target.{Target}
+use Rattle.dem_parser.specs.declared.target.Target.TheVariants.{Plain, Detector, Observable, Separator}
+use Rattle.dem_parser.specs.Fitting.{Fits}
+use Rattle.dem_parser.specs.Instructions.{keyword_named}
+use Rattle.dem_parser.specs.Limits.{has_target_beyond, is_target_beyond}
+use Rattle.dem_parser.specs.Targets.{target_of, targets_in}
+use Rattle.dem_parser.specs.Verdicts.{Takes, judged, reading_of, refusal_of}
+use Rattle.model_laws.proofs.CutLemmas.{none-where, slice_split-alone, slice_split-first}
+use Rattle.model_laws.proofs.InstructionTexts.{inside, instruction, more_arguments, target_word, target_words}
+use Rattle.model_laws.proofs.LineCutLemmas.{AreTargetWords, AreWords, line_cut}
+use Rattle.model_laws.proofs.NumberLemmas.{decimal_is_word, number_of-decimal}
+use Rattle.model_laws.proofs.WordLemmas.{after_blanks-word, is_word, is_word_byte, no_blank, no_end_of_piece, other_byte, trimmed-space, trimmed-word, word_bytes}
+
+-- ---- arguments
+
+no_comma : (a : List ℕ) → is_word a ≡ true → list_any is_comma a ≡ false
+no_comma a h = none-where is_comma is_word_byte a (λ b w. other_byte 44 b refl w) (word_bytes a h)
+
+parts_found : (x : List ℕ) (arguments : List (List ℕ)) → list_any is_comma x ≡ false → AreWords arguments → slice_split is_comma (x ++ more_arguments arguments) ≡ x ∷ map (λ a. 32 ∷ a) arguments
+parts_found x [] h k = ap (slice_split is_comma) (append-nil x) ∙ slice_split-alone is_comma x h
+parts_found x (a ∷ arguments) h k =
+    slice_split-first is_comma x 44 (32 ∷ (a ++ more_arguments arguments)) h refl
+    ∙ ap (λ ps. x ∷ ps) (parts_found (32 ∷ a) arguments (or_from (32 == 44) (list_any is_comma a) refl (no_comma a k.0)) k.1)
+
+all_trimmed : (arguments : List (List ℕ)) → AreWords arguments → map trimmed (map (λ a. 32 ∷ a) arguments) ≡ arguments
+all_trimmed [] k = refl
+all_trimmed (a ∷ arguments) k = ap₂ (λ x xs. x ∷ xs) (trimmed-space a k.0) (all_trimmed arguments k.1)
+
+word_some : (w text : List ℕ) → is_word w ≡ true → is_empty (w ++ text) ≡ false
+word_some [] text h = absurd (false≢true h)
+word_some (b ∷ w) text h = refl
+
+pub arguments_read : (arguments : List (List ℕ)) → AreWords arguments → arguments_in (inside arguments) ≡ arguments
+unfolding arguments_in
+arguments_read [] k = refl
+arguments_read (a ∷ arguments) k =
+    let some : is_empty (after_blanks (a ++ more_arguments arguments)) ≡ false =
+    ap is_empty (after_blanks-word a (more_arguments arguments) k.0) ∙ word_some a (more_arguments arguments) k.0 in
+    rw (some, parts_found a arguments (no_comma a k.0) k.1) (ap₂ (λ x xs. x ∷ xs) (trimmed-word a k.0) (all_trimmed arguments k.1))
+
+-- ---- targets
+
+word_piece : (b : ℕ) (w rest : List ℕ) → is_word_byte b ≡ true → list_all is_word_byte w ≡ true → ends_here rest ≡ true → pieces_of (b ∷ (w ++ rest)) ≡ (b ∷ w) ∷ pieces_of rest
+unfolding pieces_of
+word_piece b [] rest h k e =
+    let blank : is_blank b ≡ false = no_blank b h in
+    let star : is_star b ≡ false = other_byte 42 b refl h in rw (blank, star, e) refl
+word_piece b (c ∷ w) rest h k e =
+    let blank : is_blank b ≡ false = no_blank b h in
+    let star : is_star b ≡ false = other_byte 42 b refl h in
+    let parts = and_parts (is_word_byte c) (list_all is_word_byte w) k in
+    let on : ends_piece c ≡ false = no_end_of_piece c parts.0 in
+    rw (blank, star, on) (ap (onto_first b) (word_piece c w rest parts.0 parts.1 e))
+
+first_piece : (w rest : List ℕ) → is_word w ≡ true → ends_here rest ≡ true → pieces_of (w ++ rest) ≡ w ∷ pieces_of rest
+first_piece [] rest h e = absurd (false≢true h)
+first_piece (b ∷ w) rest h e =
+    let parts = and_parts (is_word_byte b) (list_all is_word_byte w) h in word_piece b w rest parts.0 parts.1 e
+
+words_end : (targets : List Target) → ends_here (target_words targets) ≡ true
+words_end [] = refl
+words_end (t ∷ targets) = refl
+
+pieces_found : (targets : List Target) → AreTargetWords targets → pieces_of (target_words targets) ≡ map target_word targets
+unfolding pieces_of
+pieces_found [] k = refl
+pieces_found (t ∷ targets) k =
+    first_piece (target_word t) (target_words targets) k.0 (words_end targets) ∙ ap (λ ps. target_word t ∷ ps) (pieces_found targets k.1)
+
+detector_below : (d : ℕ) → is_target_beyond (Detector d) ≡ false → d < 1_000_000_000_000_000_000
+detector_below d h = omega (arith, ltb-false 999_999 d h)
+
+observable_below : (k : ℕ) → is_target_beyond (Observable k) ≡ false → k < 1_000_000_000_000_000_000
+observable_below k h = omega (arith, ltb-false 1023 k h)
+
+number_below : (n : ℕ) → is_target_beyond (Plain n) ≡ false → n < 1_000_000_000_000_000_000
+number_below n h = omega (arith, ltb-false greatest_number n h)
+
+target_read : (t : Target) → is_target_beyond t ≡ false → target_of (target_word t) ≡ Some t
+unfolding target_of
+target_read (Plain n) h = rw (number_of-decimal n (number_below n h)) refl
+target_read (Detector d) h = rw (number_of-decimal d (detector_below d h)) refl
+target_read (Observable k) h = rw (number_of-decimal k (observable_below k h)) refl
+target_read Separator h = refl
+
+target_is_word : (t : Target) → is_target_beyond t ≡ false → is_word (target_word t) ≡ true
+target_is_word (Plain n) h = decimal_is_word n (number_below n h)
+target_is_word (Detector d) h = word_bytes (decimal d) (decimal_is_word d (detector_below d h))
+target_is_word (Observable k) h = word_bytes (decimal k) (decimal_is_word k (observable_below k h))
+target_is_word Separator h = refl
+
+all_are_words : (targets : List Target) → list_any is_target_beyond targets ≡ false → AreTargetWords targets
+all_are_words [] h = tt
+all_are_words (t ∷ targets) h =
+    let parts = or_parts (is_target_beyond t) (list_any is_target_beyond targets) h in
+    (target_is_word t parts.0, all_are_words targets parts.1)
+
+each_read : (targets : List Target) → list_any is_target_beyond targets ≡ false → each_of target_of (map target_word targets) ≡ Some targets
+each_read [] h = refl
+each_read (t ∷ targets) h =
+    let parts = or_parts (is_target_beyond t) (list_any is_target_beyond targets) h in
+    rw (target_read t parts.0, each_read targets parts.1) refl
+
+pub targets_are_words : (targets : List Target) → has_target_beyond targets ≡ false → AreTargetWords targets
+unfolding has_target_beyond
+targets_are_words targets h = all_are_words targets h
+
+pub targets_read : (targets : List Target) → has_target_beyond targets ≡ false → targets_in (target_words targets) ≡ Some targets
+unfolding targets_in has_target_beyond
+targets_read targets h = ap (each_of target_of) (pieces_found targets (all_are_words targets h)) ∙ each_read targets h
+
+-- ---- the line
+
+pub reading_found : (number : ℕ) (o : Operation) (arguments : List (List ℕ)) (targets : List Target) → AreWords arguments → Fits (instruction number o arguments targets)
+    → reading_of 0 number (line_cut o arguments targets) ≡ Takes (instruction number o arguments targets)
+unfolding reading_of judged refusal_of keyword_named
+reading_found number Errs arguments targets words fits =
+    let count = fits.arguments in
+    let probability = fits.probability in
+    let coordinates = fits.arguments_within in
+    let form = fits.targets in
+    let within = fits.targets_within in
+    rw (arguments_read arguments words, targets_read targets within, count, probability, coordinates, form, within) refl
+reading_found number Detects arguments targets words fits =
+    let count = fits.arguments in
+    let probability = fits.probability in
+    let coordinates = fits.arguments_within in
+    let form = fits.targets in
+    let within = fits.targets_within in
+    rw (arguments_read arguments words, targets_read targets within, count, probability, coordinates, form, within) refl
+reading_found number Observes arguments targets words fits =
+    let count = fits.arguments in
+    let probability = fits.probability in
+    let coordinates = fits.arguments_within in
+    let form = fits.targets in
+    let within = fits.targets_within in
+    rw (arguments_read arguments words, targets_read targets within, count, probability, coordinates, form, within) refl
+reading_found number Shifts arguments targets words fits =
+    let count = fits.arguments in
+    let probability = fits.probability in
+    let coordinates = fits.arguments_within in
+    let form = fits.targets in
+    let within = fits.targets_within in
+    rw (arguments_read arguments words, targets_read targets within, count, probability, coordinates, form, within) refl
