@@ -6,6 +6,7 @@ use Rattle.std.specs.Prelude.{None, Ok, List}
 use Rattle.std.proofs.lemmas.Option.{none-some}
 use Rattle.backward.specs.Places.{NoneIsRandom, IsLowestRandom}
 use Rattle.dem_text.specs.ModelText.{model_text}
+use Rattle.model_laws.proofs.ProgramLemmas.{hits_read_back}
 use Rattle.unroll.specs.Programs.{program_in}
 use Rattle.step_model.specs.ErrorModels.{ErrorModel}
 use Rattle.run_laws.proofs.Exactness.{model_fits, model_is_exact}
@@ -37,6 +38,7 @@ exact_in program well none =
       faults = hitting_faults program;
       model = model_of program;
       written = refl;
+      reads = hits_read_back program well;
       fits = model_fits program;
       exact = model_is_exact program well none;
       none_random = λ d inside random. not_random program d well (none d inside) random;

@@ -1,7 +1,7 @@
 -- What an analysis promises of the bytes that it writes for a text. Where it is done, they are the text of an error model
--- that fits the program for which the text stands, and that is exact: for every set of its faults and any two coin
--- lists, the detectors and observables that differ between the faulty run under the first and the noiseless run under
--- the second are the exclusive sum of those faults' targets in the model. So no target is random.
+-- and read as that model. It fits the program for which the text stands, and is exact: for every set of its faults and
+-- any two coin lists, the detectors and observables that differ between the faulty run under the first and the noiseless
+-- run under the second are the exclusive sum of those faults' targets in the model. So no target is random.
 -- Where it names a random target, it gives two coin lists under which the noiseless runs differ in that target, and no
 -- lower target is random, detectors being lower than observables.
 -- (Detectors, observables and their error models are Stim's, github.com/quantumlib/Stim; the promise is this project's own.)
@@ -10,14 +10,16 @@ use Rattle.step_model.specs.ErrorModels.{ErrorModel, Fits, IsExact}
 use Rattle.step_model.specs.Listing.{Listing}
 use Rattle.step_model.specs.Targets.{targets_of, noiseless_parity, AreCoins, IsRandom}
 use Rattle.dem_text.specs.ModelText.{model_text, target_text}
+use Rattle.dem_parser.specs.Models.{model_in}
 use Rattle.unroll.specs.Programs.{program_in}
 use Rattle.engine.specs.Output.{line_of}
 
--- the bytes are the text of a model of the program that is exact
+-- the bytes are the text of a model of the program that is exact, and read as that model
 pub record IsExactIn (program : Listing) (bytes : List ℕ) : Type 0 where
   pub faults : List ℕ
   pub model : ErrorModel
   pub written : bytes ≡ model_text model
+  pub reads : model_in bytes ≡ Ok model
   pub fits : Fits program faults model
   pub exact : IsExact program faults model
   pub none_random : (d : ℕ) → d < length (targets_of program) → IsRandom program d → ⊥

@@ -1,25 +1,32 @@
--- What is written for an order and a circuit's text, and how that ends, as a function of the two. A refused order writes
--- one line that says why. A run writes the line of its records and the line of how its targets differ from those of the
--- run without faults whose coins are all 0. An analysis writes the program's error model; or, where a target is random,
--- three lines: the lowest random target, and two coin lists that give it different parities in runs without faults.
--- (Stim's result format 01 and detector error model format; the lines of a random target are this project's own.)
+-- What is written for an order and a text, and how that ends, as a function of the two. A refused order writes one line
+-- that says why. A run writes the line of its records and the line of how its targets differ from those of the run without
+-- faults whose coins are all 0. An analysis writes the program's error model; or, where a target is random, three lines: the
+-- lowest random target, and two coin lists that give it different parities in runs without faults. Of these and of the list
+-- of a program's faults the text is a circuit's. A prediction has the text of an error model, and writes the line of the
+-- targets that an odd number of the error lines named flip.
+-- (Stim's result format 01 and detector error model format; the lines of a random target and the list of faults are this
+-- project's own.)
 use Rattle.std.specs.Prelude.{ℕ, Bool, if◌then◌else◌, List, [], ◌∷◌, ◌++◌, length, map, codes, decimal, Option, None, Some, ok_or, Result, Ok, Err}
 use Rattle.std.specs.Option.{option_copied}
 use Rattle.step_model.specs.declared.fault.Fault.{Fault}
 use Rattle.step_model.specs.declared.fault.Cause.TheVariants.{CoinCount, FaultNumber}
 use Rattle.step_model.specs.declared.step.Place.{Place}
 use Rattle.step_model.specs.Faults.{cause_number, without_line}
+use Rattle.step_model.specs.ErrorModels.{ErrorModel}
 use Rattle.step_model.specs.Frames.{zero_coins, pair_coins}
 use Rattle.step_model.specs.HitModels.{model_of}
 use Rattle.step_model.specs.Listing.{Listing}
 use Rattle.step_model.specs.Runs.{records_of}
 use Rattle.step_model.specs.Targets.{difference}
 use Rattle.dem_text.specs.ModelText.{model_text, target_text}
+use Rattle.dem_parser.specs.Models.{model_in}
+use Rattle.dem_parser.specs.Sums.{symptom_of}
+use Rattle.fault_list.specs.FaultLines.{list_text}
 use Rattle.unroll.specs.Programs.{program_in}
 use Rattle.forward_sim.specs.Lists.{coins_of, numbers_of}
 use Rattle.engine.specs.Findings.{lowest_placed}
 use Rattle.engine.specs.declared.order.Order.{Order}
-use Rattle.engine.specs.declared.order.Order.TheVariants.{Run, Analyze}
+use Rattle.engine.specs.declared.order.Order.TheVariants.{Run, Analyze, Faults, Predict}
 use Rattle.engine.specs.declared.order.Status.{Status}
 use Rattle.engine.specs.declared.order.Status.TheVariants.{Done, Refused, Random}
 
@@ -95,16 +102,34 @@ analysis_output text = do
   program ← program_in text
   Ok (found_in program)
 
--- what an order writes for a circuit's text, or why it is refused
+-- what a list of faults writes, or why it is refused
+abbrev pub faults_output : List ℕ → Result Output Fault
+faults_output text = do
+  program ← program_in text
+  Ok (done (list_text program))
+
+-- what a prediction writes for a model, or why it is refused: a list names some of its error lines
+abbrev pub model_prediction : List ℕ → ErrorModel → Result Output Fault
+model_prediction line_text model = do
+  named ← ok_or (numbers_of (length model.lines) line_text) (without_line FaultNumber)
+  Ok (done (line_of (symptom_of model named)))
+
+-- the same of the model that a text writes, where it writes one
+abbrev pub prediction_output : List ℕ → List ℕ → Result Output Fault
+prediction_output line_text text = model_in text >>= model_prediction line_text
+
+-- what an order writes for a text, or why it is refused
 abbrev pub order_output : Order → List ℕ → Result Output Fault
 order_output (Run coins faults) text = run_output (option_copied coins) faults.now text
 order_output Analyze text = analysis_output text
+order_output Faults text = faults_output text
+order_output (Predict lines) text = prediction_output lines.now text
 
 -- where an order is refused, the line that says why is written and nothing else
 abbrev pub refused_or : Result Output Fault → Output
 refused_or (Ok output) = output
 refused_or (Err fault) = refusal fault
 
--- what is written for an order and a circuit's text, and how that ends
+-- what is written for an order and a text, and how that ends
 abbrev pub output_of : Order → List ℕ → Output
 output_of order text = refused_or (order_output order text)

@@ -1,9 +1,11 @@
-//! What is asked of a circuit, served from the bytes of its text to the bytes of the answer.
+//! What is asked of a circuit or of an error model, served from the bytes of its text to the bytes of the answer.
 #![tactic(auto)]
 
 mod analysis;
 mod lines;
+mod listing;
 mod order;
+mod predicting;
 mod refusing;
 mod running;
 mod serving;

@@ -1,4 +1,4 @@
-//! The lines of runs, of random targets and of refusals. Each text is built in one block of memory.
+//! The lines of runs, of random targets, of predictions and of refusals. Each text is built in one block of memory.
 ghost use Rattle.std.specs.Prelude.{◌≡◌, ◌++◌, ◌<◌, ◌∷◌, ◌+◌, codes, length, IfOk, OnOk};
 ghost use Rattle.dem_text.specs.ModelText.{target_text};
 ghost use Rattle.engine.specs.Output.{digit_of, line_of, refusal_line};
@@ -23,6 +23,18 @@ pub(crate) fn run_lines<A: Allocator + Copy>(
     }
     text.push(b'\n')?;
     push_line(&mut text, detections)?;
+    Ok(text)
+}
+
+/// The line of what error lines flip.
+pub(crate) fn symptom_line<A: Allocator + Copy>(
+    alloc: A,
+    flipped: &[bool],
+) -> Result<Vec<u8, A>, AllocError>
+    ensures { IfOk result (λ text. text.items ≡ line_of flipped.now) }
+{
+    let mut text = Vec::with_capacity(alloc, flipped.len().saturating_add(1))?;
+    push_line(&mut text, flipped)?;
     Ok(text)
 }
 

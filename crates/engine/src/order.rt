@@ -1,4 +1,4 @@
-/// What is asked of a circuit.
+/// What is asked of a text: of a circuit, or by `Predict` of an error model.
 #[derive(Clone, Copy, Debug)]
 pub enum Order<'o> {
     /// The records and the detections of one run. The coins are one digit a collapse, all 0 where none are given;
@@ -10,6 +10,13 @@ pub enum Order<'o> {
     /// The error model: for each fault that flips a detector or an observable, which ones. Or a detector or observable
     /// that is random, with two coin lists that show it.
     Analyze,
+    /// The list of the faults, and how many coins a run has.
+    Faults,
+    /// Which detectors and observables the error lines flip together that are given as a list of numbers. Error lines
+    /// are numbered from 0 where they are reached, blocks with all their turns, and other lines have no number.
+    Predict {
+        lines: &'o [u8],
+    },
 }
 
 /// How an order was served: as asked, or by a line that says why not, or by a random target.

@@ -1,4 +1,4 @@
-//! Orders on a circuit, from its bytes to the bytes of the answer.
+//! Orders on a circuit or an error model, from its bytes to the bytes of the answer.
 ghost use Rattle.std.specs.Prelude.{◌≡◌, ◌⊎◌, ℕ, List, [], Some, IfOk, IfErr, IfSome, OnOk, OnErr, OnSome};
 ghost use Rattle.step_model.specs.Ends.{HandsOutSome, IsAtEnd, Takes, TakesSome, read_failures, write_failures};
 ghost use Rattle.step_model.specs.Faults.{memory_fault, read_fault, write_fault};
@@ -8,12 +8,14 @@ ghost use Rattle.engine.specs.Headline.{IsExactFor, IsRandomFor};
 ghost use Rattle.engine.specs.Output.{output_of};
 
 use crate::analysis::answer_analysis;
+use crate::listing::answer_faults;
 use crate::order::{Order, Status};
+use crate::predicting::answer_prediction;
 use crate::running::answer_run;
 use std::alloc::Allocator;
 use step_model::{Fault, Sink, Source, read_all};
 
-/// Reads a circuit to the end of its source, and writes to the sink what the order asks of it, or the one line that
+/// Reads a text to the end of its source, and writes to the sink what the order asks of it, or the one line that
 /// says why it is refused. All memory is had before the first byte is written. A source or a sink that failed isn't
 /// called again.
 pub fn serve<R: Source, W: Sink, A: Allocator + Copy>(
@@ -72,5 +74,7 @@ fn answer<W: Sink, A: Allocator + Copy>(
     match *order {
         Order::Run { coins, faults } => answer_run(alloc, coins, faults, text, sink),
         Order::Analyze => answer_analysis(alloc, text, sink),
+        Order::Faults => answer_faults(alloc, text, sink),
+        Order::Predict { lines } => answer_prediction(alloc, lines, text, sink),
     }
 }

@@ -1,10 +1,11 @@
-//! The program: reads a circuit from standard input, does what its command line asks, and writes to standard output.
+//! The program: reads a circuit or an error model from standard input, does what its command line asks, and writes to standard output.
 //! It ends with status 0 where that is done or help was asked for, with 1 where memory ran out or a stream failed, with 2
-//! where the circuit, what was given beside it or the command line is refused, and with 3 where an analysis names a
+//! where the input, what was given beside it or the command line is refused, and with 3 where an analysis names a
 //! random detector or observable.
 #![tactic(auto)]
 
 mod command_line;
+mod help;
 #[cfg(test)]
 mod tests;
 

@@ -9,10 +9,12 @@ const PAIR: &str = "X_ERROR(0.1) 0\nCX 0 1\nM 0 1\n";
 
 const DETECTED: &str = "X_ERROR(0.1) 0\nM 0\nDETECTOR rec[-1]\n";
 
+const MODEL: &str = "error(0.1) D0 L0\nerror(0.2) D1 L0\n";
+
 /// What a command line writes for an input, and how it ends.
 #[test]
 fn words_to_bytes_and_status(rt: HostRuntime) -> Result<(), Fail> {
-    let table: [(&[&str], &str, &str, u8); 24] = [
+    let table: [(&[&str], &str, &str, u8); 42] = [
         (&["run"], PAIR, "00\n\n", 0),
         (&["run", "--faults", "0"], PAIR, "11\n\n", 0),
         (&["run", "--faults=0"], PAIR, "11\n\n", 0),
@@ -44,6 +46,44 @@ fn words_to_bytes_and_status(rt: HostRuntime) -> Result<(), Fail> {
         (&["run", "--faults", "0"], DETECTED, "1\n1\n", 0),
         (&["analyze"], DETECTED, "error(0.1) D0\ndetector D0\n", 0),
         (&["analyze"], "", "", 0),
+        (&["faults"], PAIR, "0 0.1 X0\ncoins 2\n", 0),
+        (&["faults"], "", "coins 0\n", 0),
+        (&["faults"], "M 0\nFOO\n", "refused 11 line 2\n", 2),
+        (&["predict"], MODEL, "000\n", 0),
+        (&["predict"], "", "\n", 0),
+        (&["predict", "--lines", ""], MODEL, "000\n", 0),
+        (&["predict", "--lines", "0"], MODEL, "101\n", 0),
+        (&["predict", "--lines=1,0"], MODEL, "110\n", 0),
+        (
+            &["predict", "--lines", "2"],
+            MODEL,
+            "refused 51 line 0\n",
+            2,
+        ),
+        (
+            &["predict", "--lines", "0,0"],
+            MODEL,
+            "refused 51 line 0\n",
+            2,
+        ),
+        (&["predict"], DETECTED, "refused 40 line 1\n", 2),
+        (
+            &["predict", "--lines", "0"],
+            "error(2) D0\n",
+            "refused 41 line 1\n",
+            2,
+        ),
+        (&["faults", "--faults", "0"], DETECTED, "usage\n", 2),
+        (&["predict", "--faults", "0"], MODEL, "usage\n", 2),
+        (&["predict", "--lines"], MODEL, "usage\n", 2),
+        (&["predict", "0"], MODEL, "usage\n", 2),
+        (&["faults", "x"], DETECTED, "usage\n", 2),
+        (
+            &["predict", "--lines", "0", "--lines", "0"],
+            MODEL,
+            "usage\n",
+            2,
+        ),
         (&["analyze", "--coins", "0"], DETECTED, "usage\n", 2),
         (&[], DETECTED, "usage\n", 2),
         (&["walk"], DETECTED, "usage\n", 2),
@@ -70,13 +110,20 @@ fn words_to_bytes_and_status(rt: HostRuntime) -> Result<(), Fail> {
 /// Help goes to the output, and its status is 0: of the program, and of each subcommand.
 #[test]
 fn help_is_written(rt: HostRuntime) -> Result<(), Fail> {
-    let table: [(&[&str], &str); 6] = [
+    let table: [(&[&str], &str); 10] = [
         (&["--help"], "Simulates or analyses"),
         (&["--help"], "Exit status: 0 done; 1 memory ran out"),
         (&["run", "--help"], "One digit 0 or 1 for each collapse"),
         (&["run", "--help"], "Example: stabsim run --faults 0 < "),
         (&["analyze", "--help"], "Writes the detector error model"),
         (&["analyze", "--help"], "Example: stabsim analyze < "),
+        (&["faults", "--help"], "Writes the list of the faults"),
+        (&["faults", "--help"], "Example: stabsim faults < "),
+        (&["predict", "--help"], "The numbers of error lines"),
+        (
+            &["predict", "--help"],
+            "Example: stabsim predict --lines 6,16 < ",
+        ),
     ];
     for (words, text) in table {
         let test = TestRuntime::new(rt.alloc(), words, b"");
@@ -90,10 +137,13 @@ fn help_is_written(rt: HostRuntime) -> Result<(), Fail> {
 /// Where the output takes nothing the status is 1, whatever was asked.
 #[test]
 fn a_closed_output_ends_with_1(rt: HostRuntime) {
-    let table: [&[&str]; 5] = [
+    let table: [&[&str]; 8] = [
         &["run"],
         &["analyze"],
+        &["faults"],
+        &["predict"],
         &["run", "--faults", "9"],
+        &["predict", "--help"],
         &["--help"],
         &["walk"],
     ];
