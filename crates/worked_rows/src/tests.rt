@@ -8,6 +8,7 @@ mod lengths;
 mod limits;
 mod lists;
 mod meetings;
+mod model_formats;
 mod rows;
 
 /// Two qubits, and a fault that flips both.

@@ -13,6 +13,18 @@ pub(super) fn run_order<'o>(coins: Option<&'o str>, faults: &'o str) -> Order<'o
     }
 }
 
+/// What the error lines of these numbers flip.
+pub(super) fn predict_order<'o>(lines: &'o str) -> Order<'o> {
+    Order::Predict {
+        lines: lines.as_bytes(),
+    }
+}
+
+/// Each order that a circuit is asked, with nothing given beside it.
+pub(super) fn circuit_orders() -> [Order<'static>; 3] {
+    [run_order(None, ""), Order::Analyze, Order::Faults]
+}
+
 /// What is written for a text, and how that ends.
 pub(super) fn served(
     alloc: Global,
@@ -109,19 +121,45 @@ pub(super) fn check_random(
     Ok(())
 }
 
-/// A text that both orders refuse with this line.
+/// Each row has a text, and the list of faults that is written.
+pub(super) fn check_fault_lists(
+    rt: &impl Abort,
+    alloc: Global,
+    rows: &[(&str, &str)],
+) -> Result<(), Fail> {
+    for (text, output) in rows {
+        check_output(rt, alloc, &Order::Faults, text, output, Status::Done)?;
+    }
+    Ok(())
+}
+
+/// Each row has numbers of error lines, the text of a model, and what `predict` writes, which ends so.
+pub(super) fn check_predictions(
+    rt: &impl Abort,
+    alloc: Global,
+    rows: &[(&str, &str, &str)],
+    status: Status,
+) -> Result<(), Fail> {
+    for (lines, text, output) in rows {
+        check_output(rt, alloc, &predict_order(lines), text, output, status)?;
+    }
+    Ok(())
+}
+
+/// A text that every order on a circuit refuses with this line.
 pub(super) fn check_refusal(
     rt: &impl Abort,
     alloc: Global,
     text: &str,
     line: &str,
 ) -> Result<(), Fail> {
-    let order = run_order(None, "");
-    check_output(rt, alloc, &order, text, line, Status::Refused)?;
-    check_output(rt, alloc, &Order::Analyze, text, line, Status::Refused)
+    for order in circuit_orders() {
+        check_output(rt, alloc, &order, text, line, Status::Refused)?;
+    }
+    Ok(())
 }
 
-/// Each row has a text and the line that both orders refuse it with.
+/// Each row has a text and the line that every order on a circuit refuses it with.
 pub(super) fn check_refused(
     rt: &impl Abort,
     alloc: Global,
@@ -133,16 +171,16 @@ pub(super) fn check_refused(
     Ok(())
 }
 
-/// A text on which both orders are done, whatever they write.
+/// A text on which every order on a circuit is done, whatever it writes.
 pub(super) fn check_taken(rt: &impl Abort, alloc: Global, text: &str) -> Result<(), Fail> {
-    for order in [run_order(None, ""), Order::Analyze] {
+    for order in circuit_orders() {
         let (_, end) = served(alloc, &order, text)?;
         assert_eq!(rt; end, Ok(Status::Done), "{}", text.len());
     }
     Ok(())
 }
 
-/// Texts on which both orders are done.
+/// Texts on which every order on a circuit is done.
 pub(super) fn check_all_taken(rt: &impl Abort, alloc: Global, texts: &[&str]) -> Result<(), Fail> {
     for text in texts {
         check_taken(rt, alloc, text)?;
@@ -208,7 +246,18 @@ pub(super) fn check_model_of(
     )
 }
 
-/// A text of these pieces, which both orders refuse with this line, in pieces too.
+/// The list of faults of a text of these pieces.
+pub(super) fn check_fault_list_of(
+    rt: &impl Abort,
+    alloc: Global,
+    pieces: &[&str],
+    list: &str,
+) -> Result<(), Fail> {
+    let text = joined(alloc, pieces)?;
+    check_output(rt, alloc, &Order::Faults, text.as_str(), list, Status::Done)
+}
+
+/// A text of these pieces, which every order on a circuit refuses with this line, in pieces too.
 pub(super) fn check_refusal_of(
     rt: &impl Abort,
     alloc: Global,
@@ -220,7 +269,7 @@ pub(super) fn check_refusal_of(
     check_refusal(rt, alloc, text.as_str(), line.as_str())
 }
 
-/// A text of these pieces, on which both orders are done.
+/// A text of these pieces, on which every order on a circuit is done.
 pub(super) fn check_taken_of(rt: &impl Abort, alloc: Global, pieces: &[&str]) -> Result<(), Fail> {
     let text = joined(alloc, pieces)?;
     check_taken(rt, alloc, text.as_str())

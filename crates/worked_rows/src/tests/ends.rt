@@ -1,6 +1,5 @@
 //! Sources and sinks that move one byte a call and fail at one of their calls.
 use super::PAIR;
-use super::checks::run_order;
 use engine::{Order, Status, serve};
 use slow_ends::{SlowSink, SlowSource};
 use std::alloc::Global;
@@ -20,53 +19,81 @@ fn served_slowly<'t>(
     (end, source, sink)
 }
 
-/// Runs, analyses and refusals, with their outputs.
-const TABLE: [(Option<&str>, &str, &str); 7] = [
-    (Some("0"), PAIR, "11\n\n"),
+/// A run in which the first fault happens, and one in which the second does.
+const FIRST_FAULT: Order<'static> = Order::Run {
+    coins: None,
+    faults: b"0",
+};
+
+const SECOND_FAULT: Order<'static> = Order::Run {
+    coins: None,
+    faults: b"1",
+};
+
+/// Orders and texts, with their outputs.
+const TABLE: [(Order<'static>, &str, &str); 12] = [
+    (FIRST_FAULT, PAIR, "11\n\n"),
     (
-        Some("1"),
+        SECOND_FAULT,
         "REPEAT 2 { # two\n  E(.1) X0\n  MR 0\n}",
         "01\n\n",
     ),
     (
-        None,
+        Order::Analyze,
         "H 0\nMPP X0*Z1 Z0\nDETECTOR(5) rec[-1]",
         "random D0\n00\n01\n",
     ),
-    (None, "M 0\n\nFOO", "refused 11 line 3\n"),
+    (Order::Analyze, "M 0\n\nFOO", "refused 11 line 3\n"),
     (
-        None,
+        Order::Analyze,
         "X_ERROR(0.5) 0\nM 0\nDETECTOR rec[-1]\n",
         "error(0.5) D0\ndetector D0\n",
     ),
-    (Some("1"), PAIR, "refused 51 line 0\n"),
-    (None, "M 0\nDETECTOR rec[-2]\n", "refused 22 line 2\n"),
+    (SECOND_FAULT, PAIR, "refused 51 line 0\n"),
+    (
+        Order::Analyze,
+        "M 0\nDETECTOR rec[-2]\n",
+        "refused 22 line 2\n",
+    ),
+    (
+        Order::Faults,
+        "E(.1) X0 Z1\nMR(0.2) 0",
+        "0 .1 X0*Z1\n1 0.2 rec[0]\ncoins 1\n",
+    ),
+    (Order::Faults, "MR 0 }", "refused 18 line 1\n"),
+    (
+        Order::Predict { lines: b"1" },
+        "error(0.1) D0\nerror(0.2) D1 L0",
+        "011\n",
+    ),
+    (
+        Order::Predict { lines: b"1" },
+        "error(0.1) D0\n",
+        "refused 51 line 0\n",
+    ),
+    (
+        Order::Predict { lines: b"" },
+        "repeat 2 {\n",
+        "refused 43 line 1\n",
+    ),
 ];
-
-/// A run with these faults, or an analysis.
-fn order_of<'o>(faults: Option<&'o str>) -> Order<'o> {
-    match faults {
-        Some(faults) => run_order(None, faults),
-        None => Order::Analyze,
-    }
-}
 
 #[test]
 fn serves_byte_by_byte(rt: HostRuntime) {
-    for (faults, text, output) in TABLE {
-        let (end, source, sink) = served_slowly(rt.alloc(), &order_of(faults), text, 0, 0);
+    for (order, text, output) in TABLE {
+        let (end, source, sink) = served_slowly(rt.alloc(), &order, text, 0, 0);
         assert!(rt; end.is_ok(), "{text}");
         assert_eq!(rt; sink.bytes(), output.as_bytes(), "{text}");
-        // Each byte of the circuit, and the end.
+        // Each byte of the text, and the end.
         assert_eq!(rt; source.calls(), text.len() as u64 + 1, "{text}");
     }
 }
 
 #[test]
 fn stops_at_a_failed_read(rt: HostRuntime) {
-    for (faults, text, _) in TABLE {
+    for (order, text, _) in TABLE {
         for call in 1..=text.len() as u64 + 1 {
-            let (end, source, sink) = served_slowly(rt.alloc(), &order_of(faults), text, call, 0);
+            let (end, source, sink) = served_slowly(rt.alloc(), &order, text, call, 0);
             assert_eq!(rt; end, Err(Fault::READ));
             assert_eq!(rt; source.calls(), call);
             assert_eq!(rt; source.failures(), 1);
@@ -78,15 +105,9 @@ fn stops_at_a_failed_read(rt: HostRuntime) {
 /// At each call of the sink: what went out is a beginning of the output, and no call follows.
 #[test]
 fn stops_at_a_failed_write(rt: HostRuntime) {
-    for (faults, text, output) in TABLE {
+    for (order, text, output) in TABLE {
         for call in 1..=output.len() {
-            let (end, _source, sink) = served_slowly(
-                rt.alloc(),
-                &order_of(faults),
-                text,
-                0,
-                call as u64,
-            );
+            let (end, _source, sink) = served_slowly(rt.alloc(), &order, text, 0, call as u64);
             assert_eq!(rt; end, Err(Fault::WRITE));
             assert_eq!(rt; sink.bytes(), &output.as_bytes()[..call - 1]);
             assert_eq!(rt; sink.calls(), call as u64);

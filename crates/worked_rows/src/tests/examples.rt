@@ -1,9 +1,9 @@
 //! The circuits of examples/: what is written for each, worked by hand.
 pub(super) mod texts;
 
-use crate::tests::checks::{check_models, check_runs, run_order, served};
+use crate::tests::checks::{check_models, check_predictions, check_runs, served};
 use crate::tests::examples::texts::{
-    BELL_PAIR, FIRST, REPETITION_CODE, RESET, SURFACE_CODE, TELEPORTATION,
+    BELL_PAIR, FIRST, REPETITION_BLOCKS, REPETITION_CODE, RESET, SURFACE_CODE, TELEPORTATION,
 };
 use engine::{Order, Status};
 use std::test::Fail;
@@ -90,6 +90,20 @@ detector(3, 3) D7
 logical_observable L0
 ";
 
+/// Numbers of error lines, and what they flip. In the model of the repetition code each fault has its line, and the blocks
+/// have the same lines.
+const PREDICTIONS: [(&str, &str, &str); 6] = [
+    ("6,16", REPETITION_MODEL, "001100110\n"),
+    ("6,16", REPETITION_BLOCKS, "001100110\n"),
+    // The left qubit in each round, and its final record.
+    ("0,5,10,15", REPETITION_BLOCKS, "101010100\n"),
+    // The same of the right qubit, whose observable cancels.
+    ("2,7,12,17", REPETITION_BLOCKS, "010101010\n"),
+    // A measurement that is wrong shows in two rounds.
+    ("13", REPETITION_BLOCKS, "000010100\n"),
+    ("", REPETITION_BLOCKS, "000000000\n"),
+];
+
 /// Of the second round of the surface code: X of each data qubit, which the stabilizers of letters Z beside it see, D8 to
 /// D11, and the logical Z where the qubit stands in the upper row; then Z of each, which those of letters X see, D4 to D7.
 const SURFACE_ROUND: &str = "
@@ -130,6 +144,11 @@ fn runs(rt: HostRuntime) -> Result<(), Fail> {
 #[test]
 fn models(rt: HostRuntime) -> Result<(), Fail> {
     check_models(&rt, rt.alloc(), &MODELS)
+}
+
+#[test]
+fn predictions(rt: HostRuntime) -> Result<(), Fail> {
+    check_predictions(&rt, rt.alloc(), &PREDICTIONS, Status::Done)
 }
 
 #[test]

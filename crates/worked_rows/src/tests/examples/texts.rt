@@ -221,3 +221,31 @@ DETECTOR(0, 4, 0) rec[-6] rec[-3] rec[-11]
 DETECTOR(4, 4, 0) rec[-5] rec[-4] rec[-2] rec[-1] rec[-10]
 OBSERVABLE_INCLUDE(0) rec[-9] rec[-8] rec[-7]
 ";
+
+/// The error model of the repetition code, with a block.
+pub(crate) const REPETITION_BLOCKS: &str =
+    "# The error model of examples/repetition_code.stim, written with a block: three rounds, and the final measurement.
+#
+#     ./stabsim predict --lines 6,16 < examples/repetition_code.dem
+#
+# Each turn has five error lines, so the lines 5 to 9 are those of the second round, and 15 to 17 the last. Every fault of the
+# circuit flips something, so error line 6 is fault 6 here: X on the middle qubit. Line 16 is the flip of its last record.
+# Together they give the second line of `./stabsim run --faults 6,16 < examples/repetition_code.stim`.
+#
+# The tests have this text too, in crates/worked_rows/src/tests/examples/texts.rt: a change here is a change there.
+repeat 3 {
+    error(0.01) D0
+    error(0.01) D0 D1
+    error(0.01) D1 L0
+    error(0.02) D0 D2
+    error(0.02) D1 D3
+    detector(1, 0) D0
+    detector(3, 0) D1
+    shift_detectors(0, 1) 2
+}
+error(0.03) D0
+error(0.03) D0 D1
+error(0.03) D1 L0
+detector(1, 0) D0
+detector(3, 0) D1
+";

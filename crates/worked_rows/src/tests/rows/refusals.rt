@@ -1,4 +1,4 @@
-//! Refused texts: the line that is written by `run` and by `analyze`.
+//! Refused texts: the line that every order on a circuit writes.
 use crate::tests::checks::check_refused;
 use std::test::Fail;
 

@@ -1,0 +1,138 @@
+//! The texts of error models by which docs/FORMATS.md shows what they say and their refusals.
+use super::checks::{check_output, check_predictions, joined, predict_order, repeated};
+use engine::Status;
+use std::alloc::Global;
+use std::process::Abort;
+use std::test::Fail;
+
+/// Numbers of error lines, a text, and what `predict` writes.
+const SHOWN: [(&str, &str, &str); 3] = [
+    ("0", "error(0.1) D1 D1", "00\n"),
+    (
+        "0,2",
+        "repeat 3 {\n    error(0.1) D0 D1\n    shift_detectors 1\n}\n",
+        "1111\n",
+    ),
+    ("", "error(0.1)\ndetector\nlogical_observable", "\n"),
+];
+
+/// Refusals of a line in the order in which they are asked, those of a whole text, and that of an order.
+const REFUSED: [(&str, &str, &str); 30] = [
+    ("", "error(0.1) é", "refused 10 line 1\n"),
+    ("", "error(0.1) D0 {", "refused 43 line 1\n"),
+    ("", "repeat 2", "refused 43 line 1\n"),
+    ("", "}", "refused 43 line 1\n"),
+    ("", "foo {", "refused 43 line 1\n"),
+    ("", "foo", "refused 40 line 1\n"),
+    ("", "(0.1) D0", "refused 40 line 1\n"),
+    ("", "M 0", "refused 40 line 1\n"),
+    ("", "error[x D0", "refused 41 line 1\n"),
+    ("", "error D0", "refused 41 line 1\n"),
+    ("", "error(2) D0", "refused 41 line 1\n"),
+    ("", "detector(1,,2) D0", "refused 41 line 1\n"),
+    ("", "detector(1.5) D0", "refused 41 line 1\n"),
+    ("", "error(0.1) X0", "refused 42 line 1\n"),
+    ("", "error(0.1) d0", "refused 42 line 1\n"),
+    ("", "error(0.1) D0^D1", "refused 42 line 1\n"),
+    ("", "detector L0", "refused 42 line 1\n"),
+    ("", "shift_detectors", "refused 42 line 1\n"),
+    ("", "repeat 1 2 {", "refused 42 line 1\n"),
+    ("", "detector D1000000", "refused 44 line 1\n"),
+    ("", "logical_observable L1024", "refused 44 line 1\n"),
+    ("", "repeat 1000000000000000000 {", "refused 44 line 1\n"),
+    ("", "repeat 0 {", "refused 45 line 1\n"),
+    ("", "repeat 2 {\nrepeat 3 {", "refused 43 line 2\n"),
+    (
+        "",
+        "repeat 2000001 {\nlogical_observable L0\n}",
+        "refused 47 line 0\n",
+    ),
+    (
+        "",
+        "shift_detectors 999999\nerror(0.1) D1",
+        "refused 44 line 2\n",
+    ),
+    ("0,0", "error(0.1) D0", "refused 51 line 0\n"),
+    // Coordinates are asked where they are reached too.
+    (
+        "",
+        "repeat 2 {\ndetector(1) D0\nshift_detectors(999999999999999999) 1\n}",
+        "refused 44 line 2\n",
+    ),
+    // Both limits of a whole text.
+    (
+        "",
+        "shift_detectors 1000000\ndetector D0\nrepeat 4000001 {\n}",
+        "refused 47 line 0\n",
+    ),
+    ("x", "detector D1000000", "refused 44 line 1\n"),
+];
+
+/// Texts at a limit.
+const WITHIN: [(&str, &str, &str); 3] = [
+    ("", "repeat 2000000 {\nlogical_observable L0\n}", "0\n"),
+    ("", "repeat 4000000 {\n}", "\n"),
+    (
+        "",
+        "shift_detectors(-999999999999999999) 999999999999999999\nlogical_observable L0",
+        "0\n",
+    ),
+];
+
+#[test]
+fn models_are_taken(rt: HostRuntime) -> Result<(), Fail> {
+    check_predictions(&rt, rt.alloc(), &SHOWN, Status::Done)?;
+    check_predictions(&rt, rt.alloc(), &WITHIN, Status::Done)
+}
+
+#[test]
+fn models_are_refused(rt: HostRuntime) -> Result<(), Fail> {
+    check_predictions(&rt, rt.alloc(), &REFUSED, Status::Refused)
+}
+
+/// So many blocks inside one another, and what is written of them.
+fn check_depth(
+    rt: &impl Abort,
+    alloc: Global,
+    depth: usize,
+    output: &str,
+    status: Status,
+) -> Result<(), Fail> {
+    let begin = repeated(alloc, "repeat 1 {\n", depth)?;
+    let end = repeated(alloc, "}\n", depth)?;
+    let text = joined(alloc, &[begin.as_str(), "error(0.5) L0\n", end.as_str()])?;
+    check_output(
+        rt,
+        alloc,
+        &predict_order("0"),
+        text.as_str(),
+        output,
+        status,
+    )
+}
+
+#[test]
+fn blocks_stand_inside_32(rt: HostRuntime) -> Result<(), Fail> {
+    check_depth(&rt, rt.alloc(), 32, "1\n", Status::Done)?;
+    check_depth(&rt, rt.alloc(), 33, "refused 46 line 33\n", Status::Refused)
+}
+
+/// The greatest detector and observable: a line of a million and 1,024 digits.
+#[test]
+fn greatest_targets(rt: HostRuntime) -> Result<(), Fail> {
+    let detectors = repeated(rt.alloc(), "0", 999_999)?;
+    let observables = repeated(rt.alloc(), "0", 1_023)?;
+    let line = joined(
+        rt.alloc(),
+        &[detectors.as_str(), "1", observables.as_str(), "1\n"],
+    )?;
+    let text = "error(0.1) D999999 L1023\n";
+    check_output(
+        &rt,
+        rt.alloc(),
+        &predict_order("0"),
+        text,
+        line.as_str(),
+        Status::Done,
+    )
+}
