@@ -1,0 +1,6 @@
+mod broken;
+mod calls;
+mod devices;
+mod memory;
+mod numbers;
+mod rows;
