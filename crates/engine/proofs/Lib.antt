@@ -1,3 +1,4 @@
+pub mod DrawingLemmas
 pub mod FindingLemmas
 pub mod PlacedLemmas
 pub mod ServingLemmas

@@ -12,7 +12,7 @@ use Rattle.step_model.specs.Targets.{targets_of, noiseless_parity, AreCoins, IsR
 use Rattle.dem_text.specs.ModelText.{model_text, target_text}
 use Rattle.dem_parser.specs.Models.{model_in}
 use Rattle.unroll.specs.Programs.{program_in}
-use Rattle.engine.specs.Output.{line_of}
+use Rattle.sampling.specs.Lines.{line_of}
 
 -- the bytes are the text of a model of the program that is exact, and read as that model
 pub record IsExactIn (program : Listing) (bytes : List ℕ) : Type 0 where

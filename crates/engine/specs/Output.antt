@@ -1,15 +1,16 @@
 -- What is written for an order and a text, and how that ends, as a function of the two. A refused order writes one line
 -- that says why. A run writes the line of its records and the line of how its targets differ from those of the run without
--- faults whose coins are all 0. An analysis writes the program's error model; or, where a target is random, three lines: the
--- lowest random target, and two coin lists that give it different parities in runs without faults. Of these and of the list
--- of a program's faults the text is a circuit's. A prediction has the text of an error model, and writes the line of the
--- targets that an odd number of the error lines named flip.
+-- faults whose coins are all 0; of drawn shots each writes one of these two lines. An analysis writes the program's error
+-- model; or, where a target is random, three lines: the lowest random target, and two coin lists that give it different
+-- parities in runs without faults. Of these and of the list of a program's faults the text is a circuit's. A prediction has
+-- the text of an error model, and writes the line of the targets that an odd number of the error lines named flip.
 -- (Stim's result format 01 and detector error model format; the lines of a random target and the list of faults are this
 -- project's own.)
-use Rattle.std.specs.Prelude.{ℕ, Bool, if◌then◌else◌, List, [], ◌∷◌, ◌++◌, length, map, codes, decimal, Option, None, Some, ok_or, Result, Ok, Err}
+use Rattle.std.specs.Prelude.{ℕ, nat_lt, Bool, if◌then◌else◌, List, [], ◌∷◌, ◌++◌, length, codes, decimal, Option, None, Some, ok_or, Result, Ok, Err}
 use Rattle.std.specs.Option.{option_copied}
+use Rattle.rand_pcg.specs.Lcg.{Lcg}
 use Rattle.step_model.specs.declared.fault.Fault.{Fault}
-use Rattle.step_model.specs.declared.fault.Cause.TheVariants.{CoinCount, FaultNumber}
+use Rattle.step_model.specs.declared.fault.Cause.TheVariants.{CoinCount, FaultNumber, Shots}
 use Rattle.step_model.specs.declared.step.Place.{Place}
 use Rattle.step_model.specs.Faults.{cause_number, without_line}
 use Rattle.step_model.specs.ErrorModels.{ErrorModel}
@@ -22,11 +23,13 @@ use Rattle.dem_text.specs.ModelText.{model_text, target_text}
 use Rattle.dem_parser.specs.Models.{model_in}
 use Rattle.dem_parser.specs.Sums.{symptom_of}
 use Rattle.fault_list.specs.FaultLines.{list_text}
+use Rattle.sampling.specs.Lines.{line_of}
+use Rattle.sampling.specs.Sampled.{detection_line, record_line, shots_text}
 use Rattle.unroll.specs.Programs.{program_in}
 use Rattle.forward_sim.specs.Lists.{coins_of, numbers_of}
 use Rattle.engine.specs.Findings.{lowest_placed}
 use Rattle.engine.specs.declared.order.Order.{Order}
-use Rattle.engine.specs.declared.order.Order.TheVariants.{Run, Analyze, Faults, Predict}
+use Rattle.engine.specs.declared.order.Order.TheVariants.{Run, Analyze, Faults, Predict, Sample, Detect}
 use Rattle.engine.specs.declared.order.Status.{Status}
 use Rattle.engine.specs.declared.order.Status.TheVariants.{Done, Refused, Random}
 
@@ -37,14 +40,6 @@ pub record Output : Type 0 where
 
 abbrev pub done : List ℕ → Output
 done bytes = record { bytes = bytes; status = Done }
-
--- the character 1 or 0
-abbrev pub digit_of : Bool → ℕ
-digit_of value = if value then 49 else 48
-
--- a character for each truth value, and then a line feed
-abbrev pub line_of : List Bool → List ℕ
-line_of values = map digit_of values ++ 10 ∷ []
 
 -- the line that says why an order is refused
 abbrev pub refusal_line : Fault → List ℕ
@@ -118,12 +113,27 @@ model_prediction line_text model = do
 abbrev pub prediction_output : List ℕ → List ℕ → Result Output Fault
 prediction_output line_text text = model_in text >>= model_prediction line_text
 
+-- how many shots may be asked for
+abbrev pub most_shots : ℕ
+most_shots = 1_000_000
+
+-- what shots of a program write, a line of this kind each, or that they are too many
+abbrev pub program_shots : (Listing → Lcg → List ℕ) → ℕ → ℕ → Listing → Result Output Fault
+program_shots line shots seed program =
+    if nat_lt most_shots shots then Err (without_line Shots) else Ok (done (shots_text line shots seed program))
+
+-- the same of the program for which a text stands
+abbrev pub shots_output : (Listing → Lcg → List ℕ) → ℕ → ℕ → List ℕ → Result Output Fault
+shots_output line shots seed text = program_in text >>= program_shots line shots seed
+
 -- what an order writes for a text, or why it is refused
 abbrev pub order_output : Order → List ℕ → Result Output Fault
 order_output (Run coins faults) text = run_output (option_copied coins) faults.now text
 order_output Analyze text = analysis_output text
 order_output Faults text = faults_output text
 order_output (Predict lines) text = prediction_output lines.now text
+order_output (Sample shots seed) text = shots_output record_line shots seed text
+order_output (Detect shots seed) text = shots_output detection_line shots seed text
 
 -- where an order is refused, the line that says why is written and nothing else
 abbrev pub refused_or : Result Output Fault → Output

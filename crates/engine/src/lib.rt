@@ -2,6 +2,7 @@
 #![tactic(auto)]
 
 mod analysis;
+mod drawing;
 mod lines;
 mod listing;
 mod order;

@@ -1,7 +1,8 @@
 //! The lines of runs, of random targets, of predictions and of refusals. Each text is built in one block of memory.
 ghost use Rattle.std.specs.Prelude.{◌≡◌, ◌++◌, ◌<◌, ◌∷◌, ◌+◌, codes, length, IfOk, OnOk};
 ghost use Rattle.dem_text.specs.ModelText.{target_text};
-ghost use Rattle.engine.specs.Output.{digit_of, line_of, refusal_line};
+ghost use Rattle.sampling.specs.Lines.{digit_of, line_of};
+ghost use Rattle.engine.specs.Output.{refusal_line};
 
 use forward_sim::Records;
 use itoa::Buffer;

@@ -1,4 +1,4 @@
-/// What is asked of a text: of a circuit, or by `Predict` of an error model.
+/// What is asked of a text: of a circuit, or by `Predict` of an error model. Of shots 1,000,000 may be asked for.
 #[derive(Clone, Copy, Debug)]
 pub enum Order<'o> {
     /// The records and the detections of one run. The coins are one digit a collapse, all 0 where none are given;
@@ -16,6 +16,17 @@ pub enum Order<'o> {
     /// are numbered from 0 where they are reached, blocks with all their turns, and other lines have no number.
     Predict {
         lines: &'o [u8],
+    },
+    /// The records of so many shots, a line each. In each shot the faults that happen and the coins are drawn by the
+    /// generator that the seed gives.
+    Sample {
+        shots: u64,
+        seed: u64,
+    },
+    /// The detections of the same shots.
+    Detect {
+        shots: u64,
+        seed: u64,
     },
 }
 

@@ -1,5 +1,8 @@
 //! The words of the command line: one subcommand with its options.
-use crate::help::{ABOUT_ANALYSES, ABOUT_ENDS, ABOUT_FAULTS, ABOUT_PREDICTIONS, ABOUT_RUNS};
+use crate::help::{
+    ABOUT_ANALYSES, ABOUT_DETECTIONS, ABOUT_ENDS, ABOUT_FAULTS, ABOUT_PREDICTIONS, ABOUT_RUNS,
+    ABOUT_SAMPLES,
+};
 use clap::{Arg, ArgAction, ArgMatches, Command, Error};
 use engine::Order;
 use std::alloc::{AllocError, Global};
@@ -11,6 +14,8 @@ pub(crate) fn read_words<'a>(alloc: Global, words: &'a [String]) -> Result<ArgMa
         .after_help(ABOUT_ENDS)
         .subcommand_required(true)
         .subcommand(run_command(alloc)?)?
+        .subcommand(sample_command(alloc)?)?
+        .subcommand(detect_command(alloc)?)?
         .subcommand(analyze_command(alloc))?
         .subcommand(faults_command(alloc))?
         .subcommand(predict_command(alloc)?)?
@@ -33,6 +38,31 @@ fn run_command<'a>(alloc: Global) -> Result<Command<'a>, AllocError> {
         .after_help(ABOUT_RUNS)
         .arg(coins)?
         .arg(faults)
+}
+
+fn sample_command<'a>(alloc: Global) -> Result<Command<'a>, AllocError> {
+    let command = Command::new(alloc, "sample")
+        .about("Draws shots and writes the records of each")
+        .after_help(ABOUT_SAMPLES);
+    with_draws(alloc, command)
+}
+
+fn detect_command<'a>(alloc: Global) -> Result<Command<'a>, AllocError> {
+    let command = Command::new(alloc, "detect")
+        .about("Draws shots and writes the detections of each")
+        .after_help(ABOUT_DETECTIONS);
+    with_draws(alloc, command)
+}
+
+/// A subcommand with the options of one that draws shots.
+fn with_draws<'a>(alloc: Global, command: Command<'a>) -> Result<Command<'a>, AllocError> {
+    let shots = option(alloc, "shots", "How many shots, at most 1000000").required(true);
+    let seed = option(
+        alloc,
+        "seed",
+        "The seed of the generator, below 2^64 [default: 0]",
+    );
+    command.arg(shots)?.arg(seed)
 }
 
 fn analyze_command<'a>(alloc: Global) -> Command<'a> {
@@ -69,13 +99,23 @@ fn option<'a>(alloc: Global, name: &'a str, help: &'a str) -> Arg<'a> {
         .help(help)
 }
 
-/// The order that a command line gives, whose texts are handed on as their bytes.
+/// The order that a command line gives, whose texts are handed on as their bytes. None where a number isn't one.
 pub(crate) fn order_of<'a>(matches: &ArgMatches<'a>) -> Option<Order<'a>> {
     match matches.subcommand() {
         Some(("run", given)) => Some(Order::Run {
             coins: given.get_str("coins").map(|text| text.as_bytes()),
             faults: list_in(given, "faults"),
         }),
+        Some(("sample", given)) => {
+            let shots = number_in(given.get_str("shots")?)?;
+            let seed = number_in(given.get_str("seed").unwrap_or("0"))?;
+            Some(Order::Sample { shots, seed })
+        }
+        Some(("detect", given)) => {
+            let shots = number_in(given.get_str("shots")?)?;
+            let seed = number_in(given.get_str("seed").unwrap_or("0"))?;
+            Some(Order::Detect { shots, seed })
+        }
         Some(("analyze", _)) => Some(Order::Analyze),
         Some(("faults", _)) => Some(Order::Faults),
         Some(("predict", given)) => Some(Order::Predict {
@@ -88,4 +128,12 @@ pub(crate) fn order_of<'a>(matches: &ArgMatches<'a>) -> Option<Order<'a>> {
 /// The list of numbers that an option gives, empty where it isn't given.
 fn list_in<'a>(given: &ArgMatches<'a>, name: &str) -> &'a [u8] {
     given.get_str(name).unwrap_or("").as_bytes()
+}
+
+/// The number that a text of digits writes, where it is below 2^64.
+fn number_in(text: &str) -> Option<u64> {
+    if !text.bytes().all(|byte| byte.is_ascii_digit()) {
+        return None;
+    }
+    text.parse().ok()
 }

@@ -25,6 +25,22 @@ Exit status: 0 done; 1 memory ran out or a stream failed; 2 refused; 3 random.
 Example: stabsim analyze < examples/first.stim
 The formats are described in docs/FORMATS.md.";
 
+pub(crate) const ABOUT_SAMPLES: &str =
+    "In: a circuit. Out: a line a shot with one digit a record. In each shot every fault happens by its probability, and every coin is 0 or 1 alike; the same seed draws the same shots.
+
+Exit status: 0 done; 1 memory ran out or a stream failed; 2 refused.
+
+Example: stabsim sample --shots 10 --seed 7 < examples/repetition_code.stim
+The formats are described in docs/FORMATS.md.";
+
+pub(crate) const ABOUT_DETECTIONS: &str =
+    "In: a circuit. Out: a line a shot with one digit a detector and then one an observable, 1 where it differs from the run without faults whose coins are all 0. The shots are those that sample draws by the same seed.
+
+Exit status: 0 done; 1 memory ran out or a stream failed; 2 refused.
+
+Example: stabsim detect --shots 10 --seed 7 < examples/repetition_code.stim
+The formats are described in docs/FORMATS.md.";
+
 pub(crate) const ABOUT_FAULTS: &str =
     "In: a circuit. Out: a line for each fault with its number, its probability and what it does, and a last line with the number of coins of a run.
 

@@ -9,12 +9,14 @@ const PAIR: &str = "X_ERROR(0.1) 0\nCX 0 1\nM 0 1\n";
 
 const DETECTED: &str = "X_ERROR(0.1) 0\nM 0\nDETECTOR rec[-1]\n";
 
+const FLIPPED: &str = "X_ERROR(1) 0\nX_ERROR(0) 1\nM 0 1\nDETECTOR rec[-2]\n";
+
 const MODEL: &str = "error(0.1) D0 L0\nerror(0.2) D1 L0\n";
 
 /// What a command line writes for an input, and how it ends.
 #[test]
 fn words_to_bytes_and_status(rt: HostRuntime) -> Result<(), Fail> {
-    let table: [(&[&str], &str, &str, u8); 42] = [
+    let table: [(&[&str], &str, &str, u8); 66] = [
         (&["run"], PAIR, "00\n\n", 0),
         (&["run", "--faults", "0"], PAIR, "11\n\n", 0),
         (&["run", "--faults=0"], PAIR, "11\n\n", 0),
@@ -46,6 +48,90 @@ fn words_to_bytes_and_status(rt: HostRuntime) -> Result<(), Fail> {
         (&["run", "--faults", "0"], DETECTED, "1\n1\n", 0),
         (&["analyze"], DETECTED, "error(0.1) D0\ndetector D0\n", 0),
         (&["analyze"], "", "", 0),
+        (&["sample", "--shots", "2"], FLIPPED, "10\n10\n", 0),
+        (&["sample", "--shots", "0"], FLIPPED, "", 0),
+        (
+            &["sample", "--shots=002", "--seed=007"],
+            FLIPPED,
+            "10\n10\n",
+            0,
+        ),
+        (
+            &["sample", "--seed", "18446744073709551615", "--shots", "1"],
+            FLIPPED,
+            "10\n",
+            0,
+        ),
+        (&["detect", "--shots", "3"], FLIPPED, "1\n1\n1\n", 0),
+        (
+            &["detect", "--shots", "1", "--seed", "9"],
+            FLIPPED,
+            "1\n",
+            0,
+        ),
+        (
+            &["sample", "--shots", "1000001"],
+            FLIPPED,
+            "refused 52 line 0\n",
+            2,
+        ),
+        (
+            &["detect", "--shots", "18446744073709551615"],
+            FLIPPED,
+            "refused 52 line 0\n",
+            2,
+        ),
+        (
+            &["detect", "--shots", "1"],
+            "M 0\nFOO\n",
+            "refused 11 line 2\n",
+            2,
+        ),
+        (&["sample"], FLIPPED, "usage\n", 2),
+        (&["detect", "--seed", "1"], FLIPPED, "usage\n", 2),
+        (&["sample", "--shots"], FLIPPED, "usage\n", 2),
+        (&["sample", "--shots", ""], FLIPPED, "usage\n", 2),
+        (&["sample", "--shots", "+1"], FLIPPED, "usage\n", 2),
+        (&["sample", "--shots=-1"], FLIPPED, "usage\n", 2),
+        (&["sample", "--shots", "1e3"], FLIPPED, "usage\n", 2),
+        (&["sample", "--shots", " 1"], FLIPPED, "usage\n", 2),
+        (
+            &["sample", "--shots", "18446744073709551616"],
+            FLIPPED,
+            "usage\n",
+            2,
+        ),
+        (&["detect", "--shots", "x"], FLIPPED, "usage\n", 2),
+        (
+            &["sample", "--shots", "1", "--seed", "18446744073709551616"],
+            FLIPPED,
+            "usage\n",
+            2,
+        ),
+        (
+            &["sample", "--shots", "1", "--seed", "x"],
+            FLIPPED,
+            "usage\n",
+            2,
+        ),
+        (
+            &["detect", "--shots", "1", "--seed", ""],
+            FLIPPED,
+            "usage\n",
+            2,
+        ),
+        (
+            &["detect", "--shots", "1", "--shots", "1"],
+            FLIPPED,
+            "usage\n",
+            2,
+        ),
+        (
+            &["sample", "--shots", "1", "--coins", "0"],
+            FLIPPED,
+            "usage\n",
+            2,
+        ),
         (&["faults"], PAIR, "0 0.1 X0\ncoins 2\n", 0),
         (&["faults"], "", "coins 0\n", 0),
         (&["faults"], "M 0\nFOO\n", "refused 11 line 2\n", 2),
@@ -110,13 +196,17 @@ fn words_to_bytes_and_status(rt: HostRuntime) -> Result<(), Fail> {
 /// Help goes to the output, and its status is 0: of the program, and of each subcommand.
 #[test]
 fn help_is_written(rt: HostRuntime) -> Result<(), Fail> {
-    let table: [(&[&str], &str); 10] = [
+    let table: [(&[&str], &str); 14] = [
         (&["--help"], "Simulates or analyses"),
         (&["--help"], "Exit status: 0 done; 1 memory ran out"),
         (&["run", "--help"], "One digit 0 or 1 for each collapse"),
         (&["run", "--help"], "Example: stabsim run --faults 0 < "),
         (&["analyze", "--help"], "Writes the detector error model"),
         (&["analyze", "--help"], "Example: stabsim analyze < "),
+        (&["sample", "--help"], "How many shots, at most 1000000"),
+        (&["sample", "--help"], "Example: stabsim sample --shots 10 "),
+        (&["detect", "--help"], "The seed of the generator"),
+        (&["detect", "--help"], "Example: stabsim detect --shots 10 "),
         (&["faults", "--help"], "Writes the list of the faults"),
         (&["faults", "--help"], "Example: stabsim faults < "),
         (&["predict", "--help"], "The numbers of error lines"),
@@ -137,9 +227,11 @@ fn help_is_written(rt: HostRuntime) -> Result<(), Fail> {
 /// Where the output takes nothing the status is 1, whatever was asked.
 #[test]
 fn a_closed_output_ends_with_1(rt: HostRuntime) {
-    let table: [&[&str]; 8] = [
+    let table: [&[&str]; 10] = [
         &["run"],
         &["analyze"],
+        &["sample", "--shots", "1"],
+        &["detect", "--shots", "1"],
         &["faults"],
         &["predict"],
         &["run", "--faults", "9"],
