@@ -20,7 +20,8 @@ use Rattle.backward.specs.Collapses.{or_where, noted}
 use Rattle.backward.specs.Passes.{sensitivity_before, tracked_before, latest_before, lowest_below}
 use Rattle.backward.specs.Tracked.{Tracked, is_among, anticommuting}
 use Rattle.backward.proofs.PassLines.{anticommuting-before}
-use Rattle.backward.proofs.RangeLemmas.{among_range, All-range}
+use Rattle.step_model.proofs.RangeLemmas.{among_range}
+use Rattle.backward.proofs.RangeLemmas.{All-range}
 use Rattle.backward.proofs.Sensitivities.{length-sensitivity}
 use Rattle.backward.proofs.WordLemmas.{one_term}
 

@@ -1,7 +1,7 @@
-ghost use Rattle.std.specs.Prelude.{◌≡◌, ◌<◌, ◌+◌, ℕ, [], false, length, slice_index_or, IfOk, IfErr};
+ghost use Rattle.std.specs.Prelude.{◌≡◌, ◌<◌, ◌+◌, ℕ, false, length, slice_index_or, IfOk, IfErr};
 ghost use Rattle.lanes.specs.Lanes.{lane_bit};
 ghost use Rattle.step_model.specs.Faults.{memory_fault};
-ghost use Rattle.step_model.specs.Targets.{difference, target_at};
+ghost use Rattle.step_model.specs.Targets.{difference};
 ghost use Rattle.batch.specs.Batches.{AreRuns, IsBatchOf, shot_records};
 
 use crate::follow::follow_steps;
@@ -87,21 +87,7 @@ impl<A: Allocator + Copy> Batch<A> {
         requires { number < length program.now.detectors + length program.now.observables }
         ensures { (j : ℕ) → lane_bit j result ≡ slice_index_or (difference program.now (shot_records j self.now) self.now.reference.records) number false }
     {
-        self.frames.parity(target(program, number))
-    }
-}
-
-// The records that a detector or an observable names.
-fn target<'b, A: Allocator + Copy>(program: &'b Program<'_, A>, number: usize) -> &'b [u32]
-    requires { number < length program.now.detectors + length program.now.observables }
-    ensures { result.now ≡ target_at program.now number }
-{
-    program.well_formed();
-    let detectors = program.detector_count();
-    if number < detectors {
-        program.detector(number)
-    } else {
-        program.observable(number - detectors)
+        self.frames.parity(program.target(number))
     }
 }
 

@@ -1,17 +1,14 @@
-ghost use Rattle.std.specs.Prelude.{◌≡◌, ℕ, List, length};
+ghost use Rattle.std.specs.Prelude.{◌≡◌, ℕ, length};
 ghost use Rattle.forward_sim.specs.References.{IsReferenceOf};
 ghost use Rattle.lanes.specs.Lanes.{lane};
-ghost use Rattle.programs.specs.Listed.{listed};
 ghost use Rattle.run_laws.specs.Shifts.{flipped_by};
 ghost use Rattle.step_model.specs.Runs.{records_of};
-ghost use Rattle.step_model.specs.Sensitivities.{is_collapse};
-ghost use Rattle.step_model.specs.declared.step.Term.{Term};
 ghost use Rattle.batch.specs.Batches.{AreAtStart};
 
 use crate::frames::Frames;
 use crate::steps::{take_step, word_at};
 use forward_sim::Reference;
-use programs::{Program, Step, Walk};
+use programs::{Program, Walk};
 use std::alloc::Allocator;
 
 /// Takes the frames of 64 runs over all steps of a program.
@@ -35,7 +32,7 @@ pub(crate) fn follow_steps<A: Allocator + Copy>(
     let mut walk = Walk::start(program);
     let mut collapse = 0;
     while let Some(step) = walk.next_step() {
-        if is_collapse(step) {
+        if step.is_collapse() {
             let replaced = reference.replaced(collapse);
             take_step(
                 frames,
@@ -50,10 +47,4 @@ pub(crate) fn follow_steps<A: Allocator + Copy>(
             take_step(frames, program, faults, None, 0, step);
         }
     }
-}
-
-fn is_collapse(step: Step) -> bool
-    ensures { (n : ℕ) (products : List (List Term)) → result ≡ is_collapse (listed n products step) }
-{
-    matches!(step, Step::Collapse { .. } | Step::CollapseWord { .. })
 }

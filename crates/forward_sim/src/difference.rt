@@ -1,8 +1,8 @@
-ghost use Rattle.std.specs.Prelude.{◌≡◌, ◌+◌, ◌<◌, [], length, IfOk, IfErr};
+ghost use Rattle.std.specs.Prelude.{◌≡◌, ◌<◌, length, IfOk, IfErr};
 ghost use Rattle.std.specs.List.{All};
 ghost use Rattle.pauli_word.specs.Parity.{exclusive_or};
 ghost use Rattle.step_model.specs.Faults.{memory_fault};
-ghost use Rattle.step_model.specs.Targets.{difference, parity, target_at};
+ghost use Rattle.step_model.specs.Targets.{difference, parity};
 
 use crate::records::Records;
 use programs::Program;
@@ -35,36 +35,13 @@ fn differences<A: Allocator + Copy>(
     requires reference_fit { length reference.now ≡ program.now.records }
     ensures { IfOk result (λ answers. answers.items ≡ difference program.now records.now reference.now) }
 {
-    let targets = target_count(program);
+    let targets = program.target_count();
     let mut answers = Vec::with_capacity(alloc, targets)?;
     for number in 0..targets {
-        let named = target(program, number);
+        let named = program.target(number);
         answers.push_reserved(differs(named, records, reference));
     }
     Ok(answers)
-}
-
-// How many detectors and observables there are.
-fn target_count<A: Allocator + Copy>(program: &Program<'_, A>) -> usize
-    ensures { result ≡ length program.now.detectors + length program.now.observables }
-{
-    program.well_formed();
-    program.detector_count() + program.observable_count()
-}
-
-// The records that a detector or an observable names: detectors come first.
-fn target<'b, A: Allocator + Copy>(program: &'b Program<'_, A>, number: usize) -> &'b [u32]
-    requires { number < length program.now.detectors + length program.now.observables }
-    ensures value { result.now ≡ target_at program.now number }
-    ensures within { All (λ r. r < program.now.records) result.now }
-{
-    program.well_formed();
-    let detectors = program.detector_count();
-    if number < detectors {
-        program.detector(number)
-    } else {
-        program.observable(number - detectors)
-    }
 }
 
 // Whether the parities of the records named differ.

@@ -1,9 +1,6 @@
 //! The way from the start of a program to a collapse.
-ghost use Rattle.std.specs.Prelude.{◌≡◌, ℕ, List, [], drop, slice_index_or};
-ghost use Rattle.programs.specs.Listed.{listed};
+ghost use Rattle.std.specs.Prelude.{◌≡◌, [], drop, slice_index_or};
 ghost use Rattle.step_model.specs.Frames.{steps_after_each};
-ghost use Rattle.step_model.specs.Sensitivities.{is_collapse};
-ghost use Rattle.step_model.specs.declared.step.Term.{Term};
 ghost use Rattle.frames.specs.Passes.{made_after, Passes};
 
 use programs::{Program, Step, Walk};
@@ -33,7 +30,7 @@ pub(crate) fn go_past<A: Allocator + Copy>(
     let mut before = 0;
     while let Some(step) = walk.next_step() {
         made = records_after(made, step);
-        if is_collapse(step) {
+        if step.is_collapse() {
             if before == collapse {
                 return Some(Passed { step, made });
             }
@@ -52,10 +49,4 @@ fn records_after(made: usize, step: Step) -> usize
             + 1,
         _ => made,
     }
-}
-
-fn is_collapse(step: Step) -> bool
-    ensures { (n : ℕ) (products : List (List Term)) → result ≡ is_collapse (listed n products step) }
-{
-    matches!(step, Step::Collapse { .. } | Step::CollapseWord { .. })
 }

@@ -11,6 +11,7 @@ use Rattle.std.proofs.lemmas.List.Kept.{IsStrictlyIncreasing-filter}
 use Rattle.step_model.specs.declared.fault.Fault.{Fault}
 use Rattle.step_model.specs.ErrorModels.{ErrorModel}
 use Rattle.step_model.specs.WellFormed.{CoordinatesFit}
+use Rattle.step_model.proofs.RangeLemmas.{range_rises}
 use Rattle.stim_parser.specs.Limits.{has_wrong_arguments, has_wrong_probability, is_probability}
 use Rattle.stim_parser.specs.Numbers.{whole_value}
 use Rattle.dem_text.specs.ModelText.{model_text}
@@ -159,12 +160,6 @@ few_observables (p ∷ lines) h =
     let here = within_observables p.targets (targets_near p h.1) in let rest = few_observables lines h.2 in omega (arith, here, rest)
 
 -- ---- error lines
-
-range_rises : (a n : ℕ) → IsStrictlyIncreasing (range_with_len a n)
-range_rises a n k h =
-    let within : k + 1 < n = omega (arith, h, length-range_with_len a n) in
-    let here = get_or-range_with_len a n k 0 (omega (arith, within)) in
-    let next = get_or-range_with_len a n (k + 1) 0 within in omega (arith, here, next)
 
 range_below : (n : ℕ) → All (λ t. t < n) (range_with_len 0 n)
 range_below n k d h =

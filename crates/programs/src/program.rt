@@ -1,5 +1,7 @@
-ghost use Rattle.std.specs.Prelude.{◌≡◌, ◌<◌, [], length, slice_index_or};
+ghost use Rattle.std.specs.Prelude.{◌≡◌, ◌<◌, ◌+◌, [], length, slice_index_or};
+ghost use Rattle.std.specs.List.{All};
 ghost use Rattle.step_model.specs.Listing.{none_kept, kept_at};
+ghost use Rattle.step_model.specs.Targets.{target_at};
 ghost use Rattle.step_model.specs.WellFormed.{IsWellFormed};
 ghost use Rattle.programs.specs.Held.{HoldsText};
 ghost use Rattle.programs.specs.Made.{listing_of, PartsFit};
@@ -139,6 +141,29 @@ impl<'a, A: Allocator + Copy> Program<'a, A> {
         ensures { result.now ≡ slice_index_or self.now.observables k [] }
     {
         self.parts.observables.get(k)
+    }
+
+    /// How many detectors and observables there are.
+    pub fn target_count(&self) -> usize
+        ensures { result ≡ length self.now.detectors + length self.now.observables }
+    {
+        self.well_formed();
+        self.detector_count() + self.observable_count()
+    }
+
+    /// The records of a target, each as often as it is listed: the detectors come first, and then the observables.
+    pub fn target(&self, number: usize) -> &[u32]
+        requires { number < length self.now.detectors + length self.now.observables }
+        ensures value { result.now ≡ target_at self.now number }
+        ensures within { All (λ r. r < self.now.records) result.now }
+    {
+        self.well_formed();
+        let detectors = self.detector_count();
+        if number < detectors {
+            self.detector(number)
+        } else {
+            self.observable(number - detectors)
+        }
     }
 
     /// The coordinates of a detector.

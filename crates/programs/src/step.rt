@@ -1,5 +1,8 @@
-ghost use Rattle.std.specs.Prelude.{◌≡◌, ◌+◌, ◌<◌, ◌≤◌, ◌^◌};
+ghost use Rattle.std.specs.Prelude.{◌≡◌, ◌+◌, ◌<◌, ◌≤◌, ◌^◌, ℕ, List};
+ghost use Rattle.programs.specs.Listed.{listed};
 ghost use Rattle.programs.specs.Numbering.{record_number, is_inverted, named, flip_name, numbered_step, counts_after, counts_before, made_by, made_in_collapse, feeds_back};
+ghost use Rattle.step_model.specs.Sensitivities.{is_collapse};
+ghost use Rattle.step_model.specs.declared.step.Term.{Term};
 
 use gate_table::Gate;
 use pauli_word::Letter;
@@ -87,6 +90,16 @@ pub enum Step {
         q: u32,
         rec: u32,
     },
+}
+
+impl Step {
+    /// Whether it measures a letter or a product, and so takes a coin.
+    #[inline(always)]
+    pub fn is_collapse(self) -> bool
+        ensures { (n : ℕ) (products : List (List Term)) → result ≡ is_collapse (listed n products self) }
+    {
+        matches!(self, Step::Collapse { .. } | Step::CollapseWord { .. })
+    }
 }
 
 /// How many records, collapses and faults stand before a place.

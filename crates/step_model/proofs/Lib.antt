@@ -1,4 +1,5 @@
 pub mod EndsLemmas
 pub mod MemoryLemmas
+pub mod RangeLemmas
 pub mod StateIsGroup
 pub mod StepNumbers

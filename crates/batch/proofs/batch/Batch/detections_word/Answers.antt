@@ -11,5 +11,5 @@ returns g c j =
     let program = c.args.program.now in
     subst (λ (seen : Followed). lane_bit j c.parity.result ≡ get_or (difference program (shot_records j seen) seen.reference.records) c.args.number false) c.self.view_is
     (c.parity.ensures j
-    ∙ ap (λ named. parity named (lane j b.frames.flips)) c.target.ensures
+    ∙ ap (λ named. parity named (lane j b.frames.flips)) c.target.ensures.value
     ∙ detection program c.args.number (lane j b.frames.flips) b.reference.records c.requires)
