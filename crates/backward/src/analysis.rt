@@ -89,6 +89,8 @@ fn judge<'s, 'a, A: Allocator + Copy, T: Tracker>(
 {
     program.well_formed();
     let _few = target_count(program);
+    // No step is left, so that the model's coordinates may have the room of the sets.
+    found.sets = Vec::new(alloc);
     let lowest = lowest_at_start(alloc, program, tracker, &mut found.hit)?;
     match lowest_random(found.latest.as_slice(), lowest.as_slice()) {
         Some((which, place)) => Ok(Analysed::Random { which, place }),

@@ -1,13 +1,28 @@
--- The error lines of a model, kept as the texts of their probabilities and as their targets. (Stim's detector error
--- model format, `error` instructions.)
-use Rattle.std.specs.Prelude.{ℕ, List, [], ◌∷◌, slice_index_or}
+-- The error lines of a model, kept as numbers of the texts of their probabilities and as their targets. (Stim's detector
+-- error model format, `error` instructions.)
+use Rattle.std.specs.Prelude.{◌≡◌, ◌<◌, ℕ, zero, suc, List, [], ◌∷◌, length, All, slice_index_or}
 use Rattle.dem_text.specs.declared.lines.LineText.{LineText}
 use Rattle.step_model.specs.ErrorModels.{ErrorLine, ErrorModel}
 
--- the lines whose probabilities have these texts and which have these targets, one each
-abbrev pub lines_of : List LineText → List (List ℕ) → List ErrorLine
-lines_of (text ∷ texts) (targets ∷ rest) = record { text = text.text.now; targets = targets } ∷ lines_of texts rest
-lines_of texts rest = []
+-- the text with this number, from 0
+abbrev pub text_at : List LineText → ℕ → List ℕ
+text_at [] n = []
+text_at (text ∷ texts) zero = text.text.now
+text_at (text ∷ texts) (suc n) = text_at texts n
+
+-- the texts before keep their numbers
+abbrev pub KeepsTexts : List LineText → List LineText → Type 0
+KeepsTexts old new = (n : ℕ) → n < length old → (n < length new) × (text_at new n ≡ text_at old n)
+
+-- the lines whose probabilities have the texts with these numbers and which have these targets, one each
+abbrev pub lines_of : List LineText → List ℕ → List (List ℕ) → List ErrorLine
+lines_of texts (n ∷ numbers) (targets ∷ rest) = record { text = text_at texts n; targets = targets } ∷ lines_of texts numbers rest
+lines_of texts numbers rest = []
+
+-- each line has targets, and a text that is there
+pub record IsNumbered (texts : List LineText) (numbers : List ℕ) (targets : List (List ℕ)) : Type 0 where
+  pub counted : length numbers ≡ length targets
+  pub named : All (λ n. n < length texts) numbers
 
 abbrev pub no_line : ErrorLine
 no_line = record { text = []; targets = [] }
