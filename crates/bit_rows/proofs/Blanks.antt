@@ -11,7 +11,7 @@ use Rattle.bit_rows.specs.Spans.{XorsWithin}
 use Rattle.bit_rows.specs.Words.{bit_of}
 use Rattle.bit_rows.specs.WordTotals.{word_phase, words_phase, carried}
 use Rattle.bit_rows.proofs.BitLaws.{bit_of-zero}
-use Rattle.bit_rows.proofs.Carries.{words_phase-zero}
+use Rattle.bit_rows.proofs.Carries.{words_phase-zero, carried-zero}
 use Rattle.bit_rows.proofs.Sums.{total_none}
 
 blank_phase : (a b : Bool) → letter_phase a b false false ≡ 0
@@ -95,10 +95,10 @@ ahead_phase xa xa' za za' xb zb at k x z =
     ap₂ (λ v w. word_phase v w (get_or xb (at + k) 0) (get_or zb (at + k) 0)) (x.above (at + k) (omega arith)) (z.above (at + k) (omega arith))
 
 -- fewer words than a block
-pub no_more_blocks : (xa za xb zb : List ℕ) (n : ℕ) → n < 4 → 0 ≡ words_phase xa za xb zb (n / 4 * 4) % 4
-no_more_blocks xa za xb zb n h =
+pub no_blocks : (xa za xb zb : List ℕ) (n : ℕ) → n / 4 ≡ 0 → carried 0 0 % 4 ≡ words_phase xa za xb zb (n / 4 * 4) % 4
+no_blocks xa za xb zb n h =
     let none : n / 4 * 4 ≡ 0 = omega (arith, h) in
-    sym (ap (λ m. words_phase xa za xb zb m % 4) none ∙ ap (λ s. s % 4) (words_phase-zero xa za xb zb))
+    ap (λ s. s % 4) (carried-zero ∙ sym (ap (words_phase xa za xb zb) none ∙ words_phase-zero xa za xb zb))
 
 -- the same at the next word
 pub here_phase : (xa xa' za za' xb zb : List ℕ) (i : ℕ) → XorsWithin xa xb xa' 0 i → XorsWithin za zb za' 0 i

@@ -1,6 +1,6 @@
 -- The steps of the loops over words: a word added to a running exclusive or, and the powers of i of 64 letters added to
 -- two carry words.
-use Rattle.std.proofs.Common.{◌≡◌, ℕ, suc, ◌+◌, ◌*◌, ◌%◌, ◌^◌, ◌<◌, ◌≤◌, Bool, true, false, ◌&&◌, eqb, refl, sym, ap, ◌∙◌, arith, bit_and, bit_xor, get_or, List, [], ◌∷◌, length, replicate, add-one}
+use Rattle.std.proofs.Common.{◌≡◌, ℕ, suc, ◌+◌, ◌*◌, ◌%◌, ◌^◌, ◌<◌, ◌≤◌, Bool, true, false, ◌&&◌, eqb, refl, sym, ap, ap₂, ◌∙◌, arith, bit_and, bit_xor, get_or, List, [], ◌∷◌, length, replicate, add-one}
 use Rattle.std.specs.Int.RustNames.{count_ones}
 use Rattle.std.specs.Simd.Lanes.{zip2, chunk, fold_l}
 use Rattle.std.proofs.lemmas.Bool.{and_parts, eqb-true}
@@ -94,6 +94,36 @@ carried-step ones twos xa za xb zb =
     (λ j h. simp (bit_of-xor, bit_of-and) (bit_carry (bit_of ones j) (bit_of twos j) (bit_of xa j) (bit_of za j) (bit_of xb j) (bit_of zb j)))
     ∙ ap (λ s. s % 4) (total-add (λ j. value (bit_of ones j) + 2 * value (bit_of twos j)) (λ j. letter_phase (bit_of xa j) (bit_of za j) (bit_of xb j) (bit_of zb j)) 64
     ∙ ap (λ s. s + total (λ j. letter_phase (bit_of xa j) (bit_of za j) (bit_of xb j) (bit_of zb j)) 64) (sym (carried_by_bits ones twos)))
+
+-- at one place two pairs of carry bits hold, modulo 4, what their join holds
+abbrev joins_powers : (ones twos more_ones more_twos : Bool) → Bool
+joins_powers ones twos more_ones more_twos =
+    eqb ((value (exclusive_or ones more_ones) + 2 * value (exclusive_or (exclusive_or twos more_twos) (ones && more_ones))) % 4)
+    ((value ones + 2 * value twos + (value more_ones + 2 * value more_twos)) % 4)
+
+all_joined : at_both (λ ones. at_both (λ twos. at_both (λ more_ones. at_both (λ more_twos. joins_powers ones twos more_ones more_twos)))) ≡ true
+all_joined = refl
+
+bit_joined : (ones twos more_ones more_twos : Bool)
+    → (value (exclusive_or ones more_ones) + 2 * value (exclusive_or (exclusive_or twos more_twos) (ones && more_ones))) % 4
+    ≡ (value ones + 2 * value twos + (value more_ones + 2 * value more_twos)) % 4
+bit_joined ones twos more_ones more_twos =
+    eqb-true _ _
+    (at_each (λ more_twos. joins_powers ones twos more_ones more_twos)
+    (at_each (λ more_ones. at_both (λ more_twos. joins_powers ones twos more_ones more_twos))
+    (at_each (λ twos. at_both (λ more_ones. at_both (λ more_twos. joins_powers ones twos more_ones more_twos)))
+    (at_each (λ ones. at_both (λ twos. at_both (λ more_ones. at_both (λ more_twos. joins_powers ones twos more_ones more_twos))))
+    all_joined ones) twos) more_ones) more_twos)
+
+pub carried-join : (ones twos more_ones more_twos : ℕ)
+    → carried (bit_xor ones more_ones) (bit_xor (bit_xor twos more_twos) (bit_and ones more_ones)) % 4 ≡ (carried ones twos + carried more_ones more_twos) % 4
+carried-join ones twos more_ones more_twos =
+    let own : ℕ → ℕ = λ j. value (bit_of ones j) + 2 * value (bit_of twos j) in
+    let more : ℕ → ℕ = λ j. value (bit_of more_ones j) + 2 * value (bit_of more_twos j) in
+    ap (λ s. s % 4) (carried_by_bits _ _)
+    ∙ total_same_remainder 4 _ (λ j. own j + more j) 64
+    (λ j h. simp (bit_of-xor, bit_of-and) (bit_joined (bit_of ones j) (bit_of twos j) (bit_of more_ones j) (bit_of more_twos j)))
+    ∙ ap (λ s. s % 4) (total-add own more 64 ∙ ap₂ (λ s t. s + t) (sym (carried_by_bits ones twos)) (sym (carried_by_bits more_ones more_twos)))
 
 pub carried-zero : carried 0 0 ≡ 0
 unfolding carried

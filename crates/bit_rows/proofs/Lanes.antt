@@ -2,7 +2,6 @@
 use Rattle.std.proofs.Common.{◌≡◌, ℕ, ◌+◌, ◌%◌, ◌<◌, ◌≤◌, List, length, get_or, replicate, refl, sym, ap, ◌∙◌, arith, bit_and, bit_xor, add-one}
 use Rattle.std.specs.Simd.Lanes.{zip2, chunk}
 use Rattle.std.proofs.lemmas.Simd.{length-chunk, get_or-chunk, length-zip2, get_or-zip2}
-use Rattle.std.proofs.Math.Nat.{mod-add-mod}
 use Rattle.bit_rows.specs.Totals.{total}
 use Rattle.bit_rows.specs.WordTotals.{word_phase, words_phase, carried, carried_by}
 use Rattle.bit_rows.proofs.Carries.{carried-step, carried-zero}
@@ -69,11 +68,11 @@ pub carried_by-suc : (ones twos : List ℕ) (n : ℕ) → carried_by ones twos (
 unfolding carried_by total
 carried_by-suc ones twos n = rw add-one refl
 
-pub lanes_more : (ones twos : List ℕ) (power n : ℕ) → power ≡ carried_by ones twos n % 4
-    → (power + carried (get_or ones n 0) (get_or twos n 0)) % 4 ≡ carried_by ones twos (n + 1) % 4
-lanes_more ones twos power n e =
+pub lanes_more : (ones twos : List ℕ) (held held' n : ℕ) → held % 4 ≡ carried_by ones twos n % 4
+    → held' % 4 ≡ (held + carried (get_or ones n 0) (get_or twos n 0)) % 4 → held' % 4 ≡ carried_by ones twos (n + 1) % 4
+lanes_more ones twos held held' n e step =
     let here = carried (get_or ones n 0) (get_or twos n 0) in
-    ap (λ p. (p + here) % 4) e ∙ mod-add-mod (carried_by ones twos n) 4 here ∙ ap (λ s. s % 4) (sym (carried_by-suc ones twos n))
+    step ∙ same_remainder_add 4 held (carried_by ones twos n) here here e refl ∙ ap (λ s. s % 4) (sym (carried_by-suc ones twos n))
 
 words_phase-block : (xa za xb zb : List ℕ) (at : ℕ)
     → words_phase xa za xb zb (at + 4)

@@ -2,6 +2,7 @@
 ghost use Rattle.std.specs.Prelude.{◌≡◌, ◌==◌, ◌↔◌, ℕ, ◌+◌, ◌*◌, ◌/◌, ◌^◌, ◌<◌, ◌≤◌, Bool, true, false, not, if◌then◌else◌, length, IsTrue, IfSome, IfNone};
 ghost use Rattle.bit_rows.specs.Words.{bit_in};
 
+#[inline(always)]
 pub(crate) fn bit_at_place(words: &[u64], place: usize) -> bool
     requires { place / 64 < length words.now }
     ensures { result ≡ bit_in words.now place }
@@ -9,6 +10,7 @@ pub(crate) fn bit_at_place(words: &[u64], place: usize) -> bool
     (words[place / 64] >> (place % 64)) & 1 == 1
 }
 
+#[inline(always)]
 pub(crate) fn put_bit(words: &mut [u64], place: usize, bit: bool)
     requires { place / 64 < length words.old }
     ensures { (k : ℕ) → bit_in words.new k ≡ (if k == place then bit else bit_in words.old k) }

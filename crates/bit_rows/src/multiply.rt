@@ -7,7 +7,7 @@ ghost use Rattle.bit_rows.specs.Spans.{XorsWithin};
 ghost use Rattle.bit_rows.specs.WordTotals.{carried, word_phase, words_phase};
 
 use crate::marks::{is_unmarked, mark_where};
-use crate::phase::{carry, carry_block, power_held, power_of_lanes};
+use crate::phase::{carry, carry_block, join_lanes, power_held};
 use std::simd::prelude::*;
 
 // Besides the power it answers marks of blocks in which no letter is left.
@@ -28,32 +28,80 @@ pub(crate) fn multiply_words(
     ensures z { (k : ℕ) → slice_index za.new k ≡ bit_xor (slice_index za.old k) (slice_index zb.now k) }
     ensures blank { BlanksBelow result.1 xa.new za.new (length xa.old) }
 {
-    let (before, noted) = multiply_blocks(xa, za, xb, zb, marks);
-    let mut ones = 0u64;
-    let mut twos = 0u64;
+    let (mut ones, mut twos, noted) = multiply_blocks(xa, za, xb, zb, marks);
     for i in xb.len() / 4 * 4..xb.len() {
         (ones, twos) = carry(ones, twos, xa[i], za[i], xb[i], zb[i]);
         xa[i] ^= xb[i];
         za[i] ^= zb[i];
     }
-    (((before + power_held(ones, twos)) % 4) as u8, noted)
+    ((power_held(ones, twos) % 4) as u8, noted)
 }
 
-// The whole blocks of four words.
-fn multiply_blocks(xa: &mut [u64], za: &mut [u64], xb: &[u64], zb: &[u64], marks: u64) -> (u32, u64)
+// The whole blocks of four words: the carry words behind them, and marks as above.
+fn multiply_blocks(
+    xa: &mut [u64],
+    za: &mut [u64],
+    xb: &[u64],
+    zb: &[u64],
+    marks: u64,
+) -> (u64, u64, u64)
     requires za { length za.old ≡ length xa.old }
     requires xb { length xb.now ≡ length xa.old }
     requires zb { length zb.now ≡ length xa.old }
     requires x_marks { MarksOnes marks xb.now }
     requires z_marks { MarksOnes marks zb.now }
-    ensures power { result.0 ≡ words_phase xa.old za.old xb.now zb.now (length xb.now / 4 * 4) % 4 }
+    ensures power { carried result.0 result.1 % 4 ≡ words_phase xa.old za.old xb.now zb.now (length xb.now / 4 * 4) % 4 }
     ensures x { XorsWithin xa.old xb.now xa.new 0 (length xb.now / 4 * 4) }
     ensures z { XorsWithin za.old zb.now za.new 0 (length xb.now / 4 * 4) }
-    ensures blank { BlanksBelow result.1 xa.new za.new (length xb.now / 4 * 4) }
+    ensures blank { BlanksBelow result.2 xa.new za.new (length xb.now / 4 * 4) }
 {
-    if xb.len() < 4 {
-        return (0, 0);
+    let blocks = xb.len() / 4;
+    if blocks == 0 {
+        return (0, 0, 0);
     }
+    if marks.trailing_ones() as usize >= blocks {
+        let (ones, twos) = multiply_all(xa, za, xb, zb);
+        return (ones, twos, 0);
+    }
+    multiply_marked(xa, za, xb, zb, marks)
+}
+
+// The same where each block may have letters, with no look at marks, and none noted.
+fn multiply_all(xa: &mut [u64], za: &mut [u64], xb: &[u64], zb: &[u64]) -> (u64, u64)
+    requires za { length za.old ≡ length xa.old }
+    requires xb { length xb.now ≡ length xa.old }
+    requires zb { length zb.now ≡ length xa.old }
+    ensures power { carried result.0 result.1 % 4 ≡ words_phase xa.old za.old xb.now zb.now (length xb.now / 4 * 4) % 4 }
+    ensures x { XorsWithin xa.old xb.now xa.new 0 (length xb.now / 4 * 4) }
+    ensures z { XorsWithin za.old zb.now za.new 0 (length xb.now / 4 * 4) }
+{
+    let mut ones = u64x4::splat(0);
+    let mut twos = u64x4::splat(0);
+    for block in 0..xb.len() / 4 {
+        (ones, twos) = carry_block(ones, twos, xa, za, xb, zb, block * 4);
+        xor_both(xa, za, xb, zb, block * 4);
+    }
+    join_lanes(&ones.to_array(), &twos.to_array())
+}
+
+// The same past the blocks without marks.
+fn multiply_marked(
+    xa: &mut [u64],
+    za: &mut [u64],
+    xb: &[u64],
+    zb: &[u64],
+    marks: u64,
+) -> (u64, u64, u64)
+    requires za { length za.old ≡ length xa.old }
+    requires xb { length xb.now ≡ length xa.old }
+    requires zb { length zb.now ≡ length xa.old }
+    requires x_marks { MarksOnes marks xb.now }
+    requires z_marks { MarksOnes marks zb.now }
+    ensures power { carried result.0 result.1 % 4 ≡ words_phase xa.old za.old xb.now zb.now (length xb.now / 4 * 4) % 4 }
+    ensures x { XorsWithin xa.old xb.now xa.new 0 (length xb.now / 4 * 4) }
+    ensures z { XorsWithin za.old zb.now za.new 0 (length xb.now / 4 * 4) }
+    ensures blank { BlanksBelow result.2 xa.new za.new (length xb.now / 4 * 4) }
+{
     let mut ones = u64x4::splat(0);
     let mut twos = u64x4::splat(0);
     let mut noted = 0u64;
@@ -65,7 +113,8 @@ fn multiply_blocks(xa: &mut [u64], za: &mut [u64], xb: &[u64], zb: &[u64], marks
         twos = next_twos;
         noted = mark_where(noted, block, emptied);
     }
-    (power_of_lanes(&ones.to_array(), &twos.to_array()), noted)
+    let (one, two) = join_lanes(&ones.to_array(), &twos.to_array());
+    (one, two, noted)
 }
 
 // One block, and whether no letter is left in it; most of a long word has no letters.

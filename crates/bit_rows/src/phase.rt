@@ -35,15 +35,34 @@ fn power_of_blocks(xa: &[u64], za: &[u64], xb: &[u64], zb: &[u64]) -> u32
     power_of_lanes(&ones.to_array(), &twos.to_array())
 }
 
-pub(crate) fn power_of_lanes(ones: &[u64], twos: &[u64]) -> u32
+fn power_of_lanes(ones: &[u64], twos: &[u64]) -> u32
     requires { length ones.now ≡ length twos.now }
     ensures { result ≡ carried_by ones.now twos.now (length ones.now) % 4 }
 {
-    let mut power = 0;
+    let (one, two) = join_lanes(ones, twos);
+    power_held(one, two) % 4
+}
+
+// Two carry words that hold what all lanes hold, modulo 4: counting ones takes longer than joining words.
+#[inline(always)]
+pub(crate) fn join_lanes(ones: &[u64], twos: &[u64]) -> (u64, u64)
+    requires { length ones.now ≡ length twos.now }
+    ensures { carried result.0 result.1 % 4 ≡ carried_by ones.now twos.now (length ones.now) % 4 }
+{
+    let mut one = 0u64;
+    let mut two = 0u64;
     for k in 0..ones.len() {
-        power = (power + power_held(ones[k], twos[k])) % 4;
+        (one, two) = join(one, two, ones[k], twos[k]);
     }
-    power
+    (one, two)
+}
+
+// What two pairs of carry words hold, modulo 4, in one pair.
+#[inline(always)]
+fn join(ones: u64, twos: u64, more_ones: u64, more_twos: u64) -> (u64, u64)
+    ensures { carried result.0 result.1 % 4 ≡ (carried ones twos + carried more_ones more_twos) % 4 }
+{
+    (ones ^ more_ones, (twos ^ more_twos) ^ (ones & more_ones))
 }
 
 // What two carry words hold.

@@ -65,6 +65,7 @@ impl<A: Allocator + Copy> BitRow<A> {
     }
 
     /// The bit at a place.
+    #[inline(always)]
     pub fn get(&self, i: usize) -> bool
         requires { i < length self.now }
         ensures { result ≡ slice_index_or self.now i false }
@@ -77,6 +78,7 @@ impl<A: Allocator + Copy> BitRow<A> {
     }
 
     /// Puts a bit at a place.
+    #[inline(always)]
     pub fn set(&mut self, i: usize, b: bool)
         requires { i < length self.old }
         ensures { self.new ≡ slice_set self.old i b }

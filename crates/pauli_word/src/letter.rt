@@ -13,6 +13,7 @@ pub enum Letter {
 
 impl Letter {
     /// Whether both letters are not I and they differ: these are the pairs that anticommute.
+    #[inline(always)]
     pub fn clashes(self, other: Letter) -> bool
         ensures { result ≡ letters_clash self other }
     {
@@ -33,7 +34,7 @@ impl Letter {
     }
 
     /// The letter of two bits, x and z: X has the first, Z the second, and Y both.
-    #[inline]
+    #[inline(always)]
     pub fn of_bits(x: bool, z: bool) -> Letter
         ensures { result ≡ letter_of x z }
     {
@@ -45,14 +46,14 @@ impl Letter {
         }
     }
 
-    #[inline]
+    #[inline(always)]
     pub(crate) fn x_bit(self) -> bool
         ensures { result ≡ x_bit self }
     {
         matches!(self, Letter::X | Letter::Y)
     }
 
-    #[inline]
+    #[inline(always)]
     pub(crate) fn z_bit(self) -> bool
         ensures { result ≡ z_bit self }
     {

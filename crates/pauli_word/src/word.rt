@@ -53,6 +53,7 @@ impl<A: Allocator + Copy> Word<A> {
     }
 
     /// The letter at a qubit.
+    #[inline(always)]
     pub fn letter(&self, qubit: usize) -> Letter
         requires { qubit < length self.now.letters }
         ensures { result ≡ letter_at self.now.letters qubit }
@@ -61,6 +62,7 @@ impl<A: Allocator + Copy> Word<A> {
     }
 
     /// Puts a letter at a qubit.
+    #[inline(always)]
     pub fn set_letter(&mut self, qubit: usize, letter: Letter)
         requires { qubit < length self.old.letters }
         ensures { self.new ≡ record self.old { letters = slice_set self.old.letters qubit letter } }
@@ -70,6 +72,7 @@ impl<A: Allocator + Copy> Word<A> {
     }
 
     /// Whether the sign is minus.
+    #[inline(always)]
     pub fn sign(&self) -> bool
         ensures { result ≡ self.now.negative }
     {
@@ -77,6 +80,7 @@ impl<A: Allocator + Copy> Word<A> {
     }
 
     /// Makes the sign minus where `negative`, else plus.
+    #[inline(always)]
     pub fn set_sign(&mut self, negative: bool)
         ensures { self.new ≡ record self.old { negative = negative } }
     {

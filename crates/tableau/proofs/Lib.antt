@@ -18,7 +18,7 @@ pub mod StartLaws
 pub mod Turns
 pub mod TwistRows
 pub mod Twists
-pub mod ApartRows
+pub mod RowsThatStay
 pub mod ControlledRows
 pub mod ControlledGates
 pub mod SeenOutcomes

@@ -111,12 +111,6 @@ pub record ClashesAt (w a : Letter) (k : ℕ) (y : Signed) (r : Pair) : Type 0 w
   pub x : anticommute r.0.letters y.letters ≡ exclusive_or (letters_clash X w) (letters_clash (letter_at r.0.letters k) a)
   pub z : anticommute r.1.letters y.letters ≡ exclusive_or (letters_clash Z w) (letters_clash (letter_at r.1.letters k) a)
 
--- both words of a pair have I at a qubit, and so has the word measured at the pair's own
-pub record IsApart (w : Letter) (k : ℕ) (r : Pair) : Type 0 where
-  pub measured : w ≡ I
-  pub x : letter_at r.0.letters k ≡ I
-  pub z : letter_at r.1.letters k ≡ I
-
 -- a word of I and Z alone, with its sign
 pub record IsDiagonal (w : Signed) (minus : Bool) : Type 0 where
   pub lowest : lowest_X_or_Y w.letters ≡ None

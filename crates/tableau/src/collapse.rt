@@ -2,13 +2,13 @@
 ghost use Rattle.std.specs.Prelude.{◌≡◌, ◌<◌, ℕ, length, true, false, All, IfSome, IsTrue};
 ghost use Rattle.gate_table.specs.Images.{arity_of};
 ghost use Rattle.gate_table.specs.WordImages.{image_at};
-ghost use Rattle.pauli_word.specs.declared.letter.Letter.TheVariants.{Z};
+ghost use Rattle.pauli_word.specs.declared.letter.Letter.TheVariants.{I, Z};
 ghost use Rattle.pauli_word.specs.Letters.{letters_clash};
 ghost use Rattle.pauli_word.specs.Parity.{exclusive_or};
 ghost use Rattle.pauli_word.specs.Words.{anticommute, letter_at, with_sign_changed, lowest_X_or_Y};
 ghost use Rattle.tableau.specs.CliffordMaps.{twisted};
 ghost use Rattle.tableau.specs.Encoding.{HasLength, IsTableau, pair_at, word_of};
-ghost use Rattle.tableau.specs.EncodingSteps.{lone, mapped, code_of, without, turning_gate, after_collapse, outcome_of, IsPivot, ClashesAt, IsApart, IsDiagonal};
+ghost use Rattle.tableau.specs.EncodingSteps.{lone, mapped, code_of, without, turning_gate, after_collapse, outcome_of, IsPivot, ClashesAt, IsDiagonal};
 
 use crate::pairs::{Pair, change_sign, multiply};
 use gate_table::Gate;
@@ -79,6 +79,7 @@ pub(crate) fn collapse_code<A: Allocator + Copy>(
     }
 }
 
+#[inline(always)]
 fn turning_gate(letter: Letter) -> Gate
     ensures gate { result ≡ turning_gate letter }
     ensures arity { arity_of result ≡ 1 }
@@ -118,63 +119,43 @@ fn turn_rows<A: Allocator + Copy>(
     ensures { rows.new.items ≡ mapped (λ v. image_at (turning_gate letter) qubit (twisted (lone (length code.now.0.letters) qubit Z) code.now.0 v)) rows.old.items }
 {
     for row in 0..rows.len() {
-        turn_pair(&mut rows[row], code, letter, qubit, word, row);
+        let measured = word.letter(row);
+        turn_pair(&mut rows[row], code, letter, qubit, measured);
     }
 }
 
+#[inline(always)]
 fn turn_pair<A: Allocator + Copy>(
     pair: &mut Pair<A>,
     code: &Pair<A>,
     letter: Letter,
     qubit: usize,
-    word: &Word<A>,
-    row: usize,
+    measured: Letter,
 )
-    requires row { row < length word.now.letters }
     requires pivot { IsPivot (length code.now.0.letters) qubit code.now }
     requires size { HasLength (length code.now.0.letters) pair.old }
-    requires clashes { ClashesAt (letter_at word.now.letters row) letter qubit code.now.0 pair.old }
+    requires clashes { ClashesAt measured letter qubit code.now.0 pair.old }
     ensures { pair.new ≡ (image_at (turning_gate letter) qubit (twisted (lone (length code.now.0.letters) qubit Z) code.now.0 pair.old.0), image_at (turning_gate letter) qubit (twisted (lone (length code.now.0.letters) qubit Z) code.now.0 pair.old.1)) }
 {
-    if is_apart(pair, qubit, word, row) {
-        return;
-    }
-    let measured = word.letter(row);
-    let gate = turning_gate(letter);
-    twist(
+    turn_row(
         &mut pair.0,
         code,
         letter,
         qubit,
         Letter::X.clashes(measured),
     );
-    apply_gate(&mut pair.0, gate, qubit);
-    twist(
+    turn_row(
         &mut pair.1,
         code,
         letter,
         qubit,
         Letter::Z.clashes(measured),
     );
-    apply_gate(&mut pair.1, gate, qubit);
 }
 
-// Whether both words of a pair have I at the qubit, and the letter measured at the pair's own qubit is I: a turn leaves
-// such a pair as it is. Most pairs are so.
+// Most rows stay as they are, and are told by their letter at the qubit alone.
 #[inline(always)]
-fn is_apart<A: Allocator + Copy>(pair: &Pair<A>, qubit: usize, word: &Word<A>, row: usize) -> bool
-    requires x { qubit < length pair.now.0.letters }
-    requires z { qubit < length pair.now.1.letters }
-    requires row { row < length word.now.letters }
-    ensures { IsTrue result → IsApart (letter_at word.now.letters row) qubit pair.now }
-{
-    pair.0.letter(qubit) == Letter::I
-        && pair.1.letter(qubit) == Letter::I
-        && word.letter(row) == Letter::I
-}
-
-// Only rows with X or Y at the qubit are multiplied; others change no more than their letter there.
-fn twist<A: Allocator + Copy>(
+fn turn_row<A: Allocator + Copy>(
     row: &mut Word<A>,
     code: &Pair<A>,
     letter: Letter,
@@ -184,10 +165,58 @@ fn twist<A: Allocator + Copy>(
     requires pivot { IsPivot (length code.now.0.letters) qubit code.now }
     requires size { length row.old.letters ≡ length code.now.0.letters }
     requires clashes { anticommute row.old.letters code.now.0.letters ≡ exclusive_or clashes (letters_clash (letter_at row.old.letters qubit) letter) }
+    ensures { row.new ≡ image_at (turning_gate letter) qubit (twisted (lone (length code.now.0.letters) qubit Z) code.now.0 row.old) }
+{
+    let here = row.letter(qubit);
+    if stays(here, clashes) {
+        return;
+    }
+    change_row(row, code, letter, qubit, here, clashes);
+}
+
+// Whether a turn leaves a row with this letter at the qubit as it is.
+#[inline(always)]
+fn stays(here: Letter, clashes: bool) -> bool
+    ensures { IsTrue result → (here ≡ I) × (clashes ≡ false) }
+{
+    here == Letter::I && !clashes
+}
+
+fn change_row<A: Allocator + Copy>(
+    row: &mut Word<A>,
+    code: &Pair<A>,
+    letter: Letter,
+    qubit: usize,
+    here: Letter,
+    clashes: bool,
+)
+    requires pivot { IsPivot (length code.now.0.letters) qubit code.now }
+    requires size { length row.old.letters ≡ length code.now.0.letters }
+    requires here { here ≡ letter_at row.old.letters qubit }
+    requires clashes { anticommute row.old.letters code.now.0.letters ≡ exclusive_or clashes (letters_clash here letter) }
+    ensures { row.new ≡ image_at (turning_gate letter) qubit (twisted (lone (length code.now.0.letters) qubit Z) code.now.0 row.old) }
+{
+    twist(row, code, letter, qubit, here, clashes);
+    apply_gate(row, turning_gate(letter), qubit);
+}
+
+// Only rows with X or Y at the qubit are multiplied; others change no more than their letter there.
+#[inline(always)]
+fn twist<A: Allocator + Copy>(
+    row: &mut Word<A>,
+    code: &Pair<A>,
+    letter: Letter,
+    qubit: usize,
+    here: Letter,
+    clashes: bool,
+)
+    requires pivot { IsPivot (length code.now.0.letters) qubit code.now }
+    requires size { length row.old.letters ≡ length code.now.0.letters }
+    requires here { here ≡ letter_at row.old.letters qubit }
+    requires clashes { anticommute row.old.letters code.now.0.letters ≡ exclusive_or clashes (letters_clash here letter) }
     ensures twisted { row.new ≡ twisted (lone (length code.now.0.letters) qubit Z) code.now.0 row.old }
     ensures size { length row.new.letters ≡ length code.now.0.letters }
 {
-    let here = row.letter(qubit);
     let anticommutes = clashes ^ here.clashes(letter);
     match here {
         Letter::X | Letter::Y => {
@@ -205,6 +234,7 @@ fn twist<A: Allocator + Copy>(
     }
 }
 
+#[inline(always)]
 fn apply_gate<A: Allocator + Copy>(word: &mut Word<A>, gate: Gate, qubit: usize)
     requires arity { arity_of gate ≡ 1 }
     requires inside { qubit < length word.old.letters }

@@ -79,6 +79,7 @@ pub(crate) fn set_word<A: Allocator + Copy>(
 }
 
 /// Changes the sign where `minus`.
+#[inline(always)]
 pub(crate) fn change_sign<A: Allocator + Copy>(word: &mut Word<A>, minus: bool)
     ensures { word.new ≡ with_sign_changed minus word.old }
 {

@@ -1,74 +1,13 @@
-use Rattle.std.proofs.Common.{◌≡◌, ◌+◌, ◌*◌, ◌/◌, ◌%◌, length, slice_index, arith, ap, ◌∙◌, sym, subst}
-use Rattle.bit_rows.specs.Marks.{BlanksBelow}
-use Rattle.bit_rows.specs.Spans.{XorsWithin}
-use Rattle.bit_rows.specs.WordTotals.{carried, carried_by, words_phase}
-use Rattle.bit_rows.proofs.Blanks.{no_more_blocks, XorsWithin-blank, ahead_phase}
-use Rattle.bit_rows.proofs.Blocks.{XorsWithin-none, XorsWithin-join}
-use Rattle.bit_rows.proofs.Carries.{words_phase-zero}
-use Rattle.bit_rows.proofs.Lanes.{carried_by-zeros, block_more}
-use Rattle.bit_rows.proofs.Marked.{blanks_none, blanks_more}
+use Rattle.std.proofs.Common.{◌*◌, ◌/◌, length, arith}
+use Rattle.bit_rows.proofs.Blanks.{no_blocks}
+use Rattle.bit_rows.proofs.Marked.{blanks_none}
 use Rattle.bit_rows.proofs.multiply.multiply_blocks.Goals as goal
 
-pub returns-then-xb-lt4-clause-power : goal.returns-then-xb-lt4-clause-power
-returns-then-xb-lt4-clause-power c = no_more_blocks c.args.xa.now c.args.za.now c.args.xb.now c.args.zb.now (length c.args.xb.now) c.if-xb-lt4.true
+pub returns-then-blocks-eq0-clause-power : goal.returns-then-blocks-eq0-clause-power
+returns-then-blocks-eq0-clause-power c = no_blocks c.args.xa.now c.args.za.now c.args.xb.now c.args.zb.now (length c.args.xb.now) (omega (arith, c.if-blocks-eq0.true))
 
-pub returns-then-xb-lt4-clause-x : goal.returns-then-xb-lt4-clause-x
-returns-then-xb-lt4-clause-x c = XorsWithin-blank c.args.xa.now c.args.xb.now 0 (length c.args.xb.now / 4 * 4) (λ k h l. absurd (omega (arith, l, c.if-xb-lt4.true)))
+pub returns-then-blocks-eq0-clause-blank : goal.returns-then-blocks-eq0-clause-blank
+returns-then-blocks-eq0-clause-blank c = blanks_none c.args.xa.now c.args.za.now (length c.args.xb.now / 4 * 4)
 
-pub returns-then-xb-lt4-clause-z : goal.returns-then-xb-lt4-clause-z
-returns-then-xb-lt4-clause-z c = XorsWithin-blank c.args.za.now c.args.zb.now 0 (length c.args.xb.now / 4 * 4) (λ k h l. absurd (omega (arith, l, c.if-xb-lt4.true)))
-
-pub loop-block-init : goal.loop-block-init
-loop-block-init c = (
-  ap (λ s. s % 4) (carried_by-zeros 4 4 ∙ sym (words_phase-zero c.args.xa.now c.args.za.now c.args.xb.now c.args.zb.now)),
-  XorsWithin-none c.args.xa.now c.args.xb.now 0,
-  XorsWithin-none c.args.za.now c.args.zb.now 0,
-  blanks_none c.args.xa.now c.args.za.now 0,
-)
-
-pub loop-block-preserved : goal.loop-block-preserved
-loop-block-preserved c =
-    let at = c.loop-block.block * 4 in
-    let inv = c.loop-block.invariant in
-    let next : c.loop-block.block * 4 + 4 ≡ (c.loop-block.block + 1) * 4 = omega arith in (
-      block_more c.args.xa.now c.args.za.now c.args.xb.now c.args.zb.now c.loop-block.ones c.loop-block.twos _ _ (c.loop-block.block * 4) inv.0
-          (λ k h.
-          c.multiply_block-emptied.ensures.power k h
-          ∙ ap (λ w. (carried (slice_index c.loop-block.ones k) (slice_index c.loop-block.twos k) + w) % 4)
-          (ahead_phase c.args.xa.now c.loop-block.xa c.args.za.now c.loop-block.za c.args.xb.now c.args.zb.now (c.loop-block.block * 4) k inv.1 inv.2))
-          ∙ ap (λ n. words_phase c.args.xa.now c.args.za.now c.args.xb.now c.args.zb.now n % 4) next,
-      subst (λ high. XorsWithin c.args.xa.now c.args.xb.now c.multiply_block-emptied.new.xa 0 high) next
-          (XorsWithin-join c.args.xa.now c.args.xb.now c.loop-block.xa c.multiply_block-emptied.new.xa 0 (c.loop-block.block * 4) (c.loop-block.block * 4 + 4)
-          (omega arith) (omega arith) inv.1 c.multiply_block-emptied.ensures.x),
-      subst (λ high. XorsWithin c.args.za.now c.args.zb.now c.multiply_block-emptied.new.za 0 high) next
-          (XorsWithin-join c.args.za.now c.args.zb.now c.loop-block.za c.multiply_block-emptied.new.za 0 (c.loop-block.block * 4) (c.loop-block.block * 4 + 4)
-          (omega arith) (omega arith) inv.2 c.multiply_block-emptied.ensures.z),
-      blanks_more c.loop-block.noted c.mark_where-noted.result c.loop-block.xa c.loop-block.za c.multiply_block-emptied.new.xa c.multiply_block-emptied.new.za c.args.xb.now c.args.zb.now c.loop-block.block
-          c.multiply_block-emptied.result.2 inv.3 c.multiply_block-emptied.ensures.x c.multiply_block-emptied.ensures.z c.multiply_block-emptied.ensures.emptied c.mark_where-noted.ensures,
-    )
-
-pub returns-clause-power : goal.returns-clause-power
-returns-clause-power c =
-    let end : c.loop-block.block * 4 ≡ length c.args.xb.now / 4 * 4 = omega arith in
-    c.power_of_lanes.ensures
-    ∙ ap (λ n. carried_by c.loop-block.ones c.loop-block.twos n % 4) c.loop-block.auto.ones.0
-    ∙ c.loop-block.invariant.0
-    ∙ ap (λ n. words_phase c.args.xa.now c.args.za.now c.args.xb.now c.args.zb.now n % 4) end
-
-pub returns-clause-x : goal.returns-clause-x
-returns-clause-x c =
-    let end : c.loop-block.block ≡ length c.args.xb.now / 4 = omega arith in
-    subst (λ b. XorsWithin c.args.xa.now c.args.xb.now c.loop-block.xa 0 (b * 4)) end c.loop-block.invariant.1
-
-pub returns-clause-z : goal.returns-clause-z
-returns-clause-z c =
-    let end : c.loop-block.block ≡ length c.args.xb.now / 4 = omega arith in
-    subst (λ b. XorsWithin c.args.za.now c.args.zb.now c.loop-block.za 0 (b * 4)) end c.loop-block.invariant.2
-
-pub returns-then-xb-lt4-clause-blank : goal.returns-then-xb-lt4-clause-blank
-returns-then-xb-lt4-clause-blank c = blanks_none c.args.xa.now c.args.za.now (length c.args.xb.now / 4 * 4)
-
-pub returns-clause-blank : goal.returns-clause-blank
-returns-clause-blank c =
-    let end : c.loop-block.block ≡ length c.args.xb.now / 4 = omega arith in
-    subst (λ b. BlanksBelow c.loop-block.noted c.loop-block.xa c.loop-block.za (b * 4)) end c.loop-block.invariant.3
+pub returns-then-trailing_ones-blocks-clause-blank : goal.returns-then-trailing_ones-blocks-clause-blank
+returns-then-trailing_ones-blocks-clause-blank c = blanks_none c.multiply_all-ones.new.xa c.multiply_all-ones.new.za (length c.args.xb.now / 4 * 4)

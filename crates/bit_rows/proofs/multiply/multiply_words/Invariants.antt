@@ -6,7 +6,7 @@ use Rattle.bit_rows.proofs.multiply.multiply_words.Given as goal
 
 abbrev pub invariant-loop-i : goal.invariant-loop-i
 invariant-loop-i l =
-    ((l.before + carried l.ones l.twos) % 4 ≡ words_phase l.fn.xa l.fn.za l.xb l.zb l.i % 4)
+    (carried l.ones l.twos % 4 ≡ words_phase l.fn.xa l.fn.za l.xb l.zb l.i % 4)
     × (XorsWithin l.fn.xa l.xb l.xa 0 l.i)
     × (XorsWithin l.fn.za l.zb l.za 0 l.i)
     × (BlanksBelow l.noted l.xa l.za l.i)

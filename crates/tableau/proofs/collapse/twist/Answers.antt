@@ -1,5 +1,4 @@
 use Rattle.std.proofs.Common.{length, ap, sym, ◌∙◌}
-use Rattle.pauli_word.specs.Letters.{letters_clash}
 use Rattle.pauli_word.specs.Parity.{exclusive_or}
 use Rattle.tableau.proofs.TwistRows.{turned_size, across_commuting, across_clashing, along_clashing, along_commuting, multiplied_size, multiplied_turned_size}
 use Rattle.tableau.proofs.collapse.twist.Goals as goal
@@ -9,27 +8,27 @@ times-requires-else-anticommutes g c = c.requires.size ∙ sym (turned_size (len
 
 pub returns-then-anticommutes-clause-twisted : goal.returns-then-anticommutes-clause-twisted
 returns-then-anticommutes-clause-twisted g c =
-    let clash = c.requires.clashes ∙ ap (exclusive_or c.args.clashes) (sym (c.clashes.ensures ∙ ap (λ a. letters_clash a c.args.letter) c.letter-here.ensures)) in
-    c.times.ensures.product ∙ across_clashing (length c.args.code.now.0.letters) c.args.qubit c.args.code.now c.requires.pivot c.args.row.now c.requires.size c.args.clashes c.clashes.result clash c.if-anticommutes.true c.letter-here.result c.letter-here.ensures c.in-X.is
+    let clash = c.requires.clashes ∙ ap (exclusive_or c.args.clashes) (sym c.clashes.ensures) in
+    c.times.ensures.product ∙ across_clashing (length c.args.code.now.0.letters) c.args.qubit c.args.code.now c.requires.pivot c.args.row.now c.requires.size c.args.clashes c.clashes.result clash c.if-anticommutes.true c.args.here c.requires.here c.in-X.is
 
 pub returns-then-anticommutes-clause-size : goal.returns-then-anticommutes-clause-size
 returns-then-anticommutes-clause-size g c = ap (λ t. length t.letters) c.times.ensures.product ∙ multiplied_size (length c.args.code.now.0.letters) c.args.qubit c.args.code.now c.requires.pivot c.args.row.now c.requires.size
 
 pub returns-else-anticommutes-clause-twisted : goal.returns-else-anticommutes-clause-twisted
 returns-else-anticommutes-clause-twisted g c =
-    let clash = c.requires.clashes ∙ ap (exclusive_or c.args.clashes) (sym (c.clashes.ensures ∙ ap (λ a. letters_clash a c.args.letter) c.letter-here.ensures)) in
-    c.times-else-anticommutes.ensures.product ∙ across_commuting (length c.args.code.now.0.letters) c.args.qubit c.args.code.now c.requires.pivot c.args.row.now c.requires.size c.args.clashes c.clashes.result clash c.if-anticommutes.false c.letter-here.result c.letter-here.ensures c.in-X.is
+    let clash = c.requires.clashes ∙ ap (exclusive_or c.args.clashes) (sym c.clashes.ensures) in
+    c.times-else-anticommutes.ensures.product ∙ across_commuting (length c.args.code.now.0.letters) c.args.qubit c.args.code.now c.requires.pivot c.args.row.now c.requires.size c.args.clashes c.clashes.result clash c.if-anticommutes.false c.args.here c.requires.here c.in-X.is
 
 pub returns-else-anticommutes-clause-size : goal.returns-else-anticommutes-clause-size
 returns-else-anticommutes-clause-size g c = ap (λ t. length t.letters) c.times-else-anticommutes.ensures.product ∙ multiplied_turned_size (length c.args.code.now.0.letters) c.args.qubit c.args.code.now c.requires.pivot c.args.row.now c.requires.size
 
 pub returns-then-anticommutes-2-clause-twisted : goal.returns-then-anticommutes-2-clause-twisted
 returns-then-anticommutes-2-clause-twisted g c =
-    let clash = c.requires.clashes ∙ ap (exclusive_or c.args.clashes) (sym (c.clashes.ensures ∙ ap (λ a. letters_clash a c.args.letter) c.letter-here.ensures)) in
+    let clash = c.requires.clashes ∙ ap (exclusive_or c.args.clashes) (sym c.clashes.ensures) in
     c.set_letter.ensures
-    ∙ along_clashing (length c.args.code.now.0.letters) c.args.qubit c.args.code.now c.requires.pivot c.args.row.now c.requires.size c.args.clashes c.clashes.result clash c.if-anticommutes-2.true c.letter-here.result c.letter-here.ensures c.in_default.not-X c.in_default.not-Y c.times-then-anticommutes-2.result c.times-then-anticommutes-2.ensures
+    ∙ along_clashing (length c.args.code.now.0.letters) c.args.qubit c.args.code.now c.requires.pivot c.args.row.now c.requires.size c.args.clashes c.clashes.result clash c.if-anticommutes-2.true c.args.here c.requires.here c.in_default.not-X c.in_default.not-Y c.times-then-anticommutes-2.result c.times-then-anticommutes-2.ensures
 
 pub returns-else-anticommutes-2-clause-twisted : goal.returns-else-anticommutes-2-clause-twisted
 returns-else-anticommutes-2-clause-twisted g c =
-    let clash = c.requires.clashes ∙ ap (exclusive_or c.args.clashes) (sym (c.clashes.ensures ∙ ap (λ a. letters_clash a c.args.letter) c.letter-here.ensures)) in
-    along_commuting (length c.args.code.now.0.letters) c.args.qubit c.args.code.now c.requires.pivot c.args.row.now c.requires.size c.args.clashes c.clashes.result clash c.if-anticommutes-2.false c.letter-here.result c.letter-here.ensures c.in_default.not-X c.in_default.not-Y
+    let clash = c.requires.clashes ∙ ap (exclusive_or c.args.clashes) (sym c.clashes.ensures) in
+    along_commuting (length c.args.code.now.0.letters) c.args.qubit c.args.code.now c.requires.pivot c.args.row.now c.requires.size c.args.clashes c.clashes.result clash c.if-anticommutes-2.false c.args.here c.requires.here c.in_default.not-X c.in_default.not-Y

@@ -1,5 +1,5 @@
--- A pair of words that have both I at the pivot, and whose own letter isn't measured, is as it was after a turn.
-use Rattle.std.proofs.Common.{◌≡◌, ◌≢◌, ℕ, false, length, set, refl, ap, ap₂, sym, ◌∙◌}
+-- A word that has I at the pivot, and whose own letter doesn't clash with the one measured, is as it was after a turn.
+use Rattle.std.proofs.Common.{◌≡◌, ◌≢◌, ℕ, Bool, false, length, set, refl, ap, ap₂, sym, ◌∙◌}
 use Rattle.std.proofs.lemmas.List.{set-get_or}
 use Rattle.gate_table.specs.declared.gate.Gate.{Gate}
 use Rattle.gate_table.specs.Images.{image1}
@@ -10,11 +10,11 @@ use Rattle.pauli_word.specs.declared.letter.Letter.TheVariants.{I, X, Y, Z}
 use Rattle.pauli_word.specs.Letters.{letters_clash}
 use Rattle.pauli_word.specs.Parity.{exclusive_or}
 use Rattle.pauli_word.specs.Words.{Signed, signed, anticommute, letter_at}
-use Rattle.pauli_word.proofs.LetterLaws.{letters_clash_comm, letters_clash_of_I}
+use Rattle.pauli_word.proofs.LetterLaws.{letters_clash_of_I}
 use Rattle.pauli_word.proofs.Parities.{exclusive_or-false}
 use Rattle.tableau.specs.CliffordMaps.{twisted}
-use Rattle.tableau.specs.Encoding.{Pair, HasLength}
-use Rattle.tableau.specs.EncodingSteps.{lone, IsApart, IsPivot, ClashesAt}
+use Rattle.tableau.specs.Encoding.{Pair}
+use Rattle.tableau.specs.EncodingSteps.{lone, IsPivot}
 use Rattle.tableau.proofs.TwistRows.{along_commuting}
 
 I_not_X : I ≢ X
@@ -37,14 +37,8 @@ module _ (n k : ℕ) (code : Pair) (pivot : IsPivot n k code) (g : Gate) where
       sym (image_kept g k v at)
       ∙ ap (image_at g k) (along_commuting n k code pivot v size false false commutes refl I (sym at) I_not_X I_not_Y)
 
-  no_clash : (b w a c : Letter) → w ≡ I → c ≡ I → exclusive_or (letters_clash b w) (letters_clash c a) ≡ false
-  no_clash b w a c w_is c_is =
-      ap₂ exclusive_or
-      (ap (letters_clash b) w_is ∙ (letters_clash_comm b I ∙ letters_clash_of_I b))
-      (ap (λ t. letters_clash t a) c_is ∙ letters_clash_of_I a)
-
-  pub apart_kept : (w a : Letter) (r : Pair) → HasLength n r → ClashesAt w a k code.0 r → IsApart w k r → r ≡ (image_at g k (twisted (lone n k Z) code.0 r.0), image_at g k (twisted (lone n k Z) code.0 r.1))
-  apart_kept w a r size clashes is =
-      ap₂ (λ x z. (x, z))
-      (word_kept r.0 size.x is.x (clashes.x ∙ no_clash X w a (letter_at r.0.letters k) is.measured is.x))
-      (word_kept r.1 size.z is.z (clashes.z ∙ no_clash Z w a (letter_at r.1.letters k) is.measured is.z))
+  pub row_kept : (v : Signed) → length v.letters ≡ n → (b : Bool) (here a : Letter) → here ≡ letter_at v.letters k
+      → anticommute v.letters code.0.letters ≡ exclusive_or b (letters_clash here a) → here ≡ I → b ≡ false → v ≡ image_at g k (twisted (lone n k Z) code.0 v)
+  row_kept v size b here a here_is clashes none no_clash =
+      word_kept v size (sym here_is ∙ none)
+      (clashes ∙ ap₂ exclusive_or no_clash (ap (λ t. letters_clash t a) none ∙ letters_clash_of_I a))

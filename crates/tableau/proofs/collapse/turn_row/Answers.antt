@@ -1,0 +1,13 @@
+use Rattle.std.proofs.Common.{length, rules, sym, ap, ◌∙◌}
+use Rattle.pauli_word.specs.Letters.{letters_clash}
+use Rattle.pauli_word.specs.Parity.{exclusive_or}
+use Rattle.tableau.specs.EncodingSteps.{turning_gate}
+use Rattle.tableau.proofs.RowsThatStay.{row_kept}
+use Rattle.tableau.proofs.collapse.turn_row.Goals as goal
+
+pub returns-then-stays : goal.returns-then-stays
+returns-then-stays g c =
+    let still = c.if-stays.ensures (search rules) in
+    row_kept (length c.args.code.now.0.letters) c.args.qubit c.args.code.now c.requires.pivot (turning_gate c.args.letter) c.args.row.now c.requires.size
+    c.args.clashes c.letter-here.result c.args.letter c.letter-here.ensures
+    (c.requires.clashes ∙ ap (λ t. exclusive_or c.args.clashes (letters_clash t c.args.letter)) (sym c.letter-here.ensures)) still.0 still.1
