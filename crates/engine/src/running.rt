@@ -1,11 +1,14 @@
 //! The lines of a run.
-ghost use Rattle.std.specs.Prelude.{◌≡◌, ◌⊎◌, [], false, length, replicate, None, Some, Ok, Err, IfOk, IfErr, OnOk, OnErr};
+ghost use Rattle.std.specs.Prelude.{◌≡◌, ◌⊎◌, ◌++◌, [], false, length, replicate, None, Some, Ok, Err, IfOk, IfErr, OnOk, OnErr};
+ghost use Rattle.std.specs.List.{list_any};
 ghost use Rattle.std.specs.Option.{option_copied};
+ghost use Rattle.sampling.specs.Lines.{line_of};
 ghost use Rattle.step_model.specs.declared.fault.Cause.TheVariants.{CoinCount};
 ghost use Rattle.step_model.specs.Ends.{Takes, TakesSome, write_failures};
 ghost use Rattle.step_model.specs.Faults.{memory_fault, without_line, write_fault};
 ghost use Rattle.step_model.specs.Frames.{zero_coins};
 ghost use Rattle.step_model.specs.Runs.{records_of};
+ghost use Rattle.step_model.specs.Targets.{difference};
 ghost use Rattle.engine.specs.Output.{done, program_output, refused_or, run_coins, run_output};
 ghost use Rattle.engine.specs.Output as output;
 
@@ -98,7 +101,8 @@ fn all_false<A: Allocator + Copy>(alloc: A, count: usize) -> Result<Vec<bool, A>
     vec![in alloc; false; count].map_err(|_| Fault::MEMORY)
 }
 
-/// The lines of a run with these faults and coins.
+/// The lines of a run with these faults and coins. Where no fault happens and each coin is 0, it is the run that it is
+/// compared with, and is made once.
 fn lines_of_run<A: Allocator + Copy>(
     alloc: A,
     program: &Program<'_, A>,
@@ -108,10 +112,34 @@ fn lines_of_run<A: Allocator + Copy>(
     ensures ok { IfOk result (λ lines. lines.items ≡ output.run_lines program.now faults.now coins.now) }
     ensures err { IfErr result (λ e. e ≡ memory_fault) }
 {
-    let records = run(alloc, program, faults, coins)?;
     let reference = noiseless_records(alloc, program)?;
-    let detections = detections(alloc, program, &records, &reference)?;
-    run_lines(alloc, &records, detections.as_slice()).map_err(|_| Fault::MEMORY)
+    if !has_true(faults) && !has_true(coins) {
+        return lines_beside(alloc, program, &reference, &reference);
+    }
+    let records = run(alloc, program, faults, coins)?;
+    lines_beside(alloc, program, &records, &reference)
+}
+
+fn has_true(values: &[bool]) -> bool
+    ensures { result ≡ list_any (λ value. value) values.now }
+{
+    values.iter().any(|value| *value)
+}
+
+/// The line of a run's records, and the line of how its targets differ from those of a reference run.
+fn lines_beside<A: Allocator + Copy>(
+    alloc: A,
+    program: &Program<'_, A>,
+    records: &Records<A>,
+    reference: &Records<A>,
+) -> Result<Vec<u8, A>, Fault>
+    requires records_fit { length records.now ≡ program.now.records }
+    requires reference_fit { length reference.now ≡ program.now.records }
+    ensures ok { IfOk result (λ lines. lines.items ≡ line_of records.now ++ line_of (difference program.now records.now reference.now)) }
+    ensures err { IfErr result (λ e. e ≡ memory_fault) }
+{
+    let detections = detections(alloc, program, records, reference)?;
+    run_lines(alloc, records, detections.as_slice()).map_err(|_| Fault::MEMORY)
 }
 
 /// The records of the run in which no fault happens and every coin is 0.
