@@ -1,5 +1,5 @@
 -- The steps of the loops that go over a product by two targets, a star and a factor.
-use Rattle.std.proofs.Common.{◌≡◌, ℕ, ◌-◌, ◌<◌, ◌≤◌, Bool, true, false, not, ◌&&◌, ◌||◌, List, [], ◌∷◌, length, take, drop, get_or, refl, sym, ap, ◌∙◌, arith}
+use Rattle.std.proofs.Common.{◌≡◌, ℕ, ◌-◌, ◌<◌, ◌≤◌, Bool, true, false, not, ◌&&◌, ◌||◌, List, [], ◌∷◌, length, take, drop, get_or, refl, sym, ap, ap₂, ◌∙◌, arith}
 use Rattle.std.proofs.lemmas.List.{take_rest}
 use Rattle.stim_parser.specs.declared.forms.TargetForm.TheVariants.{Products}
 use Rattle.stim_parser.specs.declared.target.Target.{Target}
@@ -9,14 +9,17 @@ use Rattle.stim_parser.proofs.ProductLemmas.{named-step, product-begins, product
 
 -- ---- a list cut behind its first targets
 
-pub cut_one : (xs : List Target) (d : Target) → 1 ≤ length xs → xs ≡ get_or xs 0 d ∷ take (length xs - 1) (drop 1 xs)
-cut_one [] d h = absurd (omega arith)
-cut_one (a ∷ rest) d h = sym (ap (λ t. a ∷ t) (take_rest (a ∷ rest) 1))
+pub cut_one : (xs : List Target) (a : Target) → 1 ≤ length xs → a ≡ get_or xs 0 a → xs ≡ a ∷ take (length xs - 1) (drop 1 xs)
+cut_one [] a h first = absurd (omega arith)
+cut_one (c ∷ rest) a h first =
+    ap (λ (x : Target). x ∷ rest) (sym first) ∙ sym (ap (λ (t : List Target). a ∷ t) (take_rest (c ∷ rest) 1))
 
-pub cut_two : (xs : List Target) (d : Target) → 2 ≤ length xs → xs ≡ get_or xs 0 d ∷ get_or xs 1 d ∷ take (length xs - 2) (drop 2 xs)
-cut_two [] d h = absurd (omega arith)
-cut_two (a ∷ []) d h = absurd (omega arith)
-cut_two (a ∷ b ∷ rest) d h = sym (ap (λ t. a ∷ b ∷ t) (take_rest (a ∷ b ∷ rest) 2))
+pub cut_two : (xs : List Target) (a b : Target) → 2 ≤ length xs → a ≡ get_or xs 0 a → b ≡ get_or xs 1 b → xs ≡ a ∷ b ∷ take (length xs - 2) (drop 2 xs)
+cut_two [] a b h first second = absurd (omega arith)
+cut_two (c ∷ []) a b h first second = absurd (omega arith)
+cut_two (c ∷ d ∷ rest) a b h first second =
+    ap₂ (λ (x y : Target). x ∷ y ∷ rest) (sym first) (sym second)
+    ∙ sym (ap (λ (t : List Target). a ∷ b ∷ t) (take_rest (c ∷ d ∷ rest) 2))
 
 -- ---- limits of targets
 

@@ -12,6 +12,7 @@ pub mod Texts
 pub mod Trees
 pub mod Circuits
 pub mod Flat
+pub mod Halves
 pub mod Unfinished
 pub mod Coordinates
 pub mod QubitSets

@@ -134,7 +134,7 @@ fn turns_of(targets: &[Target]) -> u64
     ensures { result ≡ turns_of targets.now }
 {
     match targets {
-        [Target::Plain(turns), ..] => *turns,
+        [Target::Plain(turns), ..] => turns.value(),
         _ => 0,
     }
 }

@@ -67,12 +67,22 @@ pub(crate) fn are_pairs_one_record(targets: &[Target]) -> bool
     }
 }
 
+/// Whether a target is this qubit.
+fn is_plain_at(qubit: u64, target: Target) -> bool
+    ensures { result ≡ is_same_qubit (Target.Plain qubit) target }
+{
+    match target {
+        Target::Plain(other) => qubit == other.value(),
+        _ => false,
+    }
+}
+
 /// Whether two targets are one qubit.
 fn is_same_qubit(first: Target, second: Target) -> bool
     ensures { result ≡ is_same_qubit first second }
 {
-    match (first, second) {
-        (Target::Plain(p), Target::Plain(q)) => p == q,
+    match first {
+        Target::Plain(qubit) => is_plain_at(qubit.value(), second),
         _ => false,
     }
 }

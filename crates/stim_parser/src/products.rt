@@ -35,7 +35,11 @@ fn begins_with_factor(targets: &[Target]) -> bool
 fn goes_on(target: Target, rest: &[Target]) -> bool
     ensures { result ≡ (is_factor target || (is_joining target && begins_with_factor rest.now)) }
 {
-    is_factor(target) || (is_joining(target) && begins_with_factor(rest))
+    match target {
+        Target::Pauli(_, _, _) => true,
+        Target::Star => begins_with_factor(rest),
+        Target::Plain(_) | Target::Inverted(_) | Target::Back(_) => false,
+    }
 }
 
 /// Whether targets are factors and stars, each star before a factor.
@@ -68,7 +72,7 @@ fn is_factor_within(named: &QubitSet, target: Target) -> bool
     ensures { result ≡ is_factor_within (is_named named.now.words) target }
 {
     match target {
-        Target::Pauli(_, _, qubit) => named.contains(qubit),
+        Target::Pauli(_, _, qubit) => named.contains(qubit.value()),
         _ => false,
     }
 }
@@ -79,7 +83,7 @@ fn put_in(named: &mut QubitSet, target: Target)
     ensures { (q : ℕ) → is_named named.new.words q ≡ (is_factor_at q target || is_named named.old.words q) }
 {
     if let Target::Pauli(_, _, qubit) = target {
-        named.insert(qubit);
+        named.insert(qubit.value());
     }
 }
 
@@ -89,7 +93,7 @@ fn take_out(named: &mut QubitSet, target: Target)
     ensures { (q : ℕ) → is_named named.new.words q ≡ (not (is_factor_at q target) && is_named named.old.words q) }
 {
     if let Target::Pauli(_, _, qubit) = target {
-        named.remove(qubit);
+        named.remove(qubit.value());
     }
 }
 

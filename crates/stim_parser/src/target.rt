@@ -2,6 +2,7 @@ ghost use Rattle.std.specs.Prelude.{◌≡◌, None, Some, option_map, IfOk, Mat
 ghost use Rattle.stim_parser.specs.Targets.{at_least_one, before_bracket, inverted_of, letter_of, marked_of, pauli_of, record_of, target_of, targets_in};
 
 use crate::digits::number_of;
+use crate::halved::Number;
 use crate::piece::next_piece;
 use pauli_word::Letter;
 use std::alloc::{AllocError, Allocator};
@@ -10,13 +11,13 @@ use std::alloc::{AllocError, Allocator};
 #[derive(Clone, Copy, Debug, PartialEq, Eq)]
 pub enum Target {
     /// A number alone: a qubit, or how often a block is repeated.
-    Plain(u64),
+    Plain(Number),
     /// A qubit with `!` before it.
-    Inverted(u64),
+    Inverted(Number),
     /// A record, by how far back it lies, from 1.
-    Back(u64),
+    Back(Number),
     /// Whether `!` stands before it, a letter and its qubit.
-    Pauli(bool, Letter, u64),
+    Pauli(bool, Letter, Number),
     /// A `*`, which joins the Pauli targets beside it.
     Star,
 }
@@ -70,7 +71,7 @@ fn pauli_of(inverted: bool, text: &[u8]) -> Option<Target>
         [first, digits @ ..] => {
             let letter = letter_of(*first)?;
             let qubit = number_of(digits)?;
-            Some(Target::Pauli(inverted, letter, qubit))
+            Some(Target::Pauli(inverted, letter, Number::new(qubit)))
         }
         [] => None,
     }
@@ -81,7 +82,7 @@ fn inverted_of(text: &[u8]) -> Option<Target>
     ensures { result ≡ inverted_of text.now }
 {
     match number_of(text) {
-        Some(qubit) => Some(Target::Inverted(qubit)),
+        Some(qubit) => Some(Target::Inverted(Number::new(qubit))),
         None => pauli_of(true, text),
     }
 }
@@ -104,10 +105,10 @@ fn target_of(piece: &[u8]) -> Option<Target>
     ensures { result ≡ target_of piece.now }
 {
     if let Some(number) = number_of(piece) {
-        return Some(Target::Plain(number));
+        return Some(Target::Plain(Number::new(number)));
     }
     if let Some(back) = record_of(piece) {
-        return Some(Target::Back(back));
+        return Some(Target::Back(Number::new(back)));
     }
     marked_of(piece)
 }

@@ -80,10 +80,10 @@ fn is_target_beyond(form: TargetForm, target: Target) -> bool
     ensures { result ≡ is_target_beyond form target }
 {
     match target {
-        Target::Plain(number) => is_plain_beyond(form, number),
-        Target::Back(back) => is_number_beyond(back),
-        Target::Inverted(qubit) => is_qubit_beyond(qubit),
-        Target::Pauli(_, _, qubit) => is_qubit_beyond(qubit),
+        Target::Plain(number) => is_plain_beyond(form, number.value()),
+        Target::Back(back) => is_number_beyond(back.value()),
+        Target::Inverted(qubit) => is_qubit_beyond(qubit.value()),
+        Target::Pauli(_, _, qubit) => is_qubit_beyond(qubit.value()),
         Target::Star => false,
     }
 }

@@ -1,6 +1,6 @@
 -- Counts at each place, changed one place after another.
 use Rattle.std.proofs.Common.{◌≡◌, ℕ, zero, suc, ◌+◌, ◌-◌, ◌*◌, ◌<◌, ◌≤◌, ℤ, pos, neg_ℤ, ◌+ℤ◌, List, [], ◌∷◌, ◌++◌, length, get_or, set, take, drop, refl, sym, ap, ◌∙◌, arith}
-use Rattle.std.specs.Prelude.{min}
+use Rattle.std.specs.Prelude.{◌^◌, All, min}
 use Rattle.std.proofs.lemmas.List.{take_more}
 use Rattle.unroll.specs.Placing.{added_by, moved_to, moved_up, raised_by, turned_by}
 use Rattle.unroll.proofs.OffsetLemmas.{length-down, length-up, raised-none}
@@ -89,6 +89,14 @@ length-added m [] [] e = refl
 length-added m [] (q ∷ c) e = absurd (omega (arith, e))
 length-added m (p ∷ b) [] e = refl
 length-added m (p ∷ b) (q ∷ c) e = ap suc (length-added m b c (omega (arith, e)))
+
+-- what turns add at a place, by what one of them adds
+pub step-added : (m : ℕ) (b c : List ℕ) (j rise : ℕ) → j < length c → length b ≡ length c → All (λ n. n < 2 ^ 62) (added_by m b c) → rise ≡ get_or c j 0 - get_or b j 0
+    → (m * rise ≡ get_or (added_by m b c) j 0) × (m * rise < 2 ^ 62)
+step-added m b c j rise h e small is =
+    let here : m * rise ≡ get_or (added_by m b c) j 0 = ap (λ (n : ℕ). m * n) is ∙ sym (added-at m b c j 0 h e) in
+    let within = small j 0 (omega (arith, h, length-added m b c e)) in
+    (here, omega (arith, here, within))
 
 -- ---- coordinates moved
 

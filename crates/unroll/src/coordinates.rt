@@ -3,38 +3,66 @@ ghost use Rattle.stim_parser.specs.Circuits.{Fits};
 ghost use Rattle.stim_parser.specs.Flat.{instruction_in};
 ghost use Rattle.unroll.specs.Coordinates.{coordinates_of};
 ghost use Rattle.unroll.specs.Gathered.{later};
-ghost use Rattle.unroll.specs.Placing.{IsStated, added_by, moved_to, placing};
+ghost use Rattle.unroll.specs.Placing.{IsStated, added_by, placing};
 ghost use Rattle.unroll.specs.Totals.{step_total};
 
 use crate::blocks::{LEVELS, OpenBlock};
 use crate::marks::Mark;
-use crate::offsets::{AXES, Offset, added, moved};
+use crate::offsets::{AXES, Offset, moved};
 use crate::shifts::{coordinates_read, shift, turn_on};
 use arrayvec::ArrayVec;
 use flat_lists::FlatLists;
 use std::alloc::{AllocError, Allocator};
 use stim_parser::{Circuit, Instruction, Item, Operation};
 
-/// Appends copies of the coordinates from one place to another, each moved up by these counts and down by those.
+/// Puts these coordinates, moved on by so many turns with these offsets before and behind one, in place of those that were
+/// there.
+fn copy_moved<A: Allocator + Copy>(
+    moved: &mut Vec<i64, A>,
+    stated: &[i64],
+    turns: u64,
+    before: &Offset,
+    after: &Offset,
+) -> Result<(), AllocError>
+    requires stated { IsStated stated.now }
+    requires small_up { All (λ n. n < 2 ^ 62) (added_by turns before.now.up after.now.up) }
+    requires small_down { All (λ n. n < 2 ^ 62) (added_by turns before.now.down after.now.down) }
+    ensures { OnOk result (moved.new.items ≡ placing.moved turns before.now after.now stated.now) }
+{
+    moved.clear();
+    for j in 0..stated.len() {
+        let rise = after.up[j].saturating_sub(before.up[j]);
+        let fall = after.down[j].saturating_sub(before.down[j]);
+        let up = turns * rise;
+        let down = turns * fall;
+        let raised = stated[j] + up as i64;
+        let place = raised - down as i64;
+        moved.push(place)?;
+    }
+    Ok(())
+}
+
+/// Appends copies of the coordinates from one place to another, each moved on by so many turns with these offsets before
+/// and behind one.
 fn push_moved<A: Allocator + Copy>(
+    moved: &mut Vec<i64, A>,
     lists: &mut FlatLists<i64, A>,
     first: usize,
     end: usize,
-    up: &[u64],
-    down: &[u64],
+    turns: u64,
+    before: &Offset,
+    after: &Offset,
 ) -> Result<(), AllocError>
     requires ordered { first ≤ end }
     requires within { end ≤ length lists.old }
     requires stated { All IsStated (slice_range lists.old first end) }
-    requires wide_up { AXES ≤ length up.now }
-    requires wide_down { AXES ≤ length down.now }
-    requires small_up { All (λ n. n < 2 ^ 62) up.now }
-    requires small_down { All (λ n. n < 2 ^ 62) down.now }
-    ensures { OnOk result (lists.new ≡ lists.old ++ map (moved_to up.now down.now) (slice_range lists.old first end)) }
+    requires small_up { All (λ n. n < 2 ^ 62) (added_by turns before.now.up after.now.up) }
+    requires small_down { All (λ n. n < 2 ^ 62) (added_by turns before.now.down after.now.down) }
+    ensures { OnOk result (lists.new ≡ lists.old ++ map (placing.moved turns before.now after.now) (slice_range lists.old first end)) }
 {
     for k in first..end {
-        let coordinates = moved(lists.get(k), up, down);
-        lists.push(coordinates.as_slice())?;
+        copy_moved(moved, lists.get(k), turns, before, after)?;
+        lists.push(moved.as_slice())?;
     }
     Ok(())
 }
@@ -63,6 +91,7 @@ fn push_coordinates<A: Allocator + Copy>(
 /// Appends what so many later turns of a block give, where this is where the pass stood before its first turn, and this the
 /// offset behind it. No turn is gone over where the first gave nothing.
 fn push_later_turns<A: Allocator + Copy>(
+    alloc: A,
     lists: &mut FlatLists<i64, A>,
     before: &Mark<Offset>,
     turns: u64,
@@ -78,10 +107,17 @@ fn push_later_turns<A: Allocator + Copy>(
     if end <= first {
         return Ok(());
     }
+    let mut moved = Vec::new(alloc);
     for turn in 0..turns {
-        let up = added(turn + 1, &before.place.up, &after.up);
-        let down = added(turn + 1, &before.place.down, &after.down);
-        push_moved(lists, first, end, up.as_slice(), down.as_slice())?;
+        push_moved(
+            &mut moved,
+            lists,
+            first,
+            end,
+            turn + 1,
+            &before.place,
+            after,
+        )?;
     }
     Ok(())
 }
@@ -118,7 +154,7 @@ pub(crate) fn coordinates_of<A: Allocator + Copy>(
             Item::Ends => {
                 let block = blocks.pop().unwrap();
                 let later = block.turns.saturating_sub(1);
-                push_later_turns(&mut coordinates, &block.before, later, &offset)?;
+                push_later_turns(alloc, &mut coordinates, &block.before, later, &offset)?;
                 turn_on(&mut offset, &block.before.place, later);
             }
         }

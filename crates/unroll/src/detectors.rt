@@ -20,7 +20,7 @@ pub(crate) fn record_named(records: u64, target: Target) -> u32
     ensures { result ≡ record_named records target }
 {
     match target {
-        Target::Back(k) => records.saturating_sub(k) as u32,
+        Target::Back(k) => records.saturating_sub(k.value()) as u32,
         _ => 0,
     }
 }
@@ -79,7 +79,7 @@ fn copy_moved<A: Allocator + Copy>(
 
 /// Appends copies of the lists from one place to another, each record so many further on.
 fn push_moved<A: Allocator + Copy>(
-    alloc: A,
+    moved: &mut Vec<u32, A>,
     lists: &mut FlatLists<u32, A>,
     first: usize,
     end: usize,
@@ -90,10 +90,9 @@ fn push_moved<A: Allocator + Copy>(
     requires small { All (All (λ r. r + by < 2 ^ 32)) (slice_range lists.old first end) }
     ensures { OnOk result (lists.new ≡ lists.old ++ map (records_moved by) (slice_range lists.old first end)) }
 {
-    let mut moved = Vec::new(alloc);
     for k in first..end {
-        copy_moved(&mut moved, lists.get(k), by)?;
-        lists.push(&moved)?;
+        copy_moved(moved, lists.get(k), by)?;
+        lists.push(moved.as_slice())?;
     }
     Ok(())
 }
@@ -115,8 +114,9 @@ fn push_later_turns<A: Allocator + Copy>(
     if end <= first {
         return Ok(());
     }
+    let mut moved = Vec::new(alloc);
     for turn in 0..turns {
-        push_moved(alloc, lists, first, end, ((turn + 1) * by) as u32)?;
+        push_moved(&mut moved, lists, first, end, ((turn + 1) * by) as u32)?;
     }
     Ok(())
 }

@@ -1,5 +1,5 @@
 ghost use Rattle.std.specs.Prelude.{◌≡◌, ◌-◌, ◌*◌, ◌<◌, ◌≤◌, ◌^◌, ◌≤ℤ◌, pos, neg_ℤ, All, length, map};
-ghost use Rattle.unroll.specs.Placing.{IsSmall, added_by, down_of, moved_to, raised_by, turned_by, up_of};
+ghost use Rattle.unroll.specs.Placing.{IsSmall, down_of, moved_to, raised_by, turned_by, up_of};
 
 use arrayvec::ArrayVec;
 
@@ -71,20 +71,6 @@ pub(crate) fn turn(counts: &mut [u64], before: &[u64], turns: u64)
         let count = counts[j];
         counts[j] = count + turns * count.saturating_sub(before[j]);
     }
-}
-
-/// How much so many turns add to counts, by those before and behind one of them.
-pub(crate) fn added(turns: u64, before: &[u64], after: &[u64]) -> ArrayVec<u64, AXES>
-    requires few { length after.now ≤ AXES }
-    requires same { length before.now ≡ length after.now }
-    requires small { All (λ n. n < 2 ^ 62) (added_by turns before.now after.now) }
-    ensures { result.items ≡ added_by turns before.now after.now }
-{
-    let mut found = ArrayVec::new();
-    for j in 0..after.len() {
-        found.push(turns * after[j].saturating_sub(before[j]));
-    }
-    found
 }
 
 /// Coordinates moved up by these counts, and down by those.

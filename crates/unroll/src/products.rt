@@ -22,8 +22,7 @@ fn push_each_product<A: Allocator + Copy>(
     terms.clear();
     let mut rest = targets;
     while let Some(parts) = rest.split_first() {
-        let factor = *parts.0;
-        terms.push(term_at(letter_at(factor), factor))?;
+        terms.push(term_at(letter_at(*parts.0), *parts.0))?;
         let (joined, behind) = end_of_factor(parts.1);
         rest = behind;
         if joined {

@@ -1,6 +1,6 @@
 ghost use Rattle.std.specs.Prelude.{◌≡◌, ◌+◌, ◌<◌, ◌^◌, ◌≤◌, All, length, map, OnOk};
 ghost use Rattle.pauli_word.specs.Parity.{exclusive_or};
-ghost use Rattle.unroll.specs.Made.{fault_steps, fed_letter, is_inverted, operation_steps, pair_step, pair_steps, product_steps, products_of, record_back};
+ghost use Rattle.unroll.specs.Made.{fault_steps, fed_letter, is_inverted, operation_steps, pair_step, pair_steps, product_steps, products_of, qubit_of, record_back};
 ghost use Rattle.unroll.specs.Pushed.{Adds, IsSmall, single_step};
 ghost use Rattle.unroll.specs.Totals.{qubits_to, target_count};
 
@@ -52,11 +52,25 @@ fn fed_letter(gate: Gate) -> Letter
     }
 }
 
+/// The qubit that a target names, and whether it has a `!`.
+fn qubit_and_sign(target: Target) -> (u32, bool)
+    requires { qubits_to target ≤ 4096 }
+    ensures qubit { result.0 ≡ qubit_of target }
+    ensures sign { result.1 ≡ is_inverted target }
+{
+    match target {
+        Target::Plain(q) => (q.value() as u32, false),
+        Target::Inverted(q) => (q.value() as u32, true),
+        Target::Pauli(inverted, _, q) => (q.value() as u32, inverted),
+        Target::Back(_) | Target::Star => (0, false),
+    }
+}
+
 fn single_step(single: Single, target: Target) -> TextStep
     requires { qubits_to target ≤ 4096 }
     ensures { result ≡ single_step single target }
 {
-    let q = qubit_of(target);
+    let (q, inverted) = qubit_and_sign(target);
     match single {
         Single::Applies(gate) => TextStep::One { gate, q },
         Single::Measures {
@@ -67,10 +81,7 @@ fn single_step(single: Single, target: Target) -> TextStep
             letter,
             qubit: q,
             reset,
-            recording: Some(Recording {
-                inverted: is_inverted(target),
-                flip,
-            }),
+            recording: Some(Recording { inverted, flip }),
         },
         Single::Resets(letter) => TextStep::Collapse {
             letter,
@@ -81,13 +92,18 @@ fn single_step(single: Single, target: Target) -> TextStep
     }
 }
 
-/// How many records back a target is, where it is a record.
-fn record_back(target: Target) -> Option<u64>
-    ensures { result ≡ record_back target }
+/// How many records back a target is, where it is a record, and the qubit that it names.
+fn back_and_qubit(target: Target) -> (Option<u64>, u32)
+    requires { qubits_to target ≤ 4096 }
+    ensures back { result.0 ≡ record_back target }
+    ensures qubit { result.1 ≡ qubit_of target }
 {
     match target {
-        Target::Back(k) => Some(k),
-        _ => None,
+        Target::Plain(q) | Target::Inverted(q) | Target::Pauli(_, _, q) => {
+            (None, q.value() as u32)
+        }
+        Target::Back(k) => (Some(k.value()), 0),
+        Target::Star => (None, 0),
     }
 }
 
@@ -97,21 +113,23 @@ fn pair_step(gate: Gate, a: Target, b: Target) -> TextStep
     requires second { IsSmall b }
     ensures { result ≡ pair_step gate a b }
 {
-    match (record_back(a), record_back(b)) {
+    let (back_a, qubit_a) = back_and_qubit(a);
+    let (back_b, qubit_b) = back_and_qubit(b);
+    match (back_a, back_b) {
         (Some(k), _) => TextStep::Feedback {
             letter: fed_letter(gate),
-            q: qubit_of(b),
+            q: qubit_b,
             back: k as u32,
         },
         (None, Some(k)) => TextStep::Feedback {
             letter: fed_letter(gate),
-            q: qubit_of(a),
+            q: qubit_a,
             back: k as u32,
         },
         (None, None) => TextStep::Two {
             gate,
-            a: qubit_of(a),
-            b: qubit_of(b),
+            a: qubit_a,
+            b: qubit_b,
         },
     }
 }

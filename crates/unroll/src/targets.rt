@@ -13,7 +13,7 @@ fn qubits_to(target: Target) -> u32
     ensures { result ≡ qubits_to target }
 {
     match target {
-        Target::Plain(q) | Target::Inverted(q) | Target::Pauli(_, _, q) => q as u32 + 1,
+        Target::Plain(q) | Target::Inverted(q) | Target::Pauli(_, _, q) => q.value() as u32 + 1,
         Target::Back(_) | Target::Star => 0,
     }
 }
@@ -24,7 +24,7 @@ pub(crate) fn qubit_of(target: Target) -> u32
     ensures { result ≡ qubit_of target }
 {
     match target {
-        Target::Plain(q) | Target::Inverted(q) | Target::Pauli(_, _, q) => q as u32,
+        Target::Plain(q) | Target::Inverted(q) | Target::Pauli(_, _, q) => q.value() as u32,
         Target::Back(_) | Target::Star => 0,
     }
 }
@@ -47,7 +47,7 @@ fn is_far(records: u64, target: Target) -> bool
     ensures { result ≡ is_far records target }
 {
     match target {
-        Target::Back(k) => records < k,
+        Target::Back(k) => records < k.value(),
         _ => false,
     }
 }

@@ -20,5 +20,5 @@ loop-k-preserved g c =
     let k = c.loop-k.k in
     let inside : k < length start = omega (arith, c.requires.within) in
     c.in_ok-push.ensures.ok
-    ∙ ap (λ (xs : List ℕ). c.loop-k.lists ++ xs ∷ []) (c.deref.ensures.value ∙ c.in_ok-copy_moved.ensures)
+    ∙ ap (λ (xs : List ℕ). c.loop-k.lists ++ xs ∷ []) (c.as_slice.ensures.value ∙ c.in_ok-copy_moved.ensures)
     ∙ turn-more (records_moved c.args.by) start c.loop-k.lists c.args.first k c.get.result.now [] (omega arith) inside c.loop-k.invariant c.get.ensures.value

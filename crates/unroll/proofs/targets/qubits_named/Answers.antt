@@ -1,16 +1,16 @@
-use Rattle.std.proofs.Common.{arith}
+use Rattle.std.proofs.Common.{ap, arith}
 use Rattle.std.proofs.lemmas.List.{at_drop_more, at_drop_all}
-use Rattle.stim_parser.specs.declared.target.Target.TheVariants.{Plain}
-use Rattle.unroll.specs.Totals.{qubits_named}
+use Rattle.unroll.specs.Totals.{qubits_named, qubits_to}
 use Rattle.unroll.proofs.targets.qubits_named.Goals as goal
 
 pub loop-target-preserved : goal.loop-target-preserved
 loop-target-preserved c =
-    let more = at_drop_more qubits_named c.args.targets.now c.loop-target.target-index (Plain 0) (omega arith) in
-    let small = c.requires c.loop-target.target-index (Plain 0) (omega arith) in
+    let more = at_drop_more qubits_named c.args.targets.now c.loop-target.target-index c.target-item.result (omega arith) in
+    let small = c.requires c.loop-target.target-index c.target-item.result (omega arith) in
+    let read = ap qubits_to c.target-item.is in
     record {
-      value = omega (arith, more, c.qubits_to.ensures, c.max-qubits.ensures, c.loop-target.invariant.value);
-      small = omega (arith, small, c.qubits_to.ensures, c.max-qubits.ensures, c.loop-target.invariant.small);
+      value = omega (arith, more, read, c.qubits_to.ensures, c.max-qubits.ensures, c.loop-target.invariant.value);
+      small = omega (arith, small, read, c.qubits_to.ensures, c.max-qubits.ensures, c.loop-target.invariant.small);
     }
 
 pub returns-clause-value : goal.returns-clause-value
