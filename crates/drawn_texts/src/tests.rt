@@ -11,6 +11,7 @@ mod products;
 mod randoms;
 mod runs;
 mod served;
+mod shots;
 
 use analyses::finding_of;
 use circuits::draw;

@@ -8,6 +8,7 @@ mod lists;
 mod models;
 mod reader_ends;
 mod short_ends;
+mod side_words;
 mod texts;
 mod walks;
 mod words;

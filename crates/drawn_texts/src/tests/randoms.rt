@@ -62,16 +62,8 @@ fn lines_of(detectors: usize, which: u32, (first, second): (&[bool], &[bool])) -
         page.push_all(b"random L");
         page.push_number(which.saturating_sub(detectors));
     }
-    push_line(&mut page, &[]);
-    push_line(&mut page, first);
-    push_line(&mut page, second);
+    page.push_line(&[]);
+    page.push_line(first);
+    page.push_line(second);
     page
-}
-
-/// A digit for each coin, and the end of a line.
-fn push_line(page: &mut Page, coins: &[bool]) {
-    for coin in coins {
-        page.push(if *coin { b'1' } else { b'0' });
-    }
-    page.push(b'\n');
 }

@@ -6,7 +6,7 @@ use lines::{BEYOND_LIMITS, LEFT_OUT, OPENING, REFUSED, REFUSED_DEEP, REFUSED_TWI
 use std::alloc::Allocator;
 use std::test::Fail;
 use step_model::{Cause, Fault};
-use stim_parser::{Circuit, Item, Operation, Target, parse};
+use stim_parser::{Circuit, Item, Number, Operation, Target, parse};
 
 /// A line inside so many blocks, with so many ends of blocks behind it.
 fn put_inside<A: Allocator + Copy>(
@@ -149,7 +149,8 @@ fn is_feedback(item: Option<Item<'_, '_>>) -> bool {
         Some(Item::Does(found)) => {
             found.operation == Operation::Applies(Gate::CX)
                 && found.first_argument().is_none()
-                && found.targets == [Target::Back(2), Target::Plain(3)].as_slice()
+                && found.targets
+                    == [Target::Back(Number::new(2)), Target::Plain(Number::new(3))].as_slice()
         }
         _ => false,
     }

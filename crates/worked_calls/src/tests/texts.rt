@@ -4,8 +4,16 @@ mod written;
 use std::alloc::Allocator;
 use std::test::Fail;
 use step_model::{Cause, Fault};
-use stim_parser::{Circuit, Item, laws, parse};
-use written::{REFUSED, WRITTEN, Wanted};
+use stim_parser::{Circuit, Item, Target, laws, parse};
+use written::{Named, REFUSED, WRITTEN, Wanted, name_of};
+
+fn are_named(targets: &[Target], wanted: &[Named]) -> bool {
+    targets.len() == wanted.len()
+        && targets
+            .iter()
+            .zip(wanted)
+            .all(|(target, name)| name_of(*target) == *name)
+}
 
 fn says(item: Item, wanted: Wanted) -> bool {
     match (item, wanted) {
@@ -13,7 +21,7 @@ fn says(item: Item, wanted: Wanted) -> bool {
             found.line == line
                 && found.operation == operation
                 && found.arguments == arguments
-                && found.targets == targets
+                && are_named(found.targets, targets)
         }
         (Item::Begins { line, turns }, Wanted::Begins(at, times)) => line == at && turns == times,
         (Item::Ends, Wanted::Ends) => true,

@@ -7,3 +7,4 @@ mod feedback;
 mod predictions;
 mod products;
 mod refusals;
+mod shots;

@@ -4,10 +4,31 @@ use pauli_word::Letter;
 use step_model::Cause;
 use stim_parser::{Operation, Target};
 
+/// What a target is to name.
+#[derive(Clone, Copy, Debug, PartialEq, Eq)]
+pub(crate) enum Named {
+    Plain(u64),
+    Inverted(u64),
+    Back(u64),
+    Pauli(bool, Letter, u64),
+    Star,
+}
+
+/// What a target names.
+pub(crate) fn name_of(target: Target) -> Named {
+    match target {
+        Target::Plain(number) => Named::Plain(number.value()),
+        Target::Inverted(qubit) => Named::Inverted(qubit.value()),
+        Target::Back(back) => Named::Back(back.value()),
+        Target::Pauli(inverted, letter, qubit) => Named::Pauli(inverted, letter, qubit.value()),
+        Target::Star => Named::Star,
+    }
+}
+
 /// What an item is to say.
 #[derive(Clone, Copy, Debug)]
 pub(crate) enum Wanted {
-    Does(u64, Operation, &'static [u8], &'static [Target]),
+    Does(u64, Operation, &'static [u8], &'static [Named]),
     Begins(u64, u64),
     Ends,
 }
@@ -22,23 +43,23 @@ const M: Operation = Operation::Measures(Letter::Z);
 pub(crate) const WRITTEN: [Written; 12] = [
     (b"", &[]),
     (b"# nothing\n\n \t\r\n#", &[]),
-    (b"H 0", &[Wanted::Does(1, H, b"", &[Target::Plain(0)])]),
+    (b"H 0", &[Wanted::Does(1, H, b"", &[Named::Plain(0)])]),
     (
         b"\r\n\tH 0 1\r\n\n# two\nM(0.1) !2\r",
         &[
-            Wanted::Does(2, H, b"", &[Target::Plain(0), Target::Plain(1)]),
-            Wanted::Does(5, M, b"0.1", &[Target::Inverted(2)]),
+            Wanted::Does(2, H, b"", &[Named::Plain(0), Named::Plain(1)]),
+            Wanted::Does(5, M, b"0.1", &[Named::Inverted(2)]),
         ],
     ),
     (b"REPEAT 2 {\n}", &[Wanted::Begins(1, 2), Wanted::Ends]),
     (
         b"H 3\nREPEAT 2 {\n  M 3\n  REPEAT 005{ # five\n    H 4\n  }\n\n} # both\nTICK",
         &[
-            Wanted::Does(1, H, b"", &[Target::Plain(3)]),
+            Wanted::Does(1, H, b"", &[Named::Plain(3)]),
             Wanted::Begins(2, 2),
-            Wanted::Does(3, M, b"", &[Target::Plain(3)]),
+            Wanted::Does(3, M, b"", &[Named::Plain(3)]),
             Wanted::Begins(4, 5),
-            Wanted::Does(5, H, b"", &[Target::Plain(4)]),
+            Wanted::Does(5, H, b"", &[Named::Plain(4)]),
             Wanted::Ends,
             Wanted::Ends,
             Wanted::Does(9, Operation::Ticks, b"", &[]),
@@ -60,8 +81,8 @@ pub(crate) const WRITTEN: [Written; 12] = [
     (
         b"H[a # b { } [] 0\nM[}](0.2)1",
         &[
-            Wanted::Does(1, H, b"", &[Target::Plain(0)]),
-            Wanted::Does(2, M, b"0.2", &[Target::Plain(1)]),
+            Wanted::Does(1, H, b"", &[Named::Plain(0)]),
+            Wanted::Does(2, M, b"0.2", &[Named::Plain(1)]),
         ],
     ),
     (
@@ -70,7 +91,7 @@ pub(crate) const WRITTEN: [Written; 12] = [
             1,
             Operation::Detects,
             b" 1 , -2,007 ",
-            &[Target::Back(1), Target::Back(3)],
+            &[Named::Back(1), Named::Back(3)],
         )],
     ),
     (
@@ -82,8 +103,8 @@ pub(crate) const WRITTEN: [Written; 12] = [
                 Operation::ErrsTogether,
                 b"0.1",
                 &[
-                    Target::Pauli(false, Letter::X, 1),
-                    Target::Pauli(false, Letter::Z, 2),
+                    Named::Pauli(false, Letter::X, 1),
+                    Named::Pauli(false, Letter::Z, 2),
                 ],
             ),
             Wanted::Does(
@@ -91,9 +112,9 @@ pub(crate) const WRITTEN: [Written; 12] = [
                 Operation::MeasuresProducts,
                 b"",
                 &[
-                    Target::Pauli(false, Letter::X, 0),
-                    Target::Star,
-                    Target::Pauli(false, Letter::Y, 1),
+                    Named::Pauli(false, Letter::X, 0),
+                    Named::Star,
+                    Named::Pauli(false, Letter::Y, 1),
                 ],
             ),
         ],
@@ -105,25 +126,25 @@ pub(crate) const WRITTEN: [Written; 12] = [
             Operation::Applies(Gate::CX),
             b"",
             &[
-                Target::Back(1),
-                Target::Plain(2),
-                Target::Plain(0),
-                Target::Plain(1),
+                Named::Back(1),
+                Named::Plain(2),
+                Named::Plain(0),
+                Named::Plain(1),
             ],
         )],
     ),
     (
         b"X_ERROR(1) 4\nRY 1\nMRX 2\nQUBIT_COORDS(1.5) 0\nSHIFT_COORDS(1)",
         &[
-            Wanted::Does(1, Operation::Errs(Letter::X), b"1", &[Target::Plain(4)]),
-            Wanted::Does(2, Operation::Resets(Letter::Y), b"", &[Target::Plain(1)]),
+            Wanted::Does(1, Operation::Errs(Letter::X), b"1", &[Named::Plain(4)]),
+            Wanted::Does(2, Operation::Resets(Letter::Y), b"", &[Named::Plain(1)]),
             Wanted::Does(
                 3,
                 Operation::MeasuresAndResets(Letter::X),
                 b"",
-                &[Target::Plain(2)],
+                &[Named::Plain(2)],
             ),
-            Wanted::Does(4, Operation::PlacesQubits, b"1.5", &[Target::Plain(0)]),
+            Wanted::Does(4, Operation::PlacesQubits, b"1.5", &[Named::Plain(0)]),
             Wanted::Does(5, Operation::ShiftsCoordinates, b"1", &[]),
         ],
     ),
