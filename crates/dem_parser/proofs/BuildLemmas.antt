@@ -4,15 +4,13 @@ use Rattle.std.specs.Prelude.{All, cond, filter, slice_get}
 use Rattle.std.proofs.lemmas.List.{map-append, get_or-map, length-map}
 use Rattle.std.proofs.lemmas.List.Elements.{All-append, All-cons}
 use Rattle.step_model.specs.ErrorModels.{ErrorLine, ErrorModel}
-use Rattle.dem_parser.specs.declared.instruction.Instruction as kept
 use Rattle.dem_parser.specs.declared.target.Target.{Target}
 use Rattle.dem_parser.specs.Fitting.{AllFit, Fits}
-use Rattle.dem_parser.specs.Flat.{instruction_in}
-use Rattle.dem_parser.specs.Gathered.{instructions_in}
+use Rattle.dem_parser.specs.Gathered.{instruction_at, instructions_at}
 use Rattle.dem_parser.specs.Meanings.{error_line, error_lines, greatest_of, greatest_over, is_error}
 use Rattle.dem_parser.specs.Reached.{copies, reached}
 use Rattle.dem_parser.specs.Shifts.{Placed}
-use Rattle.dem_parser.specs.Trees.{Tree, Nothing, Then, Block}
+use Rattle.dem_parser.specs.Trees.{Tree, Nothing, Then, Block, items_of}
 use Rattle.dem_parser.specs.Verdicts.{Instruction}
 use Rattle.dem_parser.proofs.MarkLemmas.{take-got}
 
@@ -65,7 +63,8 @@ fits-reached (Then i t) fit = All-cons Fits i (reached t) fit.0 (fits-reached t 
 fits-reached (Block line turns t u) fit =
     All-append Fits (copies turns (reached t)) (reached u) (fits-copies turns (reached t) (fits-reached t fit.1)) (fits-reached u fit.2)
 
-pub fits-kept : (t : Tree) (xs : List kept.Instruction) → AllFit t → instructions_in xs ≡ reached t → All (λ i. Fits (instruction_in i)) xs
-fits-kept t xs fit e k d below =
-    subst Fits (get_or-map instruction_in xs k d (instruction_in d) below)
-    (subst (λ all. All Fits all) (sym e) (fits-reached t fit) k (instruction_in d) (omega (arith, below, length-map xs instruction_in)))
+pub fits-kept : (t : Tree) (places : List ℕ) → AllFit t → instructions_at (items_of t) places ≡ reached t → All (λ place. Fits (instruction_at (items_of t) place)) places
+fits-kept t places fit e k d below =
+    let at = instruction_at (items_of t) in
+    subst Fits (get_or-map at places k d (at d) below)
+    (subst (λ all. All Fits all) (sym e) (fits-reached t fit) k (at d) (omega (arith, below, length-map places at)))

@@ -1,13 +1,11 @@
 -- One pass over an error model's items gathers the instructions that its tree reaches.
 use Rattle.std.proofs.Common.{◌≡◌, ℕ, zero, suc, ◌+◌, ◌-◌, ◌<◌, ◌≤◌, List, [], ◌∷◌, ◌++◌, length, drop, take, map, reverse, Option, Some, option_to_list, refl, sym, ap, ap₂, ◌∙◌, subst, append_assoc, append-nil, arith, length-append, length-drop}
 use Rattle.std.specs.Prelude.{slice_get, slice_range}
-use Rattle.std.proofs.lemmas.List.{reverse-append, drop_all, drop-append-le, drop-map, map-append, take-append-le, take_all}
+use Rattle.std.proofs.lemmas.List.{reverse-append, drop_all, drop-append-le, drop-map, length-map, map-append, take-append-le, take_all}
 use Rattle.std.proofs.Math.Seq.{drop-append_seam}
 use Rattle.dem_parser.specs.declared.blocks.OpenBlock.{OpenBlock}
-use Rattle.dem_parser.specs.declared.instruction.Instruction as kept
 use Rattle.dem_parser.specs.Fitting.{AllFit, IsAccepted}
-use Rattle.dem_parser.specs.Flat.{instruction_in}
-use Rattle.dem_parser.specs.Gathered.{HasEnded, Gathers, instructions_in}
+use Rattle.dem_parser.specs.Gathered.{Finds, HasEnded, Gathers, instruction_at, instruction_of, instructions_at}
 use Rattle.dem_parser.specs.Passes.{opened, CanStand}
 use Rattle.dem_parser.specs.Reached.{copies, reached}
 use Rattle.dem_parser.specs.Texts.{Item, Does, Begins, Ends}
@@ -56,19 +54,39 @@ copies-past xs start turns h =
     sym (append-nil xs) ∙ ap (λ ys. xs ++ ys) (sym (copies-none turns (drop start xs) (drop_all start xs h)))
 
 -- the end of a block, with its later turns
-pub ends_block : (blocks rest : List (OpenBlock ℕ)) (popped : Option (OpenBlock ℕ)) (block : OpenBlock ℕ) (old new : List kept.Instruction) (turns : ℕ)
+pub ends_block : (blocks rest : List (OpenBlock ℕ)) (popped : Option (OpenBlock ℕ)) (block : OpenBlock ℕ) (old new : List ℕ) (turns : ℕ)
     → blocks ≡ rest ++ option_to_list popped → popped ≡ Some block → turns ≡ block.turns - 1 → new ≡ old ++ copies turns (drop block.before old)
-    → HasEnded (instructions_in old) blocks (instructions_in new) rest
+    → HasEnded old blocks new rest
 ends_block blocks rest popped block old new turns e p t n =
-    let one = drop block.before old in
     record {
       last = block;
       open_is = e ∙ ap (λ o. rest ++ option_to_list o) p;
+      found_is = n ∙ ap (λ m. old ++ copies m (drop block.before old)) t;
+    }
+
+-- places found are instructions found
+pub gathers-at : (items : List Item) (item : Item) (place : ℕ) (old : List ℕ) (blocks : List (OpenBlock ℕ)) (new : List ℕ) (blocks' : List (OpenBlock ℕ))
+    → Some item ≡ slice_get items place → Finds item place old blocks new blocks' → Gathers item (instructions_at items old) blocks (instructions_at items new) blocks'
+gathers-at items (Does i) place old blocks new blocks' got h = (
+  ap (instructions_at items) h.0
+      ∙ map-append (instruction_at items) old (place ∷ [])
+      ∙ ap (λ o. instructions_at items old ++ instruction_of o ∷ []) (sym got),
+  h.1,
+)
+gathers-at items (Begins line turns) place old blocks new blocks' got h = (
+  ap (instructions_at items) h.0,
+  h.1 ∙ ap (λ n. blocks ++ opened turns n ∷ []) (sym (length-map old (instruction_at items))),
+)
+gathers-at items Ends place old blocks new blocks' got h =
+    let one = drop h.last.before old in
+    record {
+      last = h.last;
+      open_is = h.open_is;
       found_is =
-          ap instructions_in n
-          ∙ map-append instruction_in old (copies turns one)
-          ∙ ap (λ is. instructions_in old ++ is)
-          (copies-map instruction_in turns one ∙ ap₂ (λ m is. copies m is) t (sym (drop-map instruction_in block.before old)));
+          ap (instructions_at items) h.found_is
+          ∙ map-append (instruction_at items) old (copies (h.last.turns - 1) one)
+          ∙ ap (λ is. instructions_at items old ++ is)
+          (copies-map (instruction_at items) (h.last.turns - 1) one ∙ ap (copies (h.last.turns - 1)) (sym (drop-map (instruction_at items) h.last.before old)));
     }
 
 -- ---- items of a tree

@@ -1,30 +1,47 @@
--- The instructions of an error model gathered in one pass over its text: at the end of a block what its first turn gave is
--- appended once for each later turn.
+-- The instructions of an error model gathered in one pass over its text, by their places among its items: at the end of a
+-- block what its first turn gave is appended once for each later turn.
 -- (Stim's detector error model format, github.com/quantumlib/Stim, doc/file_format_dem_detector_error_model.md,
 -- "repeat".)
-use Rattle.std.specs.Prelude.{◌≡◌, ◌-◌, ℕ, List, [], ◌∷◌, ◌++◌, drop, length, map}
+use Rattle.std.specs.Prelude.{◌≡◌, ◌-◌, ℕ, List, [], ◌∷◌, ◌++◌, Option, None, Some, drop, length, map, slice_get}
+use Rattle.stim_parser.specs.Arguments.{arguments_in}
 use Rattle.dem_parser.specs.declared.blocks.OpenBlock.{OpenBlock}
-use Rattle.dem_parser.specs.declared.instruction.Instruction as kept
-use Rattle.dem_parser.specs.Flat.{instruction_in}
+use Rattle.dem_parser.specs.declared.operation.Operation.TheVariants.{Errs}
 use Rattle.dem_parser.specs.Passes.{opened}
 use Rattle.dem_parser.specs.Reached.{copies}
 use Rattle.dem_parser.specs.Texts.{Item, Does, Begins, Ends}
 use Rattle.dem_parser.specs.Verdicts.{Instruction}
 
--- instructions that are lent
-abbrev pub instructions_in : List kept.Instruction → List Instruction
-instructions_in instructions = map instruction_in instructions
+abbrev pub no_instruction : Instruction
+no_instruction = record { line = 0; operation = Errs; arguments = arguments_in []; targets = [] }
+
+-- the instruction that is found, where one is
+abbrev pub instruction_of : Option Item → Instruction
+instruction_of (Some (Does i)) = i
+instruction_of (Some (Begins line turns)) = no_instruction
+instruction_of (Some Ends) = no_instruction
+instruction_of None = no_instruction
+
+abbrev pub instruction_at : List Item → ℕ → Instruction
+instruction_at items place = instruction_of (slice_get items place)
+
+-- the instructions at places
+abbrev pub instructions_at : List Item → List ℕ → List Instruction
+instructions_at items places = map (instruction_at items) places
 
 -- one block less is open, and its later turns were appended
-pub record HasEnded (found : List Instruction) (blocks : List (OpenBlock ℕ)) (found' : List Instruction) (blocks' : List (OpenBlock ℕ)) : Type 0 where
+pub record HasEnded {X : Type 0} (found : List X) (blocks : List (OpenBlock ℕ)) (found' : List X) (blocks' : List (OpenBlock ℕ)) : Type 0 where
   pub last : OpenBlock ℕ
   pub open_is : blocks ≡ blocks' ++ last ∷ []
   pub found_is : found' ≡ found ++ copies (last.turns - 1) (drop last.before found)
 
--- what an item does to the instructions that were found and to the open blocks, the outermost first: of each there is kept
--- how many instructions were found before it
-abbrev pub Gathers : Item → List Instruction → List (OpenBlock ℕ) → List Instruction → List (OpenBlock ℕ) → Type 0
-Gathers (Does i) found blocks found' blocks' = (found' ≡ found ++ i ∷ []) × (blocks' ≡ blocks)
-Gathers (Begins line turns) found blocks found' blocks' =
+-- what an item does to what was found and to the open blocks, the outermost first, where this is found of an instruction: of
+-- each block there is kept how much was found before it
+abbrev pub Finds : {X : Type 0} → Item → X → List X → List (OpenBlock ℕ) → List X → List (OpenBlock ℕ) → Type 0
+Finds (Does i) x found blocks found' blocks' = (found' ≡ found ++ x ∷ []) × (blocks' ≡ blocks)
+Finds (Begins line turns) x found blocks found' blocks' =
     (found' ≡ found) × (blocks' ≡ blocks ++ opened turns (length found) ∷ [])
-Gathers Ends found blocks found' blocks' = HasEnded found blocks found' blocks'
+Finds Ends x found blocks found' blocks' = HasEnded found blocks found' blocks'
+
+-- the same of instructions
+abbrev pub Gathers : Item → List Instruction → List (OpenBlock ℕ) → List Instruction → List (OpenBlock ℕ) → Type 0
+Gathers item found blocks found' blocks' = Finds item (instruction_of (Some item)) found blocks found' blocks'

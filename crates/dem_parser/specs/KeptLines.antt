@@ -1,11 +1,20 @@
--- Lines of an error model where they are reached, as they are kept: a heading for each, which numbers the lists of its
--- coordinates and of its targets; and as they are handed out.
+-- Lines of an error model where they are reached, as they are kept: a heading for each, with the place of its instruction
+-- and the numbers of the lists of its coordinates and, where these were moved, of its targets; and as they are handed out.
 -- (Stim's detector error model format, github.com/quantumlib/Stim, doc/file_format_dem_detector_error_model.md.)
-use Rattle.std.specs.Prelude.{ℕ, zero, suc, ◌<◌, ℤ, ◌+ℤ◌, List, [], ◌∷◌, map, slice_index_or}
+use Rattle.std.specs.Prelude.{◌≡◌, ℕ, zero, suc, ◌≤◌, ℤ, ◌+ℤ◌, List, [], ◌∷◌, ◌++◌, length, map, slice_index_or, refl}
+use Rattle.std.specs.Coded.{Coded, code_by, coded×, coded_ℕ, coded_ℤ, coded_list}
+use Rattle.stim_parser.specs.Arguments.{arguments_in}
+use Rattle.dem_parser.specs.contracts.operation.Operation as operation
+use Rattle.dem_parser.specs.contracts.target.Target as target
+use Rattle.dem_parser.specs.declared.operation.Operation.{Operation}
 use Rattle.dem_parser.specs.declared.placed.Heading.{Heading}
 use Rattle.dem_parser.specs.declared.placed.PlacedLine.{PlacedLine}
 use Rattle.dem_parser.specs.declared.target.Target.{Target}
+use Rattle.dem_parser.specs.Flat.{coded_items}
+use Rattle.dem_parser.specs.Gathered.{instruction_at}
 use Rattle.dem_parser.specs.Shifts.{Placed, Shift}
+use Rattle.dem_parser.specs.Texts.{Item}
+use Rattle.dem_parser.specs.Verdicts.{Instruction}
 
 -- a shift by so much, with this offset
 abbrev pub shift_of : ℕ → List ℤ → Shift
@@ -17,22 +26,54 @@ added_at [] place m = m ∷ []
 added_at (o ∷ offset) zero m = (o +ℤ m) ∷ offset
 added_at (o ∷ offset) (suc place) m = o ∷ added_at offset place m
 
+-- the items of a model, and its lines where they are reached
+pub record Placement : Type 0 where
+  pub items : List Item
+  pub placed : List Placed
+
+-- ---- what is kept of lines
+
+-- the list of a number, counted from 1; this one at 0
+abbrev pub list_numbered : {X : Type 0} → List X → List (List X) → ℕ → List X
+list_numbered own lists zero = own
+list_numbered own lists (suc n) = slice_index_or lists n []
+
+-- a list, and where it is empty this one
+abbrev pub list_or : {X : Type 0} → List X → List X → List X
+list_or [] own = own
+list_or (x ∷ xs) own = x ∷ xs
+
 -- the lists that a heading numbers are there
 abbrev pub HasLists : ℕ → ℕ → Heading → Type 0
-HasLists coordinates targets h = (h.coordinates < coordinates) × (h.targets < targets)
+HasLists coordinates targets h = (h.coordinates ≤ coordinates) × (h.targets ≤ targets)
 
-abbrev pub line_kept : List (List ℤ) → List (List Target) → Heading → Placed
-line_kept coordinates targets h =
+-- an instruction with these coordinates and these targets
+abbrev pub placed_with : Instruction → List ℤ → List Target → Placed
+placed_with i coordinates targets =
     record {
-      line = h.line;
-      operation = h.operation;
-      text = h.text.now;
-      coordinates = slice_index_or coordinates h.coordinates [];
-      targets = slice_index_or targets h.targets [];
+      line = i.line;
+      operation = i.operation;
+      text = slice_index_or i.arguments 0 [];
+      coordinates = coordinates;
+      targets = targets;
     }
 
-abbrev pub lines_kept : List (List ℤ) → List (List Target) → List Heading → List Placed
-lines_kept coordinates targets headings = map (line_kept coordinates targets) headings
+abbrev pub line_kept : List Item → List (List ℤ) → List (List Target) → Heading → Placed
+line_kept items coordinates targets h =
+    placed_with (instruction_at items h.place) (list_numbered [] coordinates h.coordinates)
+    (list_numbered (instruction_at items h.place).targets targets h.targets)
+
+abbrev pub lines_kept : List Item → List (List ℤ) → List (List Target) → List Heading → List Placed
+lines_kept items coordinates targets headings = map (line_kept items coordinates targets) headings
+
+-- a list is numbered behind the lists that were there, which stay
+pub record IsNumbered {X : Type 0} (lists lists' : List (List X)) (list : List X) (number : ℕ) : Type 0 where
+  pub more : List (List X)
+  pub lists_are : lists' ≡ lists ++ more
+  pub within : number ≤ length lists'
+  pub found : (own : List X) → list_numbered own lists' number ≡ list_or list own
+
+-- ---- what is handed out of them
 
 -- a line that is handed out
 abbrev pub placed_in : PlacedLine → Placed
@@ -40,7 +81,26 @@ placed_in p =
     record {
       line = p.line;
       operation = p.operation;
-      text = p.text.now;
+      text = slice_index_or (arguments_in p.arguments.now) 0 [];
       coordinates = p.coordinates.now;
       targets = p.targets.now;
     }
+
+-- ---- how they are stored, for the type that is seen as them
+
+abbrev Fields : Type 0
+Fields = ℕ × (Operation × (List ℕ × (List ℤ × List Target)))
+
+abbrev coded_placed : Coded Placed
+coded_placed =
+    code_by Fields
+    (coded× coded_ℕ (coded× operation.the_row.coded (coded× (coded_list coded_ℕ) (coded× (coded_list coded_ℤ) (coded_list target.the_row.coded)))))
+    (λ p. (p.line, (p.operation, (p.text, (p.coordinates, p.targets)))))
+    (λ f. record { line = f.0; operation = f.1.0; text = f.1.1.0; coordinates = f.1.1.1.0; targets = f.1.1.1.1 })
+    (λ _. refl)
+
+abbrev pub coded_placement : Coded Placement
+coded_placement =
+    code_by (List Item × List Placed) (coded× coded_items (coded_list coded_placed)) (λ p. (p.items, p.placed))
+    (λ p. record { items = p.0; placed = p.1 })
+    (λ _. refl)

@@ -5,8 +5,10 @@ ghost use Rattle.dem_parser.specs.Meanings.{detector_count, detectors_to, error_
 use crate::counts::counts_of;
 use crate::flips::read_flipped;
 use crate::marks::coordinates_of;
+use crate::narrow::narrowed;
 use crate::operation::Operation;
 use crate::placed::{PlacedLine, PlacedLines};
+use crate::shifts::first_text;
 use dem_text::Model;
 use std::alloc::{AllocError, Allocator};
 
@@ -15,16 +17,6 @@ use std::alloc::{AllocError, Allocator};
 struct Room<A: Allocator + Copy> {
     numbers: Vec<u32, A>,
     kept: Vec<u32, A>,
-}
-
-/// A count. One that does not fit would take more than memory holds.
-fn narrowed(count: u128) -> Result<u32, AllocError>
-    ensures { IfOk result (λ found. found ≡ count) }
-{
-    if count > u32::MAX as u128 {
-        return Err(AllocError);
-    }
-    Ok(count as u32)
 }
 
 /// Appends the error line that a line says, where it says one.
@@ -39,8 +31,12 @@ fn push_error<'a, A: Allocator + Copy>(
 {
     match line.operation {
         Operation::Errs => {
+            // A line that was accepted has no more arguments than are read.
+            let Some(text) = first_text(line.arguments) else {
+                return Err(AllocError);
+            };
             read_flipped(&mut room.numbers, &mut room.kept, detectors, line.targets)?;
-            model.push_line(line.text, room.kept.as_slice())?;
+            model.push_line(text, room.kept.as_slice())?;
             Ok(())
         }
         _ => Ok(()),
@@ -52,10 +48,10 @@ fn push_errors<'a, A: Allocator + Copy>(
     alloc: A,
     model: &mut Model<'a, A>,
     detectors: u32,
-    lines: &PlacedLines<'a, A>,
+    lines: &PlacedLines<'_, 'a, A>,
 ) -> Result<(), AllocError>
-    ensures { IfOk result (λ _. (observables : ℕ) → detector_count lines.now ≤ detectors → observable_count lines.now ≤ observables
-        → model.new ≡ record model.old { lines = model.old.lines ++ error_lines detectors observables lines.now }) }
+    ensures { IfOk result (λ _. (observables : ℕ) → detector_count lines.now.placed ≤ detectors → observable_count lines.now.placed ≤ observables
+        → model.new ≡ record model.old { lines = model.old.lines ++ error_lines detectors observables lines.now.placed }) }
 {
     let mut room = Room {
         numbers: Vec::new(alloc),
@@ -70,9 +66,9 @@ fn push_errors<'a, A: Allocator + Copy>(
 /// The error model that lines say where they are reached.
 pub(crate) fn model_of<'a, A: Allocator + Copy>(
     alloc: A,
-    lines: &PlacedLines<'a, A>,
+    lines: &PlacedLines<'_, 'a, A>,
 ) -> Result<Model<'a, A>, AllocError>
-    ensures { IfOk result (λ model. model ≡ meaning_of lines.now) }
+    ensures { IfOk result (λ model. model ≡ meaning_of lines.now.placed) }
 {
     let counts = counts_of(lines);
     let detectors = narrowed(counts.detectors)?;

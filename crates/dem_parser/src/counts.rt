@@ -48,9 +48,9 @@ fn raised(counts: Counts, targets: &[Target]) -> Counts
 }
 
 /// How many detectors and observables lines name.
-pub(crate) fn counts_of<A: Allocator + Copy>(lines: &PlacedLines<'_, A>) -> Counts
-    ensures detectors { result.detectors ≡ detector_count lines.now }
-    ensures observables { result.observables ≡ observable_count lines.now }
+pub(crate) fn counts_of<A: Allocator + Copy>(lines: &PlacedLines<'_, '_, A>) -> Counts
+    ensures detectors { result.detectors ≡ detector_count lines.now.placed }
+    ensures observables { result.observables ≡ observable_count lines.now.placed }
 {
     let mut found = Counts {
         detectors: 0,

@@ -16,19 +16,16 @@ mod line_counts;
 mod lines;
 mod marks;
 mod names;
+mod narrow;
 mod operation;
 mod parser;
 mod placed;
 mod placing;
 mod reached;
-#[cfg(test)]
-mod read_tests;
 mod reader;
 mod shifts;
 mod sums;
 mod target;
-#[cfg(test)]
-mod tests;
 
 pub use instruction::Instruction;
 pub use lines::{Item, ModelLines};

@@ -1,10 +1,12 @@
-ghost use Rattle.std.specs.Prelude.{◌≡◌, ◌<◌, ◌==◌, Some, length, slice_get};
+ghost use Rattle.std.specs.Prelude.{◌≡◌, ◌<◌, ◌==◌, Some, length, option_map, slice_get};
 ghost use Rattle.dem_parser.specs.Fitting.{IsAccepted};
-ghost use Rattle.dem_parser.specs.Flat.{item_in, IsWritten};
+ghost use Rattle.dem_parser.specs.Flat.{instruction_in, item_in, IsWritten};
+ghost use Rattle.dem_parser.specs.Gathered.{instruction_at, instruction_of};
 ghost use Rattle.dem_parser.specs.Trees.{items_of};
 
 use crate::instruction::Instruction;
 use crate::items::Items;
+use crate::operation::Operation;
 use std::alloc::Allocator;
 use std::marker::Model;
 
@@ -36,6 +38,21 @@ impl<'a, A: Allocator + Copy> Model for ModelLines<'a, A> {
     ghost invariant = { λ c. IsWritten c.items };
 }
 
+/// The instruction that is found, where one is, or one that says nothing.
+fn instruction_of<'c, 'a>(found: Option<Item<'c, 'a>>) -> Instruction<'c, 'a>
+    ensures { instruction_in result ≡ instruction_of (option_map item_in found.entry) }
+{
+    match found {
+        Some(Item::Does(instruction)) => instruction,
+        _ => Instruction {
+            line: 0,
+            operation: Operation::Errs,
+            arguments: &[],
+            targets: &[],
+        },
+    }
+}
+
 impl<'a, A: Allocator + Copy> ModelLines<'a, A> {
     /// The model of these items.
     pub(crate) fn new(items: Items<'a, A>) -> Self
@@ -65,6 +82,24 @@ impl<'a, A: Allocator + Copy> ModelLines<'a, A> {
         ensures { Some (item_in result) ≡ slice_get (items_of self.now) i }
     {
         self.items.get(i)
+    }
+
+    /// The item at a place, where there is one.
+    fn get(&self, place: usize) -> Option<Item<'_, 'a>>
+        ensures { option_map item_in result ≡ slice_get (items_of self.now) place }
+    {
+        if place < self.len() {
+            Some(self.item(place))
+        } else {
+            None
+        }
+    }
+
+    /// The instruction at a place. Where none stands there it is one that says nothing.
+    pub(crate) fn instruction_at(&self, place: usize) -> Instruction<'_, 'a>
+        ensures { instruction_in result ≡ instruction_at (items_of self.now) place }
+    {
+        instruction_of(self.get(place))
     }
 
     /// Does nothing: each instruction of an error model fits, and its blocks have turns and do not stand too deep.

@@ -39,8 +39,11 @@ fn mark_line(marks: &mut [usize], mark: usize, line: PlacedLine<'_, '_>)
 }
 
 /// The coordinates of the line that a mark numbers from 1, and none at 0.
-fn coordinates_at<'p, A: Allocator + Copy>(lines: &'p PlacedLines<'_, A>, mark: usize) -> &'p [i64]
-    ensures { result.now ≡ coordinates_at lines.now mark }
+fn coordinates_at<'p, A: Allocator + Copy>(
+    lines: &'p PlacedLines<'_, '_, A>,
+    mark: usize,
+) -> &'p [i64]
+    ensures { result.now ≡ coordinates_at lines.now.placed mark }
 {
     if mark == 0 || mark > lines.len() {
         return &[];
@@ -58,10 +61,10 @@ fn no_marks<A: Allocator + Copy>(alloc: A, detectors: usize) -> Result<Vec<usize
 /// Each detector's mark: the number from 1 of the last line that gives it coordinates, or 0.
 fn marks_of<A: Allocator + Copy>(
     alloc: A,
-    lines: &PlacedLines<'_, A>,
+    lines: &PlacedLines<'_, '_, A>,
     detectors: usize,
 ) -> Result<Vec<usize, A>, AllocError>
-    ensures { IfOk result (λ marks. AreMarks lines.now detectors lines.now marks.items) }
+    ensures { IfOk result (λ marks. AreMarks lines.now.placed detectors lines.now.placed marks.items) }
 {
     let mut marks = no_marks(alloc, detectors)?;
     for i in 0..lines.len() {
@@ -73,10 +76,10 @@ fn marks_of<A: Allocator + Copy>(
 /// The coordinates that marks stand for.
 fn stood_for<A: Allocator + Copy>(
     alloc: A,
-    lines: &PlacedLines<'_, A>,
+    lines: &PlacedLines<'_, '_, A>,
     marks: &[usize],
 ) -> Result<FlatLists<i64, A>, AllocError>
-    ensures { IfOk result (λ found. found ≡ map (coordinates_at lines.now) marks.now) }
+    ensures { IfOk result (λ found. found ≡ map (coordinates_at lines.now.placed) marks.now) }
 {
     let mut found = FlatLists::new(alloc);
     for mark in marks {
@@ -88,10 +91,10 @@ fn stood_for<A: Allocator + Copy>(
 /// The coordinates of each detector, where there are so many: those of the last line that gives it any.
 pub(crate) fn coordinates_of<A: Allocator + Copy>(
     alloc: A,
-    lines: &PlacedLines<'_, A>,
+    lines: &PlacedLines<'_, '_, A>,
     detectors: usize,
 ) -> Result<FlatLists<i64, A>, AllocError>
-    ensures { IfOk result (λ found. found ≡ map (λ d. last_coordinates d [] lines.now) (range_with_len 0 detectors)) }
+    ensures { IfOk result (λ found. found ≡ map (λ d. last_coordinates d [] lines.now.placed) (range_with_len 0 detectors)) }
 {
     let marks = marks_of(alloc, lines, detectors)?;
     stood_for(alloc, lines, marks.as_slice())

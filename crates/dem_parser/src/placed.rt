@@ -1,59 +1,100 @@
-ghost use Rattle.std.specs.Prelude.{◌≡◌, ◌<◌, ◌++◌, [], ◌∷◌, Some, length, slice_get, IfOk};
-ghost use Rattle.dem_parser.specs.KeptLines.{placed_in};
+ghost use Rattle.std.specs.Prelude.{◌≡◌, ◌≤◌, ◌<◌, ◌++◌, [], ◌∷◌, Some, length, slice_get, IfOk, OnErr};
+ghost use Rattle.dem_parser.specs.Gathered.{instruction_at};
+ghost use Rattle.dem_parser.specs.KeptLines.{IsNumbered, list_numbered, list_or, placed_in, placed_with};
+ghost use Rattle.dem_parser.specs.Trees.{items_of};
 
+use crate::lines::ModelLines;
+use crate::narrow::narrowed;
 use crate::operation::Operation;
 use crate::target::Target;
 use flat_lists::FlatLists;
 use std::alloc::{AllocError, Allocator};
 use std::marker::Model;
 
-/// A line where it is reached: its number, what it says, the text of its first argument, its coordinates, and its
+/// A line where it is reached: its number, what it says, the text between its parentheses, its coordinates, and its
 /// targets.
 #[derive(Clone, Copy)]
 pub(crate) struct PlacedLine<'p, 'a> {
     pub line: u64,
     pub operation: Operation,
-    pub text: &'a [u8],
+    pub arguments: &'a [u8],
     pub coordinates: &'p [i64],
     pub targets: &'p [Target],
 }
 
-/// What is kept of a line: of its coordinates and of its targets the numbers of their lists.
+/// What is kept of a line: the place of its instruction, and the numbers from 1 of the lists of its coordinates and of its
+/// targets. 0 says that it has no coordinates, and that its targets are those of the instruction.
 #[derive(Clone, Copy)]
-pub(crate) struct Heading<'a> {
-    line: u64,
-    operation: Operation,
-    text: &'a [u8],
-    coordinates: usize,
-    targets: usize,
+pub(crate) struct Heading {
+    place: u32,
+    coordinates: u32,
+    targets: u32,
 }
 
-/// Lines where they are reached, in their order.
+/// Lines where they are reached, in their order. Targets are copied only where they were moved.
 #[derive(Drop)]
-pub(crate) struct PlacedLines<'a, A: Allocator + Copy> {
-    headings: Vec<Heading<'a>, A>,
+pub(crate) struct PlacedLines<'c, 'a, A: Allocator + Copy> {
+    lines: &'c ModelLines<'a, A>,
+    headings: Vec<Heading, A>,
     coordinates: FlatLists<i64, A>,
     targets: FlatLists<Target, A>,
 }
 
-impl<'a, A: Allocator + Copy> Model for PlacedLines<'a, A> {
-    ghost use Rattle.std.specs.Prelude.{All, List, length};
-    ghost use Rattle.dem_parser.specs.KeptLines.{HasLists, lines_kept};
-    ghost use Rattle.dem_parser.specs.Shifts.{Placed};
+impl<'c, 'a, A: Allocator + Copy> Model for PlacedLines<'c, 'a, A> {
+    ghost use Rattle.std.specs.Prelude.{All, length};
+    ghost use Rattle.dem_parser.specs.KeptLines.{HasLists, Placement, coded_placement, lines_kept};
+    ghost use Rattle.dem_parser.specs.Trees.{items_of};
 
-    ghost Value = { List Placed };
+    ghost Value = { Placement };
 
-    ghost view = { λ p. lines_kept p.coordinates p.targets p.headings.items };
+    ghost coded = { coded_placement };
+
+    ghost view = { λ p. record {
+      items = items_of p.lines.now;
+      placed = lines_kept (items_of p.lines.now) p.coordinates p.targets p.headings.items;
+    } };
 
     ghost invariant = { λ p. All (HasLists (length p.coordinates) (length p.targets)) p.headings.items };
 }
 
-impl<'a, A: Allocator + Copy> PlacedLines<'a, A> {
-    /// No lines. Takes no memory.
-    pub(crate) fn new(alloc: A) -> Self
-        ensures { result ≡ [] }
+/// Appends a copy of a list and answers its number, or 0 for an empty one, which is not kept.
+fn push_list<T: Copy, A: Allocator + Copy>(
+    lists: &mut FlatLists<T, A>,
+    list: &[T],
+) -> Result<u32, AllocError>
+    ensures numbered { IfOk result (λ number. IsNumbered lists.old lists.new list.now number) }
+    ensures err { OnErr result (lists.new ≡ lists.old) }
+{
+    if list.is_empty() {
+        return Ok(0);
+    }
+    let number = narrowed(lists.len() as u128 + 1)?;
+    lists.push(list)?;
+    Ok(number)
+}
+
+/// The list of a number, and at 0 the one given.
+fn list_at<'p, T: Copy, A: Allocator + Copy>(
+    lists: &'p FlatLists<T, A>,
+    number: u32,
+    own: &'p [T],
+) -> &'p [T]
+    requires { number ≤ length lists.now }
+    ensures { result.now ≡ list_numbered own.now lists.now number }
+{
+    if number == 0 {
+        return own;
+    }
+    lists.get(number as usize - 1)
+}
+
+impl<'c, 'a, A: Allocator + Copy> PlacedLines<'c, 'a, A> {
+    /// No lines of a model. Takes no memory.
+    pub(crate) fn new(alloc: A, lines: &'c ModelLines<'a, A>) -> Self
+        ensures { result ≡ record { items = items_of lines.now; placed = [] } }
     {
         PlacedLines {
+            lines,
             headings: Vec::new(alloc),
             coordinates: FlatLists::new(alloc),
             targets: FlatLists::new(alloc),
@@ -61,24 +102,29 @@ impl<'a, A: Allocator + Copy> PlacedLines<'a, A> {
     }
 
     pub(crate) fn len(&self) -> usize
-        ensures { result ≡ length self.now }
+        ensures { result ≡ length self.now.placed }
     {
         self.headings.len()
     }
 
-    /// Appends a line, with copies of its lists. It may fail only where memory runs out.
-    pub(crate) fn push(&mut self, placed: PlacedLine<'_, 'a>) -> Result<(), AllocError>
-        ensures { IfOk result (λ _. self.new ≡ self.old ++ placed_in placed.entry ∷ []) }
+    /// Appends the instruction at a place with these coordinates, and with these targets in place of its own where there
+    /// are any. It may fail only where memory runs out.
+    pub(crate) fn push(
+        &mut self,
+        place: u32,
+        coordinates: &[i64],
+        targets: &[Target],
+    ) -> Result<(), AllocError>
+        ensures { IfOk result (λ _. self.new ≡ record self.old {
+          placed = self.old.placed
+              ++ placed_with (instruction_at self.old.items place) coordinates.now (list_or targets.now (instruction_at self.old.items place).targets) ∷ [];
+        }) }
     {
         self.headings.reserve(1)?;
-        let coordinates = self.coordinates.len();
-        self.coordinates.push(placed.coordinates)?;
-        let targets = self.targets.len();
-        self.targets.push(placed.targets)?;
+        let coordinates = push_list(&mut self.coordinates, coordinates)?;
+        let targets = push_list(&mut self.targets, targets)?;
         self.headings.push_reserved(Heading {
-            line: placed.line,
-            operation: placed.operation,
-            text: placed.text,
+            place,
             coordinates,
             targets,
         });
@@ -87,16 +133,17 @@ impl<'a, A: Allocator + Copy> PlacedLines<'a, A> {
 
     /// The line at a place.
     pub(crate) fn get(&self, i: usize) -> PlacedLine<'_, 'a>
-        requires { i < length self.now }
-        ensures { Some (placed_in result) ≡ slice_get self.now i }
+        requires { i < length self.now.placed }
+        ensures { Some (placed_in result) ≡ slice_get self.now.placed i }
     {
         let heading = self.headings[i];
+        let instruction = self.lines.instruction_at(heading.place as usize);
         PlacedLine {
-            line: heading.line,
-            operation: heading.operation,
-            text: heading.text,
-            coordinates: self.coordinates.get(heading.coordinates),
-            targets: self.targets.get(heading.targets),
+            line: instruction.line,
+            operation: instruction.operation,
+            arguments: instruction.arguments,
+            coordinates: list_at(&self.coordinates, heading.coordinates, &[]),
+            targets: list_at(&self.targets, heading.targets, instruction.targets),
         }
     }
 }

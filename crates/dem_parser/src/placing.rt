@@ -5,18 +5,20 @@ ghost use Rattle.step_model.specs.Faults.{memory_fault};
 ghost use Rattle.stim_parser.specs.Arguments.{arguments_in};
 ghost use Rattle.dem_parser.specs.Fitting.{Fits};
 ghost use Rattle.dem_parser.specs.Flat.{instruction_in};
-ghost use Rattle.dem_parser.specs.Gathered.{instructions_in};
-ghost use Rattle.dem_parser.specs.KeptLines.{shift_of};
+ghost use Rattle.dem_parser.specs.Gathered.{instruction_at, instructions_at};
+ghost use Rattle.dem_parser.specs.KeptLines.{list_or, shift_of};
 ghost use Rattle.dem_parser.specs.Limits.{greatest_detector, has_target_beyond, is_target_beyond};
 ghost use Rattle.dem_parser.specs.Models.{first_beyond, is_beyond, is_far};
 ghost use Rattle.dem_parser.specs.Shifts.{coordinates_given, moved, no_shift, placed_at, placed_from, shift_after, target_at};
 ghost use Rattle.dem_parser.specs.Texts.{refused};
+ghost use Rattle.dem_parser.specs.Trees.{items_of};
 
 use crate::checks::{GREATEST_DETECTOR, GREATEST_NUMBER, is_target_beyond};
 use crate::instruction::Instruction;
+use crate::lines::ModelLines;
 use crate::operation::Operation;
-use crate::placed::{PlacedLine, PlacedLines};
-use crate::shifts::{Shift, coordinates_read, first_text, pass, sum_at};
+use crate::placed::PlacedLines;
+use crate::shifts::{Shift, coordinates_read, pass, sum_at};
 use crate::target::Target;
 use std::alloc::{AllocError, Allocator};
 use step_model::{Cause, Fault};
@@ -76,6 +78,25 @@ fn place_targets<A: Allocator + Copy>(
         }
     }
     Ok(true)
+}
+
+/// Puts targets where detectors are shifted in place of those that were there, and none where nothing is shifted. Answers
+/// whether the number of none is then beyond its limit.
+fn move_targets<A: Allocator + Copy>(
+    found: &mut Vec<Target, A>,
+    shift: u128,
+    targets: &[Target],
+) -> Result<bool, AllocError>
+    requires { has_target_beyond targets.now ≡ false }
+    ensures { IfOk result (λ within. MatchBool within
+        ((list_or found.new.items targets.now ≡ map (target_at shift) targets.now) × (has_target_beyond (map (target_at shift) targets.now) ≡ false))
+        (has_target_beyond (map (target_at shift) targets.now) ≡ true)) }
+{
+    if shift == 0 {
+        found.clear();
+        return Ok(true);
+    }
+    place_targets(found, shift, targets)
 }
 
 /// A coordinate within its limit; none where it is beyond.
@@ -149,20 +170,22 @@ struct Room<A: Allocator + Copy> {
     targets: Vec<Target, A>,
 }
 
-/// Appends an instruction where it is reached. Answers whether no number of it is beyond its limit there.
-fn place<'a, A: Allocator + Copy>(
-    placed: &mut PlacedLines<'a, A>,
+/// Appends the instruction at a place where it is reached. Answers whether no number of it is beyond its limit there.
+fn place<A: Allocator + Copy>(
+    placed: &mut PlacedLines<'_, '_, A>,
     room: &mut Room<A>,
     shift: &Shift<A>,
-    instruction: Instruction<'_, 'a>,
+    at: u32,
+    instruction: Instruction<'_, '_>,
 ) -> Result<bool, AllocError>
-    requires { Fits (instruction_in instruction) }
+    requires fits { Fits (instruction_in instruction) }
+    requires there { instruction_in instruction ≡ instruction_at placed.old.items at }
     ensures { IfOk result (λ within. MatchBool within
-        ((placed.new ≡ placed.old ++ placed_at (shift_of shift.now.detectors shift.now.offset.items) (instruction_in instruction.entry) ∷ [])
+        ((placed.new ≡ record placed.old { placed = placed.old.placed ++ placed_at (shift_of shift.now.detectors shift.now.offset.items) (instruction_in instruction.entry) ∷ [] })
         × (is_beyond (placed_at (shift_of shift.now.detectors shift.now.offset.items) (instruction_in instruction.entry)) ≡ false))
         (is_beyond (placed_at (shift_of shift.now.detectors shift.now.offset.items) (instruction_in instruction.entry)) ≡ true)) }
 {
-    if !place_targets(&mut room.targets, shift.detectors, instruction.targets)? {
+    if !move_targets(&mut room.targets, shift.detectors, instruction.targets)? {
         return Ok(false);
     }
     let offset = shift.offset.as_slice();
@@ -174,33 +197,34 @@ fn place<'a, A: Allocator + Copy>(
     )? {
         return Ok(false);
     }
-    placed.push(PlacedLine {
-        line: instruction.line,
-        operation: instruction.operation,
-        text: first_text(instruction.arguments),
-        coordinates: room.coordinates.as_slice(),
-        targets: room.targets.as_slice(),
-    })?;
+    placed.push(at, room.coordinates.as_slice(), room.targets.as_slice())?;
     Ok(true)
 }
 
 /// Lines where they are reached, and where that goes on.
 #[derive(Drop)]
-struct Placing<'a, A: Allocator + Copy> {
-    placed: PlacedLines<'a, A>,
+struct Placing<'c, 'a, A: Allocator + Copy> {
+    placed: PlacedLines<'c, 'a, A>,
     shift: Shift<A>,
     room: Room<A>,
 }
 
-impl<'a, A: Allocator + Copy> Placing<'a, A> {
-    /// Goes past an instruction. Answers whether no number of it is beyond its limit there.
-    fn pass(&mut self, instruction: Instruction<'_, 'a>) -> Result<bool, AllocError>
-        requires { Fits (instruction_in instruction) }
+impl<'c, 'a, A: Allocator + Copy> Placing<'c, 'a, A> {
+    /// Goes past the instruction at a place. Answers whether no number of it is beyond its limit there.
+    fn pass(&mut self, at: u32, instruction: Instruction<'_, '_>) -> Result<bool, AllocError>
+        requires fits { Fits (instruction_in instruction) }
+        requires there { instruction_in instruction ≡ instruction_at self.old.placed.items at }
         ensures beyond { IfOk result (λ within. is_beyond (placed_at (shift_of self.old.shift.detectors self.old.shift.offset.items) (instruction_in instruction.entry)) ≡ not within) }
-        ensures placed { IfOk result (λ within. within ≡ true → self.new.placed ≡ self.old.placed ++ placed_at (shift_of self.old.shift.detectors self.old.shift.offset.items) (instruction_in instruction.entry) ∷ []) }
+        ensures placed { IfOk result (λ within. within ≡ true → self.new.placed ≡ record self.old.placed { placed = self.old.placed.placed ++ placed_at (shift_of self.old.shift.detectors self.old.shift.offset.items) (instruction_in instruction.entry) ∷ [] }) }
         ensures shift { IfOk result (λ within. within ≡ true → shift_of self.new.shift.detectors self.new.shift.offset.items ≡ shift_after (instruction_in instruction.entry) (shift_of self.old.shift.detectors self.old.shift.offset.items)) }
     {
-        if !place(&mut self.placed, &mut self.room, &self.shift, instruction)? {
+        if !place(
+            &mut self.placed,
+            &mut self.room,
+            &self.shift,
+            at,
+            instruction,
+        )? {
             return Ok(false);
         }
         pass(&mut self.shift, instruction)?;
@@ -208,19 +232,20 @@ impl<'a, A: Allocator + Copy> Placing<'a, A> {
     }
 }
 
-/// The lines of instructions where these are reached one after another, or the refusal of the first line with a number that
-/// is beyond its limit there.
-pub(crate) fn placed_lines<'a, A: Allocator + Copy>(
+/// The lines of instructions at places where these are reached one after another, or the refusal of the first line with a
+/// number that is beyond its limit there.
+pub(crate) fn placed_lines<'c, 'a, A: Allocator + Copy>(
     alloc: A,
-    instructions: &[Instruction<'_, 'a>],
-) -> Result<PlacedLines<'a, A>, Fault>
-    requires { All (λ i. Fits (instruction_in i)) instructions.now }
-    ensures placed { IfOk result (λ placed. placed ≡ placed_from no_shift (instructions_in instructions.now)) }
-    ensures within { IfOk result (λ placed. first_beyond (placed_from no_shift (instructions_in instructions.now)) ≡ None) }
-    ensures err { IfErr result (λ fault. (fault ≡ memory_fault) ⊎ (option_map (refused cause.DemNumber) (first_beyond (placed_from no_shift (instructions_in instructions.now))) ≡ Some fault)) }
+    lines: &'c ModelLines<'a, A>,
+    places: &[u32],
+) -> Result<PlacedLines<'c, 'a, A>, Fault>
+    requires { All (λ place. Fits (instruction_at (items_of lines.now) place)) places.now }
+    ensures placed { IfOk result (λ placed. placed.placed ≡ placed_from no_shift (instructions_at (items_of lines.now) places.now)) }
+    ensures within { IfOk result (λ placed. first_beyond (placed_from no_shift (instructions_at (items_of lines.now) places.now)) ≡ None) }
+    ensures err { IfErr result (λ fault. (fault ≡ memory_fault) ⊎ (option_map (refused cause.DemNumber) (first_beyond (placed_from no_shift (instructions_at (items_of lines.now) places.now))) ≡ Some fault)) }
 {
     let mut placing = Placing {
-        placed: PlacedLines::new(alloc),
+        placed: PlacedLines::new(alloc, lines),
         shift: Shift {
             detectors: 0,
             offset: Vec::new(alloc),
@@ -230,8 +255,9 @@ pub(crate) fn placed_lines<'a, A: Allocator + Copy>(
             targets: Vec::new(alloc),
         },
     };
-    for instruction in instructions {
-        match placing.pass(*instruction) {
+    for place in places {
+        let instruction = lines.instruction_at(*place as usize);
+        match placing.pass(*place, instruction) {
             Ok(true) => {}
             Ok(false) => {
                 return Err(Fault {

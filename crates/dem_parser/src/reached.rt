@@ -1,20 +1,21 @@
 ghost use Rattle.std.specs.Prelude.{◌≡◌, ◌++◌, IfOk, drop};
 ghost use Rattle.arrayvec.specs.ArrayVec.{array_vec_len};
 ghost use Rattle.dem_parser.specs.Flat.{item_in};
-ghost use Rattle.dem_parser.specs.Gathered.{Gathers, instructions_in};
+ghost use Rattle.dem_parser.specs.Gathered.{Finds, instructions_at};
 ghost use Rattle.dem_parser.specs.Passes.{CanStand};
 ghost use Rattle.dem_parser.specs.Reached.{copies, reached};
+ghost use Rattle.dem_parser.specs.Trees.{items_of};
 
 use crate::blocks::{LEVELS, OpenBlock};
-use crate::instruction::Instruction;
 use crate::lines::{Item, ModelLines};
+use crate::narrow::narrowed;
 use arrayvec::ArrayVec;
 use std::alloc::{AllocError, Allocator};
 
-/// The instructions that are reached up to a place of a model's text, and the blocks that are open there.
+/// The places of the instructions that are reached up to a place of a model's text, and the blocks that are open there.
 #[derive(Drop)]
-struct Gathering<'c, 'a, A: Allocator + Copy> {
-    found: Vec<Instruction<'c, 'a>, A>,
+struct Gathering<A: Allocator + Copy> {
+    found: Vec<u32, A>,
     blocks: ArrayVec<OpenBlock<usize>, LEVELS>,
 }
 
@@ -36,14 +37,14 @@ fn append_copies<T: Copy, A: Allocator + Copy>(
     Ok(())
 }
 
-impl<'c, 'a, A: Allocator + Copy> Gathering<'c, 'a, A> {
-    /// Goes past an item.
-    fn pass(&mut self, item: Item<'c, 'a>) -> Result<(), AllocError>
+impl<A: Allocator + Copy> Gathering<A> {
+    /// Goes past the item at a place.
+    fn pass(&mut self, place: usize, item: Item<'_, '_>) -> Result<(), AllocError>
         requires { CanStand (item_in item) (array_vec_len self.old.blocks) }
-        ensures { IfOk result (λ _. Gathers (item_in item.entry) (instructions_in self.old.found.items) self.old.blocks.items (instructions_in self.new.found.items) self.new.blocks.items) }
+        ensures { IfOk result (λ _. Finds (item_in item.entry) place self.old.found.items self.old.blocks.items self.new.found.items self.new.blocks.items) }
     {
         match item {
-            Item::Does(instruction) => self.found.push(instruction)?,
+            Item::Does(_) => self.found.push(narrowed(place as u128)?)?,
             Item::Begins { turns, .. } => self.blocks.push(OpenBlock {
                 turns,
                 before: self.found.len(),
@@ -57,12 +58,12 @@ impl<'c, 'a, A: Allocator + Copy> Gathering<'c, 'a, A> {
     }
 }
 
-/// The instructions of a model in the order in which they are reached.
-pub(crate) fn reached_of<'c, 'a, A: Allocator + Copy>(
+/// The places of the instructions of a model in the order in which they are reached.
+pub(crate) fn reached_of<A: Allocator + Copy>(
     alloc: A,
-    lines: &'c ModelLines<'a, A>,
-) -> Result<Vec<Instruction<'c, 'a>, A>, AllocError>
-    ensures { IfOk result (λ found. instructions_in found.items ≡ reached lines.now) }
+    lines: &ModelLines<'_, A>,
+) -> Result<Vec<u32, A>, AllocError>
+    ensures { IfOk result (λ found. instructions_at (items_of lines.now) found.items ≡ reached lines.now) }
 {
     lines.fits();
     let mut gathering = Gathering {
@@ -70,7 +71,7 @@ pub(crate) fn reached_of<'c, 'a, A: Allocator + Copy>(
         blocks: ArrayVec::new(),
     };
     for i in 0..lines.len() {
-        gathering.pass(lines.item(i))?;
+        gathering.pass(i, lines.item(i))?;
     }
     Ok(gathering.found)
 }

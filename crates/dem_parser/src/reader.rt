@@ -16,17 +16,17 @@ use std::alloc::Allocator;
 use step_model::{Cause, Fault};
 
 /// The lines of a model where they are reached, or the refusal of the first with a number that is beyond its limit there.
-fn place<'a, A: Allocator + Copy>(
+fn place<'c, 'a, A: Allocator + Copy>(
     alloc: A,
-    lines: &ModelLines<'a, A>,
-) -> Result<PlacedLines<'a, A>, Fault>
-    ensures placed { IfOk result (λ placed. placed ≡ placed_lines lines.now) }
+    lines: &'c ModelLines<'a, A>,
+) -> Result<PlacedLines<'c, 'a, A>, Fault>
+    ensures placed { IfOk result (λ placed. placed.placed ≡ placed_lines lines.now) }
     ensures within { IfOk result (λ placed. first_beyond (placed_lines lines.now) ≡ None) }
     ensures err { IfErr result (λ fault. (fault ≡ memory_fault) ⊎ (option_map (refused cause.DemNumber) (first_beyond (placed_lines lines.now)) ≡ Some fault)) }
 {
     lines.fits();
     match reached_of(alloc, lines) {
-        Ok(reached) => placed_lines(alloc, reached.as_slice()),
+        Ok(reached) => placed_lines(alloc, lines, reached.as_slice()),
         Err(_) => Err(Fault::MEMORY),
     }
 }

@@ -1,5 +1,6 @@
 mod bits;
 mod coin_pairs;
+mod error_models;
 mod faults;
 mod held;
 mod judged;

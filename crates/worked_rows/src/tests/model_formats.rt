@@ -68,6 +68,35 @@ const REFUSED: [(&str, &str, &str); 30] = [
     ("x", "detector D1000000", "refused 44 line 1\n"),
 ];
 
+/// Further forms of arguments, of targets and of numbers that no line takes, and a block closed inside one that is not.
+const REFUSED_FORMS: [(&str, &str, &str); 12] = [
+    ("", "error(0.1) D0\n\x01", "refused 10 line 2\n"),
+    ("", "repeat 2 {\nrepeat 3 {\n}\n", "refused 43 line 1\n"),
+    ("", "error(0.1, 0.1) D0", "refused 41 line 1\n"),
+    ("", "error(0.1 D0", "refused 41 line 1\n"),
+    (
+        "",
+        "detector(1,2,3,4,5,6,7,8,9,10,11,12,13,14,15,16,17) D0",
+        "refused 41 line 1\n",
+    ),
+    ("", "logical_observable(1) L0", "refused 41 line 1\n"),
+    ("", "logical_observable D0", "refused 42 line 1\n"),
+    ("", "detector ^", "refused 42 line 1\n"),
+    ("", "detector(1000000000000000000) D0", "refused 44 line 1\n"),
+    ("", "shift_detectors 1000000000000000000", "refused 44 line 1\n"),
+    (
+        "",
+        "shift_detectors(999999999999999999) 0\ndetector(1) D0",
+        "refused 44 line 2\n",
+    ),
+    // More lines than 128 bits count.
+    (
+        "",
+        "repeat 999999999999999999 {\nrepeat 999999999999999999 {\nrepeat 999 {\n}\n}\n}",
+        "refused 47 line 0\n",
+    ),
+];
+
 /// Texts at a limit.
 const WITHIN: [(&str, &str, &str); 3] = [
     ("", "repeat 2000000 {\nlogical_observable L0\n}", "0\n"),
@@ -87,7 +116,8 @@ fn models_are_taken(rt: HostRuntime) -> Result<(), Fail> {
 
 #[test]
 fn models_are_refused(rt: HostRuntime) -> Result<(), Fail> {
-    check_predictions(&rt, rt.alloc(), &REFUSED, Status::Refused)
+    check_predictions(&rt, rt.alloc(), &REFUSED, Status::Refused)?;
+    check_predictions(&rt, rt.alloc(), &REFUSED_FORMS, Status::Refused)
 }
 
 /// So many blocks inside one another, and what is written of them.

@@ -10,7 +10,7 @@ loop-i-init g c observables h j = errors-first c.args.model.now
 
 pub loop-i-preserved : goal.loop-i-preserved
 loop-i-preserved g c observables h j =
-    let lines = c.args.lines.now in
+    let lines = c.args.lines.now.placed in
     let i = c.loop-i.i in
     let p = placed_in c.get.result in
     let low = greatest-got detectors_to lines i p c.get.ensures in
@@ -20,7 +20,7 @@ loop-i-preserved g c observables h j =
 
 pub returns : goal.returns
 returns g c observables h j =
-    let lines = c.args.lines.now in
+    let lines = c.args.lines.now.placed in
     c.loop-i.invariant observables h j
     ∙ ap (λ ps. with_lines c.args.model.now (error_lines c.args.detectors observables ps))
     (take_all c.loop-i.i lines (omega (arith, c.len-i-end.ensures, c.loop-i-test.false)))

@@ -5,5 +5,5 @@ use Rattle.dem_parser.proofs.build.push_errors.Given as goal
 
 abbrev pub invariant-loop-i : goal.invariant-loop-i
 invariant-loop-i g l =
-    (observables : ℕ) → detector_count l.lines ≤ l.detectors → observable_count l.lines ≤ observables
-    → l.model ≡ with_lines l.fn.model (error_lines l.detectors observables (take l.i l.lines))
+    (observables : ℕ) → detector_count l.lines.placed ≤ l.detectors → observable_count l.lines.placed ≤ observables
+    → l.model ≡ with_lines l.fn.model (error_lines l.detectors observables (take l.i l.lines.placed))

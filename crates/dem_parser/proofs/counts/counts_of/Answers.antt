@@ -6,7 +6,7 @@ use Rattle.dem_parser.proofs.counts.counts_of.Goals as goal
 
 pub loop-i-preserved : goal.loop-i-preserved
 loop-i-preserved g c =
-    let lines = c.args.lines.now in
+    let lines = c.args.lines.now.placed in
     let i = c.loop-i.i in
     let p = placed_in c.get.result in (
       counted-next detectors_to _ _ lines i (i + 1) p c.get.ensures refl c.raised-found.ensures.detectors ∙ c.loop-i.invariant.0,
@@ -15,8 +15,8 @@ loop-i-preserved g c =
 
 pub returns-clause-detectors : goal.returns-clause-detectors
 returns-clause-detectors g c =
-    counted-done detectors_to _ c.args.lines.now c.loop-i.i (omega (arith, c.len-i-end.ensures, c.loop-i-test.false)) ∙ c.loop-i.invariant.0
+    counted-done detectors_to _ c.args.lines.now.placed c.loop-i.i (omega (arith, c.len-i-end.ensures, c.loop-i-test.false)) ∙ c.loop-i.invariant.0
 
 pub returns-clause-observables : goal.returns-clause-observables
 returns-clause-observables g c =
-    counted-done observables_to _ c.args.lines.now c.loop-i.i (omega (arith, c.len-i-end.ensures, c.loop-i-test.false)) ∙ c.loop-i.invariant.1
+    counted-done observables_to _ c.args.lines.now.placed c.loop-i.i (omega (arith, c.len-i-end.ensures, c.loop-i-test.false)) ∙ c.loop-i.invariant.1

@@ -5,5 +5,5 @@ use Rattle.dem_parser.proofs.counts.counts_of.Given as goal
 
 abbrev pub invariant-loop-i : goal.invariant-loop-i
 invariant-loop-i g l =
-    (max l.found.detectors (greatest_over detectors_to (drop l.i l.lines)) ≡ greatest_over detectors_to l.lines)
-    × (max l.found.observables (greatest_over observables_to (drop l.i l.lines)) ≡ greatest_over observables_to l.lines)
+    (max l.found.detectors (greatest_over detectors_to (drop l.i l.lines.placed)) ≡ greatest_over detectors_to l.lines.placed)
+    × (max l.found.observables (greatest_over observables_to (drop l.i l.lines.placed)) ≡ greatest_over observables_to l.lines.placed)

@@ -6,11 +6,11 @@ use Rattle.dem_parser.proofs.MarkLemmas.{length-marked_by, marks-first, marks-go
 use Rattle.dem_parser.proofs.marks.marks_of.Goals as goal
 
 pub loop-i-init : goal.loop-i-init
-loop-i-init g c = marks-first c.args.lines.now c.args.detectors _ c.in_ok-marks.ensures
+loop-i-init g c = marks-first c.args.lines.now.placed c.args.detectors _ c.in_ok-marks.ensures
 
 pub loop-i-preserved : goal.loop-i-preserved
 loop-i-preserved g c =
-    let lines = c.args.lines.now in
+    let lines = c.args.lines.now.placed in
     let i = c.loop-i.i in
     let p = placed_in c.get.result in
     let old = c.loop-i.marks.items in
@@ -22,6 +22,6 @@ loop-i-preserved g c =
 
 pub returns : goal.returns
 returns g c =
-    let lines = c.args.lines.now in
+    let lines = c.args.lines.now.placed in
     subst (λ before. AreMarks lines c.args.detectors before c.loop-i.marks.items)
     (take_all c.loop-i.i lines (omega (arith, c.len-i-end.ensures, c.loop-i-test.false))) c.loop-i.invariant

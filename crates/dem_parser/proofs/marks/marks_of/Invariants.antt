@@ -3,4 +3,4 @@ use Rattle.dem_parser.specs.Marked.{AreMarks}
 use Rattle.dem_parser.proofs.marks.marks_of.Given as goal
 
 abbrev pub invariant-loop-i : goal.invariant-loop-i
-invariant-loop-i g l = AreMarks l.lines l.detectors (take l.i l.lines) l.marks.items
+invariant-loop-i g l = AreMarks l.lines.placed l.detectors (take l.i l.lines.placed) l.marks.items

@@ -3,7 +3,4 @@ use Rattle.dem_parser.proofs.ShiftLemmas.{few_arguments}
 use Rattle.dem_parser.proofs.placing.place.Goals as goal
 
 pub place_coordinates-requires : goal.place_coordinates-requires
-place_coordinates-requires g c = few_arguments (instruction_in c.args.instruction) c.requires
-
-pub first_text-requires : goal.first_text-requires
-first_text-requires g c = few_arguments (instruction_in c.args.instruction) c.requires
+place_coordinates-requires g c = few_arguments (instruction_in c.args.instruction) c.requires.fits

@@ -1,7 +1,7 @@
 use Rattle.std.proofs.Common.{sym, subst}
 use Rattle.dem_parser.specs.declared.lines.Item as lines
 use Rattle.dem_parser.specs.Flat.{item_in}
-use Rattle.dem_parser.specs.Gathered.{Gathers, instructions_in}
+use Rattle.dem_parser.specs.Gathered.{Finds}
 use Rattle.dem_parser.proofs.GatherLemmas.{ends_block}
 use Rattle.dem_parser.proofs.reached.Gathering.pass.Goals as goal
 
@@ -11,6 +11,6 @@ returns-in_ok-append_copies-in-Ends g c =
     let blocks = c.args.self.now.blocks.items in
     let new = c.append_copies.new.found.items in
     let rest = c.pop.new.self.items in
-    subst (λ (item : lines.Item). Gathers (item_in item) (instructions_in old) blocks (instructions_in new) rest) (sym c.in-Ends.is)
+    subst (λ (item : lines.Item). Finds (item_in item) c.args.place old blocks new rest) (sym c.in-Ends.is)
     (ends_block blocks rest c.pop.result c.unwrap-block.result old new c.saturating_sub.result c.pop.ensures.items c.unwrap-block.ensures c.saturating_sub.ensures
     c.in_ok-append_copies-in-Ends.ensures)
