@@ -1,41 +1,61 @@
 //! Images, names and inverses, one by one.
+use super::matrices::image_of;
 use crate::{Gate, laws};
 use pauli_word::Letter::{self, I, X, Y, Z};
 
-#[test]
-fn images_of_letters(rt: HostRuntime) {
-    assert_eq!(rt; Gate::H.image1(Y), (Y, true));
-    assert_eq!(rt; Gate::S.image1(Y), (X, true));
-    assert_eq!(rt; Gate::SqrtX.image1(Y), (Z, false));
-    assert_eq!(rt; Gate::CXYZ.image1(Y), (Z, false));
-}
+/// A gate, a pair of letters of which a one-qubit gate sees the first, and the pair's image.
+const IMAGES: [(Gate, Letter, Letter, (Letter, Letter, bool)); 8] = [
+    (Gate::H, Y, I, (Y, I, true)),
+    (Gate::S, Y, I, (X, I, true)),
+    (Gate::SqrtX, Y, I, (Z, I, false)),
+    (Gate::CXYZ, Y, I, (Z, I, false)),
+    (Gate::ISwap, Y, I, (Z, X, true)),
+    (Gate::CY, X, X, (Y, Z, true)),
+    (Gate::SqrtXX, Y, I, (Z, X, false)),
+    (Gate::SqrtXXDag, Z, X, (Y, I, false)),
+];
 
 #[test]
-fn images_of_pairs(rt: HostRuntime) {
-    assert_eq!(rt; Gate::ISwap.image2(Y, I), (Z, X, true));
-    assert_eq!(rt; Gate::CY.image2(X, X), (Y, Z, true));
-    assert_eq!(rt; Gate::SqrtXX.image2(Y, I), (Z, X, false));
-    assert_eq!(rt; Gate::SqrtXXDag.image2(Z, X), (Y, I, false));
+fn images_of_letters_and_pairs(rt: HostRuntime) {
+    for (gate, a, b, image) in IMAGES {
+        assert!(rt; image_of(gate, a, b) == image, "{gate:?} of {a:?} {b:?}");
+    }
 }
+
+const NAMES: [(&[u8], Option<Gate>); 7] = [
+    (b"sqrt_Z_dag", Some(Gate::SDag)),
+    (b"CNOT", Some(Gate::CX)),
+    (b"iswap_dag", Some(Gate::ISwapDag)),
+    (b"MZ", None),
+    (b"E", None),
+    (b"", None),
+    (b"CXX", None),
+];
 
 #[test]
 fn names(rt: HostRuntime) {
-    assert_eq!(rt; Gate::named(b"sqrt_Z_dag"), Some(Gate::SDag));
-    assert_eq!(rt; Gate::named(b"CNOT"), Some(Gate::CX));
-    assert_eq!(rt; Gate::named(b"iswap_dag"), Some(Gate::ISwapDag));
-    assert_eq!(rt; Gate::named(b"MZ"), None);
-    assert_eq!(rt; Gate::named(b"E"), None);
-    assert_eq!(rt; Gate::named(b""), None);
-    assert_eq!(rt; Gate::named(b"CXX"), None);
+    for (name, gate) in NAMES {
+        assert!(rt; Gate::named(name) == gate, "{name:?}");
+    }
 }
+
+const INVERSES: [(Gate, Gate); 3] = [
+    (Gate::CXYZ, Gate::CZYX),
+    (Gate::SqrtYY, Gate::SqrtYYDag),
+    (Gate::Swap, Gate::Swap),
+];
 
 #[test]
 fn inverses(rt: HostRuntime) {
-    assert_eq!(rt; Gate::CXYZ.inverse(), Gate::CZYX);
-    assert_eq!(rt; Gate::SqrtYY.inverse(), Gate::SqrtYYDag);
-    assert_eq!(rt; Gate::Swap.inverse(), Gate::Swap);
-    assert_eq!(rt; Gate::CZYX.arity(), 1);
-    assert_eq!(rt; Gate::CX.arity(), 2);
+    for (gate, inverse) in INVERSES {
+        assert!(rt; gate.inverse() == inverse, "of {gate:?}");
+    }
+}
+
+#[test]
+fn arities(rt: HostRuntime) {
+    assert!(rt; Gate::CZYX.arity() == 1);
+    assert!(rt; Gate::CX.arity() == 2);
 }
 
 #[test]

@@ -7,7 +7,7 @@ use std::process::Abort;
 
 mod printed;
 
-use printed::{Complex, Matrix, ONE_QUBIT, Small, TWO_QUBIT};
+use printed::{Complex, Matrix, ONE_QUBIT, Small, TWO_QUBIT, number};
 
 fn sum(a: Complex, b: Complex) -> Complex {
     (a.0.wrapping_add(b.0), a.1.wrapping_add(b.1))
@@ -27,6 +27,25 @@ fn letter_matrix(letter: Letter) -> Small {
         Y => [[(0, 0), (0, -1)], [(0, 1), (0, 0)]],
         Z => [[(1, 0), (0, 0)], [(0, 0), (-1, 0)]],
     }
+}
+
+/// The matrix on one qubit that a text writes.
+fn small_of(rows: &[u8; 5]) -> Small {
+    [
+        [number(rows[0]), number(rows[1])],
+        [number(rows[3]), number(rows[4])],
+    ]
+}
+
+/// The matrix on two qubits that a text writes.
+fn matrix_of(rows: &[u8; 19]) -> Matrix {
+    let mut matrix = [[(0, 0); 4]; 4];
+    for row in 0..4 {
+        for column in 0..4 {
+            matrix[row][column] = number(rows[5 * row + column]);
+        }
+    }
+    matrix
 }
 
 /// The matrix of one matrix on the first qubit and one on the second.
@@ -56,7 +75,7 @@ fn matrix_product(factor: Complex, a: Matrix, b: Matrix) -> Matrix {
 
 /// The image of a pair of letters, of which a one-qubit gate sees the first.
 #[tactic(auto, using(crate::proofs::Arity::two_unless_one))]
-fn image_of(gate: Gate, a: Letter, b: Letter) -> (Letter, Letter, bool) {
+pub(super) fn image_of(gate: Gate, a: Letter, b: Letter) -> (Letter, Letter, bool) {
     if gate.arity() == 1 {
         let (a, minus) = gate.image1(a);
         (a, b, minus)
@@ -81,20 +100,18 @@ fn check_gate(rt: &impl Abort, gate: Gate, u: Matrix) {
 
 #[test]
 fn one_qubit_gates(rt: HostRuntime) {
-    let matrices = ONE_QUBIT;
-    for (place, (gate, u)) in matrices.iter().enumerate() {
-        assert_eq!(rt; *gate as usize, place);
-        assert_eq!(rt; gate.arity(), 1);
-        check_gate(&rt, *gate, pair_matrix(*u, letter_matrix(I)));
+    for (place, (gate, rows)) in ONE_QUBIT.iter().enumerate() {
+        assert!(rt; *gate as usize == place);
+        assert!(rt; gate.arity() == 1);
+        check_gate(&rt, *gate, pair_matrix(small_of(*rows), letter_matrix(I)));
     }
 }
 
 #[test]
 fn two_qubit_gates(rt: HostRuntime) {
-    let matrices = TWO_QUBIT;
-    for (place, (gate, u)) in matrices.iter().enumerate() {
-        assert_eq!(rt; *gate as usize, ONE_QUBIT.len() + place);
-        assert_eq!(rt; gate.arity(), 2);
-        check_gate(&rt, *gate, *u);
+    for (place, (gate, rows)) in TWO_QUBIT.iter().enumerate() {
+        assert!(rt; *gate as usize == ONE_QUBIT.len() + place);
+        assert!(rt; gate.arity() == 2);
+        check_gate(&rt, *gate, matrix_of(*rows));
     }
 }

@@ -74,7 +74,7 @@ fn all_x_times_all_y(rt: HostRuntime) -> Result<(), Fail> {
     for (n, power) in [(63, 3), (64, 0), (65, 1), (130, 2)] {
         let one = ones(rt.alloc(), n)?;
         let zero = BitRow::zeros(rt.alloc(), n)?;
-        assert_eq!(rt; BitRow::phase_step(&one, &zero, &one, &one), power);
+        assert!(rt; BitRow::phase_step(&one, &zero, &one, &one) == power);
     }
     Ok(())
 }
@@ -84,7 +84,7 @@ fn common_ones_of_two_rows_of_ones(rt: HostRuntime) -> Result<(), Fail> {
     for (n, odd) in [(128, false), (129, true)] {
         let a = ones(rt.alloc(), n)?;
         let b = ones(rt.alloc(), n)?;
-        assert_eq!(rt; a.and_parity(&b), odd);
+        assert!(rt; a.and_parity(&b) == odd);
     }
     Ok(())
 }
@@ -94,22 +94,36 @@ fn parities_place_by_place(rt: HostRuntime) -> Result<(), Fail> {
     for n in LENGTHS {
         let a = drawn(rt.alloc(), n, 1)?;
         let b = drawn(rt.alloc(), n, 2)?;
-        assert_eq!(rt; a.and_parity(&b), plain_parity(&a, &b));
+        assert!(rt; a.and_parity(&b) == plain_parity(&a, &b));
     }
     Ok(())
+}
+
+// Whether the power of a product with two rows that are drawn is that of its places.
+fn has_power(
+    alloc: Global,
+    xa: &BitRow<Global>,
+    za: &BitRow<Global>,
+    n: usize,
+) -> Result<bool, AllocError>
+    requires xa { length xa.now ≡ n }
+    requires za { length za.now ≡ n }
+{
+    let xb = drawn(alloc, n, 5)?;
+    let zb = drawn(alloc, n, 6)?;
+    Ok(BitRow::phase_step(xa, za, &xb, &zb) == plain_phase(xa, za, &xb, &zb))
+}
+
+fn has_power_of_places(alloc: Global, n: usize) -> Result<bool, AllocError> {
+    let xa = drawn(alloc, n, 3)?;
+    let za = drawn(alloc, n, 4)?;
+    has_power(alloc, &xa, &za, n)
 }
 
 #[test]
 fn powers_place_by_place(rt: HostRuntime) -> Result<(), Fail> {
     for n in LENGTHS {
-        let xa = drawn(rt.alloc(), n, 3)?;
-        let za = drawn(rt.alloc(), n, 4)?;
-        let xb = drawn(rt.alloc(), n, 5)?;
-        let zb = drawn(rt.alloc(), n, 6)?;
-        assert_eq!(rt;
-            BitRow::phase_step(&xa, &za, &xb, &zb),
-            plain_phase(&xa, &za, &xb, &zb)
-        );
+        assert!(rt; has_power_of_places(rt.alloc(), n)?, "at {n}");
     }
     Ok(())
 }
@@ -124,17 +138,21 @@ fn plain_first_one(row: &BitRow<Global>) -> Option<usize> {
     None
 }
 
+// The first one of a row, of none at all, and of one at the last place.
+fn first_ones_are_found(rt: &impl Abort, row: &mut BitRow<Global>) {
+    assert!(rt; row.first_one() == plain_first_one(row));
+    row.clear();
+    assert!(rt; row.first_one().is_none());
+    if let Some(last) = row.len().checked_sub(1) {
+        row.set(last, true);
+        assert!(rt; row.first_one() == Some(last));
+    }
+}
+
 #[test]
 fn first_ones_place_by_place(rt: HostRuntime) -> Result<(), Fail> {
     for n in LENGTHS {
-        let mut row = drawn(rt.alloc(), n, 9)?;
-        assert_eq!(rt; row.first_one(), plain_first_one(&row));
-        row.clear();
-        assert_eq!(rt; row.first_one(), None);
-        if n > 0 {
-            row.set(n - 1, true);
-            assert_eq!(rt; row.first_one(), Some(n - 1));
-        }
+        first_ones_are_found(&rt, &mut drawn(rt.alloc(), n, 9)?);
     }
     Ok(())
 }
@@ -144,7 +162,7 @@ fn assert_sum(rt: &impl Abort, a: &BitRow<Global>, b: &BitRow<Global>, sum: &Bit
     requires sum { length sum.now ≡ length a.now }
 {
     for i in 0..a.len() {
-        assert_eq!(rt; sum.get(i), a.get(i) != b.get(i));
+        assert!(rt; sum.get(i) == (a.get(i) != b.get(i)));
     }
 }
 
@@ -160,35 +178,53 @@ fn sums_place_by_place(rt: HostRuntime) -> Result<(), Fail> {
     Ok(())
 }
 
-#[test]
-fn places(rt: HostRuntime) -> Result<(), Fail> {
-    let mut row = BitRow::zeros(rt.alloc(), 130)?;
-    assert_eq!(rt; row.len(), 130);
-    assert_eq!(rt; row.first_one(), None);
-    assert!(rt; row.is_zero());
+// Sets, flips and clears places of a row of zeros.
+fn places_change(rt: &impl Abort, row: &mut BitRow<Global>)
+    requires { length row.old ≡ 130 }
+{
+    assert!(rt; row.first_one().is_none() & row.is_zero());
     row.set(129, true);
     row.flip(70);
-    assert!(rt; row.get(129) && row.get(70) && !row.get(71));
-    assert_eq!(rt; row.first_one(), Some(70));
+    assert!(rt; row.get(129) & row.get(70) & !row.get(71));
+    assert!(rt; row.first_one() == Some(70));
     row.flip(70);
-    assert_eq!(rt; row.first_one(), Some(129));
+    assert!(rt; row.first_one() == Some(129));
     assert!(rt; !row.is_zero());
     row.set(129, false);
     assert!(rt; row.is_zero());
+}
+
+#[test]
+fn places(rt: HostRuntime) -> Result<(), Fail> {
+    let mut row = BitRow::zeros(rt.alloc(), 130)?;
+    assert!(rt; row.len() == 130);
+    places_change(&rt, &mut row);
     Ok(())
+}
+
+// Swaps a row of ones with a shorter one of zeros.
+fn rows_are_swapped(rt: &impl Abort, long: &mut BitRow<Global>, short: &mut BitRow<Global>) {
+    long.swap(short);
+    assert!(rt; long.len() == 3 && short.len() == 65);
+    assert!(rt; long.first_one().is_none() && short.first_one() == Some(0));
+}
+
+// Copies a row that isn't zero over another.
+fn row_is_copied(rt: &impl Abort, row: &BitRow<Global>, copied: &mut BitRow<Global>)
+    requires { length copied.old ≡ length row.now }
+{
+    copied.copy_from(row);
+    assert!(rt; !copied.is_zero());
+    copied.clear();
+    assert!(rt; copied.is_zero() & !row.is_zero());
 }
 
 #[test]
 fn whole_rows(rt: HostRuntime) -> Result<(), Fail> {
     let mut long = ones(rt.alloc(), 65)?;
-    let mut short = BitRow::zeros(rt.alloc(), 3)?;
-    long.swap(&mut short);
-    assert_eq!(rt; (long.len(), short.len()), (3, 65));
-    assert_eq!(rt; (long.first_one(), short.first_one()), (None, Some(0)));
-    let mut copied = BitRow::zeros(rt.alloc(), short.len())?;
-    copied.copy_from(&short);
-    assert!(rt; !copied.is_zero());
-    copied.clear();
-    assert!(rt; copied.is_zero() && !short.is_zero());
+    rows_are_swapped(&rt, &mut long, &mut BitRow::zeros(rt.alloc(), 3)?);
+    let row = ones(rt.alloc(), 65)?;
+    let mut copied = BitRow::zeros(rt.alloc(), row.len())?;
+    row_is_copied(&rt, &row, &mut copied);
     Ok(())
 }

@@ -1,3 +1,4 @@
+use std::alloc::{AllocError, Global};
 use std::test::Fail;
 use step_model::{Cause, Fault};
 
@@ -35,28 +36,33 @@ const NUMBERS: [(Cause, u8); 30] = [
     (Cause::Shots, 52),
 ];
 
+fn has_text(alloc: Global, cause: Cause) -> Result<bool, AllocError> {
+    let text = format!(in alloc; "{cause}")?;
+    Ok(!text.is_empty())
+}
+
 #[test]
 fn numbers_and_texts(rt: HostRuntime) -> Result<(), Fail> {
     for (cause, number) in NUMBERS {
-        assert_eq!(rt; cause.number(), number, "of {cause:?}");
-        let text = format!(in rt.alloc(); "{cause}")?;
-        assert!(rt; !text.is_empty(), "of {cause:?}");
+        assert!(rt;
+            cause.number() == number && has_text(rt.alloc(), cause)?,
+            "of {cause:?}"
+        );
     }
     Ok(())
+}
+
+fn is_told(alloc: Global, fault: Fault, wanted: &str) -> Result<bool, AllocError> {
+    let text = format!(in alloc; "{fault}")?;
+    Ok(text.as_str() == wanted)
 }
 
 #[test]
 fn lines(rt: HostRuntime) -> Result<(), Fail> {
     let cause = Cause::Depth;
-    let nowhere = format!(in rt.alloc(); "{}", Fault { cause, line: 0 })?;
-    assert_eq!(rt;
-        nowhere.as_str(),
-        "blocks stand too deep inside one another"
-    );
-    let somewhere = format!(in rt.alloc(); "{}", Fault { cause, line: 70 })?;
-    assert_eq!(rt;
-        somewhere.as_str(),
-        "line 70: blocks stand too deep inside one another"
-    );
+    let nowhere = "blocks stand too deep inside one another";
+    assert!(rt; is_told(rt.alloc(), Fault { cause, line: 0 }, nowhere)?);
+    let somewhere = "line 70: blocks stand too deep inside one another";
+    assert!(rt; is_told(rt.alloc(), Fault { cause, line: 70 }, somewhere)?);
     Ok(())
 }

@@ -2,6 +2,7 @@ ghost use Rattle.std.specs.Prelude.{Some};
 
 use pieces::Pieces;
 use std::alloc::{AllocError, Allocator, Global};
+use std::process::Abort;
 use std::test::Fail;
 use step_model::{Cause, Fault, MemorySink, Sink};
 
@@ -44,17 +45,18 @@ impl<A: Allocator + Copy> Sink for NarrowSink<A> {
     }
 }
 
-#[test]
-fn short_pieces_wait_for_the_end(rt: HostRuntime) -> Result<(), Fail> {
-    let mut sink = MemorySink::new(rt.alloc());
+fn short_pieces_wait(rt: &impl Abort, sink: &mut MemorySink<Global>) {
     let mut out = Pieces::new();
-    out.push(&mut sink, b"ab");
-    out.push(&mut sink, b"");
-    out.push(&mut sink, b"c");
-    assert_eq!(rt; sink.bytes(), b"".as_slice());
-    assert_eq!(rt; out.finish(&mut sink), Ok(()));
-    assert_eq!(rt; sink.bytes(), b"abc".as_slice());
-    Ok(())
+    out.push(sink, b"ab");
+    out.push(sink, b"");
+    out.push(sink, b"c");
+    assert!(rt; sink.bytes().is_empty());
+    assert!(rt; out.finish(sink) == Ok(()) && sink.bytes() == b"abc".as_slice());
+}
+
+#[test]
+fn short_pieces_wait_for_the_end(rt: HostRuntime) {
+    short_pieces_wait(&rt, &mut MemorySink::new(rt.alloc()));
 }
 
 /// Pushes so many bytes of one value.
@@ -81,35 +83,51 @@ fn long_bytes(alloc: Global) -> Result<Vec<u8, Global>, AllocError> {
     Ok(bytes)
 }
 
+/// Pushes these bytes, in pieces that a buffer holds and one that it doesn't.
+fn push_long(
+    alloc: Global,
+    out: &mut Pieces,
+    sink: &mut NarrowSink<Global>,
+) -> Result<(), AllocError> {
+    for value in 0..5u8 {
+        push_equal(alloc, out, sink, value, 5000)?;
+    }
+    push_equal(alloc, out, sink, 7, 40_000)?;
+    out.push(sink, b"end");
+    Ok(())
+}
+
 #[test]
 fn a_full_buffer_and_a_long_push_keep_the_order(rt: HostRuntime) -> Result<(), Fail> {
-    let expected = long_bytes(rt.alloc())?;
     let mut sink = narrow_sink(rt.alloc(), 0);
     let mut out = Pieces::new();
-    for value in 0..5u8 {
-        push_equal(rt.alloc(), &mut out, &mut sink, value, 5000)?;
-    }
-    push_equal(rt.alloc(), &mut out, &mut sink, 7, 40_000)?;
-    out.push(&mut sink, b"end");
+    push_long(rt.alloc(), &mut out, &mut sink)?;
     assert!(rt; !out.has_failed());
-    assert_eq!(rt; out.finish(&mut sink), Ok(()));
-    assert_eq!(rt; sink.taken.as_slice(), expected.as_slice());
-    assert_eq!(rt; sink.failures, 0);
+    assert!(rt; out.finish(&mut sink) == Ok(()) && sink.failures == 0);
+    let expected = long_bytes(rt.alloc())?;
+    assert!(rt; sink.taken.as_slice() == expected.as_slice());
     Ok(())
+}
+
+/// Pushes twice, the second time over a failure.
+fn push_twice(
+    alloc: Global,
+    out: &mut Pieces,
+    sink: &mut NarrowSink<Global>,
+) -> Result<(), AllocError> {
+    push_equal(alloc, out, sink, 1, 10_000)?;
+    push_equal(alloc, out, sink, 2, 10_000)
 }
 
 #[test]
 fn a_failed_sink_is_not_called_again(rt: HostRuntime) -> Result<(), Fail> {
     let mut sink = narrow_sink(rt.alloc(), 3);
     let mut out = Pieces::new();
-    push_equal(rt.alloc(), &mut out, &mut sink, 1, 10_000)?;
-    push_equal(rt.alloc(), &mut out, &mut sink, 2, 10_000)?;
+    push_twice(rt.alloc(), &mut out, &mut sink)?;
     assert!(rt; out.has_failed());
     push_equal(rt.alloc(), &mut out, &mut sink, 3, 50_000)?;
-    assert_eq!(rt; out.finish(&mut sink), Err(WRITE));
-    assert_eq!(rt; sink.taken.len(), 2000);
-    assert_eq!(rt; sink.calls, 3);
-    assert_eq!(rt; sink.failures, 1);
+    assert!(rt; out.finish(&mut sink) == Err(WRITE));
+    assert!(rt; (sink.taken.len() == 2000) & (sink.calls == 3) & (sink.failures == 1));
     Ok(())
 }
 
@@ -118,7 +136,6 @@ fn the_last_piece_may_fail(rt: HostRuntime) -> Result<(), Fail> {
     let mut sink = narrow_sink(rt.alloc(), 1);
     let mut out = Pieces::new();
     out.push(&mut sink, b"ab");
-    assert_eq!(rt; out.finish(&mut sink), Err(WRITE));
-    assert_eq!(rt; sink.failures, 1);
+    assert!(rt; out.finish(&mut sink) == Err(WRITE) && sink.failures == 1);
     Ok(())
 }

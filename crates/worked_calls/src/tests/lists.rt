@@ -34,8 +34,7 @@ fn are<T: Copy + Debug + PartialEq>(
     lists: &FlatLists<T, Global>,
     pushed: &[&[T]],
 ) {
-    assert!(rt; lists.is_empty() == pushed.is_empty());
-    assert!(rt; lists.len() == pushed.len());
+    assert!(rt; lists.is_empty() == pushed.is_empty() && lists.len() == pushed.len());
     for (index, list) in pushed.iter().enumerate() {
         assert!(rt; lists.get(index) == *list, "at {index}");
     }

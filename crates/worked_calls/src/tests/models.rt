@@ -60,8 +60,7 @@ fn two_lines(alloc: Global) -> Result<Model<'static, Global>, AllocError> {
 // This is the text of the model.
 fn text_is(rt: &impl Abort, alloc: Global, model: &Model<'_, Global>, text: &str) {
     let mut sink = MemorySink::new(alloc);
-    assert!(rt; write(model, &mut sink) == Ok(()));
-    assert!(rt; sink.bytes() == text.as_bytes());
+    assert!(rt; write(model, &mut sink) == Ok(()) && sink.bytes() == text.as_bytes());
 }
 
 #[test]
@@ -103,9 +102,8 @@ fn takes_all(
     text: &[u8],
     sink: &mut FailingSink<Global>,
 ) {
-    assert!(rt; write(model, sink) == Ok(()));
+    assert!(rt; write(model, sink) == Ok(()) && sink.calls > 1);
     assert!(rt; sink.taken.as_slice() == text);
-    assert!(rt; sink.calls > 1);
 }
 
 #[test]
@@ -124,10 +122,8 @@ fn takes_a_beginning(
     sink: &mut FailingSink<Global>,
 ) {
     assert!(rt; write(model, sink).is_err());
-    assert!(rt; sink.calls == 2);
-    assert!(rt; sink.failures == 1);
-    assert!(rt; text.starts_with(sink.taken.as_slice()));
-    assert!(rt; !sink.taken.is_empty());
+    assert!(rt; sink.calls == 2 && sink.failures == 1);
+    assert!(rt; !sink.taken.is_empty() && text.starts_with(sink.taken.as_slice()));
 }
 
 #[test]

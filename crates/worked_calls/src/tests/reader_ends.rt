@@ -96,8 +96,7 @@ fn reads_all_bytes(
     source: &mut ReaderSource<Device<'_>>,
 ) -> std::result::Result<(), Fail> {
     let bytes = read_all(alloc, source)?;
-    assert!(rt; bytes.as_slice() == b"abcdefgh".as_slice());
-    assert!(rt; source.failures() == 0);
+    assert!(rt; bytes.as_slice() == b"abcdefgh".as_slice() && source.failures() == 0);
     Ok(())
 }
 
@@ -112,12 +111,10 @@ fn reads_all_bytes_and_goes_on_where_interrupted(rt: HostRuntime) -> std::result
 
 fn fails_behind_two_bytes(rt: &impl Abort, source: &mut ReaderSource<Device<'_>>) {
     let mut buffer = *b"....";
-    assert!(rt; source.read(&mut buffer) == Ok(2));
-    assert!(rt; buffer.as_slice() == b"ab..".as_slice());
-    assert!(rt; source.read(&mut buffer) == Err(Fault::READ));
-    assert!(rt; buffer.as_slice() == b"ab..".as_slice());
-    assert!(rt; source.failures() == 1);
-    assert!(rt; source.reader().calls == 3);
+    for outcome in [Ok(2), Err(Fault::READ)] {
+        assert!(rt; source.read(&mut buffer) == outcome && buffer.as_slice() == b"ab..".as_slice());
+    }
+    assert!(rt; source.failures() == 1 && source.reader().calls == 3);
 }
 
 #[test]
@@ -133,8 +130,7 @@ fn a_failed_read_is_counted_and_leaves_the_buffer(rt: HostRuntime) {
 
 fn stops_reading(rt: &impl Abort, alloc: Global, source: &mut ReaderSource<Device<'_>>) {
     assert!(rt; read_all(alloc, source).err() == Some(Fault::READ));
-    assert!(rt; source.failures() == 1);
-    assert!(rt; source.reader().calls == 2);
+    assert!(rt; source.failures() == 1 && source.reader().calls == 2);
 }
 
 #[test]
@@ -161,9 +157,8 @@ const WRITES: [&[Event]; 3] = [
 ];
 
 fn writes_all_bytes(rt: &impl Abort, sink: &mut WriterSink<Device<'_>>) {
-    assert!(rt; write_all(sink, b"wxyz") == Ok(()));
+    assert!(rt; write_all(sink, b"wxyz") == Ok(()) && sink.failures() == 0);
     assert!(rt; sink.writer().taken.as_slice() == b"wxyz".as_slice());
-    assert!(rt; sink.failures() == 0);
 }
 
 #[test]
@@ -184,10 +179,8 @@ const WRITE_FAILURES: [Event; 6] = [
 ];
 
 fn stops_writing(rt: &impl Abort, sink: &mut WriterSink<Device<'_>>) {
-    assert!(rt; write_all(sink, b"wxyz") == Err(Fault::WRITE));
-    assert!(rt; sink.writer().taken.as_slice() == b"w".as_slice());
-    assert!(rt; sink.failures() == 1);
-    assert!(rt; sink.writer().calls == 3);
+    assert!(rt; write_all(sink, b"wxyz") == Err(Fault::WRITE) && sink.failures() == 1);
+    assert!(rt; sink.writer().taken.as_slice() == b"w".as_slice() && sink.writer().calls == 3);
 }
 
 #[test]
@@ -199,8 +192,7 @@ fn a_failed_write_is_counted_and_no_call_follows(rt: HostRuntime) {
 }
 
 fn takes_an_empty_piece(rt: &impl Abort, sink: &mut WriterSink<Device<'_>>) {
-    assert!(rt; sink.write(b"") == Ok(0));
-    assert!(rt; sink.failures() == 0);
+    assert!(rt; sink.write(b"") == Ok(0) && sink.failures() == 0);
 }
 
 #[test]

@@ -5,25 +5,23 @@ use std::process::Abort;
 use std::test::Fail;
 use step_model::{Fault, MemorySink, MemorySource, Sink, Source, read_all, write_all};
 
+/// How many bytes reads of `abcde` hand out, and what the buffer then holds.
+const READ: [(usize, &[u8; 3]); 4] = [(3, b"abc"), (2, b"dec"), (0, b"dec"), (0, b"dec")];
+
 #[test]
-fn memory_source_by_pieces(rt: HostRuntime) -> Result<(), Fail> {
+fn memory_source_by_pieces(rt: HostRuntime) {
     let mut source = MemorySource::new(b"abcde");
     let mut buffer = [0u8; 3];
-    assert!(rt; source.read(&mut buffer) == Ok(3));
-    assert!(rt; buffer.as_slice() == b"abc".as_slice());
-    assert!(rt; source.read(&mut buffer) == Ok(2));
-    assert!(rt; buffer.as_slice() == b"dec".as_slice());
-    assert!(rt; source.read(&mut buffer) == Ok(0));
-    assert!(rt; source.read(&mut buffer) == Ok(0));
-    Ok(())
+    for (count, bytes) in READ {
+        assert!(rt; source.read(&mut buffer) == Ok(count) && buffer == *bytes);
+    }
 }
 
 fn takes_whole_pieces(rt: &impl Abort, sink: &mut MemorySink<Global>) {
     assert!(rt; sink.write(b"ab") == Ok(2));
     assert!(rt; sink.write(b"") == Ok(0));
     assert!(rt; write_all(sink, b"cde") == Ok(()));
-    assert!(rt; sink.bytes() == b"abcde".as_slice());
-    assert!(rt; sink.failures() == 0);
+    assert!(rt; sink.bytes() == b"abcde".as_slice() && sink.failures() == 0);
 }
 
 #[test]
@@ -44,8 +42,7 @@ fn reads_long_input(rt: HostRuntime) -> Result<(), Fail> {
 }
 
 fn was_called(rt: &impl Abort, source: &SlowSource<'_>, calls: u64, failures: u64) {
-    assert!(rt; source.calls() == calls);
-    assert!(rt; source.failures() == failures);
+    assert!(rt; source.calls() == calls && source.failures() == failures);
 }
 
 #[test]
@@ -77,10 +74,8 @@ fn writes(
     calls: u64,
     failures: u64,
 ) {
-    assert!(rt; write_all(sink, b"abc") == outcome);
-    assert!(rt; sink.bytes() == taken);
-    assert!(rt; sink.calls() == calls);
-    assert!(rt; sink.failures() == failures);
+    assert!(rt; write_all(sink, b"abc") == outcome && sink.bytes() == taken);
+    assert!(rt; sink.calls() == calls && sink.failures() == failures);
 }
 
 #[test]

@@ -27,15 +27,12 @@ const LANES: [(u64, u32, bool, u64); 6] = [
 
 #[test]
 fn words_of_lanes(rt: HostRuntime) {
-    assert!(rt; spread(true) == u64::MAX);
-    assert!(rt; spread(false) == 0);
+    assert!(rt; (spread(true) == u64::MAX) & (spread(false) == 0));
     for (first, second, differing, common) in PAIRS {
-        assert!(rt; xor(first, second) == differing);
-        assert!(rt; and(first, second) == common);
+        assert!(rt; (xor(first, second) == differing) & (and(first, second) == common));
     }
     for (word, lane, is_one, with_one) in LANES {
         let lane = lane % 64;
-        assert!(rt; bit(word, lane) == is_one);
-        assert!(rt; with_bit(word, lane) == with_one);
+        assert!(rt; (bit(word, lane) == is_one) & (with_bit(word, lane) == with_one));
     }
 }

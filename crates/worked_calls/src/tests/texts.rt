@@ -2,9 +2,10 @@
 mod written;
 
 use std::alloc::Allocator;
+use std::process::Abort;
 use std::test::Fail;
 use step_model::{Cause, Fault};
-use stim_parser::{Circuit, Item, Target, laws, parse};
+use stim_parser::{Circuit, Instruction, Item, Target, laws, parse};
 use written::{Named, REFUSED, WRITTEN, Wanted, name_of};
 
 fn are_named(targets: &[Target], wanted: &[Named]) -> bool {
@@ -51,11 +52,20 @@ fn texts_write_their_items(rt: HostRuntime) -> Result<(), Fail> {
     Ok(())
 }
 
+fn is_refused<A: Allocator + Copy>(alloc: A, text: &[u8], refusal: Fault) -> bool {
+    match parse(alloc, text) {
+        Ok(_) => false,
+        Err(fault) => fault == refusal,
+    }
+}
+
 #[test]
 fn texts_are_refused(rt: HostRuntime) -> Result<(), Fail> {
     for (text, cause, line) in REFUSED {
-        let refused = parse(rt.alloc(), text).err();
-        assert_eq!(rt; refused, Some(Fault { cause, line }), "in {text:?}");
+        assert!(rt;
+            is_refused(rt.alloc(), text, Fault { cause, line }),
+            "in {text:?}"
+        );
     }
     Ok(())
 }
@@ -72,43 +82,73 @@ fn nested<A: Allocator + Copy>(alloc: A, depth: usize) -> Result<Vec<u8, A>, Fai
     Ok(text)
 }
 
+/// How many items so many blocks inside one another have, where they are taken.
+fn items_of_nested<A: Allocator + Copy>(alloc: A, depth: usize) -> Result<usize, Fail> {
+    let text = nested(alloc, depth)?;
+    let circuit = parse(alloc, text.as_slice())?;
+    Ok(circuit.len())
+}
+
 #[test]
 fn blocks_stand_inside_32(rt: HostRuntime) -> Result<(), Fail> {
-    let text = nested(rt.alloc(), 32)?;
-    let circuit = parse(rt.alloc(), text.as_slice())?;
-    assert_eq!(rt; circuit.len(), 64);
+    assert!(rt; items_of_nested(rt.alloc(), 32)? == 64);
     let text = nested(rt.alloc(), 33)?;
-    let refused = Fault {
+    let refusal = Fault {
         cause: Cause::Depth,
         line: 33,
     };
-    assert_eq!(rt; parse(rt.alloc(), text.as_slice()).err(), Some(refused));
+    assert!(rt; is_refused(rt.alloc(), text.as_slice(), refusal));
+    Ok(())
+}
+
+/// The instruction at a place, where there is one.
+fn instruction_of<'c, 'a, A: Allocator + Copy>(
+    circuit: &'c Circuit<'a, A>,
+    place: usize,
+) -> Result<Instruction<'c, 'a>, Fail> {
+    if place < circuit.len() {
+        if let Item::Does(instruction) = circuit.item(place) {
+            return Ok(instruction);
+        }
+    }
+    Err(Fail::from("another item"))
+}
+
+fn first_argument_is(found: Instruction<'_, '_>, text: &[u8], number: Option<u64>) -> bool {
+    found.first_argument() == Some(text) && found.number() == number
+}
+
+fn coordinates_are(found: Instruction<'_, '_>, wanted: &[i64]) -> bool {
+    match found.coordinates() {
+        Some(coordinates) => coordinates.as_slice() == wanted,
+        None => false,
+    }
+}
+
+const ARGUMENTS: &[u8] =
+    b"DETECTOR( 1 , -2,-0,007)\nOBSERVABLE_INCLUDE( 01023 )\nQUBIT_COORDS(1.5)\nDETECTOR()";
+
+fn arguments_are_those_written<A: Allocator + Copy>(
+    rt: &impl Abort,
+    circuit: &Circuit<'_, A>,
+) -> Result<(), Fail> {
+    assert!(rt; circuit.len() == 4);
+    let detector = instruction_of(circuit, 0)?;
+    assert!(rt; detector.first_argument() == Some(b"1".as_slice()));
+    assert!(rt; coordinates_are(detector, &[1, -2, 0, 7]));
+    let observable = instruction_of(circuit, 1)?;
+    assert!(rt; first_argument_is(observable, b"01023", Some(1023)));
+    let place = instruction_of(circuit, 2)?;
+    assert!(rt; place.coordinates().is_none() && place.number().is_none());
+    let plain = instruction_of(circuit, 3)?;
+    assert!(rt; plain.first_argument().is_none() && coordinates_are(plain, &[]));
     Ok(())
 }
 
 #[test]
 fn arguments_are_read(rt: HostRuntime) -> Result<(), Fail> {
-    let text =
-        b"DETECTOR( 1 , -2,-0,007)\nOBSERVABLE_INCLUDE( 01023 )\nQUBIT_COORDS(1.5)\nDETECTOR()";
-    let circuit = parse(rt.alloc(), text)?;
-    let mut read = Vec::new(rt.alloc());
-    for i in 0..circuit.len() {
-        if let Item::Does(instruction) = circuit.item(i) {
-            read.push(instruction)?;
-        }
-    }
-    let [detector, observable, place, plain] = read.as_slice() else {
-        return Err(Fail::from("another number of instructions"));
-    };
-    assert!(rt; detector.first_argument() == Some(b"1".as_slice()));
-    let coordinates = detector.coordinates().ok_or("coordinates")?;
-    assert!(rt; coordinates.as_slice() == [1i64, -2, 0, 7].as_slice());
-    assert!(rt; observable.first_argument() == Some(b"01023".as_slice()));
-    assert_eq!(rt; observable.number(), Some(1023));
-    assert!(rt; place.coordinates().is_none() && place.number().is_none());
-    assert!(rt; plain.first_argument().is_none());
-    assert_eq!(rt; plain.coordinates().ok_or("no coordinates")?.len(), 0);
-    Ok(())
+    let circuit = parse(rt.alloc(), ARGUMENTS)?;
+    arguments_are_those_written(&rt, &circuit)
 }
 
 #[test]

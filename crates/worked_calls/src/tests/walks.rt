@@ -8,38 +8,38 @@ use programs::{Program, Step, Walk};
 use std::alloc::{AllocError, Allocator};
 use std::process::Abort;
 use std::test::Fail;
-use table::{EIGHT, MEASURE, MISFITS, NOTHING, READ, ROWS};
+use table::{EIGHT, MEASURE, MISFITS, NOTHING, READ, ROWS, Row};
 
-// Walks to the end, back, and forth and back over each step.
-fn walks_over<A: Allocator + Copy>(rt: &impl Abort, program: &Program<'_, A>, steps: &[Step]) {
+// Goes over each step forth, back and forth again, and then back to the start.
+fn walks_over<A: Allocator + Copy>(program: &Program<'_, A>, steps: &[Step]) -> bool {
     let mut walk = Walk::start(program);
+    let mut all = true;
     for step in steps {
-        assert!(rt; walk.next_step() == Some(*step));
+        all &= walk.next_step() == Some(*step);
+        all &= walk.previous_step() == Some(*step);
+        all &= walk.next_step() == Some(*step);
     }
-    assert!(rt; walk.next_step().is_none());
+    all &= walk.next_step().is_none();
     for step in steps.iter().rev() {
-        assert!(rt; walk.previous_step() == Some(*step));
+        all &= walk.previous_step() == Some(*step);
     }
-    assert!(rt; walk.previous_step().is_none());
-    for step in steps {
-        let forth = walk.next_step() == Some(*step);
-        let back = walk.previous_step() == Some(*step);
-        let again = walk.next_step() == Some(*step);
-        assert!(rt; forth & back & again);
-    }
+    all & walk.previous_step().is_none()
 }
 
 // The same from the end.
-fn walks_back_over<A: Allocator + Copy>(rt: &impl Abort, program: &Program<'_, A>, steps: &[Step]) {
+fn walks_back_over<A: Allocator + Copy>(program: &Program<'_, A>, steps: &[Step]) -> bool {
     let mut walk = Walk::end(program);
-    assert!(rt; walk.next_step().is_none());
+    let mut all = walk.next_step().is_none();
     for step in steps.iter().rev() {
-        let back = walk.previous_step() == Some(*step);
-        let forth = walk.next_step() == Some(*step);
-        let again = walk.previous_step() == Some(*step);
-        assert!(rt; back & forth & again);
+        all &= walk.previous_step() == Some(*step);
+        all &= walk.next_step() == Some(*step);
+        all &= walk.previous_step() == Some(*step);
     }
-    assert!(rt; walk.previous_step().is_none());
+    all &= walk.previous_step().is_none();
+    for step in steps {
+        all &= walk.next_step() == Some(*step);
+    }
+    all & walk.next_step().is_none()
 }
 
 // A program that fits. It has no clauses: what its steps are is asserted.
@@ -53,14 +53,18 @@ fn made<'a, A: Allocator + Copy>(
     Ok(program_of(alloc, qubits, pieces, lists)?.expect(rt, "it fits"))
 }
 
+fn is_of_row<A: Allocator + Copy>(program: &Program<'_, A>, row: &Row) -> bool {
+    walks_over(program, row.steps)
+        & walks_back_over(program, row.steps)
+        & (program.record_count() == row.records)
+        & (program.fault_count() == row.faults)
+}
+
 #[test]
 fn rows_of_the_table(rt: HostRuntime) -> Result<(), Fail> {
     for row in ROWS {
         let program = made(&rt, rt.alloc(), row.qubits, row.pieces, row.lists)?;
-        walks_over(&rt, &program, row.steps);
-        walks_back_over(&rt, &program, row.steps);
-        assert!(rt; program.record_count() == row.records, "of {}", row.circuit);
-        assert!(rt; program.fault_count() == row.faults, "of {}", row.circuit);
+        assert!(rt; is_of_row(&program, row), "of {}", row.circuit);
     }
     Ok(())
 }
@@ -87,12 +91,24 @@ fn nested<A: Allocator + Copy>(alloc: A, outer: u32) -> Result<Vec<Piece, A>, Al
     Ok(pieces)
 }
 
+fn nested_walks<A: Allocator + Copy>(
+    rt: &impl Abort,
+    alloc: A,
+    pieces: &[Piece],
+) -> Result<bool, AllocError> {
+    let program = made(rt, alloc, 1, pieces, NOTHING)?;
+    Ok(walks_over(&program, EIGHT) & walks_back_over(&program, EIGHT))
+}
+
 #[test]
 fn blocks_of_thirty_two_levels(rt: HostRuntime) -> Result<(), Fail> {
     let pieces = nested(rt.alloc(), 29)?;
-    let program = made(&rt, rt.alloc(), 1, pieces.as_slice(), NOTHING)?;
-    walks_over(&rt, &program, EIGHT);
-    walks_back_over(&rt, &program, EIGHT);
+    assert!(rt; nested_walks(&rt, rt.alloc(), pieces.as_slice())?);
+    Ok(())
+}
+
+#[test]
+fn more_levels_make_no_program(rt: HostRuntime) -> Result<(), Fail> {
     let pieces = nested(rt.alloc(), 30)?;
     assert!(rt; program_of(rt.alloc(), 1, pieces.as_slice(), NOTHING)?.is_none());
     Ok(())

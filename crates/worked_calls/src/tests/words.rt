@@ -40,108 +40,155 @@ fn times<A: Allocator + Copy>(first: &mut Word<A>, second: &Word<A>) -> bool
     first.times(second)
 }
 
-/// The product of two words that have to commute, and what `times` answers.
-fn product_of<A: Allocator + Copy>(
+/// Multiplies two words that have to commute: the product, and what `times` answers.
+fn multiplied<A: Allocator + Copy>(
     rt: &impl Abort,
-    alloc: A,
-    first: Signed,
-    second: Signed,
-) -> Result<(Signed, bool), AllocError> {
-    let mut word = word_of(alloc, first.0, &first.1)?;
-    let other = word_of(alloc, second.0, &second.1)?;
-    assert!(rt; word.commutes(&other));
-    let brings_minus = times(&mut word, &other);
-    Ok((
+    word: &mut Word<A>,
+    other: &Word<A>,
+) -> (Signed, bool)
+    requires word { length word.old.letters ≡ 2 }
+    requires other { length other.now.letters ≡ 2 }
+{
+    assert!(rt; word.commutes(other));
+    let brings_minus = times(word, other);
+    (
         (word.sign(), [word.letter(0), word.letter(1)]),
         brings_minus,
-    ))
+    )
+}
+
+/// Two words, their product, and whether the letters brought a factor -1.
+type Product = (Signed, Signed, Signed, bool);
+
+const PRODUCTS: [Product; 7] = [
+    // X Z = -i Y at each qubit, and (-i)(-i) = -1
+    ((PLUS, [X, X]), (PLUS, [Z, Z]), (MINUS, [Y, Y]), true),
+    // Z X = i Y at each qubit, and i i = -1
+    ((PLUS, [Z, Z]), (PLUS, [X, X]), (MINUS, [Y, Y]), true),
+    // X Y = i Z, Y X = -i Z, and i (-i) = 1
+    ((PLUS, [X, Y]), (PLUS, [Y, X]), (PLUS, [Z, Z]), false),
+    // the signs of the words are no factor that the letters bring
+    ((MINUS, [X, I]), (PLUS, [X, I]), (MINUS, [I, I]), false),
+    ((PLUS, [X, I]), (MINUS, [X, I]), (MINUS, [I, I]), false),
+    ((MINUS, [X, X]), (PLUS, [Z, Z]), (PLUS, [Y, Y]), true),
+    // letters at different qubits
+    ((PLUS, [Y, I]), (PLUS, [I, Z]), (PLUS, [Y, Z]), false),
+];
+
+fn has_product<A: Allocator + Copy>(
+    rt: &impl Abort,
+    alloc: A,
+    row: &Product,
+) -> Result<bool, AllocError> {
+    let (first, second, product, brings_minus) = *row;
+    let mut word = word_of(alloc, first.0, &first.1)?;
+    let other = word_of(alloc, second.0, &second.1)?;
+    Ok(multiplied(rt, &mut word, &other) == (product, brings_minus))
+}
+
+fn have_products<A: Allocator + Copy>(
+    rt: &impl Abort,
+    alloc: A,
+    rows: &[Product],
+) -> Result<bool, AllocError> {
+    for row in rows {
+        if !has_product(rt, alloc, row)? {
+            return Ok(false);
+        }
+    }
+    Ok(true)
 }
 
 #[test]
 fn products(rt: HostRuntime) -> Result<(), Fail> {
-    // two words, their product, and whether the letters brought a factor -1
-    let table: [(Signed, Signed, Signed, bool); 7] = [
-        // X Z = -i Y at each qubit, and (-i)(-i) = -1
-        ((PLUS, [X, X]), (PLUS, [Z, Z]), (MINUS, [Y, Y]), true),
-        // Z X = i Y at each qubit, and i i = -1
-        ((PLUS, [Z, Z]), (PLUS, [X, X]), (MINUS, [Y, Y]), true),
-        // X Y = i Z, Y X = -i Z, and i (-i) = 1
-        ((PLUS, [X, Y]), (PLUS, [Y, X]), (PLUS, [Z, Z]), false),
-        // the signs of the words are no factor that the letters bring
-        ((MINUS, [X, I]), (PLUS, [X, I]), (MINUS, [I, I]), false),
-        ((PLUS, [X, I]), (MINUS, [X, I]), (MINUS, [I, I]), false),
-        ((MINUS, [X, X]), (PLUS, [Z, Z]), (PLUS, [Y, Y]), true),
-        // letters at different qubits
-        ((PLUS, [Y, I]), (PLUS, [I, Z]), (PLUS, [Y, Z]), false),
-    ];
-    for (first, second, product, brings_minus) in table {
-        assert_eq!(rt;
-            product_of(&rt, rt.alloc(), first, second)?,
-            (product, brings_minus),
-            "{first:?} times {second:?}"
-        );
-    }
+    assert!(rt; have_products(&rt, rt.alloc(), &PRODUCTS)?);
     Ok(())
+}
+
+/// The letters of two words, and whether these commute.
+const COMMUTING: [([Letter; 2], [Letter; 2], bool); 7] = [
+    ([X, X], [Z, Z], true),
+    ([X, I], [Z, I], false),
+    ([X, I], [I, Z], true),
+    ([X, Y], [Z, I], false),
+    ([X, Y], [X, Y], true),
+    ([I, I], [Y, Z], true),
+    ([X, Y], [Y, Y], false),
+];
+
+/// Whether two words commute, either way round.
+fn commute<A: Allocator + Copy>(first: &Word<A>, second: &Word<A>) -> [bool; 2]
+    requires { length first.now.letters ≡ length second.now.letters }
+{
+    [first.commutes(second), second.commutes(first)]
 }
 
 #[test]
 fn commuting(rt: HostRuntime) -> Result<(), Fail> {
-    let table = [
-        ([X, X], [Z, Z], true),
-        ([X, I], [Z, I], false),
-        ([X, I], [I, Z], true),
-        ([X, Y], [Z, I], false),
-        ([X, Y], [X, Y], true),
-        ([I, I], [Y, Z], true),
-        ([X, Y], [Y, Y], false),
-    ];
-    for (letters, other_letters, commute) in table {
+    for (letters, other_letters, wanted) in COMMUTING {
         let first = word_of(rt.alloc(), PLUS, &letters)?;
         let second = word_of(rt.alloc(), MINUS, &other_letters)?;
-        assert_eq!(rt;
-            first.commutes(&second),
-            commute,
+        assert!(rt;
+            commute(&first, &second) == [wanted, wanted],
             "{letters:?} and {other_letters:?}"
-        );
-        assert_eq!(rt;
-            second.commutes(&first),
-            commute,
-            "{other_letters:?} and {letters:?}"
         );
     }
     Ok(())
 }
 
-#[test]
-fn ends_of_a_long_word(rt: HostRuntime) -> Result<(), Fail> {
-    let mut first = Word::identity(rt.alloc(), 4096)?;
-    assert!(rt; !first.sign());
-    assert_eq!(rt; first.letter(4095), I);
-    first.set_letter(0, X);
-    first.set_letter(4095, X);
-    let mut second = Word::identity(rt.alloc(), 4096)?;
-    second.set_letter(0, Z);
-    second.set_letter(4095, Z);
-    assert!(rt; first.commutes(&second));
-    assert!(rt; times(&mut first, &second));
-    assert!(rt; first.sign());
+/// A long word with this letter at both ends, made of one that has none.
+fn long_word<A: Allocator + Copy>(
+    rt: &impl Abort,
+    alloc: A,
+    letter: Letter,
+) -> Result<Word<A>, AllocError>
+    ensures { IfOk result (λ w. length w.letters ≡ 4096) }
+{
+    let mut word = Word::identity(alloc, 4096)?;
+    assert!(rt; !word.sign() && word.letter(4095) == I);
+    word.set_letter(0, letter);
+    word.set_letter(4095, letter);
+    Ok(word)
+}
+
+/// Multiplies X at both ends by Z at both ends.
+fn ends_multiply<A: Allocator + Copy>(rt: &impl Abort, first: &mut Word<A>, second: &Word<A>)
+    requires first { length first.old.letters ≡ 4096 }
+    requires second { length second.now.letters ≡ 4096 }
+{
+    assert!(rt; first.commutes(second));
+    assert!(rt; times(first, second) && first.sign());
     for qubit in 0..4096 {
         let letter = if qubit == 0 || qubit == 4095 { Y } else { I };
-        assert_eq!(rt; first.letter(qubit), letter, "at {qubit}");
+        assert!(rt; first.letter(qubit) == letter, "at {qubit}");
     }
+}
+
+#[test]
+fn ends_of_a_long_word(rt: HostRuntime) -> Result<(), Fail> {
+    let mut first = long_word(&rt, rt.alloc(), X)?;
+    let second = long_word(&rt, rt.alloc(), Z)?;
+    ends_multiply(&rt, &mut first, &second);
     Ok(())
+}
+
+/// Changes a word X Y Z with sign minus, and not its copy.
+fn changes_alone<A: Allocator + Copy>(rt: &impl Abort, original: &mut Word<A>, copy: &Word<A>)
+    requires original { length original.old.letters ≡ 3 }
+    requires copy { length copy.now.letters ≡ 3 }
+{
+    original.set_letter(1, I);
+    original.set_sign(PLUS);
+    assert!(rt; !original.sign() && original.letter(1) == I);
+    assert!(rt; copy.sign());
+    assert!(rt; [copy.letter(0), copy.letter(1), copy.letter(2)] == [X, Y, Z]);
 }
 
 #[test]
 fn a_copy_stands_alone(rt: HostRuntime) -> Result<(), Fail> {
     let mut original = word_of(rt.alloc(), MINUS, &[X, Y, Z])?;
     let copy = original.copy()?;
-    original.set_letter(1, I);
-    original.set_sign(PLUS);
-    assert!(rt; !original.sign());
-    assert_eq!(rt; original.letter(1), I);
-    assert!(rt; copy.sign());
-    assert_eq!(rt; [copy.letter(0), copy.letter(1), copy.letter(2)], [X, Y, Z]);
+    changes_alone(&rt, &mut original, &copy);
     Ok(())
 }
 
