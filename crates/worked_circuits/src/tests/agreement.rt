@@ -147,16 +147,28 @@ fn models_agree(first: &Analysed<'_, Global>, second: &Analysed<'_, Global>) -> 
 }
 
 fn are_same_models(first: &Model<'_, Global>, second: &Model<'_, Global>) -> bool {
-    if first.line_count() != second.line_count()
-        || first.detector_count() != second.detector_count()
-        || first.observable_count() != second.observable_count()
-    {
-        return false;
-    }
+    have_same_counts(first, second) && have_same_lines(first, second)
+}
+
+fn have_same_counts(first: &Model<'_, Global>, second: &Model<'_, Global>) -> bool {
+    first.line_count() == second.line_count()
+        && first.detector_count() == second.detector_count()
+        && first.observable_count() == second.observable_count()
+}
+
+fn have_same_lines(first: &Model<'_, Global>, second: &Model<'_, Global>) -> bool {
     for line in 0..first.line_count() {
-        if first.text(line) != second.text(line) || first.targets(line) != second.targets(line) {
+        if !is_same_line(first, second, line) {
             return false;
         }
     }
     true
+}
+
+/// Whether a line is in both models, and the same.
+fn is_same_line(first: &Model<'_, Global>, second: &Model<'_, Global>, line: usize) -> bool {
+    line < first.line_count()
+        && line < second.line_count()
+        && first.text(line) == second.text(line)
+        && first.targets(line) == second.targets(line)
 }

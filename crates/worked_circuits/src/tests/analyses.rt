@@ -28,10 +28,38 @@ fn rows_of_the_table(rt: HostRuntime) -> Result<(), Fail> {
 
 fn check_row(rt: &impl Abort, alloc: Global, row: &Row) -> Result<(), Fail> {
     let program = program_of(alloc, row.qubits, row.pieces, row.lists)?.expect(rt, row.circuit);
-    let dense = by_dense(alloc, &program)?;
-    check_answer(rt, alloc, row, &program, &dense)?;
-    let sparse = by_sparse(&alloc, &program)?;
-    check_answer(rt, alloc, row, &program, &sparse)
+    check_trackers(rt, alloc, row, &program)
+}
+
+/// Each tracker gives the row's answer.
+fn check_trackers(
+    rt: &impl Abort,
+    alloc: Global,
+    row: &Row,
+    program: &Program<'_, Global>,
+) -> Result<(), Fail> {
+    check_dense(rt, alloc, row, program)?;
+    check_sparse(rt, alloc, row, program)
+}
+
+fn check_dense(
+    rt: &impl Abort,
+    alloc: Global,
+    row: &Row,
+    program: &Program<'_, Global>,
+) -> Result<(), Fail> {
+    let analysed = by_dense(alloc, program)?;
+    check_answer(rt, alloc, row, program, &analysed)
+}
+
+fn check_sparse(
+    rt: &impl Abort,
+    alloc: Global,
+    row: &Row,
+    program: &Program<'_, Global>,
+) -> Result<(), Fail> {
+    let analysed = by_sparse(&alloc, program)?;
+    check_answer(rt, alloc, row, program, &analysed)
 }
 
 /// The analysis by rows of bits.

@@ -20,8 +20,17 @@ fn rows_of_the_table(rt: HostRuntime) -> Result<(), Fail> {
 
 fn check_row(rt: &impl Abort, alloc: Global, row: &Row) -> Result<(), Fail> {
     let program = program_of(alloc, row.qubits, row.pieces, row.lists)?.expect(rt, row.circuit);
+    check_runs(rt, alloc, row, &program)
+}
+
+fn check_runs(
+    rt: &impl Abort,
+    alloc: Global,
+    row: &Row,
+    program: &Program<'_, Global>,
+) -> Result<(), Fail> {
     for run in row.runs {
-        check_run(rt, alloc, row.circuit, &program, run)?;
+        check_run(rt, alloc, row.circuit, program, run)?;
     }
     Ok(())
 }

@@ -38,9 +38,18 @@ fn in_y(rt: HostRuntime) -> Result<(), Fail> {
 }
 
 fn is_as_expected(alloc: Global, qubits: u32, letter: Letter) -> Result<bool, Fail> {
-    let coins = drawn_coins(qubits as u64);
     let pieces = measured_ghz(alloc, qubits, letter)?;
-    match records_of(alloc, qubits, pieces.as_slice(), NOTHING, &coins)? {
+    are_as_expected(alloc, qubits, letter, pieces.as_slice())
+}
+
+fn are_as_expected(
+    alloc: Global,
+    qubits: u32,
+    letter: Letter,
+    pieces: &[Piece],
+) -> Result<bool, Fail> {
+    let coins = drawn_coins(qubits as u64);
+    match records_of(alloc, qubits, pieces, NOTHING, &coins)? {
         Some(records) => Ok(are_expected(&records, qubits, letter, &coins)),
         None => Ok(false),
     }
