@@ -23,21 +23,26 @@ pub(crate) fn read_words<'a>(alloc: Global, words: &'a [String]) -> Result<ArgMa
 }
 
 fn run_command<'a>(alloc: Global) -> Result<Command<'a>, AllocError> {
-    let coins = option(
+    let command = Command::new(alloc, "run")
+        .about("Writes the records and the detections of a run")
+        .after_help(ABOUT_RUNS);
+    with_faults(alloc, with_coins(alloc, command)?)
+}
+
+fn with_coins<'a>(alloc: Global, command: Command<'a>) -> Result<Command<'a>, AllocError> {
+    command.arg(option(
         alloc,
         "coins",
         "One digit 0 or 1 for each collapse [default: all 0]",
-    );
-    let faults = option(
+    ))
+}
+
+fn with_faults<'a>(alloc: Global, command: Command<'a>) -> Result<Command<'a>, AllocError> {
+    command.arg(option(
         alloc,
         "faults",
         "The numbers of the faults that happen, joined by commas [default: none]",
-    );
-    Command::new(alloc, "run")
-        .about("Writes the records and the detections of a run")
-        .after_help(ABOUT_RUNS)
-        .arg(coins)?
-        .arg(faults)
+    ))
 }
 
 fn sample_command<'a>(alloc: Global) -> Result<Command<'a>, AllocError> {
@@ -56,13 +61,19 @@ fn detect_command<'a>(alloc: Global) -> Result<Command<'a>, AllocError> {
 
 /// A subcommand with the options of one that draws shots.
 fn with_draws<'a>(alloc: Global, command: Command<'a>) -> Result<Command<'a>, AllocError> {
-    let shots = option(alloc, "shots", "How many shots, at most 1000000").required(true);
-    let seed = option(
+    with_seed(alloc, with_shots(alloc, command)?)
+}
+
+fn with_shots<'a>(alloc: Global, command: Command<'a>) -> Result<Command<'a>, AllocError> {
+    command.arg(option(alloc, "shots", "How many shots, at most 1000000").required(true))
+}
+
+fn with_seed<'a>(alloc: Global, command: Command<'a>) -> Result<Command<'a>, AllocError> {
+    command.arg(option(
         alloc,
         "seed",
         "The seed of the generator, below 2^64 [default: 0]",
-    );
-    command.arg(shots)?.arg(seed)
+    ))
 }
 
 fn analyze_command<'a>(alloc: Global) -> Command<'a> {
