@@ -1,6 +1,7 @@
 mod broken;
-mod calls;
 mod devices;
 mod memory;
 mod numbers;
+mod plain;
 mod rows;
+mod writers;

@@ -1,7 +1,6 @@
 mod aliases;
 mod checks;
 mod cuts;
-mod ends;
 mod examples;
 mod formats;
 mod lengths;

@@ -1,22 +1,25 @@
-//! Texts with one byte replaced.
-use super::rows::{EVERYTHING, RANDOM};
+//! Texts that are cut at each byte, and texts with one byte replaced. Circuits are taken or refused as the plain reader says.
+use super::plain::refusal_of;
+use super::rows::{EVERYTHING, MODEL, RANDOM};
 use engine::{Order, Status, serve};
 use std::alloc::{AllocError, Global};
 use std::process::Abort;
 use std::test::Fail;
 use step_model::{Fault, MemorySink, MemorySource};
 
-/// A block of which each turn moves the coordinates.
+/// A block of which each turn moves the coordinates, and pairs of each kind.
 const SHIFTED: &str = "\
 R 0 1
+M 2
 REPEAT 2 {
     X_ERROR(0.01) 0
-    CX 0 1
+    CX 0 1 rec[-1] 2
     MR 1
     DETECTOR(0, 0) rec[-1]
     SHIFT_COORDS(0, 1)
 }
 M 0
+CZ 1 rec[-1]
 OBSERVABLE_INCLUDE(0) rec[-1]
 ";
 
@@ -30,27 +33,7 @@ const RUN: Order<'static> = Order::Run {
     faults: b"",
 };
 
-/// The line by which an order on a text is refused, and none where the text is taken.
-fn refusal(alloc: Global, order: &Order<'_>, text: &[u8]) -> Result<Option<Vec<u8>>, Fault> {
-    let mut sink = MemorySink::new(alloc);
-    let status = serve(alloc, order, &mut MemorySource::new(text), &mut sink)?;
-    if status != Status::Refused {
-        return Ok(None);
-    }
-    match Vec::from_slice(alloc, sink.bytes()) {
-        Ok(line) => Ok(Some(line)),
-        Err(_) => Err(Fault::MEMORY),
-    }
-}
-
-/// How many lines a text has: what follows the last line feed is one where it isn't empty.
-fn lines_of(text: &[u8]) -> u64 {
-    let feeds = text.iter().filter(|byte| **byte == b'\n').count() as u64;
-    match text.last() {
-        Some(b'\n') | None => feeds,
-        Some(_) => feeds.saturating_add(1),
-    }
-}
+const PREDICT: Order<'static> = Order::Predict { lines: b"" };
 
 /// The cause and the line of a refusal, where these bytes tell one.
 fn refusal_in(written: &[u8]) -> Option<(u64, u64)> {
@@ -59,24 +42,49 @@ fn refusal_in(written: &[u8]) -> Option<(u64, u64)> {
     Some((cause.parse().ok()?, number.parse().ok()?))
 }
 
-/// Whether a text of so many lines may be refused so: the totals have no line, and all else has one.
-fn is_sound(line: &[u8], lines: u64) -> bool {
-    match refusal_in(line) {
-        Some((cause, 0)) => 23 <= cause && cause <= 25,
-        Some((cause, line)) => 10 <= cause && cause <= 25 && line <= lines,
-        None => false,
+/// By which cause an order on a text is refused, and the line; none where it is taken, and cause 0 where what is written is
+/// no refusal.
+fn refusal(alloc: Global, order: &Order<'_>, text: &[u8]) -> Result<Option<(u64, u64)>, Fault> {
+    let mut sink = MemorySink::new(alloc);
+    let status = serve(alloc, order, &mut MemorySource::new(text), &mut sink)?;
+    match status {
+        Status::Refused => Ok(Some(refusal_in(sink.bytes()).unwrap_or((0, 0)))),
+        _ => Ok(None),
     }
 }
 
-/// Both orders answer a text alike, and as it may be answered.
-fn check_text(rt: &impl Abort, alloc: Global, text: &[u8]) -> Result<(), Fail> {
+/// A circuit is run and analysed, or refused as the plain reader says.
+fn check_circuit(rt: &impl Abort, alloc: Global, text: &[u8]) -> Result<(), Fail> {
     let run = refusal(alloc, &RUN, text)?;
     let analysis = refusal(alloc, &Order::Analyze, text)?;
-    assert!(rt; run == analysis, "{text:?}");
-    if let Some(line) = run {
-        assert!(rt; is_sound(line.as_slice(), lines_of(text)), "{text:?}");
+    let wanted = refusal_of(alloc, text)?;
+    assert!(rt; run == wanted, "{run:?} and not {wanted:?}: {text:?}");
+    assert!(rt;
+        analysis == wanted,
+        "{analysis:?} and not {wanted:?}: {text:?}"
+    );
+    Ok(())
+}
+
+/// An error model is taken, or refused by one of its lines. Its blocks unroll to few lines.
+fn check_model(rt: &impl Abort, alloc: Global, text: &[u8]) -> Result<(), Fail> {
+    let lines = text.split(|byte| *byte == b'\n').count() as u64;
+    if let Some((cause, line)) = refusal(alloc, &PREDICT, text)? {
+        let known = cause == 10 || (40 <= cause && cause <= 46);
+        assert!(rt;
+            known && 1 <= line && line <= lines,
+            "{cause}, {line}: {text:?}"
+        );
     }
     Ok(())
+}
+
+fn check_text(rt: &impl Abort, alloc: Global, is_model: bool, text: &[u8]) -> Result<(), Fail> {
+    if is_model {
+        check_model(rt, alloc, text)
+    } else {
+        check_circuit(rt, alloc, text)
+    }
 }
 
 /// A text with the byte at a place replaced.
@@ -88,15 +96,42 @@ fn with_byte(alloc: Global, text: &str, place: usize, byte: u8) -> Result<Vec<u8
     Ok(broken)
 }
 
-#[test]
-fn every_byte_is_replaced(rt: HostRuntime) -> Result<(), Fail> {
-    for text in [EVERYTHING, RANDOM, SHIFTED] {
-        for place in 0..text.len() {
-            for byte in BYTES {
-                let broken = with_byte(rt.alloc(), text, place, byte)?;
-                check_text(&rt, rt.alloc(), broken.as_slice())?;
-            }
-        }
+/// A text cut at a byte, and with each of the bytes in its place.
+fn check_place(
+    rt: &impl Abort,
+    alloc: Global,
+    is_model: bool,
+    text: &str,
+    place: usize,
+) -> Result<(), Fail> {
+    let beginning = text.as_bytes().get(..place).unwrap_or(b"");
+    check_text(rt, alloc, is_model, beginning)?;
+    for byte in BYTES {
+        let broken = with_byte(alloc, text, place, byte)?;
+        check_text(rt, alloc, is_model, broken.as_slice())?;
     }
     Ok(())
+}
+
+fn check_places(rt: &impl Abort, alloc: Global, is_model: bool, text: &str) -> Result<(), Fail> {
+    for place in 0..text.len() {
+        check_place(rt, alloc, is_model, text, place)?;
+    }
+    check_text(rt, alloc, is_model, text.as_bytes())
+}
+
+#[test]
+fn every_byte_of_every_kind_of_line(rt: HostRuntime) -> Result<(), Fail> {
+    check_places(&rt, rt.alloc(), false, EVERYTHING)
+}
+
+#[test]
+fn every_byte_of_feedback_and_blocks(rt: HostRuntime) -> Result<(), Fail> {
+    check_places(&rt, rt.alloc(), false, RANDOM)?;
+    check_places(&rt, rt.alloc(), false, SHIFTED)
+}
+
+#[test]
+fn every_byte_of_a_model(rt: HostRuntime) -> Result<(), Fail> {
+    check_places(&rt, rt.alloc(), true, MODEL)
 }

@@ -40,6 +40,40 @@ M 0 1 4
 OBSERVABLE_INCLUDE(1) rec[-3]
 ";
 
+/// The same with faults that happen always or never, so that each shot is one: the fault of X happens in both turns and at the end, and
+/// all products are flipped. In the first turn the measured record is 0, so nothing is fed back to qubit 4.
+pub(super) const CERTAIN: &str = "\
+R 0 1
+RX 2
+RY 3
+H 4
+S 4
+C_XYZ 4
+SWAP 4 0
+SQRT_XX 4 0
+SQRT_XX_DAG 4 0
+REPEAT 2 {
+    X_ERROR(1) 0
+    Z_ERROR(0) 0
+    Y_ERROR(0) 3
+    CNOT 0 1
+    MR(0) !1
+    CX rec[-1] 4
+    REPEAT 3 {
+        MPP(1) !Z0*Z1 Y3
+    }
+    SHIFT_COORDS(0, -1)
+    DETECTOR(5, 0) rec[-1] rec[-2]
+}
+MX 2
+MY(1) 3
+MRX 2
+MRY 3
+E(1) X0 z1
+M 0 1 4
+OBSERVABLE_INCLUDE(1) rec[-3]
+";
+
 /// A random outcome, fed back to the qubit of the detector.
 pub(super) const RANDOM: &str = "H 0\nCX 0 1\nM 1\nCX rec[-1] 2\nM 2\nDETECTOR rec[-1]\n";
 
@@ -57,20 +91,46 @@ repeat 3 {
 logical_observable L1
 ";
 
-/// An order on a text, what is written, how that ends, and how many growths the order does without where one is refused: coins that
-/// are given are collected, which goes on in smaller steps where the room for all of them is refused.
+/// An order on a text, what is written so many times over, how that ends, and how many growths the order does without where one is
+/// refused: coins that are given are collected, which goes on in smaller steps where the room for all of them is refused.
 pub(super) struct Row {
     pub order: Order<'static>,
     pub text: &'static str,
     pub output: &'static str,
+    pub times: u64,
     pub status: Status,
     pub spared: u64,
+}
+
+impl Row {
+    /// How many bytes are written.
+    pub fn length(&self) -> u64 {
+        self.times.saturating_mul(self.output.len() as u64)
+    }
+
+    /// Whether these bytes are a beginning of what is written.
+    pub fn begins_with(&self, bytes: &[u8]) -> bool {
+        let mut left = bytes;
+        for _ in 0..self.times {
+            match left.strip_prefix(self.output.as_bytes()) {
+                Some(rest) => left = rest,
+                None => return self.output.as_bytes().starts_with(left),
+            }
+        }
+        left.is_empty()
+    }
+
+    /// Whether these bytes are what is written.
+    pub fn is_written_as(&self, bytes: &[u8]) -> bool {
+        bytes.len() as u64 == self.length() && self.begins_with(bytes)
+    }
 }
 
 /// Coins for the 25 collapses of `EVERYTHING`. Two are random, and both are corrected.
 const ONES: &[u8] = b"1111111111111111111111111";
 
-pub(super) const ROWS: [Row; 11] = [
+/// Shots go out in more pieces than one.
+pub(super) const ROWS: &[Row] = &[
     Row {
         order: Order::Run {
             coins: Some(ONES),
@@ -78,6 +138,7 @@ pub(super) const ROWS: [Row; 11] = [
         },
         text: EVERYTHING,
         output: "110101011010100000000\n0000\n",
+        times: 1,
         status: Status::Done,
         spared: 1,
     },
@@ -89,6 +150,7 @@ pub(super) const ROWS: [Row; 11] = [
         },
         text: EVERYTHING,
         output: "000000000000000000100\n0001\n",
+        times: 1,
         status: Status::Done,
         spared: 0,
     },
@@ -99,6 +161,7 @@ pub(super) const ROWS: [Row; 11] = [
         },
         text: EVERYTHING,
         output: "refused 51 line 0\n",
+        times: 1,
         status: Status::Refused,
         spared: 0,
     },
@@ -119,6 +182,7 @@ detector(5, -2) D1
 logical_observable L0
 logical_observable L1
 ",
+        times: 1,
         status: Status::Done,
         spared: 0,
     },
@@ -126,6 +190,7 @@ logical_observable L1
         order: Order::Analyze,
         text: RANDOM,
         output: "random D0\n00\n11\n",
+        times: 1,
         status: Status::Random,
         spared: 0,
     },
@@ -133,6 +198,7 @@ logical_observable L1
         order: Order::Analyze,
         text: "M 0\nREPEAT 2 {\n    DETECTOR rec[-2]\n}\n",
         output: "refused 22 line 3\n",
+        times: 1,
         status: Status::Refused,
         spared: 0,
     },
@@ -140,6 +206,7 @@ logical_observable L1
         order: Order::Analyze,
         text: "M 0\n\nREPEAT 2 {\n    FOO\n}\n",
         output: "refused 11 line 4\n",
+        times: 1,
         status: Status::Refused,
         spared: 0,
     },
@@ -172,6 +239,7 @@ logical_observable L1
 22 0 rec[15]
 coins 25
 ",
+        times: 1,
         status: Status::Done,
         spared: 0,
     },
@@ -179,6 +247,7 @@ coins 25
         order: Order::Predict { lines: b"0,1" },
         text: MODEL,
         output: "010010\n",
+        times: 1,
         status: Status::Done,
         spared: 0,
     },
@@ -186,6 +255,7 @@ coins 25
         order: Order::Predict { lines: b"10" },
         text: MODEL,
         output: "refused 51 line 0\n",
+        times: 1,
         status: Status::Refused,
         spared: 0,
     },
@@ -193,6 +263,48 @@ coins 25
         order: Order::Predict { lines: b"" },
         text: "repeat 2 {\n    foo\n}\n",
         output: "refused 40 line 2\n",
+        times: 1,
+        status: Status::Refused,
+        spared: 0,
+    },
+    Row {
+        order: Order::Sample {
+            shots: 800,
+            seed: 5,
+        },
+        text: CERTAIN,
+        output: "011111110101010100101\n",
+        times: 800,
+        status: Status::Done,
+        spared: 0,
+    },
+    Row {
+        order: Order::Sample {
+            shots: 1_000_001,
+            seed: 5,
+        },
+        text: CERTAIN,
+        output: "refused 52 line 0\n",
+        times: 1,
+        status: Status::Refused,
+        spared: 0,
+    },
+    Row {
+        order: Order::Detect {
+            shots: 3_500,
+            seed: 6,
+        },
+        text: CERTAIN,
+        output: "1001\n",
+        times: 3_500,
+        status: Status::Done,
+        spared: 0,
+    },
+    Row {
+        order: Order::Detect { shots: 1, seed: 6 },
+        text: "M 0\n\nREPEAT 2 {\n    H 0 0 X0\n}\n",
+        output: "refused 15 line 4\n",
+        times: 1,
         status: Status::Refused,
         spared: 0,
     },

@@ -1,0 +1,115 @@
+//! A call of which one growth is refused: the first, the second and so on, until none is. A refused call answers want of memory
+//! and gives back what it took.
+use super::lent::Lent;
+use scarce_memory::Scarce;
+use std::alloc::{AllocError, Global};
+use std::fmt::Debug;
+use std::process::Abort;
+use std::test::Fail;
+use step_model::Fault;
+
+/// No call takes so many growths.
+const MOST: u64 = 10_000;
+
+pub(super) type Memory<'m> = &'m Scarce<Global>;
+
+/// Memory for a call, and the growth of the call that is refused.
+#[derive(Clone, Copy)]
+pub(super) struct Ration<'m> {
+    pub alloc: Global,
+    pub memory: Memory<'m>,
+    pub growth: u64,
+}
+
+impl<'m> Ration<'m> {
+    /// The memory, from here on with one growth refused. What was made before the call has all it asks for.
+    pub fn begin(self) -> Memory<'m> {
+        self.memory.refuse(self.growth);
+        self.memory
+    }
+}
+
+/// A call that takes memory.
+pub(super) trait Call: Copy + Debug {
+    /// Whether the call answers as it should, and what it is lent to change is as it was where it is refused.
+    fn is_right<'m>(self, ration: Ration<'m>, lent: &Lent<'m>) -> Result<bool, Fault>;
+
+    /// How many growths the call does without, where they are refused.
+    fn spared(self) -> u64 {
+        0
+    }
+}
+
+/// The same with want of memory as a fault.
+pub(super) fn told(answer: Result<bool, AllocError>) -> Result<bool, Fault> {
+    match answer {
+        Ok(right) => Ok(right),
+        Err(_) => Err(Fault::MEMORY),
+    }
+}
+
+/// Calls with one growth refused: none where it doesn't come to that growth, and else whether the call did without it.
+fn check_growth<'m, C: Call>(
+    rt: &impl Abort,
+    ration: Ration<'m>,
+    lent: &Lent<'m>,
+    call: C,
+) -> Option<bool> {
+    let memory = ration.memory;
+    let growth = ration.growth;
+    let held = memory.held();
+    memory.refuse(0);
+    let answer = call.is_right(ration, lent);
+    let refused = memory.refusals() == 1;
+    let right = answer == Ok(true);
+    let wants = refused && answer == Err(Fault::MEMORY);
+    assert!(rt; right || wants, "growth {growth} of {call:?}");
+    assert!(rt; memory.held() == held, "growth {growth} of {call:?}");
+    refused.then_some(right)
+}
+
+/// How many growths a call takes, each of which is refused in turn, and how many of them it did without.
+fn growths_of<'m, C: Call>(
+    rt: &impl Abort,
+    alloc: Global,
+    memory: Memory<'m>,
+    lent: &Lent<'m>,
+    call: C,
+) -> (u64, u64) {
+    let mut spared = 0u64;
+    for growth in 1..MOST {
+        let ration = Ration {
+            alloc,
+            memory,
+            growth,
+        };
+        match check_growth(rt, ration, lent, call) {
+            None => return (growth - 1, spared),
+            Some(true) => spared = spared.saturating_add(1),
+            Some(false) => {}
+        }
+    }
+    (MOST, spared)
+}
+
+/// Refuses each growth of each of these calls once. They take some, or none.
+pub(super) fn sweep<C: Call>(
+    rt: &impl Abort,
+    alloc: Global,
+    calls: &[C],
+    some: bool,
+) -> Result<(), Fail> {
+    let memory = Scarce::new(alloc);
+    let lent = Lent::new(&memory)?;
+    for call in calls {
+        let (growths, spared) = growths_of(rt, alloc, &memory, &lent, *call);
+        assert!(rt;
+            (0 < growths) == some && growths < MOST,
+            "{growths} of {call:?}"
+        );
+        assert!(rt; spared == call.spared(), "{spared} of {call:?}");
+    }
+    drop(lent);
+    assert!(rt; memory.held() == 0);
+    Ok(())
+}

@@ -1,0 +1,115 @@
+//! Runs of a program, and shots.
+use super::growths::{Call, Memory, Ration};
+use super::lent::{Lent, are_false};
+use batch::Batch;
+use draws::{Shot, Shots};
+use forward_sim::{Records, Reference, detections, run};
+use programs::Program;
+use sampling::{detect, sample};
+use step_model::{Fault, MemorySink};
+
+#[derive(Clone, Copy, Debug)]
+pub(super) enum Running {
+    Run,
+    Detections,
+    Reference,
+    Batch,
+    Shot,
+    Shots,
+    Sample,
+    Detect,
+}
+
+pub(super) const RUNNING: [Running; 8] = [
+    Running::Run,
+    Running::Detections,
+    Running::Reference,
+    Running::Batch,
+    Running::Shot,
+    Running::Shots,
+    Running::Sample,
+    Running::Detect,
+];
+
+impl Call for Running {
+    fn is_right<'m>(self, ration: Ration<'m>, lent: &Lent<'m>) -> Result<bool, Fault> {
+        let program = &lent.program;
+        match self {
+            Running::Run => Ok(are_records(&run(ration.begin(), program, &[], &[])?)),
+            Running::Detections => detections_are_right(ration, program),
+            Running::Reference => reference_is_right(ration.begin(), program),
+            Running::Batch => batch_is_right(ration.begin(), program),
+            Running::Shot => shot_is_right(ration.begin(), program),
+            Running::Shots => shots_are_right(ration.begin(), program),
+            Running::Sample => lines_are_right(ration, program, true),
+            Running::Detect => lines_are_right(ration, program, false),
+        }
+    }
+}
+
+/// The records of the run without faults whose coins are all 0 begin with 1001.
+fn are_records<'m>(records: &Records<Memory<'m>>) -> bool {
+    if records.len() != 8 {
+        return false;
+    }
+    records.get(0) && !records.get(1) && !records.get(2) && records.get(3)
+}
+
+/// Both runs are one, so nothing is detected.
+fn detections_are_right<'m>(
+    ration: Ration<'m>,
+    program: &Program<'_, Memory<'m>>,
+) -> Result<bool, Fault> {
+    let records = run(ration.memory, program, &[], &[])?;
+    let answers = detections(ration.begin(), program, &records, &records)?;
+    Ok(are_false(answers.as_slice(), 4))
+}
+
+fn reference_is_right<'m>(
+    memory: Memory<'m>,
+    program: &Program<'_, Memory<'m>>,
+) -> Result<bool, Fault> {
+    let reference = Reference::of(memory, program)?;
+    Ok(reference.collapse_count() == 11 && are_records(reference.records()))
+}
+
+fn batch_is_right<'m>(
+    memory: Memory<'m>,
+    program: &Program<'_, Memory<'m>>,
+) -> Result<bool, Fault> {
+    let batch = Batch::new(memory, program)?;
+    Ok(are_records(batch.reference()))
+}
+
+fn shot_is_right<'m>(memory: Memory<'m>, program: &Program<'_, Memory<'m>>) -> Result<bool, Fault> {
+    let shot = Shot::new(memory, program)?;
+    Ok(are_false(shot.faults(), 10) && are_false(shot.coins(), 11))
+}
+
+fn shots_are_right<'m>(
+    memory: Memory<'m>,
+    program: &Program<'_, Memory<'m>>,
+) -> Result<bool, Fault> {
+    let shots = Shots::new(memory, program)?;
+    Ok(shots.faults() == [0; 10].as_slice() && shots.coins() == [0; 11].as_slice())
+}
+
+/// Draws three shots, of which each line has so many bytes. Nothing goes out where memory is wanted.
+fn lines_are_right<'m>(
+    ration: Ration<'m>,
+    program: &Program<'_, Memory<'m>>,
+    are_records: bool,
+) -> Result<bool, Fault> {
+    let mut sink = MemorySink::new(ration.alloc);
+    let memory = ration.begin();
+    let (length, end) = if are_records {
+        (27, sample(memory, program, 3, 7, &mut sink))
+    } else {
+        (15, detect(memory, program, 3, 7, &mut sink))
+    };
+    match end {
+        Ok(()) => Ok(sink.bytes().len() == length),
+        Err(fault) if sink.bytes().is_empty() => Err(fault),
+        Err(_) => Ok(false),
+    }
+}

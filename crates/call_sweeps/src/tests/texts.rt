@@ -1,0 +1,95 @@
+//! Readers of texts and of what is given beside them.
+use super::growths::{Call, Memory, Ration};
+use super::lent::{CIRCUIT, Lent, MODEL, are_false};
+use dem_text::Model;
+use forward_sim::{read_coins, read_numbers};
+use programs::Program;
+use step_model::Fault;
+use unroll::{read_program, unroll};
+
+#[derive(Clone, Copy, Debug)]
+pub(super) enum Reader {
+    Circuit,
+    Unrolled,
+    Program,
+    ModelLines,
+    Model,
+    Symptom,
+    Coins,
+    Numbers,
+}
+
+pub(super) const READERS: [Reader; 8] = [
+    Reader::Circuit,
+    Reader::Unrolled,
+    Reader::Program,
+    Reader::ModelLines,
+    Reader::Model,
+    Reader::Symptom,
+    Reader::Coins,
+    Reader::Numbers,
+];
+
+impl Call for Reader {
+    fn is_right<'m>(self, ration: Ration<'m>, lent: &Lent<'m>) -> Result<bool, Fault> {
+        let memory = ration.begin();
+        match self {
+            Reader::Circuit => tree_is_right(memory),
+            Reader::Unrolled => Ok(is_program(&unroll(memory, &lent.circuit)?)),
+            Reader::Program => Ok(is_program(&read_program(memory, CIRCUIT.as_bytes())?)),
+            Reader::ModelLines => lines_are_right(memory),
+            Reader::Model => Ok(is_model(&dem_parser::read(memory, MODEL.as_bytes())?)),
+            Reader::Symptom => symptom_is_right(memory, &lent.model),
+            Reader::Coins => coins_are_right(memory, &lent.program),
+            Reader::Numbers => numbers_are_right(memory),
+        }
+    }
+
+    /// Coins are collected, which goes on in smaller steps where the room for all of them is refused.
+    fn spared(self) -> u64 {
+        match self {
+            Reader::Coins => 1,
+            _ => 0,
+        }
+    }
+}
+
+/// A tree has an item a line.
+fn tree_is_right(memory: Memory<'_>) -> Result<bool, Fault> {
+    let circuit = stim_parser::parse(memory, CIRCUIT.as_bytes())?;
+    Ok(circuit.len() == 20)
+}
+
+fn lines_are_right(memory: Memory<'_>) -> Result<bool, Fault> {
+    let lines = dem_parser::parse(memory, MODEL.as_bytes())?;
+    Ok(lines.len() == 9)
+}
+
+fn is_program<'m>(program: &Program<'_, Memory<'m>>) -> bool {
+    program.record_count() == 8 && program.fault_count() == 10 && program.collapse_count() == 11
+}
+
+fn is_model<'m>(model: &Model<'_, Memory<'m>>) -> bool {
+    model.line_count() == 10 && model.detector_count() == 5 && model.observable_count() == 2
+}
+
+/// Of the first two lines.
+fn symptom_is_right<'m>(memory: Memory<'m>, model: &Model<'_, Memory<'m>>) -> Result<bool, Fault> {
+    let Ok(bits) = dem_parser::symptom(memory, model, &[true, true]) else {
+        return Err(Fault::MEMORY);
+    };
+    Ok(bits.as_slice() == [true, true, true, false, false, true, false].as_slice())
+}
+
+fn coins_are_right<'m>(
+    memory: Memory<'m>,
+    program: &Program<'_, Memory<'m>>,
+) -> Result<bool, Fault> {
+    let coins = read_coins(memory, program, b"00000000000")?;
+    Ok(are_false(coins.as_slice(), 11))
+}
+
+fn numbers_are_right(memory: Memory<'_>) -> Result<bool, Fault> {
+    let marks = read_numbers(memory, 3, b"0,2")?;
+    Ok(marks.as_slice() == [true, false, true].as_slice())
+}
