@@ -84,6 +84,3 @@ stays_done : (read : ℕ) (lines : List (List ℕ)) → lines ≡ [] → (let u 
 stays_done read lines none = rw none refl
 
 -- nothing is left where nothing was found
-pub after_next-done : (old new : Unread) → new ≡ after_silent old.read old.lines → new.lines ≡ [] → new ≡ after_next old
-after_next-done old new e none =
-    stays_done new.read new.lines none ∙ ap (λ (u : Unread). after_first_found u.read u.lines) e

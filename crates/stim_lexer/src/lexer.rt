@@ -1,8 +1,8 @@
-ghost use Rattle.std.specs.Prelude.{◌≡◌, ◌+◌, ◌<◌, ◌^◌, length, IfErr, Err};
+ghost use Rattle.std.specs.Prelude.{◌≡◌, ◌+◌, ◌<◌, ◌^◌, ◌∷◌, [], length, IfErr, IfSome, Err, None};
 ghost use Rattle.stim_lexer.specs.Lexing.{after_silent, next_found, after_next, answered};
-ghost use Rattle.stim_lexer.specs.Lines.{lines_of};
+ghost use Rattle.stim_lexer.specs.Lines.{content_of, lines_of};
 
-use crate::line::{Line, content_of, has_bad_byte, line_of, parts_of};
+use crate::line::{Line, content_of, has_bad_byte, is_closing, line_of, parts_of};
 use crate::scan::first_line;
 use std::marker::Model;
 use step_model::{Cause, Fault};
@@ -12,6 +12,14 @@ use step_model::{Cause, Fault};
 pub struct Lexer<'a> {
     rest: &'a [u8],
     read: u64,
+}
+
+/// A line that says something: the whole line, what it says up to a comment, and what follows it in the text.
+#[derive(Clone, Copy)]
+struct Found<'a> {
+    line: &'a [u8],
+    content: &'a [u8],
+    after: &'a [u8],
 }
 
 impl<'a> Model for Lexer<'a> {
@@ -44,35 +52,44 @@ impl<'a> Lexer<'a> {
         ensures rest { self.new ≡ after_next self.old }
         ensures again { IfErr result (λ fault. next_found self.new ≡ Err fault) }
     {
-        self.pass_silent();
-        if self.rest.is_empty() {
+        let Some(found) = self.pass_silent() else {
             return Ok(None);
-        }
-        let (line, after) = first_line(self.rest);
-        let parts = parts_of(line);
+        };
+        let parts = parts_of(found.line);
         let number = self.read + 1;
-        if has_bad_byte(line, parts) {
+        if has_bad_byte(found.line, parts) {
             return Err(Fault {
                 cause: Cause::Byte,
                 line: number,
             });
         }
-        self.rest = after;
+        self.rest = found.after;
         self.read = number;
-        Ok(Some(line_of(number, line, parts)))
+        let closes = is_closing(found.content);
+        Ok(Some(line_of(number, found.line, closes, parts)))
     }
 
-    /// Passes over lines that say nothing.
-    fn pass_silent(&mut self)
-        ensures { self.new ≡ after_silent self.old.read self.old.lines }
+    /// Passes over lines that say nothing, up to the first one that does.
+    fn pass_silent(&mut self) -> Option<Found<'a>>
+        ensures rest { self.new ≡ after_silent self.old.read self.old.lines }
+        ensures lines { IfSome result (λ found. self.new.lines ≡ found.line.now ∷ lines_of found.after.now) }
+        ensures content { IfSome result (λ found. found.content.now ≡ content_of found.line.now) }
+        ensures room { IfSome result (λ found. self.new.read + 1 + length found.after.now < 2 ^ 64) }
+        ensures none { result ≡ None → self.new.lines ≡ [] }
     {
         while !self.rest.is_empty() {
             let (line, after) = first_line(self.rest);
-            if !content_of(line).is_empty() {
-                return;
+            let content = content_of(line);
+            if !content.is_empty() {
+                return Some(Found {
+                    line,
+                    content,
+                    after,
+                });
             }
             self.rest = after;
             self.read += 1;
         }
+        None
     }
 }

@@ -1,6 +1,6 @@
 ghost use Rattle.std.specs.Prelude.{◌≡◌, ◌&&◌, drop};
 ghost use Rattle.std.specs.List.{list_all};
-ghost use Rattle.stim_lexer.specs.Bytes.{begins_with, is_blank, is_open_brace};
+ghost use Rattle.stim_lexer.specs.Bytes.{begins_with, is_blank, is_close_brace, is_open_brace};
 ghost use Rattle.stim_lexer.specs.Cut.{name_of, body_of, leaves_tag_open, braces_in, cut_of, has_bad_byte};
 ghost use Rattle.stim_lexer.specs.Lexing.{cut_in};
 ghost use Rattle.stim_lexer.specs.Lines.{content_of, is_closing};
@@ -54,11 +54,11 @@ pub(crate) fn content_of(line: &[u8]) -> &[u8]
     after_blanks(cut_at(line, b'#').0)
 }
 
-/// Whether a line closes a block.
-fn is_closing(line: &[u8]) -> bool
-    ensures { result ≡ is_closing line.now }
+/// Whether a line that says this closes a block.
+pub(crate) fn is_closing(content: &[u8]) -> bool
+    ensures { result ≡ (begins_with is_close_brace content.now && list_all is_blank (drop 1 content.now)) }
 {
-    match content_of(line) {
+    match content {
         [b'}', rest @ ..] => is_blank_text(rest),
         _ => false,
     }
@@ -105,7 +105,8 @@ fn braces_in(closes: bool, body: &[u8]) -> Braces
 }
 
 /// The line, cut.
-pub(crate) fn line_of<'a>(number: u64, line: &'a [u8], parts: Parts<'a>) -> Line<'a>
+pub(crate) fn line_of<'a>(number: u64, line: &'a [u8], closes: bool, parts: Parts<'a>) -> Line<'a>
+    requires closes { closes ≡ is_closing line.now }
     requires name { parts.name.now ≡ name_of line.now }
     requires body { parts.body.now ≡ body_of line.now }
     requires stays_open { parts.leaves_tag_open ≡ leaves_tag_open line.now }
@@ -119,7 +120,7 @@ pub(crate) fn line_of<'a>(number: u64, line: &'a [u8], parts: Parts<'a>) -> Line
         stays_open: parts.leaves_tag_open || parentheses.stays_open,
         arguments: parentheses.inside,
         targets: cut_at(parentheses.after, b'{').0,
-        braces: braces_in(is_closing(line), parts.body),
+        braces: braces_in(closes, parts.body),
     }
 }
 

@@ -100,15 +100,17 @@ pub fn cut_at(text: &[u8], byte: u8) -> (&[u8], &[u8])
     text.split_at(place_of(text, byte))
 }
 
-/// What follows the first of a byte, or nothing where the byte is nowhere; and whether it stands somewhere.
-fn after_byte(text: &[u8], byte: u8) -> (&[u8], bool)
-    ensures after { result.0.now ≡ after_first (λ b. b == byte) text.now }
-    ensures found { result.1 ≡ list_any (λ b. b == byte) text.now }
+/// What stands before the first of a byte and what follows it, or all and nothing where the byte is nowhere; and whether it
+/// stands somewhere.
+fn cut_round(text: &[u8], byte: u8) -> (&[u8], &[u8], bool)
+    ensures before { result.0.now ≡ before_first (λ b. b == byte) text.now }
+    ensures after { result.1.now ≡ after_first (λ b. b == byte) text.now }
+    ensures found { result.2 ≡ list_any (λ b. b == byte) text.now }
 {
-    let (_, rest) = cut_at(text, byte);
+    let (before, rest) = cut_at(text, byte);
     match rest {
-        [_, after @ ..] => (after, true),
-        [] => (rest, false),
+        [_, after @ ..] => (before, after, true),
+        [] => (before, rest, false),
     }
 }
 
@@ -128,8 +130,7 @@ pub(crate) fn cut_brackets(text: &[u8], opening: u8, closing: u8) -> Bracketed<'
 {
     match after_blanks(text) {
         [first, opened @ ..] if *first == opening => {
-            let (inside, _) = cut_at(opened, closing);
-            let (after, closed) = after_byte(opened, closing);
+            let (inside, after, closed) = cut_round(opened, closing);
             Bracketed {
                 inside,
                 after,

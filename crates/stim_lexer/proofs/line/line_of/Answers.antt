@@ -21,4 +21,4 @@ returns-clause-cut c =
     cut_of-is c.args.line.now parts.name.now parts.body.now _ _ _ _ c.requires.name c.requires.body stays_open
     parentheses.ensures.inside
     (c.cut_at.ensures.before ∙ ap (before_first is_open_brace) parentheses.ensures.after)
-    (c.braces_in.ensures ∙ ap (λ b. braces_in b parts.body.now) c.is_closing.ensures)
+    (c.braces_in.ensures ∙ ap (λ b. braces_in b parts.body.now) c.requires.closes)

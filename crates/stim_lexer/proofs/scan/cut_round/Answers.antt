@@ -2,7 +2,7 @@ use Rattle.std.proofs.Common.{◌≡◌, ◌==◌, [], ap, not, sym, ◌∙◌, 
 use Rattle.std.proofs.lemmas.List.{nil_from_length, take_rest}
 use Rattle.stim_lexer.specs.Bytes.{is_empty}
 use Rattle.stim_lexer.proofs.ScanLemmas.{drop-from_first, list_any-from_first, is_empty-length}
-use Rattle.stim_lexer.proofs.scan.after_byte.Goals as goal
+use Rattle.stim_lexer.proofs.scan.cut_round.Goals as goal
 
 pub returns-in-empty-clause-found : goal.returns-in-empty-clause-found
 returns-in-empty-clause-found c =
