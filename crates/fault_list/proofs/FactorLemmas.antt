@@ -13,7 +13,7 @@ use Rattle.fault_list.specs.FaultLines.{factor_text, factor_at, product_text}
 abbrev pub factors_below : List Letter → ℕ → List (List ℕ)
 factors_below w q = flat_map (factor_at w) (range_with_len 0 q)
 
-range-append : (a m n : ℕ) → range_with_len a (m + n) ≡ range_with_len a m ++ range_with_len (a + m) n
+pub range-append : (a m n : ℕ) → range_with_len a (m + n) ≡ range_with_len a m ++ range_with_len (a + m) n
 range-append a zero n =
     let start : a ≡ a + 0 = omega arith in
     let count : 0 + n ≡ n = omega arith in
@@ -24,7 +24,7 @@ range-append a (suc m) n =
     ap (range_with_len a) count
     ∙ ap (λ xs. a ∷ xs) (range-append (a + 1) m n ∙ ap (λ b. range_with_len (a + 1) m ++ range_with_len b n) start)
 
-none_among : (w : List Letter) (from n : ℕ) → ((q : ℕ) → from ≤ q → q < from + n → letter_at w q ≡ I) → flat_map (factor_at w) (range_with_len from n) ≡ []
+pub none_among : (w : List Letter) (from n : ℕ) → ((q : ℕ) → from ≤ q → q < from + n → letter_at w q ≡ I) → flat_map (factor_at w) (range_with_len from n) ≡ []
 none_among w from zero none = refl
 none_among w from (suc n) none =
     ap₂ (λ a rest. (if is_I a then [] else factor_text from a ∷ []) ++ rest)

@@ -3,3 +3,4 @@ pub mod FactorLemmas
 pub mod EffectLemmas
 pub mod LineLemmas
 pub mod WordSteps
+pub mod ShortLineLemmas

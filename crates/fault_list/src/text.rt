@@ -7,6 +7,7 @@ ghost use Rattle.pieces.specs.Pushed.{Pushes};
 ghost use Rattle.fault_walk.specs.Found.{IsFaultOf};
 ghost use Rattle.fault_list.specs.FaultLines.{record_text, effect_text, fault_line, fault_lines, coins_line, list_text};
 
+use crate::short_lines::{ROOM, line_before};
 use crate::word::{write_number, write_word};
 use fault_walk::{FoundFault, next_fault};
 use pieces::Pieces;
@@ -42,13 +43,31 @@ fn write_faults<'a, A: Allocator + Copy, W: Sink>(
     ensures { Pushes W.taken W.failures sink.old sink.new out.old out.new (fault_lines program.now) }
 {
     program.well_formed();
+    let mut buffer = [0; ROOM];
     let mut walk = Walk::start(program);
     while let Some(fault) = next_fault(&mut walk) {
-        write_line(out, sink, program, fault);
+        write_line(out, sink, &mut buffer, program, fault);
     }
 }
 
+// A short line goes out as one text.
 fn write_line<'a, A: Allocator + Copy, W: Sink>(
+    out: &mut Pieces,
+    sink: &mut W,
+    buffer: &mut [u8; ROOM],
+    program: &Program<'a, A>,
+    fault: FoundFault,
+)
+    requires { IsFaultOf program.now fault }
+    ensures { Pushes W.taken W.failures sink.old sink.new out.old out.new (fault_line program.now fault.number) }
+{
+    match line_before(buffer, program, fault) {
+        Some(start) => out.push(sink, &buffer[start..]),
+        None => write_long_line(out, sink, program, fault),
+    }
+}
+
+fn write_long_line<'a, A: Allocator + Copy, W: Sink>(
     out: &mut Pieces,
     sink: &mut W,
     program: &Program<'a, A>,

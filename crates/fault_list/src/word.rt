@@ -64,7 +64,7 @@ fn letter_in(terms: &[Term], qubit: u32) -> Letter
 }
 
 // Whether a letter isn't I.
-fn acts(letter: Letter) -> bool
+pub(crate) fn acts(letter: Letter) -> bool
     ensures { result ≡ not (is_I letter) }
 {
     match letter {

@@ -1,6 +1,6 @@
 use Rattle.std.proofs.Common.{◌∙◌}
 use Rattle.pieces.proofs.Pushing.{Pushes-trans}
-use Rattle.fault_list.proofs.text.write_line.Goals as goal
+use Rattle.fault_list.proofs.text.write_long_line.Goals as goal
 
 pub returns : goal.returns
 returns g c =

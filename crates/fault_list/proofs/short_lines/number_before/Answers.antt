@@ -1,0 +1,13 @@
+use Rattle.std.proofs.Common.{arith}
+use Rattle.fault_list.proofs.ShortLineLemmas.{digits_of_a_number}
+use Rattle.fault_list.proofs.short_lines.number_before.Goals as goal
+
+pub write_digits-requires : goal.write_digits-requires
+write_digits-requires c =
+    let short = digits_of_a_number c.args.number (omega (arith, c.ranges.number.fits)) in
+    (omega (arith, short, c.requires.room), c.requires.within)
+
+pub returns-clause-least : goal.returns-clause-least
+returns-clause-least c =
+    let short = digits_of_a_number c.args.number (omega (arith, c.ranges.number.fits)) in
+    omega (arith, short, c.write_digits.ensures.start)
