@@ -15,7 +15,7 @@ macro_rules! at {
     };
 }
 
-// E(0.25) X1 Z0 Y1, E(0.25) X0 X0, M(0.5) 0, E(1) Z11 Y2 X10
+// E(0.25) X1 Z0 Y1, E(0.25) X0 X0, M(0.5) 0, E(1) Z11 Y2 X10, E(0.25) Y3 X10
 const LISTS: Lists<'static> = Lists {
     entries: &[
         Entry {
@@ -33,6 +33,10 @@ const LISTS: Lists<'static> = Lists {
         Entry {
             text: b"1",
             terms: &[at!(11, Z), at!(2, Y), at!(10, X)],
+        },
+        Entry {
+            text: b"0.25",
+            terms: &[at!(3, Y), at!(10, X)],
         },
     ],
     products: &[],
@@ -56,6 +60,7 @@ const PIECES: &[Piece] = &[
         }),
     }),
     Piece::Do(TextStep::Fault(3)),
+    Piece::Do(TextStep::Fault(4)),
     Piece::Close,
 ];
 
@@ -63,10 +68,12 @@ const TEXT: &[u8] = b"0 0.25 Z0*Z1
 1 0.25 I
 2 0.5 rec[0]
 3 1 Y2*X10*Z11
-4 0.25 Z0*Z1
-5 0.25 I
-6 0.5 rec[1]
-7 1 Y2*X10*Z11
+4 0.25 Y3*X10
+5 0.25 Z0*Z1
+6 0.25 I
+7 0.5 rec[1]
+8 1 Y2*X10*Z11
+9 0.25 Y3*X10
 coins 2
 ";
 
