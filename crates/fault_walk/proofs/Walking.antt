@@ -1,8 +1,9 @@
 -- What a walk that goes over a step leaves.
-use Rattle.std.proofs.Common.{◌≡◌, ◌+◌, ◌<◌, ◌∷◌, ◌++◌, length, drop, sym, ap, ap₂, ◌∙◌}
+use Rattle.std.proofs.Common.{◌≡◌, ℕ, inl, inr, ◌+◌, ◌<◌, ◌≤◌, Bool, true, false, [], ◌∷◌, ◌++◌, length, drop, sym, ap, ap₂, ◌∙◌, arith}
 use Rattle.std.specs.Prelude.{Some, None, option_map, slice_get, nat_lt, if◌then◌else◌}
 use Rattle.std.specs.Option.{option_to_list}
-use Rattle.std.proofs.lemmas.Option.{slice_get_within}
+use Rattle.std.proofs.lemmas.List.{drop_all}
+use Rattle.std.proofs.lemmas.Option.{slice_get_cases, slice_get_within}
 use Rattle.step_model.specs.Listing.{Listing}
 use Rattle.step_model.specs.WellFormed.{faults_named}
 use Rattle.programs.specs.declared.step.Step.{Step}
@@ -39,3 +40,17 @@ left_met old new step fault over met =
 pub left_passed : (old new : Walked) (step : Step) → GoesOver old new step → fault_in step ≡ None → faults_left old ≡ faults_left new
 left_passed old new step over none =
     left_over old new step over ∙ ap (λ o. option_to_list (option_map number_in o) ++ faults_left new) none
+
+not_back : (b : Bool) (place new : ℕ) → new ≡ (if b then place + 1 else place) → place ≤ new
+not_back true place new moved = omega (arith, moved)
+not_back false place new moved = omega (arith, moved)
+
+-- at the end of the program, where there is no step to go over
+pub none_left_behind : (old new : Walked) → None ≡ slice_get old.program.steps old.place → new.program ≡ old.program → new.place ≡ (if nat_lt old.place (length old.program.steps) then old.place + 1 else old.place) → faults_left new ≡ []
+none_left_behind old new none program place = elim (slice_get_cases old.program.steps old.place).1 [
+  | inl within ↦ cc
+  | inr over ↦
+      let past : length old.program.steps ≤ new.place = omega (arith, over.0, not_back (nat_lt old.place (length old.program.steps)) old.place new.place place) in
+      ap (λ (p : Listing). faults_named (drop new.place p.steps)) program
+      ∙ ap faults_named (drop_all new.place old.program.steps past)
+]

@@ -4,7 +4,7 @@ use Rattle.step_model.specs.Listing.{Listing}
 use Rattle.step_model.specs.WellFormed.{IsWellFormed}
 use Rattle.fault_walk.specs.Found.{IsFaultOf}
 use Rattle.fault_walk.proofs.FoundLaws.{fault_of_step, fits_at, none_left}
-use Rattle.fault_walk.proofs.Walking.{GoesOver, is_within, place_is, left_met, left_passed}
+use Rattle.fault_walk.proofs.Walking.{GoesOver, is_within, place_is, left_met, left_passed, none_left_behind}
 use Rattle.fault_walk.proofs.next_fault.Goals as goal
 
 pub loop-step-preserved : goal.loop-step-preserved
@@ -44,3 +44,7 @@ returns-in-Some-fault_in-clause-found g c =
 pub returns-clause-end : goal.returns-clause-end
 returns-clause-end g c = λ none.
     sym c.loop-step.invariant.same ∙ none_left c.loop-step.walk.program.steps c.loop-step.walk.place c.in_default.ensures.step
+
+pub returns-clause-stays : goal.returns-clause-stays
+returns-clause-stays g c = λ none.
+    none_left_behind c.loop-step.walk c.next_step.new.self c.in_default.ensures.step c.in_default.ensures.program c.in_default.ensures.place
