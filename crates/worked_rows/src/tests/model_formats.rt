@@ -82,8 +82,16 @@ const REFUSED_FORMS: [(&str, &str, &str); 12] = [
     ("", "logical_observable(1) L0", "refused 41 line 1\n"),
     ("", "logical_observable D0", "refused 42 line 1\n"),
     ("", "detector ^", "refused 42 line 1\n"),
-    ("", "detector(1000000000000000000) D0", "refused 44 line 1\n"),
-    ("", "shift_detectors 1000000000000000000", "refused 44 line 1\n"),
+    (
+        "",
+        "detector(1000000000000000000) D0",
+        "refused 44 line 1\n",
+    ),
+    (
+        "",
+        "shift_detectors 1000000000000000000",
+        "refused 44 line 1\n",
+    ),
     (
         "",
         "shift_detectors(999999999999999999) 0\ndetector(1) D0",
