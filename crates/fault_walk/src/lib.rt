@@ -25,7 +25,7 @@ pub fn next_fault<'a, 'p, A: Allocator + Copy>(walk: &mut Walk<'a, 'p, A>) -> Op
     ensures next { IfSome result (λ fault. faults_left walk.old ≡ fault.number ∷ faults_left walk.new) }
     ensures found { IfSome result (IsFaultOf walk.old.program) }
     ensures end { result ≡ None → faults_left walk.old ≡ [] }
-    // A walk at its end stays there.
+    // Nor is one left behind the place where the walk then stands.
     ensures stays { result ≡ None → faults_left walk.new ≡ [] }
 {
     while let Some(step) = walk.next_step() {
