@@ -5,8 +5,6 @@ mod lane_draws;
 mod runs;
 mod shot;
 mod shots;
-#[cfg(test)]
-mod tests;
 
 pub use shot::Shot;
 pub use shots::Shots;

@@ -2,8 +2,6 @@
 #![tactic(auto)]
 
 mod short_lines;
-#[cfg(test)]
-mod tests;
 mod text;
 mod word;
 

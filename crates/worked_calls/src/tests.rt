@@ -1,6 +1,8 @@
 mod bits;
 mod coin_pairs;
+mod drawn_shots;
 mod error_models;
+mod fault_lists;
 mod faults;
 mod held;
 mod judged;

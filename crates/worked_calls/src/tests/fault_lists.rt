@@ -1,5 +1,5 @@
 //! Lists of faults of small programs.
-use crate::write;
+use fault_list::write;
 use pauli_word::Letter;
 use programs::by_hand::{Entry, Lists, Piece, program_of};
 use programs::{Recording, TextStep};

@@ -1,5 +1,5 @@
 //! Drawn shots of a small program, against the generator's words taken outside.
-use crate::Shot;
+use draws::Shot;
 use pauli_word::Letter;
 use programs::by_hand::{Entry, Lists, Piece, program_of};
 use programs::{Recording, TextStep};
