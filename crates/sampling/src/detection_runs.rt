@@ -39,16 +39,16 @@ impl<'b, 'p, A: Allocator + Copy> DetectionRuns<'b, 'p, A> {
         ensures err { IfErr result (λ fault. fault ≡ memory_fault) }
     {
         program.well_formed();
-        let batch = Batch::new(alloc, program)?;
         let targets = program.detector_count() + program.observable_count();
-        match vec![in alloc; 0u64; targets] {
-            Ok(words) => Ok(DetectionRuns {
-                program,
-                batch,
-                words,
-            }),
-            Err(_) => Err(Fault::MEMORY),
-        }
+        let Ok(words) = vec![in alloc; 0u64; targets] else {
+            return Err(Fault::MEMORY);
+        };
+        let batch = Batch::new(alloc, program)?;
+        Ok(DetectionRuns {
+            program,
+            batch,
+            words,
+        })
     }
 }
 

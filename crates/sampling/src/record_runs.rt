@@ -37,15 +37,15 @@ impl<'b, 'p, A: Allocator + Copy> RecordRuns<'b, 'p, A> {
         ensures program { IfOk result (λ runs. runs.program ≡ program.now) }
         ensures err { IfErr result (λ fault. fault ≡ memory_fault) }
     {
+        let Ok(words) = vec![in alloc; 0u64; program.record_count() as usize] else {
+            return Err(Fault::MEMORY);
+        };
         let batch = Batch::new(alloc, program)?;
-        match vec![in alloc; 0u64; program.record_count() as usize] {
-            Ok(words) => Ok(RecordRuns {
-                program,
-                batch,
-                words,
-            }),
-            Err(_) => Err(Fault::MEMORY),
-        }
+        Ok(RecordRuns {
+            program,
+            batch,
+            words,
+        })
     }
 }
 
