@@ -74,6 +74,26 @@ impl<S: TargetSet> Column<S> {
         self.add_image(from, x, z, spare)
     }
 
+    /// Makes each letter the product of the images of those of two columns, from the images of X and Z at each.
+    pub(crate) fn set_images(
+        &mut self,
+        first: &Column<S>,
+        second: &Column<S>,
+        of_first: (Letter, Letter),
+        of_second: (Letter, Letter),
+        spare: &mut S,
+    ) -> Result<(), AllocError>
+        requires first { length first.now ≡ length self.old }
+        requires second { length second.now ≡ length self.old }
+        requires spare { length (S.bits spare.old) ≡ length self.old }
+        ensures ok { OnOk result (self.new ≡ letters_product (map (combined of_first.0 of_first.1) first.now) (map (combined of_second.0 of_second.1) second.now)) }
+        ensures len { length self.new ≡ length self.old }
+        ensures spare { length (S.bits spare.new) ≡ length (S.bits spare.old) }
+    {
+        self.set_image(first, of_first.0, of_first.1, spare)?;
+        self.add_image(second, of_second.0, of_second.1, spare)
+    }
+
     /// Makes each letter its image, from the images of X and Z. What the spare column held is lost.
     pub(crate) fn become_image(
         &mut self,

@@ -126,18 +126,24 @@ impl<S: TargetSet, A: Allocator + Copy> Words<S, A> {
         ensures { OnOk result (self.new ≡ each_word (undone_two gate a b) self.old) }
     {
         let inverse = gate.inverse();
-        let (xa, xb, _) = inverse.image2(Letter::X, Letter::I);
-        let (za, zb, _) = inverse.image2(Letter::Z, Letter::I);
-        self.first
-            .set_image(&self.columns[a], xa, za, &mut self.spare)?;
-        self.second
-            .set_image(&self.columns[a], xb, zb, &mut self.spare)?;
-        let (xa, xb, _) = inverse.image2(Letter::I, Letter::X);
-        let (za, zb, _) = inverse.image2(Letter::I, Letter::Z);
-        self.first
-            .add_image(&self.columns[b], xa, za, &mut self.spare)?;
-        self.second
-            .add_image(&self.columns[b], xb, zb, &mut self.spare)?;
+        let xa = inverse.image2(Letter::X, Letter::I);
+        let za = inverse.image2(Letter::Z, Letter::I);
+        let xb = inverse.image2(Letter::I, Letter::X);
+        let zb = inverse.image2(Letter::I, Letter::Z);
+        self.first.set_images(
+            &self.columns[a],
+            &self.columns[b],
+            (xa.0, za.0),
+            (xb.0, zb.0),
+            &mut self.spare,
+        )?;
+        self.second.set_images(
+            &self.columns[a],
+            &self.columns[b],
+            (xa.1, za.1),
+            (xb.1, zb.1),
+            &mut self.spare,
+        )?;
         self.columns[a].swap(&mut self.first);
         self.columns[b].swap(&mut self.second);
         Ok(())

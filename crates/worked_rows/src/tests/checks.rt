@@ -52,10 +52,31 @@ pub(super) fn check_output(
 ) -> Result<(), Fail> {
     let (written, end) = served(alloc, order, text)?;
     let written = str::from_utf8(written.as_slice()).unwrap_or("no text");
+    check_bytes(rt, text, written, output);
+    check_end(rt, text, end, status);
+    Ok(())
+}
+
+// What was written for a text is this.
+fn check_bytes(rt: &impl Abort, text: &str, written: &str, output: &str) {
     let shown = text.get(..200).unwrap_or(text);
     assert_eq!(rt; written, output, "{shown}");
+}
+
+// It ended so.
+fn check_end(rt: &impl Abort, text: &str, end: Result<Status, Fault>, status: Status) {
+    let shown = text.get(..200).unwrap_or(text);
     assert_eq!(rt; end, Ok(status), "{shown}");
-    Ok(())
+}
+
+/// How an order on a text ends.
+fn end_of(
+    alloc: Global,
+    order: &Order<'_>,
+    text: &str,
+) -> Result<Result<Status, Fault>, AllocError> {
+    let (_, end) = served(alloc, order, text)?;
+    Ok(end)
 }
 
 /// Each row has coins, or all 0, the faults, a text, and what `run` writes.
@@ -174,8 +195,7 @@ pub(super) fn check_refused(
 /// A text on which every order on a circuit is done, whatever it writes.
 pub(super) fn check_taken(rt: &impl Abort, alloc: Global, text: &str) -> Result<(), Fail> {
     for order in circuit_orders() {
-        let (_, end) = served(alloc, &order, text)?;
-        assert_eq!(rt; end, Ok(Status::Done), "{}", text.len());
+        check_end(rt, text, end_of(alloc, &order, text)?, Status::Done);
     }
     Ok(())
 }
