@@ -6,7 +6,7 @@ use std::test::Fail;
 
 /// A gate on one qubit and what it makes of the states of X and of Z with sign plus: the record of MY after the first, and
 /// of MX after the second.
-const ON_ONE_QUBIT: [(&str, &str, &str); 3] = [
+const ON_ONE_QUBIT: &[(&str, &str, &str)] = &[
     // X becomes Y, -Y or Z, and Z becomes Z, Z or X: where a record is random it is its coin, 1.
     ("sQRT_z", "0", "1"),
     ("SqRt_Z_dAg", "1", "1"),
@@ -14,10 +14,10 @@ const ON_ONE_QUBIT: [(&str, &str, &str); 3] = [
 ];
 
 /// A gate on two qubits of which the first is 1, and whether it flips MX and M of the second, which begins as 0 of each.
-const CONTROLLED: [(&str, &str); 4] = [("cNoT", "01"), ("Zcx", "01"), ("zCy", "11"), ("ZcZ", "10")];
+const CONTROLLED: &[(&str, &str)] = &[("cNoT", "01"), ("Zcx", "01"), ("zCy", "11"), ("ZcZ", "10")];
 
 /// Coins, or all 0, faults, a text, and what `run` writes.
-const OTHERS: [(Option<&str>, &str, &str, &str); 6] = [
+const OTHERS: &[(Option<&str>, &str, &str, &str)] = &[
     (None, "", "x 0\nmZ 0\nMz 0", "11\n\n"),
     (None, "", "x 0\nrZ 0\nm 0", "0\n\n"),
     (None, "", "x 0\nMrz 0\nM 0", "10\n\n"),
@@ -93,7 +93,7 @@ m 0
 ";
 
 /// Names that are known and left out.
-const LEFT_OUT: [&str; 29] = [
+const LEFT_OUT: &[&str] = &[
     "DEPOLARIZE1",
     "depolarize2",
     "Pauli_Channel_1",
@@ -126,7 +126,7 @@ const LEFT_OUT: [&str; 29] = [
 ];
 
 /// Names that no instruction has.
-const UNKNOWN: [&str; 16] = [
+const UNKNOWN: &[&str] = &[
     "FOO", "MXY", "MZZZ", "XX", "H_", "H_XX", "CCX", "T", "ZCW", "RZZ", "MRZ1", "E1", "REPEATS",
     "REPEA", "0", "X)",
 ];
@@ -162,17 +162,17 @@ fn check_refused_names(
 
 #[test]
 fn aliases_of_gates_on_one_qubit(rt: HostRuntime) -> Result<(), Fail> {
-    check_gates(&rt, rt.alloc(), &ON_ONE_QUBIT)
+    check_gates(&rt, rt.alloc(), ON_ONE_QUBIT)
 }
 
 #[test]
 fn aliases_of_controlled_gates(rt: HostRuntime) -> Result<(), Fail> {
-    check_controlled(&rt, rt.alloc(), &CONTROLLED)
+    check_controlled(&rt, rt.alloc(), CONTROLLED)
 }
 
 #[test]
 fn names_of_other_instructions(rt: HostRuntime) -> Result<(), Fail> {
-    check_runs(&rt, rt.alloc(), &OTHERS)
+    check_runs(&rt, rt.alloc(), OTHERS)
 }
 
 /// Each collapse is random and its coin is 0, or it is of a state that was just prepared.
@@ -183,10 +183,10 @@ fn small_letters(rt: HostRuntime) -> Result<(), Fail> {
 
 #[test]
 fn names_that_are_left_out(rt: HostRuntime) -> Result<(), Fail> {
-    check_refused_names(&rt, rt.alloc(), &LEFT_OUT, "refused 12 line 2\n")
+    check_refused_names(&rt, rt.alloc(), LEFT_OUT, "refused 12 line 2\n")
 }
 
 #[test]
 fn unknown_names(rt: HostRuntime) -> Result<(), Fail> {
-    check_refused_names(&rt, rt.alloc(), &UNKNOWN, "refused 11 line 2\n")
+    check_refused_names(&rt, rt.alloc(), UNKNOWN, "refused 11 line 2\n")
 }

@@ -9,7 +9,7 @@ use engine::{Order, Status};
 use std::test::Fail;
 
 /// The coins, or all 0, the faults, a text, and what `run` writes.
-const RUNS: [(Option<&str>, &str, &str, &str); 17] = [
+const RUNS: &[(Option<&str>, &str, &str, &str)] = &[
     (None, "0", FIRST, "11\n\n"),
     (None, "", FIRST, "00\n\n"),
     (None, "", RESET, "010\n\n"),
@@ -45,7 +45,7 @@ const RUNS: [(Option<&str>, &str, &str, &str); 17] = [
 ];
 
 /// The texts, and the error models that `analyze` writes.
-const MODELS: [(&str, &str); 4] = [
+const MODELS: &[(&str, &str)] = &[
     (FIRST, ""),
     (
         BELL_PAIR,
@@ -92,7 +92,7 @@ logical_observable L0
 
 /// Numbers of error lines, and what they flip. In the model of the repetition code each fault has its line, and the blocks
 /// have the same lines.
-const PREDICTIONS: [(&str, &str, &str); 6] = [
+const PREDICTIONS: &[(&str, &str, &str)] = &[
     ("6,16", REPETITION_MODEL, "001100110\n"),
     ("6,16", REPETITION_BLOCKS, "001100110\n"),
     // The left qubit in each round, and its final record.
@@ -138,17 +138,17 @@ logical_observable L0
 
 #[test]
 fn runs(rt: HostRuntime) -> Result<(), Fail> {
-    check_runs(&rt, rt.alloc(), &RUNS)
+    check_runs(&rt, rt.alloc(), RUNS)
 }
 
 #[test]
 fn models(rt: HostRuntime) -> Result<(), Fail> {
-    check_models(&rt, rt.alloc(), &MODELS)
+    check_models(&rt, rt.alloc(), MODELS)
 }
 
 #[test]
 fn predictions(rt: HostRuntime) -> Result<(), Fail> {
-    check_predictions(&rt, rt.alloc(), &PREDICTIONS, Status::Done)
+    check_predictions(&rt, rt.alloc(), PREDICTIONS, Status::Done)
 }
 
 #[test]

@@ -9,7 +9,7 @@ use std::process::Abort;
 use std::test::Fail;
 
 /// Refusals of a line, in the order in which they are asked.
-const OF_A_LINE: [(&str, &str); 36] = [
+const OF_A_LINE: &[(&str, &str)] = &[
     ("M é", "refused 10 line 1\n"),
     ("M 0 {", "refused 18 line 1\n"),
     ("REPEAT 2", "refused 18 line 1\n"),
@@ -49,7 +49,7 @@ const OF_A_LINE: [(&str, &str); 36] = [
 ];
 
 /// What meets on one line: the first is reported.
-const MEETING: [(&str, &str); 9] = [
+const MEETING: &[(&str, &str)] = &[
     ("M 0 }é", "refused 10 line 1\n"),
     ("FOO {", "refused 18 line 1\n"),
     ("FOO(0.1", "refused 11 line 1\n"),
@@ -62,13 +62,13 @@ const MEETING: [(&str, &str); 9] = [
 ];
 
 /// Blocks that are open at the end.
-const LEFT_OPEN: [(&str, &str); 2] = [
+const LEFT_OPEN: &[(&str, &str)] = &[
     ("REPEAT 2 {\nREPEAT 3 {\nH 0\n}", "refused 18 line 1\n"),
     ("REPEAT 2 {\n\nREPEAT 3 {", "refused 18 line 3\n"),
 ];
 
 /// Refusals of a whole text, in the order in which they are asked.
-const OF_A_TEXT: [(&str, &str); 7] = [
+const OF_A_TEXT: &[(&str, &str)] = &[
     ("M 0\nDETECTOR rec[-2]", "refused 22 line 2\n"),
     ("CX rec[-1] 0", "refused 22 line 1\n"),
     ("REPEAT 8000001 {\nM 0\n}", "refused 24 line 0\n"),
@@ -79,7 +79,7 @@ const OF_A_TEXT: [(&str, &str); 7] = [
 ];
 
 /// What Stim's format has and this one doesn't.
-const DIFFERENT: [(&str, &str); 12] = [
+const DIFFERENT: &[(&str, &str)] = &[
     ("ELSE_CORRELATED_ERROR(0.1) X0", "refused 12 line 1\n"),
     ("MPAD 0 1", "refused 12 line 1\n"),
     ("CX sweep[0] 1", "refused 15 line 1\n"),
@@ -95,13 +95,13 @@ const DIFFERENT: [(&str, &str); 12] = [
 ];
 
 /// Coins, faults, a text, and the line by which its run is refused.
-const OF_AN_ORDER: [(Option<&str>, &str, &str, &str); 2] = [
+const OF_AN_ORDER: &[(Option<&str>, &str, &str, &str)] = &[
     (Some("00"), "", "M 0", "refused 50 line 0\n"),
     (None, "1", "X_ERROR(0.1) 0", "refused 51 line 0\n"),
 ];
 
 /// Texts that show how lines are cut, and what their runs write.
-const CUT: [(&str, &str); 9] = [
+const CUT: &[(&str, &str)] = &[
     (
         "H[a # b] 0 1        # a tag with a # in it, and a comment\nmr ( 0.01 ) !2 3    # M and R in small letters, with blanks in the parentheses\nREPEAT 005 {        # five turns\n    CX 0 1\n}\n",
         "10\n\n",
@@ -117,7 +117,7 @@ const CUT: [(&str, &str); 9] = [
 ];
 
 /// Probabilities that are accepted, and are written as they stand.
-const PROBABILITIES: [&str; 19] = [
+const PROBABILITIES: &[&str] = &[
     "0",
     "1",
     "1.",
@@ -140,7 +140,7 @@ const PROBABILITIES: [&str; 19] = [
 ];
 
 /// Others.
-const NO_PROBABILITIES: [&str; 15] = [
+const NO_PROBABILITIES: &[&str] = &[
     "1.0000001",
     "1e-39",
     "0.1234567890123456789",
@@ -159,7 +159,7 @@ const NO_PROBABILITIES: [&str; 15] = [
 ];
 
 /// Texts, and what `analyze` writes.
-const MODELS: [(&str, &str); 5] = [
+const MODELS: &[(&str, &str)] = &[
     (
         "R 0 1\nREPEAT 2 {\n    X_ERROR(0.01) 0\n    CX 0 1\n    MR 1\n    DETECTOR(0, 0) rec[-1]\n    SHIFT_COORDS(0, 1)\n}\nM 0\nOBSERVABLE_INCLUDE(0) rec[-1]\n",
         "error(0.01) D0 D1 L0\nerror(0.01) D1 L0\ndetector(0, 0) D0\ndetector(0, 1) D1\nlogical_observable L0\n",
@@ -184,9 +184,9 @@ const MODELS: [(&str, &str); 5] = [
 
 #[test]
 fn refusals_of_lines(rt: HostRuntime) -> Result<(), Fail> {
-    check_refused(&rt, rt.alloc(), &OF_A_LINE)?;
-    check_refused(&rt, rt.alloc(), &MEETING)?;
-    check_refused(&rt, rt.alloc(), &DIFFERENT)?;
+    check_refused(&rt, rt.alloc(), OF_A_LINE)?;
+    check_refused(&rt, rt.alloc(), MEETING)?;
+    check_refused(&rt, rt.alloc(), DIFFERENT)?;
     let blocks = repeated(rt.alloc(), "REPEAT 1 {\n", 33)?;
     check_refusal_of(
         &rt,
@@ -198,8 +198,8 @@ fn refusals_of_lines(rt: HostRuntime) -> Result<(), Fail> {
 
 #[test]
 fn refusals_of_texts(rt: HostRuntime) -> Result<(), Fail> {
-    check_refused(&rt, rt.alloc(), &LEFT_OPEN)?;
-    check_refused(&rt, rt.alloc(), &OF_A_TEXT)
+    check_refused(&rt, rt.alloc(), LEFT_OPEN)?;
+    check_refused(&rt, rt.alloc(), OF_A_TEXT)
 }
 
 fn check_probabilities(rt: &impl Abort, alloc: Global, texts: &[&str]) -> Result<(), Fail> {
@@ -220,27 +220,27 @@ fn check_no_probabilities(rt: &impl Abort, alloc: Global, texts: &[&str]) -> Res
 
 #[test]
 fn refusals_of_orders(rt: HostRuntime) -> Result<(), Fail> {
-    check_refused_runs(&rt, rt.alloc(), &OF_AN_ORDER)
+    check_refused_runs(&rt, rt.alloc(), OF_AN_ORDER)
 }
 
 #[test]
 fn lines_are_cut(rt: HostRuntime) -> Result<(), Fail> {
-    check_plain_runs(&rt, rt.alloc(), &CUT)
+    check_plain_runs(&rt, rt.alloc(), CUT)
 }
 
 #[test]
 fn probabilities_are_taken(rt: HostRuntime) -> Result<(), Fail> {
-    check_probabilities(&rt, rt.alloc(), &PROBABILITIES)
+    check_probabilities(&rt, rt.alloc(), PROBABILITIES)
 }
 
 #[test]
 fn probabilities_are_refused(rt: HostRuntime) -> Result<(), Fail> {
-    check_no_probabilities(&rt, rt.alloc(), &NO_PROBABILITIES)
+    check_no_probabilities(&rt, rt.alloc(), NO_PROBABILITIES)
 }
 
 #[test]
 fn models(rt: HostRuntime) -> Result<(), Fail> {
-    check_models(&rt, rt.alloc(), &MODELS)
+    check_models(&rt, rt.alloc(), MODELS)
 }
 
 #[test]

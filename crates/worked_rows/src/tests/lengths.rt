@@ -38,7 +38,7 @@ fn long_lines(rt: HostRuntime) -> Result<(), Fail> {
 }
 
 /// What stands in front of ten thousand zeros and behind them, and what `run` writes with the coin 1.
-const ZEROS: [(&str, &str, &str); 9] = [
+const ZEROS: &[(&str, &str, &str)] = &[
     ("H ", "5\nM 5\n", "1\n\n"),
     ("X ", "5\nM 5\n", "1\n\n"),
     ("X 5\nM !", "5\n", "0\n\n"),
@@ -65,11 +65,11 @@ fn check_zeros(
 #[test]
 fn numbers_with_many_zeros(rt: HostRuntime) -> Result<(), Fail> {
     let zeros = repeated(rt.alloc(), "0", 10_000)?;
-    check_zeros(&rt, rt.alloc(), zeros.as_str(), &ZEROS)
+    check_zeros(&rt, rt.alloc(), zeros.as_str(), ZEROS)
 }
 
 /// A number of ten thousand digits 9, between these, and the refusal of its line.
-const NINES: [(&str, &str, &str); 12] = [
+const NINES: &[(&str, &str, &str)] = &[
     ("H ", "", "20"),
     ("M !", "", "20"),
     ("MPP X0*Z", "", "20"),
@@ -100,7 +100,7 @@ fn check_nines(
 #[test]
 fn numbers_of_many_digits(rt: HostRuntime) -> Result<(), Fail> {
     let nines = repeated(rt.alloc(), "9", 10_000)?;
-    check_nines(&rt, rt.alloc(), nines.as_str(), &NINES)
+    check_nines(&rt, rt.alloc(), nines.as_str(), NINES)
 }
 
 /// A probability is written as it stands, however long it is.

@@ -9,7 +9,7 @@ use std::process::Abort;
 use std::test::Fail;
 
 /// Lines at a limit, and what `run` writes.
-const TAKEN: [(&str, &str); 10] = [
+const TAKEN: &[(&str, &str)] = &[
     ("X 4095\nM 4095 !4095", "10\n\n"),
     ("X 0\nCX 0 4095\nMPP Z0*Z4095 Z4095", "01\n\n"),
     ("E(1) X4095", "\n\n"),
@@ -38,7 +38,7 @@ const TAKEN: [(&str, &str); 10] = [
 ];
 
 /// Lines beyond a limit.
-const BEYOND: [(&str, &str); 31] = [
+const BEYOND: &[(&str, &str)] = &[
     ("H 4096", "refused 20 line 1\n"),
     ("M !4096", "refused 20 line 1\n"),
     ("R 4096", "refused 20 line 1\n"),
@@ -98,7 +98,7 @@ const BEYOND: [(&str, &str); 31] = [
 
 /// Texts at a total's limit. A run of most would take long, so one is asked for that is refused by its list of faults,
 /// which is judged where the text is taken.
-const TOTALS_TAKEN: [&str; 17] = [
+const TOTALS_TAKEN: &[&str] = &[
     "REPEAT 8000000 {\nM 0\n}\n",
     "REPEAT 7999999 {\nMPP X0*X1\n}\nMRY 0\n",
     "REPEAT 4000000 {\nMX 0 1\n}\n",
@@ -119,7 +119,7 @@ const TOTALS_TAKEN: [&str; 17] = [
 ];
 
 /// Texts at a limit of which neither order takes long, since a block without steps is passed over.
-const QUICK: [&str; 6] = [
+const QUICK: &[&str] = &[
     "OBSERVABLE_INCLUDE(1023)\n",
     "REPEAT 1000000 {\nDETECTOR\n}\n",
     "REPEAT 32000000 {\nTICK\n}\n",
@@ -129,7 +129,7 @@ const QUICK: [&str; 6] = [
 ];
 
 /// Texts beyond a total's limit.
-const TOTALS_BEYOND: [(&str, &str); 22] = [
+const TOTALS_BEYOND: &[(&str, &str)] = &[
     ("REPEAT 8000001 {\nM 0\n}\n", "refused 24 line 0\n"),
     ("REPEAT 8000000 {\nM 0\n}\nM 0\n", "refused 24 line 0\n"),
     ("M 0\nREPEAT 8000000 {\nM 0\n}\n", "refused 24 line 0\n"),
@@ -189,12 +189,12 @@ const TOTALS_BEYOND: [(&str, &str); 22] = [
 
 #[test]
 fn lines_at_their_limits(rt: HostRuntime) -> Result<(), Fail> {
-    check_plain_runs(&rt, rt.alloc(), &TAKEN)
+    check_plain_runs(&rt, rt.alloc(), TAKEN)
 }
 
 #[test]
 fn lines_beyond_their_limits(rt: HostRuntime) -> Result<(), Fail> {
-    check_refused(&rt, rt.alloc(), &BEYOND)
+    check_refused(&rt, rt.alloc(), BEYOND)
 }
 
 fn check_totals(rt: &impl Abort, alloc: Global, texts: &[&str]) -> Result<(), Fail> {
@@ -207,17 +207,17 @@ fn check_totals(rt: &impl Abort, alloc: Global, texts: &[&str]) -> Result<(), Fa
 
 #[test]
 fn totals_at_their_limits(rt: HostRuntime) -> Result<(), Fail> {
-    check_totals(&rt, rt.alloc(), &TOTALS_TAKEN)
+    check_totals(&rt, rt.alloc(), TOTALS_TAKEN)
 }
 
 #[test]
 fn quick_texts_at_their_limits(rt: HostRuntime) -> Result<(), Fail> {
-    check_all_taken(&rt, rt.alloc(), &QUICK)
+    check_all_taken(&rt, rt.alloc(), QUICK)
 }
 
 #[test]
 fn totals_beyond_their_limits(rt: HostRuntime) -> Result<(), Fail> {
-    check_refused(&rt, rt.alloc(), &TOTALS_BEYOND)
+    check_refused(&rt, rt.alloc(), TOTALS_BEYOND)
 }
 
 /// More than a million records, by blocks inside one another.

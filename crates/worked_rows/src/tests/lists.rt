@@ -9,7 +9,7 @@ use std::process::Abort;
 use std::test::Fail;
 
 /// The coins, or all 0, the faults, a text, and what `run` writes.
-const TAKEN: [(Option<&str>, &str, &str, &str); 7] = [
+const TAKEN: &[(Option<&str>, &str, &str, &str)] = &[
     (None, "", "", "\n\n"),
     (Some(""), "", "", "\n\n"),
     (Some("01"), "00000000000000000000000000", PAIR, "11\n\n"),
@@ -27,7 +27,7 @@ const TAKEN: [(Option<&str>, &str, &str, &str); 7] = [
 ];
 
 /// The same, with the line of a refusal.
-const REFUSED: [(Option<&str>, &str, &str, &str); 23] = [
+const REFUSED: &[(Option<&str>, &str, &str, &str)] = &[
     (Some(""), "", PAIR, "refused 50 line 0\n"),
     (Some("0"), "", PAIR, "refused 50 line 0\n"),
     (Some("000"), "", PAIR, "refused 50 line 0\n"),
@@ -71,12 +71,12 @@ const REFUSED: [(Option<&str>, &str, &str, &str); 23] = [
 
 #[test]
 fn lists_are_taken(rt: HostRuntime) -> Result<(), Fail> {
-    check_runs(&rt, rt.alloc(), &TAKEN)
+    check_runs(&rt, rt.alloc(), TAKEN)
 }
 
 #[test]
 fn lists_are_refused(rt: HostRuntime) -> Result<(), Fail> {
-    check_refused_runs(&rt, rt.alloc(), &REFUSED)
+    check_refused_runs(&rt, rt.alloc(), REFUSED)
 }
 
 /// The numbers below this one, a comma behind each.

@@ -5,7 +5,7 @@ use std::process::Abort;
 use std::test::Fail;
 
 /// A line, and the two refusals that apply to it, the first of which is reported.
-const OF_A_LINE: [(&str, &str, &str); 71] = [
+const OF_A_LINE: &[(&str, &str, &str)] = &[
     ("M 0 }é", "10", "18"),
     ("FOO é", "10", "11"),
     ("MPAD é", "10", "12"),
@@ -80,7 +80,7 @@ const OF_A_LINE: [(&str, &str, &str); 71] = [
 ];
 
 /// A line inside 32 open blocks, and its refusal. To each but the last that of its depth applies too.
-const DEEPEST: [(&str, &str); 8] = [
+const DEEPEST: &[(&str, &str)] = &[
     ("REPEAT 1 { é", "10"),
     ("REPEAT 1", "18"),
     ("REPEAT(1) 1 {", "13"),
@@ -92,7 +92,7 @@ const DEEPEST: [(&str, &str); 8] = [
 ];
 
 /// Texts to which more than one refusal applies.
-const OF_A_TEXT: [(&str, &str); 15] = [
+const OF_A_TEXT: &[(&str, &str)] = &[
     // A line and all of a text.
     ("DETECTOR rec[-1]\nH 4096\n", "refused 20 line 2\n"),
     ("DETECTOR rec[-1]\nREPEAT 2 {\n", "refused 18 line 2\n"),
@@ -176,16 +176,16 @@ fn check_deepest(
 
 #[test]
 fn refusals_of_a_line(rt: HostRuntime) -> Result<(), Fail> {
-    check_meetings(&rt, rt.alloc(), &OF_A_LINE)
+    check_meetings(&rt, rt.alloc(), OF_A_LINE)
 }
 
 #[test]
 fn refusals_in_the_deepest_block(rt: HostRuntime) -> Result<(), Fail> {
     let blocks = repeated(rt.alloc(), "REPEAT 1 {\n", 32)?;
-    check_deepest(&rt, rt.alloc(), blocks.as_str(), &DEEPEST)
+    check_deepest(&rt, rt.alloc(), blocks.as_str(), DEEPEST)
 }
 
 #[test]
 fn refusals_of_a_text(rt: HostRuntime) -> Result<(), Fail> {
-    check_refused(&rt, rt.alloc(), &OF_A_TEXT)
+    check_refused(&rt, rt.alloc(), OF_A_TEXT)
 }

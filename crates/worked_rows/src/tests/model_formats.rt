@@ -6,7 +6,7 @@ use std::process::Abort;
 use std::test::Fail;
 
 /// Numbers of error lines, a text, and what `predict` writes.
-const SHOWN: [(&str, &str, &str); 3] = [
+const SHOWN: &[(&str, &str, &str)] = &[
     ("0", "error(0.1) D1 D1", "00\n"),
     (
         "0,2",
@@ -17,7 +17,7 @@ const SHOWN: [(&str, &str, &str); 3] = [
 ];
 
 /// Refusals of a line in the order in which they are asked, those of a whole text, and that of an order.
-const REFUSED: [(&str, &str, &str); 30] = [
+const REFUSED: &[(&str, &str, &str)] = &[
     ("", "error(0.1) é", "refused 10 line 1\n"),
     ("", "error(0.1) D0 {", "refused 43 line 1\n"),
     ("", "repeat 2", "refused 43 line 1\n"),
@@ -69,7 +69,7 @@ const REFUSED: [(&str, &str, &str); 30] = [
 ];
 
 /// Further forms of arguments, of targets and of numbers that no line takes, and a block closed inside one that is not.
-const REFUSED_FORMS: [(&str, &str, &str); 12] = [
+const REFUSED_FORMS: &[(&str, &str, &str)] = &[
     ("", "error(0.1) D0\n\x01", "refused 10 line 2\n"),
     ("", "repeat 2 {\nrepeat 3 {\n}\n", "refused 43 line 1\n"),
     ("", "error(0.1, 0.1) D0", "refused 41 line 1\n"),
@@ -106,7 +106,7 @@ const REFUSED_FORMS: [(&str, &str, &str); 12] = [
 ];
 
 /// Texts at a limit.
-const WITHIN: [(&str, &str, &str); 3] = [
+const WITHIN: &[(&str, &str, &str)] = &[
     ("", "repeat 2000000 {\nlogical_observable L0\n}", "0\n"),
     ("", "repeat 4000000 {\n}", "\n"),
     (
@@ -118,14 +118,14 @@ const WITHIN: [(&str, &str, &str); 3] = [
 
 #[test]
 fn models_are_taken(rt: HostRuntime) -> Result<(), Fail> {
-    check_predictions(&rt, rt.alloc(), &SHOWN, Status::Done)?;
-    check_predictions(&rt, rt.alloc(), &WITHIN, Status::Done)
+    check_predictions(&rt, rt.alloc(), SHOWN, Status::Done)?;
+    check_predictions(&rt, rt.alloc(), WITHIN, Status::Done)
 }
 
 #[test]
 fn models_are_refused(rt: HostRuntime) -> Result<(), Fail> {
-    check_predictions(&rt, rt.alloc(), &REFUSED, Status::Refused)?;
-    check_predictions(&rt, rt.alloc(), &REFUSED_FORMS, Status::Refused)
+    check_predictions(&rt, rt.alloc(), REFUSED, Status::Refused)?;
+    check_predictions(&rt, rt.alloc(), REFUSED_FORMS, Status::Refused)
 }
 
 /// So many blocks inside one another, and what is written of them.

@@ -3,7 +3,7 @@ use crate::tests::checks::{check_models, check_runs};
 use std::test::Fail;
 
 /// The coins, or all 0, the faults, a text, and what `run` writes.
-const RUNS: [(Option<&str>, &str, &str, &str); 5] = [
+const RUNS: &[(Option<&str>, &str, &str, &str)] = &[
     (None, "", "REPEAT 2000000 {\nTICK\n}\n", "\n\n"),
     (None, "", "REPEAT 2000001 {\nTICK\n}\n", "\n\n"),
     (
@@ -22,7 +22,7 @@ const RUNS: [(Option<&str>, &str, &str, &str); 5] = [
 ];
 
 /// A text, and the error model that `analyze` writes.
-const MODELS: [(&str, &str); 4] = [
+const MODELS: &[(&str, &str)] = &[
     (
         "R 0 1\nREPEAT 2 {\nX_ERROR(0.01) 0\nCX 0 1\nMR 1\nDETECTOR(0, 0) rec[-1]\nSHIFT_COORDS(0, 1)\n}\nM 0\nOBSERVABLE_INCLUDE(0) rec[-1]\n",
         "error(0.01) D0 D1 L0\nerror(0.01) D1 L0\ndetector(0, 0) D0\ndetector(0, 1) D1\nlogical_observable L0\n",
@@ -40,10 +40,10 @@ const MODELS: [(&str, &str); 4] = [
 
 #[test]
 fn runs(rt: HostRuntime) -> Result<(), Fail> {
-    check_runs(&rt, rt.alloc(), &RUNS)
+    check_runs(&rt, rt.alloc(), RUNS)
 }
 
 #[test]
 fn models(rt: HostRuntime) -> Result<(), Fail> {
-    check_models(&rt, rt.alloc(), &MODELS)
+    check_models(&rt, rt.alloc(), MODELS)
 }

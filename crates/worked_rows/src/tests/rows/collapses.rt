@@ -3,7 +3,7 @@ use crate::tests::checks::{check_models, check_random, check_runs};
 use std::test::Fail;
 
 /// The coins, or all 0, the faults, a text, and what `run` writes.
-const RUNS: [(Option<&str>, &str, &str, &str); 16] = [
+const RUNS: &[(Option<&str>, &str, &str, &str)] = &[
     (
         None,
         "",
@@ -38,7 +38,7 @@ const RUNS: [(Option<&str>, &str, &str, &str); 16] = [
 ];
 
 /// A text, and the error model that `analyze` writes.
-const MODELS: [(&str, &str); 7] = [
+const MODELS: &[(&str, &str)] = &[
     ("", ""),
     ("H 0\nM 0 0\nDETECTOR rec[-1] rec[-2]\n", "detector D0\n"),
     ("H 0\nS 0 0\nH 0\nM 0\nDETECTOR rec[-1]\n", "detector D0\n"),
@@ -55,7 +55,7 @@ const MODELS: [(&str, &str); 7] = [
 ];
 
 /// A text of which a target is random, and what `analyze` writes.
-const RANDOM: [(&str, &str); 7] = [
+const RANDOM: &[(&str, &str)] = &[
     ("H 0\nM 0\nDETECTOR rec[-1]\n", "random D0\n0\n1\n"),
     (
         "H 0\nCX 0 1\nR 0\nM 1\nDETECTOR rec[-1]\n",
@@ -79,15 +79,15 @@ const RANDOM: [(&str, &str); 7] = [
 
 #[test]
 fn runs(rt: HostRuntime) -> Result<(), Fail> {
-    check_runs(&rt, rt.alloc(), &RUNS)
+    check_runs(&rt, rt.alloc(), RUNS)
 }
 
 #[test]
 fn models(rt: HostRuntime) -> Result<(), Fail> {
-    check_models(&rt, rt.alloc(), &MODELS)
+    check_models(&rt, rt.alloc(), MODELS)
 }
 
 #[test]
 fn random_targets(rt: HostRuntime) -> Result<(), Fail> {
-    check_random(&rt, rt.alloc(), &RANDOM)
+    check_random(&rt, rt.alloc(), RANDOM)
 }

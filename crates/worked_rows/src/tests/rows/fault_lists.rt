@@ -2,7 +2,7 @@
 use crate::tests::checks::{check_fault_list_of, check_fault_lists, repeated};
 use std::test::Fail;
 
-const LISTS: [(&str, &str); 12] = [
+const LISTS: &[(&str, &str)] = &[
     ("", "coins 0\n"),
     (
         "R 0 1\nREPEAT 2 {\nX_ERROR(0.01) 0\nCX 0 1\nMR 1\nDETECTOR(0, 0) rec[-1]\nSHIFT_COORDS(0, 1)\n}\nM 0\nOBSERVABLE_INCLUDE(0) rec[-1]\n",
@@ -38,7 +38,7 @@ const LISTS: [(&str, &str); 12] = [
 
 #[test]
 fn fault_lists(rt: HostRuntime) -> Result<(), Fail> {
-    check_fault_lists(&rt, rt.alloc(), &LISTS)
+    check_fault_lists(&rt, rt.alloc(), LISTS)
 }
 
 /// A number with ten thousand zeros in front, of a gate and of an error.

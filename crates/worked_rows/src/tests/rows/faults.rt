@@ -3,7 +3,7 @@ use crate::tests::checks::{check_models, check_runs};
 use std::test::Fail;
 
 /// The coins, or all 0, the faults, a text, and what `run` writes.
-const RUNS: [(Option<&str>, &str, &str, &str); 9] = [
+const RUNS: &[(Option<&str>, &str, &str, &str)] = &[
     (None, "", "M(1e0) !0\nDETECTOR rec[-1]\n", "1\n0\n"),
     (None, "0", "M(1e0) !0\nDETECTOR rec[-1]\n", "0\n1\n"),
     (None, "", "X_ERROR(1e-38) 0\n", "\n\n"),
@@ -21,7 +21,7 @@ const RUNS: [(Option<&str>, &str, &str, &str); 9] = [
 ];
 
 /// A text, and the error model that `analyze` writes.
-const MODELS: [(&str, &str); 14] = [
+const MODELS: &[(&str, &str)] = &[
     (
         "X_ERROR(0.1) 0\nM 0\nDETECTOR rec[-1]\n",
         "error(0.1) D0\ndetector D0\n",
@@ -79,10 +79,10 @@ const MODELS: [(&str, &str); 14] = [
 
 #[test]
 fn runs(rt: HostRuntime) -> Result<(), Fail> {
-    check_runs(&rt, rt.alloc(), &RUNS)
+    check_runs(&rt, rt.alloc(), RUNS)
 }
 
 #[test]
 fn models(rt: HostRuntime) -> Result<(), Fail> {
-    check_models(&rt, rt.alloc(), &MODELS)
+    check_models(&rt, rt.alloc(), MODELS)
 }

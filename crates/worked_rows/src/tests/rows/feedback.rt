@@ -3,7 +3,7 @@ use crate::tests::checks::{check_models, check_random, check_runs};
 use std::test::Fail;
 
 /// The coins, or all 0, the faults, a text, and what `run` writes.
-const RUNS: [(Option<&str>, &str, &str, &str); 3] = [
+const RUNS: &[(Option<&str>, &str, &str, &str)] = &[
     (
         Some("10"),
         "",
@@ -20,7 +20,7 @@ const RUNS: [(Option<&str>, &str, &str, &str); 3] = [
 ];
 
 /// A text, and the error model that `analyze` writes.
-const MODELS: [(&str, &str); 3] = [
+const MODELS: &[(&str, &str)] = &[
     (
         "H 0\nM(0.1) 0\nCX rec[-1] 0\nM 0\nDETECTOR rec[-1]\n",
         "error(0.1) D0\ndetector D0\n",
@@ -36,22 +36,22 @@ const MODELS: [(&str, &str); 3] = [
 ];
 
 /// A text of which a target is random, and what `analyze` writes.
-const RANDOM: [(&str, &str); 1] = [(
+const RANDOM: &[(&str, &str)] = &[(
     "H 0\nM 0\nCX rec[-1] 1\nM 1\nDETECTOR rec[-1]\n",
     "random D0\n00\n11\n",
 )];
 
 #[test]
 fn runs(rt: HostRuntime) -> Result<(), Fail> {
-    check_runs(&rt, rt.alloc(), &RUNS)
+    check_runs(&rt, rt.alloc(), RUNS)
 }
 
 #[test]
 fn models(rt: HostRuntime) -> Result<(), Fail> {
-    check_models(&rt, rt.alloc(), &MODELS)
+    check_models(&rt, rt.alloc(), MODELS)
 }
 
 #[test]
 fn random_targets(rt: HostRuntime) -> Result<(), Fail> {
-    check_random(&rt, rt.alloc(), &RANDOM)
+    check_random(&rt, rt.alloc(), RANDOM)
 }

@@ -17,7 +17,7 @@ const SHIFTED: &str = "repeat 3 {\nerror(0.1) D0 D1\nshift_detectors 1\n}\n";
 const MIXED: &str =
     "error(0.1) D0\ndetector(1) D1\nlogical_observable L0\nshift_detectors 1\nerror(0.2) D0 L0\n";
 
-const DONE: [(&str, &str, &str); 22] = [
+const DONE: &[(&str, &str, &str)] = &[
     ("", "", "\n"),
     ("0,1", TWO_TURNS, "100\n"),
     ("1,0", TWO_TURNS, "100\n"),
@@ -58,7 +58,7 @@ const DONE: [(&str, &str, &str); 22] = [
     ),
 ];
 
-const REFUSED: [(&str, &str, &str); 31] = [
+const REFUSED: &[(&str, &str, &str)] = &[
     ("0", "error(2) D0\n", "refused 41 line 1\n"),
     ("0", "error(0.1) X0\n", "refused 42 line 1\n"),
     ("0", "detector D1000000\n", "refused 44 line 1\n"),
@@ -110,10 +110,10 @@ const REFUSED: [(&str, &str, &str); 31] = [
 
 #[test]
 fn predictions(rt: HostRuntime) -> Result<(), Fail> {
-    check_predictions(&rt, rt.alloc(), &DONE, Status::Done)
+    check_predictions(&rt, rt.alloc(), DONE, Status::Done)
 }
 
 #[test]
 fn refused_predictions(rt: HostRuntime) -> Result<(), Fail> {
-    check_predictions(&rt, rt.alloc(), &REFUSED, Status::Refused)
+    check_predictions(&rt, rt.alloc(), REFUSED, Status::Refused)
 }

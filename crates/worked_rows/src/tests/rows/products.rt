@@ -3,7 +3,7 @@ use crate::tests::checks::{check_models, check_random, check_runs};
 use std::test::Fail;
 
 /// The coins, or all 0, the faults, a text, and what `run` writes.
-const RUNS: [(Option<&str>, &str, &str, &str); 6] = [
+const RUNS: &[(Option<&str>, &str, &str, &str)] = &[
     (
         Some("10"),
         "",
@@ -28,7 +28,7 @@ const RUNS: [(Option<&str>, &str, &str, &str); 6] = [
 ];
 
 /// A text, and the error model that `analyze` writes.
-const MODELS: [(&str, &str); 4] = [
+const MODELS: &[(&str, &str)] = &[
     (
         "MPP X0*X1\nMPP X0*X1\nDETECTOR rec[-1] rec[-2]\n",
         "detector D0\n",
@@ -48,19 +48,19 @@ const MODELS: [(&str, &str); 4] = [
 ];
 
 /// A text of which a target is random, and what `analyze` writes.
-const RANDOM: [(&str, &str); 1] = [("MPP X0*X1\nM 0\nDETECTOR rec[-1]\n", "random D0\n00\n01\n")];
+const RANDOM: &[(&str, &str)] = &[("MPP X0*X1\nM 0\nDETECTOR rec[-1]\n", "random D0\n00\n01\n")];
 
 #[test]
 fn runs(rt: HostRuntime) -> Result<(), Fail> {
-    check_runs(&rt, rt.alloc(), &RUNS)
+    check_runs(&rt, rt.alloc(), RUNS)
 }
 
 #[test]
 fn models(rt: HostRuntime) -> Result<(), Fail> {
-    check_models(&rt, rt.alloc(), &MODELS)
+    check_models(&rt, rt.alloc(), MODELS)
 }
 
 #[test]
 fn random_targets(rt: HostRuntime) -> Result<(), Fail> {
-    check_random(&rt, rt.alloc(), &RANDOM)
+    check_random(&rt, rt.alloc(), RANDOM)
 }

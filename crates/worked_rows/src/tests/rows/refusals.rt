@@ -3,7 +3,7 @@ use crate::tests::checks::check_refused;
 use std::test::Fail;
 
 /// By the number of the refusal.
-const REFUSED: [(&str, &str); 46] = [
+const REFUSED: &[(&str, &str)] = &[
     ("FOO 0\n", "refused 11 line 1\n"),
     ("FOO(0.1\n", "refused 11 line 1\n"),
     ("DEPOLARIZE1(0.1) 0\n", "refused 12 line 1\n"),
@@ -65,7 +65,7 @@ const REFUSED: [(&str, &str); 46] = [
 ];
 
 /// Beginnings of a text.
-const BEGINNINGS: [(&str, &str); 9] = [
+const BEGINNINGS: &[(&str, &str)] = &[
     ("R 0 1\nREPEA", "refused 11 line 2\n"),
     ("R 0 1\nREPEAT 2", "refused 18 line 2\n"),
     ("R 0 1\nREPEAT 2 {\nX_ERROR(0.0", "refused 13 line 3\n"),
@@ -97,6 +97,6 @@ const BEGINNINGS: [(&str, &str); 9] = [
 
 #[test]
 fn refused(rt: HostRuntime) -> Result<(), Fail> {
-    check_refused(&rt, rt.alloc(), &REFUSED)?;
-    check_refused(&rt, rt.alloc(), &BEGINNINGS)
+    check_refused(&rt, rt.alloc(), REFUSED)?;
+    check_refused(&rt, rt.alloc(), BEGINNINGS)
 }

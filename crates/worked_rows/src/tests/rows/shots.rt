@@ -10,7 +10,7 @@ const TWO_TURNS: &str =
     "R 0 1\nREPEAT 2 {\nX_ERROR(1) 0\nCX 0 1\nMR 1\nDETECTOR(0, 0) rec[-1]\nSHIFT_COORDS(0, 1)\n}\nM 0\nOBSERVABLE_INCLUDE(0) rec[-1]\n";
 
 /// Texts whose shots all write one line, whatever is drawn: that of `sample`, and that of `detect`.
-const ALIKE: [(&str, &str, &str); 11] = [
+const ALIKE: &[(&str, &str, &str)] = &[
     ("", "\n", "\n"),
     ("X 0\nM 0\nDETECTOR rec[-1]\n", "1\n", "0\n"),
     ("X_ERROR(1) 0\nX_ERROR(0) 1\nM 0 1\n", "10\n", "\n"),
@@ -50,7 +50,7 @@ const ALIKE: [(&str, &str, &str); 11] = [
 ];
 
 /// Numbers of shots about those that go side by side.
-const COUNTS: [usize; 9] = [0, 1, 2, 63, 64, 65, 127, 128, 130];
+const COUNTS: &[usize] = &[0, 1, 2, 63, 64, 65, 127, 128, 130];
 
 /// A random record, a fault, and a record that is flipped: each shot takes the words of two faults and of two coins.
 const MIXED: &str =
@@ -59,7 +59,7 @@ const MIXED: &str =
 /// The shots, the seed, a text, and what `sample` writes. The first words of the generator of seed 5 are, by their first and
 /// last two hexadecimal digits, 61..fc, 94..ad, 44..cd, 92..c2, b8..11, 43..59, 2f..e2, 1b..58, 95..5b, b7..c4, 27..bd, 71..59,
 /// 5f..7b, 5b..d0, bd..e5, 07..3f, 0e..57, aa..8a, bc..1b, f6..cc, 95..e1.
-const SAMPLES: [(u64, u64, &str, &str); 16] = [
+const SAMPLES: &[(u64, u64, &str, &str)] = &[
     (2, 0, "", "\n\n"),
     (0, 0, "", ""),
     (2, 7, "X_ERROR(1) 0\nX_ERROR(0) 1\nM 0 1\n", "10\n10\n"),
@@ -87,7 +87,7 @@ const SAMPLES: [(u64, u64, &str, &str); 16] = [
 ];
 
 /// The same, and what `detect` writes.
-const DETECTIONS: [(u64, u64, &str, &str); 6] = [
+const DETECTIONS: &[(u64, u64, &str, &str)] = &[
     (0, 0, "DETECTOR\n", ""),
     (2, 0, "X_ERROR(1) 0\nM 0\nDETECTOR rec[-1]\n", "1\n1\n"),
     (5, 5, MIXED, "11\n00\n01\n11\n11\n"),
@@ -108,7 +108,7 @@ const DETECTIONS: [(u64, u64, &str, &str); 6] = [
 ];
 
 /// The shots, a text, and the line that refuses both orders.
-const REFUSED: [(u64, &str, &str); 7] = [
+const REFUSED: &[(u64, &str, &str)] = &[
     (1_000_001, "", "refused 52 line 0\n"),
     (1_000_001, "M 0\n", "refused 52 line 0\n"),
     (1_000_001, TWO_TURNS, "refused 52 line 0\n"),
@@ -143,7 +143,7 @@ fn check_alike(
 fn shots_that_are_alike(rt: HostRuntime) -> Result<(), Fail> {
     for shots in COUNTS {
         for row in ALIKE {
-            check_alike(&rt, rt.alloc(), shots, row)?;
+            check_alike(&rt, rt.alloc(), *shots, *row)?;
         }
     }
     Ok(())
@@ -152,6 +152,7 @@ fn shots_that_are_alike(rt: HostRuntime) -> Result<(), Fail> {
 #[test]
 fn samples(rt: HostRuntime) -> Result<(), Fail> {
     for (shots, seed, text, output) in SAMPLES {
+        let (shots, seed) = (*shots, *seed);
         let order = Order::Sample { shots, seed };
         check_output(&rt, rt.alloc(), &order, text, output, Status::Done)?;
     }
@@ -161,6 +162,7 @@ fn samples(rt: HostRuntime) -> Result<(), Fail> {
 #[test]
 fn detections(rt: HostRuntime) -> Result<(), Fail> {
     for (shots, seed, text, output) in DETECTIONS {
+        let (shots, seed) = (*shots, *seed);
         let order = Order::Detect { shots, seed };
         check_output(&rt, rt.alloc(), &order, text, output, Status::Done)?;
     }
@@ -170,6 +172,7 @@ fn detections(rt: HostRuntime) -> Result<(), Fail> {
 #[test]
 fn refused_shots(rt: HostRuntime) -> Result<(), Fail> {
     for (shots, text, line) in REFUSED {
+        let shots = *shots;
         for seed in [0, 3] {
             let order = Order::Sample { shots, seed };
             check_output(&rt, rt.alloc(), &order, text, line, Status::Refused)?;
