@@ -51,24 +51,39 @@ pub(super) fn told(answer: Result<bool, AllocError>) -> Result<bool, Fault> {
     }
 }
 
-/// Calls with one growth refused: none where it doesn't come to that growth, and else whether the call did without it.
-fn check_growth<'m, C: Call>(
-    rt: &impl Abort,
-    ration: Ration<'m>,
-    lent: &Lent<'_, 'm>,
-    call: C,
-) -> Option<bool> {
+/// What comes of a call with one growth refused.
+#[derive(Clone, Copy, PartialEq, Eq)]
+enum Outcome {
+    /// The call is right, and didn't come to that growth.
+    Unrefused,
+    /// The call is right, and did without that growth.
+    Spared,
+    /// The call answers want of memory.
+    Wanted,
+    Wrong,
+}
+
+fn outcome_of(answer: Result<bool, Fault>, refused: bool) -> Outcome {
+    match answer {
+        Ok(true) if refused => Outcome::Spared,
+        Ok(true) => Outcome::Unrefused,
+        Err(fault) if refused && fault == Fault::MEMORY => Outcome::Wanted,
+        _ => Outcome::Wrong,
+    }
+}
+
+/// Calls with one growth refused. A call that doesn't give back what it took is wrong.
+fn call_refused<'m, C: Call>(ration: Ration<'m>, lent: &Lent<'_, 'm>, call: C) -> Outcome {
     let memory = ration.memory;
-    let growth = ration.growth;
     let held = memory.held();
     memory.refuse(0);
     let answer = call.is_right(ration, lent);
     let refused = memory.refusals() == 1;
-    let right = answer == Ok(true);
-    let wants = refused && answer == Err(Fault::MEMORY);
-    assert!(rt; right || wants, "growth {growth} of {call:?}");
-    assert!(rt; memory.held() == held, "growth {growth} of {call:?}");
-    refused.then_some(right)
+    if memory.held() == held {
+        outcome_of(answer, refused)
+    } else {
+        Outcome::Wrong
+    }
 }
 
 /// How many growths a call takes, each of which is refused in turn, and how many of them it did without.
@@ -86,10 +101,12 @@ fn growths_of<'m, C: Call>(
             memory,
             growth,
         };
-        match check_growth(rt, ration, lent, call) {
-            None => return (growth - 1, spared),
-            Some(true) => spared = spared.saturating_add(1),
-            Some(false) => {}
+        let outcome = call_refused(ration, lent, call);
+        assert!(rt; outcome != Outcome::Wrong, "growth {growth} of {call:?}");
+        match outcome {
+            Outcome::Unrefused => return (growth - 1, spared),
+            Outcome::Spared => spared = spared.saturating_add(1),
+            Outcome::Wanted | Outcome::Wrong => {}
         }
     }
     (MOST, spared)
