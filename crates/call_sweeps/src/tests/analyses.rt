@@ -22,8 +22,8 @@ pub(super) const ANALYSES: [Analysis; 4] = [
 ];
 
 impl Call for Analysis {
-    fn is_right<'m>(self, ration: Ration<'m>, lent: &Lent<'m>) -> Result<bool, Fault> {
-        let program = &lent.program;
+    fn is_right<'m>(self, ration: Ration<'m>, lent: &Lent<'_, 'm>) -> Result<bool, Fault> {
+        let program = lent.program;
         match self {
             Analysis::Sparse => sparse_is_right(ration, program),
             Analysis::Dense => dense_is_right(ration, program),

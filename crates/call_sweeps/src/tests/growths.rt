@@ -1,12 +1,15 @@
 //! A call of which one growth is refused: the first, the second and so on, until none is. A refused call answers want of memory
 //! and gives back what it took.
-use super::lent::Lent;
+use super::lent::{CIRCUIT, Lent, MODEL};
+use programs::Program;
 use scarce_memory::Scarce;
 use std::alloc::{AllocError, Global};
 use std::fmt::Debug;
 use std::process::Abort;
 use std::test::Fail;
 use step_model::Fault;
+use stim_parser::{Circuit, parse};
+use unroll::read_program;
 
 /// No call takes so many growths.
 const MOST: u64 = 10_000;
@@ -32,7 +35,7 @@ impl<'m> Ration<'m> {
 /// A call that takes memory.
 pub(super) trait Call: Copy + Debug {
     /// Whether the call answers as it should, and what it is lent to change is as it was where it is refused.
-    fn is_right<'m>(self, ration: Ration<'m>, lent: &Lent<'m>) -> Result<bool, Fault>;
+    fn is_right<'m>(self, ration: Ration<'m>, lent: &Lent<'_, 'm>) -> Result<bool, Fault>;
 
     /// How many growths the call does without, where they are refused.
     fn spared(self) -> u64 {
@@ -48,24 +51,39 @@ pub(super) fn told(answer: Result<bool, AllocError>) -> Result<bool, Fault> {
     }
 }
 
-/// Calls with one growth refused: none where it doesn't come to that growth, and else whether the call did without it.
-fn check_growth<'m, C: Call>(
-    rt: &impl Abort,
-    ration: Ration<'m>,
-    lent: &Lent<'m>,
-    call: C,
-) -> Option<bool> {
+/// What comes of a call with one growth refused.
+#[derive(Clone, Copy, PartialEq, Eq)]
+enum Outcome {
+    /// The call is right, and didn't come to that growth.
+    Unrefused,
+    /// The call is right, and did without that growth.
+    Spared,
+    /// The call answers want of memory.
+    Wanted,
+    Wrong,
+}
+
+fn outcome_of(answer: Result<bool, Fault>, refused: bool) -> Outcome {
+    match answer {
+        Ok(true) if refused => Outcome::Spared,
+        Ok(true) => Outcome::Unrefused,
+        Err(fault) if refused && fault == Fault::MEMORY => Outcome::Wanted,
+        _ => Outcome::Wrong,
+    }
+}
+
+/// Calls with one growth refused. A call that doesn't give back what it took is wrong.
+fn call_refused<'m, C: Call>(ration: Ration<'m>, lent: &Lent<'_, 'm>, call: C) -> Outcome {
     let memory = ration.memory;
-    let growth = ration.growth;
     let held = memory.held();
     memory.refuse(0);
     let answer = call.is_right(ration, lent);
     let refused = memory.refusals() == 1;
-    let right = answer == Ok(true);
-    let wants = refused && answer == Err(Fault::MEMORY);
-    assert!(rt; right || wants, "growth {growth} of {call:?}");
-    assert!(rt; memory.held() == held, "growth {growth} of {call:?}");
-    refused.then_some(right)
+    if memory.held() == held {
+        outcome_of(answer, refused)
+    } else {
+        Outcome::Wrong
+    }
 }
 
 /// How many growths a call takes, each of which is refused in turn, and how many of them it did without.
@@ -73,7 +91,7 @@ fn growths_of<'m, C: Call>(
     rt: &impl Abort,
     alloc: Global,
     memory: Memory<'m>,
-    lent: &Lent<'m>,
+    lent: &Lent<'_, 'm>,
     call: C,
 ) -> (u64, u64) {
     let mut spared = 0u64;
@@ -83,16 +101,80 @@ fn growths_of<'m, C: Call>(
             memory,
             growth,
         };
-        match check_growth(rt, ration, lent, call) {
-            None => return (growth - 1, spared),
-            Some(true) => spared = spared.saturating_add(1),
-            Some(false) => {}
+        let outcome = call_refused(ration, lent, call);
+        assert!(rt; outcome != Outcome::Wrong, "growth {growth} of {call:?}");
+        match outcome {
+            Outcome::Unrefused => return (growth - 1, spared),
+            Outcome::Spared => spared = spared.saturating_add(1),
+            Outcome::Wanted | Outcome::Wrong => {}
         }
     }
     (MOST, spared)
 }
 
 /// Refuses each growth of each of these calls once. They take some, or none.
+fn sweep_lent<'m, C: Call>(
+    rt: &impl Abort,
+    alloc: Global,
+    memory: Memory<'m>,
+    lent: &Lent<'_, 'm>,
+    calls: &[C],
+    some: bool,
+) {
+    for call in calls {
+        let (growths, spared) = growths_of(rt, alloc, memory, lent, *call);
+        assert!(rt;
+            (0 < growths) == some && growths < MOST,
+            "{growths} of {call:?}"
+        );
+        assert!(rt; spared == call.spared(), "{spared} of {call:?}");
+    }
+}
+
+/// The same with a model that is made, and what else is lent.
+fn sweep_with_model<'m, C: Call>(
+    rt: &impl Abort,
+    alloc: Global,
+    memory: Memory<'m>,
+    circuit: &Circuit<'static, Memory<'m>>,
+    program: &Program<'static, Memory<'m>>,
+    calls: &[C],
+    some: bool,
+) -> Result<(), Fault> {
+    let model = dem_parser::read(memory, MODEL.as_bytes())?;
+    let lent = Lent {
+        circuit,
+        program,
+        model: &model,
+    };
+    sweep_lent(rt, alloc, memory, &lent, calls, some);
+    Ok(())
+}
+
+fn sweep_with_program<'m, C: Call>(
+    rt: &impl Abort,
+    alloc: Global,
+    memory: Memory<'m>,
+    circuit: &Circuit<'static, Memory<'m>>,
+    calls: &[C],
+    some: bool,
+) -> Result<(), Fault> {
+    let program = read_program(memory, CIRCUIT.as_bytes())?;
+    sweep_with_model(rt, alloc, memory, circuit, &program, calls, some)
+}
+
+fn sweep_with_circuit<'m, C: Call>(
+    rt: &impl Abort,
+    alloc: Global,
+    memory: Memory<'m>,
+    calls: &[C],
+    some: bool,
+) -> Result<(), Fault> {
+    let circuit = parse(memory, CIRCUIT.as_bytes())?;
+    sweep_with_program(rt, alloc, memory, &circuit, calls, some)
+}
+
+/// Refuses each growth of each of these calls once, in memory that holds nothing afterwards.
 pub(super) fn sweep<C: Call>(
     rt: &impl Abort,
     alloc: Global,
@@ -100,16 +182,7 @@ pub(super) fn sweep<C: Call>(
     some: bool,
 ) -> Result<(), Fail> {
     let memory = Scarce::new(alloc);
-    let lent = Lent::new(&memory)?;
-    for call in calls {
-        let (growths, spared) = growths_of(rt, alloc, &memory, &lent, *call);
-        assert!(rt;
-            (0 < growths) == some && growths < MOST,
-            "{growths} of {call:?}"
-        );
-        assert!(rt; spared == call.spared(), "{spared} of {call:?}");
-    }
-    drop(lent);
+    sweep_with_circuit(rt, alloc, &memory, calls, some)?;
     assert!(rt; memory.held() == 0);
     Ok(())
 }

@@ -2,14 +2,11 @@
 ghost use Rattle.std.specs.Prelude.{◌≡◌, length, IfOk};
 
 use super::growths::Memory;
-use dem_parser::read;
 use dem_text::Model;
 use pauli_word::Word;
 use programs::Program;
 use std::alloc::AllocError;
-use step_model::Fault;
-use stim_parser::{Circuit, parse};
-use unroll::read_program;
+use stim_parser::Circuit;
 
 /// Every kind of step, on five qubits: 11 collapses, 8 records, 10 faults, 2 detectors and 2 observables. In the run without
 /// faults, with all coins 0, the records are 10010000: the first of each turn is inverted, and its feedback makes qubit 4 1 and
@@ -52,24 +49,11 @@ repeat 3 {
 ";
 
 /// A circuit as a tree and as a program, and an error model.
-#[derive(Drop)]
-pub(super) struct Lent<'m> {
-    pub circuit: Circuit<'static, Memory<'m>>,
-    pub program: Program<'static, Memory<'m>>,
-    pub model: Model<'static, Memory<'m>>,
-}
-
-impl<'m> Lent<'m> {
-    pub fn new(memory: Memory<'m>) -> Result<Self, Fault> {
-        let circuit = parse(memory, CIRCUIT.as_bytes())?;
-        let program = read_program(memory, CIRCUIT.as_bytes())?;
-        let model = read(memory, MODEL.as_bytes())?;
-        Ok(Lent {
-            circuit,
-            program,
-            model,
-        })
-    }
+#[derive(Clone, Copy)]
+pub(super) struct Lent<'l, 'm> {
+    pub circuit: &'l Circuit<'static, Memory<'m>>,
+    pub program: &'l Program<'static, Memory<'m>>,
+    pub model: &'l Model<'static, Memory<'m>>,
 }
 
 /// The identity on a program's qubits.

@@ -1,5 +1,5 @@
 //! Lists and other values that are made or grow by themselves. Where a growth of one is refused, it is as it was.
-ghost use Rattle.std.specs.Prelude.{◌≡◌};
+ghost use Rattle.std.specs.Prelude.{◌≡◌, [], length, OnOk};
 
 use super::growths::{Call, Memory, Ration, told};
 use super::lent::Lent;
@@ -8,7 +8,7 @@ use flat_lists::FlatLists;
 use gate_table::Gate;
 use programs::{CircuitBuilder, TextStep};
 use slow_ends::SlowSource;
-use std::alloc::AllocError;
+use std::alloc::{AllocError, Global};
 use step_model::{Fault, read_all};
 
 #[derive(Clone, Copy, Debug)]
@@ -31,7 +31,7 @@ pub(super) const GROWING: [Growing; 6] = [
 ];
 
 impl Call for Growing {
-    fn is_right<'m>(self, ration: Ration<'m>, _lent: &Lent<'m>) -> Result<bool, Fault> {
+    fn is_right<'m>(self, ration: Ration<'m>, _lent: &Lent<'_, 'm>) -> Result<bool, Fault> {
         match self {
             Growing::Lists => lists_are_right(ration.begin()),
             Growing::ModelLines => model_is_right(ration.begin()),
@@ -111,14 +111,21 @@ fn start_is_right(memory: Memory<'_>) -> Result<bool, Fault> {
     Ok(circuit.depth() == 1)
 }
 
-/// A block of three steps. A close that was refused is made again.
-fn end_is_right(ration: Ration<'_>) -> Result<bool, AllocError> {
-    let mut circuit = CircuitBuilder::new(ration.memory);
+/// A block of three steps.
+fn open_block<'m>(circuit: &mut CircuitBuilder<Memory<'m>>) -> Result<(), AllocError>
+    requires { circuit.old.outer ≡ [] }
+    ensures { OnOk result (length circuit.new.outer ≡ 1) }
+{
     circuit.open(2)?;
     circuit.push(STEP)?;
     circuit.push(STEP)?;
-    circuit.push(STEP)?;
-    let _memory = ration.begin();
+    circuit.push(STEP)
+}
+
+/// Closes a block. A close that was refused is made again.
+fn block_is_closed<'m>(circuit: &mut CircuitBuilder<Memory<'m>>) -> Result<bool, AllocError>
+    requires { length circuit.old.outer ≡ 1 }
+{
     let refused = circuit.close().is_err();
     let depth = circuit.depth();
     if !refused {
@@ -132,22 +139,41 @@ fn end_is_right(ration: Ration<'_>) -> Result<bool, AllocError> {
     }
 }
 
-/// A source loses no byte where there is no room: the bytes that it handed out and those that it has left are all.
+fn end_is_right(ration: Ration<'_>) -> Result<bool, AllocError> {
+    let mut circuit = CircuitBuilder::new(ration.memory);
+    open_block(&mut circuit)?;
+    let _memory = ration.begin();
+    block_is_closed(&mut circuit)
+}
+
+/// Where reading so many bytes failed: the fault where the bytes that were handed out and those that are left are all.
+fn rest_is_left(
+    alloc: Global,
+    source: &mut SlowSource<'_>,
+    length: usize,
+    fault: Fault,
+) -> Result<bool, Fault> {
+    let handed_out = source.calls() as usize;
+    let rest = read_all(alloc, source)?;
+    if handed_out.checked_add(rest.len()) == Some(length) {
+        Err(fault)
+    } else {
+        Ok(false)
+    }
+}
+
+fn text_is_read(ration: Ration<'_>, text: &[u8]) -> Result<bool, Fault> {
+    let mut source = SlowSource::new(text, 0);
+    match read_all(ration.begin(), &mut source) {
+        Ok(bytes) => Ok(bytes.as_slice() == text),
+        Err(fault) => rest_is_left(ration.alloc, &mut source, text.len(), fault),
+    }
+}
+
+/// A source loses no byte where there is no room.
 fn source_is_right(ration: Ration<'_>) -> Result<bool, Fault> {
     let Ok(text) = vec![in ration.alloc; b'x'; 9_000] else {
         return Err(Fault::MEMORY);
     };
-    let mut source = SlowSource::new(text.as_slice(), 0);
-    match read_all(ration.begin(), &mut source) {
-        Ok(bytes) => Ok(bytes.as_slice() == text.as_slice()),
-        Err(fault) => {
-            let handed_out = source.calls() as usize;
-            let rest = read_all(ration.alloc, &mut source)?;
-            if handed_out.checked_add(rest.len()) == Some(text.len()) {
-                Err(fault)
-            } else {
-                Ok(false)
-            }
-        }
-    }
+    text_is_read(ration, text.as_slice())
 }

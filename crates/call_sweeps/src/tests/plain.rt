@@ -25,7 +25,7 @@ pub(super) const PLAIN: [Plain; 4] = [
 ];
 
 impl Call for Plain {
-    fn is_right<'m>(self, ration: Ration<'m>, _lent: &Lent<'m>) -> Result<bool, Fault> {
+    fn is_right<'m>(self, ration: Ration<'m>, _lent: &Lent<'_, 'm>) -> Result<bool, Fault> {
         let program = read_program(ration.memory, CIRCUIT)?;
         let answer = match self {
             Plain::Records => records_are_right(ration.begin(), &program),

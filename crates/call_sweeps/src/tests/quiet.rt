@@ -26,13 +26,13 @@ pub(super) const QUIET: [Quiet; 5] = [
 ];
 
 impl Call for Quiet {
-    fn is_right<'m>(self, ration: Ration<'m>, lent: &Lent<'m>) -> Result<bool, Fault> {
+    fn is_right<'m>(self, ration: Ration<'m>, lent: &Lent<'_, 'm>) -> Result<bool, Fault> {
         match self {
-            Quiet::Draw => draw_is_right(ration, &lent.program),
-            Quiet::DrawSideBySide => draws_are_right(ration, &lent.program),
-            Quiet::Follow => runs_are_right(ration, &lent.program),
+            Quiet::Draw => draw_is_right(ration, lent.program),
+            Quiet::DrawSideBySide => draws_are_right(ration, lent.program),
+            Quiet::Follow => runs_are_right(ration, lent.program),
             Quiet::WriteModel => model_is_right(ration, lent),
-            Quiet::WriteFaults => faults_are_right(ration, &lent.program),
+            Quiet::WriteFaults => faults_are_right(ration, lent.program),
         }
     }
 }
@@ -68,10 +68,10 @@ fn runs_are_right<'m>(
     Ok(batch.reference().len() == 8 && batch.reference().get(0))
 }
 
-fn model_is_right<'m>(ration: Ration<'m>, lent: &Lent<'m>) -> Result<bool, Fault> {
+fn model_is_right<'m>(ration: Ration<'m>, lent: &Lent<'_, 'm>) -> Result<bool, Fault> {
     let mut sink = MemorySink::new(ration.alloc);
     let _memory = ration.begin();
-    dem_text::write(&lent.model, &mut sink)?;
+    dem_text::write(lent.model, &mut sink)?;
     Ok(
         sink.bytes()
             .starts_with(b"error(0.1) D0 L0\nerror(0.2) D1 D2\n"),

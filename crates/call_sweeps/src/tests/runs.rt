@@ -1,4 +1,6 @@
 //! Runs of a program, and shots.
+ghost use Rattle.std.specs.Prelude.{◌≡◌, length};
+
 use super::growths::{Call, Memory, Ration};
 use super::lent::{Lent, are_false};
 use batch::Batch;
@@ -32,10 +34,10 @@ pub(super) const RUNNING: [Running; 8] = [
 ];
 
 impl Call for Running {
-    fn is_right<'m>(self, ration: Ration<'m>, lent: &Lent<'m>) -> Result<bool, Fault> {
-        let program = &lent.program;
+    fn is_right<'m>(self, ration: Ration<'m>, lent: &Lent<'_, 'm>) -> Result<bool, Fault> {
+        let program = lent.program;
         match self {
-            Running::Run => Ok(are_records(&run(ration.begin(), program, &[], &[])?)),
+            Running::Run => run_is_right(ration.begin(), program),
             Running::Detections => detections_are_right(ration, program),
             Running::Reference => reference_is_right(ration.begin(), program),
             Running::Batch => batch_is_right(ration.begin(), program),
@@ -55,14 +57,29 @@ fn are_records<'m>(records: &Records<Memory<'m>>) -> bool {
     records.get(0) && !records.get(1) && !records.get(2) && records.get(3)
 }
 
+fn run_is_right<'m>(memory: Memory<'m>, program: &Program<'_, Memory<'m>>) -> Result<bool, Fault> {
+    let records = run(memory, program, &[], &[])?;
+    Ok(are_records(&records))
+}
+
 /// Both runs are one, so nothing is detected.
+fn nothing_is_detected<'m>(
+    memory: Memory<'m>,
+    program: &Program<'_, Memory<'m>>,
+    records: &Records<Memory<'m>>,
+) -> Result<bool, Fault>
+    requires { length records.now ≡ program.now.records }
+{
+    let answers = detections(memory, program, records, records)?;
+    Ok(are_false(answers.as_slice(), 4))
+}
+
 fn detections_are_right<'m>(
     ration: Ration<'m>,
     program: &Program<'_, Memory<'m>>,
 ) -> Result<bool, Fault> {
     let records = run(ration.memory, program, &[], &[])?;
-    let answers = detections(ration.begin(), program, &records, &records)?;
-    Ok(are_false(answers.as_slice(), 4))
+    nothing_is_detected(ration.begin(), program, &records)
 }
 
 fn reference_is_right<'m>(

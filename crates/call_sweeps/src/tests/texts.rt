@@ -5,6 +5,7 @@ use dem_text::Model;
 use forward_sim::{read_coins, read_numbers};
 use programs::Program;
 use step_model::Fault;
+use stim_parser::Circuit;
 use unroll::{read_program, unroll};
 
 #[derive(Clone, Copy, Debug)]
@@ -31,16 +32,16 @@ pub(super) const READERS: [Reader; 8] = [
 ];
 
 impl Call for Reader {
-    fn is_right<'m>(self, ration: Ration<'m>, lent: &Lent<'m>) -> Result<bool, Fault> {
+    fn is_right<'m>(self, ration: Ration<'m>, lent: &Lent<'_, 'm>) -> Result<bool, Fault> {
         let memory = ration.begin();
         match self {
             Reader::Circuit => tree_is_right(memory),
-            Reader::Unrolled => Ok(is_program(&unroll(memory, &lent.circuit)?)),
-            Reader::Program => Ok(is_program(&read_program(memory, CIRCUIT.as_bytes())?)),
+            Reader::Unrolled => unrolled_is_right(memory, lent.circuit),
+            Reader::Program => program_is_right(memory),
             Reader::ModelLines => lines_are_right(memory),
-            Reader::Model => Ok(is_model(&dem_parser::read(memory, MODEL.as_bytes())?)),
-            Reader::Symptom => symptom_is_right(memory, &lent.model),
-            Reader::Coins => coins_are_right(memory, &lent.program),
+            Reader::Model => model_is_right(memory),
+            Reader::Symptom => symptom_is_right(memory, lent.model),
+            Reader::Coins => coins_are_right(memory, lent.program),
             Reader::Numbers => numbers_are_right(memory),
         }
     }
@@ -71,6 +72,24 @@ fn is_program<'m>(program: &Program<'_, Memory<'m>>) -> bool {
 
 fn is_model<'m>(model: &Model<'_, Memory<'m>>) -> bool {
     model.line_count() == 10 && model.detector_count() == 5 && model.observable_count() == 2
+}
+
+fn unrolled_is_right<'m>(
+    memory: Memory<'m>,
+    circuit: &Circuit<'static, Memory<'m>>,
+) -> Result<bool, Fault> {
+    let program = unroll(memory, circuit)?;
+    Ok(is_program(&program))
+}
+
+fn program_is_right(memory: Memory<'_>) -> Result<bool, Fault> {
+    let program = read_program(memory, CIRCUIT.as_bytes())?;
+    Ok(is_program(&program))
+}
+
+fn model_is_right(memory: Memory<'_>) -> Result<bool, Fault> {
+    let model = dem_parser::read(memory, MODEL.as_bytes())?;
+    Ok(is_model(&model))
 }
 
 /// Of the first two lines.

@@ -26,7 +26,7 @@ pub(super) const TRACKING: [Tracking; 4] = [
 ];
 
 impl Call for Tracking {
-    fn is_right<'m>(self, ration: Ration<'m>, _lent: &Lent<'m>) -> Result<bool, Fault> {
+    fn is_right<'m>(self, ration: Ration<'m>, _lent: &Lent<'_, 'm>) -> Result<bool, Fault> {
         let answer = match self {
             Tracking::DenseWords => dense_is_made(ration.begin()),
             Tracking::SparseWords => sparse_is_made(ration.begin()),

@@ -29,7 +29,7 @@ pub(super) const MADE: [Made; 6] = [
 ];
 
 impl Call for Made {
-    fn is_right<'m>(self, ration: Ration<'m>, _lent: &Lent<'m>) -> Result<bool, Fault> {
+    fn is_right<'m>(self, ration: Ration<'m>, _lent: &Lent<'_, 'm>) -> Result<bool, Fault> {
         let answer = match self {
             Made::Row => row_is_right(ration.begin()),
             Made::RowCopy => row_copy_is_right(ration),

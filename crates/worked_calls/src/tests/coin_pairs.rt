@@ -30,30 +30,24 @@ fn made(
 }
 
 // Whether it is as many zeros, and the list of the row.
-fn are_of_row(zeros: &[bool], coins: &[bool], row: PairRow) -> bool {
+fn are_of_row(zeros: &[bool], coins: &[bool], row: &PairRow) -> bool {
     zeros.len() == row.second.len() && zeros.iter().all(|coin| !*coin) && coins == row.second
 }
 
-fn check_pair(
-    rt: &impl Abort,
-    alloc: Global,
-    program: &Program<'_, Global>,
-    row: PairRow,
-) -> Result<(), Fail> {
+fn has_pair(alloc: Global, program: &Program<'_, Global>, row: &PairRow) -> Result<bool, Fail> {
     let (zeros, coins) = coin_pair(alloc, program, row.place)?;
-    assert!(rt;
-        are_of_row(zeros.as_slice(), coins.as_slice(), row),
-        "of {}",
-        row.circuit
-    );
-    Ok(())
+    Ok(are_of_row(zeros.as_slice(), coins.as_slice(), row))
+}
+
+fn is_pair(rt: &impl Abort, alloc: Global, row: &PairRow) -> Result<bool, Fail> {
+    let program = made(rt, alloc, row.qubits, row.pieces)?;
+    has_pair(alloc, &program, row)
 }
 
 #[test]
 fn pairs_of_the_table(rt: HostRuntime) -> Result<(), Fail> {
     for row in PAIRS {
-        let program = made(&rt, rt.alloc(), row.qubits, row.pieces)?;
-        check_pair(&rt, rt.alloc(), &program, *row)?;
+        assert!(rt; is_pair(&rt, rt.alloc(), row)?, "of {}", row.circuit);
     }
     Ok(())
 }
@@ -74,23 +68,32 @@ fn lone(
     Ok(word)
 }
 
-fn check_flips(
-    rt: &impl Abort,
+fn word_has_flips(
     alloc: Global,
     program: &Program<'_, Global>,
-    row: FlipRow,
-) -> Result<(), Fail> {
+    word: &Word<Global>,
+    row: &FlipRow,
+) -> Result<bool, Fail>
+    requires { length word.now.letters ≡ program.now.qubits }
+{
+    let flips = flips(alloc, program, row.place, word)?;
+    Ok(flips.as_slice() == row.flips)
+}
+
+fn has_flips(alloc: Global, program: &Program<'_, Global>, row: &FlipRow) -> Result<bool, Fail> {
     let word = lone(alloc, program, row.letter)?;
-    let flips = flips(alloc, program, row.place, &word)?;
-    assert!(rt; flips.as_slice() == row.flips, "of {}", row.circuit);
-    Ok(())
+    word_has_flips(alloc, program, &word, row)
+}
+
+fn are_flips(rt: &impl Abort, alloc: Global, row: &FlipRow) -> Result<bool, Fail> {
+    let program = made(rt, alloc, row.qubits, row.pieces)?;
+    has_flips(alloc, &program, row)
 }
 
 #[test]
 fn flips_of_the_table(rt: HostRuntime) -> Result<(), Fail> {
     for row in FLIPS {
-        let program = made(&rt, rt.alloc(), row.qubits, row.pieces)?;
-        check_flips(&rt, rt.alloc(), &program, *row)?;
+        assert!(rt; are_flips(&rt, rt.alloc(), row)?, "of {}", row.circuit);
     }
     Ok(())
 }

@@ -9,7 +9,7 @@ const LINES: &[u8] =
     b"ERROR[x](0.1)D0 ^ L1\n# none\nrepeat 3 {\nDetector(1, -2) D5 D6\nlogical_observable L1023\nshift_detectors(0, 5) 007\n}\n";
 
 /// What stands at its places: of an instruction its line, its kind, how long its arguments are and its targets.
-const ITEMS: [u64; 22] = [
+const ITEMS: &[u64] = &[
     1, 0, 3, 10, 40, 31, 3, 3, 4, 1, 5, 15, 16, 5, 2, 0, 1053, 6, 3, 4, 27, 0,
 ];
 
@@ -64,12 +64,15 @@ fn are_items(
     Ok(numbers.as_slice() == wanted && !lines.is_empty())
 }
 
+fn has_items(alloc: Global) -> Result<bool, Fail> {
+    let lines = parse(alloc, LINES)?;
+    lines.fits();
+    Ok(are_items(alloc, &lines, ITEMS)?)
+}
+
 #[test]
 fn items_are_read(rt: HostRuntime) -> Result<(), Fail> {
-    let lines = parse(rt.alloc(), LINES)?;
-    lines.fits();
-    let right = are_items(rt.alloc(), &lines, ITEMS.as_slice())?;
-    assert!(rt; right);
+    assert!(rt; has_items(rt.alloc())?);
     Ok(())
 }
 
@@ -93,15 +96,28 @@ const MODEL: &[u8] =
     b"detector(1, 2) D0 D1\ndetector D0\nerror(0.1) D1 D0 L0\nshift_detectors(0, 5) 1\ndetector(-1, 1, 3) D0\nerror(0.2) D0 L0 ^ D0\n";
 
 /// The second detector's are those of the last line that gives it any.
-const COORDINATES: [i64; 7] = [2, 1, 2, 3, -1, 6, 3];
+const COORDINATES: &[i64] = &[2, 1, 2, 3, -1, 6, 3];
+
+/// Both errors together flip the detectors, and the observable twice.
+const SYMPTOM: &[bool] = &[true, true, false];
+
+fn has_symptom(alloc: Global, model: &Model<'_, Global>) -> Result<bool, AllocError> {
+    let flipped = symptom(alloc, model, &[true, true])?;
+    Ok(flipped.as_slice() == SYMPTOM)
+}
+
+fn is_model(alloc: Global, model: &Model<'_, Global>) -> Result<bool, AllocError> {
+    Ok(has_coordinates(alloc, model, COORDINATES)? && has_symptom(alloc, model)?)
+}
+
+fn has_model(alloc: Global) -> Result<bool, Fail> {
+    let model = read(alloc, MODEL)?;
+    Ok(is_model(alloc, &model)?)
+}
 
 #[test]
 fn models_are_read(rt: HostRuntime) -> Result<(), Fail> {
-    let model = read(rt.alloc(), MODEL)?;
-    let right = has_coordinates(rt.alloc(), &model, COORDINATES.as_slice())?;
-    assert!(rt; right);
-    let flipped = symptom(rt.alloc(), &model, [true, true].as_slice())?;
-    assert!(rt; flipped.as_slice() == [true, true, false].as_slice());
+    assert!(rt; has_model(rt.alloc())?);
     Ok(())
 }
 

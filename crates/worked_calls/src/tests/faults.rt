@@ -3,7 +3,7 @@ use std::test::Fail;
 use step_model::{Cause, Fault};
 
 // The numbers that the program writes.
-const NUMBERS: [(Cause, u8); 30] = [
+const NUMBERS: &[(Cause, u8)] = &[
     (Cause::Memory, 1),
     (Cause::Read, 2),
     (Cause::Write, 3),
@@ -45,7 +45,7 @@ fn has_text(alloc: Global, cause: Cause) -> Result<bool, AllocError> {
 fn numbers_and_texts(rt: HostRuntime) -> Result<(), Fail> {
     for (cause, number) in NUMBERS {
         assert!(rt;
-            cause.number() == number && has_text(rt.alloc(), cause)?,
+            cause.number() == *number && has_text(rt.alloc(), *cause)?,
             "of {cause:?}"
         );
     }

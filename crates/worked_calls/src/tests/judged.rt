@@ -1,16 +1,21 @@
 //! Single lines of circuits, by themselves and inside blocks: what they say, or their refusal.
+ghost use Rattle.std.specs.Prelude.{◌<◌};
+
 mod lines;
+mod taken;
 
 use gate_table::Gate;
-use lines::{BEYOND_LIMITS, LEFT_OUT, OPENING, REFUSED, REFUSED_DEEP, REFUSED_TWICE, TAKEN};
-use std::alloc::Allocator;
+use lines::{BEYOND_LIMITS, LEFT_OUT, REFUSED, REFUSED_DEEP, REFUSED_TWICE, Refused};
+use std::alloc::Global;
+use std::process::Abort;
 use std::test::Fail;
 use step_model::{Cause, Fault};
 use stim_parser::{Circuit, Item, Number, Operation, Target, parse};
+use taken::{OPENING, TAKEN};
 
 /// A line inside so many blocks, with so many ends of blocks behind it.
-fn put_inside<A: Allocator + Copy>(
-    text: &mut Vec<u8, A>,
+fn put_inside(
+    text: &mut Vec<u8, Global>,
     depth: usize,
     line: &[u8],
     ends: usize,
@@ -26,7 +31,7 @@ fn put_inside<A: Allocator + Copy>(
     Ok(())
 }
 
-fn is_refused<A: Allocator + Copy>(alloc: A, text: &[u8], cause: Cause, line: u64) -> bool {
+fn is_refused(alloc: Global, text: &[u8], cause: Cause, line: u64) -> bool {
     match parse(alloc, text) {
         Ok(_) => false,
         Err(fault) => fault == Fault { cause, line },
@@ -34,65 +39,63 @@ fn is_refused<A: Allocator + Copy>(alloc: A, text: &[u8], cause: Cause, line: u6
 }
 
 /// The first of lines that isn't refused for its cause inside so many blocks.
-fn first_other<A: Allocator + Copy>(
-    alloc: A,
-    text: &mut Vec<u8, A>,
+fn first_other(
+    alloc: Global,
+    text: &mut Vec<u8, Global>,
     depth: usize,
-    lines: &[(&'static [u8], Cause)],
-) -> Result<Option<&'static [u8]>, Fail> {
-    for (line, cause) in lines {
-        put_inside(text, depth, line, 0)?;
-        if !is_refused(alloc, text, *cause, (depth as u64).saturating_add(1)) {
-            return Ok(Some(*line));
+    refused: &Refused,
+) -> Result<Option<&'static str>, Fail> {
+    let (cause, lines) = *refused;
+    for line in lines.lines() {
+        put_inside(text, depth, line.as_bytes(), 0)?;
+        if !is_refused(alloc, text, cause, (depth as u64).saturating_add(1)) {
+            return Ok(Some(line));
         }
     }
     Ok(None)
 }
 
+fn are_refused(
+    rt: &impl Abort,
+    alloc: Global,
+    depth: usize,
+    table: &[Refused],
+) -> Result<(), Fail> {
+    let mut text = Vec::new(alloc);
+    for refused in table {
+        let other = first_other(alloc, &mut text, depth, refused)?;
+        assert!(rt; other.is_none(), "{other:?}");
+    }
+    Ok(())
+}
+
 #[test]
 fn lines_are_refused(rt: HostRuntime) -> Result<(), Fail> {
-    let mut text = Vec::new(rt.alloc());
-    let other = first_other(rt.alloc(), &mut text, 0, &REFUSED)?;
-    assert!(rt; other.is_none(), "{other:?}");
-    Ok(())
+    are_refused(&rt, rt.alloc(), 0, REFUSED)
 }
 
 #[test]
 fn lines_beyond_a_limit_are_refused(rt: HostRuntime) -> Result<(), Fail> {
-    let mut text = Vec::new(rt.alloc());
-    let other = first_other(rt.alloc(), &mut text, 0, &BEYOND_LIMITS)?;
-    assert!(rt; other.is_none(), "{other:?}");
-    Ok(())
+    are_refused(&rt, rt.alloc(), 0, BEYOND_LIMITS)
 }
 
 #[test]
 fn the_first_refusal_is_given(rt: HostRuntime) -> Result<(), Fail> {
-    let mut text = Vec::new(rt.alloc());
-    let other = first_other(rt.alloc(), &mut text, 0, &REFUSED_TWICE)?;
-    assert!(rt; other.is_none(), "{other:?}");
-    Ok(())
+    are_refused(&rt, rt.alloc(), 0, REFUSED_TWICE)
 }
 
 #[test]
 fn the_first_refusal_of_a_deep_line_is_given(rt: HostRuntime) -> Result<(), Fail> {
-    let mut text = Vec::new(rt.alloc());
-    let other = first_other(rt.alloc(), &mut text, 32, &REFUSED_DEEP)?;
-    assert!(rt; other.is_none(), "{other:?}");
-    Ok(())
+    are_refused(&rt, rt.alloc(), 32, REFUSED_DEEP)
 }
 
 #[test]
-fn left_out_names_are_refused(rt: HostRuntime) {
-    for text in LEFT_OUT {
-        assert!(rt; is_refused(rt.alloc(), text, Cause::LeftOut, 1), "{text:?}");
-    }
+fn left_out_names_are_refused(rt: HostRuntime) -> Result<(), Fail> {
+    are_refused(&rt, rt.alloc(), 0, LEFT_OUT)
 }
 
 /// The item at a place, where there is one.
-fn item_of<'c, 'a, A: Allocator + Copy>(
-    circuit: &'c Circuit<'a, A>,
-    place: usize,
-) -> Option<Item<'c, 'a>> {
+fn item_of<'c, 'a>(circuit: &'c Circuit<'a, Global>, place: usize) -> Option<Item<'c, 'a>> {
     if place < circuit.len() {
         Some(circuit.item(place))
     } else {
@@ -101,7 +104,7 @@ fn item_of<'c, 'a, A: Allocator + Copy>(
 }
 
 /// Whether a line inside 31 blocks opens another of so many turns.
-fn opens<A: Allocator + Copy>(alloc: A, text: &[u8], turns: u64) -> bool {
+fn opens(alloc: Global, text: &[u8], turns: u64) -> bool {
     match parse(alloc, text) {
         Ok(circuit) => matches!(
             item_of(&circuit, 31),
@@ -111,22 +114,47 @@ fn opens<A: Allocator + Copy>(alloc: A, text: &[u8], turns: u64) -> bool {
     }
 }
 
+/// The first of lines that doesn't open a block of so many turns inside 31 others.
+fn first_unopened(
+    alloc: Global,
+    text: &mut Vec<u8, Global>,
+    lines: &[(&'static [u8], u64)],
+) -> Result<Option<&'static [u8]>, Fail> {
+    for (line, turns) in lines {
+        put_inside(text, 31, line, 32)?;
+        if !opens(alloc, text, *turns) {
+            return Ok(Some(*line));
+        }
+    }
+    Ok(None)
+}
+
 #[test]
-fn blocks_open_and_close(rt: HostRuntime) -> Result<(), Fail> {
+fn blocks_open(rt: HostRuntime) -> Result<(), Fail> {
     let mut text = Vec::new(rt.alloc());
-    for (line, turns) in OPENING {
-        put_inside(&mut text, 31, line, 32)?;
-        assert!(rt; opens(rt.alloc(), &text, turns), "{line:?}");
-    }
-    for depth in [1, 32] {
-        put_inside(&mut text, depth, b" } # end", depth - 1)?;
-        assert!(rt; parse(rt.alloc(), &text).is_ok(), "{depth}");
-    }
+    let other = first_unopened(rt.alloc(), &mut text, OPENING)?;
+    assert!(rt; other.is_none(), "{other:?}");
+    Ok(())
+}
+
+/// Whether the last of so many blocks closes by a line with a comment.
+fn closes(alloc: Global, text: &mut Vec<u8, Global>, depth: usize) -> Result<bool, Fail>
+    requires { 0 < depth }
+{
+    put_inside(text, depth, b" } # end", depth - 1)?;
+    Ok(parse(alloc, text).is_ok())
+}
+
+#[test]
+fn blocks_close(rt: HostRuntime) -> Result<(), Fail> {
+    let mut text = Vec::new(rt.alloc());
+    let closed = closes(rt.alloc(), &mut text, 1)? && closes(rt.alloc(), &mut text, 32)?;
+    assert!(rt; closed);
     Ok(())
 }
 
 /// Whether a line inside 32 blocks is an instruction.
-fn is_taken<A: Allocator + Copy>(alloc: A, text: &[u8]) -> bool {
+fn is_taken(alloc: Global, text: &[u8]) -> bool {
     match parse(alloc, text) {
         Ok(circuit) => matches!(item_of(&circuit, 32), Some(Item::Does(_))),
         Err(_) => false,
@@ -136,9 +164,9 @@ fn is_taken<A: Allocator + Copy>(alloc: A, text: &[u8]) -> bool {
 #[test]
 fn instructions_are_taken(rt: HostRuntime) -> Result<(), Fail> {
     let mut text = Vec::new(rt.alloc());
-    for line in TAKEN {
-        put_inside(&mut text, 32, line, 32)?;
-        assert!(rt; is_taken(rt.alloc(), &text), "{line:?}");
+    for line in TAKEN.lines() {
+        put_inside(&mut text, 32, line.as_bytes(), 32)?;
+        assert!(rt; is_taken(rt.alloc(), &text), "{line}");
     }
     Ok(())
 }

@@ -15,7 +15,7 @@ type Cut = (
 );
 
 /// The lines of the text.
-const CUT: [Cut; 4] = [
+const CUT: &[Cut] = &[
     (2, b"H", b"", b" 0 ", false, Braces::NoBrace),
     (4, b"REPEAT", b"", b" 2 ", false, Braces::OpeningLast),
     (5, b"X_ERROR", b" 0.1 ", b" 3", false, Braces::NoBrace),
@@ -26,12 +26,19 @@ fn next_of<'a>(lexer: &mut Lexer<'a>) -> Result<Line<'a>, Fail> {
     Ok(lexer.next_line()?.ok_or("a line")?)
 }
 
+fn is_cut(line: Line<'_>, row: &Cut) -> bool {
+    let (number, name, arguments, targets, stays_open, braces) = *row;
+    (line.number == number)
+        & (line.name == name)
+        & (line.arguments == arguments)
+        & (line.targets == targets)
+        & (line.stays_open == stays_open)
+        & (line.braces == braces)
+}
+
 fn are_cut(lexer: &mut Lexer<'_>, rows: &[Cut]) -> Result<bool, Fail> {
-    for (number, name, arguments, targets, stays_open, braces) in rows {
-        let line = next_of(lexer)?;
-        let is_placed = line.number == *number && line.braces == *braces;
-        let is_named = line.name == *name && line.stays_open == *stays_open;
-        if !is_placed || !is_named || line.arguments != *arguments || line.targets != *targets {
+    for row in rows {
+        if !is_cut(next_of(lexer)?, row) {
             return Ok(false);
         }
     }
@@ -40,7 +47,7 @@ fn are_cut(lexer: &mut Lexer<'_>, rows: &[Cut]) -> Result<bool, Fail> {
 
 #[test]
 fn lines_are_cut(rt: HostRuntime) -> Result<(), Fail> {
-    assert!(rt; are_cut(&mut Lexer::new(TEXT), &CUT)?);
+    assert!(rt; are_cut(&mut Lexer::new(TEXT), CUT)?);
     Ok(())
 }
 
@@ -58,7 +65,7 @@ fn a_bad_byte_is_refused_again(rt: HostRuntime) -> Result<(), Fail> {
     Ok(())
 }
 
-const BRACES: [(&[u8], Braces); 6] = [
+const BRACES: &[(&[u8], Braces)] = &[
     (b"}", Braces::ClosingAlone),
     (b"REPEAT 2 {}", Braces::Misplaced),
     (b"REPEAT 2 { 3", Braces::Misplaced),
@@ -71,7 +78,7 @@ const BRACES: [(&[u8], Braces); 6] = [
 fn braces_are_told_apart(rt: HostRuntime) -> Result<(), Fail> {
     for (text, braces) in BRACES {
         let line = next_of(&mut Lexer::new(text))?;
-        assert!(rt; line.braces == braces, "in {text:?}");
+        assert!(rt; line.braces == *braces, "in {text:?}");
     }
     Ok(())
 }

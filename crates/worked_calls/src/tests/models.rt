@@ -50,10 +50,14 @@ fn two_detectors(alloc: Global) -> Result<FlatLists<i64, Global>, AllocError> {
     Ok(coordinates)
 }
 
+fn push_two_lines(model: &mut Model<'_, Global>) -> Result<(), AllocError> {
+    model.push_line(b"0.1", &[0, 2])?;
+    model.push_line(b"1e-3", &[1])
+}
+
 fn two_lines(alloc: Global) -> Result<Model<'static, Global>, AllocError> {
     let mut model = Model::new(alloc, two_detectors(alloc)?, 1);
-    model.push_line(b"0.1", &[0, 2])?;
-    model.push_line(b"1e-3", &[1])?;
+    push_two_lines(&mut model)?;
     Ok(model)
 }
 
@@ -106,14 +110,6 @@ fn takes_all(
     assert!(rt; sink.taken.as_slice() == text);
 }
 
-#[test]
-fn a_long_text_goes_out_in_pieces(rt: HostRuntime) -> Result<(), Fail> {
-    let model = long_model(rt.alloc())?;
-    let expected = long_text(rt.alloc())?;
-    takes_all(&rt, &model, &expected, &mut failing_sink(rt.alloc(), 0));
-    Ok(())
-}
-
 // It takes a beginning of the text, and fails at its second call, which is its last.
 fn takes_a_beginning(
     rt: &impl Abort,
@@ -126,10 +122,20 @@ fn takes_a_beginning(
     assert!(rt; !sink.taken.is_empty() && text.starts_with(sink.taken.as_slice()));
 }
 
+fn goes_out_in_pieces(
+    rt: &impl Abort,
+    alloc: Global,
+    model: &Model<'_, Global>,
+) -> Result<(), AllocError> {
+    let text = long_text(alloc)?;
+    takes_all(rt, model, &text, &mut failing_sink(alloc, 0));
+    takes_a_beginning(rt, model, &text, &mut failing_sink(alloc, 2));
+    Ok(())
+}
+
 #[test]
-fn a_failed_sink_has_a_beginning(rt: HostRuntime) -> Result<(), Fail> {
+fn a_long_text_goes_out_in_pieces_until_one_fails(rt: HostRuntime) -> Result<(), Fail> {
     let model = long_model(rt.alloc())?;
-    let expected = long_text(rt.alloc())?;
-    takes_a_beginning(&rt, &model, &expected, &mut failing_sink(rt.alloc(), 2));
+    goes_out_in_pieces(&rt, rt.alloc(), &model)?;
     Ok(())
 }

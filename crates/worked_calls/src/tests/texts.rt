@@ -1,12 +1,11 @@
 //! Whole texts: their items or their refusal.
 mod written;
 
-use std::alloc::Allocator;
-use std::process::Abort;
+use std::alloc::Global;
 use std::test::Fail;
 use step_model::{Cause, Fault};
 use stim_parser::{Circuit, Instruction, Item, Target, laws, parse};
-use written::{Named, REFUSED, WRITTEN, Wanted, name_of};
+use written::{Named, REFUSED, WRITTEN, Wanted, Written, name_of};
 
 fn are_named(targets: &[Target], wanted: &[Named]) -> bool {
     targets.len() == wanted.len()
@@ -30,7 +29,7 @@ fn says(item: Item, wanted: Wanted) -> bool {
     }
 }
 
-fn say<A: Allocator + Copy>(circuit: &Circuit<'_, A>, wanted: &[Wanted]) -> bool {
+fn say(circuit: &Circuit<'_, Global>, wanted: &[Wanted]) -> bool {
     if circuit.len() != wanted.len() || circuit.is_empty() != wanted.is_empty() {
         return false;
     }
@@ -42,36 +41,37 @@ fn say<A: Allocator + Copy>(circuit: &Circuit<'_, A>, wanted: &[Wanted]) -> bool
     true
 }
 
+fn is_written(alloc: Global, row: &Written) -> Result<bool, Fault> {
+    let (text, wanted) = *row;
+    let circuit = parse(alloc, text)?;
+    circuit.fits();
+    Ok(say(&circuit, wanted))
+}
+
 #[test]
 fn texts_write_their_items(rt: HostRuntime) -> Result<(), Fail> {
-    for (text, wanted) in WRITTEN {
-        let circuit = parse(rt.alloc(), text)?;
-        circuit.fits();
-        assert!(rt; say(&circuit, wanted), "in {text:?}");
+    for row in WRITTEN {
+        assert!(rt; is_written(rt.alloc(), row)?, "in {:?}", row.0);
     }
     Ok(())
 }
 
-fn is_refused<A: Allocator + Copy>(alloc: A, text: &[u8], refusal: Fault) -> bool {
+fn is_refused(alloc: Global, text: &[u8], cause: Cause, line: u64) -> bool {
     match parse(alloc, text) {
         Ok(_) => false,
-        Err(fault) => fault == refusal,
+        Err(fault) => fault == Fault { cause, line },
     }
 }
 
 #[test]
-fn texts_are_refused(rt: HostRuntime) -> Result<(), Fail> {
+fn texts_are_refused(rt: HostRuntime) {
     for (text, cause, line) in REFUSED {
-        assert!(rt;
-            is_refused(rt.alloc(), text, Fault { cause, line }),
-            "in {text:?}"
-        );
+        assert!(rt; is_refused(rt.alloc(), text, *cause, *line), "in {text:?}");
     }
-    Ok(())
 }
 
 /// So many blocks inside one another.
-fn nested<A: Allocator + Copy>(alloc: A, depth: usize) -> Result<Vec<u8, A>, Fail> {
+fn nested(alloc: Global, depth: usize) -> Result<Vec<u8, Global>, Fail> {
     let mut text = Vec::new(alloc);
     for _ in 0..depth {
         text.extend_from_slice(b"REPEAT 1 {\n")?;
@@ -83,7 +83,7 @@ fn nested<A: Allocator + Copy>(alloc: A, depth: usize) -> Result<Vec<u8, A>, Fai
 }
 
 /// How many items so many blocks inside one another have, where they are taken.
-fn items_of_nested<A: Allocator + Copy>(alloc: A, depth: usize) -> Result<usize, Fail> {
+fn items_of_nested(alloc: Global, depth: usize) -> Result<usize, Fail> {
     let text = nested(alloc, depth)?;
     let circuit = parse(alloc, text.as_slice())?;
     Ok(circuit.len())
@@ -93,25 +93,21 @@ fn items_of_nested<A: Allocator + Copy>(alloc: A, depth: usize) -> Result<usize,
 fn blocks_stand_inside_32(rt: HostRuntime) -> Result<(), Fail> {
     assert!(rt; items_of_nested(rt.alloc(), 32)? == 64);
     let text = nested(rt.alloc(), 33)?;
-    let refusal = Fault {
-        cause: Cause::Depth,
-        line: 33,
-    };
-    assert!(rt; is_refused(rt.alloc(), text.as_slice(), refusal));
+    assert!(rt; is_refused(rt.alloc(), text.as_slice(), Cause::Depth, 33));
     Ok(())
 }
 
 /// The instruction at a place, where there is one.
-fn instruction_of<'c, 'a, A: Allocator + Copy>(
-    circuit: &'c Circuit<'a, A>,
+fn instruction_of<'c, 'a>(
+    circuit: &'c Circuit<'a, Global>,
     place: usize,
-) -> Result<Instruction<'c, 'a>, Fail> {
+) -> Option<Instruction<'c, 'a>> {
     if place < circuit.len() {
         if let Item::Does(instruction) = circuit.item(place) {
-            return Ok(instruction);
+            return Some(instruction);
         }
     }
-    Err(Fail::from("another item"))
+    None
 }
 
 fn first_argument_is(found: Instruction<'_, '_>, text: &[u8], number: Option<u64>) -> bool {
@@ -128,27 +124,32 @@ fn coordinates_are(found: Instruction<'_, '_>, wanted: &[i64]) -> bool {
 const ARGUMENTS: &[u8] =
     b"DETECTOR( 1 , -2,-0,007)\nOBSERVABLE_INCLUDE( 01023 )\nQUBIT_COORDS(1.5)\nDETECTOR()";
 
-fn arguments_are_those_written<A: Allocator + Copy>(
-    rt: &impl Abort,
-    circuit: &Circuit<'_, A>,
-) -> Result<(), Fail> {
-    assert!(rt; circuit.len() == 4);
+/// No coordinates, since they aren't whole, and no number.
+fn are_unread(found: Instruction<'_, '_>) -> bool {
+    found.coordinates().is_none() & found.number().is_none()
+}
+
+fn arguments_are_those_written(circuit: &Circuit<'_, Global>) -> Option<bool> {
     let detector = instruction_of(circuit, 0)?;
-    assert!(rt; detector.first_argument() == Some(b"1".as_slice()));
-    assert!(rt; coordinates_are(detector, &[1, -2, 0, 7]));
     let observable = instruction_of(circuit, 1)?;
-    assert!(rt; first_argument_is(observable, b"01023", Some(1023)));
     let place = instruction_of(circuit, 2)?;
-    assert!(rt; place.coordinates().is_none() && place.number().is_none());
     let plain = instruction_of(circuit, 3)?;
-    assert!(rt; plain.first_argument().is_none() && coordinates_are(plain, &[]));
-    Ok(())
+    Some(
+        (circuit.len() == 4)
+            & (detector.first_argument() == Some(b"1".as_slice()))
+            & coordinates_are(detector, &[1, -2, 0, 7])
+            & first_argument_is(observable, b"01023", Some(1023))
+            & are_unread(place)
+            & plain.first_argument().is_none()
+            & coordinates_are(plain, &[]),
+    )
 }
 
 #[test]
 fn arguments_are_read(rt: HostRuntime) -> Result<(), Fail> {
     let circuit = parse(rt.alloc(), ARGUMENTS)?;
-    arguments_are_those_written(&rt, &circuit)
+    assert!(rt; arguments_are_those_written(&circuit) == Some(true));
+    Ok(())
 }
 
 #[test]

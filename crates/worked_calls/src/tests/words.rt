@@ -4,7 +4,7 @@ ghost use Rattle.pauli_word.specs.Words.{anticommute};
 
 use pauli_word::Letter::{self, I, X, Y, Z};
 use pauli_word::{Word, laws};
-use std::alloc::{AllocError, Allocator};
+use std::alloc::{AllocError, Global};
 use std::process::Abort;
 use std::test::Fail;
 
@@ -12,15 +12,11 @@ const PLUS: bool = false;
 
 const MINUS: bool = true;
 
-/// Two letters, and whether the sign is minus.
-type Signed = (bool, [Letter; 2]);
+/// Whether the sign is minus, and two letters.
+type Signed = (bool, Letter, Letter);
 
 /// The word of these letters and this sign.
-fn word_of<A: Allocator + Copy>(
-    alloc: A,
-    negative: bool,
-    letters: &[Letter],
-) -> Result<Word<A>, AllocError>
+fn word_of(alloc: Global, negative: bool, letters: &[Letter]) -> Result<Word<Global>, AllocError>
     ensures { IfOk result (λ w. length w.letters ≡ length letters.now) }
 {
     let mut word = Word::identity(alloc, letters.len())?;
@@ -33,115 +29,116 @@ fn word_of<A: Allocator + Copy>(
 
 /// Multiplies, and says that the word keeps its length.
 #[tactic(auto, using(pauli_word::proofs::WordLaws::product_lengths))]
-fn times<A: Allocator + Copy>(first: &mut Word<A>, second: &Word<A>) -> bool
+fn times(first: &mut Word<Global>, second: &Word<Global>) -> bool
     requires { length first.old.letters ≡ length second.now.letters }
     ensures { length first.new.letters ≡ length first.old.letters }
 {
     first.times(second)
 }
 
-/// Multiplies two words that have to commute: the product, and what `times` answers.
-fn multiplied<A: Allocator + Copy>(
+/// Multiplies two words that have to commute: whether `times` answers so, and the product has this sign and these letters.
+fn multiply_to(
     rt: &impl Abort,
-    word: &mut Word<A>,
-    other: &Word<A>,
-) -> (Signed, bool)
+    word: &mut Word<Global>,
+    other: &Word<Global>,
+    product: Signed,
+    brings_minus: bool,
+) -> bool
     requires word { length word.old.letters ≡ 2 }
     requires other { length other.now.letters ≡ 2 }
 {
     assert!(rt; word.commutes(other));
-    let brings_minus = times(word, other);
-    (
-        (word.sign(), [word.letter(0), word.letter(1)]),
-        brings_minus,
-    )
+    let brought_minus = times(word, other);
+    let (negative, first, second) = product;
+    (brought_minus == brings_minus)
+        & (word.sign() == negative)
+        & (word.letter(0) == first)
+        & (word.letter(1) == second)
 }
 
 /// Two words, their product, and whether the letters brought a factor -1.
 type Product = (Signed, Signed, Signed, bool);
 
-const PRODUCTS: [Product; 7] = [
+const PRODUCTS: &[Product] = &[
     // X Z = -i Y at each qubit, and (-i)(-i) = -1
-    ((PLUS, [X, X]), (PLUS, [Z, Z]), (MINUS, [Y, Y]), true),
+    ((PLUS, X, X), (PLUS, Z, Z), (MINUS, Y, Y), true),
     // Z X = i Y at each qubit, and i i = -1
-    ((PLUS, [Z, Z]), (PLUS, [X, X]), (MINUS, [Y, Y]), true),
+    ((PLUS, Z, Z), (PLUS, X, X), (MINUS, Y, Y), true),
     // X Y = i Z, Y X = -i Z, and i (-i) = 1
-    ((PLUS, [X, Y]), (PLUS, [Y, X]), (PLUS, [Z, Z]), false),
+    ((PLUS, X, Y), (PLUS, Y, X), (PLUS, Z, Z), false),
     // the signs of the words are no factor that the letters bring
-    ((MINUS, [X, I]), (PLUS, [X, I]), (MINUS, [I, I]), false),
-    ((PLUS, [X, I]), (MINUS, [X, I]), (MINUS, [I, I]), false),
-    ((MINUS, [X, X]), (PLUS, [Z, Z]), (PLUS, [Y, Y]), true),
+    ((MINUS, X, I), (PLUS, X, I), (MINUS, I, I), false),
+    ((PLUS, X, I), (MINUS, X, I), (MINUS, I, I), false),
+    ((MINUS, X, X), (PLUS, Z, Z), (PLUS, Y, Y), true),
     // letters at different qubits
-    ((PLUS, [Y, I]), (PLUS, [I, Z]), (PLUS, [Y, Z]), false),
+    ((PLUS, Y, I), (PLUS, I, Z), (PLUS, Y, Z), false),
 ];
 
-fn has_product<A: Allocator + Copy>(
+fn has_product_with(
     rt: &impl Abort,
-    alloc: A,
+    alloc: Global,
+    word: &mut Word<Global>,
     row: &Product,
-) -> Result<bool, AllocError> {
-    let (first, second, product, brings_minus) = *row;
-    let mut word = word_of(alloc, first.0, &first.1)?;
-    let other = word_of(alloc, second.0, &second.1)?;
-    Ok(multiplied(rt, &mut word, &other) == (product, brings_minus))
+) -> Result<bool, AllocError>
+    requires { length word.old.letters ≡ 2 }
+{
+    let (_, second, product, brings_minus) = *row;
+    let other = word_of(alloc, second.0, &[second.1, second.2])?;
+    Ok(multiply_to(rt, word, &other, product, brings_minus))
 }
 
-fn have_products<A: Allocator + Copy>(
-    rt: &impl Abort,
-    alloc: A,
-    rows: &[Product],
-) -> Result<bool, AllocError> {
-    for row in rows {
-        if !has_product(rt, alloc, row)? {
-            return Ok(false);
-        }
-    }
-    Ok(true)
+fn has_product(rt: &impl Abort, alloc: Global, row: &Product) -> Result<bool, AllocError> {
+    let (negative, first, second) = row.0;
+    let mut word = word_of(alloc, negative, &[first, second])?;
+    has_product_with(rt, alloc, &mut word, row)
 }
 
 #[test]
 fn products(rt: HostRuntime) -> Result<(), Fail> {
-    assert!(rt; have_products(&rt, rt.alloc(), &PRODUCTS)?);
+    for row in PRODUCTS {
+        assert!(rt; has_product(&rt, rt.alloc(), row)?, "{row:?}");
+    }
     Ok(())
 }
 
 /// The letters of two words, and whether these commute.
-const COMMUTING: [([Letter; 2], [Letter; 2], bool); 7] = [
-    ([X, X], [Z, Z], true),
-    ([X, I], [Z, I], false),
-    ([X, I], [I, Z], true),
-    ([X, Y], [Z, I], false),
-    ([X, Y], [X, Y], true),
-    ([I, I], [Y, Z], true),
-    ([X, Y], [Y, Y], false),
+type Pair = ((Letter, Letter), (Letter, Letter), bool);
+
+const COMMUTING: &[Pair] = &[
+    ((X, X), (Z, Z), true),
+    ((X, I), (Z, I), false),
+    ((X, I), (I, Z), true),
+    ((X, Y), (Z, I), false),
+    ((X, Y), (X, Y), true),
+    ((I, I), (Y, Z), true),
+    ((X, Y), (Y, Y), false),
 ];
 
-/// Whether two words commute, either way round.
-fn commute<A: Allocator + Copy>(first: &Word<A>, second: &Word<A>) -> [bool; 2]
-    requires { length first.now.letters ≡ length second.now.letters }
+/// Whether it commutes with the second word or not as it should, either way round.
+fn is_in_pair(alloc: Global, first: &Word<Global>, row: &Pair) -> Result<bool, AllocError>
+    requires { length first.now.letters ≡ 2 }
 {
-    [first.commutes(second), second.commutes(first)]
+    let (_, (one, other), wanted) = *row;
+    let second = word_of(alloc, MINUS, &[one, other])?;
+    Ok((first.commutes(&second) == wanted) & (second.commutes(first) == wanted))
+}
+
+fn is_pair(alloc: Global, row: &Pair) -> Result<bool, AllocError> {
+    let (one, other) = row.0;
+    let first = word_of(alloc, PLUS, &[one, other])?;
+    is_in_pair(alloc, &first, row)
 }
 
 #[test]
 fn commuting(rt: HostRuntime) -> Result<(), Fail> {
-    for (letters, other_letters, wanted) in COMMUTING {
-        let first = word_of(rt.alloc(), PLUS, &letters)?;
-        let second = word_of(rt.alloc(), MINUS, &other_letters)?;
-        assert!(rt;
-            commute(&first, &second) == [wanted, wanted],
-            "{letters:?} and {other_letters:?}"
-        );
+    for row in COMMUTING {
+        assert!(rt; is_pair(rt.alloc(), row)?, "{row:?}");
     }
     Ok(())
 }
 
 /// A long word with this letter at both ends, made of one that has none.
-fn long_word<A: Allocator + Copy>(
-    rt: &impl Abort,
-    alloc: A,
-    letter: Letter,
-) -> Result<Word<A>, AllocError>
+fn long_word(rt: &impl Abort, alloc: Global, letter: Letter) -> Result<Word<Global>, AllocError>
     ensures { IfOk result (λ w. length w.letters ≡ 4096) }
 {
     let mut word = Word::identity(alloc, 4096)?;
@@ -152,7 +149,7 @@ fn long_word<A: Allocator + Copy>(
 }
 
 /// Multiplies X at both ends by Z at both ends.
-fn ends_multiply<A: Allocator + Copy>(rt: &impl Abort, first: &mut Word<A>, second: &Word<A>)
+fn ends_multiply(rt: &impl Abort, first: &mut Word<Global>, second: &Word<Global>)
     requires first { length first.old.letters ≡ 4096 }
     requires second { length second.now.letters ≡ 4096 }
 {
@@ -173,7 +170,7 @@ fn ends_of_a_long_word(rt: HostRuntime) -> Result<(), Fail> {
 }
 
 /// Changes a word X Y Z with sign minus, and not its copy.
-fn changes_alone<A: Allocator + Copy>(rt: &impl Abort, original: &mut Word<A>, copy: &Word<A>)
+fn changes_alone(rt: &impl Abort, original: &mut Word<Global>, copy: &Word<Global>)
     requires original { length original.old.letters ≡ 3 }
     requires copy { length copy.now.letters ≡ 3 }
 {

@@ -1,311 +1,382 @@
 use step_model::Cause;
 
-/// A line of which one thing alone is wrong, and its refusal where no block is open.
-pub(super) const REFUSED: [(&'static [u8], Cause); 122] = [
-    (b"}", Cause::Block),
-    (b"M 0 }", Cause::Block),
-    (b"REPEAT 2", Cause::Block),
-    (b"REPEAT 2 {}", Cause::Block),
-    (b"REPEAT 2 { {", Cause::Block),
-    (b"REPEAT 2 { 3", Cause::Block),
-    (b"REPEAT({) 2 {", Cause::Block),
-    (b"REPEAT[x 2 {", Cause::Block),
-    (b"X_ERROR({) 0", Cause::Block),
-    (b"H 0 {", Cause::Block),
-    (b"{", Cause::Block),
-    (b"}{", Cause::Block),
-    (b"}}", Cause::Block),
-    (b"} 0", Cause::Block),
-    (b"}[x]", Cause::Block),
-    (b"[x]}", Cause::Block),
-    (b"FOO 0", Cause::Name),
-    (b"REPEA", Cause::Name),
-    (b"O", Cause::Name),
-    (b"[x] 0", Cause::Name),
-    (b"(1)", Cause::Name),
-    (b"H) 0", Cause::Name),
-    (b"HH 0", Cause::Name),
-    (b"DEPOLARIZE1(0.1) 0", Cause::LeftOut),
-    (b"H(0.1) 0", Cause::Arguments),
-    (b"H[x 0", Cause::Arguments),
-    (b"H[x {", Cause::Arguments),
-    (b"X_ERROR(0.1", Cause::Arguments),
-    (b"X_ERROR(0.1 # ) 0", Cause::Arguments),
-    (b"REPEAT(2 {", Cause::Arguments),
-    (b"X_ERROR 0", Cause::Arguments),
-    (b"X_ERROR() 0", Cause::Arguments),
-    (b"X_ERROR(0.1, 0.2) 0", Cause::Arguments),
-    (b"X_ERROR(,) 0", Cause::Arguments),
-    (b"M(0.1, 0.1) 0", Cause::Arguments),
-    (b"M(,) 0", Cause::Arguments),
-    (b"TICK(1)", Cause::Arguments),
-    (b"CX(0.1) 0 1", Cause::Arguments),
-    (b"R(0.1) 0", Cause::Arguments),
-    (b"DETECTOR(1.5)", Cause::Arguments),
-    (b"DETECTOR(1,)", Cause::Arguments),
-    (b"DETECTOR(--1)", Cause::Arguments),
-    (b"DETECTOR(+1)", Cause::Arguments),
-    (b"DETECTOR(1 2)", Cause::Arguments),
-    (b"SHIFT_COORDS(1e1)", Cause::Arguments),
-    (b"QUBIT_COORDS(1e1000) 0", Cause::Arguments),
-    (b"QUBIT_COORDS(.) 0", Cause::Arguments),
-    (b"QUBIT_COORDS(-) 0", Cause::Arguments),
-    (b"OBSERVABLE_INCLUDE", Cause::Arguments),
-    (b"OBSERVABLE_INCLUDE(-1)", Cause::Arguments),
-    (b"OBSERVABLE_INCLUDE(0, 1)", Cause::Arguments),
-    (b"REPEAT(1) 2 {", Cause::Arguments),
-    (b"X_ERROR(-0.1) 0", Cause::Probability),
-    (b"X_ERROR(x) 0", Cause::Probability),
-    (b"X_ERROR(-0) 0", Cause::Probability),
-    (b"X_ERROR(+0.1) 0", Cause::Probability),
-    (b"X_ERROR(0.1 0.2) 0", Cause::Probability),
-    (b"M(x) 0", Cause::Probability),
-    (b"MRX(2) 0", Cause::Probability),
-    (b"MPP(2) X0", Cause::Probability),
-    (b"E(1.1) X0", Cause::Probability),
-    (b"M X0", Cause::Target),
-    (b"M ! 0", Cause::Target),
-    (b"M !!0", Cause::Target),
-    (b"M !X0", Cause::Target),
-    (b"M -1", Cause::Target),
-    (b"H 0*1", Cause::Target),
-    (b"H 0x1", Cause::Target),
-    (b"H()[x] 0", Cause::Target),
-    (b"H !0", Cause::Target),
-    (b"R !0", Cause::Target),
-    (b"X_ERROR(0.1) rec[-1]", Cause::Target),
-    (b"E(0.1) !X0", Cause::Target),
-    (b"E(0.1) 0", Cause::Target),
-    (b"E(0.1) X0*X1", Cause::Target),
-    (b"DETECTOR 0", Cause::Target),
-    (b"DETECTOR rec[-0]", Cause::Target),
-    (b"DETECTOR rec[-00]", Cause::Target),
-    (b"DETECTOR REC[-1]", Cause::Target),
-    (b"DETECTOR rec[1]", Cause::Target),
-    (b"DETECTOR rec[-1", Cause::Target),
-    (b"OBSERVABLE_INCLUDE(0) X0", Cause::Target),
-    (b"QUBIT_COORDS(1) X0", Cause::Target),
-    (b"CX 0 rec[-1]", Cause::Target),
-    (b"CX 0 rec[-1] 1", Cause::Target),
-    (b"CY X0 1", Cause::Target),
-    (b"CZ rec[-1] rec[-1]", Cause::Target),
-    (b"XCZ 0 rec[-1]", Cause::Target),
-    (b"SWAP rec[-1] 0", Cause::Target),
-    (b"MPP 0", Cause::Target),
-    (b"MPP X0*", Cause::Target),
-    (b"MPP *X0", Cause::Target),
-    (b"MPP X0**X1", Cause::Target),
-    (b"MPP X0*4", Cause::Target),
-    (b"MPP ! X0", Cause::Target),
-    (b"MPP X0 !*X1", Cause::Target),
-    (b"REPEAT x {", Cause::Target),
-    (b"REPEAT !2 {", Cause::Target),
-    (b"CX 0", Cause::Count),
-    (b"CX 0 1 2", Cause::Count),
-    (b"CX rec[-1]", Cause::Count),
-    (b"CX rec[-1] 0 rec[-1]", Cause::Count),
-    (b"CZ 0", Cause::Count),
-    (b"SWAP 1", Cause::Count),
-    (b"TICK 0", Cause::Count),
-    (b"TICK rec[-0]", Cause::Count),
-    (b"TICK 4096", Cause::Count),
-    (b"SHIFT_COORDS(1) 0", Cause::Count),
-    (b"REPEAT 2 3 {", Cause::Count),
-    (b"REPEAT {", Cause::Count),
-    (b"REPEAT{", Cause::Count),
-    (b"CX 0 0", Cause::SameQubit),
-    (b"CZ 0 1 2 2", Cause::SameQubit),
-    (b"SWAP 0 00", Cause::SameQubit),
-    (b"XCZ 3 3", Cause::SameQubit),
-    (b"MPP X0*X0", Cause::SameQubit),
-    (b"MPP X0*Y0", Cause::SameQubit),
-    (b"MPP X0*Z1*X0", Cause::SameQubit),
-    (b"MPP X0*X1 X2*X3*Y2", Cause::SameQubit),
-    (b"MPP X0*!X0", Cause::SameQubit),
-    (b"REPEAT 0 {", Cause::RepeatZero),
-    (b"REPEAT 00 {", Cause::RepeatZero),
+/// Lines, and the refusal that each of them has.
+pub(super) type Refused = (Cause, &'static str);
+
+/// Lines of which one thing alone is wrong, and their refusals where no block is open.
+pub(super) const REFUSED: &[Refused] = &[
+    (
+        Cause::Block,
+        "\
+}
+M 0 }
+REPEAT 2
+REPEAT 2 {}
+REPEAT 2 { {
+REPEAT 2 { 3
+REPEAT({) 2 {
+REPEAT[x 2 {
+X_ERROR({) 0
+H 0 {
+{
+}{
+}}
+} 0
+}[x]
+[x]}
+",
+    ),
+    (
+        Cause::Name,
+        "\
+FOO 0
+REPEA
+O
+[x] 0
+(1)
+H) 0
+HH 0
+",
+    ),
+    (
+        Cause::LeftOut,
+        "\
+DEPOLARIZE1(0.1) 0
+",
+    ),
+    (
+        Cause::Arguments,
+        "\
+H(0.1) 0
+H[x 0
+H[x {
+X_ERROR(0.1
+X_ERROR(0.1 # ) 0
+REPEAT(2 {
+X_ERROR 0
+X_ERROR() 0
+X_ERROR(0.1, 0.2) 0
+X_ERROR(,) 0
+M(0.1, 0.1) 0
+M(,) 0
+TICK(1)
+CX(0.1) 0 1
+R(0.1) 0
+DETECTOR(1.5)
+DETECTOR(1,)
+DETECTOR(--1)
+DETECTOR(+1)
+DETECTOR(1 2)
+SHIFT_COORDS(1e1)
+QUBIT_COORDS(1e1000) 0
+QUBIT_COORDS(.) 0
+QUBIT_COORDS(-) 0
+OBSERVABLE_INCLUDE
+OBSERVABLE_INCLUDE(-1)
+OBSERVABLE_INCLUDE(0, 1)
+REPEAT(1) 2 {
+",
+    ),
+    (
+        Cause::Probability,
+        "\
+X_ERROR(-0.1) 0
+X_ERROR(x) 0
+X_ERROR(-0) 0
+X_ERROR(+0.1) 0
+X_ERROR(0.1 0.2) 0
+M(x) 0
+MRX(2) 0
+MPP(2) X0
+E(1.1) X0
+",
+    ),
+    (
+        Cause::Target,
+        "\
+M X0
+M ! 0
+M !!0
+M !X0
+M -1
+H 0*1
+H 0x1
+H()[x] 0
+H !0
+R !0
+X_ERROR(0.1) rec[-1]
+E(0.1) !X0
+E(0.1) 0
+E(0.1) X0*X1
+DETECTOR 0
+DETECTOR rec[-0]
+DETECTOR rec[-00]
+DETECTOR REC[-1]
+DETECTOR rec[1]
+DETECTOR rec[-1
+OBSERVABLE_INCLUDE(0) X0
+QUBIT_COORDS(1) X0
+CX 0 rec[-1]
+CX 0 rec[-1] 1
+CY X0 1
+CZ rec[-1] rec[-1]
+XCZ 0 rec[-1]
+SWAP rec[-1] 0
+MPP 0
+MPP X0*
+MPP *X0
+MPP X0**X1
+MPP X0*4
+MPP ! X0
+MPP X0 !*X1
+REPEAT x {
+REPEAT !2 {
+",
+    ),
+    (
+        Cause::Count,
+        "\
+CX 0
+CX 0 1 2
+CX rec[-1]
+CX rec[-1] 0 rec[-1]
+CZ 0
+SWAP 1
+TICK 0
+TICK rec[-0]
+TICK 4096
+SHIFT_COORDS(1) 0
+REPEAT 2 3 {
+REPEAT {
+REPEAT{
+",
+    ),
+    (
+        Cause::SameQubit,
+        "\
+CX 0 0
+CZ 0 1 2 2
+SWAP 0 00
+XCZ 3 3
+MPP X0*X0
+MPP X0*Y0
+MPP X0*Z1*X0
+MPP X0*X1 X2*X3*Y2
+MPP X0*!X0
+",
+    ),
+    (
+        Cause::RepeatZero,
+        "\
+REPEAT 0 {
+REPEAT 00 {
+",
+    ),
 ];
 
-/// A line just beyond a limit, and its refusal.
-pub(super) const BEYOND_LIMITS: [(&'static [u8], Cause); 21] = [
-    (b"H 4096", Cause::Number),
-    (b"M !4096", Cause::Number),
-    (b"E(0.1) X4096", Cause::Number),
-    (b"MPP X0*Z4096", Cause::Number),
-    (b"CX rec[-1] 4096", Cause::Number),
-    (b"QUBIT_COORDS(1.5) 4096", Cause::Number),
-    (b"DETECTOR rec[-1000000000000000000]", Cause::Number),
-    (b"CX rec[-1000000000000000000] 0", Cause::Number),
-    (b"DETECTOR(1000000001)", Cause::Number),
-    (b"DETECTOR(-1000000001)", Cause::Number),
-    (b"SHIFT_COORDS(0, 1000000001)", Cause::Number),
-    (b"OBSERVABLE_INCLUDE(1000000000000000000)", Cause::Number),
-    (b"REPEAT 1000000000000000000 {", Cause::Number),
+/// Lines just beyond a limit.
+pub(super) const BEYOND_LIMITS: &[Refused] = &[
     (
-        b"H 99999999999999999999999999999999999999999",
         Cause::Number,
+        "\
+H 4096
+M !4096
+E(0.1) X4096
+MPP X0*Z4096
+CX rec[-1] 4096
+QUBIT_COORDS(1.5) 4096
+DETECTOR rec[-1000000000000000000]
+CX rec[-1000000000000000000] 0
+DETECTOR(1000000001)
+DETECTOR(-1000000001)
+SHIFT_COORDS(0, 1000000001)
+OBSERVABLE_INCLUDE(1000000000000000000)
+REPEAT 1000000000000000000 {
+H 99999999999999999999999999999999999999999
+",
     ),
-    (b"X_ERROR(1.0000001) 0", Cause::Probability),
-    (b"X_ERROR(1e-39) 0", Cause::Probability),
-    (b"X_ERROR(0.1234567890123456789) 0", Cause::Probability),
-    (b"X_ERROR(0e9999) 0", Cause::Probability),
     (
-        b"DETECTOR(1, 1, 1, 1, 1, 1, 1, 1, 1, 1, 1, 1, 1, 1, 1, 1, 1)",
-        Cause::Arguments,
+        Cause::Probability,
+        "\
+X_ERROR(1.0000001) 0
+X_ERROR(1e-39) 0
+X_ERROR(0.1234567890123456789) 0
+X_ERROR(0e9999) 0
+",
     ),
     (
-        b"SHIFT_COORDS(1, 1, 1, 1, 1, 1, 1, 1, 1, 1, 1, 1, 1, 1, 1, 1, 1)",
         Cause::Arguments,
+        "\
+DETECTOR(1, 1, 1, 1, 1, 1, 1, 1, 1, 1, 1, 1, 1, 1, 1, 1, 1)
+SHIFT_COORDS(1, 1, 1, 1, 1, 1, 1, 1, 1, 1, 1, 1, 1, 1, 1, 1, 1)
+QUBIT_COORDS(1, 1, 1, 1, 1, 1, 1, 1, 1, 1, 1, 1, 1, 1, 1, 1, 1) 0
+",
+    ),
+];
+
+/// Lines to which two refusals or more apply, and the one that comes first.
+pub(super) const REFUSED_TWICE: &[Refused] = &[
+    (
+        Cause::Block,
+        "\
+FOO {
+MPAD {
+H( {
+X_ERROR(2) 0 {
+M X0 }
+H 4096 {
+TICK 0 {
+CX 0 0 {
+REPEAT 0
+",
     ),
     (
-        b"QUBIT_COORDS(1, 1, 1, 1, 1, 1, 1, 1, 1, 1, 1, 1, 1, 1, 1, 1, 1) 0",
+        Cause::Name,
+        "\
+FOO(
+FOO(0.1
+[x {
+",
+    ),
+    (
+        Cause::LeftOut,
+        "\
+MPAD(
+DEPOLARIZE1(0.1
+DEPOLARIZE1(2) X0 4096
+",
+    ),
+    (
         Cause::Arguments,
+        "\
+X_ERROR(2, 3) 0
+X_ERROR(2
+H(0.1) X0
+DETECTOR(1.5, 1000000001)
+DETECTOR(1000000001, x)
+H(1) 4096
+TICK(1) 0
+CX(0.1) 0
+CX(0.1) 0 0
+REPEAT(2) 0 {
+",
+    ),
+    (
+        Cause::Probability,
+        "\
+X_ERROR(2) X0
+X_ERROR(2) 4096
+MPP(2) X0*X0
+",
+    ),
+    (
+        Cause::Target,
+        "\
+CX 4096 X0
+DETECTOR(1000000001) 0
+CX 0 1 X2
+CX 0 0 X1 1
+MPP X0*X0 1
+REPEAT x y {
+REPEAT 0 x {
+",
+    ),
+    (
+        Cause::Number,
+        "\
+CX 0 4096 1
+CX 4096 4096
+MPP X4096*X4096
+REPEAT 0 1000000000000000000 {
+",
+    ),
+    (
+        Cause::Count,
+        "\
+CX 0 0 1
+REPEAT 0 3 {
+",
     ),
 ];
 
-/// A line to which two refusals or more apply, and the one that comes first.
-pub(super) const REFUSED_TWICE: [(&'static [u8], Cause); 41] = [
-    (b"FOO {", Cause::Block),
-    (b"MPAD {", Cause::Block),
-    (b"H( {", Cause::Block),
-    (b"X_ERROR(2) 0 {", Cause::Block),
-    (b"M X0 }", Cause::Block),
-    (b"H 4096 {", Cause::Block),
-    (b"TICK 0 {", Cause::Block),
-    (b"CX 0 0 {", Cause::Block),
-    (b"REPEAT 0", Cause::Block),
-    (b"FOO(", Cause::Name),
-    (b"FOO(0.1", Cause::Name),
-    (b"[x {", Cause::Name),
-    (b"MPAD(", Cause::LeftOut),
-    (b"DEPOLARIZE1(0.1", Cause::LeftOut),
-    (b"DEPOLARIZE1(2) X0 4096", Cause::LeftOut),
-    (b"X_ERROR(2, 3) 0", Cause::Arguments),
-    (b"X_ERROR(2", Cause::Arguments),
-    (b"H(0.1) X0", Cause::Arguments),
-    (b"DETECTOR(1.5, 1000000001)", Cause::Arguments),
-    (b"DETECTOR(1000000001, x)", Cause::Arguments),
-    (b"H(1) 4096", Cause::Arguments),
-    (b"TICK(1) 0", Cause::Arguments),
-    (b"CX(0.1) 0", Cause::Arguments),
-    (b"CX(0.1) 0 0", Cause::Arguments),
-    (b"REPEAT(2) 0 {", Cause::Arguments),
-    (b"X_ERROR(2) X0", Cause::Probability),
-    (b"X_ERROR(2) 4096", Cause::Probability),
-    (b"MPP(2) X0*X0", Cause::Probability),
-    (b"CX 4096 X0", Cause::Target),
-    (b"DETECTOR(1000000001) 0", Cause::Target),
-    (b"CX 0 1 X2", Cause::Target),
-    (b"CX 0 0 X1 1", Cause::Target),
-    (b"MPP X0*X0 1", Cause::Target),
-    (b"REPEAT x y {", Cause::Target),
-    (b"REPEAT 0 x {", Cause::Target),
-    (b"CX 0 4096 1", Cause::Number),
-    (b"CX 4096 4096", Cause::Number),
-    (b"MPP X4096*X4096", Cause::Number),
-    (b"REPEAT 0 1000000000000000000 {", Cause::Number),
-    (b"CX 0 0 1", Cause::Count),
-    (b"REPEAT 0 3 {", Cause::Count),
-];
-
-/// A line, and its refusal where as many blocks are open as may be.
-pub(super) const REFUSED_DEEP: [(&'static [u8], Cause); 7] = [
-    (b"REPEAT 2", Cause::Block),
-    (b"REPEAT(2) 2 {", Cause::Arguments),
-    (b"REPEAT x {", Cause::Target),
-    (b"REPEAT 1000000000000000000 {", Cause::Number),
-    (b"REPEAT 2 3 {", Cause::Count),
-    (b"REPEAT 0 {", Cause::RepeatZero),
-    (b"REPEAT 1 {", Cause::Depth),
-];
-
-/// A line that is an instruction and is taken.
-pub(super) const TAKEN: [&'static [u8]; 45] = [
-    b"H",
-    b"H 4095",
-    b"h 005 0",
-    b"H 0000000000000000000000000000000000000005",
-    b"M() 0",
-    b"H( ) 0",
-    b"M( 0.1 ) 0",
-    b"M !4095 0",
-    b"MR(0) !0",
-    b"mx[x#{y] 0 # note",
-    b"X_ERROR(0e999) 0",
-    b"X_ERROR(1.000) 0",
-    b"X_ERROR(1e-38) 0",
-    b"X_ERROR(1e-038) 0",
-    b"X_ERROR(10e-1) 0",
-    b"X_ERROR(0.123456789012345678) 0",
-    b"X_ERROR(1) 0 0",
-    b"E(0.1)",
-    b"E(0.1) X0 X0 z4095",
-    b"DETECTOR",
-    b"DETECTOR()",
-    b"DETECTOR(-0, 007)",
-    b"DETECTOR(1000000000, -1000000000) rec[-01]",
-    b"DETECTOR rec[-999999999999999999] rec[-999999999999999999]",
-    b"DETECTOR(1, 1, 1, 1, 1, 1, 1, 1, 1, 1, 1, 1, 1, 1, 1, 1)",
-    b"OBSERVABLE_INCLUDE(01023)",
-    b"OBSERVABLE_INCLUDE(999999999999999999) rec[-1]",
-    b"QUBIT_COORDS(1.5, -.5e999) 0",
-    b"QUBIT_COORDS",
-    b"SHIFT_COORDS(1, 1, 1, 1, 1, 1, 1, 1, 1, 1, 1, 1, 1, 1, 1, 1)",
-    b"SHIFT_COORDS",
-    b"TICK",
-    b"TICK # x",
-    b"CX",
-    b"CX 0 1 1 0",
-    b"CX rec[-1] 0 1 2",
-    b"cy rec[-1] 0",
-    b"CZ rec[-1] 0 0 rec[-1]",
-    b"MPP",
-    b"MPP X0",
-    b"MPP X0*X1",
-    b"MPP X0 *X1* Z2 Z3",
-    b"MPP X0 X0",
-    b"MPP !X0*!z1 x0",
-    b"MPP(0.1) Z0*Z1",
-];
-
-/// A line that opens a block, and how often that is repeated.
-pub(super) const OPENING: [(&'static [u8], u64); 5] = [
-    (b"REPEAT 2{", 2),
-    (b"REPEAT 2 {# x", 2),
-    (b"repeat[x] 007 {", 7),
-    (b"REPEAT 999999999999999999 {", 999999999999999999),
-    (b"REPEAT() 1 { ", 1),
+/// Lines where as many blocks are open as may be.
+pub(super) const REFUSED_DEEP: &[Refused] = &[
+    (
+        Cause::Block,
+        "\
+REPEAT 2
+",
+    ),
+    (
+        Cause::Arguments,
+        "\
+REPEAT(2) 2 {
+",
+    ),
+    (
+        Cause::Target,
+        "\
+REPEAT x {
+",
+    ),
+    (
+        Cause::Number,
+        "\
+REPEAT 1000000000000000000 {
+",
+    ),
+    (
+        Cause::Count,
+        "\
+REPEAT 2 3 {
+",
+    ),
+    (
+        Cause::RepeatZero,
+        "\
+REPEAT 0 {
+",
+    ),
+    (
+        Cause::Depth,
+        "\
+REPEAT 1 {
+",
+    ),
 ];
 
 /// Each name that is known and left out, in capitals and small letters.
-pub(super) const LEFT_OUT: [&'static [u8]; 29] = [
-    b"Depolarize1",
-    b"depolarize2",
-    b"PAULI_channel_1",
-    b"pauli_channel_2",
-    b"HERALDED_ERASE",
-    b"heralded_Pauli_Channel_1",
-    b"Else_Correlated_Error",
-    b"I_error",
-    b"ii",
-    b"II_Error",
-    b"mxx",
-    b"MYy",
-    b"mZZ",
-    b"spp",
-    b"Spp_dag",
-    b"mpad",
-    b"CXswap",
-    b"SWAPcx",
-    b"czswap",
-    b"swapCZ",
-    b"h_nxy",
-    b"H_nXZ",
-    b"H_NyZ",
-    b"c_nxyz",
-    b"C_xNyZ",
-    b"c_XYNZ",
-    b"C_nzyx",
-    b"c_znyx",
-    b"C_zyNX",
-];
+pub(super) const LEFT_OUT: &[Refused] = &[(
+    Cause::LeftOut,
+    "\
+Depolarize1
+depolarize2
+PAULI_channel_1
+pauli_channel_2
+HERALDED_ERASE
+heralded_Pauli_Channel_1
+Else_Correlated_Error
+I_error
+ii
+II_Error
+mxx
+MYy
+mZZ
+spp
+Spp_dag
+mpad
+CXswap
+SWAPcx
+czswap
+swapCZ
+h_nxy
+H_nXZ
+H_NyZ
+c_nxyz
+C_xNyZ
+c_XYNZ
+C_nzyx
+c_znyx
+C_zyNX
+",
+)];

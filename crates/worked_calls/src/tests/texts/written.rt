@@ -40,7 +40,7 @@ const H: Operation = Operation::Applies(Gate::H);
 
 const M: Operation = Operation::Measures(Letter::Z);
 
-pub(crate) const WRITTEN: [Written; 12] = [
+pub(crate) const WRITTEN: &[Written] = &[
     (b"", &[]),
     (b"# nothing\n\n \t\r\n#", &[]),
     (b"H 0", &[Wanted::Does(1, H, b"", &[Named::Plain(0)])]),
@@ -151,7 +151,7 @@ pub(crate) const WRITTEN: [Written; 12] = [
 ];
 
 /// Texts, and why and by which line each is refused.
-pub(crate) const REFUSED: [(&'static [u8], Cause, u64); 18] = [
+pub(crate) const REFUSED: &[(&[u8], Cause, u64)] = &[
     (b"H 0\nFOO 0\nBAR 0", Cause::Name, 2),
     (b"# a\n\nMPAD 0\nFOO", Cause::LeftOut, 3),
     (b"H 0 \x7f\n}", Cause::Byte, 1),

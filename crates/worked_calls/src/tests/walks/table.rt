@@ -158,6 +158,8 @@ const WAS_RESET: Step = Step::Collapse {
 
 pub const MEASURE: Piece = measure!(None);
 
+pub const TWICE: &[Piece] = &[MEASURE, MEASURE];
+
 /// Three kept faults, two products, two detectors and three observables, on two qubits.
 pub const READ: Lists<'static> = Lists {
     entries: &[

@@ -2,4 +2,4 @@ use Rattle.std.proofs.Common.{◌≡◌, length}
 use Rattle.worked_calls.proofs.tests.words.word_of.Given as goal
 
 abbrev pub invariant-loop-qubit : goal.invariant-loop-qubit
-invariant-loop-qubit g l = length l.word.letters ≡ length l.letters
+invariant-loop-qubit l = length l.word.letters ≡ length l.letters
