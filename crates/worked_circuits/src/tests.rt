@@ -10,19 +10,31 @@ mod states;
 mod table;
 mod three_steps;
 
+use programs::Program;
+use programs::by_hand::{Lists, Piece, program_of};
 use std::alloc::{AllocError, Global};
-use std::process::Abort;
 
-/// A digit for each truth value.
-fn digits(alloc: Global, values: &[bool]) -> Result<String, AllocError> {
-    let mut text = String::new(alloc);
-    for value in values {
-        text.push(if *value { '1' } else { '0' })?;
-    }
-    Ok(text)
+/// The program of these pieces and lists, where they make one. The tests that take it need nothing of what is proved of it.
+fn made_program<'a>(
+    alloc: Global,
+    qubits: u32,
+    pieces: &[Piece],
+    lists: Lists<'a>,
+) -> Result<Option<Program<'a, Global>>, AllocError> {
+    program_of(alloc, qubits, pieces, lists)
 }
 
-/// Two texts are the same, of a circuit with this name.
-fn check_same(rt: &impl Abort, found: &str, expected: &str, circuit: &str) {
-    assert_eq!(rt; found, expected, "{circuit}");
+/// Whether these truth values are written as these digits.
+fn are_digits(values: &[bool], digits: &str) -> bool {
+    let digits = digits.as_bytes();
+    for (number, value) in values.iter().enumerate() {
+        if digits.get(number).copied() != Some(digit(*value)) {
+            return false;
+        }
+    }
+    values.len() == digits.len()
+}
+
+fn digit(value: bool) -> u8 {
+    if value { b'1' } else { b'0' }
 }

@@ -20,11 +20,22 @@ pub(super) fn finding_of(
     drawing: &mut Drawing,
     tally: &mut Tally,
 ) -> Result<Finding, Fault> {
+    let sparse = random_by_sparse(&alloc, program)?;
     let analysed = analyse(alloc, program, dense_words(alloc, program)?)?;
-    if random_of(&analysed) != random_by_sparse(&alloc, program)? {
+    if random_of(&analysed) != sparse {
         return Ok(Finding::Wrong("the trackers differ"));
     }
-    match &analysed {
+    answer_holds(alloc, program, &analysed, drawing, tally)
+}
+
+fn answer_holds(
+    alloc: Global,
+    program: &Program<'_, Global>,
+    analysed: &Analysed<'_, Global>,
+    drawing: &mut Drawing,
+    tally: &mut Tally,
+) -> Result<Finding, Fault> {
+    match analysed {
         Analysed::Model(model) => model_holds(alloc, program, model, drawing, tally),
         Analysed::Random { which, place } => {
             random_holds(alloc, program, (*which, *place), drawing)

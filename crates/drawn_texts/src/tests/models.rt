@@ -91,6 +91,16 @@ fn sums_hold(
 
 fn is_served(alloc: Global, model: &Model<'_, Global>, drawing: &Drawing) -> Result<bool, Fault> {
     let mut sink = MemorySink::new(alloc);
-    dem_text::write(model, &mut sink)?;
+    is_written(alloc, model, drawing, &mut sink)
+}
+
+/// Whether the model is written as it is served.
+fn is_written(
+    alloc: Global,
+    model: &Model<'_, Global>,
+    drawing: &Drawing,
+    sink: &mut MemorySink<Global>,
+) -> Result<bool, Fault> {
+    dem_text::write(model, sink)?;
     serves_alike(alloc, drawing, sink.bytes(), Status::Done)
 }

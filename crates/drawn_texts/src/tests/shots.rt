@@ -63,11 +63,21 @@ fn shots_of_drawn_texts(rt: HostRuntime) -> Result<(), Fail> {
 /// Whether the lines that are served of a text are those of its shots.
 fn shots_hold(alloc: Global, text: &[u8], shown: Shown, seed: u64) -> Result<bool, Fault> {
     let mut sink = MemorySink::new(alloc);
+    are_served(alloc, text, shown, seed, &mut sink)
+}
+
+fn are_served(
+    alloc: Global,
+    text: &[u8],
+    shown: Shown,
+    seed: u64,
+    sink: &mut MemorySink<Global>,
+) -> Result<bool, Fault> {
     let end = serve(
         alloc,
         &shown.order(seed),
         &mut MemorySource::new(text),
-        &mut sink,
+        sink,
     )?;
     Ok(end == Status::Done && lines_hold(alloc, text, shown, seed, sink.bytes())?)
 }
@@ -93,16 +103,27 @@ fn lines_are(
 ) -> Result<bool, Fault> {
     let mut shot = Shot::new(alloc, program)?;
     let mut rng = Pcg64::seed_from_u64(seed);
-    let mut left = written;
+    let mut left = Some(written);
     for _ in 0..SHOTS {
         shot.draw(&mut rng);
-        let line = line_of(alloc, program, shown, (shot.faults(), shot.coins()))?;
-        let Some(later) = left.strip_prefix(line.as_slice()) else {
-            return Ok(false);
-        };
-        left = later;
+        left = without_line(alloc, program, shown, (shot.faults(), shot.coins()), left)?;
     }
-    Ok(left.is_empty())
+    Ok(left == Some(b"".as_slice()))
+}
+
+/// What stands behind the line of a shot, where it stands in front.
+fn without_line<'w>(
+    alloc: Global,
+    program: &Program<'_, Global>,
+    shown: Shown,
+    given: (&[bool], &[bool]),
+    written: Option<&'w [u8]>,
+) -> Result<Option<&'w [u8]>, Fault> {
+    let line = line_of(alloc, program, shown, given)?;
+    Ok(match written {
+        Some(written) => written.strip_prefix(line.as_slice()),
+        None => None,
+    })
 }
 
 /// What is shown of the run with these faults and coins.

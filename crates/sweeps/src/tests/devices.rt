@@ -3,7 +3,6 @@ use super::rows::{ROWS, Row};
 use engine::{Status, serve};
 use slow_ends::{SlowSink, SlowSource};
 use std::alloc::Global;
-use std::process::Abort;
 use step_model::Fault;
 
 /// Serves a row byte by byte, from a source and to a sink that fail at these calls.
@@ -19,19 +18,14 @@ fn served_slowly(
     (end, source, sink)
 }
 
-/// A failed read is told, and nothing is read or written after it.
-fn check_read(rt: &impl Abort, alloc: Global, row: &Row, call: u64) {
+/// Whether a failed read is told, and nothing is read or written after it.
+fn stops_at_read(alloc: Global, row: &Row, call: u64) -> bool {
     let (end, source, sink) = served_slowly(alloc, row, call, 0);
-    assert!(rt; end == Err(Fault::READ), "read {call} of {}", row.output);
-    assert!(rt;
-        source.calls() == call && sink.calls() == 0,
-        "read {call} of {}",
-        row.output
-    );
+    end == Err(Fault::READ) && source.calls() == call && sink.calls() == 0
 }
 
-/// A failed write is told, what went out is a beginning, and nothing is written after it. With no failure all goes out.
-fn check_write(rt: &impl Abort, alloc: Global, row: &Row, call: u64) {
+/// Whether a failed write is told, what went out is a beginning, and nothing is written after it. With no failure all goes out.
+fn stops_at_write(alloc: Global, row: &Row, call: u64) -> bool {
     let (end, _source, sink) = served_slowly(alloc, row, 0, call);
     let length = row.length();
     let (wanted, calls, taken) = if 0 < call && call <= length {
@@ -39,14 +33,10 @@ fn check_write(rt: &impl Abort, alloc: Global, row: &Row, call: u64) {
     } else {
         (Ok(row.status), length, length)
     };
-    let begins = row.begins_with(sink.bytes());
-    assert!(rt; end == wanted && begins, "write {call} of {}", row.output);
-    assert!(rt; sink.calls() == calls, "write {call} of {}", row.output);
-    assert!(rt;
-        sink.bytes().len() as u64 == taken,
-        "write {call} of {}",
-        row.output
-    );
+    end == wanted
+        && sink.calls() == calls
+        && sink.bytes().len() as u64 == taken
+        && row.begins_with(sink.bytes())
 }
 
 #[test]
@@ -54,7 +44,8 @@ fn every_read_fails_once(rt: HostRuntime) {
     for row in ROWS {
         // The last call finds the end.
         for call in 1..=row.text.len() as u64 + 1 {
-            check_read(&rt, rt.alloc(), row, call);
+            let stops = stops_at_read(rt.alloc(), row, call);
+            assert!(rt; stops, "read {call} of {}", row.output);
         }
     }
 }
@@ -66,9 +57,9 @@ fn every_write_fails_once(rt: HostRuntime) {
         let length = row.length();
         let stride = if length < 1_000 { 1 } else { length / 40 };
         for call in 0..=length {
-            if call % stride == 0 || call == length {
-                check_write(&rt, rt.alloc(), row, call);
-            }
+            let is_tried = call % stride == 0 || call == length;
+            let stops = !is_tried || stops_at_write(rt.alloc(), row, call);
+            assert!(rt; stops, "write {call} of {}", row.output);
         }
     }
 }

@@ -2,76 +2,89 @@
 use super::rows::{ROWS, Row};
 use engine::{Status, serve};
 use scarce_memory::Scarce;
-use std::alloc::{AllocError, Global};
-use std::process::Abort;
-use std::test::Fail;
+use std::alloc::Global;
 use step_model::{Fault, MemorySink, MemorySource};
 
 /// No row takes so many growths.
 const MOST: u64 = 10_000;
 
-/// What is written where this memory serves a row, and how that ends.
-fn served(
-    alloc: Global,
-    memory: &Scarce<Global>,
-    row: &Row,
-) -> Result<(Vec<u8>, Result<Status, Fault>), AllocError> {
+/// How a row ends, and whether nothing is written or all of it.
+#[derive(Clone, Copy)]
+struct Outcome {
+    end: Result<Status, Fault>,
+    is_empty: bool,
+    is_whole: bool,
+}
+
+/// What comes of a row of which one growth is refused: that growth is never asked for, or all is done without it, or memory
+/// is told to have run out.
+#[derive(Clone, Copy)]
+enum Growth {
+    Unasked,
+    Spared,
+    Told,
+    Wrong,
+}
+
+/// Where this memory serves a row.
+fn outcome_of(alloc: Global, memory: &Scarce<Global>, row: &Row) -> Outcome {
     let mut sink = MemorySink::new(alloc);
     let mut source = MemorySource::new(row.text.as_bytes());
     let end = serve(memory, &row.order, &mut source, &mut sink);
-    Ok((Vec::from_slice(alloc, sink.bytes())?, end))
+    Outcome {
+        end,
+        is_empty: sink.bytes().is_empty(),
+        is_whole: row.is_written_as(sink.bytes()),
+    }
 }
 
-/// Serves a row with one growth refused: none where it doesn't come to that growth, and else whether all was done without it.
-fn check_growth(
-    rt: &impl Abort,
-    alloc: Global,
-    memory: &Scarce<Global>,
-    row: &Row,
-    growth: u64,
-) -> Result<Option<bool>, Fail> {
+/// Serves a row with one growth refused. All memory is had before the first byte goes out, and given back.
+fn growth_of(alloc: Global, memory: &Scarce<Global>, row: &Row, growth: u64) -> Growth {
     memory.refuse(growth);
-    let (written, end) = served(alloc, memory, row)?;
+    let outcome = outcome_of(alloc, memory, row);
     let refused = memory.refusals() == 1;
-    let done = end == Ok(row.status);
-    let wants = refused && end == Err(Fault::MEMORY);
-    assert!(rt; done || wants, "growth {growth} of {}", row.output);
-    // All memory is had before the first byte goes out.
-    let as_asked = if wants {
-        written.is_empty()
+    let done = outcome.end == Ok(row.status) && outcome.is_whole;
+    let told = refused && outcome.end == Err(Fault::MEMORY) && outcome.is_empty;
+    if memory.held() != 0 {
+        Growth::Wrong
+    } else if told {
+        Growth::Told
+    } else if !done {
+        Growth::Wrong
+    } else if refused {
+        Growth::Spared
     } else {
-        row.is_written_as(written.as_slice())
-    };
-    assert!(rt; as_asked, "growth {growth} of {}", row.output);
-    assert!(rt; memory.held() == 0, "growth {growth} of {}", row.output);
-    Ok(refused.then_some(done))
+        Growth::Unasked
+    }
 }
 
-/// How many growths a row takes, each of which is refused in turn, and how many of them it did without.
-fn growths_of(rt: &impl Abort, alloc: Global, row: &Row) -> Result<(u64, u64), Fail> {
+/// The first growth at which a row goes wrong, each being refused in turn; behind the last, where their numbers are.
+fn wrong_growth(alloc: Global, row: &Row) -> Option<u64> {
     let memory = Scarce::new(alloc);
+    wrong_growth_in(alloc, &memory, row)
+}
+
+fn wrong_growth_in(alloc: Global, memory: &Scarce<Global>, row: &Row) -> Option<u64> {
     let mut spared = 0u64;
     for growth in 1..MOST {
-        match check_growth(rt, alloc, &memory, row, growth)? {
-            None => return Ok((growth - 1, spared)),
-            Some(true) => spared = spared.saturating_add(1),
-            Some(false) => {}
+        match growth_of(alloc, memory, row, growth) {
+            Growth::Unasked => {
+                // The text is read, and something is made of it.
+                let is_right = 2 < growth && spared == row.spared;
+                return if is_right { None } else { Some(growth) };
+            }
+            Growth::Spared => spared = spared.saturating_add(1),
+            Growth::Told => {}
+            Growth::Wrong => return Some(growth),
         }
     }
-    Ok((MOST, spared))
+    Some(MOST)
 }
 
 #[test]
-fn every_growth_is_refused_once(rt: HostRuntime) -> Result<(), Fail> {
+fn every_growth_is_refused_once(rt: HostRuntime) {
     for row in ROWS {
-        let (growths, spared) = growths_of(&rt, rt.alloc(), row)?;
-        // The text is read, and something is made of it.
-        assert!(rt;
-            2 <= growths && growths < MOST,
-            "{growths} of {}",
-            row.output
-        );
-        assert!(rt; spared == row.spared, "{spared} of {}", row.output);
+        let growth = wrong_growth(rt.alloc(), row);
+        assert!(rt; growth.is_none(), "growth {growth:?} of {}", row.output);
     }
-    Ok(())
 }

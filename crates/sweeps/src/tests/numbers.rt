@@ -6,7 +6,7 @@ use std::test::Fail;
 use step_model::{Fault, MemorySink, MemorySource};
 
 /// What stands before ten thousand digits 9 and behind them, and what `run` then writes.
-const NINES: [(&str, &str, &str); 22] = [
+const NINES: &[(&str, &str, &str)] = &[
     ("R ", "", "refused 20 line 1\n"),
     ("MPP !X", "*Z1", "refused 20 line 1\n"),
     ("E(0.1) X", "", "refused 20 line 1\n"),
@@ -17,6 +17,9 @@ const NINES: [(&str, &str, &str); 22] = [
     ("OBSERVABLE_INCLUDE(0) rec[-", "]", "refused 20 line 1\n"),
     ("DETECTOR(-", ")", "refused 20 line 1\n"),
     ("SHIFT_COORDS(", ")", "refused 20 line 1\n"),
+];
+
+const MORE_NINES: &[(&str, &str, &str)] = &[
     ("M(", ") 0", "refused 14 line 1\n"),
     ("MPP(0.", ") X0", "refused 14 line 1\n"),
     ("E(", ") X0", "refused 14 line 1\n"),
@@ -43,26 +46,12 @@ const MALFORMED: Order<'static> = Order::Run {
     faults: b"x",
 };
 
-/// What an order on a text writes.
-fn written(alloc: Global, order: &Order<'_>, text: &str) -> Result<Vec<u8>, Fault> {
+/// Whether an order on a text writes this.
+fn writes(alloc: Global, order: &Order<'_>, text: &str, output: &str) -> Result<bool, Fault> {
     let mut sink = MemorySink::new(alloc);
     let mut source = MemorySource::new(text.as_bytes());
     let _status = serve(alloc, order, &mut source, &mut sink)?;
-    Vec::from_slice(alloc, sink.bytes()).map_err(|_| Fault::MEMORY)
-}
-
-/// An order on a text writes this.
-fn check_text(
-    rt: &impl Abort,
-    alloc: Global,
-    order: &Order<'_>,
-    text: &str,
-    output: &str,
-) -> Result<(), Fail> {
-    let bytes = written(alloc, order, text)?;
-    let shown = text.get(..20).unwrap_or(text);
-    assert!(rt; bytes.as_slice() == output.as_bytes(), "{shown}");
-    Ok(())
+    Ok(sink.bytes() == output.as_bytes())
 }
 
 /// So many times a piece.
@@ -74,35 +63,33 @@ fn repeated(alloc: Global, piece: &str, times: usize) -> Result<String, AllocErr
     Ok(text)
 }
 
-/// Pieces of a text, one after another.
-fn joined(alloc: Global, pieces: &[&str]) -> Result<String, AllocError> {
+/// Three pieces of a text, one after another.
+fn joined(alloc: Global, before: &str, between: &str, after: &str) -> Result<String, AllocError> {
     let mut text = String::new(alloc);
-    for piece in pieces {
-        text.push_str(piece)?;
-    }
+    text.push_str(before)?;
+    text.push_str(between)?;
+    text.push_str(after)?;
     Ok(text)
 }
 
-/// An order on a text of these pieces writes this.
-fn check_pieces(
-    rt: &impl Abort,
+/// Whether a run of a text with these digits writes what the row says.
+fn row_holds(
     alloc: Global,
-    order: &Order<'_>,
-    pieces: &[&str],
-    output: &str,
-) -> Result<(), Fail> {
-    let text = joined(alloc, pieces)?;
-    check_text(rt, alloc, order, text.as_str(), output)
+    digits: &str,
+    (before, after, output): &(&str, &str, &str),
+) -> Result<bool, Fail> {
+    let text = joined(alloc, before, digits, after)?;
+    Ok(writes(alloc, &PLAIN, text.as_str(), output)?)
 }
 
-fn check_nines(
+fn check_rows(
     rt: &impl Abort,
     alloc: Global,
-    nines: &str,
+    digits: &str,
     rows: &[(&str, &str, &str)],
 ) -> Result<(), Fail> {
-    for (before, after, output) in rows {
-        check_pieces(rt, alloc, &PLAIN, &[before, nines, after], output)?;
+    for row in rows {
+        assert!(rt; row_holds(alloc, digits, row)?, "{} and {}", row.0, row.1);
     }
     Ok(())
 }
@@ -110,49 +97,56 @@ fn check_nines(
 #[test]
 fn numbers_of_many_digits(rt: HostRuntime) -> Result<(), Fail> {
     let nines = repeated(rt.alloc(), "9", 10_000)?;
-    check_nines(&rt, rt.alloc(), nines.as_str(), &NINES)
+    check_numbers(&rt, rt.alloc(), nines.as_str())
 }
 
-/// A list of faults or of coins of these digits, and what a run with the one fault and the one coin writes.
-fn check_digits(
-    rt: &impl Abort,
+fn check_numbers(rt: &impl Abort, alloc: Global, nines: &str) -> Result<(), Fail> {
+    check_rows(rt, alloc, nines, NINES)?;
+    check_rows(rt, alloc, nines, MORE_NINES)
+}
+
+/// What is read in lists of ten thousand times a digit: the digit, whether they are coins, or else faults, and what a run
+/// with the one fault and the one coin writes.
+const LISTS: &[(&str, bool, &str)] = &[
+    ("9", false, "refused 51 line 0\n"),
+    ("0", false, "1\n\n"),
+    ("0", true, "refused 50 line 0\n"),
+];
+
+fn list_holds(
     alloc: Global,
-    digits: &str,
-    are_coins: bool,
-    output: &str,
-) -> Result<(), Fail> {
-    let order = if are_coins {
+    (digit, are_coins, output): &(&str, bool, &str),
+) -> Result<bool, Fail> {
+    let digits = repeated(alloc, digit, 10_000)?;
+    let order = order_of(digits.as_bytes(), *are_coins);
+    Ok(writes(alloc, &order, "X_ERROR(1) 0\nM 0", output)?)
+}
+
+fn order_of(digits: &[u8], are_coins: bool) -> Order<'_> {
+    if are_coins {
         Order::Run {
-            coins: Some(digits.as_bytes()),
+            coins: Some(digits),
             faults: b"",
         }
     } else {
         Order::Run {
             coins: None,
-            faults: digits.as_bytes(),
+            faults: digits,
         }
-    };
-    check_text(rt, alloc, &order, "X_ERROR(1) 0\nM 0", output)
+    }
 }
 
 #[test]
 fn lists_of_many_digits(rt: HostRuntime) -> Result<(), Fail> {
-    let nines = repeated(rt.alloc(), "9", 10_000)?;
-    let zeros = repeated(rt.alloc(), "0", 10_000)?;
-    check_digits(
-        &rt,
-        rt.alloc(),
-        nines.as_str(),
-        false,
-        "refused 51 line 0\n",
-    )?;
-    check_digits(&rt, rt.alloc(), zeros.as_str(), false, "1\n\n")?;
-    check_digits(&rt, rt.alloc(), zeros.as_str(), true, "refused 50 line 0\n")
+    for row in LISTS {
+        assert!(rt; list_holds(rt.alloc(), row)?, "{} {}", row.0, row.1);
+    }
+    Ok(())
 }
 
 /// What stands in so many blocks of two turns, and what is written for a list of faults that is malformed, which is judged
 /// where the text is taken. The limits are 8,000,000 records, 1,000,000 detectors and 64,000,000 for the steps.
-const NESTED: [(usize, &str, &str); 6] = [
+const NESTED: &[(usize, &str, &str)] = &[
     (22, "M 0\n", "refused 51 line 0\n"),
     (23, "M 0\n", "refused 24 line 0\n"),
     (19, "DETECTOR\n", "refused 51 line 0\n"),
@@ -161,23 +155,25 @@ const NESTED: [(usize, &str, &str); 6] = [
     (33, "", "refused 21 line 33\n"),
 ];
 
-fn check_nested(
-    rt: &impl Abort,
-    alloc: Global,
-    depth: usize,
-    line: &str,
-    output: &str,
-) -> Result<(), Fail> {
-    let opened = repeated(alloc, "REPEAT 2 {\n", depth)?;
-    let closed = repeated(alloc, "}\n", depth)?;
-    let pieces = [opened.as_str(), line, closed.as_str()];
-    check_pieces(rt, alloc, &MALFORMED, &pieces, output)
+fn nested_holds(alloc: Global, (depth, line, output): &(usize, &str, &str)) -> Result<bool, Fail> {
+    let text = nested(alloc, *depth, line)?;
+    Ok(writes(alloc, &MALFORMED, text.as_str(), output)?)
+}
+
+/// A line in so many blocks.
+fn nested(alloc: Global, depth: usize, line: &str) -> Result<String, AllocError> {
+    let mut text = repeated(alloc, "REPEAT 2 {\n", depth)?;
+    text.push_str(line)?;
+    for _ in 0..depth {
+        text.push_str("}\n")?;
+    }
+    Ok(text)
 }
 
 #[test]
 fn nested_totals(rt: HostRuntime) -> Result<(), Fail> {
-    for (depth, line, output) in NESTED {
-        check_nested(&rt, rt.alloc(), depth, line, output)?;
+    for row in NESTED {
+        assert!(rt; nested_holds(rt.alloc(), row)?, "{} {}", row.0, row.1);
     }
     Ok(())
 }

@@ -37,30 +37,36 @@ pub(super) fn detections_agree(
     program: &Program<'_, Global>,
     given: (&[bool], &[bool]),
 ) -> Result<bool, Fail> {
+    let differ = differences(alloc, program, given, &[])?;
+    Ok(are_plain(alloc, program, given, differ.as_slice())?)
+}
+
+/// Whether these are the detections of the plain reading.
+fn are_plain(
+    alloc: Global,
+    program: &Program<'_, Global>,
+    given: (&[bool], &[bool]),
+    differ: &[bool],
+) -> Result<bool, AllocError> {
     let plain = plain_runs::records(alloc, program, given.0, given.1)?;
     let reference = plain_runs::records(alloc, program, &[], &[])?;
-    let differ = differences(alloc, program, given, &[])?;
-    Ok(are_detected(
-        program,
-        plain.as_slice(),
-        reference.as_slice(),
-        differ.as_slice(),
-    ))
+    let runs = (plain.as_slice(), reference.as_slice());
+    Ok(are_detected(program, runs, differ))
 }
 
 fn are_detected(
     program: &Program<'_, Global>,
-    plain: &[bool],
-    reference: &[bool],
+    (plain, reference): (&[bool], &[bool]),
     differ: &[bool],
 ) -> bool {
-    let (detectors, observables) = (program.detector_count(), program.observable_count());
-    let Some((of_detectors, of_observables)) = differ.split_at_checked(detectors) else {
-        return false;
-    };
-    of_observables.len() == observables
-        && detectors_agree(program, plain, reference, of_detectors)
-        && observables_agree(program, plain, reference, of_observables)
+    match differ.split_at_checked(program.detector_count()) {
+        Some((of_detectors, of_observables)) => {
+            of_observables.len() == program.observable_count()
+                && detectors_agree(program, plain, reference, of_detectors)
+                && observables_agree(program, plain, reference, of_observables)
+        }
+        None => false,
+    }
 }
 
 fn detectors_agree(
@@ -106,8 +112,19 @@ fn differs(named: &[u32], plain: &[bool], reference: &[bool]) -> bool {
 /// Whether both trackers lead to one answer, and that names a random target as the plain reading does.
 pub(super) fn analyses_agree(alloc: Global, program: &Program<'_, Global>) -> Result<bool, Fail> {
     let dense = by_dense(alloc, program)?;
-    let sparse = by_sparse(&alloc, program)?;
-    Ok(are_same_answers(&dense, &sparse) && is_plainly_random(alloc, program, random_of(&dense))?)
+    Ok(
+        is_by_sparse(&alloc, program, &dense)?
+            && is_plainly_random(alloc, program, random_of(&dense))?,
+    )
+}
+
+fn is_by_sparse(
+    alloc: &Global,
+    program: &Program<'_, Global>,
+    dense: &Analysed<'_, Global>,
+) -> Result<bool, Fail> {
+    let sparse = by_sparse(alloc, program)?;
+    Ok(are_same_answers(dense, &sparse))
 }
 
 /// Whether this is the lowest target that has a place, with that place; or none has.

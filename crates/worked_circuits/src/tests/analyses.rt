@@ -1,65 +1,36 @@
-//! The analyses of the table, by both trackers, and the coin pairs of its random targets.
+//! Analyses as the table has them, by both trackers, and the coin pairs of its random targets.
 ghost use Rattle.std.specs.Prelude.{◌≡◌, length, IfOk};
 ghost use Rattle.step_model.specs.Targets.{targets_of};
 ghost use Rattle.backward.specs.Tracked.{fresh};
 
+use super::are_digits;
 use super::runs::differences;
-use super::table::{Answer, Row, TABLES};
-use super::{check_same, digits};
+use super::table::{Answer, Row};
 use backward::{Analysed, DenseWords, QubitSets, Words, analyse};
 use frames::coin_pair;
 use plain_runs::place_of;
 use programs::Program;
-use programs::by_hand::program_of;
 use std::alloc::{AllocError, Global};
-use std::process::Abort;
 use std::test::Fail;
 use step_model::{Fault, MemorySink, Place};
 
-#[test]
-fn rows_of_the_table(rt: HostRuntime) -> Result<(), Fail> {
-    for rows in TABLES {
-        for row in rows {
-            check_row(&rt, rt.alloc(), row)?;
-        }
-    }
-    Ok(())
-}
-
-fn check_row(rt: &impl Abort, alloc: Global, row: &Row) -> Result<(), Fail> {
-    let program = program_of(alloc, row.qubits, row.pieces, row.lists)?.expect(rt, row.circuit);
-    check_trackers(rt, alloc, row, &program)
-}
-
-/// Each tracker gives the row's answer.
-fn check_trackers(
-    rt: &impl Abort,
+/// Whether each tracker gives the row's answer.
+pub(super) fn answers_hold(
     alloc: Global,
     row: &Row,
     program: &Program<'_, Global>,
-) -> Result<(), Fail> {
-    check_dense(rt, alloc, row, program)?;
-    check_sparse(rt, alloc, row, program)
+) -> Result<bool, Fail> {
+    Ok(dense_holds(alloc, row, program)? && sparse_holds(&alloc, row, program)?)
 }
 
-fn check_dense(
-    rt: &impl Abort,
-    alloc: Global,
-    row: &Row,
-    program: &Program<'_, Global>,
-) -> Result<(), Fail> {
+fn dense_holds(alloc: Global, row: &Row, program: &Program<'_, Global>) -> Result<bool, Fail> {
     let analysed = by_dense(alloc, program)?;
-    check_answer(rt, alloc, row, program, &analysed)
+    answer_holds(alloc, row, program, &analysed)
 }
 
-fn check_sparse(
-    rt: &impl Abort,
-    alloc: Global,
-    row: &Row,
-    program: &Program<'_, Global>,
-) -> Result<(), Fail> {
-    let analysed = by_sparse(&alloc, program)?;
-    check_answer(rt, alloc, row, program, &analysed)
+fn sparse_holds(alloc: &Global, row: &Row, program: &Program<'_, Global>) -> Result<bool, Fail> {
+    let analysed = by_sparse(alloc, program)?;
+    answer_holds(*alloc, row, program, &analysed)
 }
 
 /// The analysis by rows of bits.
@@ -102,27 +73,18 @@ fn sparse_words<'s>(
     Words::sparse(alloc, program.qubits() as usize, targets)
 }
 
-fn check_answer(
-    rt: &impl Abort,
+fn answer_holds(
     alloc: Global,
     row: &Row,
     program: &Program<'_, Global>,
     analysed: &Analysed<'_, Global>,
-) -> Result<(), Fail> {
+) -> Result<bool, Fail> {
     match row.answer {
-        Answer::Model(expected) => {
-            assert!(rt; random_of(analysed).is_none(), "{}", row.circuit);
-            check_text(rt, alloc, row.circuit, analysed, expected)
-        }
-        Answer::Random(target, place, coins) => {
-            assert_eq!(rt;
-                random_of(analysed),
-                Some((target, place)),
-                "{}",
-                row.circuit
-            );
-            check_pair(rt, alloc, row.circuit, program, (target, place), coins)
-        }
+        Answer::Model(expected) => Ok(is_model(alloc, analysed, expected)?),
+        Answer::Random(target, place, coins) => Ok(
+            random_of(analysed) == Some((target, place))
+                && has_pair(alloc, program, (target as usize, place), coins)?,
+        ),
     }
 }
 
@@ -134,88 +96,71 @@ pub(super) fn random_of(analysed: &Analysed<'_, Global>) -> Option<(u32, Place)>
     }
 }
 
-/// The text of the model, where it is one: else there is none.
-pub(super) fn check_text(
-    rt: &impl Abort,
-    alloc: Global,
-    circuit: &str,
-    analysed: &Analysed<'_, Global>,
-    expected: &str,
-) -> Result<(), Fail> {
+/// Whether the answer is the model of this text.
+fn is_model(alloc: Global, analysed: &Analysed<'_, Global>, expected: &str) -> Result<bool, Fault> {
     let mut sink = MemorySink::new(alloc);
-    write_model(analysed, &mut sink)?;
-    assert_eq!(rt; sink.bytes(), expected.as_bytes(), "{circuit}");
-    Ok(())
+    Ok(writes_model(analysed, &mut sink)? && sink.bytes() == expected.as_bytes())
 }
 
-fn write_model(
+/// Writes the model, where the answer is one.
+fn writes_model(
     analysed: &Analysed<'_, Global>,
     sink: &mut MemorySink<Global>,
-) -> Result<(), Fault> {
+) -> Result<bool, Fault> {
     match analysed {
-        Analysed::Model(model) => dem_text::write(model, sink),
-        Analysed::Random { .. } => Ok(()),
+        Analysed::Model(model) => {
+            dem_text::write(model, sink)?;
+            Ok(true)
+        }
+        Analysed::Random { .. } => Ok(false),
     }
 }
 
-/// The pair is as many zeros, and these coins, and the target's parity differs between their runs.
-fn check_pair(
-    rt: &impl Abort,
+fn has_pair(
     alloc: Global,
-    circuit: &str,
     program: &Program<'_, Global>,
-    (target, place): (u32, Place),
+    (target, place): (usize, Place),
     coins: &str,
-) -> Result<(), Fail> {
+) -> Result<bool, Fail> {
     let (first, second) = coin_pair(alloc, program, place)?;
-    let zeros = digits(alloc, first.as_slice())?;
-    let found = digits(alloc, second.as_slice())?;
-    check_same(rt, found.as_str(), coins, circuit);
-    assert!(rt;
-        zeros.as_str().chars().all(|digit| digit == '0'),
-        "{circuit}"
-    );
-    assert_eq!(rt; zeros.len(), found.len(), "{circuit}");
-    check_differs(
-        rt,
-        alloc,
-        circuit,
-        program,
-        target as usize,
-        second.as_slice(),
-        first.as_slice(),
-    )?;
-    check_place(rt, alloc, circuit, program, target as usize, place)
+    let pair = (first.as_slice(), second.as_slice());
+    Ok(are_coins(pair, coins) && is_random(alloc, program, (target, place), pair)?)
 }
 
-/// A target has different parities in the runs without faults under these coins.
-pub(super) fn check_differs(
-    rt: &impl Abort,
+/// Whether the pair is as many zeros, and these coins.
+fn are_coins((first, second): (&[bool], &[bool]), coins: &str) -> bool {
+    first.len() == second.len() && first.iter().all(|coin| !*coin) && are_digits(second, coins)
+}
+
+/// Whether a target has this place, and different parities in the runs without faults under these coins.
+fn is_random(
     alloc: Global,
-    circuit: &str,
     program: &Program<'_, Global>,
-    target: usize,
-    coins: &[bool],
-    others: &[bool],
-) -> Result<(), Fail> {
-    let differ = differences(alloc, program, (&[], coins), others)?;
-    assert_eq!(rt; differ.get(target).copied(), Some(true), "{circuit}");
-    Ok(())
+    (target, place): (usize, Place),
+    pair: (&[bool], &[bool]),
+) -> Result<bool, Fail> {
+    Ok(has_place(alloc, program, target, place)? && differs(alloc, program, target, pair)?)
 }
 
-fn check_place(
-    rt: &impl Abort,
+fn has_place(
     alloc: Global,
-    circuit: &str,
     program: &Program<'_, Global>,
     target: usize,
     place: Place,
-) -> Result<(), Fail> {
+) -> Result<bool, AllocError> {
     program.well_formed();
-    assert!(rt;
-        target < program.detector_count() + program.observable_count(),
-        "{circuit}"
-    );
-    assert_eq!(rt; place_of(alloc, program, target)?, Some(place), "{circuit}");
-    Ok(())
+    if target >= program.detector_count() + program.observable_count() {
+        return Ok(false);
+    }
+    Ok(place_of(alloc, program, target)? == Some(place))
+}
+
+fn differs(
+    alloc: Global,
+    program: &Program<'_, Global>,
+    target: usize,
+    (first, second): (&[bool], &[bool]),
+) -> Result<bool, Fail> {
+    let differ = differences(alloc, program, (&[], second), first)?;
+    Ok(differ.get(target).copied() == Some(true))
 }

@@ -3,10 +3,11 @@ mod drawing;
 mod parts;
 
 use super::agreement::{analyses_agree, detections_agree, records_agree};
+use super::made_program;
 use drawing::Drawing;
 use parts::DrawnParts;
 use programs::Program;
-use programs::by_hand::{Entry, Lists, program_of};
+use programs::by_hand::{Entry, Lists};
 use std::alloc::Global;
 use std::process::Abort;
 use std::test::Fail;
@@ -89,7 +90,7 @@ fn program_agrees(
         observables: &observables,
         coordinates: &COORDINATES,
     };
-    match program_of(alloc, drawing.qubits, drawing.pieces(), lists)? {
+    match made_program(alloc, drawing.qubits, drawing.pieces(), lists)? {
         Some(program) => all_agree(alloc, &program, given),
         None => Ok(false),
     }

@@ -4,8 +4,10 @@ mod steps;
 mod teleported;
 mod twice;
 
+use super::made_program;
 use forward_sim::{Records, run};
-use programs::by_hand::{Lists, Piece, program_of};
+use programs::Program;
+use programs::by_hand::{Lists, Piece};
 use rand_core::SeedableRng;
 use rand_core::utils::NextWord;
 use rand_pcg::Pcg64;
@@ -35,10 +37,18 @@ fn records_of(
     lists: Lists<'_>,
     coins: &Coins,
 ) -> Result<Option<Records<Global>>, Fail> {
-    let Some(program) = program_of(alloc, qubits, pieces, lists)? else {
-        return Ok(None);
-    };
-    Ok(Some(run(alloc, &program, &[], coins)?))
+    match made_program(alloc, qubits, pieces, lists)? {
+        Some(program) => records_without_faults(alloc, &program, coins),
+        None => Ok(None),
+    }
+}
+
+fn records_without_faults(
+    alloc: Global,
+    program: &Program<'_, Global>,
+    coins: &Coins,
+) -> Result<Option<Records<Global>>, Fail> {
+    Ok(Some(run(alloc, program, &[], coins)?))
 }
 
 /// The coin of a collapse.

@@ -1,107 +1,89 @@
-//! The runs of the table, by the tableau and straight from the definitions.
-use super::table::{Row, Run, TABLES};
-use super::{check_same, digits};
+//! Runs as the table has them, by the tableau and straight from the definitions.
+use super::table::Run;
+use super::{are_digits, digit};
 use forward_sim::{Records, detections, read_coins, read_numbers, run};
 use programs::Program;
-use programs::by_hand::program_of;
-use std::alloc::{AllocError, Global};
-use std::process::Abort;
+use std::alloc::Global;
 use std::test::Fail;
 
-#[test]
-fn rows_of_the_table(rt: HostRuntime) -> Result<(), Fail> {
-    for rows in TABLES {
-        for row in rows {
-            check_row(&rt, rt.alloc(), row)?;
+/// Whether these runs of a program are as expected.
+pub(super) fn runs_hold(
+    alloc: Global,
+    program: &Program<'_, Global>,
+    runs: &[Run],
+) -> Result<bool, Fail> {
+    for expected in runs {
+        if !run_holds(alloc, program, expected)? {
+            return Ok(false);
         }
     }
-    Ok(())
+    Ok(true)
 }
 
-fn check_row(rt: &impl Abort, alloc: Global, row: &Row) -> Result<(), Fail> {
-    let program = program_of(alloc, row.qubits, row.pieces, row.lists)?.expect(rt, row.circuit);
-    check_runs(rt, alloc, row, &program)
-}
-
-fn check_runs(
-    rt: &impl Abort,
-    alloc: Global,
-    row: &Row,
-    program: &Program<'_, Global>,
-) -> Result<(), Fail> {
-    for run in row.runs {
-        check_run(rt, alloc, row.circuit, program, run)?;
-    }
-    Ok(())
-}
-
-fn check_run(
-    rt: &impl Abort,
-    alloc: Global,
-    circuit: &str,
-    program: &Program<'_, Global>,
-    expected: &Run,
-) -> Result<(), Fail> {
+fn run_holds(alloc: Global, program: &Program<'_, Global>, expected: &Run) -> Result<bool, Fail> {
     let count = program.fault_count() as usize;
     let faults = read_numbers(alloc, count, expected.faults.as_bytes())?;
     let coins = read_coins(alloc, program, expected.coins.as_bytes())?;
-    let (faults, coins) = (faults.as_slice(), coins.as_slice());
-    check_records(
-        rt,
+    is_run(
         alloc,
-        circuit,
         program,
-        (faults, coins),
-        expected.records,
-    )?;
-    let differ = differences(alloc, program, (faults, coins), &[])?;
-    let detections = digits(alloc, differ.as_slice())?;
-    check_same(rt, detections.as_str(), expected.detections, circuit);
-    Ok(())
+        (faults.as_slice(), coins.as_slice()),
+        expected,
+    )
 }
 
-/// The records of the run with these faults and coins, by the tableau and straight from the definitions.
-fn check_records(
-    rt: &impl Abort,
-    alloc: Global,
-    circuit: &str,
-    program: &Program<'_, Global>,
-    given: (&[bool], &[bool]),
-    expected: &str,
-) -> Result<(), Fail> {
-    let found = run_digits(alloc, program, given)?;
-    check_same(rt, found.as_str(), expected, circuit);
-    let plain = plain_digits(alloc, program, given)?;
-    check_same(rt, plain.as_str(), expected, circuit);
-    Ok(())
-}
-
-/// A digit for each record of the run with these faults and coins.
-pub(super) fn run_digits(
+/// Whether the run with these faults and coins is as expected, by the tableau and straight from the definitions.
+fn is_run(
     alloc: Global,
     program: &Program<'_, Global>,
     given: (&[bool], &[bool]),
-) -> Result<String, Fail> {
+    expected: &Run,
+) -> Result<bool, Fail> {
+    Ok(
+        records_are(alloc, program, given, expected.records)?
+            && plain_records_are(alloc, program, given, expected.records)?
+            && detections_are(alloc, program, given, expected.detections)?,
+    )
+}
+
+fn records_are(
+    alloc: Global,
+    program: &Program<'_, Global>,
+    given: (&[bool], &[bool]),
+    digits: &str,
+) -> Result<bool, Fail> {
     let records = run(alloc, program, given.0, given.1)?;
-    Ok(record_digits(alloc, &records)?)
+    Ok(are_written(&records, digits))
 }
 
-/// The same straight from the definitions.
-pub(super) fn plain_digits(
+fn are_written(records: &Records<Global>, digits: &str) -> bool {
+    let digits = digits.as_bytes();
+    for number in 0..records.len() {
+        if digits.get(number).copied() != Some(digit(records.get(number))) {
+            return false;
+        }
+    }
+    records.len() == digits.len()
+}
+
+fn plain_records_are(
     alloc: Global,
     program: &Program<'_, Global>,
     given: (&[bool], &[bool]),
-) -> Result<String, AllocError> {
+    digits: &str,
+) -> Result<bool, Fail> {
     let records = plain_runs::records(alloc, program, given.0, given.1)?;
-    digits(alloc, records.as_slice())
+    Ok(are_digits(records.as_slice(), digits))
 }
 
-fn record_digits(alloc: Global, records: &Records<Global>) -> Result<String, AllocError> {
-    let mut text = String::new(alloc);
-    for number in 0..records.len() {
-        text.push(if records.get(number) { '1' } else { '0' })?;
-    }
-    Ok(text)
+fn detections_are(
+    alloc: Global,
+    program: &Program<'_, Global>,
+    given: (&[bool], &[bool]),
+    digits: &str,
+) -> Result<bool, Fail> {
+    let differ = differences(alloc, program, given, &[])?;
+    Ok(are_digits(differ.as_slice(), digits))
 }
 
 /// The targets that differ between the run with these faults and coins and that without faults and with other coins.

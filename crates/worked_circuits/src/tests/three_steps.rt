@@ -2,13 +2,17 @@
 
 use super::agreement::records_agree;
 use super::gates::{ONE, TWO};
+use super::made_program;
 use super::table::NOTHING;
 use gate_table::Gate;
 use pauli_word::Letter;
-use programs::by_hand::{Piece, program_of};
+use programs::by_hand::Piece;
 use programs::{Program, Recording, TextStep};
 use std::alloc::Global;
 use std::test::Fail;
+
+/// The coins of two runs.
+const COINS: &[&[bool]] = &[&[false, true, false, true], &[true, false, true, false]];
 
 #[test]
 fn gates_of_one_qubit(rt: HostRuntime) -> Result<(), Fail> {
@@ -47,16 +51,19 @@ fn circuit_agrees(alloc: Global, step: TextStep, number: u32) -> Result<bool, Fa
         measured(letter(number / 9), 0),
         measured(letter(number / 27), 1),
     ];
-    match program_of(alloc, 2, &pieces, NOTHING)? {
+    match made_program(alloc, 2, &pieces, NOTHING)? {
         Some(program) => runs_agree(alloc, &program),
         None => Ok(false),
     }
 }
 
 fn runs_agree(alloc: Global, program: &Program<'_, Global>) -> Result<bool, Fail> {
-    let first = records_agree(alloc, program, (&[], &[false, true, false, true]))?;
-    let second = records_agree(alloc, program, (&[], &[true, false, true, false]))?;
-    Ok(first && second)
+    for coins in COINS {
+        if !records_agree(alloc, program, (&[], coins))? {
+            return Ok(false);
+        }
+    }
+    Ok(true)
 }
 
 fn letter(number: u32) -> Letter {
