@@ -5,7 +5,5 @@ mod gate;
 pub mod laws;
 mod names;
 mod table;
-#[cfg(test)]
-mod tests;
 
 pub use gate::Gate;

@@ -3,31 +3,14 @@ ghost use Rattle.std.specs.Prelude.{◌≡◌, length, IfOk};
 
 mod table;
 
+use crate::tests::{NOTHING, made};
 use frames::{coin_pair, flips};
 use pauli_word::{Letter, Word};
 use programs::Program;
-use programs::by_hand::{Lists, Piece, program_of};
 use std::alloc::{AllocError, Global};
 use std::process::Abort;
 use std::test::Fail;
 use table::{FLIPS, FlipRow, PAIRS, PairRow};
-
-// A program that fits, without lists.
-fn made(
-    rt: &impl Abort,
-    alloc: Global,
-    qubits: u32,
-    pieces: &[Piece],
-) -> Result<Program<'static, Global>, AllocError> {
-    let lists = Lists {
-        entries: &[],
-        products: &[],
-        detectors: &[],
-        observables: &[],
-        coordinates: &[],
-    };
-    Ok(program_of(alloc, qubits, pieces, lists)?.expect(rt, "it fits"))
-}
 
 // Whether it is as many zeros, and the list of the row.
 fn are_of_row(zeros: &[bool], coins: &[bool], row: &PairRow) -> bool {
@@ -40,7 +23,7 @@ fn has_pair(alloc: Global, program: &Program<'_, Global>, row: &PairRow) -> Resu
 }
 
 fn is_pair(rt: &impl Abort, alloc: Global, row: &PairRow) -> Result<bool, Fail> {
-    let program = made(rt, alloc, row.qubits, row.pieces)?;
+    let program = made(rt, alloc, row.qubits, row.pieces, NOTHING)?;
     has_pair(alloc, &program, row)
 }
 
@@ -86,7 +69,7 @@ fn has_flips(alloc: Global, program: &Program<'_, Global>, row: &FlipRow) -> Res
 }
 
 fn are_flips(rt: &impl Abort, alloc: Global, row: &FlipRow) -> Result<bool, Fail> {
-    let program = made(rt, alloc, row.qubits, row.pieces)?;
+    let program = made(rt, alloc, row.qubits, row.pieces, NOTHING)?;
     has_flips(alloc, &program, row)
 }
 

@@ -1,13 +1,15 @@
 //! Drawn shots of a small program, against the generator's words taken outside.
+use crate::tests::made;
 use draws::Shot;
 use pauli_word::Letter;
-use programs::by_hand::{Entry, Lists, Piece, program_of};
-use programs::{Recording, TextStep};
+use programs::by_hand::{Entry, Lists, Piece};
+use programs::{Program, Recording, TextStep};
 use rand_core::SeedableRng;
 use rand_core::utils::NextWord;
 use rand_pcg::Pcg64;
+use std::alloc::Global;
 use std::test::Fail;
-use step_model::Term;
+use step_model::{Fault, Term};
 
 const X_0: &[Term] = &[Term {
     qubit: 0,
@@ -84,20 +86,42 @@ const ROWS: &[Row] = &[
     },
 ];
 
-#[test]
-fn shots_of_seed_five(rt: HostRuntime) -> Result<(), Fail> {
-    let program = program_of(rt.alloc(), 1, PIECES, LISTS)?.expect(&rt, "it fits");
-    let mut shot = Shot::new(rt.alloc(), &program)?;
-    assert!(rt; shot.faults() == [false; 5].as_slice());
-    assert!(rt; shot.coins() == [false; 2].as_slice());
-    let mut rng = Pcg64::seed_from_u64(5);
+/// Before any shot nothing happens, and no coin is 1.
+const FIRST: Row = Row {
+    faults: [false; 5],
+    coins: [false; 2],
+};
+
+fn is_of_row(shot: &Shot<Global>, row: &Row) -> bool {
+    shot.faults() == row.faults.as_slice() && shot.coins() == row.coins.as_slice()
+}
+
+/// Whether the shots that are drawn in turn are those of the rows.
+fn are_of_rows(shot: &mut Shot<Global>, rng: &mut Pcg64) -> bool {
+    let mut all = is_of_row(shot, &FIRST);
     for row in ROWS {
-        shot.draw(&mut rng);
-        assert!(rt; shot.faults() == row.faults.as_slice());
-        assert!(rt; shot.coins() == row.coins.as_slice());
+        shot.draw(rng);
+        all &= is_of_row(shot, row);
     }
+    all
+}
+
+/// Whether the next word is that behind three shots of seven words.
+fn stands_behind_shots(rng: &mut Pcg64) -> bool {
     let mut words = Pcg64::seed_from_u64(5);
     words.advance(21);
-    assert!(rt; rng.next_word() == words.next_word());
+    rng.next_word() == words.next_word()
+}
+
+fn has_shots(alloc: Global, program: &Program<'_, Global>) -> Result<bool, Fault> {
+    let mut shot = Shot::new(alloc, program)?;
+    let mut rng = Pcg64::seed_from_u64(5);
+    Ok(are_of_rows(&mut shot, &mut rng) & stands_behind_shots(&mut rng))
+}
+
+#[test]
+fn shots_of_seed_five(rt: HostRuntime) -> Result<(), Fail> {
+    let program = made(&rt, rt.alloc(), 1, PIECES, LISTS)?;
+    assert!(rt; has_shots(rt.alloc(), &program)?);
     Ok(())
 }

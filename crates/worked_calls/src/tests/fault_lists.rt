@@ -1,10 +1,12 @@
 //! Lists of faults of small programs.
+use crate::tests::made;
 use fault_list::write;
 use pauli_word::Letter;
-use programs::by_hand::{Entry, Lists, Piece, program_of};
-use programs::{Recording, TextStep};
+use programs::by_hand::{Entry, Lists, Piece};
+use programs::{Program, Recording, TextStep};
+use std::alloc::Global;
 use std::test::Fail;
-use step_model::{MemorySink, Term};
+use step_model::{Fault, MemorySink, Term};
 
 macro_rules! at {
     ($qubit:literal, $letter:ident) => {
@@ -77,11 +79,15 @@ const TEXT: &[u8] = b"0 0.25 Z0*Z1
 coins 2
 ";
 
+fn has_text(alloc: Global, program: &Program<'_, Global>) -> Result<bool, Fault> {
+    let mut sink = MemorySink::new(alloc);
+    write(program, &mut sink)?;
+    Ok(sink.bytes() == TEXT)
+}
+
 #[test]
 fn faults_of_two_turns(rt: HostRuntime) -> Result<(), Fail> {
-    let program = program_of(rt.alloc(), 12, PIECES, LISTS)?.expect(&rt, "it fits");
-    let mut sink = MemorySink::new(rt.alloc());
-    write(&program, &mut sink)?;
-    assert!(rt; sink.bytes() == TEXT);
+    let program = made(&rt, rt.alloc(), 12, PIECES, LISTS)?;
+    assert!(rt; has_text(rt.alloc(), &program)?);
     Ok(())
 }

@@ -3,12 +3,13 @@ ghost use Rattle.std.specs.Prelude.{◌≡◌, ◌<◌, length, IfOk};
 
 mod table;
 
-use programs::by_hand::{Lists, Piece, program_of};
+use crate::tests::{NOTHING, made};
+use programs::by_hand::{Piece, program_of};
 use programs::{Program, Step, Walk};
 use std::alloc::{AllocError, Global};
 use std::process::Abort;
 use std::test::Fail;
-use table::{EIGHT, MEASURE, MISFITS, NOTHING, READ, ROWS, Row, TWICE};
+use table::{EIGHT, MEASURE, MISFITS, READ, ROWS, Row, TWICE};
 
 fn goes_forth(walk: &mut Walk<'_, '_, Global>, step: &Step) -> bool {
     walk.next_step() == Some(*step)
@@ -48,17 +49,6 @@ fn walks_back_over(program: &Program<'_, Global>, steps: &[Step]) -> bool {
         all &= goes_forth(&mut walk, step);
     }
     all & walk.next_step().is_none()
-}
-
-// A program that fits. It has no clauses: what its steps are is asserted.
-fn made<'a>(
-    rt: &impl Abort,
-    alloc: Global,
-    qubits: u32,
-    pieces: &[Piece],
-    lists: Lists<'a>,
-) -> Result<Program<'a, Global>, AllocError> {
-    Ok(program_of(alloc, qubits, pieces, lists)?.expect(rt, "it fits"))
 }
 
 fn is_of_row(program: &Program<'_, Global>, row: &Row) -> bool {

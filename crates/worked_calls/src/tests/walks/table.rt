@@ -15,14 +15,6 @@ pub struct Row {
     pub steps: &'static [Step],
 }
 
-pub const NOTHING: Lists<'static> = Lists {
-    entries: &[],
-    products: &[],
-    detectors: &[],
-    observables: &[],
-    coordinates: &[],
-};
-
 macro_rules! measure {
     ($flip:expr) => {
         Piece::Do(TextStep::Collapse {

@@ -1,5 +1,6 @@
 //! Circuits and their steps.
-use super::{CX, GATE, MEASURE, NOTHING, READ, RESET, Row, WAS_CX, WAS_RESET, X};
+use super::{CX, GATE, MEASURE, READ, RESET, Row, WAS_CX, WAS_RESET, X};
+use crate::tests::NOTHING;
 use pauli_word::Letter;
 use programs::by_hand::{Entry, Lists, Piece};
 use programs::{FaultName, Recording, Step, TextStep};

@@ -1,4 +1,4 @@
-//! Numbers of ten thousand digits where `worked_rows` has none, and blocks of two turns inside one another, to a limit and beyond.
+//! Numbers of ten thousand digits where `worked` has none, and blocks of two turns inside one another, to a limit and beyond.
 use engine::{Order, serve};
 use std::alloc::{AllocError, Global};
 use std::process::Abort;

@@ -1,10 +1,10 @@
 //! Images, names and inverses, one by one.
 use super::matrices::image_of;
-use crate::{Gate, laws};
+use gate_table::{Gate, laws};
 use pauli_word::Letter::{self, I, X, Y, Z};
 
 /// A gate, a pair of letters of which a one-qubit gate sees the first, and the pair's image.
-const IMAGES: [(Gate, Letter, Letter, (Letter, Letter, bool)); 8] = [
+const IMAGES: &[(Gate, Letter, Letter, (Letter, Letter, bool))] = &[
     (Gate::H, Y, I, (Y, I, true)),
     (Gate::S, Y, I, (X, I, true)),
     (Gate::SqrtX, Y, I, (Z, I, false)),
@@ -18,11 +18,14 @@ const IMAGES: [(Gate, Letter, Letter, (Letter, Letter, bool)); 8] = [
 #[test]
 fn images_of_letters_and_pairs(rt: HostRuntime) {
     for (gate, a, b, image) in IMAGES {
-        assert!(rt; image_of(gate, a, b) == image, "{gate:?} of {a:?} {b:?}");
+        assert!(rt;
+            image_of(*gate, *a, *b) == *image,
+            "{gate:?} of {a:?} {b:?}"
+        );
     }
 }
 
-const NAMES: [(&[u8], Option<Gate>); 7] = [
+const NAMES: &[(&[u8], Option<Gate>)] = &[
     (b"sqrt_Z_dag", Some(Gate::SDag)),
     (b"CNOT", Some(Gate::CX)),
     (b"iswap_dag", Some(Gate::ISwapDag)),
@@ -35,11 +38,11 @@ const NAMES: [(&[u8], Option<Gate>); 7] = [
 #[test]
 fn names(rt: HostRuntime) {
     for (name, gate) in NAMES {
-        assert!(rt; Gate::named(name) == gate, "{name:?}");
+        assert!(rt; Gate::named(name) == *gate, "{name:?}");
     }
 }
 
-const INVERSES: [(Gate, Gate); 3] = [
+const INVERSES: &[(Gate, Gate)] = &[
     (Gate::CXYZ, Gate::CZYX),
     (Gate::SqrtYY, Gate::SqrtYYDag),
     (Gate::Swap, Gate::Swap),
@@ -48,7 +51,7 @@ const INVERSES: [(Gate, Gate); 3] = [
 #[test]
 fn inverses(rt: HostRuntime) {
     for (gate, inverse) in INVERSES {
-        assert!(rt; gate.inverse() == inverse, "of {gate:?}");
+        assert!(rt; gate.inverse() == *inverse, "of {gate:?}");
     }
 }
 

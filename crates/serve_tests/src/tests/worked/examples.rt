@@ -1,8 +1,8 @@
 //! The circuits of examples/: what is written for each, worked by hand.
 pub(super) mod texts;
 
-use crate::tests::checks::{check_models, check_predictions, check_runs, served};
-use crate::tests::examples::texts::{
+use crate::tests::worked::checks::{check_models, check_predictions, check_runs, served};
+use crate::tests::worked::examples::texts::{
     BELL_PAIR, FIRST, REPETITION_BLOCKS, REPETITION_CODE, RESET, SURFACE_CODE, TELEPORTATION,
 };
 use engine::{Order, Status};

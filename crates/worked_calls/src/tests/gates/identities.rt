@@ -1,5 +1,5 @@
 //! Gates made of others. The gates of a list act from left to right, and a one-qubit gate on both qubits.
-use crate::Gate;
+use gate_table::Gate;
 use pauli_word::Letter::{self, I, X, Y, Z};
 use std::process::Abort;
 
@@ -7,7 +7,7 @@ use std::process::Abort;
 type Pair = (Letter, Letter, bool);
 
 /// The image of a pair under a gate, on both qubits where it is a one-qubit gate.
-#[tactic(auto, using(crate::proofs::Arity::two_unless_one))]
+#[tactic(auto, using(gate_table::proofs::Arity::two_unless_one))]
 fn image_of(gate: Gate, (a, b, minus): Pair) -> Pair {
     if gate.arity() == 1 {
         let (a, first_minus) = gate.image1(a);

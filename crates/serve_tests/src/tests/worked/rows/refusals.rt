@@ -1,5 +1,5 @@
 //! Refused texts: the line that every order on a circuit writes.
-use crate::tests::checks::check_refused;
+use crate::tests::worked::checks::check_refused;
 use std::test::Fail;
 
 /// By the number of the refusal.

@@ -6,7 +6,7 @@ pub(crate) const FIRST: &str =
 #
 #     ./stabsim run --faults 0 < examples/first.stim
 #
-# The tests have this text too, in crates/worked_rows/src/tests/examples/texts.rt: a change here is a change there.
+# The tests have this text too, in crates/serve_tests/src/tests/worked/examples/texts.rt: a change here is a change there.
 X_ERROR(0.1) 0
 CX 0 1
 M 0 1
@@ -18,7 +18,7 @@ pub(crate) const RESET: &str =
 #
 #     ./stabsim run < examples/reset.stim
 #
-# The tests have this text too, in crates/worked_rows/src/tests/examples/texts.rt: a change here is a change there.
+# The tests have this text too, in crates/serve_tests/src/tests/worked/examples/texts.rt: a change here is a change there.
 X 0
 SWAP 0 1
 M 0 1
@@ -37,7 +37,7 @@ pub(crate) const BELL_PAIR: &str =
 # is 0, since both qubits began as 0. YY is -XX ZZ, so the three records always add up to 1, and the two qubits read
 # alike in Z. An error X on one qubit of the pair shows in YY and in Z, an error Z in YY alone.
 #
-# The tests have this text too, in crates/worked_rows/src/tests/examples/texts.rt: a change here is a change there.
+# The tests have this text too, in crates/serve_tests/src/tests/worked/examples/texts.rt: a change here is a change there.
 MPP X0*X1 Z0*Z1
 DETECTOR rec[-1]
 TICK
@@ -60,7 +60,7 @@ pub(crate) const TELEPORTATION: &str =
 # The state is that of Y with sign plus, so Y of qubit 2 reads 0 whatever the two coins are. An error X of the state shows
 # in that record, and an error Y does not. A measurement that is flipped before it is fed back shows too.
 #
-# The tests have this text too, in crates/worked_rows/src/tests/examples/texts.rt: a change here is a change there.
+# The tests have this text too, in crates/serve_tests/src/tests/worked/examples/texts.rt: a change here is a change there.
 QUBIT_COORDS(0, 0) 0
 QUBIT_COORDS(1, 0) 1
 QUBIT_COORDS(2, 0) 2
@@ -100,7 +100,7 @@ pub(crate) const REPETITION_CODE: &str =
 # A detector compares two rounds, the first one with 0 and the last one with the parities of the final measurement. Its
 # coordinates are the place of the qubit that measures and the round.
 #
-# The tests have this text too, in crates/worked_rows/src/tests/examples/texts.rt: a change here is a change there.
+# The tests have this text too, in crates/serve_tests/src/tests/worked/examples/texts.rt: a change here is a change there.
 R 0 1 2 3 4
 TICK
 X_ERROR(0.01) 0 2 4
@@ -148,7 +148,7 @@ pub(crate) const SURFACE_CODE: &str =
 # of a stabilizer may be flipped. A detector compares a stabilizer with its last round; its coordinates are the place of
 # the qubit that measures and the round.
 #
-# The tests have this text too, in crates/worked_rows/src/tests/examples/texts.rt: a change here is a change there.
+# The tests have this text too, in crates/serve_tests/src/tests/worked/examples/texts.rt: a change here is a change there.
 QUBIT_COORDS(1, 1) 0
 QUBIT_COORDS(3, 1) 1
 QUBIT_COORDS(5, 1) 2
@@ -232,7 +232,7 @@ pub(crate) const REPETITION_BLOCKS: &str =
 # circuit flips something, so error line 6 is fault 6 here: X on the middle qubit. Line 16 is the flip of its last record.
 # Together they give the second line of `./stabsim run --faults 6,16 < examples/repetition_code.stim`.
 #
-# The tests have this text too, in crates/worked_rows/src/tests/examples/texts.rt: a change here is a change there.
+# The tests have this text too, in crates/serve_tests/src/tests/worked/examples/texts.rt: a change here is a change there.
 repeat 3 {
     error(0.01) D0
     error(0.01) D0 D1

@@ -1,6 +1,6 @@
 //! The matrices of Stim's gate reference, without the factor before each. A matrix is a text of its rows, from the
 //! highest down, with a letter a number.
-use crate::Gate;
+use gate_table::Gate;
 
 /// A pair (a, b) is the number a + b i.
 pub type Complex = (i32, i32);
@@ -26,7 +26,7 @@ pub fn number(letter: u8) -> Complex {
 }
 
 #[rattlefmt::skip]
-pub const ONE_QUBIT: [(Gate, &[u8; 5]); 15] = [
+pub const ONE_QUBIT: &[(Gate, &[u8; 5])] = &[
     (Gate::I, b"1. .1"),
     (Gate::X, b".1 1."),
     (Gate::Y, b".j i."),
@@ -45,7 +45,7 @@ pub const ONE_QUBIT: [(Gate, &[u8; 5]); 15] = [
 ];
 
 #[rattlefmt::skip]
-pub const TWO_QUBIT: [(Gate, &[u8; 19]); 18] = [
+pub const TWO_QUBIT: &[(Gate, &[u8; 19])] = &[
     (Gate::CX, b"1... ...1 ..1. .1.."),
     (Gate::CY, b"1... ...j ..1. .i.."),
     (Gate::CZ, b"1... .1.. ..1. ...-"),

@@ -1,5 +1,5 @@
 //! Predictions: the numbers of error lines, the text of an error model, and what `predict` writes.
-use crate::tests::checks::check_predictions;
+use crate::tests::worked::checks::check_predictions;
 use engine::Status;
 use std::test::Fail;
 

@@ -79,7 +79,7 @@ impl Reader {
 }
 
 /// The cause by which a text is refused, and the line; none where it is taken.
-pub(in crate::tests) fn refusal_of(
+pub(in crate::tests::sweeps) fn refusal_of(
     alloc: Global,
     text: &[u8],
 ) -> Result<Option<(u64, u64)>, AllocError> {

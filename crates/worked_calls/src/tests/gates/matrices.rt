@@ -1,7 +1,7 @@
 //! Every gate against its matrix U, as Stim's gate reference prints it: U P is the image of P times U, for every
 //! letter or pair of letters P. The factor before the matrix, 1/2 or the square root of 1/2, stands on both
 //! sides and is left out; the other numbers are whole. The first qubit is the lowest bit of a row's number.
-use crate::Gate;
+use gate_table::Gate;
 use pauli_word::Letter::{self, I, X, Y, Z};
 use std::process::Abort;
 
@@ -74,7 +74,7 @@ fn matrix_product(factor: Complex, a: Matrix, b: Matrix) -> Matrix {
 }
 
 /// The image of a pair of letters, of which a one-qubit gate sees the first.
-#[tactic(auto, using(crate::proofs::Arity::two_unless_one))]
+#[tactic(auto, using(gate_table::proofs::Arity::two_unless_one))]
 pub(super) fn image_of(gate: Gate, a: Letter, b: Letter) -> (Letter, Letter, bool) {
     if gate.arity() == 1 {
         let (a, minus) = gate.image1(a);

@@ -1,5 +1,5 @@
 //! Lists of faults: the text of a circuit, and what `faults` writes.
-use crate::tests::checks::{check_fault_list_of, check_fault_lists, repeated};
+use crate::tests::worked::checks::{check_fault_list_of, check_fault_lists, repeated};
 use std::test::Fail;
 
 const LISTS: &[(&str, &str)] = &[

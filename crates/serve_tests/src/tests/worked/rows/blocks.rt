@@ -1,5 +1,5 @@
 //! Blocks, one inside another too.
-use crate::tests::checks::{check_models, check_runs};
+use crate::tests::worked::checks::{check_models, check_runs};
 use std::test::Fail;
 
 /// The coins, or all 0, the faults, a text, and what `run` writes.

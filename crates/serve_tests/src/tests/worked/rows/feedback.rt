@@ -1,5 +1,5 @@
 //! Letters that are applied where a record is 1.
-use crate::tests::checks::{check_models, check_random, check_runs};
+use crate::tests::worked::checks::{check_models, check_random, check_runs};
 use std::test::Fail;
 
 /// The coins, or all 0, the faults, a text, and what `run` writes.

@@ -1,5 +1,5 @@
 //! Gates, measurements, resets, detectors and observables, without faults.
-use crate::tests::checks::{check_models, check_random, check_runs};
+use crate::tests::worked::checks::{check_models, check_random, check_runs};
 use std::test::Fail;
 
 /// The coins, or all 0, the faults, a text, and what `run` writes.

@@ -1,5 +1,5 @@
 //! Drawn shots: how many, by which seed, the text of a circuit, and what `sample` or `detect` writes.
-use crate::tests::checks::{check_output, repeated, served};
+use crate::tests::worked::checks::{check_output, repeated, served};
 use engine::{Order, Status};
 use std::alloc::Global;
 use std::process::Abort;

@@ -1,0 +1,3 @@
+mod drawn;
+mod sweeps;
+mod worked;
