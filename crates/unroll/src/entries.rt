@@ -87,16 +87,17 @@ fn name_terms<A: Allocator + Copy>(
     Ok(())
 }
 
-/// One entry more, of a probability's text and letters at qubits.
+/// One entry more, of a probability's text, its bound and letters at qubits.
 fn push_entry<'a, A: Allocator + Copy>(
     entries: &mut Entries<'a, A>,
     text: &'a [u8],
+    bound: u128,
     terms: &[Term],
 ) -> Result<(), AllocError>
+    requires { bound ≡ unwrap_or (probability_bound text.now) 0 }
     ensures { OnOk result (entries_of entries.new.parts.items entries.new.terms
         ≡ entries_of entries.old.parts.items entries.old.terms ++ entry_of terms.now text.now ∷ []) }
 {
-    let bound = bound_of(text);
     // Room for the part first, so that each part has its terms where memory runs out.
     entries.parts.reserve(1)?;
     entries.terms.push(terms)?;
@@ -115,8 +116,9 @@ fn push_entries<'a, A: Allocator + Copy>(
     ensures { OnOk result (entries_of entries.new.parts.items entries.new.terms
         ≡ entries_of entries.old.parts.items entries.old.terms ++ map (entry_at letter text.now) targets.now) }
 {
+    let bound = bound_of(text);
     for target in targets {
-        push_entry(entries, text, &[term_at(letter, *target)])?;
+        push_entry(entries, text, bound, &[term_at(letter, *target)])?;
     }
     Ok(())
 }
@@ -140,7 +142,7 @@ fn push_flip<'a, A: Allocator + Copy>(
         ≡ entries_of entries.old.parts.items entries.old.terms ++ flip_entries (instruction_in instruction.entry).arguments) }
 {
     match instruction.first_argument() {
-        Some(text) => push_entry(entries, text, &[]),
+        Some(text) => push_entry(entries, text, bound_of(text), &[]),
         None => Ok(()),
     }
 }
@@ -167,7 +169,8 @@ pub(crate) fn push_instruction<'a, A: Allocator + Copy>(
         ),
         Operation::ErrsTogether => {
             name_terms(terms, instruction.targets)?;
-            push_entry(entries, first_argument(instruction), terms)
+            let text = first_argument(instruction);
+            push_entry(entries, text, bound_of(text), terms)
         }
         _ => Ok(()),
     }
