@@ -37,6 +37,7 @@ impl<T: Copy, A: Allocator + Copy> FlatLists<T, A> {
     }
 
     /// How many lists there are.
+    #[inline(always)]
     #[tactic(auto, using(crate::proofs::CutLemmas::counts))]
     pub fn len(&self) -> usize
         ensures { result ≡ length self.now }
@@ -65,6 +66,7 @@ impl<T: Copy, A: Allocator + Copy> FlatLists<T, A> {
     }
 
     /// The list at an index.
+    #[inline(always)]
     #[tactic(auto, using(crate::proofs::CutLemmas::pieces))]
     pub fn get(&self, index: usize) -> &[T]
         requires { index < length self.now }
@@ -78,6 +80,7 @@ impl<T: Copy, A: Allocator + Copy> FlatLists<T, A> {
 }
 
 // Where the list at an index starts: where the one before it ends, and the first at 0.
+#[inline(always)]
 fn start_of(ends: &[usize], index: usize) -> usize
     requires { index < length ends.now }
     ensures { result ≡ slice_index (0 ∷ ends.now) index }

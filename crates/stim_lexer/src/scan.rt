@@ -7,6 +7,7 @@ ghost use Rattle.stim_lexer.specs.Lines.{lines_of};
 use memchr::memchr;
 
 /// Whether a byte is a space, a tab or a carriage return.
+#[inline(always)]
 pub fn is_blank(byte: u8) -> bool
     ensures { result ≡ is_blank byte }
 {
@@ -14,6 +15,7 @@ pub fn is_blank(byte: u8) -> bool
 }
 
 /// Whether a byte ends a name.
+#[inline(always)]
 fn ends_name(byte: u8) -> bool
     ensures { result ≡ ends_name byte }
 {
@@ -36,6 +38,7 @@ pub(crate) fn any_bad_byte(text: &[u8]) -> bool
 }
 
 /// Where the first byte stands that isn't a blank.
+#[inline(always)]
 fn place_after_blanks(text: &[u8]) -> Option<usize>
     ensures { result ≡ position (λ b. not (is_blank b)) text.now }
 {
@@ -57,6 +60,7 @@ fn place_of_brace(text: &[u8]) -> Option<usize>
 }
 
 /// Where a byte first stands, or the text's length.
+#[inline(always)]
 fn place_of(text: &[u8], byte: u8) -> usize
     ensures { result ≡ position_or_len (λ b. b == byte) text.now }
 {
@@ -64,6 +68,7 @@ fn place_of(text: &[u8], byte: u8) -> usize
 }
 
 /// A text without the blanks in front.
+#[inline(always)]
 #[tactic(auto, using(crate::proofs::ScanLemmas::places))]
 pub fn after_blanks(text: &[u8]) -> &[u8]
     ensures { result.now ≡ after_blanks text.now }
@@ -92,6 +97,7 @@ pub(crate) fn from_brace(text: &[u8]) -> &[u8]
 }
 
 /// A text up to the first of a byte, and from there on. Where the byte is nowhere, all stands before it.
+#[inline(always)]
 pub fn cut_at(text: &[u8], byte: u8) -> (&[u8], &[u8])
     ensures before { result.0.now ≡ before_first (λ b. b == byte) text.now }
     ensures after { result.1.now ≡ from_first (λ b. b == byte) text.now }
@@ -102,6 +108,7 @@ pub fn cut_at(text: &[u8], byte: u8) -> (&[u8], &[u8])
 
 /// What stands before the first of a byte and what follows it, or all and nothing where the byte is nowhere; and whether it
 /// stands somewhere.
+#[inline(always)]
 fn cut_round(text: &[u8], byte: u8) -> (&[u8], &[u8], bool)
     ensures before { result.0.now ≡ before_first (λ b. b == byte) text.now }
     ensures after { result.1.now ≡ after_first (λ b. b == byte) text.now }

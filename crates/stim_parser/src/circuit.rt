@@ -46,6 +46,7 @@ impl<'a, A: Allocator + Copy> Circuit<'a, A> {
     }
 
     /// How many items there are, the ends of blocks too.
+    #[inline(always)]
     pub fn len(&self) -> usize
         ensures { result ≡ length (items_of self.now) }
     {
@@ -60,6 +61,7 @@ impl<'a, A: Allocator + Copy> Circuit<'a, A> {
     }
 
     /// The item at a place.
+    #[inline(always)]
     pub fn item(&self, i: usize) -> Item<'_, 'a>
         requires { i < length (items_of self.now) }
         ensures { Some (item_in result) ≡ slice_get (items_of self.now) i }
@@ -68,6 +70,7 @@ impl<'a, A: Allocator + Copy> Circuit<'a, A> {
     }
 
     /// Does nothing: each instruction of a circuit fits, and its blocks have turns and do not stand too deep.
+    #[inline(always)]
     pub fn fits(&self)
         ensures { IsCircuit self.now }
     {

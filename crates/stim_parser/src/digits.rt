@@ -8,6 +8,7 @@ ghost use Rattle.stim_parser.specs.Numbers.{is_number, number_of, value_of};
 pub(crate) const BEYOND_ALL: u64 = 1_000_000_000_000_000_000;
 
 /// The number that digits write, or the one beyond every limit where it is greater.
+#[inline(always)]
 pub(crate) fn value_of(digits: &[u8]) -> u64
     ensures { result ≡ value_of digits.now }
 {
@@ -19,6 +20,7 @@ pub(crate) fn value_of(digits: &[u8]) -> u64
 }
 
 /// Whether a text has only digits.
+#[inline(always)]
 fn are_digits(text: &[u8]) -> bool
     ensures { result ≡ list_all is_ascii_digit text.now }
 {
@@ -26,6 +28,7 @@ fn are_digits(text: &[u8]) -> bool
 }
 
 /// Whether a text is one digit or more.
+#[inline(always)]
 pub(crate) fn is_number(text: &[u8]) -> bool
     ensures { result ≡ is_number text.now }
 {
@@ -33,6 +36,7 @@ pub(crate) fn is_number(text: &[u8]) -> bool
 }
 
 /// The number that a text writes, where it is digits.
+#[inline(always)]
 pub fn number_of(text: &[u8]) -> Option<u64>
     ensures { result ≡ number_of text.now }
 {

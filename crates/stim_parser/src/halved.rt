@@ -31,6 +31,7 @@ impl Model for Number {
 
 impl Number {
     /// The number in its halves.
+    #[inline(always)]
     pub fn new(number: u64) -> Self
         ensures { result ≡ number }
     {
@@ -41,6 +42,7 @@ impl Number {
     }
 
     /// The number as one.
+    #[inline(always)]
     pub fn value(self) -> u64
         ensures { result ≡ self }
     {

@@ -4,6 +4,7 @@ ghost use Rattle.stim_parser.specs.Pieces.{ends_piece, pieces_of};
 use stim_lexer::{after_blanks, is_blank};
 
 /// Where the first byte stands before which a piece ends.
+#[inline(always)]
 fn place_of_end(text: &[u8]) -> Option<usize>
     ensures { result ≡ position ends_piece text.now }
 {

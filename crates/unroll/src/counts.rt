@@ -4,6 +4,7 @@ ghost use Rattle.unroll.specs.Totals.{records_made, collapses_made, detectors_ma
 use stim_parser::Operation;
 
 /// How many records an operation makes of so many targets, a product being one.
+#[inline(always)]
 pub(crate) fn records_made(operation: Operation, targets: usize) -> usize
     ensures { result ≡ records_made operation targets }
 {
@@ -15,6 +16,7 @@ pub(crate) fn records_made(operation: Operation, targets: usize) -> usize
 }
 
 /// How many collapses an operation makes of so many targets.
+#[inline(always)]
 pub(crate) fn collapses_made(operation: Operation, targets: usize) -> usize
     ensures { result ≡ collapses_made operation targets }
 {
@@ -25,6 +27,7 @@ pub(crate) fn collapses_made(operation: Operation, targets: usize) -> usize
 }
 
 /// How many detectors an operation makes.
+#[inline(always)]
 pub(crate) fn detectors_made(operation: Operation) -> usize
     ensures { result ≡ detectors_made operation }
 {
@@ -35,6 +38,7 @@ pub(crate) fn detectors_made(operation: Operation) -> usize
 }
 
 /// How many faults an operation makes of so many targets, where its records may flip or not.
+#[inline(always)]
 pub(crate) fn faults_made(operation: Operation, flips: bool, targets: usize) -> usize
     ensures { result ≡ faults_made operation flips targets }
 {
@@ -52,6 +56,7 @@ pub(crate) fn faults_made(operation: Operation, flips: bool, targets: usize) -> 
 }
 
 /// How many steps of a program an operation makes of so many targets.
+#[inline(always)]
 pub(crate) fn steps_made(operation: Operation, targets: usize) -> usize
     ensures { result ≡ steps_made operation targets }
 {

@@ -8,6 +8,7 @@ ghost use Rattle.unroll.specs.Totals.{qubits_named, qubits_to, target_count};
 use stim_parser::{Operation, Target};
 
 /// One more than the qubit that a target names, and 0 where it names none.
+#[inline(always)]
 fn qubits_to(target: Target) -> u32
     requires { qubits_to target ≤ 4096 }
     ensures { result ≡ qubits_to target }
@@ -19,6 +20,7 @@ fn qubits_to(target: Target) -> u32
 }
 
 /// The qubit that a target names.
+#[inline(always)]
 pub(crate) fn qubit_of(target: Target) -> u32
     requires { qubits_to target ≤ 4096 }
     ensures { result ≡ qubit_of target }
@@ -43,6 +45,7 @@ pub(crate) fn qubits_named(targets: &[Target]) -> u32
 }
 
 /// Whether a target is a record further back than so many.
+#[inline(always)]
 fn is_far(records: u64, target: Target) -> bool
     ensures { result ≡ is_far records target }
 {
@@ -108,6 +111,7 @@ fn product_count(targets: &[Target]) -> usize
 }
 
 /// How many targets an operation has in these, a product being one.
+#[inline(always)]
 pub(crate) fn target_count(operation: Operation, targets: &[Target]) -> usize
     ensures value { result ≡ target_count operation targets.now }
     ensures few { result ≤ length targets.now }

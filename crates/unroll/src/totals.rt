@@ -34,6 +34,7 @@ struct Summing {
     blocks: ArrayVec<OpenBlock<Totals>, LEVELS>,
 }
 
+#[inline(always)]
 fn capped_sum(sum: u64, more: usize) -> u64
     ensures { result ≡ capped_sum sum more }
 {
