@@ -77,6 +77,24 @@ impl<A: Allocator + Copy> BitRow<A> {
         bit_at_place(self.words.as_slice(), i)
     }
 
+    /// The bits at a place of two rows. It takes less than two calls of `get`.
+    #[inline(always)]
+    pub fn get_both(first: &BitRow<A>, second: &BitRow<A>, i: usize) -> (bool, bool)
+        requires first { i < length first.now }
+        requires second { i < length second.now }
+        ensures first { result.0 ≡ slice_index_or first.now i false }
+        ensures second { result.1 ≡ slice_index_or second.now i false }
+    {
+        let unmarked = is_unmarked(either(first.marks, second.marks), i / 256);
+        if unmarked {
+            return (false, false);
+        }
+        (
+            bit_at_place(first.words.as_slice(), i),
+            bit_at_place(second.words.as_slice(), i),
+        )
+    }
+
     /// Puts a bit at a place.
     #[inline(always)]
     pub fn set(&mut self, i: usize, b: bool)

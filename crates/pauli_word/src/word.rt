@@ -58,7 +58,8 @@ impl<A: Allocator + Copy> Word<A> {
         requires { qubit < length self.now.letters }
         ensures { result ≡ letter_at self.now.letters qubit }
     {
-        Letter::of_bits(self.x.get(qubit), self.z.get(qubit))
+        let bits = BitRow::get_both(&self.x, &self.z, qubit);
+        Letter::of_bits(bits.0, bits.1)
     }
 
     /// Puts a letter at a qubit.

@@ -3,18 +3,18 @@ use Rattle.pauli_word.specs.Bits.{letter_of}
 use Rattle.pauli_word.proofs.BitWords.{seen_length, seen_letter}
 use Rattle.pauli_word.proofs.word.Word.letter.Goals as goal
 
-pub get-requires : goal.get-requires
-get-requires g c =
+pub get_both-bits-requires-clause-first : goal.get_both-bits-requires-clause-first
+get_both-bits-requires-clause-first g c =
     let rows = seen_length c.self.inside.x c.self.inside.z c.self.inside.negative c.args.self.now c.self.invariant c.self.view_is in
     omega (arith, rows, c.requires)
 
-pub get-requires-2 : goal.get-requires-2
-get-requires-2 g c =
+pub get_both-bits-requires-clause-second : goal.get_both-bits-requires-clause-second
+get_both-bits-requires-clause-second g c =
     let rows = seen_length c.self.inside.x c.self.inside.z c.self.inside.negative c.args.self.now c.self.invariant c.self.view_is in
     omega (arith, rows, c.self.invariant, c.requires)
 
 pub returns : goal.returns
 returns g c =
     c.of_bits.ensures
-    ∙ (ap₂ letter_of c.get.ensures c.get-2.ensures
+    ∙ (ap₂ letter_of c.get_both-bits.ensures.first c.get_both-bits.ensures.second
     ∙ seen_letter c.self.inside.x c.self.inside.z c.self.inside.negative c.args.self.now c.args.qubit c.self.invariant c.self.view_is)
