@@ -15,6 +15,7 @@ use std::alloc::{AllocError, Allocator};
 use std::marker::Model;
 use step_model::{Cause, Fault};
 use stim_lexer::Line;
+use stim_parser::LastProbability;
 
 /// An error model that is read line by line.
 #[derive(Drop)]
@@ -24,6 +25,7 @@ pub(crate) struct Builder<'a, A: Allocator + Copy> {
     blocks: ArrayVec<u64, DEEPEST>,
     // Room for the targets of the line that is read.
     targets: Vec<Target, A>,
+    last: LastProbability<'a>,
 }
 
 impl<'a, A: Allocator + Copy> Model for Builder<'a, A> {
@@ -46,6 +48,7 @@ impl<'a, A: Allocator + Copy> Builder<'a, A> {
             items: Items::new(alloc),
             blocks: ArrayVec::new(),
             targets: Vec::new(alloc),
+            last: LastProbability::new(),
         }
     }
 
@@ -56,7 +59,7 @@ impl<'a, A: Allocator + Copy> Builder<'a, A> {
         ensures after { IfOk result (λ refused. self.new ≡ after_line line.entry.number (reading_at self.old line.entry.number (cut_in line.entry)) self.old) }
     {
         let number = line.number;
-        match read_line(&mut self.targets, self.blocks.len(), line)? {
+        match read_line(&mut self.last, &mut self.targets, self.blocks.len(), line)? {
             Said::Takes {
                 operation,
                 arguments,

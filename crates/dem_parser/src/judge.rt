@@ -15,7 +15,9 @@ use arrayvec::ArrayVec;
 use std::alloc::{AllocError, Allocator};
 use step_model::Cause;
 use stim_lexer::{Braces, Line};
-use stim_parser::{MOST_ARGUMENTS, has_wrong_arguments, has_wrong_probability, read_arguments};
+use stim_parser::{
+    LastProbability, MOST_ARGUMENTS, has_wrong_arguments, has_wrong_probability, read_arguments,
+};
 
 /// How many blocks may stand inside one another.
 pub(crate) const DEEPEST: usize = 32;
@@ -62,7 +64,11 @@ fn keyword_of(line: Line) -> Result<Keyword, Cause>
 }
 
 /// The arguments of a line, where they are of the number and the form that its keyword takes.
-fn arguments_of<'a>(keyword: Keyword, line: Line<'a>) -> Option<ArrayVec<&'a [u8], MOST_ARGUMENTS>>
+fn arguments_of<'a>(
+    last: &mut LastProbability<'a>,
+    keyword: Keyword,
+    line: Line<'a>,
+) -> Option<ArrayVec<&'a [u8], MOST_ARGUMENTS>>
     ensures { MatchOption result (refuses_arguments keyword (cut_in line.entry) ≡ true)
         (λ found. (texts_of found.items ≡ arguments_in line.entry.arguments.now) × (refuses_arguments keyword (cut_in line.entry) ≡ false)) }
 {
@@ -72,7 +78,7 @@ fn arguments_of<'a>(keyword: Keyword, line: Line<'a>) -> Option<ArrayVec<&'a [u8
     };
     if line.stays_open
         || has_wrong_arguments(form, arguments.as_slice())
-        || has_wrong_probability(form, arguments.as_slice())
+        || has_wrong_probability(last, form, arguments.as_slice())
     {
         return None;
     }
@@ -137,16 +143,17 @@ fn refusal_of_amounts(
 
 /// The refusal of a line with a keyword, where so many blocks are open. Where there is none its targets are in place of
 /// those that were there.
-fn refusal_of<A: Allocator + Copy>(
+fn refusal_of<'a, A: Allocator + Copy>(
+    last: &mut LastProbability<'a>,
     targets: &mut Vec<Target, A>,
     depth: usize,
     keyword: Keyword,
-    line: Line,
+    line: Line<'a>,
 ) -> Result<Option<Cause>, AllocError>
     ensures refusal { IfOk result (λ refusal. refusal ≡ first_of (refusals_of_keyword depth keyword (cut_in line.entry))) }
     ensures targets { IfOk result (λ refusal. refusal ≡ None → targets.new.items ≡ read_targets line.entry.targets.now) }
 {
-    let Some(arguments) = arguments_of(keyword, line) else {
+    let Some(arguments) = arguments_of(last, keyword, line) else {
         return Ok(Some(Cause::DemArguments));
     };
     if !read_line_targets(targets, target_form(keyword), line.targets)? {
@@ -188,6 +195,7 @@ fn closed_at<'a>(depth: usize) -> Said<'a>
 
 /// Reads a line that doesn't close a block.
 fn judged<'a, A: Allocator + Copy>(
+    last: &mut LastProbability<'a>,
     targets: &mut Vec<Target, A>,
     depth: usize,
     line: Line<'a>,
@@ -198,7 +206,7 @@ fn judged<'a, A: Allocator + Copy>(
         Ok(keyword) => keyword,
         Err(cause) => return Ok(Said::Refuses(cause)),
     };
-    match refusal_of(targets, depth, keyword, line)? {
+    match refusal_of(last, targets, depth, keyword, line)? {
         Some(cause) => Ok(Said::Refuses(cause)),
         None => Ok(accepted(keyword, line, targets.as_slice())),
     }
@@ -208,6 +216,7 @@ fn judged<'a, A: Allocator + Copy>(
 /// no instruction that is taken, what stands in their place is not said.
 #[tactic(auto, unfolding(crate::specs::Verdicts::reading_of))]
 pub(crate) fn read_line<'a, A: Allocator + Copy>(
+    last: &mut LastProbability<'a>,
     targets: &mut Vec<Target, A>,
     depth: usize,
     line: Line<'a>,
@@ -216,6 +225,6 @@ pub(crate) fn read_line<'a, A: Allocator + Copy>(
 {
     match line.braces {
         Braces::ClosingAlone => Ok(closed_at(depth)),
-        _ => judged(targets, depth, line),
+        _ => judged(last, targets, depth, line),
     }
 }

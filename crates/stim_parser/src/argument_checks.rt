@@ -6,8 +6,8 @@ ghost use Rattle.stim_parser.specs.Said.{texts_of};
 use crate::arguments::MOST_ARGUMENTS;
 use crate::digits::{is_number, value_of};
 use crate::forms::ArgumentForm;
+use crate::last::LastProbability;
 use crate::numbers::{is_coordinate_beyond, is_decimal, is_number_beyond, is_whole_number};
-use crate::probability::Probability;
 
 /// Whether a form has another number of arguments.
 fn is_wrong_count(form: ArgumentForm, count: usize) -> bool
@@ -60,19 +60,26 @@ fn takes_probability(form: ArgumentForm) -> bool
 }
 
 /// Whether each argument is a probability that is accepted.
-fn are_probabilities(arguments: &[&[u8]]) -> bool
+fn are_probabilities<'a>(last: &mut LastProbability<'a>, arguments: &[&'a [u8]]) -> bool
     ensures { result ≡ list_all (λ argument. is_probability argument.now) arguments.now }
 {
-    arguments
-        .iter()
-        .all(|argument| Probability::read(*argument).is_some())
+    for argument in arguments {
+        if last.bound(*argument).is_none() {
+            return false;
+        }
+    }
+    true
 }
 
 /// Whether an argument is to be a probability and isn't one that is accepted.
-pub fn has_wrong_probability(form: ArgumentForm, arguments: &[&[u8]]) -> bool
+pub fn has_wrong_probability<'a>(
+    last: &mut LastProbability<'a>,
+    form: ArgumentForm,
+    arguments: &[&'a [u8]],
+) -> bool
     ensures { result ≡ has_wrong_probability form (texts_of arguments.now) }
 {
-    takes_probability(form) && !are_probabilities(arguments)
+    takes_probability(form) && !are_probabilities(last, arguments)
 }
 
 /// Whether an argument is beyond its limit.

@@ -8,7 +8,7 @@ ghost use Rattle.stim_parser.specs.Unfinished.{after_line, cause_in, reading_at}
 use crate::circuit::Circuit;
 use crate::instruction::Instruction;
 use crate::items::Items;
-use crate::judge::{DEEPEST, Said, read_line};
+use crate::judge::{DEEPEST, Last, Said, read_line};
 use crate::target::Target;
 use arrayvec::ArrayVec;
 use std::alloc::{AllocError, Allocator};
@@ -24,6 +24,7 @@ pub(crate) struct Builder<'a, A: Allocator + Copy> {
     blocks: ArrayVec<u64, DEEPEST>,
     // Room for the targets of the line that is read.
     targets: Vec<Target, A>,
+    last: Last<'a>,
 }
 
 impl<'a, A: Allocator + Copy> Model for Builder<'a, A> {
@@ -46,6 +47,7 @@ impl<'a, A: Allocator + Copy> Builder<'a, A> {
             items: Items::new(alloc),
             blocks: ArrayVec::new(),
             targets: Vec::new(alloc),
+            last: Last::new(),
         }
     }
 
@@ -56,7 +58,7 @@ impl<'a, A: Allocator + Copy> Builder<'a, A> {
         ensures after { IfOk result (λ refused. self.new ≡ after_line line.entry.number (reading_at self.old line.entry.number (cut_in line.entry)) self.old) }
     {
         let number = line.number;
-        match read_line(&mut self.targets, self.blocks.len(), line)? {
+        match read_line(&mut self.last, &mut self.targets, self.blocks.len(), line)? {
             Said::Takes {
                 operation,
                 arguments,

@@ -9,7 +9,8 @@ ghost use Rattle.stim_parser.specs.Verdicts.{accepted, closed_at, has_wrong_numb
 use crate::argument_checks::{has_argument_beyond, has_wrong_arguments, has_wrong_probability};
 use crate::arguments::{MOST_ARGUMENTS, read_arguments};
 use crate::forms::{ArgumentForm, TargetForm, argument_form, target_form};
-use crate::names::{is_left_out, keyword_named};
+use crate::last::{LastName, LastProbability};
+use crate::names::is_left_out;
 use crate::operation::{Keyword, Operation};
 use crate::target::{Target, read_targets};
 use crate::target_checks::{are_of_form, has_same_qubit, has_target_beyond, has_wrong_count};
@@ -46,13 +47,30 @@ fn misplaces_brace(keyword: Option<Keyword>, braces: Braces) -> bool
     }
 }
 
+/// The name and the probability that were read last.
+#[derive(Drop)]
+pub(crate) struct Last<'a> {
+    pub name: LastName<'a>,
+    pub probability: LastProbability<'a>,
+}
+
+impl<'a> Last<'a> {
+    /// Those of an empty text.
+    pub(crate) fn new() -> Self {
+        Last {
+            name: LastName::new(),
+            probability: LastProbability::new(),
+        }
+    }
+}
+
 /// The keyword of a line that doesn't close a block, where its braces stand as that asks.
-fn keyword_of(line: Line) -> Result<Keyword, Cause>
+fn keyword_of<'a>(last: &mut LastName<'a>, line: Line<'a>) -> Result<Keyword, Cause>
     ensures { MatchResult result
         (λ keyword. (keyword_named line.entry.name.now ≡ Some keyword) × (misplaces_brace (Some keyword) line.entry.braces ≡ false))
         (λ refused. (depth : ℕ) → refusal_of depth (cut_in line.entry) ≡ Some refused) }
 {
-    let keyword = keyword_named(line.name);
+    let keyword = last.keyword(line.name);
     if misplaces_brace(keyword, line.braces) {
         return Err(Cause::Block);
     }
@@ -70,6 +88,7 @@ fn keyword_of(line: Line) -> Result<Keyword, Cause>
 
 /// The arguments of a line, where they are of the number and the form that its keyword takes.
 fn arguments_of<'a>(
+    last: &mut LastProbability<'a>,
     form: ArgumentForm,
     line: Line<'a>,
 ) -> Result<ArrayVec<&'a [u8], MOST_ARGUMENTS>, Cause>
@@ -83,7 +102,7 @@ fn arguments_of<'a>(
     if line.stays_open || has_wrong_arguments(form, arguments.as_slice()) {
         return Err(Cause::Arguments);
     }
-    if has_wrong_probability(form, arguments.as_slice()) {
+    if has_wrong_probability(last, form, arguments.as_slice()) {
         return Err(Cause::Probability);
     }
     Ok(arguments)
@@ -172,16 +191,17 @@ fn refusal_of_amounts(
 
 /// The refusal of a line with a keyword, where so many blocks are open. Where there is none its targets are in place of
 /// those that were there.
-fn refusal_of<A: Allocator + Copy>(
+fn refusal_of<'a, A: Allocator + Copy>(
+    last: &mut LastProbability<'a>,
     targets: &mut Vec<Target, A>,
     depth: usize,
     keyword: Keyword,
-    line: Line,
+    line: Line<'a>,
 ) -> Result<Option<Cause>, AllocError>
     ensures refusal { IfOk result (λ refusal. refusal ≡ first_of (refusals_of_keyword depth keyword (cut_in line.entry))) }
     ensures targets { IfOk result (λ refusal. refusal ≡ None → targets.new.items ≡ read_targets (target_form keyword) line.entry.targets.now) }
 {
-    let arguments = match arguments_of(argument_form(keyword), line) {
+    let arguments = match arguments_of(last, argument_form(keyword), line) {
         Ok(arguments) => arguments,
         Err(cause) => return Ok(Some(cause)),
     };
@@ -224,17 +244,18 @@ fn closed_at<'a>(depth: usize) -> Said<'a>
 
 /// Reads a line that doesn't close a block.
 fn judged<'a, A: Allocator + Copy>(
+    last: &mut Last<'a>,
     targets: &mut Vec<Target, A>,
     depth: usize,
     line: Line<'a>,
 ) -> Result<Said<'a>, AllocError>
     ensures { IfOk result (λ said. reading_in line.entry.number said targets.new.items ≡ judged depth line.entry.number (cut_in line.entry)) }
 {
-    let keyword = match keyword_of(line) {
+    let keyword = match keyword_of(&mut last.name, line) {
         Ok(keyword) => keyword,
         Err(cause) => return Ok(Said::Refuses(cause)),
     };
-    match refusal_of(targets, depth, keyword, line)? {
+    match refusal_of(&mut last.probability, targets, depth, keyword, line)? {
         Some(cause) => Ok(Said::Refuses(cause)),
         None => Ok(accepted(keyword, line, targets.as_slice())),
     }
@@ -244,6 +265,7 @@ fn judged<'a, A: Allocator + Copy>(
 /// no instruction that is taken, what stands in their place is not said.
 #[tactic(auto, unfolding(crate::specs::Verdicts::reading_of))]
 pub(crate) fn read_line<'a, A: Allocator + Copy>(
+    last: &mut Last<'a>,
     targets: &mut Vec<Target, A>,
     depth: usize,
     line: Line<'a>,
@@ -252,6 +274,6 @@ pub(crate) fn read_line<'a, A: Allocator + Copy>(
 {
     match line.braces {
         Braces::ClosingAlone => Ok(closed_at(depth)),
-        _ => judged(targets, depth, line),
+        _ => judged(last, targets, depth, line),
     }
 }

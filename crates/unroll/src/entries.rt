@@ -12,7 +12,7 @@ use pauli_word::Letter;
 use programs::EntryPart;
 use std::alloc::{AllocError, Allocator};
 use step_model::Term;
-use stim_parser::{Instruction, Operation, Probability, Target};
+use stim_parser::{Instruction, LastProbability, Operation, Target};
 
 /// What is kept of a circuit's faults, and beside each its letters at qubits.
 #[derive(Drop)]
@@ -42,11 +42,11 @@ impl<'a, A: Allocator + Copy> Entries<'a, A> {
 }
 
 /// Floor of a probability times 2^64, and 0 where the text is none.
-fn bound_of(text: &[u8]) -> u128
+fn bound_of<'a>(last: &mut LastProbability<'a>, text: &'a [u8]) -> u128
     ensures { result ≡ unwrap_or (probability_bound text.now) 0 }
 {
-    match Probability::read(text) {
-        Some(probability) => probability.bound(),
+    match last.bound(text) {
+        Some(bound) => bound,
         None => 0,
     }
 }
@@ -108,6 +108,7 @@ fn push_entry<'a, A: Allocator + Copy>(
 /// An entry of one letter at each target.
 fn push_entries<'a, A: Allocator + Copy>(
     entries: &mut Entries<'a, A>,
+    last: &mut LastProbability<'a>,
     letter: Letter,
     text: &'a [u8],
     targets: &[Target],
@@ -116,7 +117,7 @@ fn push_entries<'a, A: Allocator + Copy>(
     ensures { OnOk result (entries_of entries.new.parts.items entries.new.terms
         ≡ entries_of entries.old.parts.items entries.old.terms ++ map (entry_at letter text.now) targets.now) }
 {
-    let bound = bound_of(text);
+    let bound = bound_of(last, text);
     for target in targets {
         push_entry(entries, text, bound, &[term_at(letter, *target)])?;
     }
@@ -136,13 +137,14 @@ fn first_argument<'a>(instruction: Instruction<'_, 'a>) -> &'a [u8]
 /// The entry of a measurement, where it has a probability.
 fn push_flip<'a, A: Allocator + Copy>(
     entries: &mut Entries<'a, A>,
+    last: &mut LastProbability<'a>,
     instruction: Instruction<'_, 'a>,
 ) -> Result<(), AllocError>
     ensures { OnOk result (entries_of entries.new.parts.items entries.new.terms
         ≡ entries_of entries.old.parts.items entries.old.terms ++ flip_entries (instruction_in instruction.entry).arguments) }
 {
     match instruction.first_argument() {
-        Some(text) => push_entry(entries, text, bound_of(text), &[]),
+        Some(text) => push_entry(entries, text, bound_of(last, text), &[]),
         None => Ok(()),
     }
 }
@@ -151,6 +153,7 @@ fn push_flip<'a, A: Allocator + Copy>(
 pub(crate) fn push_instruction<'a, A: Allocator + Copy>(
     entries: &mut Entries<'a, A>,
     terms: &mut Vec<Term, A>,
+    last: &mut LastProbability<'a>,
     instruction: Instruction<'_, 'a>,
 ) -> Result<(), AllocError>
     requires { All IsSmall instruction.targets.now }
@@ -159,10 +162,11 @@ pub(crate) fn push_instruction<'a, A: Allocator + Copy>(
 {
     match instruction.operation {
         Operation::Measures(_) | Operation::MeasuresAndResets(_) | Operation::MeasuresProducts => {
-            push_flip(entries, instruction)
+            push_flip(entries, last, instruction)
         }
         Operation::Errs(letter) => push_entries(
             entries,
+            last,
             letter,
             first_argument(instruction),
             instruction.targets,
@@ -170,7 +174,7 @@ pub(crate) fn push_instruction<'a, A: Allocator + Copy>(
         Operation::ErrsTogether => {
             name_terms(terms, instruction.targets)?;
             let text = first_argument(instruction);
-            push_entry(entries, text, bound_of(text), terms)
+            push_entry(entries, text, bound_of(last, text), terms)
         }
         _ => Ok(()),
     }

@@ -16,7 +16,7 @@ use flat_lists::FlatLists;
 use programs::{CircuitBuilder, Node};
 use std::alloc::{AllocError, Allocator};
 use step_model::Term;
-use stim_parser::{Circuit, Instruction, Item};
+use stim_parser::{Circuit, Instruction, Item, LastProbability};
 
 /// A circuit's steps with its blocks, and what is kept beside them.
 #[derive(Drop)]
@@ -34,6 +34,7 @@ struct Writing<'a, A: Allocator + Copy> {
     products: FlatLists<Term, A>,
     // Letters are gathered here before they are kept.
     terms: Vec<Term, A>,
+    last: LastProbability<'a>,
 }
 
 /// What flips the records of an instruction, where it has an argument: the entry of this number.
@@ -56,6 +57,7 @@ impl<'a, A: Allocator + Copy> Writing<'a, A> {
             entries: Entries::new(alloc),
             products: FlatLists::new(alloc),
             terms: Vec::new(alloc),
+            last: LastProbability::new(),
         }
     }
 
@@ -77,7 +79,12 @@ impl<'a, A: Allocator + Copy> Writing<'a, A> {
             flip,
             targets,
         )?;
-        push_instruction(&mut self.entries, &mut self.terms, instruction)?;
+        push_instruction(
+            &mut self.entries,
+            &mut self.terms,
+            &mut self.last,
+            instruction,
+        )?;
         push_kept_products(&mut self.products, &mut self.terms, operation, targets)
     }
 

@@ -1,0 +1,78 @@
+//! What was found last: lines that follow one another often have the same name and the same probability.
+ghost use Rattle.std.specs.Prelude.{◌≡◌};
+ghost use Rattle.step_model.specs.Probabilities.{probability_bound};
+ghost use Rattle.stim_parser.specs.Instructions.{keyword_named};
+
+use crate::names::keyword_named;
+use crate::operation::Keyword;
+use crate::probability::Probability;
+
+/// The name that was looked up last, and what it names.
+#[derive(Clone, Copy)]
+pub(crate) struct LastName<'a> {
+    name: &'a [u8],
+    keyword: Option<Keyword>,
+    ghost named: { keyword ≡ keyword_named name.now },
+}
+
+impl<'a> LastName<'a> {
+    /// That of the empty name.
+    pub(crate) fn new() -> Self {
+        LastName {
+            name: &[],
+            keyword: keyword_named(&[]),
+        }
+    }
+
+    /// The keyword that a name names, in any case.
+    pub(crate) fn keyword(&mut self, name: &'a [u8]) -> Option<Keyword>
+        ensures { result ≡ keyword_named name.now }
+    {
+        if self.name == name {
+            return self.keyword;
+        }
+        let keyword = keyword_named(name);
+        *self = LastName { name, keyword };
+        keyword
+    }
+}
+
+/// The text that was read last as a probability, and floor of that times 2^64, where it is one.
+#[derive(Clone, Copy)]
+pub struct LastProbability<'a> {
+    text: &'a [u8],
+    bound: Option<u128>,
+    ghost read: { bound ≡ probability_bound text.now },
+}
+
+/// Floor of a probability times 2^64, where the text is one.
+fn bound_of(text: &[u8]) -> Option<u128>
+    ensures { result ≡ probability_bound text.now }
+{
+    match Probability::read(text) {
+        Some(probability) => Some(probability.bound()),
+        None => None,
+    }
+}
+
+impl<'a> LastProbability<'a> {
+    /// That of the empty text.
+    pub fn new() -> Self {
+        LastProbability {
+            text: &[],
+            bound: bound_of(&[]),
+        }
+    }
+
+    /// Floor of the probability that a text writes times 2^64, where `Probability::read` reads one.
+    pub fn bound(&mut self, text: &'a [u8]) -> Option<u128>
+        ensures { result ≡ probability_bound text.now }
+    {
+        if self.text == text {
+            return self.bound;
+        }
+        let bound = bound_of(text);
+        *self = LastProbability { text, bound };
+        bound
+    }
+}
