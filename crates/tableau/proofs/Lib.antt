@@ -5,8 +5,10 @@ pub mod EncodingCollapse
 pub mod EncodingGates
 pub mod FirstLetters
 pub mod KeptRows
+pub mod LoneWords
 pub mod PairWords
 pub mod PauliGates
+pub mod PivotLetters
 pub mod RandomCollapse
 pub mod RowMaps
 pub mod RowClashes

@@ -1,5 +1,5 @@
 //! The collapse of a word: its code tells the outcome, or the turn that all rows take.
-ghost use Rattle.std.specs.Prelude.{◌≡◌, ◌<◌, ℕ, length, true, false, All, IfSome, IsTrue};
+ghost use Rattle.std.specs.Prelude.{◌≡◌, ◌≢◌, ◌<◌, ℕ, length, true, false, All, IfSome, IsTrue};
 ghost use Rattle.gate_table.specs.Images.{arity_of};
 ghost use Rattle.gate_table.specs.WordImages.{image_at};
 ghost use Rattle.pauli_word.specs.declared.letter.Letter.TheVariants.{I, Z};
@@ -52,15 +52,18 @@ fn diagonal_sign<A: Allocator + Copy>(word: &Word<A>) -> Option<bool>
     }
 }
 
-/// Collapses the word whose code is `code.0`: the outcome, and the row that was replaced where it was random.
+/// Collapses the word whose code is `code.0`: the outcome, and the row that was replaced where it was random. The word may
+/// have its one letter at the qubit `only`.
 pub(crate) fn collapse_code<A: Allocator + Copy>(
     rows: &mut Vec<Pair<A>, A>,
     word: &Word<A>,
+    only: Option<usize>,
     code: &mut Pair<A>,
     coin: bool,
 ) -> (bool, Option<usize>)
     requires tableau { IsTableau (length rows.old.items) rows.old.items }
     requires word { length word.now.letters ≡ length rows.old.items }
+    requires only { IfSome only (λ k. (i : ℕ) → i ≢ k → letter_at word.now.letters i ≡ I) }
     requires code { HasLength (length rows.old.items) code.old }
     requires of_word { code.old.0 ≡ code_of (length rows.old.items) rows.old.items word.now.letters }
     ensures rows { rows.new.items ≡ after_collapse (length rows.old.items) code.old.0 coin rows.old.items }
@@ -73,7 +76,7 @@ pub(crate) fn collapse_code<A: Allocator + Copy>(
         Some(qubit) => {
             let letter = code.0.letter(qubit);
             set_pivot(code, qubit, coin);
-            turn_rows(rows, word, code, letter, qubit);
+            turn_rows(rows, word, only, code, letter, qubit);
             (coin, Some(qubit))
         }
     }
@@ -108,20 +111,37 @@ fn set_pivot<A: Allocator + Copy>(code: &mut Pair<A>, qubit: usize, coin: bool)
 fn turn_rows<A: Allocator + Copy>(
     rows: &mut Vec<Pair<A>, A>,
     word: &Word<A>,
+    only: Option<usize>,
     code: &Pair<A>,
     letter: Letter,
     qubit: usize,
 )
     requires word { length word.now.letters ≡ length rows.old.items }
+    requires only { IfSome only (λ k. (i : ℕ) → i ≢ k → letter_at word.now.letters i ≡ I) }
     requires pivot { IsPivot (length code.now.0.letters) qubit code.now }
     requires sizes { All (HasLength (length code.now.0.letters)) rows.old.items }
     requires clashes { (i : ℕ) → i < length rows.old.items → ClashesAt (letter_at word.now.letters i) letter qubit code.now.0 (pair_at (length code.now.0.letters) rows.old.items i) }
     ensures { rows.new.items ≡ mapped (λ v. image_at (turning_gate letter) qubit (twisted (lone (length code.now.0.letters) qubit Z) code.now.0 v)) rows.old.items }
 {
     for row in 0..rows.len() {
-        let measured = word.letter(row);
+        let measured = measured_at(word, only, row);
         turn_pair(&mut rows[row], code, letter, qubit, measured);
     }
+}
+
+// The letter of the word at a qubit, which is I where the word has its one letter elsewhere.
+#[inline(always)]
+fn measured_at<A: Allocator + Copy>(word: &Word<A>, only: Option<usize>, qubit: usize) -> Letter
+    requires inside { qubit < length word.now.letters }
+    requires only { IfSome only (λ k. (i : ℕ) → i ≢ k → letter_at word.now.letters i ≡ I) }
+    ensures { result ≡ letter_at word.now.letters qubit }
+{
+    if let Some(k) = only {
+        if qubit != k {
+            return Letter::I;
+        }
+    }
+    word.letter(qubit)
 }
 
 #[inline(always)]
@@ -196,11 +216,11 @@ fn change_row<A: Allocator + Copy>(
     requires clashes { anticommute row.old.letters code.now.0.letters ≡ exclusive_or clashes (letters_clash here letter) }
     ensures { row.new ≡ image_at (turning_gate letter) qubit (twisted (lone (length code.now.0.letters) qubit Z) code.now.0 row.old) }
 {
-    twist(row, code, letter, qubit, here, clashes);
-    apply_gate(row, turning_gate(letter), qubit);
+    let twisted = twist(row, code, letter, qubit, here, clashes);
+    apply_gate(row, turning_gate(letter), qubit, twisted);
 }
 
-// Only rows with X or Y at the qubit are multiplied; others change no more than their letter there.
+// Only rows with X or Y at the qubit are multiplied; others change no more than their letter there. Answers the letter there.
 #[inline(always)]
 fn twist<A: Allocator + Copy>(
     row: &mut Word<A>,
@@ -209,38 +229,46 @@ fn twist<A: Allocator + Copy>(
     qubit: usize,
     here: Letter,
     clashes: bool,
-)
+) -> Letter
     requires pivot { IsPivot (length code.now.0.letters) qubit code.now }
     requires size { length row.old.letters ≡ length code.now.0.letters }
     requires here { here ≡ letter_at row.old.letters qubit }
     requires clashes { anticommute row.old.letters code.now.0.letters ≡ exclusive_or clashes (letters_clash here letter) }
     ensures twisted { row.new ≡ twisted (lone (length code.now.0.letters) qubit Z) code.now.0 row.old }
     ensures size { length row.new.letters ≡ length code.now.0.letters }
+    ensures letter { result ≡ letter_at row.new.letters qubit }
 {
     let anticommutes = clashes ^ here.clashes(letter);
     match here {
         Letter::X | Letter::Y => {
             if anticommutes {
                 row.times(&code.0);
+                here
             } else {
                 row.times(&code.1);
+                here.times(Letter::Z)
             }
         }
         along => {
             if anticommutes {
-                row.set_letter(qubit, Letter::Z.times(along));
+                let turned = Letter::Z.times(along);
+                row.set_letter(qubit, turned);
+                turned
+            } else {
+                along
             }
         }
     }
 }
 
 #[inline(always)]
-fn apply_gate<A: Allocator + Copy>(word: &mut Word<A>, gate: Gate, qubit: usize)
+fn apply_gate<A: Allocator + Copy>(word: &mut Word<A>, gate: Gate, qubit: usize, here: Letter)
     requires arity { arity_of gate ≡ 1 }
     requires inside { qubit < length word.old.letters }
+    requires here { here ≡ letter_at word.old.letters qubit }
     ensures { word.new ≡ image_at gate qubit word.old }
 {
-    let (letter, minus) = gate.image1(word.letter(qubit));
+    let (letter, minus) = gate.image1(here);
     word.set_letter(qubit, letter);
     word.set_sign(word.sign() ^ minus);
 }

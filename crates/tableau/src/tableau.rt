@@ -150,7 +150,13 @@ impl<A: Allocator + Copy> Tableau<A> {
         self.second.0.clear();
         self.second.0.set_letter(qubit, letter);
         set_word(&mut self.first.0, &self.rows[qubit], letter, false);
-        collapse_code(&mut self.rows, &self.second.0, &mut self.first, coin)
+        collapse_code(
+            &mut self.rows,
+            &self.second.0,
+            Some(qubit),
+            &mut self.first,
+            coin,
+        )
     }
 
     /// Measures a word, its sign taken for plus: the outcome, and the row that was replaced where it was random.
@@ -164,7 +170,7 @@ impl<A: Allocator + Copy> Tableau<A> {
         ensures replaced { IfSome result.1 (IsReplaced self.old self.new word.now.letters) }
     {
         encode(&self.rows, word, &mut self.first.0);
-        collapse_code(&mut self.rows, word, &mut self.first, coin)
+        collapse_code(&mut self.rows, word, None, &mut self.first, coin)
     }
 
     /// Ends the reset of a qubit whose letter was measured: where the outcome is 1, applies the letter that turns it

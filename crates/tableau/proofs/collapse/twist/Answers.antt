@@ -1,5 +1,8 @@
-use Rattle.std.proofs.Common.{length, ap, sym, ◌∙◌}
+use Rattle.std.proofs.Common.{◌<◌, length, ap, sym, ◌∙◌, subst, get_or-set_same}
+use Rattle.pauli_word.specs.declared.letter.Letter.TheVariants.{I}
+use Rattle.pauli_word.specs.Words.{letter_at}
 use Rattle.pauli_word.specs.Parity.{exclusive_or}
+use Rattle.tableau.proofs.PivotLetters.{letter_kept, letter_turned}
 use Rattle.tableau.proofs.TwistRows.{turned_size, across_commuting, across_clashing, along_clashing, along_commuting, multiplied_size, multiplied_turned_size}
 use Rattle.tableau.proofs.collapse.twist.Goals as goal
 
@@ -26,9 +29,23 @@ pub returns-then-anticommutes-2-clause-twisted : goal.returns-then-anticommutes-
 returns-then-anticommutes-2-clause-twisted g c =
     let clash = c.requires.clashes ∙ ap (exclusive_or c.args.clashes) (sym c.clashes.ensures) in
     c.set_letter.ensures
-    ∙ along_clashing (length c.args.code.now.0.letters) c.args.qubit c.args.code.now c.requires.pivot c.args.row.now c.requires.size c.args.clashes c.clashes.result clash c.if-anticommutes-2.true c.args.here c.requires.here c.in_default.not-X c.in_default.not-Y c.times-then-anticommutes-2.result c.times-then-anticommutes-2.ensures
+    ∙ along_clashing (length c.args.code.now.0.letters) c.args.qubit c.args.code.now c.requires.pivot c.args.row.now c.requires.size c.args.clashes c.clashes.result clash c.if-anticommutes-2.true c.args.here c.requires.here c.in_default.not-X c.in_default.not-Y c.times-turned.result c.times-turned.ensures
 
 pub returns-else-anticommutes-2-clause-twisted : goal.returns-else-anticommutes-2-clause-twisted
 returns-else-anticommutes-2-clause-twisted g c =
     let clash = c.requires.clashes ∙ ap (exclusive_or c.args.clashes) (sym c.clashes.ensures) in
     along_commuting (length c.args.code.now.0.letters) c.args.qubit c.args.code.now c.requires.pivot c.args.row.now c.requires.size c.args.clashes c.clashes.result clash c.if-anticommutes-2.false c.args.here c.requires.here c.in_default.not-X c.in_default.not-Y
+
+pub returns-then-anticommutes-clause-letter : goal.returns-then-anticommutes-clause-letter
+returns-then-anticommutes-clause-letter g c =
+    letter_kept (length c.args.code.now.0.letters) c.args.qubit c.args.code.now c.requires.pivot c.args.row.now c.times.new.self c.requires.size c.times.ensures.product c.args.here c.requires.here
+
+pub returns-else-anticommutes-clause-letter : goal.returns-else-anticommutes-clause-letter
+returns-else-anticommutes-clause-letter g c =
+    letter_turned (length c.args.code.now.0.letters) c.args.qubit c.args.code.now c.requires.pivot c.args.row.now c.times-else-anticommutes.new.self c.requires.size
+    (turned_size (length c.args.code.now.0.letters) c.args.qubit c.args.code.now c.requires.pivot) c.times-else-anticommutes.ensures.product c.args.here c.requires.here c.times-else-anticommutes-2.result c.times-else-anticommutes-2.ensures
+
+pub returns-then-anticommutes-2-clause-letter : goal.returns-then-anticommutes-2-clause-letter
+returns-then-anticommutes-2-clause-letter g c =
+    sym (ap (λ w. letter_at w.letters c.args.qubit) c.set_letter.ensures
+    ∙ get_or-set_same c.args.row.now.letters c.args.qubit c.times-turned.result I (subst (λ m. c.args.qubit < m) (sym c.requires.size) c.requires.pivot.inside))

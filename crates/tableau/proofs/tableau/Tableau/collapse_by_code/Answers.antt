@@ -1,11 +1,12 @@
 use Rattle.std.proofs.Common.{◌<◌, length, ap, sym, subst, ◌∙◌}
 use Rattle.std.proofs.lemmas.List.{length-replicate}
 use Rattle.pauli_word.specs.declared.letter.Letter.TheVariants.{I}
-use Rattle.pauli_word.specs.Words.{lone_letter}
+use Rattle.pauli_word.specs.Words.{letter_at, lone_letter}
 use Rattle.pauli_word.proofs.LoneLetters.{length-lone_letter}
 use Rattle.tableau.specs.Encoding.{HasLength}
 use Rattle.tableau.specs.EncodingSteps.{code_of}
 use Rattle.tableau.specs.Rows.{row_count}
+use Rattle.tableau.proofs.LoneWords.{letter_elsewhere}
 use Rattle.tableau.proofs.PairWords.{pair_size}
 use Rattle.tableau.proofs.KeptRows.{inside, lone_code, lone_made, kept_size, new_tableau, still_long, new_count, code_long, outcome_owed, collapsed_tableau, collapsed_state, decided_owed, random_owed, replaced_owed}
 use Rattle.tableau.proofs.tableau.Tableau.collapse_by_code.Goals as goal
@@ -23,6 +24,11 @@ pub set_word-requires : goal.set_word-requires
 set_word-requires g c =
     subst (λ m. HasLength m c.index.result.now) (sym c.self.invariant.1.x)
     (pair_size c.self.inside.rows.items c.self.invariant.0 c.args.qubit c.index.result.now (inside c.self.inside.rows.items c.args.self.now c.self.invariant.0 c.self.view_is c.args.qubit c.requires) c.index.ensures)
+
+pub collapse_code-requires-clause-only : goal.collapse_code-requires-clause-only
+collapse_code-requires-clause-only g c i apart =
+    ap (λ letters. letter_at letters i) (lone_made c.self.inside.rows.items c.args.self.now c.self.invariant.0 c.self.view_is (length c.self.inside.second.0.letters) c.self.invariant.2.x c.args.qubit c.args.letter c.clear.new.self c.clear.ensures c.set_letter.new.self c.set_letter.ensures)
+    ∙ letter_elsewhere (row_count c.args.self.now) c.args.qubit i c.args.letter apart
 
 pub collapse_code-requires-clause-code : goal.collapse_code-requires-clause-code
 collapse_code-requires-clause-code g c = record { x = code_long c.self.inside.rows.items c.args.self.now c.self.invariant.0 c.self.view_is (lone_letter (row_count c.args.self.now) c.args.qubit c.args.letter) c.args.coin (length-lone_letter (row_count c.args.self.now) c.args.qubit c.args.letter ∙ sym (kept_size c.self.inside.rows.items c.args.self.now c.self.invariant.0 c.self.view_is)) c.set_word.new.word (lone_code c.self.inside.rows.items c.args.self.now c.self.invariant.0 c.self.view_is c.args.qubit (inside c.self.inside.rows.items c.args.self.now c.self.invariant.0 c.self.view_is c.args.qubit c.requires) c.index.result.now c.index.ensures (length c.self.inside.first.0.letters) c.self.invariant.1.x c.args.letter c.set_word.new.word c.set_word.ensures); z = c.self.invariant.1.z }
