@@ -7,6 +7,7 @@ mod faults;
 mod gates;
 mod held;
 mod judged;
+mod last_probabilities;
 mod lines;
 mod lists;
 mod models;

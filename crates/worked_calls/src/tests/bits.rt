@@ -228,3 +228,25 @@ fn whole_rows(rt: HostRuntime) -> Result<(), Fail> {
     row_is_copied(&rt, &row, &mut copied);
     Ok(())
 }
+
+// The bits at a place of two rows of zeros, and once the first has a bit there, and both.
+fn both_are_read(rt: &impl Abort, first: &mut BitRow<Global>, second: &mut BitRow<Global>)
+    requires first { length first.old ≡ 300 }
+    requires second { length second.old ≡ 300 }
+{
+    assert!(rt; BitRow::get_both(first, second, 299) == (false, false));
+    first.set(299, true);
+    assert!(rt; BitRow::get_both(first, second, 299) == (true, false));
+    assert!(rt; BitRow::get_both(second, first, 299) == (false, true));
+    second.set(299, true);
+    assert!(rt; BitRow::get_both(first, second, 299) == (true, true));
+    assert!(rt; BitRow::get_both(first, second, 298) == (false, false));
+}
+
+#[test]
+fn places_of_two_rows(rt: HostRuntime) -> Result<(), Fail> {
+    let mut first = BitRow::zeros(rt.alloc(), 300)?;
+    let mut second = BitRow::zeros(rt.alloc(), 300)?;
+    both_are_read(&rt, &mut first, &mut second);
+    Ok(())
+}
