@@ -14,7 +14,7 @@ use Rattle.stim_lexer.proofs.ScanLemmas.{list_any-from_first}
 
 -- ---- a line
 
-is_empty-is : (text : List ℕ) → is_empty text ≡ (length text == 0)
+pub is_empty-is : (text : List ℕ) → is_empty text ≡ (length text == 0)
 is_empty-is [] = refl
 is_empty-is (b ∷ text) = sym (ne_eqb (length (b ∷ text)) 0 (λ h. absurd (omega arith)))
 

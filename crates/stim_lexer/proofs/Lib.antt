@@ -1,2 +1,3 @@
 pub mod ScanLemmas
 mod LexingLemmas
+mod Nowhere

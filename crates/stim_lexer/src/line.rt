@@ -1,12 +1,14 @@
-ghost use Rattle.std.specs.Prelude.{◌≡◌, ◌&&◌, drop};
-ghost use Rattle.std.specs.List.{list_all};
-ghost use Rattle.stim_lexer.specs.Bytes.{begins_with, is_blank, is_close_brace, is_open_brace};
+ghost use Rattle.std.specs.Prelude.{◌≡◌, ◌&&◌, drop, true};
+ghost use Rattle.std.specs.List.{list_all, list_any};
+ghost use Rattle.stim_lexer.specs.Bytes.{begins_with, is_blank, is_close_brace, is_hash, is_open_brace};
+ghost use Rattle.stim_lexer.specs.declared.line.Braces.TheVariants.{NoBrace};
 ghost use Rattle.stim_lexer.specs.Cut.{name_of, body_of, leaves_tag_open, braces_in, cut_of, has_bad_byte};
 ghost use Rattle.stim_lexer.specs.Lexing.{cut_in};
 ghost use Rattle.stim_lexer.specs.Lines.{content_of, is_closing};
 
 use crate::scan::{
-    after_blanks, any_bad_byte, cut_at, cut_brackets, cut_name, from_brace, is_blank_text,
+    after_blanks, any_bad_byte, before_byte, cut_at, cut_brackets, cut_name, from_brace,
+    is_blank_text,
 };
 
 /// The braces of a line, outside tag and comment.
@@ -47,11 +49,13 @@ pub(crate) struct Parts<'a> {
     pub leaves_tag_open: bool,
 }
 
-/// A line up to a comment, without the blanks in front.
-pub(crate) fn content_of(line: &[u8]) -> &[u8]
-    ensures { result.now ≡ content_of line.now }
+/// A line up to a comment, without the blanks in front, and whether there is a `#`.
+pub(crate) fn content_of(line: &[u8]) -> (&[u8], bool)
+    ensures content { result.0.now ≡ content_of line.now }
+    ensures commented { result.1 ≡ list_any is_hash line.now }
 {
-    after_blanks(cut_at(line, b'#').0)
+    let (content, comment) = cut_at(line, b'#');
+    (after_blanks(content), !comment.is_empty())
 }
 
 /// Whether a line that says this closes a block.
@@ -64,7 +68,9 @@ pub(crate) fn is_closing(content: &[u8]) -> bool
     }
 }
 
-pub(crate) fn parts_of(line: &[u8]) -> Parts<'_>
+/// The parts of a line in which a `#` may stand or not.
+pub(crate) fn parts_of(line: &[u8], commented: bool) -> Parts<'_>
+    requires { commented ≡ list_any is_hash line.now }
     ensures name { result.name.now ≡ name_of line.now }
     ensures body { result.body.now ≡ body_of line.now }
     ensures stays_open { result.leaves_tag_open ≡ leaves_tag_open line.now }
@@ -73,7 +79,7 @@ pub(crate) fn parts_of(line: &[u8]) -> Parts<'_>
     let tag = cut_brackets(rest, b'[', b']');
     Parts {
         name,
-        body: cut_at(tag.after, b'#').0,
+        body: before_byte(tag.after, b'#', !commented),
         leaves_tag_open: tag.stays_open,
     }
 }
@@ -104,6 +110,12 @@ fn braces_in(closes: bool, body: &[u8]) -> Braces
     }
 }
 
+fn has_no_brace(braces: Braces) -> bool
+    ensures { result ≡ true → braces ≡ NoBrace }
+{
+    matches!(braces, Braces::NoBrace)
+}
+
 /// The line, cut.
 pub(crate) fn line_of<'a>(number: u64, line: &'a [u8], closes: bool, parts: Parts<'a>) -> Line<'a>
     requires closes { closes ≡ is_closing line.now }
@@ -114,13 +126,14 @@ pub(crate) fn line_of<'a>(number: u64, line: &'a [u8], closes: bool, parts: Part
     ensures cut { cut_in result ≡ cut_of line.now }
 {
     let parentheses = cut_brackets(parts.body, b'(', b')');
+    let braces = braces_in(closes, parts.body);
     Line {
         number,
         name: parts.name,
         stays_open: parts.leaves_tag_open || parentheses.stays_open,
         arguments: parentheses.inside,
-        targets: cut_at(parentheses.after, b'{').0,
-        braces: braces_in(closes, parts.body),
+        targets: before_byte(parentheses.after, b'{', has_no_brace(braces)),
+        braces,
     }
 }
 

@@ -1,4 +1,4 @@
-ghost use Rattle.std.specs.Prelude.{◌≡◌, ◌+◌, ◌<◌, ◌==◌, ◌∷◌, length, not, position};
+ghost use Rattle.std.specs.Prelude.{◌≡◌, ◌+◌, ◌<◌, ◌==◌, ◌∷◌, length, not, position, true, false};
 ghost use Rattle.std.specs.List.{list_any, list_all, before_first, after_first, position_or_len};
 ghost use Rattle.stim_lexer.specs.Bytes.{is_blank, is_bad_byte, is_brace, ends_name, from_first, after_blanks, begins_with};
 ghost use Rattle.stim_lexer.specs.Cut.{in_brackets, after_brackets, leaves_open};
@@ -104,6 +104,18 @@ pub fn cut_at(text: &[u8], byte: u8) -> (&[u8], &[u8])
     ensures len { length result.0.now + length result.1.now ≡ length text.now }
 {
     text.split_at(place_of(text, byte))
+}
+
+/// A text up to the first of a byte, which may be known to be nowhere in it.
+#[inline(always)]
+pub(crate) fn before_byte(text: &[u8], byte: u8, nowhere: bool) -> &[u8]
+    requires { nowhere ≡ true → list_any (λ b. b == byte) text.now ≡ false }
+    ensures { result.now ≡ before_first (λ b. b == byte) text.now }
+{
+    if nowhere {
+        return text;
+    }
+    cut_at(text, byte).0
 }
 
 /// What stands before the first of a byte and what follows it, or all and nothing where the byte is nowhere; and whether it

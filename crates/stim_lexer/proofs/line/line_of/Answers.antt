@@ -1,8 +1,9 @@
 use Rattle.std.proofs.Common.{◌≡◌, Bool, ◌||◌, sym, ◌∙◌, ap}
-use Rattle.std.specs.List.{before_first}
+use Rattle.std.specs.List.{before_first, list_any}
 use Rattle.stim_lexer.specs.Bytes.{is_open_brace, is_open_parenthesis, is_close_parenthesis}
 use Rattle.stim_lexer.specs.Cut.{leaves_open, leaves_tag_open, braces_in}
 use Rattle.stim_lexer.proofs.LexingLemmas.{cut_of-is}
+use Rattle.stim_lexer.proofs.Nowhere.{brace_nowhere, none_after_brackets, open_nowhere}
 use Rattle.stim_lexer.proofs.line.line_of.Goals as goal
 use Rattle.stim_lexer.proofs.line.line_of.Goals.{then-parts, else-parts}
 
@@ -20,5 +21,12 @@ returns-clause-cut c =
     ] in
     cut_of-is c.args.line.now parts.name.now parts.body.now _ _ _ _ c.requires.name c.requires.body stays_open
     parentheses.ensures.inside
-    (c.cut_at.ensures.before ∙ ap (before_first is_open_brace) parentheses.ensures.after)
-    (c.braces_in.ensures ∙ ap (λ b. braces_in b parts.body.now) c.requires.closes)
+    (c.before_byte.ensures ∙ ap (before_first is_open_brace) parentheses.ensures.after)
+    (c.braces_in-braces.ensures ∙ ap (λ b. braces_in b parts.body.now) c.requires.closes)
+
+pub before_byte-requires : goal.before_byte-requires
+before_byte-requires c braceless =
+    let body = c.args.parts.body.now in
+    ap (list_any is_open_brace) c.cut_brackets-parentheses.ensures.after
+    ∙ none_after_brackets is_open_brace is_open_parenthesis is_close_parenthesis body
+    (open_nowhere body (brace_nowhere c.args.closes body (sym c.braces_in-braces.ensures ∙ c.has_no_brace.ensures braceless)))

@@ -1,0 +1,64 @@
+-- A byte that stands nowhere in a text stands nowhere in what is cut from it.
+use Rattle.std.proofs.Common.{◌≡◌, ℕ, zero, suc, ◌+◌, ◌==◌, Bool, true, false, not, ◌||◌, List, [], ◌∷◌, length, drop, refl, ap, sym, ◌∙◌, inl, inr, arith}
+use Rattle.std.specs.Prelude.{if◌then◌else◌}
+use Rattle.std.specs.List.{position_or_len, before_first, list_any}
+use Rattle.std.proofs.lemmas.Bool.{cases_Bool}
+use Rattle.stim_lexer.specs.declared.line.Braces.TheVariants.{NoBrace, OpeningLast, Misplaced}
+use Rattle.stim_lexer.specs.Bytes.{after_blanks, ends_name, is_brace, is_empty, is_open_brace, from_first}
+use Rattle.stim_lexer.specs.Cut.{after_brackets, after_name, after_opening, braces_in, has_opening, has_opening_last}
+use Rattle.stim_lexer.proofs.LexingLemmas.{is_empty-is}
+use Rattle.stim_lexer.proofs.ScanLemmas.{list_any-from_first}
+
+or-left : (a b : Bool) → (a || b) ≡ false → a ≡ false
+or-left true b h = h
+or-left false b h = refl
+
+or-right : (a b : Bool) → (a || b) ≡ false → b ≡ false
+or-right true b h = cc
+or-right false b h = h
+
+none_behind : (p : ℕ → Bool) (n : ℕ) (text : List ℕ) → list_any p text ≡ false → list_any p (drop n text) ≡ false
+none_behind p zero text h = h
+none_behind p (suc n) [] h = refl
+none_behind p (suc n) (b ∷ text) h = none_behind p n text (or-right (p b) (list_any p text) h)
+
+pub all_before : (p : ℕ → Bool) (text : List ℕ) → list_any p text ≡ false → before_first p text ≡ text
+all_before p [] h = refl
+all_before p (b ∷ text) h =
+    let none = or-left (p b) (list_any p text) h in
+    let here : 1 + position_or_len p text ≡ suc (position_or_len p text) = omega arith in
+    rw (none, here) (ap (λ rest. b ∷ rest) (all_before p text (or-right (p b) (list_any p text) h)))
+
+pub none_after_brackets : (p opening closing : ℕ → Bool) (text : List ℕ) → list_any p text ≡ false → list_any p (after_brackets opening closing text) ≡ false
+none_after_brackets p opening closing text h =
+    elim (cases_Bool (has_opening opening text)) [
+      | inl e ↦ rw e (none_behind p _ (after_opening text) (none_behind p 1 (after_blanks text) (none_behind p _ text h)))
+      | inr e ↦ rw e h
+    ]
+
+pub none_after_name : (p : ℕ → Bool) (line : List ℕ) → list_any p line ≡ false → list_any p (after_name line) ≡ false
+none_after_name p line h = none_behind p _ (after_blanks line) (none_behind p _ line h)
+
+-- whether a byte stands somewhere, told by what is left from its first place on
+pub stands_somewhere : (p : ℕ → Bool) (text rest : List ℕ) (none : Bool) → rest ≡ from_first p text → none ≡ (length rest == 0) → not none ≡ list_any p text
+stands_somewhere p text rest none rest_is none_is =
+    ap not (none_is ∙ sym (is_empty-is rest) ∙ ap (λ (r : List ℕ). is_empty r) rest_is) ∙ sym (list_any-from_first p text)
+
+pub open_nowhere : (body : List ℕ) → list_any is_brace body ≡ false → list_any is_open_brace body ≡ false
+open_nowhere [] h = refl
+open_nowhere (b ∷ body) h =
+    let here = or-left (is_open_brace b) _ (or-left (is_brace b) (list_any is_brace body) h) in
+    rw here (open_nowhere body (or-right (is_brace b) (list_any is_brace body) h))
+
+braces_told : (some last : Bool) → (if not some then NoBrace else (if last then OpeningLast else Misplaced)) ≡ NoBrace → some ≡ false
+braces_told false last h = refl
+braces_told true true h = cc
+braces_told true false h = cc
+
+pub brace_nowhere : (closes : Bool) (body : List ℕ) → braces_in closes body ≡ NoBrace → list_any is_brace body ≡ false
+brace_nowhere true body h = cc
+brace_nowhere false body h = braces_told (list_any is_brace body) (has_opening_last body) h
+
+pub is_false : (b : Bool) → not b ≡ true → b ≡ false
+is_false true h = cc
+is_false false h = refl
