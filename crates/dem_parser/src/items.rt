@@ -58,6 +58,7 @@ impl<'a, A: Allocator + Copy> Items<'a, A> {
         }
     }
 
+    #[inline(always)]
     pub(crate) fn len(&self) -> usize
         ensures { result ≡ length self.now }
     {
@@ -101,6 +102,7 @@ impl<'a, A: Allocator + Copy> Items<'a, A> {
     }
 
     /// The item at a place.
+    #[inline(always)]
     pub(crate) fn get(&self, i: usize) -> Item<'_, 'a>
         requires { i < length self.now }
         ensures { Some (item_in result) ≡ slice_get self.now i }

@@ -64,6 +64,7 @@ fn keyword_of(line: Line) -> Result<Keyword, Cause>
 }
 
 /// The arguments of a line, where they are of the number and the form that its keyword takes.
+#[inline(always)]
 fn arguments_of<'a>(
     last: &mut LastProbability<'a>,
     keyword: Keyword,

@@ -39,6 +39,7 @@ impl<'a, A: Allocator + Copy> Model for ModelLines<'a, A> {
 }
 
 /// The instruction that is found, where one is, or one that says nothing.
+#[inline(always)]
 fn instruction_of<'c, 'a>(found: Option<Item<'c, 'a>>) -> Instruction<'c, 'a>
     ensures { instruction_in result ≡ instruction_of (option_map item_in found.entry) }
 {
@@ -63,6 +64,7 @@ impl<'a, A: Allocator + Copy> ModelLines<'a, A> {
     }
 
     /// How many items there are, the ends of blocks too.
+    #[inline(always)]
     pub fn len(&self) -> usize
         ensures { result ≡ length (items_of self.now) }
     {
@@ -77,6 +79,7 @@ impl<'a, A: Allocator + Copy> ModelLines<'a, A> {
     }
 
     /// The item at a place.
+    #[inline(always)]
     pub fn item(&self, i: usize) -> Item<'_, 'a>
         requires { i < length (items_of self.now) }
         ensures { Some (item_in result) ≡ slice_get (items_of self.now) i }
@@ -85,6 +88,7 @@ impl<'a, A: Allocator + Copy> ModelLines<'a, A> {
     }
 
     /// The item at a place, where there is one.
+    #[inline(always)]
     fn get(&self, place: usize) -> Option<Item<'_, 'a>>
         ensures { option_map item_in result ≡ slice_get (items_of self.now) place }
     {
@@ -96,6 +100,7 @@ impl<'a, A: Allocator + Copy> ModelLines<'a, A> {
     }
 
     /// The instruction at a place. Where none stands there it is one that says nothing.
+    #[inline(always)]
     pub(crate) fn instruction_at(&self, place: usize) -> Instruction<'_, 'a>
         ensures { instruction_in result ≡ instruction_at (items_of self.now) place }
     {
@@ -103,6 +108,7 @@ impl<'a, A: Allocator + Copy> ModelLines<'a, A> {
     }
 
     /// Does nothing: each instruction of an error model fits, and its blocks have turns and do not stand too deep.
+    #[inline(always)]
     pub fn fits(&self)
         ensures { IsAccepted self.now }
     {

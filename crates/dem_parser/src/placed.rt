@@ -74,6 +74,7 @@ fn push_list<T: Copy, A: Allocator + Copy>(
 }
 
 /// The list of a number, and at 0 the one given.
+#[inline(always)]
 fn list_at<'p, T: Copy, A: Allocator + Copy>(
     lists: &'p FlatLists<T, A>,
     number: u32,
@@ -101,6 +102,7 @@ impl<'c, 'a, A: Allocator + Copy> PlacedLines<'c, 'a, A> {
         }
     }
 
+    #[inline(always)]
     pub(crate) fn len(&self) -> usize
         ensures { result ≡ length self.now.placed }
     {
@@ -132,6 +134,7 @@ impl<'c, 'a, A: Allocator + Copy> PlacedLines<'c, 'a, A> {
     }
 
     /// The line at a place.
+    #[inline(always)]
     pub(crate) fn get(&self, i: usize) -> PlacedLine<'_, 'a>
         requires { i < length self.now.placed }
         ensures { Some (placed_in result) ≡ slice_get self.now.placed i }

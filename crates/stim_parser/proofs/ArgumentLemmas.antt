@@ -1,5 +1,6 @@
 -- Arguments cut off one by one, and blanks cut off behind.
-use Rattle.std.proofs.Common.{◌≡◌, ℕ, suc, ◌+◌, ◌-◌, ◌==◌, ◌<◌, ◌≤◌, Bool, true, false, List, [], ◌∷◌, ◌++◌, length, take, drop, get_or, map, refl, ap, sym, ◌∙◌, inl, inr, arith, length-append}
+use Rattle.std.proofs.Common.{◌≡◌, ℕ, suc, ◌+◌, ◌-◌, ◌==◌, ◌<◌, ◌≤◌, Bool, true, false, not, List, [], ◌∷◌, ◌++◌, length, take, drop, get_or, map, refl, ap, sym, ◌∙◌, inl, inr, arith, length-append}
+use Rattle.std.specs.Prelude.{is_some, slice_get}
 use Rattle.std.specs.List.{position_or_len, before_first, onto_first, slice_split, suffix_len}
 use Rattle.std.proofs.lemmas.Bool.{both_ways, cases_Bool, eqb-true}
 use Rattle.std.proofs.lemmas.List.{length-map, nil_from_length}
@@ -56,6 +57,11 @@ pub arguments_in-some : (text left : List ℕ) (b : Bool) → left ≡ after_bla
 unfolding arguments_in
 arguments_in-some text left b l e h =
     let some : is_empty (after_blanks text) ≡ false = ap (λ (xs : List ℕ). is_empty xs) (sym l) ∙ is_empty-some left b e h in rw some refl
+
+-- there is an argument where something is left that isn't blank
+pub argument-told : (text left : List ℕ) (b : Bool) → left ≡ after_blanks text → b ≡ (length left == 0) → not b ≡ is_some (slice_get (arguments_in text) 0)
+argument-told text left true l e = rw (arguments_in-none text left true l e refl) refl
+argument-told text left false l e = rw (arguments_in-some text left false l e refl, split-first text) refl
 
 -- of so many arguments that were read there is at least one more
 pub one_more : (read : List (List ℕ)) (text : List ℕ) (all : List (List ℕ)) (n : ℕ) → length read ≡ n → read ++ map trimmed (slice_split is_comma text) ≡ all → n < length all

@@ -1,4 +1,4 @@
-ghost use Rattle.std.specs.Prelude.{◌≡◌, ◌<◌, ◌≤◌, ◌++◌, [], ◌∷◌, length, map, option_map, slice_get, MatchOption, IfSome};
+ghost use Rattle.std.specs.Prelude.{◌≡◌, ◌<◌, ◌≤◌, ◌++◌, [], ◌∷◌, length, map, option_map, slice_get, is_some, MatchOption, IfSome};
 ghost use Rattle.std.specs.List.{slice_split};
 ghost use Rattle.stim_lexer.specs.Bytes.{is_blank};
 ghost use Rattle.stim_parser.specs.Arguments.{arguments_in, before_blanks, is_comma, parts_of, trimmed};
@@ -44,6 +44,7 @@ fn cut_at_comma(text: &[u8]) -> (&[u8], Option<&[u8]>)
 }
 
 /// The arguments that stand in parentheses, where there are no more than an instruction takes.
+#[inline(always)]
 pub fn read_arguments(text: &[u8]) -> Option<ArrayVec<&[u8], MOST_ARGUMENTS>>
     ensures { MatchOption result (MOST_ARGUMENTS < length (arguments_in text.now))
         (λ found. map (λ argument. argument.now) found.items ≡ arguments_in text.now) }
@@ -72,4 +73,12 @@ pub(crate) fn first_argument(text: &[u8]) -> Option<&[u8]>
         return None;
     }
     Some(trimmed(cut_at_comma(text).0))
+}
+
+/// Whether an argument stands in parentheses.
+#[inline(always)]
+pub(crate) fn has_argument(text: &[u8]) -> bool
+    ensures { result ≡ is_some (slice_get (arguments_in text.now) 0) }
+{
+    !after_blanks(text).is_empty()
 }

@@ -1,8 +1,8 @@
-ghost use Rattle.std.specs.Prelude.{◌≡◌, option_map, slice_get};
+ghost use Rattle.std.specs.Prelude.{◌≡◌, is_some, option_map, slice_get};
 ghost use Rattle.stim_parser.specs.Arguments.{arguments_in};
 ghost use Rattle.stim_parser.specs.Coordinates.{coordinates_in, first_number};
 
-use crate::arguments::{MOST_ARGUMENTS, first_argument, read_arguments};
+use crate::arguments::{MOST_ARGUMENTS, first_argument, has_argument, read_arguments};
 use crate::coordinates::{are_coordinates, whole_values};
 use crate::digits::number_of;
 use crate::operation::Operation;
@@ -27,6 +27,14 @@ impl<'c, 'a> Instruction<'c, 'a> {
         ensures { option_map (λ argument. argument.now) result ≡ slice_get (arguments_in self.now.arguments.now) 0 }
     {
         first_argument(self.arguments)
+    }
+
+    /// Whether there is an argument.
+    #[inline(always)]
+    pub fn has_argument(&self) -> bool
+        ensures { result ≡ is_some (slice_get (arguments_in self.now.arguments.now) 0) }
+    {
+        has_argument(self.arguments)
     }
 
     /// The number that the first argument writes, where it is digits. All numbers from 10^18 on are one.

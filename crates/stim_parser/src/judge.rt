@@ -87,6 +87,7 @@ fn keyword_of<'a>(last: &mut LastName<'a>, line: Line<'a>) -> Result<Keyword, Ca
 }
 
 /// The arguments of a line, where they are of the number and the form that its keyword takes.
+#[inline(always)]
 fn arguments_of<'a>(
     last: &mut LastProbability<'a>,
     form: ArgumentForm,

@@ -71,7 +71,7 @@ fn far_line_after(records: u64, instruction: Instruction<'_, '_>, found: Option<
 fn has_argument(instruction: Instruction<'_, '_>) -> bool
     ensures { result ≡ has_argument (instruction_in instruction.entry) }
 {
-    instruction.first_argument().is_some()
+    instruction.has_argument()
 }
 
 /// How many faults an instruction makes.

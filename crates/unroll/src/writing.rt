@@ -41,9 +41,10 @@ struct Writing<'a, A: Allocator + Copy> {
 fn flip_of(entry: u32, instruction: Instruction<'_, '_>) -> Option<u32>
     ensures { result ≡ flip_of entry (instruction_in instruction.entry).arguments }
 {
-    match instruction.first_argument() {
-        Some(_) => Some(entry),
-        None => None,
+    if instruction.has_argument() {
+        Some(entry)
+    } else {
+        None
     }
 }
 
