@@ -1,3 +1,4 @@
+mod arguments;
 mod bits;
 mod coin_pairs;
 mod drawn_shots;
