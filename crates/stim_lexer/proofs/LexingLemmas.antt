@@ -9,7 +9,7 @@ use Rattle.stim_lexer.specs.declared.line.Braces.TheVariants.{NoBrace, OpeningLa
 use Rattle.stim_lexer.specs.Bytes.{is_blank, is_brace, is_open_brace, is_open_parenthesis, is_close_parenthesis, is_empty, begins_with, from_first}
 use Rattle.stim_lexer.specs.Lines.{content_of, is_closing, says_nothing}
 use Rattle.stim_lexer.specs.Cut.{Cut, cut_of, name_of, body_of, leaves_tag_open, leaves_open, in_brackets, after_brackets, braces_in, has_bad_byte}
-use Rattle.stim_lexer.specs.Lexing.{Unread, after_silent, first_found, next_found, after_first_found, after_next}
+use Rattle.stim_lexer.specs.Lexing.{Unread, after_silent, first_found, next_found, after_first_found}
 use Rattle.stim_lexer.proofs.ScanLemmas.{list_any-from_first}
 
 -- ---- a line

@@ -4,7 +4,7 @@ use Rattle.std.specs.Prelude.{if◌then◌else◌}
 use Rattle.std.specs.List.{position_or_len, before_first, list_any}
 use Rattle.std.proofs.lemmas.Bool.{cases_Bool}
 use Rattle.stim_lexer.specs.declared.line.Braces.TheVariants.{NoBrace, OpeningLast, Misplaced}
-use Rattle.stim_lexer.specs.Bytes.{after_blanks, ends_name, is_brace, is_empty, is_open_brace, from_first}
+use Rattle.stim_lexer.specs.Bytes.{after_blanks, is_brace, is_empty, is_open_brace, from_first}
 use Rattle.stim_lexer.specs.Cut.{after_brackets, after_name, after_opening, braces_in, has_opening, has_opening_last}
 use Rattle.stim_lexer.proofs.LexingLemmas.{is_empty-is}
 use Rattle.stim_lexer.proofs.ScanLemmas.{list_any-from_first}

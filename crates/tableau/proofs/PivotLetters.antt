@@ -4,7 +4,7 @@ use Rattle.std.proofs.lemmas.List.{length-replicate}
 use Rattle.pauli_word.specs.declared.letter.Letter.{Letter}
 use Rattle.pauli_word.specs.declared.letter.Letter.TheVariants.{I, Z}
 use Rattle.pauli_word.specs.Letters.{letter_product}
-use Rattle.pauli_word.specs.Words.{Signed, letter_at, lone_letter, no_letters, letters_product, product}
+use Rattle.pauli_word.specs.Words.{Signed, letter_at, lone_letter, no_letters, product}
 use Rattle.pauli_word.proofs.LetterLaws.{letter_product-I}
 use Rattle.pauli_word.proofs.LoneLetters.{length-lone_letter}
 use Rattle.pauli_word.proofs.WordPlaces.{letter_at-product}

@@ -1,4 +1,4 @@
-use Rattle.std.proofs.Common.{◌+◌, ◌<◌, arith}
+use Rattle.std.proofs.Common.{◌+◌, arith}
 use Rattle.unroll.specs.Placing.{placing}
 use Rattle.unroll.proofs.PlacingLoops.{fewer-added}
 use Rattle.unroll.proofs.TurnLemmas.{turns-none}
