@@ -8,6 +8,7 @@ mod multiply;
 mod parity;
 mod phase;
 mod row;
+mod short;
 mod xor;
 
 pub use row::BitRow;

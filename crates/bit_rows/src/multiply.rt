@@ -11,6 +11,7 @@ use crate::phase::{carry, carry_block, join_lanes, power_held};
 use std::simd::prelude::*;
 
 // Besides the power it answers marks of blocks in which no letter is left.
+#[inline(always)]
 pub(crate) fn multiply_words(
     xa: &mut [u64],
     za: &mut [u64],
@@ -18,6 +19,48 @@ pub(crate) fn multiply_words(
     zb: &[u64],
     marks: u64,
 ) -> (u8, u64)
+    requires za { length za.old ≡ length xa.old }
+    requires xb { length xb.now ≡ length xa.old }
+    requires zb { length zb.now ≡ length xa.old }
+    requires x_marks { MarksOnes marks xb.now }
+    requires z_marks { MarksOnes marks zb.now }
+    ensures power { result.0 ≡ words_phase xa.old za.old xb.now zb.now (length xa.old) % 4 }
+    ensures x { (k : ℕ) → slice_index xa.new k ≡ bit_xor (slice_index xa.old k) (slice_index xb.now k) }
+    ensures z { (k : ℕ) → slice_index za.new k ≡ bit_xor (slice_index za.old k) (slice_index zb.now k) }
+    ensures blank { BlanksBelow result.1 xa.new za.new (length xa.old) }
+{
+    if xb.len() < 4 {
+        return (multiply_few(xa, za, xb, zb), 0);
+    }
+    multiply_many(xa, za, xb, zb, marks)
+}
+
+// The same of words of less than a block.
+#[inline(always)]
+fn multiply_few(xa: &mut [u64], za: &mut [u64], xb: &[u64], zb: &[u64]) -> u8
+    requires za { length za.old ≡ length xa.old }
+    requires xb { length xb.now ≡ length xa.old }
+    requires zb { length zb.now ≡ length xa.old }
+    ensures power { result ≡ words_phase xa.old za.old xb.now zb.now (length xa.old) % 4 }
+    ensures x { (k : ℕ) → slice_index xa.new k ≡ bit_xor (slice_index xa.old k) (slice_index xb.now k) }
+    ensures z { (k : ℕ) → slice_index za.new k ≡ bit_xor (slice_index za.old k) (slice_index zb.now k) }
+{
+    let mut ones = 0u64;
+    let mut twos = 0u64;
+    for i in 0..xb.len() {
+        let x = xb[i];
+        let z = zb[i];
+        (ones, twos) = carry(ones, twos, xa[i], za[i], x, z);
+        xa[i] ^= x;
+        za[i] ^= z;
+    }
+    (power_held(ones, twos) % 4) as u8
+}
+
+// The same of words of a block or more. No part of it comes into the body of a caller, which words of a few letters would
+// pay for.
+#[inline(never)]
+fn multiply_many(xa: &mut [u64], za: &mut [u64], xb: &[u64], zb: &[u64], marks: u64) -> (u8, u64)
     requires za { length za.old ≡ length xa.old }
     requires xb { length xb.now ≡ length xa.old }
     requires zb { length zb.now ≡ length xa.old }

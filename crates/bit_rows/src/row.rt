@@ -6,6 +6,7 @@ use crate::marks::{either, is_unmarked, mark, marks_of_sum};
 use crate::multiply::multiply_words;
 use crate::parity::has_odd_common_ones;
 use crate::phase::power_of_words;
+use crate::short::{clear_words, copy_words};
 use crate::xor::xor_words;
 use std::alloc::{AllocError, Allocator};
 use std::marker::Model;
@@ -123,21 +124,21 @@ impl<A: Allocator + Copy> BitRow<A> {
     }
 
     /// Makes this row equal to another of its length.
+    #[inline(always)]
     pub fn copy_from(&mut self, other: &BitRow<A>)
         requires { length self.old ≡ length other.now }
         ensures { self.new ≡ other.now }
     {
-        self.words
-            .as_mut_slice()
-            .copy_from_slice(other.words.as_slice());
+        copy_words(self.words.as_mut_slice(), other.words.as_slice());
         self.marks = other.marks;
     }
 
     /// Makes every bit 0.
+    #[inline(always)]
     pub fn clear(&mut self)
         ensures { self.new ≡ replicate (length self.old) false }
     {
-        self.words.as_mut_slice().fill(0);
+        clear_words(self.words.as_mut_slice());
         self.marks = 0;
     }
 

@@ -1,8 +1,8 @@
-use Rattle.std.proofs.Common.{◌≡◌, ◌+◌, ◌%◌}
+use Rattle.std.proofs.Common.{◌≡◌, ◌%◌}
 use Rattle.bit_rows.specs.Marks.{BlanksBelow}
 use Rattle.bit_rows.specs.Spans.{XorsWithin}
 use Rattle.bit_rows.specs.WordTotals.{carried, words_phase}
-use Rattle.bit_rows.proofs.multiply.multiply_words.Given as goal
+use Rattle.bit_rows.proofs.multiply.multiply_many.Given as goal
 
 abbrev pub invariant-loop-i : goal.invariant-loop-i
 invariant-loop-i l =
