@@ -106,6 +106,7 @@ fn multiply_both<A: Allocator + Copy>(
 }
 
 // Multiplies the words of a pair that clash with a letter by the word of another letter.
+#[inline(always)]
 fn multiply_clashing<A: Allocator + Copy>(
     pair: &mut Pair<A>,
     own: Letter,
