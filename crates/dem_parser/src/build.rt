@@ -31,10 +31,7 @@ fn push_error<'a, A: Allocator + Copy>(
 {
     match line.operation {
         Operation::Errs => {
-            // A line that was accepted has no more arguments than are read.
-            let Some(text) = first_text(line.arguments) else {
-                return Err(AllocError);
-            };
+            let text = first_text(line.arguments);
             read_flipped(&mut room.numbers, &mut room.kept, detectors, line.targets)?;
             model.push_line(text, room.kept.as_slice())?;
             Ok(())

@@ -1,4 +1,4 @@
-ghost use Rattle.std.specs.Prelude.{◌≡◌, ◌+◌, ◌<◌, ◌≤◌, ◌++◌, [], ◌∷◌, ℕ, List, All, IfOk};
+ghost use Rattle.std.specs.Prelude.{◌≡◌, ◌+◌, ◌<◌, ◌≤◌, ◌++◌, [], ◌∷◌, ℕ, List, All, IfOk, IsPermutation};
 ghost use Rattle.std.specs.List.Sorted.{IsNonDecreasing};
 ghost use Rattle.dem_parser.specs.Meanings.{detectors_to, flipped, greatest_of, observables_to};
 ghost use Rattle.dem_parser.specs.Numbered.{numbered, numbers_of, odd_below};
@@ -77,6 +77,18 @@ fn keep_odd<A: Allocator + Copy>(kept: &mut Vec<u32, A>, numbers: &[u32]) -> Res
     Ok(())
 }
 
+/// Puts numbers in ascending order. Most stand in it already, and only others take memory.
+fn put_in_order<A: Allocator + Copy>(numbers: &mut Vec<u32, A>) -> Result<(), AllocError>
+    ensures ascending { IfOk result (λ _. IsNonDecreasing numbers.new.items) }
+    ensures same { IfOk result (λ _. IsPermutation numbers.old.items numbers.new.items) }
+{
+    if numbers.as_slice().is_sorted() {
+        return Ok(());
+    }
+    numbers.sort()?;
+    Ok(())
+}
+
 /// Puts the numbers of what targets flip in place of those that were there.
 pub(crate) fn read_flipped<A: Allocator + Copy>(
     numbers: &mut Vec<u32, A>,
@@ -87,7 +99,7 @@ pub(crate) fn read_flipped<A: Allocator + Copy>(
     ensures { IfOk result (λ _. (observables : ℕ) → greatest_of detectors_to targets.now ≤ detectors → greatest_of observables_to targets.now ≤ observables → kept.new.items ≡ flipped detectors observables targets.now) }
 {
     read_numbers(numbers, detectors, targets)?;
-    numbers.sort()?;
+    put_in_order(numbers)?;
     keep_odd(kept, numbers.as_slice())?;
     Ok(())
 }

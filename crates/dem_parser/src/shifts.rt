@@ -1,4 +1,4 @@
-ghost use Rattle.std.specs.Prelude.{◌≡◌, ◌≤◌, ◌<◌, ◌+ℤ◌, pos, [], length, map, slice_index_or, IfOk, IfSome};
+ghost use Rattle.std.specs.Prelude.{◌≡◌, ◌≤◌, ◌<◌, ◌+ℤ◌, pos, [], length, map, slice_index_or, IfOk};
 ghost use Rattle.stim_parser.specs.Arguments.{arguments_in};
 ghost use Rattle.stim_parser.specs.Numbers.{whole_value};
 ghost use Rattle.dem_parser.specs.Fitting.{Fits};
@@ -11,7 +11,7 @@ use crate::judge::number_in;
 use crate::operation::Operation;
 use arrayvec::ArrayVec;
 use std::alloc::{AllocError, Allocator};
-use stim_parser::{MOST_ARGUMENTS, read_arguments, whole_values};
+use stim_parser::{MOST_ARGUMENTS, first_argument, read_arguments, whole_values};
 
 /// By how much detectors are shifted where a line is reached, and each coordinate.
 #[derive(Drop)]
@@ -20,13 +20,13 @@ pub(crate) struct Shift<A: Allocator + Copy> {
     pub offset: Vec<i128, A>,
 }
 
-/// The text of the first argument, empty where there is none. None where there are more than a line takes.
-pub(crate) fn first_text<'a>(arguments: &'a [u8]) -> Option<&'a [u8]>
-    ensures { IfSome result (λ text. text.now ≡ slice_index_or (arguments_in arguments.now) 0 []) }
+/// The text of the first argument, empty where there is none.
+pub(crate) fn first_text(arguments: &[u8]) -> &[u8]
+    ensures { result.now ≡ slice_index_or (arguments_in arguments.now) 0 [] }
 {
-    match read_arguments(arguments)?.as_slice() {
-        [first, ..] => Some(*first),
-        [] => Some(&[]),
+    match first_argument(arguments) {
+        Some(text) => text,
+        None => &[],
     }
 }
 

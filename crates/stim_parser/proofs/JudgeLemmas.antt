@@ -1,9 +1,10 @@
 -- The questions of a line in their order: where those before don't apply, the next is asked.
-use Rattle.std.proofs.Common.{◌≡◌, ℕ, Bool, true, false, not, ◌||◌, ◌<◌, List, [], ◌∷◌, ◌++◌, cond, find, length, Option, None, Some, refl, ap, ◌∙◌, arith}
+use Rattle.std.proofs.Common.{◌≡◌, ℕ, Bool, true, false, not, ◌||◌, ◌<◌, List, [], ◌∷◌, ◌++◌, cond, find, length, Option, None, Some, refl, ap, ap₂, subst, sym, ◌∙◌, arith}
 use Rattle.std.specs.Prelude.{option_map, unwrap_or, is_none, if◌then◌else◌}
 use Rattle.std.specs.List.{list_all}
 use Rattle.std.specs.Option.{option_or}
-use Rattle.std.proofs.lemmas.Bool.{lt-ltb, ne_eqb, or_right}
+use Rattle.std.proofs.lemmas.Bool.{false≢true, lt-ltb, ne_eqb, or_right}
+use Rattle.std.proofs.lemmas.List.Folds.{list_any_none}
 use Rattle.step_model.specs.declared.fault.Cause.{Cause}
 use Rattle.step_model.specs.declared.fault.Cause.TheVariants as cause
 use Rattle.stim_lexer.specs.Cut.{Cut}
@@ -15,8 +16,8 @@ use Rattle.stim_parser.specs.declared.operation.Keyword.{Keyword}
 use Rattle.stim_parser.specs.declared.target.Target.{Target}
 use Rattle.stim_parser.specs.Arguments.{arguments_in}
 use Rattle.stim_parser.specs.Instructions.{argument_form, is_left_out, keyword_named, target_form}
-use Rattle.stim_parser.specs.Limits.{are_of_form, has_wrong_arguments, has_wrong_probability, is_argument, is_wrong_count}
-use Rattle.stim_parser.specs.Said.{first_of, refusals_of_amounts, refusals_of_arguments}
+use Rattle.stim_parser.specs.Limits.{are_of_form, has_argument_beyond, has_wrong_arguments, has_wrong_probability, is_argument, is_argument_beyond, is_wrong_count, takes_probability}
+use Rattle.stim_parser.specs.Said.{AreProbabilities, first_of, refusals_of_amounts, refusals_of_arguments}
 use Rattle.stim_parser.specs.Targets.{targets_in}
 use Rattle.stim_parser.specs.Verdicts.{Refuses, accepted, has_wrong_target, judged, line_targets, misplaces_brace, read_targets, refusal_of, refusals_of_keyword, refusals_of_name, takes_none, unless_refused}
 
@@ -80,6 +81,50 @@ too_many form cut h =
     let wrong : has_wrong_arguments form arguments ≡ true = ap (λ b. b || not (list_all (is_argument form) arguments)) (count-beyond form (length arguments) h) in
     applies (cut.stays_open || has_wrong_arguments form arguments) cause.Arguments ((has_wrong_probability form arguments, cause.Probability) ∷ [])
     (or_right cut.stays_open (has_wrong_arguments form arguments) wrong)
+
+-- ---- probabilities that are right
+
+never_beyond : (form : ArgumentForm) (arguments : List (List ℕ)) → takes_probability form ≡ true → has_argument_beyond form arguments ≡ false
+unfolding has_argument_beyond
+never_beyond ProbabilityAtWill arguments e = list_any_none (is_argument_beyond ProbabilityAtWill) arguments (λ i d h. refl)
+never_beyond OneProbability arguments e = list_any_none (is_argument_beyond OneProbability) arguments (λ i d h. refl)
+never_beyond NoArguments arguments e = absurd (false≢true e)
+never_beyond WholeNumbers arguments e = absurd (false≢true e)
+never_beyond Decimals arguments e = absurd (false≢true e)
+never_beyond OneNumber arguments e = absurd (false≢true e)
+
+pub right_probabilities : (form : ArgumentForm) (cut : Cut) → cut.stays_open ≡ false → AreProbabilities form (arguments_in cut.arguments)
+    → (false ≡ has_argument_beyond form (arguments_in cut.arguments)) × (first_of (refusals_of_arguments form cut) ≡ None)
+right_probabilities form cut closed right =
+    let arguments = arguments_in cut.arguments in (
+      sym (never_beyond form arguments right.0),
+      passes (cut.stays_open || has_wrong_arguments form arguments) cause.Arguments ((has_wrong_probability form arguments, cause.Probability) ∷ []) (ap₂ (λ a b. a || b) closed right.1)
+          ∙ passes (has_wrong_probability form arguments) cause.Probability [] right.2,
+    )
+
+-- ---- no arguments
+
+none_wrong : (text : List ℕ) → text ≡ [] → has_wrong_arguments NoArguments (arguments_in text) ≡ false
+unfolding has_wrong_arguments arguments_in
+none_wrong text e = ap (λ t. has_wrong_arguments NoArguments (arguments_in t)) e
+
+none_improbable : (arguments : List (List ℕ)) → has_wrong_probability NoArguments arguments ≡ false
+unfolding has_wrong_probability
+none_improbable arguments = refl
+
+none_beyond : (arguments : List (List ℕ)) → has_argument_beyond NoArguments arguments ≡ false
+unfolding has_argument_beyond
+none_beyond arguments = list_any_none (is_argument_beyond NoArguments) arguments (λ i d h. refl)
+
+pub no_arguments : (form : ArgumentForm) (cut : Cut) → form ≡ NoArguments → cut.stays_open ≡ false → cut.arguments ≡ []
+    → (false ≡ has_argument_beyond form (arguments_in cut.arguments)) × (first_of (refusals_of_arguments form cut) ≡ None)
+no_arguments form cut asked closed none =
+    let arguments = arguments_in cut.arguments in
+    subst (λ f. (false ≡ has_argument_beyond f arguments) × (first_of (refusals_of_arguments f cut) ≡ None)) (sym asked) (
+      sym (none_beyond arguments),
+      passes (cut.stays_open || has_wrong_arguments NoArguments arguments) cause.Arguments ((has_wrong_probability NoArguments arguments, cause.Probability) ∷ []) (ap₂ (λ a b. a || b) closed (none_wrong cut.arguments none))
+          ∙ passes (has_wrong_probability NoArguments arguments) cause.Probability [] (none_improbable arguments),
+    )
 
 -- ---- a line's targets
 

@@ -2,7 +2,7 @@
 -- the text in its parentheses. The questions that refuse a line are told apart here by what they are asked of.
 -- (Stim's circuit format, github.com/quantumlib/Stim, doc/file_format_stim_circuit.md; the causes and their order are
 -- this project's.)
-use Rattle.std.specs.Prelude.{ℕ, Bool, ◌||◌, List, [], ◌∷◌, map, find, Option, option_map}
+use Rattle.std.specs.Prelude.{◌≡◌, ℕ, Bool, true, false, ◌||◌, List, [], ◌∷◌, map, find, Option, option_map}
 use Rattle.std.specs.Borrow.{Bor}
 use Rattle.step_model.specs.declared.fault.Cause.{Cause}
 use Rattle.step_model.specs.declared.fault.Cause.TheVariants as cause
@@ -14,7 +14,7 @@ use Rattle.stim_parser.specs.declared.operation.Keyword.{Keyword}
 use Rattle.stim_parser.specs.declared.target.Target.{Target}
 use Rattle.stim_parser.specs.Arguments.{arguments_in}
 use Rattle.stim_parser.specs.Instructions.{argument_form, target_form}
-use Rattle.stim_parser.specs.Limits.{has_wrong_arguments, has_wrong_probability, has_argument_beyond, has_target_beyond, has_same_qubit}
+use Rattle.stim_parser.specs.Limits.{takes_probability, has_wrong_arguments, has_wrong_probability, has_argument_beyond, has_target_beyond, has_same_qubit}
 use Rattle.stim_parser.specs.Verdicts.{Reading, Takes, Opens, Closes, Refuses, read_targets, has_wrong_number, repeats_zero_times, opens_too_deep}
 
 -- what a line of a number says, with the targets that were read of it
@@ -47,6 +47,11 @@ refusals_of_arguments form cut =
     (cut.stays_open || has_wrong_arguments form (arguments_in cut.arguments), cause.Arguments)
     ∷ (has_wrong_probability form (arguments_in cut.arguments), cause.Probability)
     ∷ []
+
+-- of these arguments probabilities are asked, and nothing is wrong with them
+abbrev pub AreProbabilities : ArgumentForm → List (List ℕ) → Type 0
+AreProbabilities form arguments =
+    (takes_probability form ≡ true) × (has_wrong_arguments form arguments ≡ false) × (has_wrong_probability form arguments ≡ false)
 
 -- the questions of numbers, and of how many targets there are, where each target is of its form
 abbrev pub refusals_of_amounts : ℕ → Keyword → Cut → List (Bool × Cause)

@@ -50,7 +50,7 @@ pub fn has_wrong_arguments(form: ArgumentForm, arguments: &[&[u8]]) -> bool
 }
 
 /// Whether the arguments of a form are probabilities.
-fn takes_probability(form: ArgumentForm) -> bool
+pub(crate) fn takes_probability(form: ArgumentForm) -> bool
     ensures { result ≡ takes_probability form }
 {
     matches!(

@@ -65,8 +65,8 @@ pub fn read_arguments(text: &[u8]) -> Option<ArrayVec<&[u8], MOST_ARGUMENTS>>
     Some(found)
 }
 
-/// The first argument that stands in parentheses.
-pub(crate) fn first_argument(text: &[u8]) -> Option<&[u8]>
+/// The first argument that stands in parentheses. Others are not cut.
+pub fn first_argument(text: &[u8]) -> Option<&[u8]>
     ensures { option_map (λ argument. argument.now) result ≡ slice_get (arguments_in text.now) 0 }
 {
     if after_blanks(text).is_empty() {

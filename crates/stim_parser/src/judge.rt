@@ -1,20 +1,23 @@
 ghost use Rattle.std.specs.Prelude.{◌≡◌, ℕ, List, None, Some, not, true, false, IfOk, MatchResult};
 ghost use Rattle.stim_lexer.specs.Bytes.{after_blanks, is_empty};
 ghost use Rattle.stim_lexer.specs.Lexing.{cut_in};
+ghost use Rattle.stim_parser.specs.declared.forms.ArgumentForm.TheVariants.{NoArguments};
 ghost use Rattle.stim_parser.specs.Arguments.{arguments_in};
 ghost use Rattle.stim_parser.specs.Instructions.{argument_form, keyword_named, target_form};
-ghost use Rattle.stim_parser.specs.Said.{first_of, reading_in, refusals_of_amounts, refusals_of_arguments, texts_of};
+ghost use Rattle.stim_parser.specs.Said.{first_of, reading_in, refusals_of_amounts, refusals_of_arguments};
+ghost use Rattle.stim_parser.specs.Limits.{has_argument_beyond};
 ghost use Rattle.stim_parser.specs.Verdicts.{accepted, closed_at, has_wrong_number, has_wrong_target, judged, misplaces_brace, opens_block, reading_of, read_targets, refusal_of, refusals_of_keyword, takes_none, turns_of};
 
-use crate::argument_checks::{has_argument_beyond, has_wrong_arguments, has_wrong_probability};
-use crate::arguments::{MOST_ARGUMENTS, read_arguments};
+use crate::argument_checks::{
+    has_argument_beyond, has_wrong_arguments, has_wrong_probability, takes_probability,
+};
+use crate::arguments::read_arguments;
 use crate::forms::{ArgumentForm, TargetForm, argument_form, target_form};
-use crate::last::{LastName, LastProbability};
+use crate::last::{LastName, LastParentheses, LastProbability};
 use crate::names::is_left_out;
 use crate::operation::{Keyword, Operation};
 use crate::target::{Target, read_targets};
 use crate::target_checks::{are_of_form, has_same_qubit, has_target_beyond, has_wrong_count};
-use arrayvec::ArrayVec;
 use std::alloc::{AllocError, Allocator};
 use step_model::Cause;
 use stim_lexer::{Braces, Line, after_blanks};
@@ -47,10 +50,11 @@ fn misplaces_brace(keyword: Option<Keyword>, braces: Braces) -> bool
     }
 }
 
-/// The name and the probability that were read last.
+/// What was read last: a name, what stood in parentheses, and a probability.
 #[derive(Drop)]
 pub(crate) struct Last<'a> {
     pub name: LastName<'a>,
+    pub parentheses: LastParentheses<'a>,
     pub probability: LastProbability<'a>,
 }
 
@@ -59,6 +63,7 @@ impl<'a> Last<'a> {
     pub(crate) fn new() -> Self {
         Last {
             name: LastName::new(),
+            parentheses: LastParentheses::new(),
             probability: LastProbability::new(),
         }
     }
@@ -86,27 +91,57 @@ fn keyword_of<'a>(last: &mut LastName<'a>, line: Line<'a>) -> Result<Keyword, Ca
     }
 }
 
-/// The arguments of a line, where they are of the number and the form that its keyword takes.
 #[inline(always)]
-fn arguments_of<'a>(
-    last: &mut LastProbability<'a>,
+fn takes_no_arguments(form: ArgumentForm) -> bool
+    ensures { result ≡ true → form ≡ NoArguments }
+{
+    matches!(form, ArgumentForm::NoArguments)
+}
+
+/// Whether an argument of a line is beyond its limit, where they are of the number and the form that its keyword takes.
+#[inline(always)]
+fn arguments_of<'a>(last: &mut Last<'a>, form: ArgumentForm, line: Line<'a>) -> Result<bool, Cause>
+    ensures { MatchResult result
+        (λ beyond. (beyond ≡ has_argument_beyond form (arguments_in line.entry.arguments.now)) × (first_of (refusals_of_arguments form (cut_in line.entry)) ≡ None))
+        (λ refused. first_of (refusals_of_arguments form (cut_in line.entry)) ≡ Some refused) }
+{
+    if line.stays_open {
+        return Err(Cause::Arguments);
+    }
+    if takes_no_arguments(form) && line.arguments.is_empty() {
+        return Ok(false);
+    }
+    if last.parentheses.are(form, line.arguments) {
+        return Ok(false);
+    }
+    closed_arguments_of(last, form, line)
+}
+
+/// The same of a line on which no tag and no parentheses stay open.
+#[inline(never)]
+fn closed_arguments_of<'a>(
+    last: &mut Last<'a>,
     form: ArgumentForm,
     line: Line<'a>,
-) -> Result<ArrayVec<&'a [u8], MOST_ARGUMENTS>, Cause>
+) -> Result<bool, Cause>
+    requires { line.stays_open ≡ false }
     ensures { MatchResult result
-        (λ found. (texts_of found.items ≡ arguments_in line.entry.arguments.now) × (first_of (refusals_of_arguments form (cut_in line.entry)) ≡ None))
+        (λ beyond. (beyond ≡ has_argument_beyond form (arguments_in line.entry.arguments.now)) × (first_of (refusals_of_arguments form (cut_in line.entry)) ≡ None))
         (λ refused. first_of (refusals_of_arguments form (cut_in line.entry)) ≡ Some refused) }
 {
     let Some(arguments) = read_arguments(line.arguments) else {
         return Err(Cause::Arguments);
     };
-    if line.stays_open || has_wrong_arguments(form, arguments.as_slice()) {
+    if has_wrong_arguments(form, arguments.as_slice()) {
         return Err(Cause::Arguments);
     }
-    if has_wrong_probability(last, form, arguments.as_slice()) {
+    if has_wrong_probability(&mut last.probability, form, arguments.as_slice()) {
         return Err(Cause::Probability);
     }
-    Ok(arguments)
+    if takes_probability(form) {
+        last.parentheses.keep(form, line.arguments);
+    }
+    Ok(has_argument_beyond(form, arguments.as_slice()))
 }
 
 fn takes_none(form: TargetForm) -> bool
@@ -159,20 +194,20 @@ fn turns_of(targets: &[Target]) -> u64
     }
 }
 
-/// The refusal of a line whose arguments and targets are of their forms.
+/// The refusal of a line whose arguments and targets are of their forms, where an argument is beyond its limit or none.
 fn refusal_of_amounts(
     depth: usize,
     keyword: Keyword,
     line: Line,
-    arguments: &[&[u8]],
+    beyond: bool,
     targets: &[Target],
 ) -> Option<Cause>
-    requires arguments { texts_of arguments.now ≡ arguments_in line.arguments.now }
+    requires arguments { beyond ≡ has_argument_beyond (argument_form keyword) (arguments_in line.arguments.now) }
     requires targets { targets.now ≡ read_targets (target_form keyword) line.targets.now }
     ensures { result ≡ first_of (refusals_of_amounts depth keyword (cut_in line.entry)) }
 {
     let form = target_form(keyword);
-    if has_argument_beyond(argument_form(keyword), arguments) || has_target_beyond(form, targets) {
+    if beyond || has_target_beyond(form, targets) {
         return Some(Cause::Number);
     }
     if has_wrong_number(form, line.targets, targets) {
@@ -193,7 +228,7 @@ fn refusal_of_amounts(
 /// The refusal of a line with a keyword, where so many blocks are open. Where there is none its targets are in place of
 /// those that were there.
 fn refusal_of<'a, A: Allocator + Copy>(
-    last: &mut LastProbability<'a>,
+    last: &mut Last<'a>,
     targets: &mut Vec<Target, A>,
     depth: usize,
     keyword: Keyword,
@@ -202,20 +237,14 @@ fn refusal_of<'a, A: Allocator + Copy>(
     ensures refusal { IfOk result (λ refusal. refusal ≡ first_of (refusals_of_keyword depth keyword (cut_in line.entry))) }
     ensures targets { IfOk result (λ refusal. refusal ≡ None → targets.new.items ≡ read_targets (target_form keyword) line.entry.targets.now) }
 {
-    let arguments = match arguments_of(last, argument_form(keyword), line) {
-        Ok(arguments) => arguments,
+    let beyond = match arguments_of(last, argument_form(keyword), line) {
+        Ok(beyond) => beyond,
         Err(cause) => return Ok(Some(cause)),
     };
     if !read_line_targets(targets, target_form(keyword), line.targets)? {
         return Ok(Some(Cause::Target));
     }
-    Ok(refusal_of_amounts(
-        depth,
-        keyword,
-        line,
-        arguments.as_slice(),
-        targets.as_slice(),
-    ))
+    Ok(refusal_of_amounts(depth, keyword, line, beyond, targets.as_slice()))
 }
 
 /// What a line says that isn't refused.
@@ -256,7 +285,7 @@ fn judged<'a, A: Allocator + Copy>(
         Ok(keyword) => keyword,
         Err(cause) => return Ok(Said::Refuses(cause)),
     };
-    match refusal_of(&mut last.probability, targets, depth, keyword, line)? {
+    match refusal_of(last, targets, depth, keyword, line)? {
         Some(cause) => Ok(Said::Refuses(cause)),
         None => Ok(accepted(keyword, line, targets.as_slice())),
     }

@@ -1,8 +1,11 @@
-//! What was found last: lines that follow one another often have the same name and the same probability.
-ghost use Rattle.std.specs.Prelude.{◌≡◌};
+//! What was found last: lines that follow one another often have the same name, and the same in their parentheses.
+ghost use Rattle.std.specs.Prelude.{◌≡◌, true};
 ghost use Rattle.step_model.specs.Probabilities.{probability_bound};
+ghost use Rattle.stim_parser.specs.Arguments.{arguments_in};
 ghost use Rattle.stim_parser.specs.Instructions.{keyword_named};
+ghost use Rattle.stim_parser.specs.Said.{AreProbabilities};
 
+use crate::forms::ArgumentForm;
 use crate::names::keyword_named;
 use crate::operation::Keyword;
 use crate::probability::Probability;
@@ -74,5 +77,38 @@ impl<'a> LastProbability<'a> {
         let bound = bound_of(text);
         *self = LastProbability { text, bound };
         bound
+    }
+}
+
+/// What stood between the parentheses of the last line with probabilities that are right, and the form that was asked of it.
+#[derive(Clone, Copy)]
+pub(crate) struct LastParentheses<'a> {
+    form: ArgumentForm,
+    text: &'a [u8],
+    ghost right: { AreProbabilities form (arguments_in text.now) },
+}
+
+impl<'a> LastParentheses<'a> {
+    /// Those of an instruction that may have a probability, and has none.
+    pub(crate) fn new() -> Self {
+        LastParentheses {
+            form: ArgumentForm::ProbabilityAtWill,
+            text: &[],
+        }
+    }
+
+    /// Whether a text is the one of the last line, with the same form asked. If it is another, nothing is said.
+    #[inline(always)]
+    pub(crate) fn are(&self, form: ArgumentForm, text: &[u8]) -> bool
+        ensures { result ≡ true → AreProbabilities form (arguments_in text.now) }
+    {
+        self.form == form && self.text == text
+    }
+
+    /// Keeps those of a line.
+    pub(crate) fn keep(&mut self, form: ArgumentForm, text: &'a [u8])
+        requires { AreProbabilities form (arguments_in text.now) }
+    {
+        *self = LastParentheses { form, text };
     }
 }

@@ -29,7 +29,7 @@ mod target;
 mod target_checks;
 
 pub use argument_checks::{has_wrong_arguments, has_wrong_probability};
-pub use arguments::{MOST_ARGUMENTS, read_arguments};
+pub use arguments::{MOST_ARGUMENTS, first_argument, read_arguments};
 pub use circuit::{Circuit, Item};
 pub use coordinates::whole_values;
 pub use digits::number_of;

@@ -1,8 +1,8 @@
-//! Whether there is an argument between the parentheses of an instruction.
+//! Whether there is an argument between the parentheses of an instruction, and which is the first.
 use std::alloc::Global;
 use std::process::Abort;
 use std::test::Fail;
-use stim_parser::{Item, parse};
+use stim_parser::{Item, first_argument, parse};
 
 /// Lines, and whether each has an argument.
 const LINES: [(&[u8], bool); 6] = [
@@ -12,6 +12,14 @@ const LINES: [(&[u8], bool); 6] = [
     (b"M(0.5) 0", true),
     (b"M( 0) 0", true),
     (b"DETECTOR(1, 2)", true),
+];
+
+/// What stands between parentheses, and the first argument there.
+const FIRST: [(&[u8], &[u8]); 4] = [
+    (b"0.5", b"0.5"),
+    (b" 1\t, 2", b"1"),
+    (b"1 2 ,", b"1 2"),
+    (b" ,2", b""),
 ];
 
 fn has_argument(alloc: Global, line: &[u8]) -> Option<bool> {
@@ -32,5 +40,15 @@ fn arguments_are_told(rt: HostRuntime) -> Result<(), Fail> {
     for (line, there) in LINES {
         assert!(rt; has_argument(rt.alloc(), line) == Some(there));
     }
+    Ok(())
+}
+
+#[test]
+fn first_arguments_are_found(rt: HostRuntime) -> Result<(), Fail> {
+    for (text, first) in FIRST {
+        assert!(rt; first_argument(text) == Some(first));
+    }
+    assert!(rt; first_argument(b"").is_none());
+    assert!(rt; first_argument(b" \t").is_none());
     Ok(())
 }

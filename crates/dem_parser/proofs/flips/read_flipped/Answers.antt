@@ -1,15 +1,14 @@
 use Rattle.std.proofs.Common.{◌+◌, ◌<◌, List, ℕ, ap, subst, sym, ◌∙◌}
 use Rattle.std.specs.Prelude.{All}
 use Rattle.std.specs.List.Sorted.{IsNonDecreasing}
-use Rattle.std.proofs.lemmas.List.Sorted.{All-permutation, IsNonDecreasingBy-from_sort}
+use Rattle.std.proofs.lemmas.List.Sorted.{All-permutation}
 use Rattle.dem_parser.specs.Numbered.{odd_below}
 use Rattle.dem_parser.proofs.NumberLemmas.{all-numbers, flipped-numbers, same-odd}
 use Rattle.dem_parser.proofs.flips.read_flipped.Goals as goal
 
 pub keep_odd-requires : goal.keep_odd-requires
 keep_odd-requires g c =
-    subst (λ (ns : List ℕ). IsNonDecreasing ns) (sym c.as_slice.ensures.value)
-    (IsNonDecreasingBy-from_sort (λ x. x) _ c.in_ok-sort.ensures.sorted)
+    subst (λ (ns : List ℕ). IsNonDecreasing ns) (sym c.as_slice.ensures.value) c.in_ok-put_in_order.ensures.ascending
 
 pub returns : goal.returns
 returns g c observables h j =
@@ -17,13 +16,13 @@ returns g c observables h j =
     let targets = c.args.targets.now in
     let n : ℕ = detectors + observables in
     let read = c.read_numbers.new.numbers.items in
-    let sorted = c.sort.new.self.items in
+    let sorted = c.put_in_order.new.numbers.items in
     let below : All (λ m. m < n) c.as_slice.result.now =
     subst (λ (ns : List ℕ). All (λ m. m < n) ns) (sym c.as_slice.ensures.value)
-    (All-permutation (λ m. m < n) read sorted c.in_ok-sort.ensures.permutation
+    (All-permutation (λ m. m < n) read sorted c.in_ok-put_in_order.ensures.same
     (subst (λ (ns : List ℕ). All (λ m. m < n) ns) (sym c.in_ok-read_numbers.ensures) (all-numbers detectors observables targets h j))) in
     c.in_ok-keep_odd.ensures n below
     ∙ ap (odd_below n) c.as_slice.ensures.value
-    ∙ same-odd n read sorted c.in_ok-sort.ensures.permutation
+    ∙ same-odd n read sorted c.in_ok-put_in_order.ensures.same
     ∙ ap (odd_below n) c.in_ok-read_numbers.ensures
     ∙ flipped-numbers detectors observables targets h

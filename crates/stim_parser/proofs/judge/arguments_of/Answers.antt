@@ -1,6 +1,15 @@
+use Rattle.std.proofs.Common.{◌∙◌, sym}
+use Rattle.std.proofs.lemmas.List.{nil_from_length}
+use Rattle.std.proofs.lemmas.Bool.{eqb-true}
 use Rattle.stim_lexer.specs.Lexing.{cut_in}
-use Rattle.stim_parser.proofs.JudgeLemmas.{too_many}
+use Rattle.stim_parser.proofs.JudgeLemmas.{no_arguments, right_probabilities}
 use Rattle.stim_parser.proofs.judge.arguments_of.Goals as goal
 
-pub returns-in_default : goal.returns-in_default
-returns-in_default c = too_many c.args.form (cut_in c.args.line) c.in_default.ensures
+pub returns-then-are : goal.returns-then-are
+returns-then-are c =
+    right_probabilities c.args.form (cut_in c.args.line) c.if-line.false (c.are.ensures c.if-are.true)
+
+pub returns-then-is_empty : goal.returns-then-is_empty
+returns-then-is_empty c =
+    no_arguments c.args.form (cut_in c.args.line) (c.takes_no_arguments.ensures c.if-takes_no_arguments.true) c.if-line.false
+    (nil_from_length c.args.line.arguments.now (eqb-true _ _ (sym c.is_empty.ensures ∙ c.if-is_empty.true)))
