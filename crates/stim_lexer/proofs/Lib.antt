@@ -1,3 +1,4 @@
 pub mod ScanLemmas
 mod LexingLemmas
 mod Nowhere
+mod SpecialLemmas

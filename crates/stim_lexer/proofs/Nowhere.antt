@@ -9,15 +9,15 @@ use Rattle.stim_lexer.specs.Cut.{after_brackets, after_name, after_opening, brac
 use Rattle.stim_lexer.proofs.LexingLemmas.{is_empty-is}
 use Rattle.stim_lexer.proofs.ScanLemmas.{list_any-from_first}
 
-or-left : (a b : Bool) → (a || b) ≡ false → a ≡ false
+pub or-left : (a b : Bool) → (a || b) ≡ false → a ≡ false
 or-left true b h = h
 or-left false b h = refl
 
-or-right : (a b : Bool) → (a || b) ≡ false → b ≡ false
+pub or-right : (a b : Bool) → (a || b) ≡ false → b ≡ false
 or-right true b h = cc
 or-right false b h = h
 
-none_behind : (p : ℕ → Bool) (n : ℕ) (text : List ℕ) → list_any p text ≡ false → list_any p (drop n text) ≡ false
+pub none_behind : (p : ℕ → Bool) (n : ℕ) (text : List ℕ) → list_any p text ≡ false → list_any p (drop n text) ≡ false
 none_behind p zero text h = h
 none_behind p (suc n) [] h = refl
 none_behind p (suc n) (b ∷ text) h = none_behind p n text (or-right (p b) (list_any p text) h)
@@ -28,6 +28,13 @@ all_before p (b ∷ text) h =
     let none = or-left (p b) (list_any p text) h in
     let here : 1 + position_or_len p text ≡ suc (position_or_len p text) = omega arith in
     rw (none, here) (ap (λ rest. b ∷ rest) (all_before p text (or-right (p b) (list_any p text) h)))
+
+empty_from : (rest : List ℕ) → not (is_empty rest) ≡ false → rest ≡ []
+empty_from [] h = refl
+empty_from (b ∷ rest) h = cc
+
+pub nothing_from : (p : ℕ → Bool) (text : List ℕ) → list_any p text ≡ false → from_first p text ≡ []
+nothing_from p text h = empty_from (from_first p text) (sym (list_any-from_first p text) ∙ h)
 
 pub none_after_brackets : (p opening closing : ℕ → Bool) (text : List ℕ) → list_any p text ≡ false → list_any p (after_brackets opening closing text) ≡ false
 none_after_brackets p opening closing text h =

@@ -1,11 +1,11 @@
 ghost use Rattle.std.specs.Prelude.{◌≡◌, ◌+◌, ◌<◌, ◌^◌, ◌∷◌, [], length, IfErr, IfSome, Err, None};
 ghost use Rattle.std.specs.List.{list_any};
-ghost use Rattle.stim_lexer.specs.Bytes.{is_hash};
 ghost use Rattle.stim_lexer.specs.Lexing.{after_silent, next_found, after_next, answered};
 ghost use Rattle.stim_lexer.specs.Lines.{content_of, lines_of};
+ghost use Rattle.stim_lexer.specs.Special.{is_special};
 
 use crate::line::{Line, content_of, has_bad_byte, is_closing, line_of, parts_of};
-use crate::scan::first_line;
+use crate::scan::{any_special, first_line};
 use std::marker::Model;
 use step_model::{Cause, Fault};
 
@@ -16,13 +16,13 @@ pub struct Lexer<'a> {
     read: u64,
 }
 
-/// A line that says something: the whole line, what it says up to a comment, whether it has a `#`, and what follows it in
-/// the text.
+/// A line that says something: the whole line, what it says up to a comment, whether it has a special byte, and what
+/// follows it in the text.
 #[derive(Clone, Copy)]
 struct Found<'a> {
     line: &'a [u8],
     content: &'a [u8],
-    commented: bool,
+    special: bool,
     after: &'a [u8],
 }
 
@@ -59,7 +59,7 @@ impl<'a> Lexer<'a> {
         let Some(found) = self.pass_silent() else {
             return Ok(None);
         };
-        let parts = parts_of(found.line, found.commented);
+        let parts = parts_of(found.line, found.special);
         let number = self.read + 1;
         if has_bad_byte(found.line, parts) {
             return Err(Fault {
@@ -78,18 +78,19 @@ impl<'a> Lexer<'a> {
         ensures rest { self.new ≡ after_silent self.old.read self.old.lines }
         ensures lines { IfSome result (λ found. self.new.lines ≡ found.line.now ∷ lines_of found.after.now) }
         ensures content { IfSome result (λ found. found.content.now ≡ content_of found.line.now) }
-        ensures commented { IfSome result (λ found. found.commented ≡ list_any is_hash found.line.now) }
+        ensures special { IfSome result (λ found. found.special ≡ list_any is_special found.line.now) }
         ensures room { IfSome result (λ found. self.new.read + 1 + length found.after.now < 2 ^ 64) }
         ensures none { result ≡ None → self.new.lines ≡ [] }
     {
         while !self.rest.is_empty() {
             let (line, after) = first_line(self.rest);
-            let (content, commented) = content_of(line);
+            let special = any_special(line);
+            let content = content_of(line, special);
             if !content.is_empty() {
                 return Some(Found {
                     line,
                     content,
-                    commented,
+                    special,
                     after,
                 });
             }

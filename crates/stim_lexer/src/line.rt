@@ -1,14 +1,14 @@
-ghost use Rattle.std.specs.Prelude.{◌≡◌, ◌&&◌, drop, true};
+ghost use Rattle.std.specs.Prelude.{◌≡◌, ◌&&◌, drop, false, true};
 ghost use Rattle.std.specs.List.{list_all, list_any};
-ghost use Rattle.stim_lexer.specs.Bytes.{begins_with, is_blank, is_close_brace, is_hash, is_open_brace};
+ghost use Rattle.stim_lexer.specs.Bytes.{begins_with, is_blank, is_brace, is_close_brace, is_open_brace};
 ghost use Rattle.stim_lexer.specs.declared.line.Braces.TheVariants.{NoBrace};
 ghost use Rattle.stim_lexer.specs.Cut.{name_of, body_of, leaves_tag_open, braces_in, cut_of, has_bad_byte};
 ghost use Rattle.stim_lexer.specs.Lexing.{cut_in};
 ghost use Rattle.stim_lexer.specs.Lines.{content_of, is_closing};
+ghost use Rattle.stim_lexer.specs.Special.{is_special};
 
 use crate::scan::{
-    after_blanks, any_bad_byte, before_byte, cut_at, cut_brackets, cut_name, from_brace,
-    is_blank_text,
+    after_blanks, any_bad_byte, before_byte, cut_brackets, cut_name, from_brace, is_blank_text,
 };
 
 /// The braces of a line, outside tag and comment.
@@ -41,21 +41,23 @@ pub struct Line<'a> {
     pub braces: Braces,
 }
 
-/// A line's name, what follows name and tag up to a comment, and whether the tag stays open.
+/// A line's name, what follows name and tag up to a comment, whether the tag stays open, and whether the line has a
+/// special byte.
 #[derive(Clone, Copy)]
 pub(crate) struct Parts<'a> {
     pub name: &'a [u8],
     pub body: &'a [u8],
     pub leaves_tag_open: bool,
+    pub special: bool,
 }
 
-/// A line up to a comment, without the blanks in front, and whether there is a `#`.
-pub(crate) fn content_of(line: &[u8]) -> (&[u8], bool)
-    ensures content { result.0.now ≡ content_of line.now }
-    ensures commented { result.1 ≡ list_any is_hash line.now }
+/// A line up to a comment, without the blanks in front.
+#[inline(always)]
+pub(crate) fn content_of(line: &[u8], special: bool) -> &[u8]
+    requires { special ≡ list_any is_special line.now }
+    ensures { result.now ≡ content_of line.now }
 {
-    let (content, comment) = cut_at(line, b'#');
-    (after_blanks(content), !comment.is_empty())
+    after_blanks(before_byte(line, b'#', !special))
 }
 
 /// Whether a line that says this closes a block.
@@ -68,19 +70,22 @@ pub(crate) fn is_closing(content: &[u8]) -> bool
     }
 }
 
-/// The parts of a line in which a `#` may stand or not.
-pub(crate) fn parts_of(line: &[u8], commented: bool) -> Parts<'_>
-    requires { commented ≡ list_any is_hash line.now }
+/// The parts of a line.
+#[inline(always)]
+pub(crate) fn parts_of(line: &[u8], special: bool) -> Parts<'_>
+    requires { special ≡ list_any is_special line.now }
     ensures name { result.name.now ≡ name_of line.now }
     ensures body { result.body.now ≡ body_of line.now }
     ensures stays_open { result.leaves_tag_open ≡ leaves_tag_open line.now }
+    ensures special { result.special ≡ special }
 {
     let (name, rest) = cut_name(after_blanks(line));
     let tag = cut_brackets(rest, b'[', b']');
     Parts {
         name,
-        body: before_byte(tag.after, b'#', !commented),
+        body: before_byte(tag.after, b'#', !special),
         leaves_tag_open: tag.stays_open,
+        special,
     }
 }
 
@@ -94,11 +99,13 @@ fn is_opening(text: &[u8]) -> bool
     }
 }
 
-/// The braces of a line that closes a block or has this body.
-fn braces_in(closes: bool, body: &[u8]) -> Braces
+/// The braces of a line that closes a block or has this body, in which braces may be known to be nowhere.
+#[inline(always)]
+fn braces_in(closes: bool, body: &[u8], nowhere: bool) -> Braces
+    requires { nowhere ≡ true → list_any is_brace body.now ≡ false }
     ensures { result ≡ braces_in closes body.now }
 {
-    let rest = from_brace(body);
+    let rest = from_brace(body, nowhere);
     if closes {
         Braces::ClosingAlone
     } else if rest.is_empty() {
@@ -117,16 +124,18 @@ fn has_no_brace(braces: Braces) -> bool
 }
 
 /// The line, cut.
+#[inline(always)]
 pub(crate) fn line_of<'a>(number: u64, line: &'a [u8], closes: bool, parts: Parts<'a>) -> Line<'a>
     requires closes { closes ≡ is_closing line.now }
     requires name { parts.name.now ≡ name_of line.now }
     requires body { parts.body.now ≡ body_of line.now }
     requires stays_open { parts.leaves_tag_open ≡ leaves_tag_open line.now }
+    requires special { parts.special ≡ list_any is_special line.now }
     ensures number { result.number ≡ number }
     ensures cut { cut_in result ≡ cut_of line.now }
 {
     let parentheses = cut_brackets(parts.body, b'(', b')');
-    let braces = braces_in(closes, parts.body);
+    let braces = braces_in(closes, parts.body, !parts.special);
     Line {
         number,
         name: parts.name,
@@ -138,11 +147,15 @@ pub(crate) fn line_of<'a>(number: u64, line: &'a [u8], closes: bool, parts: Part
 }
 
 /// Whether a byte that may not stand in a text stands in a line outside tag and comment.
-#[tactic(auto, unfolding(crate::specs::Cut::has_bad_byte))]
+#[inline(always)]
 pub(crate) fn has_bad_byte(line: &[u8], parts: Parts) -> bool
     requires name { parts.name.now ≡ name_of line.now }
     requires body { parts.body.now ≡ body_of line.now }
+    requires special { parts.special ≡ list_any is_special line.now }
     ensures { result ≡ has_bad_byte line.now }
 {
+    if !parts.special {
+        return false;
+    }
     any_bad_byte(parts.name) || any_bad_byte(parts.body)
 }

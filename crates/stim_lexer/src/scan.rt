@@ -3,6 +3,7 @@ ghost use Rattle.std.specs.List.{list_any, list_all, before_first, after_first, 
 ghost use Rattle.stim_lexer.specs.Bytes.{is_blank, is_bad_byte, is_brace, ends_name, from_first, after_blanks, begins_with};
 ghost use Rattle.stim_lexer.specs.Cut.{in_brackets, after_brackets, leaves_open};
 ghost use Rattle.stim_lexer.specs.Lines.{lines_of};
+ghost use Rattle.stim_lexer.specs.Special.{is_special};
 
 use memchr::memchr;
 
@@ -35,6 +36,26 @@ pub(crate) fn any_bad_byte(text: &[u8]) -> bool
 {
     text.iter()
         .any(|byte| !is_blank(*byte) && !(32..=126).contains(byte))
+}
+
+/// Whether a byte is none of those that most lines have.
+#[inline(always)]
+fn is_special(byte: u8) -> bool
+    ensures { result ≡ is_special byte }
+{
+    !(32..=122).contains(&byte) || byte == b'#'
+}
+
+/// Whether a line has a byte that most have none of. It is asked of each line, and looks at many bytes at once.
+#[inline(always)]
+pub(crate) fn any_special(line: &[u8]) -> bool
+    ensures { result ≡ list_any is_special line.now }
+{
+    let mut special = false;
+    for byte in line {
+        special |= is_special(*byte);
+    }
+    special
 }
 
 /// Where the first byte stands that isn't a blank.
@@ -87,11 +108,16 @@ pub(crate) fn cut_name(text: &[u8]) -> (&[u8], &[u8])
     text.split_at(place)
 }
 
-/// A text from its first brace on.
+/// A text from its first brace on, which may be known to be nowhere in it.
+#[inline(always)]
 #[tactic(auto, using(crate::proofs::ScanLemmas::places))]
-pub(crate) fn from_brace(text: &[u8]) -> &[u8]
+pub(crate) fn from_brace(text: &[u8], nowhere: bool) -> &[u8]
+    requires { nowhere ≡ true → list_any is_brace text.now ≡ false }
     ensures { result.now ≡ from_first is_brace text.now }
 {
+    if nowhere {
+        return &[];
+    }
     let place = place_of_brace(text).unwrap_or(text.len());
     text.split_at(place).1
 }

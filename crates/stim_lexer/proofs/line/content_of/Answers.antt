@@ -1,6 +1,7 @@
-use Rattle.stim_lexer.specs.Bytes.{is_hash}
-use Rattle.stim_lexer.proofs.Nowhere.{stands_somewhere}
+use Rattle.std.proofs.Common.{sym, ◌∙◌}
+use Rattle.stim_lexer.proofs.Nowhere.{is_false}
+use Rattle.stim_lexer.proofs.SpecialLemmas.{no_hash}
 use Rattle.stim_lexer.proofs.line.content_of.Goals as goal
 
-pub returns-clause-commented : goal.returns-clause-commented
-returns-clause-commented c = stands_somewhere is_hash c.args.line.now c.cut_at.result.1.now c.is_empty.result c.cut_at.ensures.after c.is_empty.ensures
+pub before_byte-requires : goal.before_byte-requires
+before_byte-requires c plain = no_hash c.args.line.now (sym c.requires ∙ is_false c.args.special plain)

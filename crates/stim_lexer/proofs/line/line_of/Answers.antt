@@ -1,9 +1,10 @@
 use Rattle.std.proofs.Common.{◌≡◌, Bool, ◌||◌, sym, ◌∙◌, ap}
 use Rattle.std.specs.List.{before_first, list_any}
-use Rattle.stim_lexer.specs.Bytes.{is_open_brace, is_open_parenthesis, is_close_parenthesis}
+use Rattle.stim_lexer.specs.Bytes.{is_brace, is_open_brace, is_open_parenthesis, is_close_parenthesis}
 use Rattle.stim_lexer.specs.Cut.{leaves_open, leaves_tag_open, braces_in}
 use Rattle.stim_lexer.proofs.LexingLemmas.{cut_of-is}
-use Rattle.stim_lexer.proofs.Nowhere.{brace_nowhere, none_after_brackets, open_nowhere}
+use Rattle.stim_lexer.proofs.Nowhere.{brace_nowhere, is_false, none_after_brackets, open_nowhere}
+use Rattle.stim_lexer.proofs.SpecialLemmas.{no_brace_in_body}
 use Rattle.stim_lexer.proofs.line.line_of.Goals as goal
 use Rattle.stim_lexer.proofs.line.line_of.Goals.{then-parts, else-parts}
 
@@ -30,3 +31,8 @@ before_byte-requires c braceless =
     ap (list_any is_open_brace) c.cut_brackets-parentheses.ensures.after
     ∙ none_after_brackets is_open_brace is_open_parenthesis is_close_parenthesis body
     (open_nowhere body (brace_nowhere c.args.closes body (sym c.braces_in-braces.ensures ∙ c.has_no_brace.ensures braceless)))
+
+pub braces_in-braces-requires : goal.braces_in-braces-requires
+braces_in-braces-requires c plain =
+    ap (list_any is_brace) c.requires.body
+    ∙ no_brace_in_body c.args.line.now (sym c.requires.special ∙ is_false c.args.parts.special plain)

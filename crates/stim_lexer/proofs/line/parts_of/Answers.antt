@@ -3,6 +3,7 @@ use Rattle.std.specs.List.{before_first, list_any}
 use Rattle.stim_lexer.specs.Bytes.{ends_name, from_first, is_hash, is_open_bracket, is_close_bracket}
 use Rattle.stim_lexer.specs.Cut.{after_brackets, after_name}
 use Rattle.stim_lexer.proofs.Nowhere.{is_false, none_after_brackets, none_after_name}
+use Rattle.stim_lexer.proofs.SpecialLemmas.{no_hash}
 use Rattle.stim_lexer.proofs.line.parts_of.Goals as goal
 
 pub returns-clause-body : goal.returns-clause-body
@@ -14,8 +15,8 @@ returns-clause-body c =
     (c.cut_name.ensures.after ∙ ap (from_first ends_name) c.after_blanks.ensures))
 
 pub before_byte-requires : goal.before_byte-requires
-before_byte-requires c uncommented =
-    let none : list_any is_hash c.args.line.now ≡ false = sym c.requires ∙ is_false c.args.commented uncommented in
+before_byte-requires c plain =
+    let none : list_any is_hash c.args.line.now ≡ false = no_hash c.args.line.now (sym c.requires ∙ is_false c.args.special plain) in
     ap (list_any is_hash)
     (c.cut_brackets-tag.ensures.after
     ∙ ap (after_brackets is_open_bracket is_close_bracket)

@@ -7,12 +7,12 @@ use Rattle.stim_lexer.proofs.lexer.Lexer.pass_silent.Goals as goal
 
 pub returns-then-not-is_empty-clause-rest : goal.returns-then-not-is_empty-clause-rest
 returns-then-not-is_empty-clause-rest c =
-    sym (after_silent-stays _ _ _ _ _ _ c.first_line.ensures.lines c.content_of-commented.ensures.content c.is_empty-in-loop-self.ensures c.if-not-is_empty.true)
+    sym (after_silent-stays _ _ _ _ _ _ c.first_line.ensures.lines c.content_of-content.ensures c.is_empty-in-loop-self.ensures c.if-not-is_empty.true)
     ∙ (c.loop-self.invariant.0 ∙ ap (λ (u : Unread). after_silent u.read u.lines) c.self.view_is)
 
 pub loop-self-preserved : goal.loop-self-preserved
 loop-self-preserved c = (
-  sym (after_silent-passes _ _ _ _ _ _ c.first_line.ensures.lines c.content_of-commented.ensures.content c.is_empty-in-loop-self.ensures c.if-not-is_empty.false)
+  sym (after_silent-passes _ _ _ _ _ _ c.first_line.ensures.lines c.content_of-content.ensures c.is_empty-in-loop-self.ensures c.if-not-is_empty.false)
       ∙ c.loop-self.invariant.0,
   omega arith,
 )

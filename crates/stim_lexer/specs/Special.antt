@@ -1,0 +1,8 @@
+-- A quick test of whole lines: most have no special byte, and so no bad byte, no brace and no comment.
+use Rattle.std.specs.Prelude.{ℕ, Bool, not, ◌||◌}
+use Rattle.std.specs.Int.{is_in_range}
+use Rattle.stim_lexer.specs.Bytes.{is_hash}
+
+-- neither a space nor one of the printable bytes before the braces, or `#`
+abbrev pub is_special : ℕ → Bool
+is_special b = not (is_in_range 32 122 b) || is_hash b
