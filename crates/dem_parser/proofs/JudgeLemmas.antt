@@ -1,20 +1,21 @@
 -- The questions of a line in their order: where those before don't apply, the next is asked.
-use Rattle.std.proofs.Common.{◌≡◌, ℕ, Bool, true, false, not, ◌||◌, ◌<◌, List, [], ◌∷◌, length, Option, None, Some, refl, ap, ◌∙◌, arith}
+use Rattle.std.proofs.Common.{◌≡◌, ℕ, Bool, true, false, not, ◌||◌, ◌<◌, List, [], ◌∷◌, length, Option, None, Some, refl, ap, ap₂, sym, ◌∙◌, arith}
 use Rattle.std.specs.Prelude.{unwrap_or, is_none}
 use Rattle.std.specs.List.{list_all}
-use Rattle.std.proofs.lemmas.Bool.{lt-ltb, ne_eqb, or_right}
+use Rattle.std.proofs.lemmas.Bool.{false≢true, lt-ltb, ne_eqb, or_right}
 use Rattle.step_model.specs.declared.fault.Cause.{Cause}
 use Rattle.step_model.specs.declared.fault.Cause.TheVariants as cause
 use Rattle.stim_lexer.specs.Cut.{Cut}
 use Rattle.stim_parser.specs.declared.forms.ArgumentForm.{ArgumentForm}
 use Rattle.stim_parser.specs.declared.forms.ArgumentForm.TheVariants.{NoArguments, ProbabilityAtWill, OneProbability, WholeNumbers, Decimals, OneNumber}
 use Rattle.stim_parser.specs.Arguments.{arguments_in}
-use Rattle.stim_parser.specs.Limits.{has_wrong_arguments, has_wrong_probability, is_argument, is_wrong_count}
+use Rattle.stim_parser.specs.Limits.{has_wrong_arguments, has_wrong_probability, is_argument, is_wrong_count, takes_probability}
+use Rattle.stim_parser.specs.Said.{AreProbabilities}
 use Rattle.dem_parser.specs.declared.forms.TargetForm.{TargetForm}
 use Rattle.dem_parser.specs.declared.operation.Keyword.{Keyword}
 use Rattle.dem_parser.specs.declared.target.Target.{Target}
 use Rattle.dem_parser.specs.Instructions.{argument_form, keyword_named}
-use Rattle.dem_parser.specs.Limits.{are_of_form}
+use Rattle.dem_parser.specs.Limits.{are_of_form, has_coordinate_beyond}
 use Rattle.dem_parser.specs.Targets.{targets_in}
 use Rattle.dem_parser.specs.Verdicts.{Refuses, accepted, first_of, has_wrong_target, judged, misplaces_brace, read_targets, refusal_of, refusals_of_keyword, refusals_of_name, refuses_arguments, unless_refused}
 
@@ -66,6 +67,25 @@ too_many keyword cut h =
     let wrong : has_wrong_arguments form arguments ≡ true = ap (λ b. b || not (list_all (is_argument form) arguments)) (count-beyond form (length arguments) h) in
     or_right cut.stays_open (has_wrong_arguments form arguments || has_wrong_probability form arguments)
     (ap (λ b. b || has_wrong_probability form arguments) wrong)
+
+-- probabilities that are right
+never_far : (form : ArgumentForm) (arguments : List (List ℕ)) → takes_probability form ≡ true → has_coordinate_beyond form arguments ≡ false
+unfolding has_coordinate_beyond
+never_far ProbabilityAtWill arguments e = refl
+never_far OneProbability arguments e = refl
+never_far NoArguments arguments e = absurd (false≢true e)
+never_far WholeNumbers arguments e = absurd (false≢true e)
+never_far Decimals arguments e = absurd (false≢true e)
+never_far OneNumber arguments e = absurd (false≢true e)
+
+pub right_probabilities : (keyword : Keyword) (cut : Cut) → cut.stays_open ≡ false → AreProbabilities (argument_form keyword) (arguments_in cut.arguments)
+    → (false ≡ has_coordinate_beyond (argument_form keyword) (arguments_in cut.arguments)) × (refuses_arguments keyword cut ≡ false)
+right_probabilities keyword cut closed right =
+    let form = argument_form keyword in
+    let arguments = arguments_in cut.arguments in (
+      sym (never_far form arguments right.0),
+      ap₂ (λ a b. a || b) closed (ap₂ (λ a b. a || b) right.1 right.2),
+    )
 
 -- ---- a line's targets
 

@@ -7,7 +7,7 @@ ghost use Rattle.dem_parser.specs.Unfinished.{after_line, cause_in, reading_at};
 
 use crate::instruction::Instruction;
 use crate::items::Items;
-use crate::judge::{DEEPEST, Said, read_line};
+use crate::judge::{DEEPEST, Last, Said, read_line};
 use crate::lines::ModelLines;
 use crate::target::Target;
 use arrayvec::ArrayVec;
@@ -15,7 +15,6 @@ use std::alloc::{AllocError, Allocator};
 use std::marker::Model;
 use step_model::{Cause, Fault};
 use stim_lexer::Line;
-use stim_parser::LastProbability;
 
 /// An error model that is read line by line.
 #[derive(Drop)]
@@ -25,7 +24,7 @@ pub(crate) struct Builder<'a, A: Allocator + Copy> {
     blocks: ArrayVec<u64, DEEPEST>,
     // Room for the targets of the line that is read.
     targets: Vec<Target, A>,
-    last: LastProbability<'a>,
+    last: Last<'a>,
 }
 
 impl<'a, A: Allocator + Copy> Model for Builder<'a, A> {
@@ -48,7 +47,7 @@ impl<'a, A: Allocator + Copy> Builder<'a, A> {
             items: Items::new(alloc),
             blocks: ArrayVec::new(),
             targets: Vec::new(alloc),
-            last: LastProbability::new(),
+            last: Last::new(),
         }
     }
 

@@ -1,8 +1,8 @@
 ghost use Rattle.std.specs.Prelude.{◌≡◌, ℕ, List, None, Some, not, true, false, IfOk, MatchOption, MatchResult};
 ghost use Rattle.stim_lexer.specs.Lexing.{cut_in};
 ghost use Rattle.stim_parser.specs.Arguments.{arguments_in};
-ghost use Rattle.stim_parser.specs.Said.{texts_of};
 ghost use Rattle.dem_parser.specs.Instructions.{argument_form, keyword_named, target_form};
+ghost use Rattle.dem_parser.specs.Limits.{has_coordinate_beyond};
 ghost use Rattle.dem_parser.specs.Said.{reading_in};
 ghost use Rattle.dem_parser.specs.Verdicts.{accepted, closed_at, first_of, has_wrong_target, judged, misplaces_brace, number_in, opens_block, reading_of, read_targets, refusal_of, refusals_of_amounts, refusals_of_keyword, refuses_arguments};
 
@@ -11,12 +11,11 @@ use crate::forms::{TargetForm, argument_form, target_form};
 use crate::names::keyword_named;
 use crate::operation::{Keyword, Operation};
 use crate::target::{Target, read_targets};
-use arrayvec::ArrayVec;
 use std::alloc::{AllocError, Allocator};
 use step_model::Cause;
 use stim_lexer::{Braces, Line};
 use stim_parser::{
-    LastProbability, MOST_ARGUMENTS, has_wrong_arguments, has_wrong_probability, read_arguments,
+    LastParentheses, LastProbability, has_wrong_arguments, has_wrong_probability, read_arguments,
 };
 
 /// How many blocks may stand inside one another.
@@ -35,6 +34,23 @@ pub(crate) enum Said<'a> {
     /// The end of a block.
     Closes,
     Refuses(Cause),
+}
+
+/// What was read last: what stood in parentheses, and a probability.
+#[derive(Drop)]
+pub(crate) struct Last<'a> {
+    pub parentheses: LastParentheses<'a>,
+    pub probability: LastProbability<'a>,
+}
+
+impl<'a> Last<'a> {
+    /// Those of an empty text.
+    pub(crate) fn new() -> Self {
+        Last {
+            parentheses: LastParentheses::new(),
+            probability: LastProbability::new(),
+        }
+    }
 }
 
 /// Whether the braces of a line stand otherwise than its keyword asks.
@@ -63,27 +79,47 @@ fn keyword_of(line: Line) -> Result<Keyword, Cause>
     }
 }
 
-/// The arguments of a line, where they are of the number and the form that its keyword takes.
+/// Whether a coordinate of a line is beyond its limit, where its arguments are of the number and the form that its
+/// keyword takes.
 #[inline(always)]
-fn arguments_of<'a>(
-    last: &mut LastProbability<'a>,
+fn arguments_of<'a>(last: &mut Last<'a>, keyword: Keyword, line: Line<'a>) -> Option<bool>
+    ensures { MatchOption result (refuses_arguments keyword (cut_in line.entry) ≡ true)
+        (λ beyond. (beyond ≡ has_coordinate_beyond (argument_form keyword) (arguments_in line.entry.arguments.now)) × (refuses_arguments keyword (cut_in line.entry) ≡ false)) }
+{
+    if line.stays_open {
+        return None;
+    }
+    if last
+        .parentheses
+        .are(argument_form(keyword), line.arguments)
+    {
+        return Some(false);
+    }
+    closed_arguments_of(last, keyword, line)
+}
+
+/// The same of a line on which no tag and no parentheses stay open.
+#[inline(never)]
+fn closed_arguments_of<'a>(
+    last: &mut Last<'a>,
     keyword: Keyword,
     line: Line<'a>,
-) -> Option<ArrayVec<&'a [u8], MOST_ARGUMENTS>>
+) -> Option<bool>
+    requires { line.stays_open ≡ false }
     ensures { MatchOption result (refuses_arguments keyword (cut_in line.entry) ≡ true)
-        (λ found. (texts_of found.items ≡ arguments_in line.entry.arguments.now) × (refuses_arguments keyword (cut_in line.entry) ≡ false)) }
+        (λ beyond. (beyond ≡ has_coordinate_beyond (argument_form keyword) (arguments_in line.entry.arguments.now)) × (refuses_arguments keyword (cut_in line.entry) ≡ false)) }
 {
     let form = argument_form(keyword);
     let Some(arguments) = read_arguments(line.arguments) else {
         return None;
     };
-    if line.stays_open
-        || has_wrong_arguments(form, arguments.as_slice())
-        || has_wrong_probability(last, form, arguments.as_slice())
+    if has_wrong_arguments(form, arguments.as_slice())
+        || has_wrong_probability(&mut last.probability, form, arguments.as_slice())
     {
         return None;
     }
-    Some(arguments)
+    last.parentheses.keep(form, line.arguments);
+    Some(has_coordinate_beyond(form, arguments.as_slice()))
 }
 
 /// Puts the targets of a line in place of those that were there. Answers whether each can be read and they are of the
@@ -118,19 +154,19 @@ pub(crate) fn number_in(targets: &[Target]) -> u64
     }
 }
 
-/// The refusal of a line whose arguments and targets are of their forms.
+/// The refusal of a line whose arguments and targets are of their forms, where a coordinate is beyond its limit or none.
 fn refusal_of_amounts(
     depth: usize,
     keyword: Keyword,
     line: Line,
-    arguments: &[&[u8]],
+    beyond: bool,
     targets: &[Target],
 ) -> Option<Cause>
-    requires arguments { texts_of arguments.now ≡ arguments_in line.arguments.now }
+    requires arguments { beyond ≡ has_coordinate_beyond (argument_form keyword) (arguments_in line.arguments.now) }
     requires targets { targets.now ≡ read_targets line.targets.now }
     ensures { result ≡ first_of (refusals_of_amounts depth keyword (cut_in line.entry)) }
 {
-    if has_coordinate_beyond(argument_form(keyword), arguments) || has_target_beyond(targets) {
+    if beyond || has_target_beyond(targets) {
         return Some(Cause::DemNumber);
     }
     if opens_block(keyword) && number_in(targets) == 0 {
@@ -145,7 +181,7 @@ fn refusal_of_amounts(
 /// The refusal of a line with a keyword, where so many blocks are open. Where there is none its targets are in place of
 /// those that were there.
 fn refusal_of<'a, A: Allocator + Copy>(
-    last: &mut LastProbability<'a>,
+    last: &mut Last<'a>,
     targets: &mut Vec<Target, A>,
     depth: usize,
     keyword: Keyword,
@@ -154,19 +190,13 @@ fn refusal_of<'a, A: Allocator + Copy>(
     ensures refusal { IfOk result (λ refusal. refusal ≡ first_of (refusals_of_keyword depth keyword (cut_in line.entry))) }
     ensures targets { IfOk result (λ refusal. refusal ≡ None → targets.new.items ≡ read_targets line.entry.targets.now) }
 {
-    let Some(arguments) = arguments_of(last, keyword, line) else {
+    let Some(beyond) = arguments_of(last, keyword, line) else {
         return Ok(Some(Cause::DemArguments));
     };
     if !read_line_targets(targets, target_form(keyword), line.targets)? {
         return Ok(Some(Cause::DemTarget));
     }
-    Ok(refusal_of_amounts(
-        depth,
-        keyword,
-        line,
-        arguments.as_slice(),
-        targets.as_slice(),
-    ))
+    Ok(refusal_of_amounts(depth, keyword, line, beyond, targets.as_slice()))
 }
 
 /// What a line says that isn't refused.
@@ -196,7 +226,7 @@ fn closed_at<'a>(depth: usize) -> Said<'a>
 
 /// Reads a line that doesn't close a block.
 fn judged<'a, A: Allocator + Copy>(
-    last: &mut LastProbability<'a>,
+    last: &mut Last<'a>,
     targets: &mut Vec<Target, A>,
     depth: usize,
     line: Line<'a>,
@@ -217,7 +247,7 @@ fn judged<'a, A: Allocator + Copy>(
 /// no instruction that is taken, what stands in their place is not said.
 #[tactic(auto, unfolding(crate::specs::Verdicts::reading_of))]
 pub(crate) fn read_line<'a, A: Allocator + Copy>(
-    last: &mut LastProbability<'a>,
+    last: &mut Last<'a>,
     targets: &mut Vec<Target, A>,
     depth: usize,
     line: Line<'a>,

@@ -8,9 +8,7 @@ ghost use Rattle.stim_parser.specs.Said.{first_of, reading_in, refusals_of_amoun
 ghost use Rattle.stim_parser.specs.Limits.{has_argument_beyond};
 ghost use Rattle.stim_parser.specs.Verdicts.{accepted, closed_at, has_wrong_number, has_wrong_target, judged, misplaces_brace, opens_block, reading_of, read_targets, refusal_of, refusals_of_keyword, takes_none, turns_of};
 
-use crate::argument_checks::{
-    has_argument_beyond, has_wrong_arguments, has_wrong_probability, takes_probability,
-};
+use crate::argument_checks::{has_argument_beyond, has_wrong_arguments, has_wrong_probability};
 use crate::arguments::read_arguments;
 use crate::forms::{ArgumentForm, TargetForm, argument_form, target_form};
 use crate::last::{LastName, LastParentheses, LastProbability};
@@ -138,9 +136,7 @@ fn closed_arguments_of<'a>(
     if has_wrong_probability(&mut last.probability, form, arguments.as_slice()) {
         return Err(Cause::Probability);
     }
-    if takes_probability(form) {
-        last.parentheses.keep(form, line.arguments);
-    }
+    last.parentheses.keep(form, line.arguments);
     Ok(has_argument_beyond(form, arguments.as_slice()))
 }
 

@@ -1,10 +1,12 @@
 //! What was found last: lines that follow one another often have the same name, and the same in their parentheses.
-ghost use Rattle.std.specs.Prelude.{◌≡◌, true};
+ghost use Rattle.std.specs.Prelude.{◌≡◌, false, true};
 ghost use Rattle.step_model.specs.Probabilities.{probability_bound};
 ghost use Rattle.stim_parser.specs.Arguments.{arguments_in};
 ghost use Rattle.stim_parser.specs.Instructions.{keyword_named};
+ghost use Rattle.stim_parser.specs.Limits.{has_wrong_arguments, has_wrong_probability};
 ghost use Rattle.stim_parser.specs.Said.{AreProbabilities};
 
+use crate::argument_checks::takes_probability;
 use crate::forms::ArgumentForm;
 use crate::names::keyword_named;
 use crate::operation::Keyword;
@@ -82,7 +84,7 @@ impl<'a> LastProbability<'a> {
 
 /// What stood between the parentheses of the last line with probabilities that are right, and the form that was asked of it.
 #[derive(Clone, Copy)]
-pub(crate) struct LastParentheses<'a> {
+pub struct LastParentheses<'a> {
     form: ArgumentForm,
     text: &'a [u8],
     ghost right: { AreProbabilities form (arguments_in text.now) },
@@ -90,7 +92,7 @@ pub(crate) struct LastParentheses<'a> {
 
 impl<'a> LastParentheses<'a> {
     /// Those of an instruction that may have a probability, and has none.
-    pub(crate) fn new() -> Self {
+    pub fn new() -> Self {
         LastParentheses {
             form: ArgumentForm::ProbabilityAtWill,
             text: &[],
@@ -99,16 +101,19 @@ impl<'a> LastParentheses<'a> {
 
     /// Whether a text is the one of the last line, with the same form asked. If it is another, nothing is said.
     #[inline(always)]
-    pub(crate) fn are(&self, form: ArgumentForm, text: &[u8]) -> bool
+    pub fn are(&self, form: ArgumentForm, text: &[u8]) -> bool
         ensures { result ≡ true → AreProbabilities form (arguments_in text.now) }
     {
         self.form == form && self.text == text
     }
 
-    /// Keeps those of a line.
-    pub(crate) fn keep(&mut self, form: ArgumentForm, text: &'a [u8])
-        requires { AreProbabilities form (arguments_in text.now) }
+    /// Keeps those of a line of which nothing is wrong, where they are probabilities.
+    pub fn keep(&mut self, form: ArgumentForm, text: &'a [u8])
+        requires arguments { has_wrong_arguments form (arguments_in text.now) ≡ false }
+        requires probability { has_wrong_probability form (arguments_in text.now) ≡ false }
     {
-        *self = LastParentheses { form, text };
+        if takes_probability(form) {
+            *self = LastParentheses { form, text };
+        }
     }
 }

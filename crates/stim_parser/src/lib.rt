@@ -36,7 +36,7 @@ pub use digits::number_of;
 pub use forms::ArgumentForm;
 pub use halved::Number;
 pub use instruction::Instruction;
-pub use last::LastProbability;
+pub use last::{LastParentheses, LastProbability};
 pub use numbers::magnitude_of;
 pub use operation::Operation;
 pub use parser::parse;
