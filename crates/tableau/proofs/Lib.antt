@@ -5,6 +5,7 @@ pub mod EncodingCollapse
 pub mod EncodingGates
 pub mod FirstLetters
 pub mod KeptRows
+pub mod LettersPut
 pub mod LoneWords
 pub mod PairWords
 pub mod PauliGates

@@ -1,5 +1,5 @@
 //! The collapse of a word: its code tells the outcome, or the turn that all rows take.
-ghost use Rattle.std.specs.Prelude.{◌≡◌, ◌≢◌, ◌<◌, ℕ, length, true, false, All, IfSome, IsTrue};
+ghost use Rattle.std.specs.Prelude.{◌≡◌, ◌≢◌, ◌<◌, ℕ, length, true, false, All, IfSome, IsTrue, slice_set};
 ghost use Rattle.gate_table.specs.Images.{arity_of};
 ghost use Rattle.gate_table.specs.WordImages.{image_at};
 ghost use Rattle.pauli_word.specs.declared.letter.Letter.TheVariants.{I, Z};
@@ -202,6 +202,7 @@ fn stays(here: Letter, clashes: bool) -> bool
     here == Letter::I && !clashes
 }
 
+#[inline(always)]
 fn change_row<A: Allocator + Copy>(
     row: &mut Word<A>,
     code: &Pair<A>,
@@ -217,10 +218,11 @@ fn change_row<A: Allocator + Copy>(
     ensures { row.new ≡ image_at (turning_gate letter) qubit (twisted (lone (length code.now.0.letters) qubit Z) code.now.0 row.old) }
 {
     let twisted = twist(row, code, letter, qubit, here, clashes);
-    apply_gate(row, turning_gate(letter), qubit, twisted);
+    put_image(row, turning_gate(letter), qubit, twisted);
 }
 
-// Only rows with X or Y at the qubit are multiplied; others change no more than their letter there. Answers the letter there.
+// Only rows with X or Y at the qubit are multiplied; others change no more than their letter there. Answers the letter
+// there, which is left to be put.
 #[inline(always)]
 fn twist<A: Allocator + Copy>(
     row: &mut Word<A>,
@@ -234,9 +236,8 @@ fn twist<A: Allocator + Copy>(
     requires size { length row.old.letters ≡ length code.now.0.letters }
     requires here { here ≡ letter_at row.old.letters qubit }
     requires clashes { anticommute row.old.letters code.now.0.letters ≡ exclusive_or clashes (letters_clash here letter) }
-    ensures twisted { row.new ≡ twisted (lone (length code.now.0.letters) qubit Z) code.now.0 row.old }
+    ensures twisted { record row.new { letters = slice_set row.new.letters qubit result } ≡ twisted (lone (length code.now.0.letters) qubit Z) code.now.0 row.old }
     ensures size { length row.new.letters ≡ length code.now.0.letters }
-    ensures letter { result ≡ letter_at row.new.letters qubit }
 {
     let anticommutes = clashes ^ here.clashes(letter);
     match here {
@@ -251,9 +252,7 @@ fn twist<A: Allocator + Copy>(
         }
         along => {
             if anticommutes {
-                let turned = Letter::Z.times(along);
-                row.set_letter(qubit, turned);
-                turned
+                Letter::Z.times(along)
             } else {
                 along
             }
@@ -261,12 +260,12 @@ fn twist<A: Allocator + Copy>(
     }
 }
 
+// Puts at a qubit what a gate makes of a letter there.
 #[inline(always)]
-fn apply_gate<A: Allocator + Copy>(word: &mut Word<A>, gate: Gate, qubit: usize, here: Letter)
+fn put_image<A: Allocator + Copy>(word: &mut Word<A>, gate: Gate, qubit: usize, here: Letter)
     requires arity { arity_of gate ≡ 1 }
     requires inside { qubit < length word.old.letters }
-    requires here { here ≡ letter_at word.old.letters qubit }
-    ensures { word.new ≡ image_at gate qubit word.old }
+    ensures { word.new ≡ image_at gate qubit (record word.old { letters = slice_set word.old.letters qubit here }) }
 {
     let (letter, minus) = gate.image1(here);
     word.set_letter(qubit, letter);
