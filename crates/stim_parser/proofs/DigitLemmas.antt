@@ -1,5 +1,5 @@
 -- Digits at the front of a text, and the numbers that digits write.
-use Rattle.std.proofs.Common.{◌≡◌, ℕ, suc, ◌+◌, ◌-◌, ◌*◌, ◌^◌, ◌==◌, ◌<◌, ◌≤◌, Bool, true, false, not, cond, ltb, List, [], ◌∷◌, length, get_or, None, Some, refl, ◌∙◌, inl, inr, arith, pow-suc, mul-le-mul_right}
+use Rattle.std.proofs.Common.{◌≡◌, ℕ, suc, ◌+◌, ◌-◌, ◌*◌, ◌^◌, ◌==◌, ◌<◌, ◌≤◌, Bool, true, false, not, cond, ltb, List, [], ◌∷◌, length, get_or, take, take_all, length-take, None, Some, refl, ap, sym, ◌∙◌, inl, inr, arith, pow-suc, mul-le-mul_right}
 use Rattle.std.specs.Prelude.{position, unwrap_or, min, fold}
 use Rattle.std.specs.Char.{is_ascii_digit}
 use Rattle.std.specs.List.{list_all, prefix_len, position_or_len}
@@ -8,7 +8,7 @@ use Rattle.std.proofs.lemmas.Bool.{and_parts, both_ways, cases_Bool, false≢tru
 use Rattle.std.proofs.lemmas.List.Folds.{length-prefix_len, list_all_at}
 use Rattle.std.proofs.lemmas.List.Sums.{prefix_len-le-length}
 use Rattle.step_model.specs.Probabilities.{digits_value, exponent_amount, front_digits}
-use Rattle.stim_parser.specs.Numbers.{is_number, value_of}
+use Rattle.stim_parser.specs.Numbers.{is_number, number_of, value_of}
 
 -- ---- digits at the front
 
@@ -98,3 +98,23 @@ exponent_amount-is negative [] few h = absurd (false≢true h)
 exponent_amount-is negative (d ∷ text) few h =
     let some : 1 ≤ length (d ∷ text) = omega arith in
     rw (le-leb 1 (length (d ∷ text)) some, le-leb (length (d ∷ text)) 3 few, h) refl
+
+-- ---- short numbers
+
+pub front-below : (text : List ℕ) (i v : ℕ) → i < length text → length text ≤ 18 → v ≡ fold next_value 0 (take i text) → list_all is_ascii_digit (take i text) ≡ true → v < 10 ^ 17
+front-below text i v lt short value digits =
+    let few : length (take i text) ≤ 17 = omega (arith, length-take i text) in
+    omega (arith, value, digits_value-below (take i text) digits, power_at_most (length (take i text)) 17 few)
+
+short_number : (text : List ℕ) (v : ℕ) → 0 < length text → length text ≤ 18 → v ≡ digits_value text → list_all is_ascii_digit text ≡ true → Some v ≡ number_of text
+short_number [] v some short value digits = absurd (omega arith)
+short_number (d ∷ text) v some short value digits =
+    let small = digits_value-below (d ∷ text) digits in
+    let limit = power_at_most (length (d ∷ text)) 18 short in
+    let whole : v ≡ value_of (d ∷ text) = omega (arith, value, small, limit) in
+    rw digits (ap Some whole)
+
+pub whole_number : (text : List ℕ) (i v : ℕ) → 0 < length text → length text ≤ 18 → length text ≤ i → v ≡ fold next_value 0 (take i text) → list_all is_ascii_digit (take i text) ≡ true → Some v ≡ number_of text
+whole_number text i v some short end value digits =
+    let all : take i text ≡ text = take_all i text end in
+    short_number text v some short (value ∙ ap (fold next_value 0) all) (ap (list_all is_ascii_digit) (sym all) ∙ digits)

@@ -1,4 +1,4 @@
-ghost use Rattle.std.specs.Prelude.{◌≡◌, ◌+◌, true, length, not, position};
+ghost use Rattle.std.specs.Prelude.{◌≡◌, ◌+◌, ◌<◌, ◌≤◌, true, length, not, position};
 ghost use Rattle.std.specs.Char.{is_ascii_digit};
 ghost use Rattle.std.specs.List.{list_all};
 ghost use Rattle.step_model.specs.Probabilities.{front_digits, after_digits};
@@ -6,6 +6,9 @@ ghost use Rattle.stim_parser.specs.Numbers.{is_number, number_of, value_of};
 
 /// The least number that is beyond every limit.
 pub(crate) const BEYOND_ALL: u64 = 1_000_000_000_000_000_000;
+
+/// How many digits write no number that is beyond every limit.
+const SHORT_DIGITS: usize = 18;
 
 /// The number that digits write, or the one beyond every limit where it is greater.
 #[inline(always)]
@@ -38,6 +41,36 @@ pub(crate) fn is_number(text: &[u8]) -> bool
 /// The number that a text writes, where it is digits.
 #[inline(always)]
 pub fn number_of(text: &[u8]) -> Option<u64>
+    ensures { result ≡ number_of text.now }
+{
+    if text.is_empty() {
+        None
+    } else if text.len() <= SHORT_DIGITS {
+        short_number_of(text)
+    } else {
+        long_number_of(text)
+    }
+}
+
+/// The same of a text that is too short for a number beyond every limit.
+#[inline(always)]
+fn short_number_of(text: &[u8]) -> Option<u64>
+    requires some { 0 < length text.now }
+    requires short { length text.now ≤ 18 }
+    ensures { result ≡ number_of text.now }
+{
+    let mut value: u64 = 0;
+    for digit in text {
+        if !digit.is_ascii_digit() {
+            return None;
+        }
+        value = 10 * value + (*digit - b'0') as u64;
+    }
+    Some(value)
+}
+
+/// The same of any text.
+fn long_number_of(text: &[u8]) -> Option<u64>
     ensures { result ≡ number_of text.now }
 {
     if is_number(text) {
