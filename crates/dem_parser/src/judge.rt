@@ -89,10 +89,7 @@ fn arguments_of<'a>(last: &mut Last<'a>, keyword: Keyword, line: Line<'a>) -> Op
     if line.stays_open {
         return None;
     }
-    if last
-        .parentheses
-        .are(argument_form(keyword), line.arguments)
-    {
+    if last.parentheses.are(argument_form(keyword), line.arguments) {
         return Some(false);
     }
     closed_arguments_of(last, keyword, line)
@@ -100,11 +97,7 @@ fn arguments_of<'a>(last: &mut Last<'a>, keyword: Keyword, line: Line<'a>) -> Op
 
 /// The same of a line on which no tag and no parentheses stay open.
 #[inline(never)]
-fn closed_arguments_of<'a>(
-    last: &mut Last<'a>,
-    keyword: Keyword,
-    line: Line<'a>,
-) -> Option<bool>
+fn closed_arguments_of<'a>(last: &mut Last<'a>, keyword: Keyword, line: Line<'a>) -> Option<bool>
     requires { line.stays_open ≡ false }
     ensures { MatchOption result (refuses_arguments keyword (cut_in line.entry) ≡ true)
         (λ beyond. (beyond ≡ has_coordinate_beyond (argument_form keyword) (arguments_in line.entry.arguments.now)) × (refuses_arguments keyword (cut_in line.entry) ≡ false)) }

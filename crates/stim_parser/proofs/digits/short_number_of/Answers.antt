@@ -1,4 +1,4 @@
-use Rattle.std.proofs.Common.{◌<◌, ◌^◌, arith}
+use Rattle.std.proofs.Common.{arith}
 use Rattle.stim_parser.proofs.DigitLemmas.{front-below, whole_number}
 use Rattle.stim_parser.proofs.digits.short_number_of.Goals as goal
 

@@ -1,6 +1,4 @@
-use Rattle.std.proofs.Common.{◌<◌, length, ap, sym, ◌∙◌, subst, get_or-set_same}
-use Rattle.pauli_word.specs.declared.letter.Letter.TheVariants.{I}
-use Rattle.pauli_word.specs.Words.{letter_at}
+use Rattle.std.proofs.Common.{length, ap, sym, ◌∙◌}
 use Rattle.pauli_word.specs.Parity.{exclusive_or}
 use Rattle.tableau.proofs.LettersPut.{letter_put}
 use Rattle.tableau.proofs.PivotLetters.{letter_kept, letter_turned}
