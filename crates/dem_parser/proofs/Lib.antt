@@ -10,6 +10,7 @@ mod PassLemmas
 mod LineCountLemmas
 mod GatherLemmas
 mod SumLemmas
+mod SummedLemmas
 mod WorkedTexts
 mod FrontLemmas
 mod ShiftLemmas

@@ -66,7 +66,7 @@ swapped false true false = refl
 swapped false false true = refl
 swapped false false false = refl
 
-turned-map : (f : ℕ → Bool) (n : ℕ) (targets : List ℕ) → turned (map f (range_with_len 0 n)) targets ≡ map (λ t. exclusive_or (is_flipped t targets) (f t)) (range_with_len 0 n)
+pub turned-map : (f : ℕ → Bool) (n : ℕ) (targets : List ℕ) → turned (map f (range_with_len 0 n)) targets ≡ map (λ t. exclusive_or (is_flipped t targets) (f t)) (range_with_len 0 n)
 turned-map f n [] = refl
 turned-map f n (u ∷ targets) =
     let at : 0 + u ≡ u = omega arith in

@@ -18,4 +18,5 @@ pub mod LineCounts
 pub mod Gathered
 pub mod KeptLines
 pub mod Numbered
+pub mod Summed
 pub mod Marked

@@ -7,7 +7,7 @@ use crate::target::Target;
 use std::alloc::{AllocError, Allocator};
 
 /// A number of a target. One that does not fit would take more targets than memory holds.
-fn number_at(first: u32, number: u64) -> Result<u32, AllocError>
+pub(crate) fn number_at(first: u32, number: u64) -> Result<u32, AllocError>
     ensures { IfOk result (λ found. found ≡ first + number) }
 {
     let Some(sum) = (first as u64).checked_add(number) else {

@@ -1,6 +1,7 @@
 ghost use Rattle.std.specs.Prelude.{◌≡◌, ◌⊎◌, IfOk, IfErr, None, Some, Ok, Err, option_map};
 ghost use Rattle.step_model.specs.declared.fault.Cause.TheVariants as cause;
 ghost use Rattle.step_model.specs.Faults.{memory_fault};
+ghost use Rattle.dem_parser.specs.Meanings.{meaning_of};
 ghost use Rattle.dem_parser.specs.Models.{first_beyond, model_in, model_of_tree, placed_lines};
 ghost use Rattle.dem_parser.specs.Texts.{refused};
 
@@ -9,6 +10,7 @@ use crate::line_counts::has_many_lines;
 use crate::lines::ModelLines;
 use crate::parser::parse;
 use crate::placed::PlacedLines;
+use crate::placed_model::PlacedModel;
 use crate::placing::placed_lines;
 use crate::reached::reached_of;
 use dem_text::Model;
@@ -16,7 +18,7 @@ use std::alloc::Allocator;
 use step_model::{Cause, Fault};
 
 /// The lines of a model where they are reached, or the refusal of the first with a number that is beyond its limit there.
-fn place<'c, 'a, A: Allocator + Copy>(
+fn reached_lines<'c, 'a, A: Allocator + Copy>(
     alloc: A,
     lines: &'c ModelLines<'a, A>,
 ) -> Result<PlacedLines<'c, 'a, A>, Fault>
@@ -31,12 +33,12 @@ fn place<'c, 'a, A: Allocator + Copy>(
     }
 }
 
-/// The error model of lines and blocks, or its refusal.
-fn model_of_lines<'a, A: Allocator + Copy>(
+/// The same, or the refusal of blocks that unroll to too many lines.
+fn placed_of<'c, 'a, A: Allocator + Copy>(
     alloc: A,
-    lines: &ModelLines<'a, A>,
-) -> Result<Model<'a, A>, Fault>
-    ensures ok { IfOk result (λ model. model_of_tree lines.now ≡ Ok model) }
+    lines: &'c ModelLines<'a, A>,
+) -> Result<PlacedLines<'c, 'a, A>, Fault>
+    ensures ok { IfOk result (λ placed. model_of_tree lines.now ≡ Ok (meaning_of placed.placed)) }
     ensures err { IfErr result (λ fault. (fault ≡ memory_fault) ⊎ (model_of_tree lines.now ≡ Err fault)) }
 {
     if has_many_lines(lines) {
@@ -45,7 +47,52 @@ fn model_of_lines<'a, A: Allocator + Copy>(
             line: 0,
         });
     }
-    let placed = match place(alloc, lines) {
+    reached_lines(alloc, lines)
+}
+
+/// The lines and blocks of an error model that a text writes, or its refusal before blocks are unrolled. Memory is refused
+/// only where it runs out.
+pub fn read_lines<'a, A: Allocator + Copy>(
+    alloc: A,
+    text: &'a [u8],
+) -> Result<ModelLines<'a, A>, Fault>
+    ensures ok { IfOk result (λ lines. model_in text.now ≡ model_of_tree lines) }
+    ensures err { IfErr result (λ fault. (fault ≡ memory_fault) ⊎ (model_in text.now ≡ Err fault)) }
+{
+    match parse(alloc, text) {
+        Ok(lines) => Ok(lines),
+        Err(fault) => Err(fault),
+    }
+}
+
+/// The error model of lines and blocks, whose lines stay as they were read, or its refusal. Memory is refused only where it
+/// runs out.
+pub fn place<'c, 'a, A: Allocator + Copy>(
+    alloc: A,
+    lines: &'c ModelLines<'a, A>,
+) -> Result<PlacedModel<'c, 'a, A>, Fault>
+    ensures ok { IfOk result (λ model. model_of_tree lines.now ≡ Ok model) }
+    ensures err { IfErr result (λ fault. (fault ≡ memory_fault) ⊎ (model_of_tree lines.now ≡ Err fault)) }
+{
+    let placed = match placed_of(alloc, lines) {
+        Ok(placed) => placed,
+        Err(fault) => return Err(fault),
+    };
+    match PlacedModel::new(placed) {
+        Ok(model) => Ok(model),
+        Err(_) => Err(Fault::MEMORY),
+    }
+}
+
+/// The error model of lines and blocks, or its refusal.
+fn model_of_lines<'a, A: Allocator + Copy>(
+    alloc: A,
+    lines: &ModelLines<'a, A>,
+) -> Result<Model<'a, A>, Fault>
+    ensures ok { IfOk result (λ model. model_of_tree lines.now ≡ Ok model) }
+    ensures err { IfErr result (λ fault. (fault ≡ memory_fault) ⊎ (model_of_tree lines.now ≡ Err fault)) }
+{
+    let placed = match placed_of(alloc, lines) {
         Ok(placed) => placed,
         Err(fault) => return Err(fault),
     };
@@ -60,7 +107,7 @@ pub fn read<'a, A: Allocator + Copy>(alloc: A, text: &'a [u8]) -> Result<Model<'
     ensures ok { IfOk result (λ model. model_in text.now ≡ Ok model) }
     ensures err { IfErr result (λ fault. (fault ≡ memory_fault) ⊎ (model_in text.now ≡ Err fault)) }
 {
-    match parse(alloc, text) {
+    match read_lines(alloc, text) {
         Ok(lines) => model_of_lines(alloc, &lines),
         Err(fault) => Err(fault),
     }

@@ -5,7 +5,7 @@ use dem_text::Model;
 use std::alloc::{AllocError, Allocator};
 
 /// Turns a truth value round, where there is one at this place.
-fn turn_at(bits: &mut [bool], target: u32)
+pub(crate) fn turn_at(bits: &mut [bool], target: u32)
     ensures { bits.new ≡ turned_at bits.old target }
 {
     let place = target as usize;
@@ -33,7 +33,7 @@ fn turn_if(named: bool, bits: &mut [bool], targets: &[u32])
 }
 
 /// A truth value for each detector and each observable, none of them set.
-fn no_bits<A: Allocator + Copy>(
+pub(crate) fn no_bits<A: Allocator + Copy>(
     alloc: A,
     detectors: usize,
     observables: usize,

@@ -2,7 +2,7 @@ use Rattle.std.proofs.Common.{ap, ◌∙◌}
 use Rattle.dem_parser.specs.Gathered.{instructions_at}
 use Rattle.dem_parser.specs.Trees.{items_of}
 use Rattle.dem_parser.proofs.BuildLemmas.{fits-kept}
-use Rattle.dem_parser.proofs.reader.place.Goals as goal
+use Rattle.dem_parser.proofs.reader.reached_lines.Goals as goal
 
 pub placed_lines-requires : goal.placed_lines-requires
 placed_lines-requires g c =

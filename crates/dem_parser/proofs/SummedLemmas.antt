@@ -1,0 +1,206 @@
+-- Lines that are summed as they were read: their targets turn round what those of their error lines turn round.
+use Rattle.std.proofs.Common.{◌≡◌, ℕ, zero, suc, ◌+◌, ◌==◌, ◌&&◌, ◌<◌, ◌≤◌, Bool, true, false, if◌then◌else◌, List, [], ◌∷◌, ◌++◌, Some, length, drop, get_or, map, replicate, refl, ap, ap₂, subst, sym, ◌∙◌, inl, inr, arith}
+use Rattle.std.specs.Prelude.{cond, filter, slice_get}
+use Rattle.std.specs.List.{range_with_len}
+use Rattle.std.proofs.lemmas.Bool.{cases_lt, eq-eqb, ne_eqb}
+use Rattle.std.proofs.lemmas.List.{drop_all, ext_get_or, length-replicate}
+use Rattle.std.proofs.lemmas.List.FromFn.{get_or-map-range_with_len, length-map-range_with_len}
+use Rattle.pauli_word.specs.Parity.{exclusive_or}
+use Rattle.step_model.specs.ErrorModels.{ErrorLine, ErrorModel}
+use Rattle.dem_parser.specs.declared.target.Target.{Target}
+use Rattle.dem_parser.specs.Meanings.{detector_count, detectors_to, error_line, error_lines, flipped, greatest_of, is_error, meaning_of, observable_count}
+use Rattle.dem_parser.specs.Numbered.{numbered, numbers_of, odd_below}
+use Rattle.dem_parser.specs.Shifts.{Placed}
+use Rattle.dem_parser.specs.Summed.{error_count, passed_after, turned_past}
+use Rattle.dem_parser.specs.Sums.{is_flipped, symptom_of, turned, turned_at, turned_by}
+use Rattle.dem_parser.proofs.BuildLemmas.{greatest-got}
+use Rattle.dem_parser.proofs.NumberLemmas.{flipped-numbers}
+use Rattle.dem_parser.proofs.PassLemmas.{drop_got}
+use Rattle.dem_parser.proofs.SumLemmas.{length-turned_if, symptom-turned, turned-map}
+
+-- ---- targets one after another
+
+turned-append : (bits : List Bool) (xs ys : List ℕ) → turned bits (xs ++ ys) ≡ turned (turned bits xs) ys
+turned-append bits [] ys = refl
+turned-append bits (x ∷ xs) ys = turned-append (turned_at bits x) xs ys
+
+pub numbers-next : (d : ℕ) (bits bits' : List Bool) (t : Target) (rest rest' : List Target) → rest ≡ t ∷ rest' → bits' ≡ turned bits (numbered d t)
+    → turned bits' (numbers_of d rest') ≡ turned bits (numbers_of d rest)
+numbers-next d bits bits' t rest rest' e more =
+    ap (λ bs. turned bs (numbers_of d rest')) more
+    ∙ sym (turned-append bits (numbered d t) (numbers_of d rest'))
+    ∙ ap (λ ts. turned bits (numbers_of d ts)) (sym e)
+
+pub numbers-done : (d : ℕ) (bits : List Bool) (rest : List Target) → rest ≡ [] → bits ≡ turned bits (numbers_of d rest)
+numbers-done d bits rest e = sym (ap (λ ts. turned bits (numbers_of d ts)) e)
+
+-- ---- how many error lines
+
+count-at : (errors : ℕ) (p : Placed) (rest : List Placed) → passed_after errors p + error_count rest ≡ errors + error_count (p ∷ rest)
+count-at errors p rest =
+    let found = filter (λ q. is_error q.operation) rest in
+    elim (is_error p.operation) as (λ b. (if b then errors + 1 else errors) + length found ≡ errors + length (cond b (p ∷ found) found)) [
+      | true ↦ omega arith
+      | false ↦ refl
+    ]
+
+pub count-next : (errors errors' i : ℕ) (lines : List Placed) (p : Placed) → Some p ≡ slice_get lines i → errors' ≡ passed_after errors p
+    → errors' + error_count (drop (i + 1) lines) ≡ errors + error_count (drop i lines)
+count-next errors errors' i lines p got e =
+    let later : i + 1 ≡ suc i = omega arith in
+    ap (λ k. errors' + error_count (drop k lines)) later
+    ∙ ap (λ n. n + error_count (drop (suc i) lines)) e
+    ∙ count-at errors p (drop (suc i) lines)
+    ∙ ap (λ rest. errors + error_count rest) (sym (drop_got lines i p got))
+
+pub count-done : (errors i : ℕ) (lines : List Placed) → length lines ≤ i → errors ≡ errors + error_count (drop i lines)
+count-done errors i lines h =
+    let none : errors + 0 ≡ errors = omega arith in
+    sym (ap (λ rest. errors + error_count rest) (drop_all i lines h) ∙ none)
+
+-- ---- the same turned round
+
+flipped-before : (p : ℕ → Bool) (t a m : ℕ) → t < a → is_flipped t (filter p (range_with_len a m)) ≡ false
+flipped-before p t a zero h = refl
+flipped-before p t a (suc m) h =
+    let later = flipped-before p t (a + 1) m (omega (arith, h)) in
+    let found = filter p (range_with_len (a + 1) m) in
+    elim (p a) as (λ b. is_flipped t (cond b (a ∷ found) found) ≡ false) [
+      | true ↦ rw (ne_eqb t a (λ e. absurd (omega (arith, e, h)))) later
+      | false ↦ later
+    ]
+
+flipped-here : (b : Bool) (t : ℕ) (found : List ℕ) → is_flipped t found ≡ false → is_flipped t (cond b (t ∷ found) found) ≡ b
+flipped-here true t found none = rw (eq-eqb t t refl, none) refl
+flipped-here false t found none = none
+
+flipped-later : (b : Bool) (t a : ℕ) (found : List ℕ) → a < t → is_flipped t (cond b (a ∷ found) found) ≡ is_flipped t found
+flipped-later true t a found h = rw (ne_eqb t a (λ e. absurd (omega (arith, e, h)))) refl
+flipped-later false t a found h = refl
+
+flipped-within : (p : ℕ → Bool) (t a m : ℕ) → a ≤ t → t < a + m → is_flipped t (filter p (range_with_len a m)) ≡ p t
+flipped-within p t a zero h j = absurd (omega (arith, h, j))
+flipped-within p t a (suc m) h j =
+    let found = filter p (range_with_len (a + 1) m) in
+    elim (cases_lt a t) [
+      | inl above ↦ flipped-later (p a) t a found above ∙ flipped-within p t (a + 1) m (omega (arith, above)) (omega (arith, j))
+      | inr below ↦
+        let same : a ≡ t = omega (arith, h, below) in
+        ap (λ c. is_flipped t (cond (p c) (c ∷ found) found)) same
+        ∙ flipped-here (p t) t found (flipped-before p t (a + 1) m (omega (arith, same)))
+    ]
+
+bits-map : (bits : List Bool) → bits ≡ map (λ t. get_or bits t false) (range_with_len 0 (length bits))
+bits-map bits =
+    ext_get_or false bits _ (sym (length-map-range_with_len (λ t. get_or bits t false) 0 (length bits)))
+    (λ i h. sym (get_or-map-range_with_len (λ t. get_or bits t false) 0 (length bits) i i false h (omega arith)))
+
+map-below : (f g : ℕ → Bool) (a n : ℕ) → ((t : ℕ) → a ≤ t → t < a + n → f t ≡ g t) → map f (range_with_len a n) ≡ map g (range_with_len a n)
+map-below f g a zero h = refl
+map-below f g a (suc n) h =
+    ap (λ (x : Bool). x ∷ map f (range_with_len (a + 1) n)) (h a (omega arith) (omega arith))
+    ∙ ap (λ (xs : List Bool). g a ∷ xs) (map-below f g (a + 1) n (λ t low below. h t (omega (arith, low)) (omega (arith, below))))
+
+turned-same : (bits : List Bool) (n : ℕ) (xs ys : List ℕ) → length bits ≡ n → ((t : ℕ) → t < n → is_flipped t xs ≡ is_flipped t ys) → turned bits xs ≡ turned bits ys
+turned-same bits n xs ys long same =
+    let f : ℕ → Bool = λ t. get_or bits t false in
+    let made : bits ≡ map f (range_with_len 0 n) = bits-map bits ∙ ap (λ m. map f (range_with_len 0 m)) long in
+    ap (λ bs. turned bs xs) made
+    ∙ turned-map f n xs
+    ∙ map-below (λ t. exclusive_or (is_flipped t xs) (f t)) (λ t. exclusive_or (is_flipped t ys) (f t)) 0 n
+    (λ t low below. ap (λ b. exclusive_or b (f t)) (same t (omega (arith, below))))
+    ∙ sym (ap (λ bs. turned bs ys) made ∙ turned-map f n ys)
+
+turned-flipped : (d o : ℕ) (bits : List Bool) (targets : List Target) → length bits ≡ d + o → greatest_of detectors_to targets ≤ d
+    → turned bits (numbers_of d targets) ≡ turned bits (flipped d o targets)
+turned-flipped d o bits targets long low =
+    turned-same bits (d + o) (numbers_of d targets) (odd_below (d + o) (numbers_of d targets)) long
+    (λ t below. sym (flipped-within (λ u. is_flipped u (numbers_of d targets)) t 0 (d + o) (omega arith) (omega (arith, below))))
+    ∙ ap (turned bits) (flipped-numbers d o targets low)
+
+-- ---- lines one after another
+
+named-next : (bits named : List Bool) (lines : List ErrorLine) (k : ℕ) (line : ErrorLine)
+    → turned_by bits (drop k named) (line ∷ lines) ≡ turned_by (if get_or named k false then turned bits line.targets else bits) (drop (suc k) named) lines
+named-next bits [] lines zero line = refl
+named-next bits [] lines (suc k) line = refl
+named-next bits (n ∷ named) lines zero line = refl
+named-next bits (n ∷ named) lines (suc k) line = named-next bits named lines k line
+
+sum-error : (d o : ℕ) (named bits : List Bool) (passed : ℕ) (p : Placed) (rest : List Placed) → length bits ≡ d + o → greatest_of detectors_to p.targets ≤ d
+    → turned_by (if get_or named passed false then turned bits (numbers_of d p.targets) else bits) (drop (passed + 1) named) (error_lines d o rest)
+    ≡ turned_by bits (drop passed named) (error_line d o p ∷ error_lines d o rest)
+sum-error d o named bits passed p rest long low =
+    let later : passed + 1 ≡ suc passed = omega arith in
+    ap (λ k. turned_by (if get_or named passed false then turned bits (numbers_of d p.targets) else bits) (drop k named) (error_lines d o rest)) later
+    ∙ ap (λ bs. turned_by (if get_or named passed false then bs else bits) (drop (suc passed) named) (error_lines d o rest)) (turned-flipped d o bits p.targets long low)
+    ∙ sym (named-next bits named (error_lines d o rest) passed (error_line d o p))
+
+sum-at : (d o : ℕ) (named bits : List Bool) (passed : ℕ) (p : Placed) (rest : List Placed) → length bits ≡ d + o → greatest_of detectors_to p.targets ≤ d
+    → turned_by (turned_past d named passed p bits) (drop (passed_after passed p) named) (error_lines d o rest)
+    ≡ turned_by bits (drop passed named) (error_lines d o (p ∷ rest))
+sum-at d o named bits passed p rest long low =
+    let found = filter (λ q. is_error q.operation) rest in
+    let here = sum-error d o named bits passed p rest long low in
+    elim (is_error p.operation) as (λ b. turned_by (if b && get_or named passed false then turned bits (numbers_of d p.targets) else bits) (drop (if b then passed + 1 else passed) named) (error_lines d o rest)
+        ≡ turned_by bits (drop passed named) (map (error_line d o) (cond b (p ∷ found) found))) [
+      | true ↦ here
+      | false ↦ refl
+    ]
+
+pub sum-next : (d o i : ℕ) (named bits bits' : List Bool) (passed passed' : ℕ) (lines : List Placed) (p : Placed) → Some p ≡ slice_get lines i
+    → length bits ≡ d + o → greatest_of detectors_to p.targets ≤ d → bits' ≡ turned_past d named passed p bits → passed' ≡ passed_after passed p
+    → turned_by bits' (drop passed' named) (error_lines d o (drop (i + 1) lines)) ≡ turned_by bits (drop passed named) (error_lines d o (drop i lines))
+sum-next d o i named bits bits' passed passed' lines p got long low e f =
+    let later : i + 1 ≡ suc i = omega arith in
+    ap (λ k. turned_by bits' (drop passed' named) (error_lines d o (drop k lines))) later
+    ∙ ap (λ bs. turned_by bs (drop passed' named) (error_lines d o (drop (suc i) lines))) e
+    ∙ ap (λ k. turned_by (turned_past d named passed p bits) (drop k named) (error_lines d o (drop (suc i) lines))) f
+    ∙ sum-at d o named bits passed p (drop (suc i) lines) long low
+    ∙ ap (λ rest. turned_by bits (drop passed named) (error_lines d o rest)) (sym (drop_got lines i p got))
+
+pub sum-done : (d o i : ℕ) (named bits : List Bool) (passed : ℕ) (lines : List Placed) → length lines ≤ i
+    → bits ≡ turned_by bits (drop passed named) (error_lines d o (drop i lines))
+sum-done d o i named bits passed lines h =
+    sym (ap (λ rest. turned_by bits (drop passed named) (error_lines d o rest)) (drop_all i lines h) ∙ none (drop passed named))
+  where
+    none : (names : List Bool) → turned_by bits names [] ≡ bits
+    none [] = refl
+    none (n ∷ names) = refl
+
+pub length-past : (d passed : ℕ) (named bits : List Bool) (p : Placed) (n : ℕ) → length bits ≡ n → length (turned_past d named passed p bits) ≡ n
+length-past d passed named bits p n long =
+    length-turned_if (is_error p.operation && get_or named passed false) bits (numbers_of d p.targets) ∙ long
+
+-- ---- all lines of a model
+
+counts-same : (model : ErrorModel) (lines : List Placed) (bits : List Bool) (n m : ℕ) → n ≡ detector_count lines → m ≡ observable_count lines
+    → bits ≡ replicate (n + m) false → bits ≡ replicate (detector_count lines + observable_count lines) false
+counts-same model lines bits n m en em e = e ∙ ap₂ (λ a b. replicate (a + b) false) en em
+
+pub sum-first : (model : ErrorModel) (lines : List Placed) (named bits : List Bool) (n m : ℕ) → meaning_of lines ≡ model → n ≡ detector_count lines
+    → m ≡ observable_count lines → bits ≡ replicate (n + m) false → turned_by bits named (error_lines model.detectors model.observables lines) ≡ symptom_of model named
+sum-first model lines named bits n m is en em e =
+    subst (λ (w : ErrorModel). turned_by bits named (error_lines w.detectors w.observables lines) ≡ symptom_of w named) is
+    (ap (λ bs. turned_by bs named (error_lines (detector_count lines) (observable_count lines) lines)) (counts-same model lines bits n m en em e)
+    ∙ symptom-turned (meaning_of lines) named)
+
+pub long-first : (model : ErrorModel) (lines : List Placed) (bits : List Bool) (n m : ℕ) → meaning_of lines ≡ model → n ≡ detector_count lines
+    → m ≡ observable_count lines → bits ≡ replicate (n + m) false → length bits ≡ model.detectors + model.observables
+long-first model lines bits n m is en em e =
+    subst (λ (w : ErrorModel). length bits ≡ w.detectors + w.observables) is
+    (ap length (counts-same model lines bits n m en em e) ∙ length-replicate (detector_count lines + observable_count lines) false)
+
+pub detectors-of : (model : ErrorModel) (lines : List Placed) (n : ℕ) → meaning_of lines ≡ model → n ≡ detector_count lines → n ≡ model.detectors
+detectors-of model lines n is e = e ∙ ap (λ (w : ErrorModel). w.detectors) is
+
+pub low-in : (model : ErrorModel) (lines : List Placed) (i : ℕ) (p : Placed) → meaning_of lines ≡ model → Some p ≡ slice_get lines i
+    → greatest_of detectors_to p.targets ≤ model.detectors
+low-in model lines i p is got =
+    let same = ap (λ (w : ErrorModel). w.detectors) is in
+    let low = greatest-got detectors_to lines i p got in
+    omega (arith, same, low)
+
+pub passed-few : (passed : ℕ) (p : Placed) → passed_after passed p ≤ passed + 1
+passed-few passed p =
+    elim (is_error p.operation) as (λ b. (if b then passed + 1 else passed) ≤ passed + 1) [ true ↦ omega arith | false ↦ omega arith ]

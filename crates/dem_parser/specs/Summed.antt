@@ -1,0 +1,26 @@
+-- The sum of error lines over lines that stay as they were read: what each turns round, and how many there are.
+-- (Stim's detector error model format, github.com/quantumlib/Stim, doc/file_format_dem_detector_error_model.md.)
+use Rattle.std.specs.Prelude.{◌≡◌, ℕ, ◌+◌, Bool, false, ◌&&◌, if◌then◌else◌, List, [], ◌∷◌, length, filter, slice_index_or}
+use Rattle.dem_parser.specs.Meanings.{detector_count, is_error, observable_count}
+use Rattle.dem_parser.specs.Numbered.{numbers_of}
+use Rattle.dem_parser.specs.Shifts.{Placed}
+use Rattle.dem_parser.specs.Sums.{turned}
+
+-- how many of some lines are error lines
+abbrev pub error_count : List Placed → ℕ
+error_count lines = length (filter (λ placed. is_error placed.operation) lines)
+
+-- how many error lines there are behind one more line
+abbrev pub passed_after : ℕ → Placed → ℕ
+passed_after passed line = if is_error line.operation then passed + 1 else passed
+
+-- truth values turned round by a line, where it is an error line that is named
+abbrev pub turned_past : ℕ → List Bool → ℕ → Placed → List Bool → List Bool
+turned_past detectors named passed line bits =
+    if is_error line.operation && slice_index_or named passed false then turned bits (numbers_of detectors line.targets) else bits
+
+-- the counts of some lines
+pub record AreCounts (lines : List Placed) (detectors observables errors : ℕ) : Type 0 where
+  pub detectors_are : detectors ≡ detector_count lines
+  pub observables_are : observables ≡ observable_count lines
+  pub errors_are : errors ≡ error_count lines

@@ -1,0 +1,143 @@
+ghost use Rattle.std.specs.Prelude.{◌≡◌, ◌+◌, ◌<◌, ◌^◌, false, length, slice_index_or, IfOk};
+ghost use Rattle.dem_parser.specs.KeptLines.{placed_in};
+ghost use Rattle.dem_parser.specs.Meanings.{is_error, meaning_of};
+ghost use Rattle.dem_parser.specs.Numbered.{numbered, numbers_of};
+ghost use Rattle.dem_parser.specs.Summed.{error_count, passed_after, turned_past};
+ghost use Rattle.dem_parser.specs.Sums.{symptom_of, turned};
+
+use crate::counts::counts_of;
+use crate::flips::number_at;
+use crate::narrow::narrowed;
+use crate::operation::Operation;
+use crate::placed::{PlacedLine, PlacedLines};
+use crate::sums::{no_bits, turn_at};
+use crate::target::Target;
+use std::alloc::{AllocError, Allocator};
+use std::marker::Model;
+
+/// An error model whose lines stay as they were read. What they flip is not put in order: it is summed where a line is
+/// named, and most are not.
+#[derive(Drop)]
+pub struct PlacedModel<'c, 'a, A: Allocator + Copy> {
+    lines: PlacedLines<'c, 'a, A>,
+    detectors: u32,
+    observables: u32,
+    errors: usize,
+}
+
+impl<'c, 'a, A: Allocator + Copy> Model for PlacedModel<'c, 'a, A> {
+    ghost use Rattle.step_model.specs.ErrorModels.{ErrorModel};
+    ghost use Rattle.dem_parser.specs.Meanings.{meaning_of};
+    ghost use Rattle.dem_parser.specs.Summed.{AreCounts};
+
+    ghost Value = { ErrorModel };
+
+    ghost view = { λ m. meaning_of m.lines.placed };
+
+    ghost invariant = { λ m. AreCounts m.lines.placed m.detectors m.observables m.errors };
+}
+
+fn is_error(operation: Operation) -> bool
+    ensures { result ≡ is_error operation }
+{
+    matches!(operation, Operation::Errs)
+}
+
+/// How many error lines there are.
+fn error_count<A: Allocator + Copy>(lines: &PlacedLines<'_, '_, A>) -> usize
+    ensures { result ≡ error_count lines.now.placed }
+{
+    let mut errors = 0;
+    for i in 0..lines.len() {
+        if is_error(lines.get(i).operation) {
+            errors += 1;
+        }
+    }
+    errors
+}
+
+/// Whether the line of a number is named.
+fn is_named(named: &[bool], line: usize) -> bool
+    ensures { result ≡ slice_index_or named.now line false }
+{
+    line < named.len() && named[line]
+}
+
+/// Turns the truth value of a target round, where there are so many detectors. A separator has none.
+fn turn_target(bits: &mut [bool], detectors: u32, target: Target) -> Result<(), AllocError>
+    ensures { IfOk result (λ _. bits.new ≡ turned bits.old (numbered detectors target)) }
+{
+    match target {
+        Target::Detector(detector) => turn_at(bits, number_at(0, detector)?),
+        Target::Observable(observable) => turn_at(bits, number_at(detectors, observable)?),
+        _ => {}
+    }
+    Ok(())
+}
+
+/// The same of targets, one after another.
+fn turn_targets(bits: &mut [bool], detectors: u32, targets: &[Target]) -> Result<(), AllocError>
+    ensures { IfOk result (λ _. bits.new ≡ turned bits.old (numbers_of detectors targets.now)) }
+{
+    for target in targets {
+        turn_target(bits, detectors, *target)?;
+    }
+    Ok(())
+}
+
+/// Goes past a line behind so many error lines, and answers how many there are then.
+fn pass_line(
+    bits: &mut [bool],
+    named: &[bool],
+    passed: usize,
+    detectors: u32,
+    line: PlacedLine<'_, '_>,
+) -> Result<usize, AllocError>
+    requires { passed + 1 < 2 ^ 64 }
+    ensures bits { IfOk result (λ _. bits.new ≡ turned_past detectors named.now passed (placed_in line.entry) bits.old) }
+    ensures passed { IfOk result (λ after. after ≡ passed_after passed (placed_in line.entry)) }
+{
+    if !is_error(line.operation) {
+        return Ok(passed);
+    }
+    if is_named(named, passed) {
+        turn_targets(bits, detectors, line.targets)?;
+    }
+    Ok(passed + 1)
+}
+
+impl<'c, 'a, A: Allocator + Copy> PlacedModel<'c, 'a, A> {
+    /// The model that lines say. It may fail only where memory runs out.
+    pub(crate) fn new(lines: PlacedLines<'c, 'a, A>) -> Result<Self, AllocError>
+        ensures { IfOk result (λ model. model ≡ meaning_of lines.entry.placed) }
+    {
+        let counts = counts_of(&lines);
+        let errors = error_count(&lines);
+        Ok(PlacedModel {
+            detectors: narrowed(counts.detectors)?,
+            observables: narrowed(counts.observables)?,
+            errors,
+            lines,
+        })
+    }
+
+    /// How many error lines there are.
+    pub fn line_count(&self) -> usize
+        ensures { result ≡ length self.now.lines }
+    {
+        self.errors
+    }
+
+    /// What the error lines flip that are named, all together: a truth value for each detector, then one for each
+    /// observable. Two lines that flip the same cancel there. A line is named by the truth value at its number, from 0.
+    pub fn symptom(&self, alloc: A, named: &[bool]) -> Result<Vec<bool, A>, AllocError>
+        ensures { IfOk result (λ bits. bits.items ≡ symptom_of self.now named.now) }
+    {
+        let mut bits = no_bits(alloc, self.detectors as usize, self.observables as usize)?;
+        let mut passed = 0;
+        for i in 0..self.lines.len() {
+            passed = pass_line(&mut bits, named, passed, self.detectors, self.lines.get(i))?;
+        }
+        Ok(bits)
+    }
+}
