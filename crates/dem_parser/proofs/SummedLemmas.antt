@@ -85,9 +85,9 @@ flipped-within p t a (suc m) h j =
     elim (cases_lt a t) [
       | inl above ↦ flipped-later (p a) t a found above ∙ flipped-within p t (a + 1) m (omega (arith, above)) (omega (arith, j))
       | inr below ↦
-        let same : a ≡ t = omega (arith, h, below) in
-        ap (λ c. is_flipped t (cond (p c) (c ∷ found) found)) same
-        ∙ flipped-here (p t) t found (flipped-before p t (a + 1) m (omega (arith, same)))
+          let same : a ≡ t = omega (arith, h, below) in
+          ap (λ c. is_flipped t (cond (p c) (c ∷ found) found)) same
+          ∙ flipped-here (p t) t found (flipped-before p t (a + 1) m (omega (arith, same)))
     ]
 
 bits-map : (bits : List Bool) → bits ≡ map (λ t. get_or bits t false) (range_with_len 0 (length bits))
@@ -143,7 +143,7 @@ sum-at d o named bits passed p rest long low =
     let found = filter (λ q. is_error q.operation) rest in
     let here = sum-error d o named bits passed p rest long low in
     elim (is_error p.operation) as (λ b. turned_by (if b && get_or named passed false then turned bits (numbers_of d p.targets) else bits) (drop (if b then passed + 1 else passed) named) (error_lines d o rest)
-        ≡ turned_by bits (drop passed named) (map (error_line d o) (cond b (p ∷ found) found))) [
+    ≡ turned_by bits (drop passed named) (map (error_line d o) (cond b (p ∷ found) found))) [
       | true ↦ here
       | false ↦ refl
     ]

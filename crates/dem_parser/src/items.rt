@@ -4,6 +4,7 @@ ghost use Rattle.dem_parser.specs.Texts.{Does, Begins, Ends};
 
 use crate::instruction::Instruction;
 use crate::lines::Item;
+use crate::narrow::narrowed;
 use crate::operation::Operation;
 use crate::target::Target;
 use flat_lists::FlatLists;
@@ -14,10 +15,10 @@ use std::marker::Model;
 #[derive(Clone, Copy)]
 pub(crate) enum Node<'a> {
     Does {
-        line: u64,
+        line: u32,
         operation: Operation,
+        list: u32,
         arguments: &'a [u8],
-        list: usize,
     },
     Begins {
         line: u64,
@@ -72,13 +73,14 @@ impl<'a, A: Allocator + Copy> Items<'a, A> {
     {
         // Room for the node first, so that nothing changes where memory runs out.
         self.nodes.reserve(1)?;
-        let list = self.targets.len();
+        let line = narrowed(instruction.line as u128)?;
+        let list = narrowed(self.targets.len() as u128)?;
         self.targets.push(instruction.targets)?;
         self.nodes.push_reserved(Node::Does {
-            line: instruction.line,
+            line,
             operation: instruction.operation,
-            arguments: instruction.arguments,
             list,
+            arguments: instruction.arguments,
         });
         Ok(())
     }
@@ -111,13 +113,13 @@ impl<'a, A: Allocator + Copy> Items<'a, A> {
             Node::Does {
                 line,
                 operation,
-                arguments,
                 list,
+                arguments,
             } => Item::Does(Instruction {
-                line,
+                line: line as u64,
                 operation,
                 arguments,
-                targets: self.targets.get(list),
+                targets: self.targets.get(list as usize),
             }),
             Node::Begins { line, turns } => Item::Begins { line, turns },
             Node::Ends => Item::Ends,

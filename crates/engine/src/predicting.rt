@@ -7,8 +7,7 @@ ghost use Rattle.engine.specs.Output.{done, model_prediction, prediction_output,
 use crate::lines::symptom_line;
 use crate::order::Status;
 use crate::refusing::refuse;
-use dem_parser::symptom;
-use dem_text::Model;
+use dem_parser::{PlacedModel, place, read_lines};
 use forward_sim::read_numbers;
 use std::alloc::Allocator;
 use step_model::{Fault, Sink, write_all};
@@ -46,21 +45,22 @@ fn prediction_text<A: Allocator + Copy>(
     ensures ok { IfOk result (λ line. prediction_output lines.now text.now ≡ Ok (done line.items)) }
     ensures err { IfErr result (λ e. (e ≡ memory_fault) ⊎ (prediction_output lines.now text.now ≡ Err e)) }
 {
-    let model = dem_parser::read(alloc, text)?;
+    let read = read_lines(alloc, text)?;
+    let model = place(alloc, &read)?;
     predict(alloc, &model, lines)
 }
 
 /// The same for a model.
 fn predict<A: Allocator + Copy>(
     alloc: A,
-    model: &Model<'_, A>,
+    model: &PlacedModel<'_, '_, A>,
     lines: &[u8],
 ) -> Result<Vec<u8, A>, Fault>
     ensures ok { IfOk result (λ line. model_prediction lines.now model.now ≡ Ok (done line.items)) }
     ensures err { IfErr result (λ e. (e ≡ memory_fault) ⊎ (model_prediction lines.now model.now ≡ Err e)) }
 {
     let named = read_numbers(alloc, model.line_count(), lines)?;
-    match symptom(alloc, model, named.as_slice()) {
+    match model.symptom(alloc, named.as_slice()) {
         Ok(flipped) => symptom_line(alloc, flipped.as_slice()).map_err(|_| Fault::MEMORY),
         Err(_) => Err(Fault::MEMORY),
     }

@@ -1,6 +1,7 @@
 //! Readers of texts and of what is given beside them.
 use super::growths::{Call, Memory, Ration};
 use super::lent::{CIRCUIT, Lent, MODEL, are_false};
+use dem_parser::PlacedModel;
 use dem_text::Model;
 use forward_sim::{read_coins, read_numbers};
 use programs::Program;
@@ -16,17 +17,19 @@ pub(super) enum Reader {
     ModelLines,
     Model,
     Symptom,
+    Placed,
     Coins,
     Numbers,
 }
 
-pub(super) const READERS: [Reader; 8] = [
+pub(super) const READERS: [Reader; 9] = [
     Reader::Circuit,
     Reader::Unrolled,
     Reader::Program,
     Reader::ModelLines,
     Reader::Model,
     Reader::Symptom,
+    Reader::Placed,
     Reader::Coins,
     Reader::Numbers,
 ];
@@ -41,6 +44,7 @@ impl Call for Reader {
             Reader::ModelLines => lines_are_right(memory),
             Reader::Model => model_is_right(memory),
             Reader::Symptom => symptom_is_right(memory, lent.model),
+            Reader::Placed => placed_is_right(memory),
             Reader::Coins => coins_are_right(memory, lent.program),
             Reader::Numbers => numbers_are_right(memory),
         }
@@ -98,6 +102,26 @@ fn symptom_is_right<'m>(memory: Memory<'m>, model: &Model<'_, Memory<'m>>) -> Re
         return Err(Fault::MEMORY);
     };
     Ok(bits.as_slice() == [true, true, true, false, false, true, false].as_slice())
+}
+
+/// The same where the lines stay as they were read.
+fn is_placed<'m>(
+    memory: Memory<'m>,
+    model: &PlacedModel<'_, '_, Memory<'m>>,
+) -> Result<bool, Fault> {
+    let Ok(bits) = model.symptom(memory, &[true, true]) else {
+        return Err(Fault::MEMORY);
+    };
+    Ok(
+        model.line_count() == 10
+            && bits.as_slice() == [true, true, true, false, false, true, false].as_slice(),
+    )
+}
+
+fn placed_is_right(memory: Memory<'_>) -> Result<bool, Fault> {
+    let lines = dem_parser::read_lines(memory, MODEL.as_bytes())?;
+    let model = dem_parser::place(memory, &lines)?;
+    is_placed(memory, &model)
 }
 
 fn coins_are_right<'m>(

@@ -1,5 +1,7 @@
 //! Error models that are read: their items as they stand, the coordinates of their detectors, and what named lines flip.
-use dem_parser::{Item, ModelLines, Operation, Target, laws, parse, read, symptom};
+use dem_parser::{
+    Item, ModelLines, Operation, PlacedModel, Target, laws, parse, place, read, read_lines, symptom,
+};
 use dem_text::Model;
 use std::alloc::{AllocError, Global};
 use std::test::Fail;
@@ -118,6 +120,24 @@ fn has_model(alloc: Global) -> Result<bool, Fail> {
 #[test]
 fn models_are_read(rt: HostRuntime) -> Result<(), Fail> {
     assert!(rt; has_model(rt.alloc())?);
+    Ok(())
+}
+
+/// The same of a model whose lines stay as they were read.
+fn is_placed(alloc: Global, model: &PlacedModel<'_, '_, Global>) -> Result<bool, AllocError> {
+    let flipped = model.symptom(alloc, &[true, true])?;
+    Ok(model.line_count() == 2 && flipped.as_slice() == SYMPTOM)
+}
+
+fn has_placed(alloc: Global) -> Result<bool, Fail> {
+    let lines = read_lines(alloc, MODEL)?;
+    let model = place(alloc, &lines)?;
+    Ok(is_placed(alloc, &model)?)
+}
+
+#[test]
+fn models_are_placed(rt: HostRuntime) -> Result<(), Fail> {
+    assert!(rt; has_placed(rt.alloc())?);
     Ok(())
 }
 
