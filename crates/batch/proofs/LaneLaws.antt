@@ -1,5 +1,5 @@
 -- The letter of one run at a qubit, from its bits.
-use Rattle.std.proofs.Common.{◌≡◌, ℕ, Bool, true, false, refl, sym, ap, ap₂, ◌∙◌}
+use Rattle.std.proofs.Common.{◌≡◌, ℕ, Bool, true, false, ◌&&◌, refl, sym, ap, ap₂, ◌∙◌}
 use Rattle.gate_table.specs.declared.gate.Gate.{Gate}
 use Rattle.gate_table.specs.Images.{image1, image2}
 use Rattle.gate_table.proofs.Products.{image1-product, image2-product}
@@ -8,10 +8,11 @@ use Rattle.lanes.specs.Lanes.{lane_bit}
 use Rattle.lanes.proofs.LaneLaws.{lane_bit-zero}
 use Rattle.pauli_word.specs.declared.letter.Letter.{Letter}
 use Rattle.pauli_word.specs.declared.letter.Letter.TheVariants.{I, X, Y, Z}
-use Rattle.pauli_word.specs.Bits.{letter_of}
+use Rattle.pauli_word.specs.Bits.{letter_of, x_bit, z_bit}
 use Rattle.pauli_word.specs.Letters.{letter_product, letters_clash}
 use Rattle.pauli_word.specs.Parity.{exclusive_or}
 use Rattle.pauli_word.proofs.LetterLaws.{letter_product_assoc, letter_product_comm, letter_product-I}
+use Rattle.pauli_word.proofs.Parities.{exclusive_or-false}
 use Rattle.batch.specs.declared.letters.Letters.{Letters}
 use Rattle.batch.specs.LaneLetters.{letter_in, times_where}
 
@@ -92,30 +93,23 @@ times_of-Y true false true = refl
 times_of-Y true true false = refl
 times_of-Y true true true = refl
 
-pub times-I : (j : ℕ) (l : Letters) (b : Bool) → letter_in j l ≡ times_where b I (letter_in j l)
-times-I j l true = refl
-times-I j l false = refl
+times_of : (a : Letter) (x z b : Bool) → letter_of (exclusive_or x (x_bit a && b)) (exclusive_or z (z_bit a && b)) ≡ times_where b a (letter_of x z)
+times_of I x z b = ap₂ letter_of (exclusive_or-false x) (exclusive_or-false z) ∙ kept b (letter_of x z)
+  where
+    kept : (b : Bool) (a : Letter) → a ≡ times_where b I a
+    kept true a = refl
+    kept false a = refl
+times_of X x z b = ap (letter_of (exclusive_or x b)) (exclusive_or-false z) ∙ times_of-X x z b
+times_of Y x z b = times_of-Y x z b
+times_of Z x z b = ap (λ c. letter_of c (exclusive_or z b)) (exclusive_or-false x) ∙ times_of-Z x z b
 
-pub times-X : (j : ℕ) (l : Letters) (runs x : ℕ) → lane_bit j x ≡ exclusive_or (lane_bit j l.x) (lane_bit j runs) → letter_in j (letters x l.z) ≡ times_where (lane_bit j runs) X (letter_in j l)
-times-X j l runs x is =
-    letter_in-bits j (letters x l.z)
-    ∙ ap (λ b. letter_of b (lane_bit j l.z)) is
-    ∙ times_of-X (lane_bit j l.x) (lane_bit j l.z) (lane_bit j runs)
-    ∙ ap (times_where (lane_bit j runs) X) (sym (letter_in-bits j l))
-
-pub times-Z : (j : ℕ) (l : Letters) (runs z : ℕ) → lane_bit j z ≡ exclusive_or (lane_bit j l.z) (lane_bit j runs) → letter_in j (letters l.x z) ≡ times_where (lane_bit j runs) Z (letter_in j l)
-times-Z j l runs z is =
-    letter_in-bits j (letters l.x z)
-    ∙ ap (letter_of (lane_bit j l.x)) is
-    ∙ times_of-Z (lane_bit j l.x) (lane_bit j l.z) (lane_bit j runs)
-    ∙ ap (times_where (lane_bit j runs) Z) (sym (letter_in-bits j l))
-
-pub times-Y : (j : ℕ) (l : Letters) (runs x z : ℕ) → lane_bit j x ≡ exclusive_or (lane_bit j l.x) (lane_bit j runs) → lane_bit j z ≡ exclusive_or (lane_bit j l.z) (lane_bit j runs) → letter_in j (letters x z) ≡ times_where (lane_bit j runs) Y (letter_in j l)
-times-Y j l runs x z is is' =
+pub times-lanes : (j : ℕ) (l : Letters) (a : Letter) (runs x z : ℕ) → lane_bit j x ≡ exclusive_or (lane_bit j l.x) (x_bit a && lane_bit j runs)
+    → lane_bit j z ≡ exclusive_or (lane_bit j l.z) (z_bit a && lane_bit j runs) → letter_in j (letters x z) ≡ times_where (lane_bit j runs) a (letter_in j l)
+times-lanes j l a runs x z is is' =
     letter_in-bits j (letters x z)
     ∙ ap₂ letter_of is is'
-    ∙ times_of-Y (lane_bit j l.x) (lane_bit j l.z) (lane_bit j runs)
-    ∙ ap (times_where (lane_bit j runs) Y) (sym (letter_in-bits j l))
+    ∙ times_of a (lane_bit j l.x) (lane_bit j l.z) (lane_bit j runs)
+    ∙ ap (times_where (lane_bit j runs) a) (sym (letter_in-bits j l))
 
 -- what keeps products and I is known from its values at X and Z
 pub from_images : (f : Letter → Letter) → f I ≡ I → f Y ≡ letter_product (f X) (f Z) → (x z : Bool) (c : Letter) → times_where z (f Z) (times_where x (f X) c) ≡ letter_product (f (letter_of x z)) c

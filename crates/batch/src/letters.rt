@@ -1,6 +1,7 @@
-ghost use Rattle.std.specs.Prelude.{◌≡◌, ℕ, length, replicate};
+ghost use Rattle.std.specs.Prelude.{◌≡◌, ◌&&◌, ℕ, length, replicate};
 ghost use Rattle.gate_table.specs.Images.{arity_of, image1, image2};
 ghost use Rattle.lanes.specs.Lanes.{lane_bit};
+ghost use Rattle.pauli_word.specs.Bits.{x_bit, z_bit};
 ghost use Rattle.pauli_word.specs.Letters.{letters_clash};
 ghost use Rattle.pauli_word.specs.declared.letter.Letter.TheVariants.{I};
 ghost use Rattle.batch.specs.LaneLetters.{letter_in, none_at, times_where};
@@ -37,24 +38,15 @@ impl Letters {
         }
     }
 
-    /// The letters multiplied by this one, in the runs of these lanes.
+    /// The letters multiplied by this one, in the runs of these lanes. No jump tells letters apart: those of a word follow
+    /// one another in no order.
+    #[inline(always)]
     pub(crate) fn times(self, letter: Letter, runs: u64) -> Letters
         ensures { (j : ℕ) → letter_in j result ≡ times_where (lane_bit j runs) letter (letter_in j self) }
     {
-        match letter {
-            Letter::I => self,
-            Letter::X => Letters {
-                x: xor(self.x, runs),
-                z: self.z,
-            },
-            Letter::Y => Letters {
-                x: xor(self.x, runs),
-                z: xor(self.z, runs),
-            },
-            Letter::Z => Letters {
-                x: self.x,
-                z: xor(self.z, runs),
-            },
+        Letters {
+            x: xor(self.x, lanes_where(has_x(letter), runs)),
+            z: xor(self.z, lanes_where(has_z(letter), runs)),
         }
     }
 
@@ -92,6 +84,28 @@ impl Letters {
     {
         self.times(x, others.x).times(z, others.z)
     }
+}
+
+#[inline(always)]
+fn has_x(letter: Letter) -> bool
+    ensures { result ≡ x_bit letter }
+{
+    matches!(letter, Letter::X | Letter::Y)
+}
+
+#[inline(always)]
+fn has_z(letter: Letter) -> bool
+    ensures { result ≡ z_bit letter }
+{
+    matches!(letter, Letter::Y | Letter::Z)
+}
+
+/// These lanes, or none of them.
+#[inline(always)]
+fn lanes_where(some: bool, lanes: u64) -> u64
+    ensures { (j : ℕ) → lane_bit j result ≡ (some && lane_bit j lanes) }
+{
+    if some { lanes } else { 0 }
 }
 
 /// Makes the letters I at each qubit.
