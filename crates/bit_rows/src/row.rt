@@ -154,6 +154,7 @@ impl<A: Allocator + Copy> BitRow<A> {
 
     /// Multiplies the word with x bits `xa` and z bits `za` by that with `xb` and `zb` from the right: answers the power of
     /// i, 0 to 3, of their product.
+    #[inline(always)]
     pub fn multiply(xa: &mut BitRow<A>, za: &mut BitRow<A>, xb: &BitRow<A>, zb: &BitRow<A>) -> u8
         requires za { length za.old ≡ length xa.old }
         requires xb { length xb.now ≡ length xa.old }

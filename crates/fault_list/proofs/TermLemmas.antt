@@ -7,9 +7,10 @@ use Rattle.std.proofs.lemmas.List.Elements.{All-head, All-tail}
 use Rattle.pauli_word.specs.declared.letter.Letter.{Letter}
 use Rattle.pauli_word.specs.declared.letter.Letter.TheVariants.{I}
 use Rattle.pauli_word.specs.Letters.{letter_product}
-use Rattle.pauli_word.specs.Words.{letter_at, lone_letter, no_letters}
+use Rattle.pauli_word.specs.Words.{letter_at, letters_product, lone_letter, no_letters}
 use Rattle.pauli_word.proofs.LetterLaws.{letter_product_assoc, letter_product-I}
 use Rattle.pauli_word.proofs.LoneLetters.{length-lone_letter}
+use Rattle.pauli_word.proofs.WordLaws.{letters_product_assoc, letters_product_comm}
 use Rattle.pauli_word.proofs.WordPlaces.{letter_at-product}
 use Rattle.step_model.specs.declared.step.Term.{Term}
 use Rattle.step_model.specs.Listing.{word_of_terms}
@@ -77,3 +78,19 @@ letter_all terms i q letter past so_far =
     sym (letter_product-I letter)
     ∙ (ap (λ ts. letter_product letter (letter_in ts q)) (sym (drop_all i terms past))
     ∙ so_far)
+
+-- two letters at qubits make one word, whichever comes first
+two_swapped : (n : ℕ) (a b : Term) → word_of_terms n (b ∷ a ∷ []) ≡ word_of_terms n (a ∷ b ∷ [])
+two_swapped n a b =
+    let first = lone_letter n a.qubit a.letter in
+    let second = lone_letter n b.qubit b.letter in
+    sym (letters_product_assoc second first (no_letters n))
+    ∙ (ap (λ w. letters_product w (no_letters n)) (letters_product_comm second first)
+    ∙ letters_product_assoc first second (no_letters n))
+
+pub word_swapped : (n : ℕ) (terms : List Term) → 2 ≤ length terms → length terms < 3
+    → word_of_terms n (term_at terms 1 ∷ term_at terms 0 ∷ []) ≡ word_of_terms n terms
+word_swapped n [] some few = absurd (omega (arith, some))
+word_swapped n (a ∷ []) some few = absurd (omega (arith, some))
+word_swapped n (a ∷ b ∷ []) some few = two_swapped n a b
+word_swapped n (a ∷ b ∷ c ∷ terms) some few = absurd (omega (arith, few))

@@ -103,10 +103,27 @@ fn record_before(buffer: &mut [u8], end: usize, r: u32) -> usize
     text_before(buffer, at, b"rec[")
 }
 
-// Writes the word of some terms. None is answered where they are none or many, or where they don't stand at ascending
-// qubits, or one is I.
+// Writes the word of some terms. Two that stand at descending qubits, as those of a gate often do, are exchanged.
 #[inline(always)]
 fn word_before(buffer: &mut [u8], end: usize, qubits: u32, terms: &[Term]) -> Option<usize>
+    requires within { end ≤ length buffer.old }
+    requires room { 192 ≤ end }
+    requires fit { TermsFit qubits terms.now }
+    ensures within { IfSome result (λ start. start ≤ end) }
+    ensures least { IfSome result (λ start. end ≤ start + 192) }
+    ensures written { IfSome result (λ start. drop start buffer.new ≡ word_text (word_of_terms qubits terms.now) ++ drop end buffer.old) }
+{
+    match terms {
+        [first, second] if second.qubit < first.qubit => {
+            ordered_before(buffer, end, qubits, &[*second, *first])
+        }
+        _ => ordered_before(buffer, end, qubits, terms),
+    }
+}
+
+// Writes the word of terms at ascending qubits. None is answered where they are none or many, or where they don't stand at
+// such, or one is I.
+fn ordered_before(buffer: &mut [u8], end: usize, qubits: u32, terms: &[Term]) -> Option<usize>
     requires within { end ≤ length buffer.old }
     requires room { 192 ≤ end }
     requires fit { TermsFit qubits terms.now }

@@ -105,6 +105,7 @@ impl<A: Allocator + Copy> Word<A> {
 
     /// Multiplies by a word from the right, and answers whether the product of the letters brought a factor -1; of
     /// two words that anticommute it is i or -i, and the answer tells whether it is -i.
+    #[inline(always)]
     pub fn times(&mut self, other: &Word<A>) -> bool
         requires { length self.old.letters ≡ length other.now.letters }
         ensures product { self.new ≡ product self.old other.now }

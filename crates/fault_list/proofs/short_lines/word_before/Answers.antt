@@ -1,19 +1,11 @@
-use Rattle.std.proofs.Common.{◌-◌, ◌++◌, length, drop, sym, ap, ◌∙◌, append_assoc, arith, length-drop}
-use Rattle.std.proofs.lemmas.List.{take_all}
-use Rattle.fault_list.specs.FaultLines.{factor_text}
-use Rattle.fault_list.specs.TermLetters.{starred_factors}
-use Rattle.fault_list.proofs.TermLemmas.{term_at}
-use Rattle.fault_list.proofs.ShortLineLemmas.{ordered_text}
+use Rattle.std.proofs.Common.{◌≡◌, ◌++◌, drop, subst}
+use Rattle.std.specs.Prelude.{IfSome}
+use Rattle.fault_list.specs.FaultLines.{word_text}
+use Rattle.fault_list.proofs.TermLemmas.{word_swapped}
 use Rattle.fault_list.proofs.short_lines.word_before.Goals as goal
 
-pub returns-in-len1-up-clause-written : goal.returns-in-len1-up-clause-written
-returns-in-len1-up-clause-written c =
-    let terms = c.args.terms.now in
-    let first = factor_text (term_at terms 0).qubit (term_at terms 0).letter in
-    let after = drop c.args.end c.args.buffer.now in
-    let text = ordered_text c.args.qubits terms c.in-len1-up.len_at_least c.requires.fit (sym c.is_ordered.ensures ∙ c.if-not-is_ordered.false) in
-    let rest = take_all (length terms - 1) (drop 1 terms) (omega (arith, length-drop 1 terms)) in
-    c.factor_before.ensures.written
-    ∙ (ap (λ l. first ++ l) (c.factors_before-at.ensures.written ∙ ap (λ ts. starred_factors ts ++ after) rest)
-    ∙ (sym (append_assoc first (starred_factors (drop 1 terms)) after)
-    ∙ ap (λ l. l ++ after) (sym text)))
+pub returns-in-len2-clause-written : goal.returns-in-len2-clause-written
+returns-in-len2-clause-written c =
+    subst (λ w. IfSome c.ordered_before.result (λ start. drop start c.ordered_before.new.buffer ≡ word_text w ++ drop c.args.end c.args.buffer.now))
+    (word_swapped c.args.qubits c.args.terms.now c.in-len2.len_at_least c.in-len2.len_below)
+    c.ordered_before.ensures.written
