@@ -33,6 +33,15 @@ pub(crate) fn start_pair<A: Allocator + Copy>(
     Ok((x, z))
 }
 
+/// Multiplies by a word from the right. It is called, and not put where it is used, since its callers choose among words.
+#[inline(never)]
+fn times<A: Allocator + Copy>(word: &mut Word<A>, other: &Word<A>)
+    requires { length word.old.letters ≡ length other.now.letters }
+    ensures { word.new ≡ product word.old other.now }
+{
+    word.times(other);
+}
+
 /// Multiplies by the word of a letter. For Y the word commutes with that of Z.
 pub(crate) fn multiply<A: Allocator + Copy>(word: &mut Word<A>, pair: &Pair<A>, letter: Letter)
     requires size { HasLength (length word.old.letters) pair.now }
@@ -42,15 +51,15 @@ pub(crate) fn multiply<A: Allocator + Copy>(word: &mut Word<A>, pair: &Pair<A>, 
     match letter {
         Letter::I => {}
         Letter::X => {
-            word.times(&pair.0);
+            times(word, &pair.0);
         }
         Letter::Y => {
-            word.times(&pair.0);
-            word.times(&pair.1);
+            times(word, &pair.0);
+            times(word, &pair.1);
             change_sign(word, true);
         }
         Letter::Z => {
-            word.times(&pair.1);
+            times(word, &pair.1);
         }
     }
 }
@@ -70,7 +79,7 @@ pub(crate) fn set_word<A: Allocator + Copy>(
         Letter::X => word.copy_from(&pair.0),
         Letter::Y => {
             word.copy_from(&pair.0);
-            word.times(&pair.1);
+            times(word, &pair.1);
             change_sign(word, true);
         }
         Letter::Z => word.copy_from(&pair.1),
@@ -109,7 +118,7 @@ pub(crate) fn multiply_first<A: Allocator + Copy>(pair: &mut Pair<A>, minus: boo
     requires { length pair.old.0.letters ≡ length pair.old.1.letters }
     ensures { pair.new ≡ (with_sign_changed minus (product pair.old.0 pair.old.1), pair.old.1) }
 {
-    pair.0.times(&pair.1);
+    times(&mut pair.0, &pair.1);
     change_sign(&mut pair.0, minus);
 }
 
