@@ -1,7 +1,7 @@
-use Rattle.std.proofs.Common.{◌≡◌, ◌≤◌, ◌+◌, drop, length, ap, sym, ◌∙◌, arith}
+use Rattle.std.proofs.Common.{◌≡◌, ◌+◌, drop, length, ap, sym, ◌∙◌, arith}
 use Rattle.std.proofs.lemmas.List.{with_items_is}
 use Rattle.dem_parser.specs.KeptLines.{placed_in}
-use Rattle.dem_parser.specs.Meanings.{detectors_to, error_lines, greatest_of}
+use Rattle.dem_parser.specs.Meanings.{error_lines}
 use Rattle.dem_parser.specs.Summed.{passed_after, turned_past}
 use Rattle.dem_parser.specs.Sums.{turned_by}
 use Rattle.dem_parser.proofs.SummedLemmas.{detectors-of, length-past, long-first, low-in, passed-few, sum-done, sum-first, sum-next}
