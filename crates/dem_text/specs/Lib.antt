@@ -1,2 +1,4 @@
 pub mod ErrorLines
+pub mod LineHeads
 pub mod ModelText
+pub mod ShortLines

@@ -2,18 +2,13 @@
 ghost use Rattle.std.specs.Prelude.{◌≡◌, ◌<◌, ◌≤◌, ◌^◌, ◌++◌, ◌∷◌, [], true, length, IfOk, IfSome, OnOk, OnErr, slice_index_or};
 ghost use Rattle.dem_text.specs.ErrorLines.{no_line, text_at, KeepsTexts};
 
+use crate::line_text::LineText;
 use flat_lists::FlatLists;
 use std::alloc::{AllocError, Allocator};
 use std::marker::Model;
 
 // Among how many of the latest texts that of a new line is looked for.
 const LATEST: usize = 8;
-
-/// The text of an error line's probability, a slice of the text that it was read from.
-#[derive(Clone, Copy, Drop)]
-pub(crate) struct LineText<'a> {
-    pub(crate) text: &'a [u8],
-}
 
 /// Error lines, in the order in which they were pushed. A circuit has few texts of probabilities, so that a line keeps the
 /// number of its text.
@@ -69,12 +64,12 @@ impl<'a, A: Allocator + Copy> Lines<'a, A> {
     }
 
     /// The text of a line's probability.
-    pub(crate) fn text(&self, line: usize) -> &'a [u8]
+    pub(crate) fn text(&self, line: usize) -> &LineText<'a>
         requires { line < length self.now }
         ensures { result.now ≡ (slice_index_or self.now line no_line).text }
     {
         let number = self.numbers[line] as usize;
-        self.texts[number].text
+        &self.texts[number]
     }
 
     /// The targets that a line flips.
@@ -102,7 +97,7 @@ fn number_of<'a, A: Allocator + Copy>(
     if let Some(number) = latest(texts.as_slice(), text) {
         return Ok(number as u32);
     }
-    texts.push(LineText { text })?;
+    texts.push(LineText::new(text))?;
     Ok(count as u32)
 }
 
@@ -115,7 +110,7 @@ fn latest<'a>(texts: &[LineText<'a>], text: &[u8]) -> Option<usize>
     let last = left.saturating_sub(LATEST);
     while left > last {
         left -= 1;
-        if is_same(texts[left].text, text) {
+        if is_same(texts[left].text(), text) {
             return Some(left);
         }
     }

@@ -1,6 +1,7 @@
 ghost use Rattle.std.specs.Prelude.{◌≡◌, ◌++◌, ◌∷◌, [], ◌<◌, length, reverse, OnOk, OnErr, slice_index_or};
 ghost use Rattle.dem_text.specs.ErrorLines.{line_at};
 
+use crate::line_text::LineText;
 use crate::lines::Lines;
 use flat_lists::FlatLists;
 use std::alloc::{AllocError, Allocator};
@@ -74,6 +75,14 @@ impl<'a, A: Allocator + Copy> Model<'a, A> {
 
     /// The text of a line's probability.
     pub fn text(&self, line: usize) -> &'a [u8]
+        requires { line < length self.now.lines }
+        ensures { result.now ≡ (line_at self.now line).text }
+    {
+        self.line_text(line).text()
+    }
+
+    /// The same with how a line with it begins.
+    pub(crate) fn line_text(&self, line: usize) -> &LineText<'a>
         requires { line < length self.now.lines }
         ensures { result.now ≡ (line_at self.now line).text }
     {

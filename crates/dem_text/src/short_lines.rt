@@ -3,10 +3,14 @@
 ghost use Rattle.std.specs.Prelude.{◌≡◌, ◌≤◌, ◌+◌, ◌*◌, ◌∷◌, ◌++◌, decimal, length, drop};
 ghost use Rattle.dem_text.specs.ModelText.{target_text, targets_text, line_text};
 
+use crate::line_text::LineText;
 use itoa::write_digits;
 
 /// How long a buffer for short lines is.
-pub(crate) const ROOM: usize = 256;
+pub(crate) const ROOM: usize = 4096;
+
+/// How many short lines the buffer holds at least.
+pub(crate) const SHORT_LINES: usize = 16;
 
 /// How many targets a short line has at most.
 pub(crate) const SHORT_TARGETS: usize = 16;
@@ -17,25 +21,26 @@ pub(crate) const SHORT_TEXT: usize = 32;
 /// How long the text of a target is at most: a space, a letter and ten digits.
 const TARGET_TEXT: usize = 12;
 
-/// Writes a short line so that it ends where the buffer does, and answers where it starts.
+/// Writes a short line so that it ends at `end`, and answers where it starts.
 #[inline]
-pub(crate) fn line_before(
+pub(crate) fn line_before<'a>(
     buffer: &mut [u8],
+    end: usize,
     detectors: usize,
-    probability: &[u8],
+    text: &LineText<'a>,
     targets: &[u32],
 ) -> usize
-    requires room { length buffer.old ≡ 256 }
-    requires short { length probability.now ≤ 32 }
+    requires within { end ≤ length buffer.old }
+    requires room { 240 ≤ end }
+    requires short { length text.now ≤ 32 }
     requires few { length targets.now ≤ 16 }
-    ensures within { result ≤ 256 }
-    ensures written { drop result buffer.new ≡ line_text detectors (record { text = probability.now; targets = targets.now }) }
+    ensures within { result ≤ end }
+    ensures least { end ≤ result + 240 }
+    ensures written { drop result buffer.new ≡ line_text detectors (record { text = text.now; targets = targets.now }) ++ drop end buffer.old }
 {
-    let at = text_before(buffer, ROOM, b"\n");
+    let at = text_before(buffer, end, b"\n");
     let at = targets_before(buffer, at, detectors, targets);
-    let at = text_before(buffer, at, b")");
-    let at = text_before(buffer, at, probability);
-    text_before(buffer, at, b"error(")
+    text.head_before(buffer, at)
 }
 
 /// Writes some targets so that they end at `end`, and answers where they start.
@@ -80,7 +85,7 @@ fn target_before(buffer: &mut [u8], end: usize, detectors: usize, target: u32) -
 
 // Writes a number after a space and a letter.
 #[inline(always)]
-fn number_before(buffer: &mut [u8], end: usize, letter: u8, number: u32) -> usize
+pub(crate) fn number_before(buffer: &mut [u8], end: usize, letter: u8, number: u32) -> usize
     requires within { end ≤ length buffer.old }
     requires room { 12 ≤ end }
     ensures within { result ≤ end }
@@ -95,7 +100,7 @@ fn number_before(buffer: &mut [u8], end: usize, letter: u8, number: u32) -> usiz
 
 // Writes some text.
 #[inline(always)]
-fn text_before(buffer: &mut [u8], end: usize, text: &[u8]) -> usize
+pub(crate) fn text_before(buffer: &mut [u8], end: usize, text: &[u8]) -> usize
     requires within { end ≤ length buffer.old }
     requires room { length text.now ≤ end }
     ensures start { result + length text.now ≡ end }

@@ -1,5 +1,6 @@
 //! The text of an error model, on its way to a sink.
-ghost use Rattle.std.specs.Prelude.{◌≡◌, ◌<◌, decimal, length, IfErr, OnOk, OnErr};
+ghost use Rattle.std.specs.Prelude.{◌≡◌, ◌<◌, ◌≤◌, ◌-◌, decimal, drop, length, take, IfErr, OnOk, OnErr};
+ghost use Rattle.std.specs.List.{flat_map};
 ghost use Rattle.std.specs.Fmt.{signed_decimal};
 ghost use Rattle.dem_text.specs.ModelText.{targets_text, line_text, more_coordinates_text, coordinates_text, detector_text, observable_text, lines_text, detectors_text, observables_text, model_text};
 ghost use Rattle.pieces.specs.Pushed.{Pushes};
@@ -7,7 +8,9 @@ ghost use Rattle.step_model.specs.Ends.{Takes, TakesBeginning, write_failures};
 ghost use Rattle.step_model.specs.Faults.{write_fault};
 
 use crate::Model;
-use crate::short_lines::{ROOM, SHORT_TARGETS, SHORT_TEXT, line_before, targets_before};
+use crate::line_runs::{end_of_short, lines_before};
+use crate::short_detectors::{SHORT_COORDINATES, detector_before};
+use crate::short_lines::{ROOM, SHORT_TARGETS, targets_before};
 use itoa::Buffer;
 use pieces::Pieces;
 use std::alloc::Allocator;
@@ -42,36 +45,43 @@ fn write_lines<'a, A: Allocator + Copy, W: Sink>(
     ensures { Pushes W.taken W.failures sink.old sink.new out.old out.new (lines_text model.now) }
 {
     let mut buffer = [0; ROOM];
-    let detectors = model.detector_count();
-    for line in 0..model.line_count() {
-        write_line(
-            out,
-            sink,
-            &mut buffer,
-            detectors,
-            model.text(line),
-            model.targets(line),
-        );
+    let count = model.line_count();
+    let mut line = 0;
+    while line < count {
+        line = write_some(out, sink, &mut buffer, model, count, line);
     }
 }
 
-// Most lines are short, and go out as one text.
-fn write_line<W: Sink>(
+// Writes some lines from one on, and answers which is next. Most are short, and go out many at a time.
+fn write_some<'a, A: Allocator + Copy, W: Sink>(
     out: &mut Pieces,
     sink: &mut W,
     buffer: &mut [u8; ROOM],
-    detectors: usize,
-    probability: &[u8],
-    targets: &[u32],
-)
-    ensures { Pushes W.taken W.failures sink.old sink.new out.old out.new (line_text detectors (record { text = probability.now; targets = targets.now })) }
+    model: &Model<'a, A>,
+    count: usize,
+    line: usize,
+) -> usize
+    requires count { count ≡ length model.now.lines }
+    requires line { line < count }
+    ensures some { line < result }
+    ensures within { result ≤ length model.now.lines }
+    ensures pushed { Pushes W.taken W.failures sink.old sink.new out.old out.new (flat_map (line_text model.now.detectors) (take (result - line) (drop line model.now.lines))) }
 {
-    if targets.len() <= SHORT_TARGETS && probability.len() <= SHORT_TEXT {
-        let start = line_before(buffer, detectors, probability, targets);
+    let next = end_of_short(model, line);
+    if line < next {
+        let start = lines_before(buffer, model, line, next);
         out.push(sink, &buffer[start..]);
-    } else {
-        write_long_line(out, sink, buffer, detectors, probability, targets);
+        return next;
     }
+    write_long_line(
+        out,
+        sink,
+        buffer,
+        model.detector_count(),
+        model.text(line),
+        model.targets(line),
+    );
+    line + 1
 }
 
 fn write_long_line<W: Sink>(
@@ -117,12 +127,42 @@ fn write_detectors<'a, A: Allocator + Copy, W: Sink>(
 )
     ensures { Pushes W.taken W.failures sink.old sink.new out.old out.new (detectors_text model.now) }
 {
+    let mut buffer = [0; ROOM];
     for detector in 0..model.detector_count() {
-        write_detector(out, sink, detector, model.coordinates(detector));
+        write_detector(
+            out,
+            sink,
+            &mut buffer,
+            detector,
+            model.coordinates(detector),
+        );
     }
 }
 
-fn write_detector<W: Sink>(out: &mut Pieces, sink: &mut W, detector: usize, coordinates: &[i64])
+// Most detectors have few coordinates, and their lines go out as one text.
+fn write_detector<W: Sink>(
+    out: &mut Pieces,
+    sink: &mut W,
+    buffer: &mut [u8; ROOM],
+    detector: usize,
+    coordinates: &[i64],
+)
+    ensures { Pushes W.taken W.failures sink.old sink.new out.old out.new (detector_text detector coordinates.now) }
+{
+    if coordinates.len() <= SHORT_COORDINATES && detector <= u32::MAX as usize {
+        let start = detector_before(buffer, detector as u32, coordinates);
+        out.push(sink, &buffer[start..]);
+    } else {
+        write_long_detector(out, sink, detector, coordinates);
+    }
+}
+
+fn write_long_detector<W: Sink>(
+    out: &mut Pieces,
+    sink: &mut W,
+    detector: usize,
+    coordinates: &[i64],
+)
     ensures { Pushes W.taken W.failures sink.old sink.new out.old out.new (detector_text detector coordinates.now) }
 {
     out.push(sink, b"detector");

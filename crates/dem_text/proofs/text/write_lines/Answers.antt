@@ -1,10 +1,13 @@
 use Rattle.std.proofs.Common.{arith}
-use Rattle.dem_text.specs.ErrorLines.{no_line}
 use Rattle.dem_text.specs.ModelText.{line_text}
-use Rattle.pieces.proofs.Items.{Pushes-item}
+use Rattle.dem_text.proofs.ShortLineLemmas.{Pushes-one, items_more}
 use Rattle.dem_text.proofs.text.write_lines.Goals as goal
 
 pub loop-line-preserved : goal.loop-line-preserved
 loop-line-preserved g c =
-    let line = rw (c.detector_count-detectors.ensures.count, c.text.ensures, c.targets.ensures) at c.write_line.ensures in
-    Pushes-item (line_text c.args.model.now.detectors) c.args.model.now.lines c.loop-line.line no_line (omega arith) c.loop-line.invariant line
+    record {
+      within = c.write_some-line.ensures.within;
+      pushed =
+          Pushes-one c.loop-line.invariant.pushed c.write_some-line.ensures.pushed
+          (items_more (line_text c.args.model.now.detectors) c.args.model.now.lines c.loop-line.line c.write_some-line.result (omega (arith, c.write_some-line.ensures.some)));
+    }

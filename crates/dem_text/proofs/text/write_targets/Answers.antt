@@ -10,8 +10,8 @@ loop-done-preserved g c =
     let done = c.loop-done.done in
     let some = c.min.result in
     let start = c.targets_before-start.result in
-    let long : length c.targets_before-start.new.buffer ≡ 256 = search rules in
-    let old_long : length c.loop-done.buffer ≡ 256 = search rules in
+    let long : length c.targets_before-start.new.buffer ≡ 4096 = search rules in
+    let old_long : length c.loop-done.buffer ≡ 4096 = search rules in
     let count : done + some - done ≡ some = omega arith in
     let written =
     rest_written c.targets_before-start.new.buffer c.loop-done.buffer (targets_text detectors (take (done + some - done) (drop done targets))) start long old_long c.targets_before-start.ensures.written

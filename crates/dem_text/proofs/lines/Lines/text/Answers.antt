@@ -29,7 +29,7 @@ returns g c =
     let within : c.args.line < length numbers = omega (arith, same, counted, c.requires) in
     let number : c.index.result.now ≡ get_or numbers c.args.line 0 = c.index.ensures ∙ get_or_default numbers c.args.line _ 0 within in
     let named = c.self.invariant.named c.args.line 0 within in
-    ap (λ t. t.text.now) c.index-2.ensures
+    c.index-2.ensures
     ∙ (sym (text_at-get_or texts c.index.result.now c.index-2.result.now (omega (arith, named, number)))
     ∙ (ap (text_at texts) number
     ∙ (sym (ap (λ l. l.text) (get_or-lines_of texts numbers c.self.inside.targets c.args.line 0 c.self.invariant.counted within))
