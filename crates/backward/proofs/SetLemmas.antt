@@ -1,5 +1,5 @@
 -- Sets of targets as descending lists.
-use Rattle.std.proofs.Common.{◌≡◌, ℕ, zero, suc, ◌+◌, ◌-◌, ◌<◌, ◌≤◌, ◌==◌, nat_lt, Bool, true, false, not, List, [], ◌∷◌, ◌++◌, length, map, get_or, set, drop, inl, inr, Result, Ok, Err, OnOk, OnErr, refl, ap, ap₂, subst, sym, ◌∙◌, arith}
+use Rattle.std.proofs.Common.{◌≡◌, ℕ, zero, suc, ◌+◌, ◌-◌, ◌<◌, ◌≤◌, ◌==◌, nat_lt, Bool, true, false, not, List, [], ◌∷◌, ◌++◌, length, map, get_or, set, drop, inl, inr, Result, Ok, Err, OnOk, OnErr, refl, ap, ap₂, subst, sym, ◌∙◌, arith, append-nil}
 use Rattle.std.specs.Prelude.{◌⊎◌, filter, reverse, replicate, insert, remove, if◌then◌else◌}
 use Rattle.std.specs.List.{range_with_len}
 use Rattle.std.proofs.Math.Nat.{suc_inj}
@@ -109,6 +109,18 @@ first_left first second i j (inr h) some = sym (ap (xor_sets (drop i first)) (dr
 
 pub second_left : (first second : List ℕ) (i j : ℕ) → length first ≤ i → drop j second ≡ xor_sets (drop i first) (drop j second)
 second_left first second i j h = sym (ap (λ l. xor_sets l (drop j second)) (drop_all i first h))
+
+pub rests_left : (first second : List ℕ) (i j : ℕ) → (length first ≤ i) ⊎ (length second ≤ j) → drop i first ++ drop j second ≡ xor_sets (drop i first) (drop j second)
+rests_left first second i j (inl h) =
+    ap (λ l. l ++ drop j second) (drop_all i first h) ∙ sym (ap (λ l. xor_sets l (drop j second)) (drop_all i first h))
+rests_left first second i j (inr h) =
+    ap (λ l. drop i first ++ l) (drop_all j second h)
+    ∙ (append-nil (drop i first) ∙ sym (ap (xor_sets (drop i first)) (drop_all j second h) ∙ xor_sets-nil (drop i first)))
+
+-- a sum that was made, or nothing
+pub descends_summed : {V E : Type 0} (r : Result V E) (m : ℕ) (new sum : List ℕ) → OnOk r (new ≡ sum) → OnErr r (new ≡ []) → DescendsBelow m sum → DescendsBelow m new
+descends_summed (Ok v) m new sum ok err h = subst (DescendsBelow m) (sym ok) h
+descends_summed (Err e) m new sum ok err h = subst (DescendsBelow m) (sym err) tt
 
 -- ---- one target toggled
 get_below : (m : ℕ) (xs : List ℕ) (k : ℕ) → DescendsBelow m xs → k < length xs → get_or xs k 0 < m

@@ -256,6 +256,7 @@ fn has_z(letter: Letter) -> bool
 }
 
 // Adds a set to another where `add`.
+#[inline(always)]
 fn add_where<S: TargetSet>(
     add: bool,
     set: &mut S,
@@ -272,6 +273,7 @@ fn add_where<S: TargetSet>(
 }
 
 // Toggles a target where `toggle`.
+#[inline(always)]
 fn toggle_where<S: TargetSet>(toggle: bool, set: &mut S, t: u32) -> Result<(), AllocError>
     requires { t < length (S.bits set.old) }
     ensures ok { OnOk result (S.bits set.new ≡ flipped_where toggle t (S.bits set.old)) }

@@ -1,11 +1,14 @@
 //! A set of targets as the list of those in it.
-ghost use Rattle.std.specs.Prelude.{◌≡◌, ◌<◌, ◌≤◌, ◌-◌, ◌∷◌, [], ℕ, false, length, replicate, reverse, slice_index, OnOk, OnErr};
+ghost use Rattle.std.specs.Prelude.{◌≡◌, ◌<◌, ◌≤◌, ◌+◌, ◌-◌, ◌∷◌, ◌++◌, [], ℕ, take, false, insert, length, replicate, reverse, slice_index, OnOk, OnErr};
 ghost use Rattle.backward.specs.Sets.{xor_sets, DescendsBelow};
 
 use crate::target_set::TargetSet;
 use smallvec::SmallVec;
 use std::alloc::{AllocError, Allocator};
 use std::marker::Model;
+
+/// Of how many targets a set has few.
+const FEW: usize = 8;
 
 /// A set of targets as the list of those in it, the greatest first: where targets come from the greatest down, adding
 /// one appends it.
@@ -64,6 +67,9 @@ impl<'a, A: Allocator + Copy> TargetSet for SparseSet<'a, A> {
         if self.items.as_slice().is_empty() {
             return self.items.extend_from_slice(other.items.as_slice());
         }
+        if self.items.len() <= FEW && other.items.len() <= FEW {
+            return add_few(&mut self.items, other.items.as_slice());
+        }
         spare.items.clear();
         match merge(
             self.items.as_slice(),
@@ -84,6 +90,36 @@ impl<'a, A: Allocator + Copy> TargetSet for SparseSet<'a, A> {
     fn list<B: Allocator + Copy>(&self, into: &mut Vec<u32, B>) -> Result<(), AllocError> {
         list_ascending(self.items.as_slice(), into)
     }
+
+    fn list_sum<B: Allocator + Copy>(
+        &self,
+        other: &Self,
+        into: &mut Vec<u32, B>,
+    ) -> Result<bool, AllocError> {
+        if self.items.len() > FEW || other.items.len() > FEW {
+            return Ok(false);
+        }
+        let mut sum = [0; 2 * FEW];
+        let len = merge_few(self.items.as_slice(), other.items.as_slice(), &mut sum);
+        list_ascending(&sum[..len], into)?;
+        Ok(true)
+    }
+}
+
+// Puts the exclusive or of two descending lists of few in place of the first.
+fn add_few<A: Allocator + Copy>(
+    items: &mut SmallVec<u32, 4, A>,
+    more: &[u32],
+) -> Result<(), AllocError>
+    requires few { length items.old.items ≤ 8 }
+    requires few_more { length more.now ≤ 8 }
+    ensures ok { OnOk result (items.new.items ≡ xor_sets items.old.items more.now) }
+    ensures err { OnErr result (items.new.items ≡ []) }
+{
+    let mut sum = [0; 2 * FEW];
+    let len = merge_few(items.as_slice(), more, &mut sum);
+    items.clear();
+    items.extend_from_slice(&sum[..len])
 }
 
 // Takes a target out of a descending list, or puts it in at its place.
@@ -98,6 +134,25 @@ fn toggle_in<A: Allocator + Copy>(
     let place = place_of(items.as_slice(), target);
     if place > 0 && items.as_slice()[place - 1] == target {
         let _ = items.remove(place - 1);
+    } else {
+        put_in(items, place, target)?;
+    }
+    Ok(())
+}
+
+// Puts a target in at a place. Most come behind all that are there.
+#[inline]
+fn put_in<A: Allocator + Copy>(
+    items: &mut SmallVec<u32, 4, A>,
+    place: usize,
+    target: u32,
+) -> Result<(), AllocError>
+    requires { place ≤ length items.old.items }
+    ensures ok { OnOk result (items.new.items ≡ insert items.old.items place target) }
+    ensures err { OnErr result (items.new.items ≡ items.old.items) }
+{
+    if place == items.len() {
+        items.push(target)?;
     } else {
         items.insert(place, target)?;
     }
@@ -148,6 +203,45 @@ fn merge<A: Allocator + Copy>(
     } else {
         into.extend_from_slice(&second[j..])
     }
+}
+
+// Puts the exclusive or of two descending lists of few at the start of `sum`, and answers how long it is. Which of two is
+// the greater is hard to foresee, so that nothing jumps by it.
+fn merge_few(first: &[u32], second: &[u32], sum: &mut [u32; 16]) -> usize
+    requires first { length first.now ≤ 8 }
+    requires second { length second.now ≤ 8 }
+    ensures within { result ≤ 16 }
+    ensures sum { take result sum.new ≡ xor_sets first.now second.now }
+{
+    let mut i = 0;
+    let mut j = 0;
+    let mut len = 0;
+    while i < first.len() && j < second.len() {
+        let x = first[i];
+        let y = second[j];
+        sum[len] = if x < y { y } else { x };
+        len += (x != y) as usize;
+        i += (y <= x) as usize;
+        j += (x <= y) as usize;
+    }
+    // one of them is used up
+    let len = append_few(sum, len, &first[i..]);
+    append_few(sum, len, &second[j..])
+}
+
+// Puts these behind the first `len`, and answers how many there are then.
+#[inline(always)]
+fn append_few(sum: &mut [u32; 16], len: usize, rest: &[u32]) -> usize
+    requires { len + length rest.now ≤ 16 }
+    ensures len { result ≡ len + length rest.now }
+    ensures sum { take result sum.new ≡ take len sum.old ++ rest.now }
+{
+    let mut end = len;
+    for target in rest {
+        sum[end] = *target;
+        end += 1;
+    }
+    end
 }
 
 fn list_ascending<B: Allocator + Copy>(

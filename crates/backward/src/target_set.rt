@@ -1,5 +1,5 @@
 //! Sets of targets, which tracked words are kept in.
-ghost use Rattle.std.specs.Prelude.{◌≡◌, ◌<◌, ◌≤◌, ◌^◌, false, not, length, filter, replicate, IfOk, OnOk, List, Bool, slice_index_or, slice_set};
+ghost use Rattle.std.specs.Prelude.{◌≡◌, ◌<◌, ◌≤◌, ◌^◌, false, true, not, length, filter, replicate, IfOk, OnOk, List, Bool, slice_index_or, slice_set};
 ghost use Rattle.std.specs.List.{range_with_len};
 ghost use Rattle.bit_rows.specs.Rows.{xor_rows};
 ghost use Rattle.backward.specs.TargetSets.{members};
@@ -38,6 +38,16 @@ pub trait TargetSet: Drop {
     fn list<B: Allocator + Copy>(&self, into: &mut Vec<u32, B>) -> Result<(), AllocError>
         requires { length (bits self.now) ≤ 2 ^ 32 }
         ensures { OnOk result (into.new.items ≡ members (bits self.now)) };
+
+    /// Puts the targets that are in one of two sets alone into `into`, ascending, in place of what it held, and answers
+    /// whether it did. It need not, but does so at once where both have few.
+    fn list_sum<B: Allocator + Copy>(
+        &self,
+        other: &Self,
+        into: &mut Vec<u32, B>,
+    ) -> Result<bool, AllocError>
+        requires { length (bits self.now) ≡ length (bits other.now) }
+        ensures { IfOk result (λ done. done ≡ true → into.new.items ≡ members (xor_rows (bits self.now) (bits other.now))) };
 }
 
 impl<A: Allocator + Copy> TargetSet for BitRow<A> {
@@ -59,6 +69,14 @@ impl<A: Allocator + Copy> TargetSet for BitRow<A> {
     fn add(&mut self, other: &Self, _spare: &mut Self) -> Result<(), AllocError> {
         self.xor_from(other);
         Ok(())
+    }
+
+    fn list_sum<B: Allocator + Copy>(
+        &self,
+        _other: &Self,
+        _into: &mut Vec<u32, B>,
+    ) -> Result<bool, AllocError> {
+        Ok(false)
     }
 
     fn list<B: Allocator + Copy>(&self, into: &mut Vec<u32, B>) -> Result<(), AllocError> {

@@ -1,10 +1,10 @@
-ghost use Rattle.std.specs.Prelude.{◌≡◌, ◌<◌, ◌≤◌, ◌≢◌, ◌^◌, ◌∷◌, [], ℕ, false, length, All, IfOk, OnOk, map, replicate};
+ghost use Rattle.std.specs.Prelude.{◌≡◌, ◌<◌, ◌≤◌, ◌≢◌, ◌^◌, ◌∷◌, [], ℕ, false, true, length, All, IfOk, OnOk, map, replicate};
 ghost use Rattle.gate_table.specs.Images.{arity_of};
 ghost use Rattle.pauli_word.specs.declared.letter.Letter.TheVariants.{I};
 ghost use Rattle.std.specs.List.{range_with_len};
 ghost use Rattle.pauli_word.specs.Words.{anticommute};
 ghost use Rattle.step_model.specs.Listing.{word_of_terms};
-ghost use Rattle.backward.specs.Tracked.{each_word, fresh, undone_two};
+ghost use Rattle.backward.specs.Tracked.{anticommuting, each_word, fresh, undone_two};
 ghost use Rattle.backward.specs.TargetSets.{members};
 ghost use Rattle.backward.specs.Transposed.{combined, multiplied_at, word_at};
 
@@ -117,6 +117,26 @@ impl<S: TargetSet, A: Allocator + Copy> Words<S, A> {
         Ok(())
     }
 
+    // Lists the targets whose words anticommute with the product of two letters, and answers whether it did: it need not.
+    #[inline(never)]
+    fn list_both<B: Allocator + Copy>(
+        &self,
+        first: &Term,
+        second: &Term,
+        hit: &mut Vec<u32, B>,
+    ) -> Result<bool, AllocError>
+        requires first_in_range { first.now.qubit < self.now.qubits }
+        requires second_in_range { second.now.qubit < self.now.qubits }
+        ensures { IfOk result (λ done. done ≡ true → hit.new.items ≡ anticommuting (first.now ∷ second.now ∷ []) self.now) }
+    {
+        let one = self.columns[first.qubit as usize].kept_clashing(first.letter);
+        let other = self.columns[second.qubit as usize].kept_clashing(second.letter);
+        match (one, other) {
+            (Some(one), Some(other)) => one.list_sum(other, hit),
+            _ => Ok(false),
+        }
+    }
+
     // Any gate of two qubits, by the images of the letters at both.
     fn undo_by_images(&mut self, gate: Gate, a: usize, b: usize) -> Result<(), AllocError>
         requires arity { arity_of gate ≡ 2 }
@@ -192,6 +212,11 @@ impl<S: TargetSet, A: Allocator + Copy> Tracker for Words<S, A> {
                 return set.list(hit);
             }
         }
+        if let [first, second] = terms {
+            if self.list_both(first, second, hit)? {
+                return Ok(());
+            }
+        }
         clashing(
             self.columns.as_slice(),
             terms,
@@ -203,6 +228,7 @@ impl<S: TargetSet, A: Allocator + Copy> Tracker for Words<S, A> {
 }
 
 // The targets whose words anticommute with the product of these letters at qubits.
+#[inline(never)]
 fn clashing<S: TargetSet>(
     columns: &[Column<S>],
     terms: &[Term],

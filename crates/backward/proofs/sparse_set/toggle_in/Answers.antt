@@ -26,8 +26,8 @@ returns-then-as_slice-place-clause-descends g c =
     (sym (ap (λ (s : List ℕ). get_or s (place - 1) 0) c.as_slice-then-place-gt0.ensures) ∙ c.if-as_slice-place.true)))
     (DescendsBelow-xor_sets m (c.args.target ∷ []) items (low, tt) descends)
 
-pub returns-in_ok-insert-clause-ok : goal.returns-in_ok-insert-clause-ok
-returns-in_ok-insert-clause-ok g c =
+pub returns-in_ok-put_in-clause-ok : goal.returns-in_ok-put_in-clause-ok
+returns-in_ok-put_in-clause-ok g c =
     let place = c.place_of-place.result in
     let items = c.args.items.now.items in
     let t = c.args.target in
@@ -41,13 +41,13 @@ returns-in_ok-insert-clause-ok g c =
           omega (arith, low, same (place - 1), here, w.if-as_slice-place.false)
       | else-place-gt0-via-else-place-gt0 w ↦ λ some. absurd (omega (arith, some, w.if-place-gt0.false))
     ] in
-    λ m descends. c.in_ok-insert.ensures.ok
+    λ m descends. c.in_ok-put_in.ensures.ok
     ∙ inserted m items place t descends (omega (arith, seen, c.place_of-place.ensures.within))
     (λ k p q. let low = c.place_of-place.ensures.below k p (omega (arith, q, seen)) in omega (arith, low, same k))
     above
 
-pub returns-in_ok-insert-clause-descends : goal.returns-in_ok-insert-clause-descends
-returns-in_ok-insert-clause-descends g c =
+pub returns-in_ok-put_in-clause-descends : goal.returns-in_ok-put_in-clause-descends
+returns-in_ok-put_in-clause-descends g c =
     let place = c.place_of-place.result in
     let items = c.args.items.now.items in
     let t = c.args.target in
@@ -62,7 +62,7 @@ returns-in_ok-insert-clause-descends g c =
       | else-place-gt0-via-else-place-gt0 w ↦ λ some. absurd (omega (arith, some, w.if-place-gt0.false))
     ] in
     λ m low descends.
-    subst (DescendsBelow m) (sym (c.in_ok-insert.ensures.ok
+    subst (DescendsBelow m) (sym (c.in_ok-put_in.ensures.ok
     ∙ inserted m items place t descends (omega (arith, seen, c.place_of-place.ensures.within))
     (λ k p q. let low = c.place_of-place.ensures.below k p (omega (arith, q, seen)) in omega (arith, low, same k))
     above))

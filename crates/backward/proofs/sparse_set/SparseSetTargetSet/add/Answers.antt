@@ -2,7 +2,7 @@ use Rattle.std.proofs.Common.{ℕ, ◌==◌, ◌++◌, List, length, ap, ap₂, 
 use Rattle.std.proofs.lemmas.Result.{on_ok_weaker}
 use Rattle.bit_rows.specs.Rows.{xor_rows}
 use Rattle.backward.specs.Sets.{DescendsBelow, row_of_set, xor_sets}
-use Rattle.backward.proofs.SetLemmas.{row_of_xor_sets, same_count, add_none, no_elements, descends_copied, DescendsBelow-xor_sets}
+use Rattle.backward.proofs.SetLemmas.{descends_summed, row_of_xor_sets, same_count, add_none, no_elements, descends_copied, DescendsBelow-xor_sets}
 use Rattle.backward.proofs.sparse_set.SparseSetTargetSet.add.Goals as goal
 
 pub invariant_of-self : goal.invariant_of-self
@@ -61,3 +61,26 @@ pub returns-then-is_empty-clause-ok : goal.returns-then-is_empty-clause-ok
 returns-then-is_empty-clause-ok g c =
     let none = sym (ap (λ (xs : List ℕ). length xs == 0) c.as_slice.ensures) ∙ (sym c.is_empty.ensures ∙ c.if-is_empty.true) in
     add_none c.args.self.now c.args.other.now c.other.inside.targets c.other.inside.items.items c.requires.other none c.other.view_is
+
+pub invariant_of-self-then-len-le-FEW-2 : goal.invariant_of-self-then-len-le-FEW-2
+invariant_of-self-then-len-le-FEW-2 g c =
+    let m = c.self.inside.targets in
+    let mine = c.self.inside.items.items in
+    let other = c.other.inside.items.items in
+    let counted = same_count m c.other.inside.targets mine other _ _ c.self.view_is c.other.view_is c.requires.other in
+    let sum = xor_sets mine c.as_slice-then-len-le-FEW-2.result.now in
+    descends_summed c.add_few.result m c.add_few.new.items.items sum c.add_few.ensures.ok c.add_few.ensures.err
+    (DescendsBelow-xor_sets m mine c.as_slice-then-len-le-FEW-2.result.now c.self.invariant
+    (subst (DescendsBelow m) (sym c.as_slice-then-len-le-FEW-2.ensures) (subst (λ n. DescendsBelow n other) (sym counted) c.other.invariant)))
+
+pub returns-then-len-le-FEW-2-clause-ok : goal.returns-then-len-le-FEW-2-clause-ok
+returns-then-len-le-FEW-2-clause-ok g c =
+    let m = c.self.inside.targets in
+    let mine = c.self.inside.items.items in
+    let other = c.other.inside.items.items in
+    let counted = same_count m c.other.inside.targets mine other _ _ c.self.view_is c.other.view_is c.requires.other in
+    on_ok_weaker c.add_few.result
+    (λ h. ap (row_of_set m) (h ∙ ap (xor_sets mine) c.as_slice-then-len-le-FEW-2.ensures)
+    ∙ (row_of_xor_sets m mine other
+    ∙ ap₂ xor_rows c.self.view_is (ap (λ n. row_of_set n other) counted ∙ c.other.view_is)))
+    c.add_few.ensures.ok
