@@ -123,6 +123,7 @@ fn word_before(buffer: &mut [u8], end: usize, qubits: u32, terms: &[Term]) -> Op
 
 // Writes the word of terms at ascending qubits. None is answered where they are none or many, or where they don't stand at
 // such, or one is I.
+#[inline(always)]
 fn ordered_before(buffer: &mut [u8], end: usize, qubits: u32, terms: &[Term]) -> Option<usize>
     requires within { end ≤ length buffer.old }
     requires room { 192 ≤ end }
