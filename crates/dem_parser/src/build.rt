@@ -67,7 +67,7 @@ pub(crate) fn model_of<'a, A: Allocator + Copy>(
 ) -> Result<Model<'a, A>, AllocError>
     ensures { IfOk result (λ model. model ≡ meaning_of lines.now.placed) }
 {
-    let counts = counts_of(lines);
+    let counts = counts_of(lines).targets;
     let detectors = narrowed(counts.detectors)?;
     let observables = narrowed(counts.observables)?;
     let coordinates = coordinates_of(alloc, lines, detectors as usize)?;

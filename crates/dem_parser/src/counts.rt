@@ -1,15 +1,25 @@
-ghost use Rattle.std.specs.Prelude.{◌≡◌, max};
-ghost use Rattle.dem_parser.specs.Meanings.{detector_count, detectors_to, greatest_of, observable_count, observables_to};
+ghost use Rattle.std.specs.Prelude.{◌≡◌, ◌+◌, ◌<◌, ◌^◌, max};
+ghost use Rattle.dem_parser.specs.KeptLines.{placed_in};
+ghost use Rattle.dem_parser.specs.Meanings.{detector_count, detectors_to, greatest_of, is_error, observable_count, observables_to};
+ghost use Rattle.dem_parser.specs.Summed.{error_count, passed_after};
 
-use crate::placed::PlacedLines;
+use crate::operation::Operation;
+use crate::placed::{PlacedLine, PlacedLines};
 use crate::target::Target;
 use std::alloc::Allocator;
 
-/// How many detectors there are, and how many observables.
+/// How many detectors and how many observables targets name.
 #[derive(Clone, Copy)]
-pub(crate) struct Counts {
+pub(crate) struct TargetCounts {
     pub detectors: u128,
     pub observables: u128,
+}
+
+/// The same of lines, and how many of these are error lines.
+#[derive(Clone, Copy)]
+pub(crate) struct Counts {
+    pub targets: TargetCounts,
+    pub errors: usize,
 }
 
 /// One more than the detector that a target names, or 0.
@@ -33,13 +43,13 @@ fn observables_to(target: Target) -> u128
 }
 
 /// Counts raised to what targets name.
-fn raised(counts: Counts, targets: &[Target]) -> Counts
+fn raised(counts: TargetCounts, targets: &[Target]) -> TargetCounts
     ensures detectors { result.detectors ≡ max counts.detectors (greatest_of detectors_to targets.now) }
     ensures observables { result.observables ≡ max counts.observables (greatest_of observables_to targets.now) }
 {
     let mut found = counts;
     for target in targets {
-        found = Counts {
+        found = TargetCounts {
             detectors: found.detectors.max(detectors_to(*target)),
             observables: found.observables.max(observables_to(*target)),
         };
@@ -47,17 +57,40 @@ fn raised(counts: Counts, targets: &[Target]) -> Counts
     found
 }
 
-/// How many detectors and observables lines name.
-pub(crate) fn counts_of<A: Allocator + Copy>(lines: &PlacedLines<'_, '_, A>) -> Counts
-    ensures detectors { result.detectors ≡ detector_count lines.now.placed }
-    ensures observables { result.observables ≡ observable_count lines.now.placed }
+/// Whether a line is an error line.
+pub(crate) fn is_error(operation: Operation) -> bool
+    ensures { result ≡ is_error operation }
 {
-    let mut found = Counts {
+    matches!(operation, Operation::Errs)
+}
+
+/// How many error lines there are behind one more line.
+fn errors_past(errors: usize, line: PlacedLine<'_, '_>) -> usize
+    requires { errors + 1 < 2 ^ 64 }
+    ensures { result ≡ passed_after errors (placed_in line.entry) }
+{
+    if is_error(line.operation) {
+        errors + 1
+    } else {
+        errors
+    }
+}
+
+/// How many detectors and observables lines name, and how many are error lines.
+pub(crate) fn counts_of<A: Allocator + Copy>(lines: &PlacedLines<'_, '_, A>) -> Counts
+    ensures detectors { result.targets.detectors ≡ detector_count lines.now.placed }
+    ensures observables { result.targets.observables ≡ observable_count lines.now.placed }
+    ensures errors { result.errors ≡ error_count lines.now.placed }
+{
+    let mut targets = TargetCounts {
         detectors: 0,
         observables: 0,
     };
+    let mut errors = 0;
     for i in 0..lines.len() {
-        found = raised(found, lines.get(i).targets);
+        let line = lines.get(i);
+        targets = raised(targets, line.targets);
+        errors = errors_past(errors, line);
     }
-    found
+    Counts { targets, errors }
 }

@@ -1,14 +1,13 @@
-ghost use Rattle.std.specs.Prelude.{◌≡◌, ◌+◌, ◌<◌, ◌^◌, false, length, slice_index_or, IfOk};
+ghost use Rattle.std.specs.Prelude.{◌≡◌, ◌≤◌, ◌+◌, ◌<◌, ◌^◌, ℕ, false, length, slice_index_or, IfOk};
 ghost use Rattle.dem_parser.specs.KeptLines.{placed_in};
-ghost use Rattle.dem_parser.specs.Meanings.{is_error, meaning_of};
+ghost use Rattle.dem_parser.specs.Meanings.{meaning_of};
 ghost use Rattle.dem_parser.specs.Numbered.{numbered, numbers_of};
-ghost use Rattle.dem_parser.specs.Summed.{error_count, passed_after, turned_past};
+ghost use Rattle.dem_parser.specs.Summed.{passed_after, turned_past};
 ghost use Rattle.dem_parser.specs.Sums.{symptom_of, turned};
 
-use crate::counts::counts_of;
+use crate::counts::{counts_of, is_error};
 use crate::flips::number_at;
 use crate::narrow::narrowed;
-use crate::operation::Operation;
 use crate::placed::{PlacedLine, PlacedLines};
 use crate::sums::{no_bits, turn_at};
 use crate::target::Target;
@@ -37,23 +36,16 @@ impl<'c, 'a, A: Allocator + Copy> Model for PlacedModel<'c, 'a, A> {
     ghost invariant = { λ m. AreCounts m.lines.placed m.detectors m.observables m.errors };
 }
 
-fn is_error(operation: Operation) -> bool
-    ensures { result ≡ is_error operation }
+/// Behind which number no line is named.
+fn named_end(named: &[bool]) -> usize
+    ensures within { result ≤ length named.now }
+    ensures none { (k : ℕ) → result ≤ k → slice_index_or named.now k false ≡ false }
 {
-    matches!(operation, Operation::Errs)
-}
-
-/// How many error lines there are.
-fn error_count<A: Allocator + Copy>(lines: &PlacedLines<'_, '_, A>) -> usize
-    ensures { result ≡ error_count lines.now.placed }
-{
-    let mut errors = 0;
-    for i in 0..lines.len() {
-        if is_error(lines.get(i).operation) {
-            errors += 1;
-        }
+    let mut end = named.len();
+    while end > 0 && !named[end - 1] {
+        end -= 1;
     }
-    errors
+    end
 }
 
 /// Whether the line of a number is named.
@@ -112,11 +104,10 @@ impl<'c, 'a, A: Allocator + Copy> PlacedModel<'c, 'a, A> {
         ensures { IfOk result (λ model. model ≡ meaning_of lines.entry.placed) }
     {
         let counts = counts_of(&lines);
-        let errors = error_count(&lines);
         Ok(PlacedModel {
-            detectors: narrowed(counts.detectors)?,
-            observables: narrowed(counts.observables)?,
-            errors,
+            detectors: narrowed(counts.targets.detectors)?,
+            observables: narrowed(counts.targets.observables)?,
+            errors: counts.errors,
             lines,
         })
     }
@@ -134,9 +125,12 @@ impl<'c, 'a, A: Allocator + Copy> PlacedModel<'c, 'a, A> {
         ensures { IfOk result (λ bits. bits.items ≡ symptom_of self.now named.now) }
     {
         let mut bits = no_bits(alloc, self.detectors as usize, self.observables as usize)?;
+        let end = named_end(named);
         let mut passed = 0;
-        for i in 0..self.lines.len() {
+        let mut i = 0;
+        while passed < end && i < self.lines.len() {
             passed = pass_line(&mut bits, named, passed, self.detectors, self.lines.get(i))?;
+            i += 1;
         }
         Ok(bits)
     }
