@@ -18,9 +18,6 @@ pub(crate) const SHORT_TARGETS: usize = 16;
 /// How long the probability text of a short line is at most.
 pub(crate) const SHORT_TEXT: usize = 32;
 
-/// How long the text of a target is at most: a space, a letter and ten digits.
-const TARGET_TEXT: usize = 12;
-
 /// Writes a short line so that it ends at `end`, and answers where it starts.
 #[inline]
 pub(crate) fn line_before<'a>(
@@ -43,7 +40,8 @@ pub(crate) fn line_before<'a>(
     text.head_before(buffer, at)
 }
 
-/// Writes some targets so that they end at `end`, and answers where they start.
+/// Writes some targets so that they end at `end`, and answers where they start. The text of each is at most 12 long: a space,
+/// a letter and ten digits.
 #[inline]
 pub(crate) fn targets_before(
     buffer: &mut [u8],
