@@ -11,6 +11,10 @@ mod LineCountLemmas
 mod GatherLemmas
 mod SumLemmas
 mod SummedLemmas
+mod ChainLemmas
+mod TallyLemmas
+mod PlainLemmas
+mod PlainSumLemmas
 mod WorkedTexts
 mod FrontLemmas
 mod ShiftLemmas
@@ -21,3 +25,4 @@ pub mod NumberLemmas
 mod MarkLemmas
 mod BuildLemmas
 mod ReadLemmas
+pub mod StrippedLemmas

@@ -111,7 +111,7 @@ turned-same bits n xs ys long same =
     (λ t low below. ap (λ b. exclusive_or b (f t)) (same t (omega (arith, below))))
     ∙ sym (ap (λ bs. turned bs ys) made ∙ turned-map f n ys)
 
-turned-flipped : (d o : ℕ) (bits : List Bool) (targets : List Target) → length bits ≡ d + o → greatest_of detectors_to targets ≤ d
+pub turned-flipped : (d o : ℕ) (bits : List Bool) (targets : List Target) → length bits ≡ d + o → greatest_of detectors_to targets ≤ d
     → turned bits (numbers_of d targets) ≡ turned bits (flipped d o targets)
 turned-flipped d o bits targets long low =
     turned-same bits (d + o) (numbers_of d targets) (odd_below (d + o) (numbers_of d targets)) long

@@ -22,15 +22,15 @@ abbrev pub after : List Item → Result (List Item) Fault → Result (List Item)
 after [] rest = rest
 after (item ∷ items) rest = before item (after items rest)
 
-after-append : (xs ys : List Item) (rest : Result (List Item) Fault) → after (xs ++ ys) rest ≡ after xs (after ys rest)
+pub after-append : (xs ys : List Item) (rest : Result (List Item) Fault) → after (xs ++ ys) rest ≡ after xs (after ys rest)
 after-append [] ys rest = refl
 after-append (x ∷ xs) ys rest = ap (before x) (after-append xs ys rest)
 
-after-ok : (xs ys : List Item) → after xs (Ok ys) ≡ Ok (xs ++ ys)
+pub after-ok : (xs ys : List Item) → after xs (Ok ys) ≡ Ok (xs ++ ys)
 after-ok [] ys = refl
 after-ok (x ∷ xs) ys = ap (before x) (after-ok xs ys)
 
-after-err : (xs : List Item) (fault : Fault) → after xs (Err fault) ≡ Err fault
+pub after-err : (xs : List Item) (fault : Fault) → after xs (Err fault) ≡ Err fault
 after-err [] fault = refl
 after-err (x ∷ xs) fault = ap (before x) (after-err xs fault)
 

@@ -43,7 +43,7 @@ fn observables_to(target: Target) -> u128
 }
 
 /// Counts raised to what targets name.
-fn raised(counts: TargetCounts, targets: &[Target]) -> TargetCounts
+pub(crate) fn raised(counts: TargetCounts, targets: &[Target]) -> TargetCounts
     ensures detectors { result.detectors ≡ max counts.detectors (greatest_of detectors_to targets.now) }
     ensures observables { result.observables ≡ max counts.observables (greatest_of observables_to targets.now) }
 {

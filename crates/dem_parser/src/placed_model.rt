@@ -37,7 +37,7 @@ impl<'c, 'a, A: Allocator + Copy> Model for PlacedModel<'c, 'a, A> {
 }
 
 /// Behind which number no line is named.
-fn named_end(named: &[bool]) -> usize
+pub(crate) fn named_end(named: &[bool]) -> usize
     ensures within { result ≤ length named.now }
     ensures none { (k : ℕ) → result ≤ k → slice_index_or named.now k false ≡ false }
 {
@@ -68,7 +68,11 @@ fn turn_target(bits: &mut [bool], detectors: u32, target: Target) -> Result<(), 
 }
 
 /// The same of targets, one after another.
-fn turn_targets(bits: &mut [bool], detectors: u32, targets: &[Target]) -> Result<(), AllocError>
+pub(crate) fn turn_targets(
+    bits: &mut [bool],
+    detectors: u32,
+    targets: &[Target],
+) -> Result<(), AllocError>
     ensures { IfOk result (λ _. bits.new ≡ turned bits.old (numbers_of detectors targets.now)) }
 {
     for target in targets {
