@@ -1,7 +1,7 @@
 -- Items found one after another, in front of those that are left, where none found passes a test.
-use Rattle.std.proofs.Common.{◌≡◌, Bool, true, false, ◌||◌, List, [], ◌∷◌, ◌++◌, Option, Some, refl, subst, ap, sym, ◌∙◌, append_assoc, append-nil}
+use Rattle.std.proofs.Common.{◌≡◌, Bool, true, false, ◌||◌, List, [], ◌∷◌, ◌++◌, Option, None, Some, refl, subst, ap, sym, ◌∙◌, append_assoc, append-nil}
 use Rattle.std.specs.List.{list_any}
-use Rattle.std.specs.Prelude.{MatchOption}
+use Rattle.std.specs.Prelude.{IfSome, MatchOption}
 
 pub record IsFront {X : Type 0} (p : X → Bool) (found all rest : List X) : Type 0 where
   pub front : found ++ rest ≡ all
@@ -35,3 +35,7 @@ front-done p found all rest h e =
 -- what is said of an option by its variant
 pub matched : {X : Type 0} (P : Type 0) (Q : X → Type 0) (o : Option X) (x : X) → MatchOption o P Q → o ≡ Some x → Q x
 matched P Q o x h e = subst (λ o. MatchOption o P Q) e h
+
+pub if_some : {X : Type 0} (P : Type 0) (Q : X → Type 0) (o : Option X) → MatchOption o P Q → IfSome o Q
+if_some P Q None h = tt
+if_some P Q (Some x) h = h

@@ -14,6 +14,9 @@ mod SummedLemmas
 mod ChainLemmas
 mod TallyLemmas
 mod PlainLemmas
+mod ErrorTextLemmas
+mod CountedLemmas
+mod AlikeLemmas
 mod PlainSumLemmas
 mod WorkedTexts
 mod FrontLemmas

@@ -23,3 +23,4 @@ pub mod Marked
 pub mod Stripped
 pub mod Tallies
 pub mod PlainLines
+pub mod ErrorTexts

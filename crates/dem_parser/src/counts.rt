@@ -42,6 +42,18 @@ fn observables_to(target: Target) -> u128
     }
 }
 
+/// Counts raised to what a target names.
+#[inline(always)]
+pub(crate) fn raised_to(counts: TargetCounts, target: Target) -> TargetCounts
+    ensures detectors { result.detectors ≡ max counts.detectors (detectors_to target) }
+    ensures observables { result.observables ≡ max counts.observables (observables_to target) }
+{
+    TargetCounts {
+        detectors: counts.detectors.max(detectors_to(target)),
+        observables: counts.observables.max(observables_to(target)),
+    }
+}
+
 /// Counts raised to what targets name.
 pub(crate) fn raised(counts: TargetCounts, targets: &[Target]) -> TargetCounts
     ensures detectors { result.detectors ≡ max counts.detectors (greatest_of detectors_to targets.now) }

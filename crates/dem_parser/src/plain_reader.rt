@@ -1,17 +1,20 @@
-ghost use Rattle.std.specs.Prelude.{◌≡◌, true, false, IfOk, MatchOption, MatchResult};
+ghost use Rattle.std.specs.Prelude.{◌≡◌, ℕ, true, false, IfOk, MatchOption, MatchResult};
 ghost use Rattle.std.specs.List.{list_any};
 ghost use Rattle.step_model.specs.declared.fault.Cause.TheVariants as cause;
 ghost use Rattle.stim_lexer.specs.Bytes.{is_line_feed};
 ghost use Rattle.stim_lexer.specs.Cut.{cut_of, has_bad_byte};
 ghost use Rattle.stim_lexer.specs.Lexing.{cut_in};
 ghost use Rattle.stim_lexer.specs.Lines.{says_nothing};
+ghost use Rattle.dem_parser.specs.declared.plain_reader.Step.TheVariants.{Goes};
 ghost use Rattle.dem_parser.specs.PlainLines.{Passes, Steps};
 ghost use Rattle.dem_parser.specs.Tallies.{no_tally};
 ghost use Rattle.dem_parser.specs.Verdicts.{reading_of};
 
 use crate::judge::{Last, Said, read_line};
 use crate::operation::Operation;
+use crate::plain_head::{Head, behind_head, head_of};
 use crate::plain_tally::TalliedLines;
+use crate::plain_targets::counted;
 use crate::target::Target;
 use std::alloc::{AllocError, Allocator};
 use step_model::Cause;
@@ -34,6 +37,7 @@ pub(crate) struct PlainReader<'a, A: Allocator + Copy> {
     // Room for the targets of the line that is read.
     targets: Vec<Target, A>,
     last: Last<'a>,
+    head: Option<Head<'a>>,
 }
 
 /// A line of a number, cut; none where it says nothing.
@@ -61,6 +65,7 @@ impl<'a, A: Allocator + Copy> PlainReader<'a, A> {
             lines: TalliedLines::new(alloc),
             targets: Vec::new(alloc),
             last: Last::new(),
+            head: None,
         }
     }
 
@@ -69,6 +74,7 @@ impl<'a, A: Allocator + Copy> PlainReader<'a, A> {
         ensures { IfOk result (λ step. Steps step (reading_of 0 line.entry.number (cut_in line.entry)) self.old.lines self.new.lines) }
     {
         let text = line.targets;
+        let inside = line.arguments;
         match read_line(&mut self.last, &mut self.targets, 0, line)? {
             Said::Takes {
                 operation: Operation::Shifts,
@@ -76,6 +82,7 @@ impl<'a, A: Allocator + Copy> PlainReader<'a, A> {
             } => Ok(Step::Leaves),
             Said::Takes { operation, .. } => {
                 self.lines.add(operation, text, self.targets.as_slice())?;
+                self.head = head_of(&self.last.parentheses, inside);
                 Ok(Step::Goes)
             }
             Said::Refuses(cause) => Ok(Step::Refuses(cause)),
@@ -83,8 +90,27 @@ impl<'a, A: Allocator + Copy> PlainReader<'a, A> {
         }
     }
 
-    /// Reads a line of a number as it stands. It may fail only where memory runs out.
-    pub(crate) fn pass(&mut self, number: u64, text: &'a [u8]) -> Result<Step, AllocError>
+    /// Reads a line as it stands, where it is an error line that begins as one before it. Answers whether it is.
+    #[inline(always)]
+    fn pass_alike(&mut self, text: &'a [u8]) -> Result<bool, AllocError>
+        ensures passed { IfOk result (λ passed. passed ≡ true → (number : ℕ) → Passes Goes number text.now self.old.lines self.new.lines) }
+        ensures still { IfOk result (λ passed. passed ≡ false → self.new.lines ≡ self.old.lines) }
+    {
+        let Some(head) = self.head else {
+            return Ok(false);
+        };
+        let Some(targets) = behind_head(head.arguments, text) else {
+            return Ok(false);
+        };
+        let Some(counts) = counted(targets, self.lines.counts()) else {
+            return Ok(false);
+        };
+        self.lines.add_error(targets, counts)?;
+        Ok(true)
+    }
+
+    /// Reads any line of a number as it stands.
+    fn pass_any(&mut self, number: u64, text: &'a [u8]) -> Result<Step, AllocError>
         requires { list_any is_line_feed text.now ≡ false }
         ensures { IfOk result (λ step. Passes step number text.now self.old.lines self.new.lines) }
     {
@@ -93,5 +119,17 @@ impl<'a, A: Allocator + Copy> PlainReader<'a, A> {
             Ok(None) => Ok(Step::Goes),
             Err(cause) => Ok(Step::Refuses(cause)),
         }
+    }
+
+    /// Reads a line of a number as it stands. It may fail only where memory runs out.
+    #[inline(always)]
+    pub(crate) fn pass(&mut self, number: u64, text: &'a [u8]) -> Result<Step, AllocError>
+        requires { list_any is_line_feed text.now ≡ false }
+        ensures { IfOk result (λ step. Passes step number text.now self.old.lines self.new.lines) }
+    {
+        if self.pass_alike(text)? {
+            return Ok(Step::Goes);
+        }
+        self.pass_any(number, text)
     }
 }

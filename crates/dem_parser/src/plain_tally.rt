@@ -1,4 +1,4 @@
-ghost use Rattle.std.specs.Prelude.{◌≡◌, ◌<◌, [], length, slice_index_or, IfOk};
+ghost use Rattle.std.specs.Prelude.{◌≡◌, ◌<◌, [], ◌∷◌, ◌++◌, length, slice_index_or, IfOk};
 ghost use Rattle.dem_parser.specs.Tallies.{no_tally, tallied};
 ghost use Rattle.dem_parser.specs.Verdicts.{read_targets};
 
@@ -76,6 +76,24 @@ impl<'a, A: Allocator + Copy> TalliedLines<'a, A> {
             self.texts.push(text)?;
         }
         self.counts = raised(self.counts, targets);
+        Ok(())
+    }
+
+    /// Tallies an error line by the text of its targets, and by the counts that these raise. It may fail only where memory
+    /// runs out.
+    pub(crate) fn add_error(
+        &mut self,
+        text: &'a [u8],
+        counts: TargetCounts,
+    ) -> Result<(), AllocError>
+        ensures { IfOk result (λ _. self.new ≡ record {
+          errors = self.old.errors ++ read_targets text.now ∷ [];
+          detectors = counts.detectors;
+          observables = counts.observables;
+        }) }
+    {
+        self.texts.push(text)?;
+        self.counts = counts;
         Ok(())
     }
 }
