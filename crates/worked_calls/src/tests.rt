@@ -12,6 +12,7 @@ mod last_probabilities;
 mod lines;
 mod lists;
 mod models;
+mod plain_models;
 mod reader_ends;
 mod short_ends;
 mod side_words;
