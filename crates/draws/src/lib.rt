@@ -2,9 +2,11 @@
 #![tactic(auto)]
 
 mod lane_draws;
+mod pair_draws;
 mod runs;
 mod shot;
 mod shots;
+mod side_draws;
 
 pub use shot::Shot;
 pub use shots::Shots;
