@@ -1,6 +1,7 @@
 //! Drawn shots of a program: which of its faults happen, and which coins its collapses take.
 #![tactic(auto)]
 
+mod copies;
 mod lane_draws;
 mod pair_draws;
 mod runs;

@@ -5,6 +5,7 @@ ghost use Rattle.draws.specs.Drawn.{after_words, word_at};
 ghost use Rattle.draws.specs.LaneDraws.{coin_hits, fault_hits};
 ghost use Rattle.draws.specs.PairDraws.{DrawsIntoBoth};
 
+use crate::copies::copy_of;
 use crate::lane_draws::{strike, toss};
 use crate::runs::BoundRun;
 use rand_core::utils::NextWord;
@@ -81,12 +82,17 @@ fn draw_run(
         return;
     }
     let most = word_below(run.bound);
+    // A copy stays in registers.
+    let mut one = copy_of(first);
+    let mut two = copy_of(second);
     for f in start..start + run.count {
-        let word = first.next_word();
-        let other = second.next_word();
+        let word = one.next_word();
+        let other = two.next_word();
         strike(faults, f, lanes.first, word <= most);
         strike(faults, f, lanes.second, other <= most);
     }
+    *first = one;
+    *second = two;
 }
 
 // The greatest word that is below a bound: one word is compared with another sooner than with a bound of two.
@@ -107,10 +113,14 @@ fn draw_coins(coins: &mut [u64], lanes: LanePair, first: &mut Pcg64, second: &mu
     ensures first { first.new ≡ after_words (length coins.old) first.old }
     ensures second { second.new ≡ after_words (length coins.old) second.old }
 {
+    let mut one = copy_of(first);
+    let mut two = copy_of(second);
     for c in 0..coins.len() {
-        let coin = first.next_word() % 2 == 1;
-        let other = second.next_word() % 2 == 1;
+        let coin = one.next_word() % 2 == 1;
+        let other = two.next_word() % 2 == 1;
         toss(coins, c, lanes.first, coin);
         toss(coins, c, lanes.second, other);
     }
+    *first = one;
+    *second = two;
 }

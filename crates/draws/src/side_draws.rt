@@ -3,6 +3,7 @@ ghost use Rattle.std.specs.Prelude.{◌≡◌, ◌+◌, ◌*◌, ◌≤◌, leng
 ghost use Rattle.draws.specs.BoundRuns.{bounds_in};
 ghost use Rattle.draws.specs.SideBySide.{AreDrawn, after_shots};
 
+use crate::copies::copy_of;
 use crate::lane_draws::{draw_coins, draw_faults};
 use crate::pair_draws::{LanePair, draw_pair};
 use crate::runs::BoundRun;
@@ -48,11 +49,4 @@ fn draw_halves(faults: &mut [u64], coins: &mut [u64], runs: &[BoundRun], half: u
         draw_pair(faults, coins, runs, lanes, rng, &mut second);
     }
     *rng = second;
-}
-
-// A generator at the same word.
-fn copy_of(rng: &Pcg64) -> Pcg64
-    ensures { result ≡ rng.now }
-{
-    rng.clone().unwrap()
 }

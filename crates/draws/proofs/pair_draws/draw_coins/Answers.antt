@@ -21,8 +21,8 @@ loop-c-preserved c =
     let g = c.args.first.now in
     let h = c.args.second.now in
     let so_far = c.loop-c.invariant in
-    let word = word_taken g c.loop-c.first c.next_word.new.self k c.next_word.result c.next_word.ensures so_far.first in
-    let other = word_taken h c.loop-c.second c.next_word-in-loop-c.new.self k c.next_word-in-loop-c.result c.next_word-in-loop-c.ensures so_far.second in
+    let word = word_taken g c.loop-c.one c.next_word.new.self k c.next_word.result c.next_word.ensures so_far.first in
+    let other = word_taken h c.loop-c.two c.next_word-in-loop-c.new.self k c.next_word-in-loop-c.result c.next_word-in-loop-c.ensures so_far.second in
     record {
       drawn =
           both_joined i j 0 k (k + 1) (coin_hits g) (coin_hits h) c.args.coins.now c.loop-c.coins c.toss-in-loop-c.new.coins (omega arith) (omega arith) so_far.drawn
@@ -35,16 +35,16 @@ loop-c-preserved c =
           let e : k ≡ n = omega arith in
           ap (λ w. w % 2 == 1) (other ∙ ap (word_at h) e))
           c.toss.ensures c.toss-in-loop-c.ensures);
-      first = word_left g c.loop-c.first c.next_word.new.self k c.next_word.result c.next_word.ensures so_far.first;
-      second = word_left h c.loop-c.second c.next_word-in-loop-c.new.self k c.next_word-in-loop-c.result c.next_word-in-loop-c.ensures so_far.second;
+      first = word_left g c.loop-c.one c.next_word.new.self k c.next_word.result c.next_word.ensures so_far.first;
+      second = word_left h c.loop-c.two c.next_word-in-loop-c.new.self k c.next_word-in-loop-c.result c.next_word-in-loop-c.ensures so_far.second;
     }
 
 pub loop-c-init : goal.loop-c-init
 loop-c-init c =
     record {
       drawn = both_nothing c.args.lanes.first c.args.lanes.second 0 (coin_hits c.args.first.now) (coin_hits c.args.second.now) c.args.coins.now;
-      first = sym (after_words-none c.args.first.now);
-      second = sym (after_words-none c.args.second.now);
+      first = c.copy_of-one.ensures ∙ sym (after_words-none c.args.first.now);
+      second = c.copy_of-two.ensures ∙ sym (after_words-none c.args.second.now);
     }
 
 pub returns : goal.returns

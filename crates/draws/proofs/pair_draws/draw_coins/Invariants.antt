@@ -9,6 +9,6 @@ abbrev pub invariant-loop-c : goal.invariant-loop-c
 invariant-loop-c l =
     record {
       drawn : DrawsIntoBoth l.lanes.first l.lanes.second 0 l.c (coin_hits l.fn.first) (coin_hits l.fn.second) l.fn.coins l.coins;
-      first : l.first ≡ after_words l.c l.fn.first;
-      second : l.second ≡ after_words l.c l.fn.second;
+      first : l.one ≡ after_words l.c l.fn.first;
+      second : l.two ≡ after_words l.c l.fn.second;
     }

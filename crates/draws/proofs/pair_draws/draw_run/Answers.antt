@@ -27,8 +27,8 @@ loop-f-preserved c =
     let hits : ℕ → Bool = λ k. nat_lt (word_at g (k - start)) bound in
     let other_hits : ℕ → Bool = λ k. nat_lt (word_at h (k - start)) bound in
     let so_far = c.loop-f.invariant in
-    let word = word_taken g c.loop-f.first c.next_word-word.new.self (f - start) c.next_word-word.result c.next_word-word.ensures so_far.first in
-    let other = word_taken h c.loop-f.second c.next_word-other.new.self (f - start) c.next_word-other.result c.next_word-other.ensures so_far.second in
+    let word = word_taken g c.loop-f.one c.next_word-word.new.self (f - start) c.next_word-word.result c.next_word-word.ensures so_far.first in
+    let other = word_taken h c.loop-f.two c.next_word-other.new.self (f - start) c.next_word-other.result c.next_word-other.ensures so_far.second in
     let later : f - start + 1 ≡ f + 1 - start = omega (arith, c.loop-f.auto.f) in
     record {
       drawn =
@@ -42,8 +42,8 @@ loop-f-preserved c =
           let e : f ≡ k = omega arith in
           c.word_below-most.ensures c.next_word-other.result c.next_word-other.type_inv ∙ ap (λ w. nat_lt w bound) (other ∙ ap (λ n. word_at h (n - start)) e))
           c.strike.ensures c.strike-in-loop-f.ensures);
-      first = word_left g c.loop-f.first c.next_word-word.new.self (f - start) c.next_word-word.result c.next_word-word.ensures so_far.first ∙ ap (λ n. after_words n g) later;
-      second = word_left h c.loop-f.second c.next_word-other.new.self (f - start) c.next_word-other.result c.next_word-other.ensures so_far.second ∙ ap (λ n. after_words n h) later;
+      first = word_left g c.loop-f.one c.next_word-word.new.self (f - start) c.next_word-word.result c.next_word-word.ensures so_far.first ∙ ap (λ n. after_words n g) later;
+      second = word_left h c.loop-f.two c.next_word-other.new.self (f - start) c.next_word-other.result c.next_word-other.ensures so_far.second ∙ ap (λ n. after_words n h) later;
     }
 
 pub loop-f-init : goal.loop-f-init
@@ -52,8 +52,8 @@ loop-f-init c =
     let none : start - start ≡ 0 = omega arith in
     record {
       drawn = both_nothing c.args.lanes.first c.args.lanes.second start (λ k. nat_lt (word_at c.args.first.now (k - start)) c.args.run.bound) (λ k. nat_lt (word_at c.args.second.now (k - start)) c.args.run.bound) c.args.faults.now;
-      first = sym (ap (λ n. after_words n c.args.first.now) none ∙ after_words-none c.args.first.now);
-      second = sym (ap (λ n. after_words n c.args.second.now) none ∙ after_words-none c.args.second.now);
+      first = c.copy_of-one.ensures ∙ sym (ap (λ n. after_words n c.args.first.now) none ∙ after_words-none c.args.first.now);
+      second = c.copy_of-two.ensures ∙ sym (ap (λ n. after_words n c.args.second.now) none ∙ after_words-none c.args.second.now);
     }
 
 pub returns-then-run-eq0-clause-drawn : goal.returns-then-run-eq0-clause-drawn

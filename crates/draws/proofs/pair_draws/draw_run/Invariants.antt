@@ -9,6 +9,6 @@ abbrev pub invariant-loop-f : goal.invariant-loop-f
 invariant-loop-f l =
     record {
       drawn : DrawsIntoBoth l.lanes.first l.lanes.second l.start l.f (λ f. nat_lt (word_at l.fn.first (f - l.start)) l.fn.run.bound) (λ f. nat_lt (word_at l.fn.second (f - l.start)) l.fn.run.bound) l.fn.faults l.faults;
-      first : l.first ≡ after_words (l.f - l.start) l.fn.first;
-      second : l.second ≡ after_words (l.f - l.start) l.fn.second;
+      first : l.one ≡ after_words (l.f - l.start) l.fn.first;
+      second : l.two ≡ after_words (l.f - l.start) l.fn.second;
     }
