@@ -91,19 +91,19 @@ draws_miss j at truth words is =
       others = λ i k h. refl;
     }
 
--- a lane that was blank holds what was drawn into it
-pub lane_drawn : (j n : ℕ) (hits : ℕ → Bool) (old new : List ℕ) → length old ≡ n → lane j old ≡ replicate n false
-    → DrawsInto j 0 n hits old new → lane j new ≡ map hits (range_with_len 0 n)
-lane_drawn j n hits old new long blank draws =
+-- a lane that was blank holds the truth values that its words became
+pub lane_filled : (j n : ℕ) (hits : ℕ → Bool) (old new : List ℕ) → length old ≡ n → length new ≡ length old → lane j old ≡ replicate n false
+    → ((k : ℕ) → k < n → lane_bit j (get_or new k 0) ≡ (hits k || lane_bit j (get_or old k 0))) → lane j new ≡ map hits (range_with_len 0 n)
+lane_filled j n hits old new long size blank put =
     ext_get_or false (lane j new) (map hits (range_with_len 0 n))
-    (length-map new (lane_bit j) ∙ (draws.size ∙ (long ∙ sym (length-map-range_with_len hits 0 n))))
+    (length-map new (lane_bit j) ∙ (size ∙ (long ∙ sym (length-map-range_with_len hits 0 n))))
     (λ k h.
     let here : k < length new = omega (arith, h, length-map new (lane_bit j)) in
-    let below : k < n = omega (arith, here, draws.size, long) in
+    let below : k < n = omega (arith, here, size, long) in
     let was : lane_bit j (get_or old k 0) ≡ false =
     sym (get_or-map (lane_bit j) old k 0 false (omega (arith, below, long))) ∙ (ap (λ bs. get_or bs k false) blank ∙ get_or-replicate n k false false below) in
     get_or-map (lane_bit j) new k 0 false here
-    ∙ (draws.inside k (omega arith) below
+    ∙ (put k below
     ∙ (ap (λ b. hits k || b) was
     ∙ (or_nothing (hits k)
     ∙ sym (get_or-map-range_with_len hits 0 n k k false below (omega arith))))))
@@ -112,16 +112,25 @@ lane_drawn j n hits old new long blank draws =
     or_nothing true = refl
     or_nothing false = refl
 
--- the other lanes are as they were
-pub lane_kept : (i j start end : ℕ) (hits : ℕ → Bool) (old new : List ℕ) → i ≢ j → DrawsInto j start end hits old new → lane i new ≡ lane i old
-lane_kept i j start end hits old new ne draws =
+-- a lane whose bits are as they were
+pub lane_same : (i : ℕ) (old new : List ℕ) → length new ≡ length old → ((k : ℕ) → lane_bit i (get_or new k 0) ≡ lane_bit i (get_or old k 0))
+    → lane i new ≡ lane i old
+lane_same i old new size kept =
     ext_get_or false (lane i new) (lane i old)
-    (length-map new (lane_bit i) ∙ (draws.size ∙ sym (length-map old (lane_bit i))))
+    (length-map new (lane_bit i) ∙ (size ∙ sym (length-map old (lane_bit i))))
     (λ k h.
     let here : k < length new = omega (arith, h, length-map new (lane_bit i)) in
     get_or-map (lane_bit i) new k 0 false here
-    ∙ (draws.others i k ne
-    ∙ sym (get_or-map (lane_bit i) old k 0 false (omega (arith, here, draws.size)))))
+    ∙ (kept k
+    ∙ sym (get_or-map (lane_bit i) old k 0 false (omega (arith, here, size)))))
+
+-- after drawing, the lane that was drawn into and the others
+pub lane_drawn : (j n : ℕ) (hits : ℕ → Bool) (old new : List ℕ) → length old ≡ n → lane j old ≡ replicate n false
+    → DrawsInto j 0 n hits old new → lane j new ≡ map hits (range_with_len 0 n)
+lane_drawn j n hits old new long blank draws = lane_filled j n hits old new long draws.size blank (λ k l. draws.inside k (omega arith) l)
+
+pub lane_kept : (i j start end : ℕ) (hits : ℕ → Bool) (old new : List ℕ) → i ≢ j → DrawsInto j start end hits old new → lane i new ≡ lane i old
+lane_kept i j start end hits old new ne draws = lane_same i old new draws.size (λ k. draws.others i k ne)
 
 -- words that are 0 have blank lanes
 pub lane_blank : (j n : ℕ) → lane j (replicate n 0) ≡ replicate n false

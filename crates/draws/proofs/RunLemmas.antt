@@ -1,5 +1,7 @@
 -- Runs of equal bounds, one after another.
-use Rattle.std.proofs.Common.{◌≡◌, ℕ, ◌+◌, ◌-◌, ◌<◌, ◌≤◌, List, [], ◌∷◌, ◌++◌, length, get_or, take, replicate, sym, ap, ◌∙◌, arith, length-append, append_assoc}
+use Rattle.std.proofs.Common.{◌≡◌, ℕ, ◌+◌, ◌-◌, ◌<◌, ◌≤◌, false, List, [], ◌∷◌, ◌++◌, length, get_or, take, replicate, sym, ap, ◌∙◌, arith, length-append, append_assoc}
+use Rattle.std.proofs.lemmas.Bool.{le-ltb}
+use Rattle.std.specs.Prelude.{nat_lt}
 use Rattle.std.proofs.lemmas.List.{take_more, length-take, length-replicate, get_or-replicate, replicate_more, append-nil}
 use Rattle.std.proofs.lemmas.List.Concat.{get_or-flat_map}
 use Rattle.std.proofs.lemmas.List.Folds.{length-flat_map-take}
@@ -82,3 +84,7 @@ words_behind g rng start end low e =
     ap (after_words (end - start)) e
     ∙ (sym (after_words-add start (end - start) g)
     ∙ ap (λ n. after_words n g) whole)
+
+-- no word is below 0
+pub none_below : (word bound : ℕ) → bound ≡ 0 → nat_lt word bound ≡ false
+none_below word bound none = le-ltb word bound (omega arith)

@@ -4,8 +4,8 @@ use Rattle.std.specs.List.{range_with_len}
 use Rattle.std.proofs.lemmas.List.{take_more_set}
 use Rattle.std.proofs.lemmas.List.FromFn.{map-range_with_len_more}
 use Rattle.rand_pcg.specs.Lcg.{Lcg, next, next_state, state_after}
-use Rattle.rand_pcg.specs.Pcg.{multiplier_128}
-use Rattle.draws.specs.Drawn.{after_words}
+use Rattle.rand_pcg.specs.Pcg.{multiplier_128, pcg64}
+use Rattle.draws.specs.Drawn.{after_words, word_at}
 
 -- so many steps and one more
 step_first : (w m increment n state : ℕ) → state_after w m increment (suc n) state ≡ state_after w m increment n (next_state w m increment state)
@@ -46,6 +46,14 @@ after_words-more k g =
     ap (λ s. record g { state = s })
     (sym (state_after-one 128 multiplier_128 g.increment (state_after 128 multiplier_128 g.increment k g.state))
     ∙ sym (state_after-add 128 multiplier_128 g.increment k 1 g.state))
+
+-- the next word, and where it leaves the generator
+pub word_taken : (g rng then : Lcg) (k word : ℕ) → (word, then) ≡ pcg64 rng → rng ≡ after_words k g → word ≡ word_at g k
+word_taken g rng then k word step at = ap (λ (p : ℕ × Lcg). p.0) step ∙ ap (λ r. (pcg64 r).0) at
+
+pub word_left : (g rng then : Lcg) (k word : ℕ) → (word, then) ≡ pcg64 rng → rng ≡ after_words k g → then ≡ after_words (k + 1) g
+word_left g rng then k word step at =
+    ap (λ (p : ℕ × Lcg). p.1) step ∙ (ap (next 128 multiplier_128) at ∙ after_words-more k g)
 
 -- a list that is filled from its start
 pub filled_more : {X : Type 0} (f : ℕ → X) (xs : List X) (i : ℕ) (y : X) → i < length xs → y ≡ f i → take i xs ≡ map f (range_with_len 0 i) → take (i + 1) (set xs i y) ≡ map f (range_with_len 0 (i + 1))

@@ -1,4 +1,5 @@
 pub mod BoundRuns
 pub mod Drawn
 pub mod LaneDraws
+pub mod PairDraws
 pub mod SideBySide

@@ -1,38 +1,17 @@
-// Shots drawn into the lanes of words.
+// A shot drawn into one lane of words.
 ghost use Rattle.std.specs.Prelude.{◌≡◌, ◌==◌, ◌||◌, ℕ, ◌+◌, ◌-◌, ◌<◌, ◌≤◌, nat_lt, if◌then◌else◌, length};
 ghost use Rattle.lanes.specs.Lanes.{lane_bit};
 ghost use Rattle.draws.specs.BoundRuns.{bounds_in};
 ghost use Rattle.draws.specs.Drawn.{after_words, word_at};
 ghost use Rattle.draws.specs.LaneDraws.{DrawsInto, coin_hits, fault_hits};
-ghost use Rattle.draws.specs.SideBySide.{AreDrawn, after_shots};
 
 use crate::runs::BoundRun;
 use lanes::with_bit;
 use rand_core::utils::NextWord;
 use rand_pcg::Pcg64;
 
-pub(crate) fn draw_lanes(
-    faults: &mut [u64],
-    coins: &mut [u64],
-    runs: &[BoundRun],
-    count: u32,
-    rng: &mut Pcg64,
-)
-    requires faults { length faults.old ≡ length (bounds_in runs.now) }
-    requires count { count ≤ 64 }
-    ensures drawn { AreDrawn (bounds_in runs.now) (length coins.old) count rng.old faults.new coins.new }
-    ensures taken { rng.new ≡ after_shots (length (bounds_in runs.now)) (length coins.old) count rng.old }
-{
-    faults.fill(0);
-    coins.fill(0);
-    for lane in 0..count {
-        draw_faults(faults, runs, lane, rng);
-        draw_coins(coins, lane, rng);
-    }
-}
-
 // A fault happens where its word is below its bound.
-fn draw_faults(faults: &mut [u64], runs: &[BoundRun], lane: u32, rng: &mut Pcg64)
+pub(crate) fn draw_faults(faults: &mut [u64], runs: &[BoundRun], lane: u32, rng: &mut Pcg64)
     requires faults { length faults.old ≡ length (bounds_in runs.now) }
     requires lane { lane < 64 }
     ensures drawn { DrawsInto lane 0 (length (bounds_in runs.now)) (fault_hits (bounds_in runs.now) rng.old) faults.old faults.new }
@@ -62,7 +41,7 @@ fn draw_run(faults: &mut [u64], start: usize, end: usize, bound: u128, lane: u32
 
 // Hits are rare, so a word is written only where there is one.
 #[inline(always)]
-fn strike(faults: &mut [u64], f: usize, lane: u32, hit: bool)
+pub(crate) fn strike(faults: &mut [u64], f: usize, lane: u32, hit: bool)
     requires within { f < length faults.old }
     requires lane { lane < 64 }
     ensures { DrawsInto lane f (f + 1) (λ _. hit) faults.old faults.new }
@@ -73,7 +52,7 @@ fn strike(faults: &mut [u64], f: usize, lane: u32, hit: bool)
 }
 
 // A coin is its word's lowest bit.
-fn draw_coins(coins: &mut [u64], lane: u32, rng: &mut Pcg64)
+pub(crate) fn draw_coins(coins: &mut [u64], lane: u32, rng: &mut Pcg64)
     requires { lane < 64 }
     ensures drawn { DrawsInto lane 0 (length coins.old) (coin_hits rng.old) coins.old coins.new }
     ensures taken { rng.new ≡ after_words (length coins.old) rng.old }
@@ -85,7 +64,7 @@ fn draw_coins(coins: &mut [u64], lane: u32, rng: &mut Pcg64)
 }
 
 #[inline(always)]
-fn toss(coins: &mut [u64], c: usize, lane: u32, coin: bool)
+pub(crate) fn toss(coins: &mut [u64], c: usize, lane: u32, coin: bool)
     requires within { c < length coins.old }
     requires lane { lane < 64 }
     ensures { DrawsInto lane c (c + 1) (λ _. coin) coins.old coins.new }

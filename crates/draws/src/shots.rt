@@ -3,8 +3,8 @@ ghost use Rattle.step_model.specs.Faults.{memory_fault};
 ghost use Rattle.draws.specs.Drawn.{bounds_of};
 ghost use Rattle.draws.specs.SideBySide.{AreDrawn, after_shots};
 
-use crate::lane_draws::draw_lanes;
 use crate::runs::{BoundRun, bound_runs};
+use crate::side_draws::draw_lanes;
 use programs::Program;
 use rand_pcg::Pcg64;
 use std::alloc::{AllocError, Allocator};

@@ -1,0 +1,11 @@
+ghost use Rattle.std.specs.Prelude.{◌≡◌};
+
+use rand_pcg::Pcg64;
+
+/// A generator at the same word.
+#[inline(always)]
+pub(crate) fn copy_of(rng: &Pcg64) -> Pcg64
+    ensures { result ≡ rng.now }
+{
+    rng.clone().unwrap()
+}
