@@ -2,12 +2,17 @@
 #![tactic(auto)]
 
 mod line_runs;
+mod line_store;
 mod line_text;
 mod lines;
+mod lines_text;
 mod model;
 mod short_detectors;
 mod short_lines;
 mod text;
+mod text_block;
 
+pub use line_store::LineStore;
+pub use lines_text::LinesText;
 pub use model::Model;
 pub use text::write;
