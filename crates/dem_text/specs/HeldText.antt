@@ -13,9 +13,13 @@ pub record Filled : Type 0 where
 abbrev pub no_text : ℕ → Filled
 no_text room = record { text = []; room = room }
 
--- the text of a block and of those that were filled before it, the last of them first
+-- the texts of blocks, that of the last first
+abbrev pub texts_of : List Filled → List ℕ
+texts_of full = flat_map (λ b. b.text) (reverse full)
+
+-- the text of a block and of those that were filled before it
 abbrev pub text_in : Filled → List Filled → List ℕ
-text_in block full = block.text ++ flat_map (λ b. b.text) (reverse full)
+text_in block full = block.text ++ texts_of full
 
 -- what is held of error lines: of how many detectors targets are told apart, and the text of the lines
 pub record Held : Type 0 where

@@ -15,4 +15,4 @@ mod text_block;
 pub use line_store::LineStore;
 pub use lines_text::LinesText;
 pub use model::Model;
-pub use text::write;
+pub use text::{write, write_behind};

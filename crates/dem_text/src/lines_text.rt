@@ -1,13 +1,16 @@
 //! The text of error lines that are found from the last to the first.
 ghost use Rattle.std.specs.Prelude.{◌≡◌, ◌≤◌, ◌++◌, [], length, OnOk};
-ghost use Rattle.dem_text.specs.HeldText.{text_in};
+ghost use Rattle.dem_text.specs.HeldText.{text_in, texts_of};
 ghost use Rattle.dem_text.specs.ModelText.{line_text, targets_text};
+ghost use Rattle.pieces.specs.Pushed.{Pushes};
 
 use crate::short_lines::{SHORT_TARGETS, SHORT_TEXT};
 use crate::text_block::TextBlock;
+use pieces::Pieces;
 use std::alloc::{AllocError, Allocator};
 use std::marker::Model;
 use std::mem;
+use step_model::Sink;
 
 /// How much room a short line takes at most, and how long a part is of what is longer.
 const PART: usize = 240;
@@ -128,5 +131,28 @@ impl<A: Allocator + Copy> LinesText<A> {
             left = from;
         }
         Ok(())
+    }
+
+    /// Pushes the text, block by block.
+    pub(crate) fn push_to<W: Sink>(&self, out: &mut Pieces, sink: &mut W)
+        ensures { Pushes W.taken W.failures sink.old sink.new out.old out.new self.now.text }
+    {
+        out.push(sink, self.block.text());
+        push_blocks(out, sink, self.full.as_slice());
+    }
+}
+
+// Pushes the texts of blocks, that of the last first.
+fn push_blocks<W: Sink, A: Allocator + Copy>(
+    out: &mut Pieces,
+    sink: &mut W,
+    full: &[TextBlock<A>],
+)
+    ensures { Pushes W.taken W.failures sink.old sink.new out.old out.new (texts_of full.now) }
+{
+    let mut left = full.len();
+    while left > 0 {
+        left -= 1;
+        out.push(sink, full[left].text());
     }
 }
