@@ -14,6 +14,6 @@ mod targets;
 mod tracker;
 mod words;
 
-pub use analysis::{Analysed, analyse};
+pub use analysis::{Analysed, AnalysedText, analyse, analyse_to_text};
 pub use tracker::Tracker;
 pub use words::{DenseWords, QubitSets, Words};
