@@ -6,12 +6,13 @@ ghost use Rattle.backward.specs.Passes.{IsPassedWith};
 ghost use Rattle.backward.specs.Places.{IsAnalysed, IsAnalysedText, IsLowestRandom, NoneIsRandom};
 ghost use Rattle.backward.specs.Tracked.{fresh};
 
+use crate::line_store::{LineStore, ModelStore, TextStore};
 use crate::pass::{Found, step_back};
 use crate::places::{lowest_at_start, lowest_random, none_noted};
 use crate::record_sets::record_sets;
 use crate::targets::target_count;
 use crate::tracker::Tracker;
-use dem_text::{LineStore, LinesText, Model};
+use dem_text::{LinesText, Model};
 use flat_lists::FlatLists;
 use programs::{Program, Walk};
 use std::alloc::{AllocError, Allocator};
@@ -91,10 +92,14 @@ fn find_model<'a, A: Allocator + Copy, T: Tracker>(
     requires { T.tracked tracker.old ≡ fresh program.now.qubits (length (targets_of program.now)) }
     ensures { IfOk result (IsAnalysed program.now) }
 {
-    let judged = go_back_and_judge::<A, T, Model<'a, A>>(&alloc, program, tracker, no_lines(alloc, program))?;
+    let none = ModelStore {
+        program,
+        model: Model::new(alloc, FlatLists::new(alloc), 0),
+    };
+    let judged = go_back_and_judge(&alloc, program, tracker, none)?;
     match judged.lowest {
         Some((which, place)) => Ok(Analysed::Random { which, place }),
-        None => Ok(Analysed::Model(model_from(alloc, program, judged.lines)?)),
+        None => Ok(Analysed::Model(model_from(alloc, program, judged.lines.model)?)),
     }
 }
 
@@ -106,26 +111,22 @@ fn find_text<'a, A: Allocator + Copy, T: Tracker>(
     requires { T.tracked tracker.old ≡ fresh program.now.qubits (length (targets_of program.now)) }
     ensures { IfOk result (IsAnalysedText program.now) }
 {
-    let none = LinesText::new(alloc, program.detector_count());
+    let none = TextStore {
+        program,
+        text: LinesText::new(alloc, program.detector_count()),
+    };
     let judged = go_back_and_judge(&alloc, program, tracker, none)?;
     match judged.lowest {
         Some((which, place)) => Ok(AnalysedText::Random { which, place }),
         None => Ok(AnalysedText::Text {
-            lines: judged.lines,
+            lines: judged.lines.text,
             rest: without_lines(alloc, program)?,
         }),
     }
 }
 
-// A model without lines and detectors, for those of a program.
-fn no_lines<'a, A: Allocator + Copy>(alloc: A, _program: &Program<'a, A>) -> Model<'a, A>
-    ensures { result.lines ≡ [] }
-{
-    Model::new(alloc, FlatLists::new(alloc), 0)
-}
-
 // Goes back over all steps, with the lines given to what was given none, and then asks for the lowest random target.
-fn go_back_and_judge<'s, 'a, A: Allocator + Copy, T: Tracker, L: LineStore<'a> + Drop>(
+fn go_back_and_judge<'s, 'a, A: Allocator + Copy, T: Tracker, L: LineStore + Drop>(
     alloc: &'s A,
     program: &Program<'a, A>,
     tracker: &mut T,
@@ -133,8 +134,9 @@ fn go_back_and_judge<'s, 'a, A: Allocator + Copy, T: Tracker, L: LineStore<'a> +
 ) -> Result<Judged<L>, AllocError>
     requires tracked { T.tracked tracker.old ≡ fresh program.now.qubits (length (targets_of program.now)) }
     requires none { L.holds lines [] }
+    requires store { L.program lines ≡ program.now }
     ensures lines { IfOk result (λ judged. L.holds judged.lines (reverse (model_of program.now).lines)) }
-    ensures detectors { IfOk result (λ judged. L.detectors judged.lines ≡ L.detectors lines) }
+    ensures store { IfOk result (λ judged. L.program judged.lines ≡ L.program lines) }
     ensures none { IfOk result (λ judged. IfNone judged.lowest (NoneIsRandom program.now)) }
     ensures lowest { IfOk result (λ judged. IfSome judged.lowest (λ random. IsLowestRandom program.now random.0 random.1)) }
 {
@@ -149,7 +151,7 @@ fn go_back_and_judge<'s, 'a, A: Allocator + Copy, T: Tracker, L: LineStore<'a> +
 }
 
 // What is found before the first step back. What may fail comes first, so that little is let go where it does.
-fn nothing_found<'s, 'a, A: Allocator + Copy, L: LineStore<'a> + Drop>(
+fn nothing_found<'s, 'a, A: Allocator + Copy, L: LineStore + Drop>(
     alloc: &'s A,
     program: &Program<'a, A>,
     lines: L,
@@ -170,7 +172,7 @@ fn nothing_found<'s, 'a, A: Allocator + Copy, L: LineStore<'a> + Drop>(
 }
 
 // The lowest target that is random, by what was found over all steps.
-fn judge<'s, 'a, A: Allocator + Copy, T: Tracker, L: LineStore<'a>>(
+fn judge<'s, 'a, A: Allocator + Copy, T: Tracker, L: LineStore>(
     alloc: A,
     program: &Program<'a, A>,
     tracker: &mut T,
@@ -193,14 +195,15 @@ fn judge<'s, 'a, A: Allocator + Copy, T: Tracker, L: LineStore<'a>>(
 }
 
 // Goes back over all steps.
-fn go_back<'s, 'a, A: Allocator + Copy, T: Tracker, L: LineStore<'a>>(
+fn go_back<'s, 'a, A: Allocator + Copy, T: Tracker, L: LineStore>(
     program: &Program<'a, A>,
     tracker: &mut T,
     found: &mut Found<'s, A, L>,
 ) -> Result<(), AllocError>
-    requires { IsPassedWith (L.holds found.old.lines) program.now [] (T.tracked tracker.old) found.old.sets.items found.old.latest.items found.old.left }
+    requires store { L.program found.old.lines ≡ program.now }
+    requires passed { IsPassedWith (L.holds found.old.lines) program.now [] (T.tracked tracker.old) found.old.sets.items found.old.latest.items found.old.left }
     ensures passed { OnOk result (IsPassedWith (L.holds found.new.lines) program.now program.now.steps (T.tracked tracker.new) found.new.sets.items found.new.latest.items found.new.left) }
-    ensures detectors { L.detectors found.new.lines ≡ L.detectors found.old.lines }
+    ensures store { L.program found.new.lines ≡ L.program found.old.lines }
 {
     let mut walk = Walk::end(program);
     while step_back(program, &mut walk, tracker, found)? {}

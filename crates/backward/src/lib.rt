@@ -5,6 +5,7 @@
 mod analysis;
 mod collapse;
 mod column;
+mod line_store;
 mod pass;
 mod places;
 mod record_sets;

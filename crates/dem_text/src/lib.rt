@@ -2,7 +2,6 @@
 #![tactic(auto)]
 
 mod line_runs;
-mod line_store;
 mod line_text;
 mod lines;
 mod lines_text;
@@ -12,7 +11,6 @@ mod short_lines;
 mod text;
 mod text_block;
 
-pub use line_store::LineStore;
 pub use lines_text::LinesText;
 pub use model::Model;
 pub use text::{write, write_behind};

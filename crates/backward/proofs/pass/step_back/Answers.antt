@@ -14,8 +14,26 @@ use Rattle.backward.proofs.PassWords.{IsMeasured}
 use Rattle.backward.proofs.PassSteps.{walk_step, walk_named, gone_over, of_size, later_fit, collapse_is_left, held_on, reset_within, passed-one, passed-two, passed-collapse, passed-fault, passed-feedback, measured-letter, measured-product}
 use Rattle.backward.proofs.pass.step_back.Goals as goal
 
-pub collapse-requires : goal.collapse-requires
-collapse-requires g c =
+pub collapse-requires-clause-size : goal.collapse-requires-clause-size
+collapse-requires-clause-size g c =
+    let program = c.args.program.now in
+    let f = c.args.found.now in
+    of_size program (drop c.args.walk.now.place program.steps) (g.T.Tracker.tracked c.args.tracker.now) f.sets.items (lines_found program (drop c.args.walk.now.place program.steps)) f.latest.items f.left c.requires.passed.0
+
+pub collapse-requires-in-CollapseWord-clause-size : goal.collapse-requires-in-CollapseWord-clause-size
+collapse-requires-in-CollapseWord-clause-size g c =
+    let program = c.args.program.now in
+    let f = c.args.found.now in
+    of_size program (drop c.args.walk.now.place program.steps) (g.T.Tracker.tracked c.args.tracker.now) f.sets.items (lines_found program (drop c.args.walk.now.place program.steps)) f.latest.items f.left c.requires.passed.0
+
+pub feedback-requires-clause-size : goal.feedback-requires-clause-size
+feedback-requires-clause-size g c =
+    let program = c.args.program.now in
+    let f = c.args.found.now in
+    of_size program (drop c.args.walk.now.place program.steps) (g.T.Tracker.tracked c.args.tracker.now) f.sets.items (lines_found program (drop c.args.walk.now.place program.steps)) f.latest.items f.left c.requires.passed.0
+
+pub collapse-requires-clause-reset : goal.collapse-requires-clause-reset
+collapse-requires-clause-reset g c =
     let program = c.args.program.now in
     let walk = c.args.walk.now in
     let f = c.args.found.now in
@@ -27,10 +45,25 @@ collapse-requires g c =
     let is = c.in-Some.is ∙ ap Some s.is in
     let at = walk_step walk.program program walk.place c.previous_step.result step c.requires.program is c.previous_step.ensures.step in
     let named = walk_named walk.program program c.previous_step.result step c.requires.program is c.previous_step.ensures.named in
-    λ k. ((refl, (refl, tt)), (of_size program rest tracked f.sets.items lines f.latest.items f.left c.requires.passed.0, (search rules, (reset_within program.qubits s.qubit s.reset c.reset_qubit.result c.reset_qubit.ensures named.1, (named.2, (named.3, collapse_is_left program walk.place (measured program.qubits s.reset s.letter s.qubit) (recorded s.rec s.inverted s.flip) tracked f.sets.items lines f.latest.items f.left c.well_formed-2.ensures at c.requires.passed.0))))))
+    reset_within program.qubits s.qubit s.reset c.reset_qubit.result c.reset_qubit.ensures named.1
 
-pub collapse-requires-in-CollapseWord : goal.collapse-requires-in-CollapseWord
-collapse-requires-in-CollapseWord g c =
+pub collapse-requires-clause-left : goal.collapse-requires-clause-left
+collapse-requires-clause-left g c =
+    let program = c.args.program.now in
+    let walk = c.args.walk.now in
+    let f = c.args.found.now in
+    let tracked = g.T.Tracker.tracked c.args.tracker.now in
+    let rest = drop walk.place program.steps in
+    let lines = lines_found program rest in
+    let s = c.in-Collapse in
+    let step = Collapse s.letter s.qubit s.rec s.reset s.inverted s.flip in
+    let is = c.in-Some.is ∙ ap Some s.is in
+    let at = walk_step walk.program program walk.place c.previous_step.result step c.requires.program is c.previous_step.ensures.step in
+    let named = walk_named walk.program program c.previous_step.result step c.requires.program is c.previous_step.ensures.named in
+    collapse_is_left program walk.place (measured program.qubits s.reset s.letter s.qubit) (recorded s.rec s.inverted s.flip) tracked f.sets.items lines f.latest.items f.left c.well_formed-2.ensures at c.requires.passed.0
+
+pub collapse-requires-in-CollapseWord-clause-terms : goal.collapse-requires-in-CollapseWord-clause-terms
+collapse-requires-in-CollapseWord-clause-terms g c =
     let program = c.args.program.now in
     let walk = c.args.walk.now in
     let f = c.args.found.now in
@@ -42,22 +75,22 @@ collapse-requires-in-CollapseWord g c =
     let is = c.in-Some.is ∙ ap Some s.is in
     let at = walk_step walk.program program walk.place c.previous_step.result step c.requires.program is c.previous_step.ensures.step in
     let named = walk_named walk.program program c.previous_step.result step c.requires.program is c.previous_step.ensures.named in
-    λ k. ((refl, (refl, tt)), (of_size program rest tracked f.sets.items lines f.latest.items f.left c.requires.passed.0, (subst (All (λ term. term.qubit < program.qubits)) (sym c.product-terms.ensures) (c.well_formed-2.ensures.products_fit s.product [] named.0).terms_fit, (tt, (named.1, (named.2, collapse_is_left program walk.place (listing.Word (word_of_terms program.qubits (get_or program.products s.product []))) (recorded s.rec s.inverted s.flip) tracked f.sets.items lines f.latest.items f.left c.well_formed-2.ensures at c.requires.passed.0))))))
+    subst (All (λ term. term.qubit < program.qubits)) (sym c.product-terms.ensures) (c.well_formed-2.ensures.products_fit s.product [] named.0).terms_fit
 
-pub feedback-requires : goal.feedback-requires
-feedback-requires g c =
+pub collapse-requires-in-CollapseWord-clause-left : goal.collapse-requires-in-CollapseWord-clause-left
+collapse-requires-in-CollapseWord-clause-left g c =
     let program = c.args.program.now in
     let walk = c.args.walk.now in
     let f = c.args.found.now in
     let tracked = g.T.Tracker.tracked c.args.tracker.now in
     let rest = drop walk.place program.steps in
     let lines = lines_found program rest in
-    let s = c.in-Feedback in
-    let step = Feedback s.letter s.q s.rec in
+    let s = c.in-CollapseWord in
+    let step = CollapseWord s.product s.rec s.inverted s.flip in
     let is = c.in-Some.is ∙ ap Some s.is in
     let at = walk_step walk.program program walk.place c.previous_step.result step c.requires.program is c.previous_step.ensures.step in
     let named = walk_named walk.program program c.previous_step.result step c.requires.program is c.previous_step.ensures.named in
-    λ k. ((refl, (refl, tt)), (of_size program rest tracked f.sets.items lines f.latest.items f.left c.requires.passed.0, (named.1, named.2)))
+    collapse_is_left program walk.place (listing.Word (word_of_terms program.qubits (get_or program.products s.product []))) (recorded s.rec s.inverted s.flip) tracked f.sets.items lines f.latest.items f.left c.well_formed-2.ensures at c.requires.passed.0
 
 pub returns-in_ok-undo1-in-One-clause-passed : goal.returns-in_ok-undo1-in-One-clause-passed
 returns-in_ok-undo1-in-One-clause-passed g c =
