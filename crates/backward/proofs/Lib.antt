@@ -1,14 +1,15 @@
 pub mod ColumnLemmas
+mod HeldLines
 pub mod Judging
 pub mod LoneTerms
-pub mod PassSets
+pub mod MultiplyLemmas
 pub mod PassLines
 pub mod PassPlaces
+pub mod PassSets
 pub mod PassSteps
 pub mod PassWords
-pub mod Sensitivities
 pub mod RangeLemmas
+pub mod Sensitivities
 pub mod SetLemmas
 pub mod TransposedLemmas
 pub mod WordLemmas
-pub mod MultiplyLemmas

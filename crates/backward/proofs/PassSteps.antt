@@ -10,7 +10,7 @@ use Rattle.pauli_word.specs.declared.letter.Letter.{Letter}
 use Rattle.pauli_word.specs.Words.{anticommute, no_letters, lone_letter}
 use Rattle.pauli_word.proofs.WordLaws.{anticommute_of_none}
 use Rattle.step_model.specs.declared.step.Term.{Term}
-use Rattle.step_model.specs.ErrorModels.{ErrorLine, ErrorModel}
+use Rattle.step_model.specs.ErrorModels.{ErrorLine}
 use Rattle.step_model.specs.Listing.{Listing, ListedStep, One, Two, Collapse, Fault, Feedback, Measured, Word, Recorded, Effect, Applies, Flips, word_of_terms, effect_word, effect_terms, fault_word, fault_at, kept_at, no_effect}
 use Rattle.step_model.specs.Sensitivities.{collapse_word, is_collapse, latest_place, later_or_here, collapse_count}
 use Rattle.step_model.specs.Targets.{targets_of, target_at}
@@ -20,7 +20,7 @@ use Rattle.programs.specs.declared.step.Step.{Step}
 use Rattle.programs.specs.Listed.{listed, measured, recorded}
 use Rattle.programs.specs.Named.{IsNamed, IsNamedFlip, IsRecord, IsStepOf}
 use Rattle.backward.specs.Collapses.{IsOfSize, undone_collapse, members_at, noted, toggled_each}
-use Rattle.backward.specs.Passes.{sensitivity_before, listing_sets, line_for, with_line, with_flip, line_at, lines_found, latest_before, IsPassed}
+use Rattle.backward.specs.Passes.{sensitivity_before, listing_sets, line_for, with_line, with_flip, line_at, lines_found, latest_before, IsPassed, IsPassedWith}
 use Rattle.backward.specs.Tracked.{Tracked, each_word, undone_one, undone_two, anticommuting}
 use Rattle.backward.proofs.PassLines.{hit_at-collapse, hit_at-fault, anticommuting-before}
 use Rattle.backward.proofs.PassPlaces.{latest_before-collapse, length-latest_before}
@@ -129,15 +129,15 @@ module _ (program : Listing) (steps : List ListedStep) (t : Tracked) (sets : Lis
       same (Applies terms) = refl
       same (Flips r) = refl
 
-  pub passed-fault : IsWellFormed program → (name : FaultName) (after : Tracked) (now : List (List Bool)) (made : ErrorModel) (old : ErrorModel) (noted_now : List (Option ℕ)) (left_now : ℕ) → IsNamed program name → old.lines ≡ lines
+  pub passed-fault : IsWellFormed program → (name : FaultName) (after : Tracked) (now : List (List Bool)) (made old : List ErrorLine) (noted_now : List (Option ℕ)) (left_now : ℕ) → IsNamed program name → old ≡ lines
       → after ≡ t → now ≡ sets → made ≡ with_line (kept_at program name.entry).text (anticommuting (kept_at program name.entry).terms t) old → noted_now ≡ places → left_now ≡ left
-      → IsPassed program (Fault name.number ∷ steps) after now made.lines noted_now left_now
+      → IsPassed program (Fault name.number ∷ steps) after now made noted_now left_now
   passed-fault fits name after now made old noted_now left_now named is e s m n l =
       record {
         words = e ∙ h.words;
         sets = s ∙ h.sets;
         lines =
-            ap (λ (x : ErrorModel). x.lines) m
+            m
             ∙ (ap₂ (λ (found : List ErrorLine) text. found ++ line_for text (anticommuting (kept_at program name.entry).terms t)) (is ∙ h.lines) (text_of_name fits name named)
             ∙ (ap (λ hit. lines_found program steps ++ line_for (fault_at program name.number).text hit)
             (ap (anticommuting (kept_at program name.entry).terms) h.words ∙ hit_at-fault program name.number (kept_at program name.entry).terms steps (word_of_name fits name named))
@@ -147,8 +147,8 @@ module _ (program : Listing) (steps : List ListedStep) (t : Tracked) (sets : Lis
       }
 
   -- the line of a recorded flip
-  flip_lines : IsWellFormed program → (c : Measured) (rec : Option ℕ) (inverted : Bool) (flip : Option FaultName) (old : ErrorModel) → IsRecord program rec → IsNamedFlip program flip → old.lines ≡ lines
-      → (with_flip program flip (members_at sets rec) old).lines ≡ lines_found program (Collapse c (recorded rec inverted flip) ∷ steps)
+  flip_lines : IsWellFormed program → (c : Measured) (rec : Option ℕ) (inverted : Bool) (flip : Option FaultName) (old : List ErrorLine) → IsRecord program rec → IsNamedFlip program flip → old ≡ lines
+      → with_flip program flip (members_at sets rec) old ≡ lines_found program (Collapse c (recorded rec inverted flip) ∷ steps)
   flip_lines fits c None inverted None old within named is = is ∙ (h.lines ∙ sym (append-nil (lines_found program steps)))
   flip_lines fits c None inverted (Some name) old within named is = ap (λ (l : List ErrorLine). l ++ []) (is ∙ h.lines)
   flip_lines fits c (Some r) inverted None old within named is = is ∙ (h.lines ∙ sym (append-nil (lines_found program steps)))
@@ -167,10 +167,10 @@ module _ (program : Listing) (steps : List ListedStep) (t : Tracked) (sets : Lis
   record_within (Some r) within n e = let same : r ≡ n = cc in omega (arith, within, same)
 
   pub passed-collapse : IsWellFormed program → AllPass (step_fits program) steps → (terms : List Term) (reset rec : Option ℕ) (inverted : Bool) (flip : Option FaultName) (c : Measured)
-      (after : Tracked) (now : List (List Bool)) (made old : ErrorModel) (noted_now : List (Option ℕ)) (left_now : ℕ)
-      → IsMeasured program.qubits terms reset c → IsRecord program rec → IsNamedFlip program flip → 0 < left → old.lines ≡ lines
+      (after : Tracked) (now : List (List Bool)) (made old : List ErrorLine) (noted_now : List (Option ℕ)) (left_now : ℕ)
+      → IsMeasured program.qubits terms reset c → IsRecord program rec → IsNamedFlip program flip → 0 < left → old ≡ lines
       → after ≡ undone_collapse (members_at sets rec) terms reset t → now ≡ sets → made ≡ with_flip program flip (members_at sets rec) old → noted_now ≡ noted (left - 1) (anticommuting terms t) places → left_now ≡ left - 1
-      → IsPassed program (Collapse c (recorded rec inverted flip) ∷ steps) after now made.lines noted_now left_now
+      → IsPassed program (Collapse c (recorded rec inverted flip) ∷ steps) after now made noted_now left_now
   passed-collapse fits fit terms reset rec inverted flip c after now made old noted_now left_now is within named some before e s m n l =
       let next : left ≡ left - 1 + 1 = omega (arith, some) in
       record {
@@ -178,7 +178,7 @@ module _ (program : Listing) (steps : List ListedStep) (t : Tracked) (sets : Lis
             e ∙ (ap₂ (λ record_sets words. undone_collapse (members_at record_sets rec) terms reset words) h.sets h.words
             ∙ tracked_before-collapse program c (recorded rec inverted flip) steps terms reset rec is (number_is rec inverted flip) (record_within rec within) fit);
         sets = s ∙ h.sets;
-        lines = ap (λ (x : ErrorModel). x.lines) m ∙ flip_lines fits c rec inverted flip old within named before;
+        lines = m ∙ flip_lines fits c rec inverted flip old within named before;
         latest =
             n ∙ (ap₂ (λ words known. noted (left - 1) (anticommuting terms words) known) h.words (h.latest ∙ ap (λ k. latest_before program k steps) next)
             ∙ (latest_before-collapse program (left - 1) terms c (recorded rec inverted flip) steps is.word_is
@@ -186,9 +186,9 @@ module _ (program : Listing) (steps : List ListedStep) (t : Tracked) (sets : Lis
         counted = omega (arith, h.counted, l, some);
       }
 
-  pub passed-feedback : (letter : Letter) (q r : ℕ) (after : Tracked) (now : List (List Bool)) (made old : ErrorModel) (noted_now : List (Option ℕ)) (left_now : ℕ) → r < program.records → old.lines ≡ lines
+  pub passed-feedback : (letter : Letter) (q r : ℕ) (after : Tracked) (now : List (List Bool)) (made old : List ErrorLine) (noted_now : List (Option ℕ)) (left_now : ℕ) → r < program.records → old ≡ lines
       → after ≡ t → now ≡ set sets r (toggled_each (anticommuting (record { qubit = q; letter = letter } ∷ []) t) (get_or sets r [])) → made ≡ old → noted_now ≡ places → left_now ≡ left
-      → IsPassed program (Feedback (lone_letter program.qubits q letter) r ∷ steps) after now made.lines noted_now left_now
+      → IsPassed program (Feedback (lone_letter program.qubits q letter) r ∷ steps) after now made noted_now left_now
   passed-feedback letter q r after now made old noted_now left_now within before e s m n l =
       let term : Term = record { qubit = q; letter = letter } in
       let w : List Letter = lone_letter program.qubits q letter in
@@ -199,7 +199,7 @@ module _ (program : Listing) (steps : List ListedStep) (t : Tracked) (sets : Lis
             ∙ (ap (λ hit. set (listing_sets program steps) r (toggled_each hit (get_or (listing_sets program steps) r [])))
             (anticommuting-before program (term ∷ []) steps ∙ ap (λ v. filter (λ d. anticommute (sensitivity_before program steps d).word v) (range_with_len 0 (length (targets_of program)))) (word_of_one_term program.qubits term))
             ∙ listing_sets-feedback program w r steps within));
-        lines = ap (λ (x : ErrorModel). x.lines) m ∙ (before ∙ (h.lines ∙ sym (append-nil (lines_found program steps))));
+        lines = m ∙ (before ∙ (h.lines ∙ sym (append-nil (lines_found program steps))));
         latest = n ∙ (h.latest ∙ (latest_before-other program left (Feedback w r) steps refl refl ∙ ap (λ k. latest_before program k (Feedback w r ∷ steps)) (sym l)));
         counted = omega (arith, h.counted, l);
       }
@@ -246,3 +246,12 @@ pub collapse_is_left : (program : Listing) (place : ℕ) (c : Measured) (r : Opt
     → IsPassed program (drop place program.steps) t sets lines places left → 0 < left
 collapse_is_left program place c r t sets lines places left fits at h =
     omega (arith, h.counted, fits.collapses_counted, ap collapse_count at.front, collapses_left (place - 1) program.steps)
+
+-- ---- what lines are given to
+-- it holds the lines found, where it holds these
+pub held_on : (holds : List ErrorLine → Type 0) (program : Listing) (steps : List ListedStep) (t : Tracked) (sets : List (List Bool)) (lines : List ErrorLine) (places : List (Option ℕ)) (left : ℕ)
+    → IsPassed program steps t sets lines places left → holds lines → IsPassedWith holds program steps t sets places left
+held_on holds program steps t sets lines places left p h = (
+  record { words = p.words; sets = p.sets; lines = refl; latest = p.latest; counted = p.counted },
+  subst holds p.lines h,
+)

@@ -3,7 +3,7 @@
 -- circuit.)
 use Rattle.std.specs.Prelude.{◌≡◌, ℕ, ◌+◌, Bool, List, [], ◌∷◌, ◌++◌, map, filter, length, take, Option, None, Some, option_map}
 use Rattle.std.specs.List.{range_with_len, flat_map}
-use Rattle.step_model.specs.ErrorModels.{ErrorLine, ErrorModel}
+use Rattle.step_model.specs.ErrorModels.{ErrorLine}
 use Rattle.step_model.specs.Hits.{hits_at}
 use Rattle.step_model.specs.Listing.{Listing, ListedStep, fault_at, kept_at}
 use Rattle.programs.specs.declared.step.FaultName.{FaultName}
@@ -38,13 +38,13 @@ abbrev pub line_for : List ℕ → List ℕ → List ErrorLine
 line_for text [] = []
 line_for text (t ∷ ts) = record { text = text; targets = t ∷ ts } ∷ []
 
-abbrev pub with_line : List ℕ → List ℕ → ErrorModel → ErrorModel
-with_line text targets model = record model { lines = model.lines ++ line_for text targets }
+abbrev pub with_line : List ℕ → List ℕ → List ErrorLine → List ErrorLine
+with_line text targets lines = lines ++ line_for text targets
 
 -- the line of a recorded flip, where there is one, for these targets
-abbrev pub with_flip : Listing → Option FaultName → List ℕ → ErrorModel → ErrorModel
-with_flip program None targets model = model
-with_flip program (Some name) targets model = with_line (kept_at program name.entry).text targets model
+abbrev pub with_flip : Listing → Option FaultName → List ℕ → List ErrorLine → List ErrorLine
+with_flip program None targets lines = lines
+with_flip program (Some name) targets lines = with_line (kept_at program name.entry).text targets lines
 
 -- the targets that a fault hits at a step, and its line; the steps are those after it
 abbrev pub hit_at : Listing → ListedStep → List ListedStep → ℕ → List ℕ
@@ -77,3 +77,8 @@ pub record IsPassed (program : Listing) (steps : List ListedStep) (tracked : Tra
   pub lines : found ≡ lines_found program steps
   pub latest : places ≡ latest_before program left steps
   pub counted : left + collapse_count steps ≡ program.collapses
+
+-- the same, where the lines are held by what they were given to
+abbrev pub IsPassedWith : (List ErrorLine → Type 0) → Listing → List ListedStep → Tracked → List (List Bool) → List (Option ℕ) → ℕ → Type 0
+IsPassedWith holds program steps tracked record_sets places left =
+    IsPassed program steps tracked record_sets (lines_found program steps) places left × holds (lines_found program steps)

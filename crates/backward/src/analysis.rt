@@ -1,21 +1,21 @@
-ghost use Rattle.std.specs.Prelude.{◌≡◌, [], length, reverse, IfOk, IfErr, OnOk};
+ghost use Rattle.std.specs.Prelude.{◌≡◌, [], length, reverse, IfOk, IfErr, IfNone, IfSome, OnOk};
 ghost use Rattle.step_model.specs.Faults.{memory_fault};
 ghost use Rattle.step_model.specs.HitModels.{model_of};
 ghost use Rattle.step_model.specs.Targets.{targets_of};
-ghost use Rattle.backward.specs.Passes.{IsPassed};
-ghost use Rattle.backward.specs.Places.{IsAnalysed};
+ghost use Rattle.backward.specs.Passes.{IsPassedWith};
+ghost use Rattle.backward.specs.Places.{IsAnalysed, IsAnalysedText, IsLowestRandom, NoneIsRandom};
 ghost use Rattle.backward.specs.Tracked.{fresh};
 
+use crate::line_store::{LineStore, ModelStore, TextStore};
 use crate::pass::{Found, step_back};
 use crate::places::{lowest_at_start, lowest_random, none_noted};
 use crate::record_sets::record_sets;
 use crate::targets::target_count;
 use crate::tracker::Tracker;
-use dem_text::Model;
+use dem_text::{LinesText, Model};
 use flat_lists::FlatLists;
 use programs::{Program, Walk};
 use std::alloc::{AllocError, Allocator};
-use std::mem;
 use step_model::{Cause, Fault, Place};
 
 /// What an analysis answers.
@@ -27,6 +27,30 @@ pub enum Analysed<'a, A: Allocator + Copy> {
     Random { which: u32, place: Place },
 }
 
+/// The same, with the lines of the model as their text.
+#[derive(Drop)]
+pub enum AnalysedText<'a, A: Allocator + Copy> {
+    /// No target is random: the text of the lines, and the model without them.
+    Text {
+        lines: LinesText<A>,
+        rest: Model<'a, A>,
+    },
+    /// As in `Analysed`.
+    Random { which: u32, place: Place },
+}
+
+/// What was given all lines, and the lowest random target, where there is one.
+#[derive(Drop)]
+struct Judged<L> {
+    lines: L,
+    lowest: Option<(u32, Place)>,
+}
+
+const NO_MEMORY: Fault = Fault {
+    cause: Cause::Memory,
+    line: 0,
+};
+
 /// The error model of a program, or the lowest target that is random. The tracker is spent, also where memory runs out.
 pub fn analyse<'a, A: Allocator + Copy, T: Tracker + Drop>(
     alloc: A,
@@ -37,93 +61,177 @@ pub fn analyse<'a, A: Allocator + Copy, T: Tracker + Drop>(
     ensures ok { IfOk result (IsAnalysed program.now) }
     ensures err { IfErr result (λ e. e ≡ memory_fault) }
 {
-    match go_back_and_judge(&alloc, program, &mut tracker) {
+    match find_model(alloc, program, &mut tracker) {
         Ok(analysed) => Ok(analysed),
-        Err(_) => Err(Fault {
-            cause: Cause::Memory,
-            line: 0,
-        }),
+        Err(_) => Err(NO_MEMORY),
     }
 }
 
-fn go_back_and_judge<'s, 'a, A: Allocator + Copy, T: Tracker>(
-    alloc: &'s A,
+/// The text of the error model of a program, or the lowest target that is random. The lines are written when they are found,
+/// and not kept otherwise. The tracker is spent, also where memory runs out.
+pub fn analyse_to_text<'a, A: Allocator + Copy, T: Tracker + Drop>(
+    alloc: A,
+    program: &Program<'a, A>,
+    mut tracker: T,
+) -> Result<AnalysedText<'a, A>, Fault>
+    requires { T.tracked tracker ≡ fresh program.now.qubits (length (targets_of program.now)) }
+    ensures ok { IfOk result (IsAnalysedText program.now) }
+    ensures err { IfErr result (λ e. e ≡ memory_fault) }
+{
+    match find_text(alloc, program, &mut tracker) {
+        Ok(analysed) => Ok(analysed),
+        Err(_) => Err(NO_MEMORY),
+    }
+}
+
+fn find_model<'a, A: Allocator + Copy, T: Tracker>(
+    alloc: A,
     program: &Program<'a, A>,
     tracker: &mut T,
 ) -> Result<Analysed<'a, A>, AllocError>
     requires { T.tracked tracker.old ≡ fresh program.now.qubits (length (targets_of program.now)) }
     ensures { IfOk result (IsAnalysed program.now) }
 {
-    let mut found = nothing_found(alloc, program)?;
+    let none = ModelStore {
+        program,
+        model: Model::new(alloc, FlatLists::new(alloc), 0),
+    };
+    let judged = go_back_and_judge(&alloc, program, tracker, none)?;
+    match judged.lowest {
+        Some((which, place)) => Ok(Analysed::Random { which, place }),
+        None => Ok(Analysed::Model(model_from(alloc, program, judged.lines.model)?)),
+    }
+}
+
+fn find_text<'a, A: Allocator + Copy, T: Tracker>(
+    alloc: A,
+    program: &Program<'a, A>,
+    tracker: &mut T,
+) -> Result<AnalysedText<'a, A>, AllocError>
+    requires { T.tracked tracker.old ≡ fresh program.now.qubits (length (targets_of program.now)) }
+    ensures { IfOk result (IsAnalysedText program.now) }
+{
+    let none = TextStore {
+        program,
+        text: LinesText::new(alloc, program.detector_count()),
+    };
+    let judged = go_back_and_judge(&alloc, program, tracker, none)?;
+    match judged.lowest {
+        Some((which, place)) => Ok(AnalysedText::Random { which, place }),
+        None => Ok(AnalysedText::Text {
+            lines: judged.lines.text,
+            rest: without_lines(alloc, program)?,
+        }),
+    }
+}
+
+// Goes back over all steps, with the lines given to what was given none, and then asks for the lowest random target.
+fn go_back_and_judge<'s, 'a, A: Allocator + Copy, T: Tracker, L: LineStore + Drop>(
+    alloc: &'s A,
+    program: &Program<'a, A>,
+    tracker: &mut T,
+    lines: L,
+) -> Result<Judged<L>, AllocError>
+    requires tracked { T.tracked tracker.old ≡ fresh program.now.qubits (length (targets_of program.now)) }
+    requires none { L.holds lines [] }
+    requires store { L.program lines ≡ program.now }
+    ensures lines { IfOk result (λ judged. L.holds judged.lines (reverse (model_of program.now).lines)) }
+    ensures store { IfOk result (λ judged. L.program judged.lines ≡ L.program lines) }
+    ensures none { IfOk result (λ judged. IfNone judged.lowest (NoneIsRandom program.now)) }
+    ensures lowest { IfOk result (λ judged. IfSome judged.lowest (λ random. IsLowestRandom program.now random.0 random.1)) }
+{
+    program.well_formed();
+    let mut found = nothing_found(alloc, program, lines)?;
     go_back(program, tracker, &mut found)?;
-    judge(*alloc, program, tracker, &mut found)
+    let lowest = judge(*alloc, program, tracker, &mut found)?;
+    Ok(Judged {
+        lines: found.lines,
+        lowest,
+    })
 }
 
 // What is found before the first step back. What may fail comes first, so that little is let go where it does.
-fn nothing_found<'s, 'a, A: Allocator + Copy>(
+fn nothing_found<'s, 'a, A: Allocator + Copy, L: LineStore + Drop>(
     alloc: &'s A,
     program: &Program<'a, A>,
-) -> Result<Found<'s, 'a, A>, AllocError>
-    ensures { IfOk result (λ found. IsPassed program.now [] (fresh program.now.qubits (length (targets_of program.now))) found.sets.items found.lines.lines found.latest.items found.left) }
+    lines: L,
+) -> Result<Found<'s, A, L>, AllocError>
+    requires { L.holds lines [] }
+    ensures passed { IfOk result (λ found. IsPassedWith (L.holds found.lines) program.now [] (fresh program.now.qubits (length (targets_of program.now))) found.sets.items found.latest.items found.left) }
+    ensures lines { IfOk result (λ found. found.lines ≡ lines) }
 {
     let sets = record_sets(alloc, program)?;
     let latest = none_noted(*alloc, target_count(program))?;
     Ok(Found {
         sets,
-        lines: Model::new(*alloc, FlatLists::new(*alloc), 0),
+        lines,
         latest,
         left: program.collapse_count(),
         hit: Vec::new(*alloc),
     })
 }
 
-// The lowest target that is random, by what was found over all steps, or the model.
-fn judge<'s, 'a, A: Allocator + Copy, T: Tracker>(
+// The lowest target that is random, by what was found over all steps.
+fn judge<'s, 'a, A: Allocator + Copy, T: Tracker, L: LineStore>(
     alloc: A,
     program: &Program<'a, A>,
     tracker: &mut T,
-    found: &mut Found<'s, 'a, A>,
-) -> Result<Analysed<'a, A>, AllocError>
-    requires { IsPassed program.now program.now.steps (T.tracked tracker.old) found.old.sets.items found.old.lines.lines found.old.latest.items found.old.left }
-    ensures { IfOk result (IsAnalysed program.now) }
+    found: &mut Found<'s, A, L>,
+) -> Result<Option<(u32, Place)>, AllocError>
+    requires { IsPassedWith (L.holds found.old.lines) program.now program.now.steps (T.tracked tracker.old) found.old.sets.items found.old.latest.items found.old.left }
+    ensures none { IfOk result (λ lowest. IfNone lowest (NoneIsRandom program.now)) }
+    ensures lowest { IfOk result (λ lowest. IfSome lowest (λ random. IsLowestRandom program.now random.0 random.1)) }
+    ensures same { found.new.lines ≡ found.old.lines }
 {
     program.well_formed();
     let _few = target_count(program);
-    // No step is left, so that the model's coordinates may have the room of the sets.
+    // No step is left, so that what comes may have the room of the sets.
     found.sets = Vec::new(alloc);
     let lowest = lowest_at_start(alloc, program, tracker, &mut found.hit)?;
     match lowest_random(found.latest.as_slice(), lowest.as_slice()) {
-        Some((which, place)) => Ok(Analysed::Random { which, place }),
-        None => Ok(Analysed::Model(model_from(alloc, program, &mut found.lines)?)),
+        Some((which, place)) => Ok(Some((which, place))),
+        None => Ok(None),
     }
 }
 
 // Goes back over all steps.
-fn go_back<'s, 'a, A: Allocator + Copy, T: Tracker>(
+fn go_back<'s, 'a, A: Allocator + Copy, T: Tracker, L: LineStore>(
     program: &Program<'a, A>,
     tracker: &mut T,
-    found: &mut Found<'s, 'a, A>,
+    found: &mut Found<'s, A, L>,
 ) -> Result<(), AllocError>
-    requires { IsPassed program.now [] (T.tracked tracker.old) found.old.sets.items found.old.lines.lines found.old.latest.items found.old.left }
-    ensures { OnOk result (IsPassed program.now program.now.steps (T.tracked tracker.new) found.new.sets.items found.new.lines.lines found.new.latest.items found.new.left) }
+    requires store { L.program found.old.lines ≡ program.now }
+    requires passed { IsPassedWith (L.holds found.old.lines) program.now [] (T.tracked tracker.old) found.old.sets.items found.old.latest.items found.old.left }
+    ensures passed { OnOk result (IsPassedWith (L.holds found.new.lines) program.now program.now.steps (T.tracked tracker.new) found.new.sets.items found.new.latest.items found.new.left) }
+    ensures store { L.program found.new.lines ≡ L.program found.old.lines }
 {
     let mut walk = Walk::end(program);
     while step_back(program, &mut walk, tracker, found)? {}
     Ok(())
 }
 
-// The model whose lines are these, which are in descending fault order. They are taken out, and not copied.
+// The model whose lines are these, which are in descending fault order. They are taken over, and not copied.
 fn model_from<'a, A: Allocator + Copy>(
     alloc: A,
     program: &Program<'a, A>,
-    found: &mut Model<'a, A>,
+    found: Model<'a, A>,
 ) -> Result<Model<'a, A>, AllocError>
-    requires { found.old.lines ≡ reverse (model_of program.now).lines }
+    requires { found.lines ≡ reverse (model_of program.now).lines }
     ensures { IfOk result (λ model. model ≡ model_of program.now) }
 {
     let coordinates = coordinates_of(alloc, program)?;
-    let lines = mem::replace(found, Model::new(alloc, FlatLists::new(alloc), 0));
-    Ok(Model::in_reverse(lines, coordinates, program.observable_count()))
+    Ok(Model::in_reverse(found, coordinates, program.observable_count()))
+}
+
+// The model of a program without its lines.
+fn without_lines<'a, A: Allocator + Copy>(
+    alloc: A,
+    program: &Program<'a, A>,
+) -> Result<Model<'a, A>, AllocError>
+    ensures { IfOk result (λ model. model ≡ record (model_of program.now) { lines = [] }) }
+{
+    let coordinates = coordinates_of(alloc, program)?;
+    Ok(Model::new(alloc, coordinates, program.observable_count()))
 }
 
 fn coordinates_of<'a, A: Allocator + Copy>(

@@ -5,6 +5,7 @@
 mod analysis;
 mod collapse;
 mod column;
+mod line_store;
 mod pass;
 mod places;
 mod record_sets;
@@ -14,6 +15,6 @@ mod targets;
 mod tracker;
 mod words;
 
-pub use analysis::{Analysed, analyse};
+pub use analysis::{Analysed, AnalysedText, analyse, analyse_to_text};
 pub use tracker::Tracker;
 pub use words::{DenseWords, QubitSets, Words};

@@ -1,49 +1,52 @@
 //! The pass over the steps of a program from the last to the first, and what it keeps beside the words.
-ghost use Rattle.std.specs.Prelude.{◌≡◌, ◌<◌, ◌≤◌, ◌-◌, ◌+◌, ◌∷◌, [], ◌==◌, ℕ, not, length, drop, All, IfOk, OnOk, IfSome, if◌then◌else◌, slice_index_or, slice_set};
+ghost use Rattle.std.specs.Prelude.{◌≡◌, ◌<◌, ◌≤◌, ◌-◌, ◌+◌, ◌∷◌, [], ◌==◌, ℕ, List, not, length, drop, All, IfOk, OnOk, IfSome, if◌then◌else◌, slice_index_or, slice_set};
+ghost use Rattle.step_model.specs.ErrorModels.{ErrorLine};
 ghost use Rattle.step_model.specs.Listing.{kept_at};
 ghost use Rattle.step_model.specs.Targets.{targets_of};
 ghost use Rattle.programs.specs.Named.{IsRecord, IsNamedFlip};
 ghost use Rattle.backward.specs.Collapses.{IsOfSize, undone_collapse, members_at, noted, toggled_each};
-ghost use Rattle.backward.specs.Passes.{IsPassed, with_line, with_flip};
+ghost use Rattle.backward.specs.Passes.{IsPassedWith, with_line, with_flip};
 ghost use Rattle.backward.specs.Tracked.{anticommuting};
 
 use crate::collapse::undo_collapse;
+use crate::line_store::LineStore;
 use crate::places::note;
 use crate::record_sets::toggle_each;
 use crate::sparse_set::SparseSet;
 use crate::target_set::TargetSet;
 use crate::targets::target_count;
 use crate::tracker::Tracker;
-use dem_text::Model;
 use programs::{FaultName, Program, Step, Walk};
 use std::alloc::{AllocError, Allocator};
 use step_model::Term;
 
-/// What is found going back: the targets that list each record, the error lines so far, the last fault's first, the
+/// What is found going back: the targets that list each record, what the error lines were given to, the last fault's first, the
 /// latest collapse that each target's word anticommutes with, and how many collapses are left. `hit` is a buffer.
 #[derive(Drop)]
-pub(crate) struct Found<'s, 'a, A: Allocator + Copy> {
+pub(crate) struct Found<'s, A: Allocator + Copy, L> {
     pub(crate) sets: Vec<SparseSet<'s, A>, A>,
-    pub(crate) lines: Model<'a, A>,
+    pub(crate) lines: L,
     pub(crate) latest: Vec<Option<u32>, A>,
     pub(crate) left: u32,
     pub(crate) hit: Vec<u32, A>,
 }
 
 /// Goes back over the step before the place of the walk, and answers whether there was one.
-pub(crate) fn step_back<'s, 'p, 'a, A: Allocator + Copy, T: Tracker>(
+pub(crate) fn step_back<'s, 'p, 'a, A: Allocator + Copy, T: Tracker, L: LineStore>(
     program: &Program<'a, A>,
     walk: &mut Walk<'p, 'a, A>,
     tracker: &mut T,
-    found: &mut Found<'s, 'a, A>,
+    found: &mut Found<'s, A, L>,
 ) -> Result<bool, AllocError>
     requires program { walk.old.program ≡ program.now }
     requires within { walk.old.place ≤ length program.now.steps }
-    requires passed { IsPassed program.now (drop walk.old.place program.now.steps) (T.tracked tracker.old) found.old.sets.items found.old.lines.lines found.old.latest.items found.old.left }
+    requires store { L.program found.old.lines ≡ program.now }
+    requires passed { IsPassedWith (L.holds found.old.lines) program.now (drop walk.old.place program.now.steps) (T.tracked tracker.old) found.old.sets.items found.old.latest.items found.old.left }
     ensures program { walk.new.program ≡ walk.old.program }
     ensures place { walk.new.place ≡ walk.old.place - 1 }
     ensures more { IfOk result (λ more. more ≡ not (walk.old.place == 0)) }
-    ensures passed { OnOk result (IsPassed program.now (drop walk.new.place program.now.steps) (T.tracked tracker.new) found.new.sets.items found.new.lines.lines found.new.latest.items found.new.left) }
+    ensures passed { OnOk result (IsPassedWith (L.holds found.new.lines) program.now (drop walk.new.place program.now.steps) (T.tracked tracker.new) found.new.sets.items found.new.latest.items found.new.left) }
+    ensures store { L.program found.new.lines ≡ L.program found.old.lines }
 {
     program.well_formed();
     let step = match walk.previous_step() {
@@ -98,14 +101,14 @@ fn reset_qubit(reset: bool, qubit: u32) -> Option<u32>
 
 // Goes back over a collapse of a product of letters: notes the targets for which it is the latest place, then the line
 // of its recorded flip, and takes the words back.
-fn collapse<'s, 'a, A: Allocator + Copy, T: Tracker>(
+fn collapse<'s, 'a, A: Allocator + Copy, T: Tracker, L: LineStore>(
     program: &Program<'a, A>,
     terms: &[Term],
     reset: Option<u32>,
     rec: Option<u32>,
     flip: Option<FaultName>,
     tracker: &mut T,
-    found: &mut Found<'s, 'a, A>,
+    found: &mut Found<'s, A, L>,
 ) -> Result<(), AllocError>
     requires size { IsOfSize program.now (T.tracked tracker.old) found.old.sets.items found.old.latest.items }
     requires terms { All (λ term. term.qubit < program.now.qubits) terms.now }
@@ -113,9 +116,11 @@ fn collapse<'s, 'a, A: Allocator + Copy, T: Tracker>(
     requires rec { IsRecord program.now rec }
     requires flip { IsNamedFlip program.now flip }
     requires left { 0 < found.old.left }
+    requires store { L.program found.old.lines ≡ program.now }
     ensures words { OnOk result (T.tracked tracker.new ≡ undone_collapse (members_at found.old.sets.items rec) terms.now reset (T.tracked tracker.old)) }
     ensures sets { OnOk result (found.new.sets.items ≡ found.old.sets.items) }
-    ensures lines { OnOk result (found.new.lines ≡ with_flip program.now flip (members_at found.old.sets.items rec) found.old.lines) }
+    ensures lines { OnOk result ((lines : List ErrorLine) → L.holds found.old.lines lines → L.holds found.new.lines (with_flip program.now flip (members_at found.old.sets.items rec) lines)) }
+    ensures store { L.program found.new.lines ≡ L.program found.old.lines }
     ensures latest { OnOk result (found.new.latest.items ≡ noted (found.old.left - 1) (anticommuting terms.now (T.tracked tracker.old)) found.old.latest.items) }
     ensures left { OnOk result (found.new.left ≡ found.old.left - 1) }
 {
@@ -148,14 +153,16 @@ fn list_record<'s, 'a, A: Allocator + Copy>(
     }
 }
 
-fn note_flip<'a, A: Allocator + Copy>(
+fn note_flip<'a, A: Allocator + Copy, L: LineStore>(
     program: &Program<'a, A>,
     flip: Option<FaultName>,
     targets: &[u32],
-    lines: &mut Model<'a, A>,
+    lines: &mut L,
 ) -> Result<(), AllocError>
-    requires { IsNamedFlip program.now flip }
-    ensures { OnOk result (lines.new ≡ with_flip program.now flip targets.now lines.old) }
+    requires flip { IsNamedFlip program.now flip }
+    requires store { L.program lines.old ≡ program.now }
+    ensures lines { OnOk result ((given : List ErrorLine) → L.holds lines.old given → L.holds lines.new (with_flip program.now flip targets.now given)) }
+    ensures store { L.program lines.new ≡ L.program lines.old }
 {
     match flip {
         Some(name) => note_line(program, name.entry, targets, lines),
@@ -164,34 +171,38 @@ fn note_flip<'a, A: Allocator + Copy>(
 }
 
 // Appends the line of a fault that hits these targets, if there are any.
-fn note_line<'a, A: Allocator + Copy>(
+fn note_line<'a, A: Allocator + Copy, L: LineStore>(
     program: &Program<'a, A>,
     entry: u32,
     targets: &[u32],
-    lines: &mut Model<'a, A>,
+    lines: &mut L,
 ) -> Result<(), AllocError>
-    requires { entry < length program.now.kept }
-    ensures { OnOk result (lines.new ≡ with_line (kept_at program.now entry).text targets.now lines.old) }
+    requires entry { entry < length program.now.kept }
+    requires store { L.program lines.old ≡ program.now }
+    ensures lines { OnOk result ((given : List ErrorLine) → L.holds lines.old given → L.holds lines.new (with_line (kept_at program.now entry).text targets.now given)) }
+    ensures store { L.program lines.new ≡ L.program lines.old }
 {
     if targets.is_empty() {
         Ok(())
     } else {
-        lines.push_line(program.entry_text(entry), targets)
+        lines.give(entry, targets)
     }
 }
 
 // Goes back over a fault: notes the line of the targets whose words it anticommutes with.
-fn fault<'s, 'a, A: Allocator + Copy, T: Tracker>(
+fn fault<'s, 'a, A: Allocator + Copy, T: Tracker, L: LineStore>(
     program: &Program<'a, A>,
     name: FaultName,
     tracker: &mut T,
-    found: &mut Found<'s, 'a, A>,
+    found: &mut Found<'s, A, L>,
 ) -> Result<(), AllocError>
     requires entry { name.entry < length program.now.kept }
     requires qubits { (T.tracked tracker.old).qubits ≡ program.now.qubits }
+    requires store { L.program found.old.lines ≡ program.now }
     ensures words { OnOk result (T.tracked tracker.new ≡ T.tracked tracker.old) }
     ensures sets { OnOk result (found.new.sets.items ≡ found.old.sets.items) }
-    ensures lines { OnOk result (found.new.lines ≡ with_line (kept_at program.now name.entry).text (anticommuting (kept_at program.now name.entry).terms (T.tracked tracker.old)) found.old.lines) }
+    ensures lines { OnOk result ((lines : List ErrorLine) → L.holds found.old.lines lines → L.holds found.new.lines (with_line (kept_at program.now name.entry).text (anticommuting (kept_at program.now name.entry).terms (T.tracked tracker.old)) lines)) }
+    ensures store { L.program found.new.lines ≡ L.program found.old.lines }
     ensures latest { OnOk result (found.new.latest.items ≡ found.old.latest.items) }
     ensures left { OnOk result (found.new.left ≡ found.old.left) }
 {
@@ -202,19 +213,19 @@ fn fault<'s, 'a, A: Allocator + Copy, T: Tracker>(
 
 // Goes back over a letter that is applied where a record is 1: the targets whose words anticommute with it take the
 // record in.
-fn feedback<'s, 'a, A: Allocator + Copy, T: Tracker>(
+fn feedback<'s, 'a, A: Allocator + Copy, T: Tracker, L: LineStore>(
     program: &Program<'a, A>,
     term: Term,
     rec: u32,
     tracker: &mut T,
-    found: &mut Found<'s, 'a, A>,
+    found: &mut Found<'s, A, L>,
 ) -> Result<(), AllocError>
     requires size { IsOfSize program.now (T.tracked tracker.old) found.old.sets.items found.old.latest.items }
     requires term { term.qubit < program.now.qubits }
     requires rec { rec < program.now.records }
     ensures words { OnOk result (T.tracked tracker.new ≡ T.tracked tracker.old) }
     ensures sets { OnOk result (found.new.sets.items ≡ slice_set found.old.sets.items rec (toggled_each (anticommuting (term ∷ []) (T.tracked tracker.old)) (slice_index_or found.old.sets.items rec []))) }
-    ensures lines { OnOk result (found.new.lines ≡ found.old.lines) }
+    ensures lines { found.new.lines ≡ found.old.lines }
     ensures latest { OnOk result (found.new.latest.items ≡ found.old.latest.items) }
     ensures left { OnOk result (found.new.left ≡ found.old.left) }
 {

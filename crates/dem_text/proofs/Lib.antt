@@ -1,3 +1,4 @@
 mod ErrorLineLemmas
+mod HeldTextLemmas
 mod ShortLineLemmas
 mod TextLemmas

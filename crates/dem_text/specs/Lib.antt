@@ -1,4 +1,5 @@
 pub mod ErrorLines
+pub mod HeldText
 pub mod LineHeads
 pub mod ModelText
 pub mod ShortLines

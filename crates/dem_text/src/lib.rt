@@ -4,10 +4,13 @@
 mod line_runs;
 mod line_text;
 mod lines;
+mod lines_text;
 mod model;
 mod short_detectors;
 mod short_lines;
 mod text;
+mod text_block;
 
+pub use lines_text::LinesText;
 pub use model::Model;
-pub use text::write;
+pub use text::{write, write_behind};

@@ -1,5 +1,5 @@
 //! The text of an error model, on its way to a sink.
-ghost use Rattle.std.specs.Prelude.{◌≡◌, ◌<◌, ◌≤◌, ◌-◌, decimal, drop, length, take, IfErr, OnOk, OnErr};
+ghost use Rattle.std.specs.Prelude.{◌≡◌, ◌<◌, ◌≤◌, ◌-◌, decimal, ◌++◌, drop, length, take, IfErr, OnOk, OnErr};
 ghost use Rattle.std.specs.List.{flat_map};
 ghost use Rattle.std.specs.Fmt.{signed_decimal};
 ghost use Rattle.dem_text.specs.ModelText.{targets_text, line_text, more_coordinates_text, coordinates_text, detector_text, observable_text, lines_text, detectors_text, observables_text, model_text};
@@ -7,7 +7,7 @@ ghost use Rattle.pieces.specs.Pushed.{Pushes};
 ghost use Rattle.step_model.specs.Ends.{Takes, TakesBeginning, write_failures};
 ghost use Rattle.step_model.specs.Faults.{write_fault};
 
-use crate::Model;
+use crate::{LinesText, Model};
 use crate::line_runs::{end_of_short, lines_before};
 use crate::short_detectors::{SHORT_COORDINATES, detector_before};
 use crate::short_lines::{ROOM, SHORT_TARGETS, targets_before};
@@ -31,10 +31,41 @@ pub fn write<'a, A: Allocator + Copy, W: Sink>(
     ensures count { W.failures sink.new ≡ write_failures result (W.failures sink.old) }
 {
     let mut out = Pieces::new();
-    write_lines(&mut out, sink, model);
-    write_detectors(&mut out, sink, model);
-    write_observables(&mut out, sink, model);
+    push_model(&mut out, sink, model);
     out.finish(sink)
+}
+
+/// Writes the text of error lines that is held, and then that of a model. It takes no memory, and fails only where the sink
+/// fails; a beginning of the text has then gone out, and the sink is not called again.
+pub fn write_behind<'a, A: Allocator + Copy, W: Sink>(
+    lines: &LinesText<A>,
+    model: &Model<'a, A>,
+    sink: &mut W,
+) -> Result<(), Fault>
+    ensures all { OnOk result (Takes (W.taken sink.old) (W.taken sink.new) (lines.now.text ++ model_text model.now)) }
+
+    ensures fault { IfErr result (λ e. e ≡ write_fault) }
+    ensures beginning { OnErr result (TakesBeginning (W.taken sink.old) (W.taken sink.new) (lines.now.text ++ model_text model.now)) }
+
+    // One more where the sink failed, else as it was.
+    ensures count { W.failures sink.new ≡ write_failures result (W.failures sink.old) }
+{
+    let mut out = Pieces::new();
+    lines.push_to(&mut out, sink);
+    push_model(&mut out, sink, model);
+    out.finish(sink)
+}
+
+fn push_model<'a, A: Allocator + Copy, W: Sink>(
+    out: &mut Pieces,
+    sink: &mut W,
+    model: &Model<'a, A>,
+)
+    ensures { Pushes W.taken W.failures sink.old sink.new out.old out.new (model_text model.now) }
+{
+    write_lines(out, sink, model);
+    write_detectors(out, sink, model);
+    write_observables(out, sink, model);
 }
 
 fn write_lines<'a, A: Allocator + Copy, W: Sink>(

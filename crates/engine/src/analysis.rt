@@ -12,7 +12,8 @@ ghost use Rattle.engine.specs.Output as output;
 use crate::lines::random_lines;
 use crate::order::Status;
 use crate::refusing::refuse;
-use backward::{Analysed, QubitSets, Words, analyse};
+use backward::{AnalysedText, QubitSets, Words, analyse_to_text};
+use dem_text::write_behind;
 use frames::coin_pair;
 use programs::Program;
 use std::alloc::Allocator;
@@ -58,12 +59,12 @@ fn write_finding<W: Sink, A: Allocator + Copy>(
     ensures beginning { OnErr result (TakesSome (W.taken sink.old) (W.taken sink.new) (found_in program.now).bytes) }
 {
     program.well_formed();
-    match analyse(alloc, program, fresh_words(&alloc, program)?)? {
-        Analysed::Model(model) => {
-            dem_text::write(&model, sink)?;
+    match analyse_to_text(alloc, program, fresh_words(&alloc, program)?)? {
+        AnalysedText::Text { lines, rest } => {
+            write_behind(&lines, &rest, sink)?;
             Ok(Status::Done)
         }
-        Analysed::Random { which, place } => {
+        AnalysedText::Random { which, place } => {
             let lines = random_text(alloc, program, which as usize, place)?;
             write_all(sink, lines.as_slice())?;
             Ok(Status::Random)

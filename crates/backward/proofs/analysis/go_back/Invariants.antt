@@ -1,5 +1,5 @@
 use Rattle.std.proofs.Common.{◌≡◌, ◌≤◌, length, drop}
-use Rattle.backward.specs.Passes.{IsPassed}
+use Rattle.backward.specs.Passes.{IsPassedWith}
 use Rattle.backward.proofs.analysis.go_back.Given as goal
 
 -- what is kept is what is found from the place of the walk on
@@ -8,7 +8,8 @@ invariant-loop g l =
     record {
       program_is : l.walk.program ≡ l.program;
       within : l.walk.place ≤ length l.program.steps;
-      passed : IsPassed l.program (drop l.walk.place l.program.steps) (g.T.Tracker.tracked l.tracker) l.found.sets.items l.found.lines.lines l.found.latest.items l.found.left;
+      passed : IsPassedWith (g.L.LineStore.holds l.found.lines) l.program (drop l.walk.place l.program.steps) (g.T.Tracker.tracked l.tracker) l.found.sets.items l.found.latest.items l.found.left;
+      store : g.L.LineStore.program l.found.lines ≡ g.L.LineStore.program l.fn.found.lines;
     }
 
 abbrev pub decreases-loop : goal.decreases-loop

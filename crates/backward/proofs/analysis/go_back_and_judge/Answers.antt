@@ -1,14 +1,15 @@
-use Rattle.std.proofs.Common.{[], subst, sym}
-use Rattle.backward.specs.Passes.{IsPassed}
+use Rattle.std.proofs.Common.{List, subst, sym}
+use Rattle.std.specs.Prelude.{reverse}
+use Rattle.step_model.specs.ErrorModels.{ErrorLine}
+use Rattle.step_model.specs.HitModels.{model_of}
+use Rattle.backward.proofs.PassLines.{lines_found-all}
 use Rattle.backward.proofs.analysis.go_back_and_judge.Goals as goal
 
-pub go_back-requires : goal.go_back-requires
-go_back-requires g c =
-    let found = c.in_ok-found.found in
-    subst (λ tracked. IsPassed c.args.program.now [] tracked found.sets.items found.lines.lines found.latest.items found.left) (sym c.requires) c.in_ok-found.ensures
-
-pub judge-requires : goal.judge-requires
-judge-requires g c = c.in_ok-go_back.ensures
-
-pub returns : goal.returns
-returns g c = c.judge.ensures
+pub returns-clause-lines : goal.returns-clause-lines
+returns-clause-lines g c =
+    let program = c.args.program.now in
+    let holds = g.L.LineStore.holds in
+    let found = c.go_back.new.found in
+    let all : holds found.lines (reverse (model_of program).lines) =
+    subst (λ (lines : List ErrorLine). holds found.lines lines) (lines_found-all program c.well_formed-2.ensures) c.in_ok-go_back.ensures.passed.1 in
+    subst (λ store. holds store (reverse (model_of program).lines)) (sym c.judge.ensures.same) all

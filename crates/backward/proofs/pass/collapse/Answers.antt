@@ -43,10 +43,9 @@ returns-clause-sets g c = on_ok_weaker c.undo_collapse.result (λ h. refl) c.und
 
 pub returns-clause-lines : goal.returns-clause-lines
 returns-clause-lines g c =
-    let f = c.args.found.now in
     let targets = c.as_slice-2.ensures.value ∙ c.in_ok-list_record.ensures in
     on_ok_weaker c.undo_collapse.result
-    (λ h. c.in_ok-note_flip.ensures ∙ ap (λ named. with_flip c.args.program.now c.args.flip named f.lines) targets)
+    (λ h lines held. subst (λ named. g.L.LineStore.holds c.note_flip.new.lines (with_flip c.args.program.now c.args.flip named lines)) targets (c.in_ok-note_flip.ensures.lines lines held))
     c.undo_collapse.ensures
 
 pub returns-clause-latest : goal.returns-clause-latest

@@ -1,31 +1,36 @@
-use Rattle.std.proofs.Common.{◌<◌, ◌∷◌, [], List, None, Some, refl, get_or, drop, ap, subst, sym, ◌∙◌}
+use Rattle.std.proofs.Common.{◌<◌, ◌∷◌, [], List, None, Some, refl, get_or, drop, ap, subst, sym, ◌∙◌, rules}
 use Rattle.std.specs.Prelude.{All}
 use Rattle.step_model.specs.declared.step.Term.{Term}
 use Rattle.step_model.specs.Listing.{word_of_terms}
+use Rattle.step_model.specs.ErrorModels.{ErrorLine}
+use Rattle.step_model.specs.Listing.{kept_at}
 use Rattle.step_model.specs.Listing as listing
 use Rattle.programs.specs.declared.step.Step.TheVariants.{One, Two, Collapse, CollapseWord, Fault, Feedback}
 use Rattle.programs.specs.Listed.{listed, measured, recorded}
+use Rattle.backward.specs.Collapses.{members_at}
+use Rattle.backward.specs.Passes.{lines_found, with_flip, with_line}
+use Rattle.backward.specs.Tracked.{anticommuting}
 use Rattle.backward.proofs.PassWords.{IsMeasured}
-use Rattle.backward.proofs.PassSteps.{walk_step, walk_named, gone_over, of_size, later_fit, collapse_is_left, reset_within, passed-one, passed-two, passed-collapse, passed-fault, passed-feedback, measured-letter, measured-product}
+use Rattle.backward.proofs.PassSteps.{walk_step, walk_named, gone_over, of_size, later_fit, collapse_is_left, held_on, reset_within, passed-one, passed-two, passed-collapse, passed-fault, passed-feedback, measured-letter, measured-product}
 use Rattle.backward.proofs.pass.step_back.Goals as goal
 
 pub collapse-requires-clause-size : goal.collapse-requires-clause-size
 collapse-requires-clause-size g c =
     let program = c.args.program.now in
     let f = c.args.found.now in
-    of_size program (drop c.args.walk.now.place program.steps) (g.T.Tracker.tracked c.args.tracker.now) f.sets.items f.lines.lines f.latest.items f.left c.requires.passed
+    of_size program (drop c.args.walk.now.place program.steps) (g.T.Tracker.tracked c.args.tracker.now) f.sets.items (lines_found program (drop c.args.walk.now.place program.steps)) f.latest.items f.left c.requires.passed.0
 
 pub collapse-requires-in-CollapseWord-clause-size : goal.collapse-requires-in-CollapseWord-clause-size
 collapse-requires-in-CollapseWord-clause-size g c =
     let program = c.args.program.now in
     let f = c.args.found.now in
-    of_size program (drop c.args.walk.now.place program.steps) (g.T.Tracker.tracked c.args.tracker.now) f.sets.items f.lines.lines f.latest.items f.left c.requires.passed
+    of_size program (drop c.args.walk.now.place program.steps) (g.T.Tracker.tracked c.args.tracker.now) f.sets.items (lines_found program (drop c.args.walk.now.place program.steps)) f.latest.items f.left c.requires.passed.0
 
 pub feedback-requires-clause-size : goal.feedback-requires-clause-size
 feedback-requires-clause-size g c =
     let program = c.args.program.now in
     let f = c.args.found.now in
-    of_size program (drop c.args.walk.now.place program.steps) (g.T.Tracker.tracked c.args.tracker.now) f.sets.items f.lines.lines f.latest.items f.left c.requires.passed
+    of_size program (drop c.args.walk.now.place program.steps) (g.T.Tracker.tracked c.args.tracker.now) f.sets.items (lines_found program (drop c.args.walk.now.place program.steps)) f.latest.items f.left c.requires.passed.0
 
 pub collapse-requires-clause-reset : goal.collapse-requires-clause-reset
 collapse-requires-clause-reset g c =
@@ -34,6 +39,7 @@ collapse-requires-clause-reset g c =
     let f = c.args.found.now in
     let tracked = g.T.Tracker.tracked c.args.tracker.now in
     let rest = drop walk.place program.steps in
+    let lines = lines_found program rest in
     let s = c.in-Collapse in
     let step = Collapse s.letter s.qubit s.rec s.reset s.inverted s.flip in
     let is = c.in-Some.is ∙ ap Some s.is in
@@ -48,12 +54,13 @@ collapse-requires-clause-left g c =
     let f = c.args.found.now in
     let tracked = g.T.Tracker.tracked c.args.tracker.now in
     let rest = drop walk.place program.steps in
+    let lines = lines_found program rest in
     let s = c.in-Collapse in
     let step = Collapse s.letter s.qubit s.rec s.reset s.inverted s.flip in
     let is = c.in-Some.is ∙ ap Some s.is in
     let at = walk_step walk.program program walk.place c.previous_step.result step c.requires.program is c.previous_step.ensures.step in
     let named = walk_named walk.program program c.previous_step.result step c.requires.program is c.previous_step.ensures.named in
-    collapse_is_left program walk.place (measured program.qubits s.reset s.letter s.qubit) (recorded s.rec s.inverted s.flip) tracked f.sets.items f.lines.lines f.latest.items f.left c.well_formed-2.ensures at c.requires.passed
+    collapse_is_left program walk.place (measured program.qubits s.reset s.letter s.qubit) (recorded s.rec s.inverted s.flip) tracked f.sets.items lines f.latest.items f.left c.well_formed-2.ensures at c.requires.passed.0
 
 pub collapse-requires-in-CollapseWord-clause-terms : goal.collapse-requires-in-CollapseWord-clause-terms
 collapse-requires-in-CollapseWord-clause-terms g c =
@@ -62,6 +69,7 @@ collapse-requires-in-CollapseWord-clause-terms g c =
     let f = c.args.found.now in
     let tracked = g.T.Tracker.tracked c.args.tracker.now in
     let rest = drop walk.place program.steps in
+    let lines = lines_found program rest in
     let s = c.in-CollapseWord in
     let step = CollapseWord s.product s.rec s.inverted s.flip in
     let is = c.in-Some.is ∙ ap Some s.is in
@@ -76,12 +84,13 @@ collapse-requires-in-CollapseWord-clause-left g c =
     let f = c.args.found.now in
     let tracked = g.T.Tracker.tracked c.args.tracker.now in
     let rest = drop walk.place program.steps in
+    let lines = lines_found program rest in
     let s = c.in-CollapseWord in
     let step = CollapseWord s.product s.rec s.inverted s.flip in
     let is = c.in-Some.is ∙ ap Some s.is in
     let at = walk_step walk.program program walk.place c.previous_step.result step c.requires.program is c.previous_step.ensures.step in
     let named = walk_named walk.program program c.previous_step.result step c.requires.program is c.previous_step.ensures.named in
-    collapse_is_left program walk.place (listing.Word (word_of_terms program.qubits (get_or program.products s.product []))) (recorded s.rec s.inverted s.flip) tracked f.sets.items f.lines.lines f.latest.items f.left c.well_formed-2.ensures at c.requires.passed
+    collapse_is_left program walk.place (listing.Word (word_of_terms program.qubits (get_or program.products s.product []))) (recorded s.rec s.inverted s.flip) tracked f.sets.items lines f.latest.items f.left c.well_formed-2.ensures at c.requires.passed.0
 
 pub returns-in_ok-undo1-in-One-clause-passed : goal.returns-in_ok-undo1-in-One-clause-passed
 returns-in_ok-undo1-in-One-clause-passed g c =
@@ -90,13 +99,16 @@ returns-in_ok-undo1-in-One-clause-passed g c =
     let f = c.args.found.now in
     let tracked = g.T.Tracker.tracked c.args.tracker.now in
     let rest = drop walk.place program.steps in
+    let lines = lines_found program rest in
     let s = c.in-One in
     let step = One s.gate s.q in
     let is = c.in-Some.is ∙ ap Some s.is in
     let at = walk_step walk.program program walk.place c.previous_step.result step c.requires.program is c.previous_step.ensures.step in
     let named = walk_named walk.program program c.previous_step.result step c.requires.program is c.previous_step.ensures.named in
-    gone_over program walk.place c.previous_step.new.self.place (listed program.qubits program.products step) _ f.sets.items f.lines.lines f.latest.items f.left at c.previous_step.ensures.place
-    (passed-one program rest tracked f.sets.items f.lines.lines f.latest.items f.left c.requires.passed s.gate s.q _ c.in_ok-undo1-in-One.ensures)
+    held_on (g.L.LineStore.holds f.lines) program (drop c.previous_step.new.self.place program.steps) _ f.sets.items lines f.latest.items f.left
+    (gone_over program walk.place c.previous_step.new.self.place (listed program.qubits program.products step) _ f.sets.items lines f.latest.items f.left at c.previous_step.ensures.place
+    (passed-one program rest tracked f.sets.items lines f.latest.items f.left c.requires.passed.0 s.gate s.q _ c.in_ok-undo1-in-One.ensures))
+    c.requires.passed.1
 
 pub returns-in_ok-undo2-in-Two-clause-passed : goal.returns-in_ok-undo2-in-Two-clause-passed
 returns-in_ok-undo2-in-Two-clause-passed g c =
@@ -105,13 +117,16 @@ returns-in_ok-undo2-in-Two-clause-passed g c =
     let f = c.args.found.now in
     let tracked = g.T.Tracker.tracked c.args.tracker.now in
     let rest = drop walk.place program.steps in
+    let lines = lines_found program rest in
     let s = c.in-Two in
     let step = Two s.gate s.a s.b in
     let is = c.in-Some.is ∙ ap Some s.is in
     let at = walk_step walk.program program walk.place c.previous_step.result step c.requires.program is c.previous_step.ensures.step in
     let named = walk_named walk.program program c.previous_step.result step c.requires.program is c.previous_step.ensures.named in
-    gone_over program walk.place c.previous_step.new.self.place (listed program.qubits program.products step) _ f.sets.items f.lines.lines f.latest.items f.left at c.previous_step.ensures.place
-    (passed-two program rest tracked f.sets.items f.lines.lines f.latest.items f.left c.requires.passed s.gate s.a s.b _ c.in_ok-undo2-in-Two.ensures)
+    held_on (g.L.LineStore.holds f.lines) program (drop c.previous_step.new.self.place program.steps) _ f.sets.items lines f.latest.items f.left
+    (gone_over program walk.place c.previous_step.new.self.place (listed program.qubits program.products step) _ f.sets.items lines f.latest.items f.left at c.previous_step.ensures.place
+    (passed-two program rest tracked f.sets.items lines f.latest.items f.left c.requires.passed.0 s.gate s.a s.b _ c.in_ok-undo2-in-Two.ensures))
+    c.requires.passed.1
 
 pub returns-in_ok-collapse-in-Collapse-clause-passed : goal.returns-in_ok-collapse-in-Collapse-clause-passed
 returns-in_ok-collapse-in-Collapse-clause-passed g c =
@@ -120,6 +135,7 @@ returns-in_ok-collapse-in-Collapse-clause-passed g c =
     let f = c.args.found.now in
     let tracked = g.T.Tracker.tracked c.args.tracker.now in
     let rest = drop walk.place program.steps in
+    let lines = lines_found program rest in
     let s = c.in-Collapse in
     let step = Collapse s.letter s.qubit s.rec s.reset s.inverted s.flip in
     let is = c.in-Some.is ∙ ap Some s.is in
@@ -129,11 +145,14 @@ returns-in_ok-collapse-in-Collapse-clause-passed g c =
     let e = c.in_ok-collapse-in-Collapse.ensures in
     let terms : List Term = record { qubit = s.qubit; letter = s.letter } ∷ [] in
     let is_measured = subst (λ reset. IsMeasured program.qubits terms reset (measured program.qubits s.reset s.letter s.qubit)) (sym c.reset_qubit.ensures) (measured-letter program.qubits s.letter s.qubit s.reset) in
-    gone_over program walk.place c.previous_step.new.self.place (listed program.qubits program.products step) (g.T.Tracker.tracked c.collapse.new.tracker) now.sets.items now.lines.lines now.latest.items now.left at c.previous_step.ensures.place
-    (passed-collapse program rest tracked f.sets.items f.lines.lines f.latest.items f.left c.requires.passed c.well_formed-2.ensures (later_fit program walk.place c.well_formed-2.ensures.steps_fit) terms c.reset_qubit.result s.rec s.inverted s.flip (measured program.qubits s.reset s.letter s.qubit)
-    (g.T.Tracker.tracked c.collapse.new.tracker) now.sets.items now.lines f.lines now.latest.items now.left
-    is_measured named.2 named.3 (collapse_is_left program walk.place (measured program.qubits s.reset s.letter s.qubit) (recorded s.rec s.inverted s.flip) tracked f.sets.items f.lines.lines f.latest.items f.left c.well_formed-2.ensures at c.requires.passed) refl
-    e.words e.sets e.lines e.latest e.left)
+    let made : List ErrorLine = with_flip program s.flip (members_at f.sets.items s.rec) lines in
+    held_on (g.L.LineStore.holds now.lines) program (drop c.previous_step.new.self.place program.steps) (g.T.Tracker.tracked c.collapse.new.tracker) now.sets.items made now.latest.items now.left
+    (gone_over program walk.place c.previous_step.new.self.place (listed program.qubits program.products step) (g.T.Tracker.tracked c.collapse.new.tracker) now.sets.items made now.latest.items now.left at c.previous_step.ensures.place
+    (passed-collapse program rest tracked f.sets.items lines f.latest.items f.left c.requires.passed.0 c.well_formed-2.ensures (later_fit program walk.place c.well_formed-2.ensures.steps_fit) terms c.reset_qubit.result s.rec s.inverted s.flip (measured program.qubits s.reset s.letter s.qubit)
+    (g.T.Tracker.tracked c.collapse.new.tracker) now.sets.items made lines now.latest.items now.left
+    is_measured named.2 named.3 (collapse_is_left program walk.place (measured program.qubits s.reset s.letter s.qubit) (recorded s.rec s.inverted s.flip) tracked f.sets.items lines f.latest.items f.left c.well_formed-2.ensures at c.requires.passed.0) refl
+    e.words e.sets refl e.latest e.left))
+    (e.lines lines c.requires.passed.1)
 
 pub returns-in_ok-collapse-in-CollapseWord-clause-passed : goal.returns-in_ok-collapse-in-CollapseWord-clause-passed
 returns-in_ok-collapse-in-CollapseWord-clause-passed g c =
@@ -142,6 +161,7 @@ returns-in_ok-collapse-in-CollapseWord-clause-passed g c =
     let f = c.args.found.now in
     let tracked = g.T.Tracker.tracked c.args.tracker.now in
     let rest = drop walk.place program.steps in
+    let lines = lines_found program rest in
     let s = c.in-CollapseWord in
     let step = CollapseWord s.product s.rec s.inverted s.flip in
     let is = c.in-Some.is ∙ ap Some s.is in
@@ -152,11 +172,14 @@ returns-in_ok-collapse-in-CollapseWord-clause-passed g c =
     let terms = c.product-terms.result.now in
     let product = get_or program.products s.product [] in
     let is_measured = subst (λ terms. IsMeasured program.qubits terms None (listing.Word (word_of_terms program.qubits product))) (sym c.product-terms.ensures) (measured-product program.qubits product) in
-    gone_over program walk.place c.previous_step.new.self.place (listed program.qubits program.products step) (g.T.Tracker.tracked c.collapse-in-CollapseWord.new.tracker) now.sets.items now.lines.lines now.latest.items now.left at c.previous_step.ensures.place
-    (passed-collapse program rest tracked f.sets.items f.lines.lines f.latest.items f.left c.requires.passed c.well_formed-2.ensures (later_fit program walk.place c.well_formed-2.ensures.steps_fit) terms None s.rec s.inverted s.flip (listing.Word (word_of_terms program.qubits product))
-    (g.T.Tracker.tracked c.collapse-in-CollapseWord.new.tracker) now.sets.items now.lines f.lines now.latest.items now.left
-    is_measured named.1 named.2 (collapse_is_left program walk.place (listing.Word (word_of_terms program.qubits product)) (recorded s.rec s.inverted s.flip) tracked f.sets.items f.lines.lines f.latest.items f.left c.well_formed-2.ensures at c.requires.passed) refl
-    e.words e.sets e.lines e.latest e.left)
+    let made : List ErrorLine = with_flip program s.flip (members_at f.sets.items s.rec) lines in
+    held_on (g.L.LineStore.holds now.lines) program (drop c.previous_step.new.self.place program.steps) (g.T.Tracker.tracked c.collapse-in-CollapseWord.new.tracker) now.sets.items made now.latest.items now.left
+    (gone_over program walk.place c.previous_step.new.self.place (listed program.qubits program.products step) (g.T.Tracker.tracked c.collapse-in-CollapseWord.new.tracker) now.sets.items made now.latest.items now.left at c.previous_step.ensures.place
+    (passed-collapse program rest tracked f.sets.items lines f.latest.items f.left c.requires.passed.0 c.well_formed-2.ensures (later_fit program walk.place c.well_formed-2.ensures.steps_fit) terms None s.rec s.inverted s.flip (listing.Word (word_of_terms program.qubits product))
+    (g.T.Tracker.tracked c.collapse-in-CollapseWord.new.tracker) now.sets.items made lines now.latest.items now.left
+    is_measured named.1 named.2 (collapse_is_left program walk.place (listing.Word (word_of_terms program.qubits product)) (recorded s.rec s.inverted s.flip) tracked f.sets.items lines f.latest.items f.left c.well_formed-2.ensures at c.requires.passed.0) refl
+    e.words e.sets refl e.latest e.left))
+    (e.lines lines c.requires.passed.1)
 
 pub returns-in_ok-fault-in-Fault-clause-passed : goal.returns-in_ok-fault-in-Fault-clause-passed
 returns-in_ok-fault-in-Fault-clause-passed g c =
@@ -165,6 +188,7 @@ returns-in_ok-fault-in-Fault-clause-passed g c =
     let f = c.args.found.now in
     let tracked = g.T.Tracker.tracked c.args.tracker.now in
     let rest = drop walk.place program.steps in
+    let lines = lines_found program rest in
     let s = c.in-Fault in
     let step = Fault s.name in
     let is = c.in-Some.is ∙ ap Some s.is in
@@ -172,8 +196,11 @@ returns-in_ok-fault-in-Fault-clause-passed g c =
     let named = walk_named walk.program program c.previous_step.result step c.requires.program is c.previous_step.ensures.named in
     let now = c.fault.new.found in
     let e = c.in_ok-fault-in-Fault.ensures in
-    gone_over program walk.place c.previous_step.new.self.place (listed program.qubits program.products step) (g.T.Tracker.tracked c.fault.new.tracker) now.sets.items now.lines.lines now.latest.items now.left at c.previous_step.ensures.place
-    (passed-fault program rest tracked f.sets.items f.lines.lines f.latest.items f.left c.requires.passed c.well_formed-2.ensures s.name (g.T.Tracker.tracked c.fault.new.tracker) now.sets.items now.lines f.lines now.latest.items now.left named refl e.words e.sets e.lines e.latest e.left)
+    let made : List ErrorLine = with_line (kept_at program s.name.entry).text (anticommuting (kept_at program s.name.entry).terms tracked) lines in
+    held_on (g.L.LineStore.holds now.lines) program (drop c.previous_step.new.self.place program.steps) (g.T.Tracker.tracked c.fault.new.tracker) now.sets.items made now.latest.items now.left
+    (gone_over program walk.place c.previous_step.new.self.place (listed program.qubits program.products step) (g.T.Tracker.tracked c.fault.new.tracker) now.sets.items made now.latest.items now.left at c.previous_step.ensures.place
+    (passed-fault program rest tracked f.sets.items lines f.latest.items f.left c.requires.passed.0 c.well_formed-2.ensures s.name (g.T.Tracker.tracked c.fault.new.tracker) now.sets.items made lines now.latest.items now.left named refl e.words e.sets refl e.latest e.left))
+    (e.lines lines c.requires.passed.1)
 
 pub returns-in_ok-feedback-in-Feedback-clause-passed : goal.returns-in_ok-feedback-in-Feedback-clause-passed
 returns-in_ok-feedback-in-Feedback-clause-passed g c =
@@ -182,6 +209,7 @@ returns-in_ok-feedback-in-Feedback-clause-passed g c =
     let f = c.args.found.now in
     let tracked = g.T.Tracker.tracked c.args.tracker.now in
     let rest = drop walk.place program.steps in
+    let lines = lines_found program rest in
     let s = c.in-Feedback in
     let step = Feedback s.letter s.q s.rec in
     let is = c.in-Some.is ∙ ap Some s.is in
@@ -189,5 +217,8 @@ returns-in_ok-feedback-in-Feedback-clause-passed g c =
     let named = walk_named walk.program program c.previous_step.result step c.requires.program is c.previous_step.ensures.named in
     let now = c.feedback.new.found in
     let e = c.in_ok-feedback-in-Feedback.ensures in
-    gone_over program walk.place c.previous_step.new.self.place (listed program.qubits program.products step) (g.T.Tracker.tracked c.feedback.new.tracker) now.sets.items now.lines.lines now.latest.items now.left at c.previous_step.ensures.place
-    (passed-feedback program rest tracked f.sets.items f.lines.lines f.latest.items f.left c.requires.passed s.letter s.q s.rec (g.T.Tracker.tracked c.feedback.new.tracker) now.sets.items now.lines f.lines now.latest.items now.left named.2 refl e.words e.sets e.lines e.latest e.left)
+    let made : List ErrorLine = lines in
+    held_on (g.L.LineStore.holds now.lines) program (drop c.previous_step.new.self.place program.steps) (g.T.Tracker.tracked c.feedback.new.tracker) now.sets.items made now.latest.items now.left
+    (gone_over program walk.place c.previous_step.new.self.place (listed program.qubits program.products step) (g.T.Tracker.tracked c.feedback.new.tracker) now.sets.items made now.latest.items now.left at c.previous_step.ensures.place
+    (passed-feedback program rest tracked f.sets.items lines f.latest.items f.left c.requires.passed.0 s.letter s.q s.rec (g.T.Tracker.tracked c.feedback.new.tracker) now.sets.items made lines now.latest.items now.left named.2 refl e.words e.sets refl e.latest e.left))
+    (subst (λ store. g.L.LineStore.holds store lines) (sym e.lines) c.requires.passed.1)

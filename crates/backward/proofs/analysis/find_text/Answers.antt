@@ -1,0 +1,17 @@
+use Rattle.std.proofs.Common.{Option, length, ap, subst, ◌∙◌}
+use Rattle.std.specs.Option.{IfNone}
+use Rattle.step_model.specs.HitModels.{model_of}
+use Rattle.step_model.specs.Listing.{Listing}
+use Rattle.backward.specs.Places.{NoneIsRandom}
+use Rattle.backward.proofs.HeldLines.{whole_text}
+use Rattle.backward.proofs.analysis.find_text.Goals as goal
+
+pub returns : goal.returns
+returns g c =
+    let program = c.args.program.now in
+    let judged = c.in_ok-judged.judged in (
+      subst (λ lowest. IfNone lowest (NoneIsRandom program)) c.in-None.is c.in_ok-judged.ensures.none,
+      whole_text (model_of program) c.in_ok-without_lines-in-None.field-0 judged.lines.text
+          (c.in_ok-judged.ensures.lines.1 ∙ ap (λ (p : Listing). length p.detectors) c.in_ok-judged.ensures.store) c.in_ok-judged.ensures.lines.0
+          c.in_ok-without_lines-in-None.ensures,
+    )

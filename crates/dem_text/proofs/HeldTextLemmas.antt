@@ -1,0 +1,45 @@
+-- Parts of a text put before those that were there.
+use Rattle.std.specs.Prelude.{reverse}
+use Rattle.std.proofs.Common.{◌≡◌, ℕ, ◌+◌, ◌-◌, ◌≤◌, ◌<◌, List, [], ◌∷◌, ◌++◌, length, get_or, take, drop, ap, sym, ◌∙◌, arith, append_assoc, append-nil}
+use Rattle.std.specs.List.{flat_map}
+use Rattle.std.proofs.lemmas.Grind.{flat_map-append}
+use Rattle.std.proofs.lemmas.List.{take-append-drop, drop-drop, drop_more, reverse-append}
+use Rattle.dem_text.specs.HeldText.{Filled, text_in, texts_of}
+
+-- a part of a list and what stands behind it
+pub part_and_rest : {X : Type 0} (xs : List X) (from left : ℕ) → from ≤ left → take (left - from) (drop from xs) ++ drop left xs ≡ drop from xs
+part_and_rest xs from left le =
+    let counted : from + (left - from) ≡ left = omega (arith, le) in
+    ap (λ n. take (left - from) (drop from xs) ++ drop n xs) (sym counted)
+    ∙ ap (λ l. take (left - from) (drop from xs) ++ l) (sym (drop-drop (left - from) from xs))
+    ∙ take-append-drop (left - from) (drop from xs)
+
+-- the same of their texts
+pub texts_and_rest : {X : Type 0} (f : X → List ℕ) (xs : List X) (from left : ℕ) → from ≤ left
+    → flat_map f (take (left - from) (drop from xs)) ++ flat_map f (drop left xs) ≡ flat_map f (drop from xs)
+texts_and_rest f xs from left le =
+    sym (flat_map-append f (take (left - from) (drop from xs)) (drop left xs)) ∙ ap (flat_map f) (part_and_rest xs from left le)
+
+-- a part that is put into a block, before what was there
+pub put_before : (part rest was all : List ℕ) (new block : Filled) (full : List Filled) → new.text ≡ part ++ block.text → text_in block full ≡ rest ++ was
+    → part ++ rest ≡ all → text_in new full ≡ all ++ was
+put_before part rest was all new block full put held whole =
+    let before = texts_of full in
+    ap (λ l. l ++ before) put
+    ∙ append_assoc part block.text before
+    ∙ ap (λ l. part ++ l) held
+    ∙ sym (append_assoc part rest was)
+    ∙ ap (λ l. l ++ was) whole
+
+-- a block more, before those that come behind it
+pub one_block_more : (full : List Filled) (i left : ℕ) (b : Filled) → i + 1 ≡ left → i < length full → b ≡ get_or full i b
+    → texts_of (drop left full) ++ b.text ≡ texts_of (drop i full)
+one_block_more full i left b next within is =
+    let behind = drop (i + 1) full in
+    let f : Filled → List ℕ = λ c. c.text in
+    ap (λ n. texts_of (drop n full) ++ b.text) (sym next)
+    ∙ ap (λ l. texts_of behind ++ l) (sym (append-nil b.text))
+    ∙ sym (flat_map-append f (reverse behind) (b ∷ []))
+    ∙ ap (flat_map f) (sym (reverse-append (b ∷ []) behind))
+    ∙ ap (λ c. texts_of (c ∷ behind)) is
+    ∙ ap texts_of (sym (drop_more full i b within))

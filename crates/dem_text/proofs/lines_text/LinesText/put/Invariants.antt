@@ -1,0 +1,15 @@
+use Rattle.std.proofs.Common.{◌≡◌, ◌≤◌, ◌++◌, length, drop}
+use Rattle.dem_text.specs.HeldText.{text_in}
+use Rattle.dem_text.proofs.lines_text.LinesText.put.Given as goal
+
+-- the bytes from this one on are there
+abbrev pub invariant-loop-left : goal.invariant-loop-left
+invariant-loop-left g l =
+    record {
+      within : l.left ≤ length l.bytes;
+      detectors : l.self-inside.detectors ≡ l.fn.self.detectors;
+      text : text_in l.self-inside.block l.self-inside.full.items ≡ drop l.left l.bytes ++ l.fn.self.text;
+    }
+
+abbrev pub decreases-loop-left : goal.decreases-loop-left
+decreases-loop-left g l = l.left

@@ -1,0 +1,20 @@
+use Rattle.std.proofs.Common.{◌≤◌, ◌-◌, ◌++◌, take, drop, ap, ◌∙◌, arith}
+use Rattle.dem_text.specs.ModelText.{target_text, targets_text}
+use Rattle.dem_text.proofs.HeldTextLemmas.{put_before, texts_and_rest}
+use Rattle.dem_text.proofs.lines_text.LinesText.put_targets.Goals as goal
+
+pub loop-left-preserved : goal.loop-left-preserved
+loop-left-preserved g c =
+    let targets = c.args.targets.now in
+    let detectors = c.args.self.now.detectors in
+    let left = c.loop-left.left in
+    let from = c.saturating_sub-from.result in
+    let le : from ≤ left = omega (arith, c.saturating_sub-from.ensures) in
+    let part = take (left - from) (drop from targets) in
+    record {
+      within = omega (arith, le, c.loop-left.invariant.within);
+      detectors = c.loop-left.invariant.detectors;
+      text = put_before (targets_text detectors part) (targets_text detectors (drop left targets)) c.args.self.now.text (targets_text detectors (drop from targets)) c.put_targets.new.self c.make_room.new.block c.make_room.new.full.items
+      (c.put_targets.ensures ∙ ap (λ d. targets_text d part ++ c.make_room.new.block.text) c.loop-left.invariant.detectors)
+      (c.make_room.ensures.same ∙ c.loop-left.invariant.text) (texts_and_rest (target_text detectors) targets from left le);
+    }

@@ -1,0 +1,16 @@
+use Rattle.std.proofs.Common.{◌≡◌, ◌≤◌, ◌++◌, length, drop}
+use Rattle.dem_text.specs.HeldText.{text_in}
+use Rattle.dem_text.specs.ModelText.{targets_text}
+use Rattle.dem_text.proofs.lines_text.LinesText.put_targets.Given as goal
+
+-- the targets from this one on are there
+abbrev pub invariant-loop-left : goal.invariant-loop-left
+invariant-loop-left g l =
+    record {
+      within : l.left ≤ length l.targets;
+      detectors : l.self-inside.detectors ≡ l.fn.self.detectors;
+      text : text_in l.self-inside.block l.self-inside.full.items ≡ targets_text l.fn.self.detectors (drop l.left l.targets) ++ l.fn.self.text;
+    }
+
+abbrev pub decreases-loop-left : goal.decreases-loop-left
+decreases-loop-left g l = l.left

@@ -1,0 +1,31 @@
+-- The text of error lines that are found from the last to the first, as it is held: blocks of bytes, each filled from its
+-- end on, the last of them being the first of the text. (Stim's detector error model format, `error` instructions.)
+use Rattle.std.specs.Prelude.{◌≡◌, ℕ, List, [], ◌++◌, reverse}
+use Rattle.std.specs.List.{flat_map}
+use Rattle.step_model.specs.ErrorModels.{ErrorLine}
+use Rattle.dem_text.specs.ModelText.{line_text}
+
+-- a block: its text, and how many bytes fit before it
+pub record Filled : Type 0 where
+  pub text : List ℕ
+  pub room : ℕ
+
+abbrev pub no_text : ℕ → Filled
+no_text room = record { text = []; room = room }
+
+-- the texts of blocks, that of the last first
+abbrev pub texts_of : List Filled → List ℕ
+texts_of full = flat_map (λ b. b.text) (reverse full)
+
+-- the text of a block and of those that were filled before it
+abbrev pub text_in : Filled → List Filled → List ℕ
+text_in block full = block.text ++ texts_of full
+
+-- what is held of error lines: of how many detectors targets are told apart, and the text of the lines
+pub record Held : Type 0 where
+  pub detectors : ℕ
+  pub text : List ℕ
+
+-- it is the text of these lines, the last of them first
+abbrev pub HoldsLines : Held → List ErrorLine → Type 0
+HoldsLines held lines = held.text ≡ flat_map (line_text held.detectors) (reverse lines)

@@ -1,0 +1,92 @@
+//! A block of text that is filled from its end on.
+ghost use Rattle.std.specs.Prelude.{◌≡◌, ◌≤◌, ◌*◌, ◌++◌, [], length, IfOk};
+ghost use Rattle.dem_text.specs.HeldText.{no_text};
+ghost use Rattle.dem_text.specs.ModelText.{line_text, targets_text};
+
+use crate::short_lines::{plain_line_before, targets_before, text_before};
+use std::alloc::{AllocError, Allocator};
+use std::marker::Model;
+
+/// How long a block is.
+const BLOCK: usize = 65536;
+
+/// Bytes that are filled from their end on: those from `start` on are text.
+#[derive(Drop)]
+pub(crate) struct TextBlock<A: Allocator + Copy> {
+    bytes: Vec<u8, A>,
+    start: usize,
+}
+
+impl<A: Allocator + Copy> Model for TextBlock<A> {
+    ghost use Rattle.std.specs.Prelude.{◌≤◌, drop, length};
+    ghost use Rattle.dem_text.specs.HeldText.{Filled};
+
+    ghost Value = { Filled };
+
+    ghost view = { λ b. record { text = drop b.start b.bytes.items; room = b.start } };
+
+    ghost invariant = { λ b. b.start ≤ length b.bytes.items };
+}
+
+impl<A: Allocator + Copy> TextBlock<A> {
+    /// A block without room. Takes no memory.
+    pub(crate) fn none(alloc: A) -> Self
+        ensures { result ≡ no_text 0 }
+    {
+        TextBlock {
+            bytes: Vec::new(alloc),
+            start: 0,
+        }
+    }
+
+    /// A block without text.
+    pub(crate) fn new(alloc: A) -> Result<Self, AllocError>
+        ensures { IfOk result (λ block. block ≡ no_text 65536) }
+    {
+        Ok(TextBlock {
+            bytes: vec![in alloc; 0u8; BLOCK]?,
+            start: BLOCK,
+        })
+    }
+
+    /// How many bytes fit before the text.
+    #[inline(always)]
+    pub(crate) fn room(&self) -> usize
+        ensures { result ≡ self.now.room }
+    {
+        self.start
+    }
+
+    pub(crate) fn text(&self) -> &[u8]
+        ensures { result.now ≡ self.now.text }
+    {
+        &self.bytes[self.start..]
+    }
+
+    /// Puts bytes before the text.
+    pub(crate) fn put(&mut self, bytes: &[u8])
+        requires { length bytes.now ≤ self.old.room }
+        ensures { self.new.text ≡ bytes.now ++ self.old.text }
+    {
+        self.start = text_before(&mut self.bytes, self.start, bytes);
+    }
+
+    /// Puts the text of targets before the text.
+    pub(crate) fn put_targets(&mut self, detectors: usize, targets: &[u32])
+        requires { length targets.now * 12 ≤ self.old.room }
+        ensures { self.new.text ≡ targets_text detectors targets.now ++ self.old.text }
+    {
+        self.start = targets_before(&mut self.bytes, self.start, detectors, targets);
+    }
+
+    /// Puts a short line before the text.
+    #[inline(always)]
+    pub(crate) fn put_line(&mut self, detectors: usize, text: &[u8], targets: &[u32])
+        requires room { 240 ≤ self.old.room }
+        requires short { length text.now ≤ 32 }
+        requires few { length targets.now ≤ 16 }
+        ensures { self.new.text ≡ line_text detectors (record { text = text.now; targets = targets.now }) ++ self.old.text }
+    {
+        self.start = plain_line_before(&mut self.bytes, self.start, detectors, text, targets);
+    }
+}
