@@ -36,7 +36,10 @@ pub enum AnalysedText<'a, A: Allocator + Copy> {
         rest: Model<'a, A>,
     },
     /// As in `Analysed`.
-    Random { which: u32, place: Place },
+    Random {
+        which: u32,
+        place: Place,
+    },
 }
 
 /// What was given all lines, and the lowest random target, where there is one.

@@ -36,7 +36,8 @@ impl<'p, 'a, A: Allocator + Copy> LineStore for ModelStore<'p, 'a, A> {
     ghost holds = { λ store lines. store.model.lines ≡ lines };
 
     fn give(&mut self, entry: u32, targets: &[u32]) -> Result<(), AllocError> {
-        self.model.push_line(self.program.entry_text(entry), targets)
+        self.model
+            .push_line(self.program.entry_text(entry), targets)
     }
 }
 

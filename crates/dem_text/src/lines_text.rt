@@ -143,11 +143,7 @@ impl<A: Allocator + Copy> LinesText<A> {
 }
 
 // Pushes the texts of blocks, that of the last first.
-fn push_blocks<W: Sink, A: Allocator + Copy>(
-    out: &mut Pieces,
-    sink: &mut W,
-    full: &[TextBlock<A>],
-)
+fn push_blocks<W: Sink, A: Allocator + Copy>(out: &mut Pieces, sink: &mut W, full: &[TextBlock<A>])
     ensures { Pushes W.taken W.failures sink.old sink.new out.old out.new (texts_of full.now) }
 {
     let mut left = full.len();

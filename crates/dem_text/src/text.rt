@@ -7,10 +7,10 @@ ghost use Rattle.pieces.specs.Pushed.{Pushes};
 ghost use Rattle.step_model.specs.Ends.{Takes, TakesBeginning, write_failures};
 ghost use Rattle.step_model.specs.Faults.{write_fault};
 
-use crate::{LinesText, Model};
 use crate::line_runs::{end_of_short, lines_before};
 use crate::short_detectors::{SHORT_COORDINATES, detector_before};
 use crate::short_lines::{ROOM, SHORT_TARGETS, targets_before};
+use crate::{LinesText, Model};
 use itoa::Buffer;
 use pieces::Pieces;
 use std::alloc::Allocator;

@@ -7,6 +7,7 @@ mod fault_lists;
 mod faults;
 mod gates;
 mod held;
+mod held_lines;
 mod judged;
 mod last_probabilities;
 mod lines;

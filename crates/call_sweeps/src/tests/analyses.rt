@@ -1,7 +1,7 @@
 //! Analyses of a program, and frames.
 use super::growths::{Call, Memory, Ration};
 use super::lent::{Lent, are_false, identity_of};
-use backward::{Analysed, Words, analyse};
+use backward::{Analysed, AnalysedText, Words, analyse, analyse_to_text};
 use frames::{coin_pair, flips};
 use programs::Program;
 use step_model::{Fault, Place};
@@ -10,13 +10,15 @@ use step_model::{Fault, Place};
 pub(super) enum Analysis {
     Sparse,
     Dense,
+    Text,
     Flips,
     CoinPair,
 }
 
-pub(super) const ANALYSES: [Analysis; 4] = [
+pub(super) const ANALYSES: [Analysis; 5] = [
     Analysis::Sparse,
     Analysis::Dense,
+    Analysis::Text,
     Analysis::Flips,
     Analysis::CoinPair,
 ];
@@ -27,6 +29,7 @@ impl Call for Analysis {
         match self {
             Analysis::Sparse => sparse_is_right(ration, program),
             Analysis::Dense => dense_is_right(ration, program),
+            Analysis::Text => text_is_right(ration, program),
             Analysis::Flips => flips_are_right(ration, program),
             Analysis::CoinPair => pair_is_right(ration.begin(), program),
         }
@@ -62,6 +65,22 @@ fn dense_is_right<'m>(
     match Words::dense(ration.memory, program.qubits() as usize, targets) {
         Ok(words) => Ok(is_model(&analyse(ration.begin(), program, words)?)),
         Err(_) => Err(Fault::MEMORY),
+    }
+}
+
+fn text_is_right<'m>(ration: Ration<'m>, program: &Program<'_, Memory<'m>>) -> Result<bool, Fault> {
+    program.well_formed();
+    let targets = program.detector_count() + program.observable_count();
+    match Words::sparse(&ration.memory, program.qubits() as usize, targets) {
+        Ok(words) => Ok(is_text(&analyse_to_text(ration.begin(), program, words)?)),
+        Err(_) => Err(Fault::MEMORY),
+    }
+}
+
+fn is_text<'m>(analysed: &AnalysedText<'_, Memory<'m>>) -> bool {
+    match analysed {
+        AnalysedText::Text { rest, .. } => rest.detector_count() == 2,
+        AnalysedText::Random { .. } => false,
     }
 }
 

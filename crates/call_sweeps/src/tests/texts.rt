@@ -1,7 +1,7 @@
 //! Readers of texts and of what is given beside them.
 use super::growths::{Call, Memory, Ration};
 use super::lent::{CIRCUIT, Lent, MODEL, are_false};
-use dem_parser::PlacedModel;
+use dem_parser::{PlacedModel, PlainModel};
 use dem_text::Model;
 use forward_sim::{read_coins, read_numbers};
 use programs::Program;
@@ -18,11 +18,12 @@ pub(super) enum Reader {
     Model,
     Symptom,
     Placed,
+    Plain,
     Coins,
     Numbers,
 }
 
-pub(super) const READERS: [Reader; 9] = [
+pub(super) const READERS: [Reader; 10] = [
     Reader::Circuit,
     Reader::Unrolled,
     Reader::Program,
@@ -30,6 +31,7 @@ pub(super) const READERS: [Reader; 9] = [
     Reader::Model,
     Reader::Symptom,
     Reader::Placed,
+    Reader::Plain,
     Reader::Coins,
     Reader::Numbers,
 ];
@@ -45,6 +47,7 @@ impl Call for Reader {
             Reader::Model => model_is_right(memory),
             Reader::Symptom => symptom_is_right(memory, lent.model),
             Reader::Placed => placed_is_right(memory),
+            Reader::Plain => plain_is_right(memory),
             Reader::Coins => coins_are_right(memory, lent.program),
             Reader::Numbers => numbers_are_right(memory),
         }
@@ -122,6 +125,22 @@ fn placed_is_right(memory: Memory<'_>) -> Result<bool, Fault> {
     let lines = dem_parser::read_lines(memory, MODEL.as_bytes())?;
     let model = dem_parser::place(memory, &lines)?;
     is_placed(memory, &model)
+}
+
+/// Three lines, of which the first two flip detector 2 and the observable.
+fn is_plain<'m>(memory: Memory<'m>, model: &PlainModel<'_, Memory<'m>>) -> Result<bool, Fault> {
+    let Ok(bits) = model.symptom(memory, &[true, true]) else {
+        return Err(Fault::MEMORY);
+    };
+    Ok(model.line_count() == 3 && bits.as_slice() == [false, false, true, true].as_slice())
+}
+
+fn plain_is_right(memory: Memory<'_>) -> Result<bool, Fault> {
+    let text = b"error(0.1) D0 L0\nerror(0.2) D0 D2\nerror(0.2) D1\n";
+    match dem_parser::read_plain(memory, text)? {
+        Some(model) => is_plain(memory, &model),
+        None => Ok(false),
+    }
 }
 
 fn coins_are_right<'m>(

@@ -13,6 +13,6 @@ loop-left-preserved g c =
     record {
       within = omega (arith, within);
       pushed = Pushes-one c.loop-left.invariant.pushed c.push.ensures
-      (ap (λ l. texts_of (drop left full) ++ l) c.text.ensures
-      ∙ one_block_more full (left - 1) left c.index-full-left.result next within c.index-full-left.is);
+          (ap (λ l. texts_of (drop left full) ++ l) c.text.ensures
+          ∙ one_block_more full (left - 1) left c.index-full-left.result next within c.index-full-left.is);
     }

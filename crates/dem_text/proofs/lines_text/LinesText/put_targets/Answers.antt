@@ -15,6 +15,6 @@ loop-left-preserved g c =
       within = omega (arith, le, c.loop-left.invariant.within);
       detectors = c.loop-left.invariant.detectors;
       text = put_before (targets_text detectors part) (targets_text detectors (drop left targets)) c.args.self.now.text (targets_text detectors (drop from targets)) c.put_targets.new.self c.make_room.new.block c.make_room.new.full.items
-      (c.put_targets.ensures ∙ ap (λ d. targets_text d part ++ c.make_room.new.block.text) c.loop-left.invariant.detectors)
-      (c.make_room.ensures.same ∙ c.loop-left.invariant.text) (texts_and_rest (target_text detectors) targets from left le);
+          (c.put_targets.ensures ∙ ap (λ d. targets_text d part ++ c.make_room.new.block.text) c.loop-left.invariant.detectors)
+          (c.make_room.ensures.same ∙ c.loop-left.invariant.text) (texts_and_rest (target_text detectors) targets from left le);
     }
