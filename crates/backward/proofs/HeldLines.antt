@@ -1,5 +1,5 @@
 -- The text of a program's error model, from that of its lines and that of the rest.
-use Rattle.std.proofs.Common.{◌≡◌, [], ◌++◌, ap, ap₂, sym, ◌∙◌, append_assoc}
+use Rattle.std.proofs.Common.{◌≡◌, [], ◌++◌, ap₂, sym, ◌∙◌, append_assoc}
 use Rattle.std.specs.Prelude.{reverse}
 use Rattle.std.specs.List.{flat_map}
 use Rattle.std.proofs.lemmas.List.{reverse-reverse}

@@ -1,4 +1,4 @@
-use Rattle.std.proofs.Common.{Option, length, ap, subst, ◌∙◌}
+use Rattle.std.proofs.Common.{length, ap, subst, ◌∙◌}
 use Rattle.std.specs.Option.{IfNone}
 use Rattle.step_model.specs.HitModels.{model_of}
 use Rattle.step_model.specs.Listing.{Listing}

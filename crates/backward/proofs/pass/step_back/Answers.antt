@@ -1,4 +1,4 @@
-use Rattle.std.proofs.Common.{◌<◌, ◌∷◌, [], List, None, Some, refl, get_or, drop, ap, subst, sym, ◌∙◌, rules}
+use Rattle.std.proofs.Common.{◌<◌, ◌∷◌, [], List, None, Some, refl, get_or, drop, ap, subst, sym, ◌∙◌}
 use Rattle.std.specs.Prelude.{All}
 use Rattle.step_model.specs.declared.step.Term.{Term}
 use Rattle.step_model.specs.Listing.{word_of_terms}

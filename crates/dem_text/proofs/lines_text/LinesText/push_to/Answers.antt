@@ -1,4 +1,4 @@
-use Rattle.std.proofs.Common.{◌++◌, ap, ap₂, ◌∙◌, sym}
+use Rattle.std.proofs.Common.{◌++◌, ap, ap₂, ◌∙◌}
 use Rattle.dem_text.specs.HeldText.{texts_of}
 use Rattle.dem_text.proofs.ShortLineLemmas.{Pushes-one}
 use Rattle.dem_text.proofs.lines_text.LinesText.push_to.Goals as goal
