@@ -53,7 +53,7 @@ impl<'a, A: Allocator + Copy> TargetSet for SparseSet<'a, A> {
     }
 
     fn clear(&mut self) {
-        self.items.clear();
+        empty(&mut self.items);
     }
 
     fn toggle(&mut self, target: u32) -> Result<(), AllocError> {
@@ -118,8 +118,35 @@ fn add_few<A: Allocator + Copy>(
 {
     let mut sum = [0; 2 * FEW];
     let len = merge_few(items.as_slice(), more, &mut sum);
-    items.clear();
-    items.extend_from_slice(&sum[..len])
+    empty(items);
+    let pushed = push_few(items, &sum[..len]);
+    if pushed.is_err() {
+        empty(items);
+    }
+    pushed
+}
+
+// Takes all targets out, one by one: they are few, and each takes less than a call.
+#[inline]
+fn empty<A: Allocator + Copy>(items: &mut SmallVec<u32, 4, A>)
+    ensures { items.new.items ≡ [] }
+{
+    while items.pop().is_some() {}
+}
+
+// Puts these into an empty list, one by one.
+#[inline]
+fn push_few<A: Allocator + Copy>(
+    items: &mut SmallVec<u32, 4, A>,
+    targets: &[u32],
+) -> Result<(), AllocError>
+    requires { items.old.items ≡ [] }
+    ensures { OnOk result (items.new.items ≡ targets.now) }
+{
+    for target in targets {
+        items.push(*target)?;
+    }
+    Ok(())
 }
 
 // Takes a target out of a descending list, or puts it in at its place.

@@ -7,5 +7,5 @@ use Rattle.backward.proofs.sparse_set.SparseSetTargetSet.clear.Goals as goal
 pub returns : goal.returns
 returns g c =
     let m = c.self.inside.targets in
-    ap (row_of_set m) c.clear.ensures.items
+    ap (row_of_set m) c.empty.ensures
     ∙ (row_of_no_set m ∙ ap (λ n. replicate n false) (sym (sym (ap length c.self.view_is) ∙ length-row_of_set m c.self.inside.items.items)))
