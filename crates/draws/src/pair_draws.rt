@@ -62,7 +62,8 @@ fn draw_faults(
     }
 }
 
-// The same of the faults of one run.
+// The same of the faults of one run. Not inlined, so that the loop has the registers to itself.
+#[inline(never)]
 fn draw_run(
     faults: &mut [u64],
     start: usize,
