@@ -59,7 +59,6 @@ fn are_right<'a>(last: &mut LastProbability<'a>, arguments: &'a [u8]) -> bool
 }
 
 /// The arguments that the error line has which a text begins as, where later lines may be told by them.
-#[inline(never)]
 pub(crate) fn head_in<'a>(last: &mut LastProbability<'a>, text: &'a [u8]) -> Option<Head<'a>> {
     let inside = behind(b"error(", text)?;
     let (arguments, _) = cut_at(inside, b')');

@@ -107,15 +107,13 @@ impl<'a, A: Allocator + Copy> PlainReader<'a, A> {
         Ok(true)
     }
 
-    /// Reads a line as it stands, where it is an error line as nearly all are written. Answers whether it is.
-    #[inline(always)]
-    fn pass_error(&mut self, text: &'a [u8]) -> Result<bool, AllocError>
+    /// The same where it is an error line whose head is read anew. It is never inlined, so that it takes no registers from
+    /// the lines that begin as one before them.
+    #[inline(never)]
+    fn pass_anew(&mut self, text: &'a [u8]) -> Result<bool, AllocError>
         ensures passed { IfOk result (λ passed. passed ≡ true → (number : ℕ) → Passes Goes number text.now self.old.lines self.new.lines) }
         ensures still { IfOk result (λ passed. passed ≡ false → self.new.lines ≡ self.old.lines) }
     {
-        if self.pass_alike(text)? {
-            return Ok(true);
-        }
         let Some(head) = head_in(&mut self.last.probability, text) else {
             return Ok(false);
         };
@@ -141,7 +139,7 @@ impl<'a, A: Allocator + Copy> PlainReader<'a, A> {
         requires { list_any is_line_feed text.now ≡ false }
         ensures { IfOk result (λ step. Passes step number text.now self.old.lines self.new.lines) }
     {
-        if self.pass_error(text)? {
+        if self.pass_alike(text)? || self.pass_anew(text)? {
             return Ok(Step::Goes);
         }
         self.pass_any(number, text)
