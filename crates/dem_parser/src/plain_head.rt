@@ -6,9 +6,12 @@ ghost use Rattle.stim_parser.specs.Said.{AreProbabilities};
 ghost use Rattle.dem_parser.specs.ErrorTexts.{is_quiet};
 
 use crate::plain_targets::behind_byte;
-use stim_parser::{ArgumentForm, LastParentheses};
+use stim_lexer::cut_at;
+use stim_parser::{
+    ArgumentForm, LastProbability, has_wrong_arguments, has_wrong_probability, read_arguments,
+};
 
-/// What stood in the parentheses of an error line that was taken: most that follow have the same.
+/// What stood in the parentheses of an error line, where that is right: most that follow have the same.
 #[derive(Clone, Copy)]
 pub(crate) struct Head<'a> {
     pub arguments: &'a [u8],
@@ -22,15 +25,6 @@ fn is_quiet(text: &[u8]) -> bool
 {
     text.iter()
         .all(|byte| *byte == b' ' || (43..=122).contains(byte))
-}
-
-/// The arguments of an error line, where they were judged last and later lines may be told by them.
-pub(crate) fn head_of<'a>(last: &LastParentheses<'a>, arguments: &'a [u8]) -> Option<Head<'a>> {
-    if last.are(ArgumentForm::OneProbability, arguments) && is_quiet(arguments) {
-        Some(Head { arguments })
-    } else {
-        None
-    }
 }
 
 /// What follows a text at the front of another.
@@ -50,4 +44,27 @@ pub(crate) fn behind_head<'t>(arguments: &[u8], text: &'t [u8]) -> Option<&'t [u
     let closed = behind(arguments, inside)?;
     let rest = behind_byte(b')', closed)?;
     Some(rest)
+}
+
+/// Whether arguments are those of an error line.
+fn are_right<'a>(last: &mut LastProbability<'a>, arguments: &'a [u8]) -> bool
+    ensures { result ≡ true → AreProbabilities OneProbability (arguments_in arguments.now) }
+{
+    let Some(read) = read_arguments(arguments) else {
+        return false;
+    };
+    let form = ArgumentForm::OneProbability;
+    !has_wrong_arguments(form, read.as_slice())
+        && !has_wrong_probability(last, form, read.as_slice())
+}
+
+/// The arguments that the error line has which a text begins as, where later lines may be told by them.
+pub(crate) fn head_in<'a>(last: &mut LastProbability<'a>, text: &'a [u8]) -> Option<Head<'a>> {
+    let inside = behind(b"error(", text)?;
+    let (arguments, _) = cut_at(inside, b')');
+    if is_quiet(arguments) && are_right(last, arguments) {
+        Some(Head { arguments })
+    } else {
+        None
+    }
 }

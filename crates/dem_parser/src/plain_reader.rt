@@ -12,7 +12,7 @@ ghost use Rattle.dem_parser.specs.Verdicts.{reading_of};
 
 use crate::judge::{Last, Said, read_line};
 use crate::operation::Operation;
-use crate::plain_head::{Head, behind_head, head_of};
+use crate::plain_head::{Head, behind_head, head_in};
 use crate::plain_tally::TalliedLines;
 use crate::plain_targets::counted;
 use crate::target::Target;
@@ -74,7 +74,6 @@ impl<'a, A: Allocator + Copy> PlainReader<'a, A> {
         ensures { IfOk result (λ step. Steps step (reading_of 0 line.entry.number (cut_in line.entry)) self.old.lines self.new.lines) }
     {
         let text = line.targets;
-        let inside = line.arguments;
         match read_line(&mut self.last, &mut self.targets, 0, line)? {
             Said::Takes {
                 operation: Operation::Shifts,
@@ -82,7 +81,6 @@ impl<'a, A: Allocator + Copy> PlainReader<'a, A> {
             } => Ok(Step::Leaves),
             Said::Takes { operation, .. } => {
                 self.lines.add(operation, text, self.targets.as_slice())?;
-                self.head = head_of(&self.last.parentheses, inside);
                 Ok(Step::Goes)
             }
             Said::Refuses(cause) => Ok(Step::Refuses(cause)),
@@ -109,6 +107,20 @@ impl<'a, A: Allocator + Copy> PlainReader<'a, A> {
         Ok(true)
     }
 
+    /// The same where it is an error line whose head is read anew. It is never inlined, so that it takes no registers from
+    /// the lines that begin as one before them.
+    #[inline(never)]
+    fn pass_anew(&mut self, text: &'a [u8]) -> Result<bool, AllocError>
+        ensures passed { IfOk result (λ passed. passed ≡ true → (number : ℕ) → Passes Goes number text.now self.old.lines self.new.lines) }
+        ensures still { IfOk result (λ passed. passed ≡ false → self.new.lines ≡ self.old.lines) }
+    {
+        let Some(head) = head_in(&mut self.last.probability, text) else {
+            return Ok(false);
+        };
+        self.head = Some(head);
+        self.pass_alike(text)
+    }
+
     /// Reads any line of a number as it stands.
     fn pass_any(&mut self, number: u64, text: &'a [u8]) -> Result<Step, AllocError>
         requires { list_any is_line_feed text.now ≡ false }
@@ -127,7 +139,7 @@ impl<'a, A: Allocator + Copy> PlainReader<'a, A> {
         requires { list_any is_line_feed text.now ≡ false }
         ensures { IfOk result (λ step. Passes step number text.now self.old.lines self.new.lines) }
     {
-        if self.pass_alike(text)? {
+        if self.pass_alike(text)? || self.pass_anew(text)? {
             return Ok(Step::Goes);
         }
         self.pass_any(number, text)
