@@ -32,7 +32,7 @@ pub enum Analysed<'a, A: Allocator + Copy> {
 pub enum AnalysedText<'a, A: Allocator + Copy> {
     /// No target is random: the text of the lines, and the model without them.
     Text {
-        lines: LinesText<A>,
+        lines: LinesText<'a, A>,
         rest: Model<'a, A>,
     },
     /// As in `Analysed`.
@@ -114,15 +114,12 @@ fn find_text<'a, A: Allocator + Copy, T: Tracker>(
     requires { T.tracked tracker.old ≡ fresh program.now.qubits (length (targets_of program.now)) }
     ensures { IfOk result (IsAnalysedText program.now) }
 {
-    let none = TextStore {
-        program,
-        text: LinesText::new(alloc, program.detector_count()),
-    };
+    let none = TextStore::new(alloc, program)?;
     let judged = go_back_and_judge(&alloc, program, tracker, none)?;
     match judged.lowest {
         Some((which, place)) => Ok(AnalysedText::Random { which, place }),
         None => Ok(AnalysedText::Text {
-            lines: judged.lines.text,
+            lines: judged.lines.into_text(),
             rest: without_lines(alloc, program)?,
         }),
     }

@@ -1,9 +1,12 @@
 //! What the error lines are given to that a pass finds, the last fault's first: a model, or its text.
-ghost use Rattle.std.specs.Prelude.{◌≡◌, ◌<◌, ◌++◌, ◌∷◌, [], List, length, OnOk};
+ghost use Rattle.std.specs.Prelude.{◌≡◌, ◌<◌, ◌++◌, ◌∷◌, [], List, length, All, IfOk, OnOk};
 ghost use Rattle.step_model.specs.ErrorModels.{ErrorLine};
 ghost use Rattle.step_model.specs.Listing.{Listing, kept_at};
+ghost use Rattle.step_model.specs.Targets.{targets_of};
+ghost use Rattle.backward.specs.Numbered.{AreNumbers, IsTextFor};
 ghost use Rattle.dem_text.specs.HeldText.{HoldsLines};
 
+use crate::targets::target_count;
 use dem_text::{LinesText, Model};
 use programs::Program;
 use std::alloc::{AllocError, Allocator};
@@ -18,7 +21,8 @@ pub(crate) trait LineStore {
 
     /// Takes the line of a fault of this entry, which flips these targets.
     fn give(&mut self, entry: u32, targets: &[u32]) -> Result<(), AllocError>
-        requires { entry < length (program self.old).kept }
+        requires entry { entry < length (program self.old).kept }
+        requires named { All (λ t. t < length (targets_of (program self.old))) targets.now }
         ensures program { program self.new ≡ program self.old }
         ensures holds { OnOk result ((lines : List ErrorLine) → holds self.old lines → holds self.new (lines ++ record { text = (kept_at (program self.old) entry).text; targets = targets.now } ∷ [])) };
 }
@@ -44,16 +48,63 @@ impl<'p, 'a, A: Allocator + Copy> LineStore for ModelStore<'p, 'a, A> {
 /// The text of a program's lines.
 #[derive(Drop)]
 pub(crate) struct TextStore<'p, 'a, A: Allocator + Copy> {
-    pub(crate) program: &'p Program<'a, A>,
-    pub(crate) text: LinesText<A>,
+    program: &'p Program<'a, A>,
+    // For each entry the number of its text among those that are kept.
+    numbers: Vec<u32, A>,
+    text: LinesText<'a, A>,
+    ghost fits: { IsTextFor program.now numbers.items text },
+}
+
+impl<'p, 'a, A: Allocator + Copy> TextStore<'p, 'a, A> {
+    /// No lines.
+    pub(crate) fn new(alloc: A, program: &'p Program<'a, A>) -> Result<Self, AllocError>
+        ensures none { IfOk result (λ store. store.text.text ≡ []) }
+        ensures program { IfOk result (λ store. store.program.now ≡ program.now) }
+    {
+        program.well_formed();
+        let mut text = LinesText::new(alloc, program.detector_count(), target_count(program))?;
+        let numbers = kept_numbers(alloc, program, &mut text)?;
+        Ok(TextStore {
+            program,
+            numbers,
+            text,
+        })
+    }
+
+    /// The text of the lines.
+    pub(crate) fn into_text(self) -> LinesText<'a, A>
+        ensures { result ≡ self.text }
+    {
+        self.text
+    }
+}
+
+// Keeps the text of each entry, and answers its number for each.
+fn kept_numbers<'a, A: Allocator + Copy>(
+    alloc: A,
+    program: &Program<'a, A>,
+    text: &mut LinesText<'a, A>,
+) -> Result<Vec<u32, A>, AllocError>
+    ensures numbers { IfOk result (λ numbers. AreNumbers program.now text.new.texts numbers.items) }
+    ensures counted { IfOk result (λ numbers. length numbers.items ≡ length program.now.kept) }
+    ensures same { text.new ≡ record text.old { texts = text.new.texts } }
+{
+    let count = program.entry_count();
+    let mut numbers = Vec::with_capacity(alloc, count)?;
+    for entry in 0..count {
+        let number = text.keep_text(program.entry_text(entry as u32))?;
+        numbers.push(number)?;
+    }
+    Ok(numbers)
 }
 
 impl<'p, 'a, A: Allocator + Copy> LineStore for TextStore<'p, 'a, A> {
     ghost program = { λ store. store.program.now };
 
-    ghost holds = { λ store lines. HoldsLines store.text lines × (store.text.detectors ≡ length store.program.now.detectors) };
+    ghost holds = { λ store lines. HoldsLines store.text lines };
 
     fn give(&mut self, entry: u32, targets: &[u32]) -> Result<(), AllocError> {
-        self.text.put_line(self.program.entry_text(entry), targets)
+        let number = self.numbers[entry as usize];
+        self.text.put_line(number, targets)
     }
 }

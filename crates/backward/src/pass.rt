@@ -160,6 +160,7 @@ fn note_flip<'a, A: Allocator + Copy, L: LineStore>(
     lines: &mut L,
 ) -> Result<(), AllocError>
     requires flip { IsNamedFlip program.now flip }
+    requires named { All (λ t. t < length (targets_of program.now)) targets.now }
     requires store { L.program lines.old ≡ program.now }
     ensures lines { OnOk result ((given : List ErrorLine) → L.holds lines.old given → L.holds lines.new (with_flip program.now flip targets.now given)) }
     ensures store { L.program lines.new ≡ L.program lines.old }
@@ -178,6 +179,7 @@ fn note_line<'a, A: Allocator + Copy, L: LineStore>(
     lines: &mut L,
 ) -> Result<(), AllocError>
     requires entry { entry < length program.now.kept }
+    requires named { All (λ t. t < length (targets_of program.now)) targets.now }
     requires store { L.program lines.old ≡ program.now }
     ensures lines { OnOk result ((given : List ErrorLine) → L.holds lines.old given → L.holds lines.new (with_line (kept_at program.now entry).text targets.now given)) }
     ensures store { L.program lines.new ≡ L.program lines.old }
@@ -198,6 +200,7 @@ fn fault<'s, 'a, A: Allocator + Copy, T: Tracker, L: LineStore>(
 ) -> Result<(), AllocError>
     requires entry { name.entry < length program.now.kept }
     requires qubits { (T.tracked tracker.old).qubits ≡ program.now.qubits }
+    requires words { length (T.tracked tracker.old).words ≡ length (targets_of program.now) }
     requires store { L.program found.old.lines ≡ program.now }
     ensures words { OnOk result (T.tracked tracker.new ≡ T.tracked tracker.old) }
     ensures sets { OnOk result (found.new.sets.items ≡ found.old.sets.items) }

@@ -174,6 +174,13 @@ impl<'a, A: Allocator + Copy> Program<'a, A> {
         self.parts.coordinates.get(d)
     }
 
+    /// How many entries are kept.
+    pub fn entry_count(&self) -> usize
+        ensures { result ≡ length self.now.kept }
+    {
+        self.parts.entries.len().min(self.parts.terms.len())
+    }
+
     /// The text of the probability that is kept at a number.
     pub fn entry_text(&self, e: u32) -> &'a [u8]
         requires { e < length self.now.kept }

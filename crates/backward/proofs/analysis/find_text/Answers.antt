@@ -12,6 +12,6 @@ returns g c =
     let judged = c.in_ok-judged.judged in (
       subst (λ lowest. IfNone lowest (NoneIsRandom program)) c.in-None.is c.in_ok-judged.ensures.none,
       whole_text (model_of program) c.in_ok-without_lines-in-None.field-0 judged.lines.text
-          (c.in_ok-judged.ensures.lines.1 ∙ ap (λ (p : Listing). length p.detectors) c.in_ok-judged.ensures.store) c.in_ok-judged.ensures.lines.0
+          (judged.lines.fits.detectors ∙ ap (λ (p : Listing). length p.detectors) c.in_ok-judged.ensures.store) c.in_ok-judged.ensures.lines
           c.in_ok-without_lines-in-None.ensures,
     )

@@ -17,6 +17,14 @@ note-requires g c =
     (subst (All (λ t. t < length (targets_of program))) (sym (c.as_slice.ensures.value ∙ c.in_ok-hit.ensures.hit))
     (hit_in_range program c.args.terms.now tracked c.requires.size.words))
 
+pub note_flip-requires-clause-named : goal.note_flip-requires-clause-named
+note_flip-requires-clause-named g c =
+    let program = c.args.program.now in
+    let sets = c.args.found.now.sets.items in
+    subst (All (λ t. t < length (targets_of program))) (sym (c.as_slice-2.ensures.value ∙ c.in_ok-list_record.ensures))
+    (members_at-within sets c.args.rec (length (targets_of program))
+    (record_has_set c.args.rec program.records (length sets) c.requires.size.sets (record_named program c.args.rec c.requires.rec)) c.requires.size.sets_long)
+
 pub undo_collapse-requires-clause-ascending : goal.undo_collapse-requires-clause-ascending
 undo_collapse-requires-clause-ascending g c =
     subst IsStrictlyIncreasing (sym (c.as_slice-3.ensures.value ∙ c.in_ok-list_record.ensures)) (members_at-ascend c.args.found.now.sets.items c.args.rec)

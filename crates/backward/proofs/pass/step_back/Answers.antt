@@ -32,6 +32,13 @@ feedback-requires-clause-size g c =
     let f = c.args.found.now in
     of_size program (drop c.args.walk.now.place program.steps) (g.T.Tracker.tracked c.args.tracker.now) f.sets.items (lines_found program (drop c.args.walk.now.place program.steps)) f.latest.items f.left c.requires.passed.0
 
+pub fault-requires-clause-words : goal.fault-requires-clause-words
+fault-requires-clause-words g c =
+    let program = c.args.program.now in
+    let f = c.args.found.now in
+    let rest = drop c.args.walk.now.place program.steps in
+    (of_size program rest (g.T.Tracker.tracked c.args.tracker.now) f.sets.items (lines_found program rest) f.latest.items f.left c.requires.passed.0).words
+
 pub collapse-requires-clause-reset : goal.collapse-requires-clause-reset
 collapse-requires-clause-reset g c =
     let program = c.args.program.now in
