@@ -21,9 +21,12 @@ texts_of full = flat_map (λ b. b.text) (reverse full)
 abbrev pub text_in : Filled → List Filled → List ℕ
 text_in block full = block.text ++ texts_of full
 
--- what is held of error lines: of how many detectors targets are told apart, and the text of the lines
+-- what is held of error lines: of how many detectors targets are told apart, how many targets there are, the texts of
+-- probabilities that lines may have, and the text of the lines
 pub record Held : Type 0 where
   pub detectors : ℕ
+  pub targets : ℕ
+  pub texts : List (List ℕ)
   pub text : List ℕ
 
 -- it is the text of these lines, the last of them first

@@ -3,3 +3,4 @@ pub mod HeldText
 pub mod LineHeads
 pub mod ModelText
 pub mod ShortLines
+pub mod TargetNames

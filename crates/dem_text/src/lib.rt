@@ -6,10 +6,12 @@ mod line_text;
 mod lines;
 mod lines_text;
 mod model;
+mod names;
 mod short_detectors;
 mod short_lines;
 mod text;
 mod text_block;
+mod texts;
 
 pub use lines_text::LinesText;
 pub use model::Model;

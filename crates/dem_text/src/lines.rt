@@ -3,12 +3,10 @@ ghost use Rattle.std.specs.Prelude.{◌≡◌, ◌<◌, ◌≤◌, ◌^◌, ◌+
 ghost use Rattle.dem_text.specs.ErrorLines.{no_line, text_at, KeepsTexts};
 
 use crate::line_text::LineText;
+use crate::texts::number_of;
 use flat_lists::FlatLists;
 use std::alloc::{AllocError, Allocator};
 use std::marker::Model;
-
-// Among how many of the latest texts that of a new line is looked for.
-const LATEST: usize = 8;
 
 /// Error lines, in the order in which they were pushed. A circuit has few texts of probabilities, so that a line keeps the
 /// number of its text.
@@ -79,58 +77,4 @@ impl<'a, A: Allocator + Copy> Lines<'a, A> {
     {
         self.targets.get(line)
     }
-}
-
-// The number of a text, which is appended where it isn't among the latest.
-fn number_of<'a, A: Allocator + Copy>(
-    texts: &mut Vec<LineText<'a>, A>,
-    text: &'a [u8],
-) -> Result<u32, AllocError>
-    ensures kept { KeepsTexts texts.old.items texts.new.items }
-    ensures within { IfOk result (λ n. n < length texts.new.items) }
-    ensures named { IfOk result (λ n. text_at texts.new.items n ≡ text.now) }
-{
-    let count = texts.len();
-    if count > u32::MAX as usize {
-        return Err(AllocError);
-    }
-    if let Some(number) = latest(texts.as_slice(), text) {
-        return Ok(number as u32);
-    }
-    texts.push(LineText::new(text))?;
-    Ok(count as u32)
-}
-
-// Where a text stands among the latest.
-fn latest<'a>(texts: &[LineText<'a>], text: &[u8]) -> Option<usize>
-    ensures within { IfSome result (λ n. n < length texts.now) }
-    ensures named { IfSome result (λ n. text_at texts.now n ≡ text.now) }
-{
-    let mut left = texts.len();
-    let last = left.saturating_sub(LATEST);
-    while left > last {
-        left -= 1;
-        if is_same(texts[left].text(), text) {
-            return Some(left);
-        }
-    }
-    None
-}
-
-// Whether two texts are the same. Those of one length differ most often at their ends.
-#[inline]
-fn is_same(first: &[u8], second: &[u8]) -> bool
-    ensures { result ≡ true → first.now ≡ second.now }
-{
-    if first.len() != second.len() {
-        return false;
-    }
-    let mut left = first.len();
-    while left > 0 {
-        left -= 1;
-        if first[left] != second[left] {
-            return false;
-        }
-    }
-    true
 }

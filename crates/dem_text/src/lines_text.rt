@@ -1,11 +1,15 @@
 //! The text of error lines that are found from the last to the first.
-ghost use Rattle.std.specs.Prelude.{◌≡◌, ◌≤◌, ◌++◌, [], length, OnOk};
+ghost use Rattle.std.specs.Prelude.{◌≡◌, ◌<◌, ◌≤◌, ◌+◌, ◌++◌, [], All, length, IfOk, OnOk};
+ghost use Rattle.dem_text.specs.ErrorLines.{text_at, KeepsTexts};
 ghost use Rattle.dem_text.specs.HeldText.{text_in, texts_of};
 ghost use Rattle.dem_text.specs.ModelText.{line_text, targets_text};
 ghost use Rattle.pieces.specs.Pushed.{Pushes};
 
+use crate::line_text::LineText;
+use crate::names::Names;
 use crate::short_lines::{SHORT_TARGETS, SHORT_TEXT};
 use crate::text_block::TextBlock;
+use crate::texts::number_of;
 use pieces::Pieces;
 use std::alloc::{AllocError, Allocator};
 use std::marker::Model;
@@ -16,22 +20,29 @@ use step_model::Sink;
 const PART: usize = 240;
 
 /// The text of error lines, each put before those that were there: so the lines of a pass that finds the last first are
-/// written when they are found. The text grows by blocks of 64 KiB, and what was written isn't moved.
+/// written when they are found. The text grows by blocks of 64 KiB, and what was written isn't moved. The texts of targets
+/// are made once, and those of probabilities once each, so that a line is put together of copies.
 #[derive(Drop)]
-pub struct LinesText<A: Allocator + Copy> {
+pub struct LinesText<'a, A: Allocator + Copy> {
     alloc: A,
-    detectors: usize,
+    names: Names<A>,
+    texts: Vec<LineText<'a>, A>,
     // The blocks that were filled, the last of the text first.
     full: Vec<TextBlock<A>, A>,
     block: TextBlock<A>,
 }
 
-impl<A: Allocator + Copy> Model for LinesText<A> {
+impl<'a, A: Allocator + Copy> Model for LinesText<'a, A> {
     ghost use Rattle.dem_text.specs.HeldText.{Held, text_in};
 
     ghost Value = { Held };
 
-    ghost view = { λ t. record { detectors = t.detectors; text = text_in t.block t.full.items } };
+    ghost view = { λ t. record {
+      detectors = t.names.detectors;
+      targets = t.names.targets;
+      texts = t.texts.items;
+      text = text_in t.block t.full.items;
+    } };
 }
 
 // Makes room for a part, where there is less.
@@ -65,36 +76,64 @@ fn next_block<A: Allocator + Copy>(
     Ok(())
 }
 
-impl<A: Allocator + Copy> LinesText<A> {
-    /// No text, where there are so many detectors. Takes no memory.
-    pub fn new(alloc: A, detectors: usize) -> Self
-        ensures { result ≡ record { detectors = detectors; text = [] } }
+impl<'a, A: Allocator + Copy> LinesText<'a, A> {
+    /// No text, where there are so many detectors, and so many targets with the observables. (So the number of each has at
+    /// most six digits.)
+    pub fn new(alloc: A, detectors: usize, targets: usize) -> Result<Self, AllocError>
+        requires few_detectors { detectors ≤ 1000000 }
+        requires few { targets ≤ detectors + 1000000 }
+        ensures { IfOk result (λ lines. lines ≡ record { detectors = detectors; targets = targets; texts = []; text = [] }) }
     {
-        LinesText {
+        Ok(LinesText {
             alloc,
-            detectors,
+            names: Names::new(alloc, detectors, targets)?,
+            texts: Vec::new(alloc),
             full: Vec::new(alloc),
             block: TextBlock::none(alloc),
-        }
+        })
     }
 
-    /// Puts a line before those that were there. It may fail only where memory runs out.
-    pub fn put_line(&mut self, text: &[u8], targets: &[u32]) -> Result<(), AllocError>
-        ensures ok { OnOk result (self.new.text ≡ line_text self.old.detectors (record { text = text.now; targets = targets.now }) ++ self.old.text) }
+    /// The number of a probability's text, which is kept. It may fail only where memory runs out.
+    pub fn keep_text(&mut self, text: &'a [u8]) -> Result<u32, AllocError>
+        ensures within { IfOk result (λ number. number < length self.new.texts) }
+        ensures named { IfOk result (λ number. text_at self.new.texts number ≡ text.now) }
+
+        // Also where memory runs out.
+        ensures kept { KeepsTexts self.old.texts self.new.texts }
         ensures detectors { self.new.detectors ≡ self.old.detectors }
+        ensures targets { self.new.targets ≡ self.old.targets }
+        ensures text { self.new.text ≡ self.old.text }
     {
-        if text.len() > SHORT_TEXT || targets.len() > SHORT_TARGETS {
+        number_of(&mut self.texts, text)
+    }
+
+    /// Puts a line before those that were there, with the kept text of this number. It may fail only where memory runs
+    /// out.
+    pub fn put_line(&mut self, number: u32, targets: &[u32]) -> Result<(), AllocError>
+        requires number { number < length self.old.texts }
+        requires targets { All (λ target. target < self.old.targets) targets.now }
+        ensures ok { OnOk result (self.new.text ≡ line_text self.old.detectors (record { text = text_at self.old.texts number; targets = targets.now }) ++ self.old.text) }
+        ensures detectors { self.new.detectors ≡ self.old.detectors }
+        ensures targets { self.new.targets ≡ self.old.targets }
+        ensures texts { self.new.texts ≡ self.old.texts }
+    {
+        let text = &self.texts[number as usize];
+        if text.text().len() > SHORT_TEXT || targets.len() > SHORT_TARGETS {
+            let text = text.text();
             return self.put_long_line(text, targets);
         }
         make_room(self.alloc, &mut self.full, &mut self.block)?;
-        self.block.put_line(self.detectors, text, targets);
+        self.block.put_line(&self.names, text, targets);
         Ok(())
     }
 
     #[inline(never)]
     fn put_long_line(&mut self, text: &[u8], targets: &[u32]) -> Result<(), AllocError>
+        requires { All (λ target. target < self.old.targets) targets.now }
         ensures ok { OnOk result (self.new.text ≡ line_text self.old.detectors (record { text = text.now; targets = targets.now }) ++ self.old.text) }
         ensures detectors { self.new.detectors ≡ self.old.detectors }
+        ensures targets { self.new.targets ≡ self.old.targets }
+        ensures texts { self.new.texts ≡ self.old.texts }
     {
         self.put(b"\n")?;
         self.put_targets(targets)?;
@@ -107,6 +146,8 @@ impl<A: Allocator + Copy> LinesText<A> {
     fn put(&mut self, bytes: &[u8]) -> Result<(), AllocError>
         ensures ok { OnOk result (self.new.text ≡ bytes.now ++ self.old.text) }
         ensures detectors { self.new.detectors ≡ self.old.detectors }
+        ensures targets { self.new.targets ≡ self.old.targets }
+        ensures texts { self.new.texts ≡ self.old.texts }
     {
         let mut left = bytes.len();
         while left > 0 {
@@ -120,14 +161,17 @@ impl<A: Allocator + Copy> LinesText<A> {
 
     // Puts the text of targets before the text.
     fn put_targets(&mut self, targets: &[u32]) -> Result<(), AllocError>
+        requires { All (λ target. target < self.old.targets) targets.now }
         ensures ok { OnOk result (self.new.text ≡ targets_text self.old.detectors targets.now ++ self.old.text) }
         ensures detectors { self.new.detectors ≡ self.old.detectors }
+        ensures targets { self.new.targets ≡ self.old.targets }
+        ensures texts { self.new.texts ≡ self.old.texts }
     {
         let mut left = targets.len();
         while left > 0 {
             let from = left.saturating_sub(SHORT_TARGETS);
             make_room(self.alloc, &mut self.full, &mut self.block)?;
-            self.block.put_targets(self.detectors, &targets[from..left]);
+            self.block.put_targets(&self.names, &targets[from..left]);
             left = from;
         }
         Ok(())

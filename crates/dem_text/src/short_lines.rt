@@ -40,29 +40,6 @@ pub(crate) fn line_before<'a>(
     text.head_before(buffer, at)
 }
 
-/// The same of a line whose beginning isn't kept.
-#[inline(always)]
-pub(crate) fn plain_line_before(
-    buffer: &mut [u8],
-    end: usize,
-    detectors: usize,
-    text: &[u8],
-    targets: &[u32],
-) -> usize
-    requires within { end ≤ length buffer.old }
-    requires room { 240 ≤ end }
-    requires short { length text.now ≤ 32 }
-    requires few { length targets.now ≤ 16 }
-    ensures within { result ≤ end }
-    ensures written { drop result buffer.new ≡ line_text detectors (record { text = text.now; targets = targets.now }) ++ drop end buffer.old }
-{
-    let at = text_before(buffer, end, b"\n");
-    let at = targets_before(buffer, at, detectors, targets);
-    let at = text_before(buffer, at, b")");
-    let at = text_before(buffer, at, text);
-    text_before(buffer, at, b"error(")
-}
-
 /// Writes some targets so that they end at `end`, and answers where they start. The text of each is at most 12 long: a space,
 /// a letter and ten digits.
 #[inline]
@@ -87,9 +64,9 @@ pub(crate) fn targets_before(
     at
 }
 
-// Writes a target after its space.
+/// Writes a target after its space.
 #[inline(always)]
-fn target_before(buffer: &mut [u8], end: usize, detectors: usize, target: u32) -> usize
+pub(crate) fn target_before(buffer: &mut [u8], end: usize, detectors: usize, target: u32) -> usize
     requires within { end ≤ length buffer.old }
     requires room { 12 ≤ end }
     ensures within { result ≤ end }

@@ -37,8 +37,8 @@ pub fn write<'a, A: Allocator + Copy, W: Sink>(
 
 /// Writes the text of error lines that is held, and then that of a model. It takes no memory, and fails only where the sink
 /// fails; a beginning of the text has then gone out, and the sink is not called again.
-pub fn write_behind<'a, A: Allocator + Copy, W: Sink>(
-    lines: &LinesText<A>,
+pub fn write_behind<'t, 'a, A: Allocator + Copy, W: Sink>(
+    lines: &LinesText<'t, A>,
     model: &Model<'a, A>,
     sink: &mut W,
 ) -> Result<(), Fault>

@@ -1,9 +1,11 @@
 //! A block of text that is filled from its end on.
-ghost use Rattle.std.specs.Prelude.{◌≡◌, ◌≤◌, ◌*◌, ◌++◌, [], length, IfOk};
+ghost use Rattle.std.specs.Prelude.{◌≡◌, ◌<◌, ◌≤◌, ◌*◌, ◌++◌, [], All, length, IfOk};
 ghost use Rattle.dem_text.specs.HeldText.{no_text};
 ghost use Rattle.dem_text.specs.ModelText.{line_text, targets_text};
 
-use crate::short_lines::{plain_line_before, targets_before, text_before};
+use crate::line_text::LineText;
+use crate::names::Names;
+use crate::short_lines::text_before;
 use std::alloc::{AllocError, Allocator};
 use std::marker::Model;
 
@@ -72,21 +74,26 @@ impl<A: Allocator + Copy> TextBlock<A> {
     }
 
     /// Puts the text of targets before the text.
-    pub(crate) fn put_targets(&mut self, detectors: usize, targets: &[u32])
-        requires { length targets.now * 12 ≤ self.old.room }
-        ensures { self.new.text ≡ targets_text detectors targets.now ++ self.old.text }
+    pub(crate) fn put_targets(&mut self, names: &Names<A>, targets: &[u32])
+        requires room { length targets.now * 8 ≤ self.old.room }
+        requires targets { All (λ target. target < names.now.targets) targets.now }
+        ensures { self.new.text ≡ targets_text names.now.detectors targets.now ++ self.old.text }
     {
-        self.start = targets_before(&mut self.bytes, self.start, detectors, targets);
+        self.start = names.targets_before(&mut self.bytes, self.start, targets);
     }
 
     /// Puts a short line before the text.
     #[inline(always)]
-    pub(crate) fn put_line(&mut self, detectors: usize, text: &[u8], targets: &[u32])
+    pub(crate) fn put_line<'a>(&mut self, names: &Names<A>, text: &LineText<'a>, targets: &[u32])
         requires room { 240 ≤ self.old.room }
         requires short { length text.now ≤ 32 }
         requires few { length targets.now ≤ 16 }
-        ensures { self.new.text ≡ line_text detectors (record { text = text.now; targets = targets.now }) ++ self.old.text }
+        requires targets { All (λ target. target < names.now.targets) targets.now }
+        ensures { self.new.text ≡ line_text names.now.detectors (record { text = text.now; targets = targets.now }) ++ self.old.text }
     {
-        self.start = plain_line_before(&mut self.bytes, self.start, detectors, text, targets);
+        let bytes = self.bytes.as_mut_slice();
+        let at = text_before(bytes, self.start, b"\n");
+        let at = names.targets_before(bytes, at, targets);
+        self.start = text.head_before(bytes, at);
     }
 }

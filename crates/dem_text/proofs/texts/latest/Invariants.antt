@@ -1,5 +1,5 @@
 use Rattle.std.proofs.Common.{◌≤◌, length}
-use Rattle.dem_text.proofs.lines.latest.Given as goal
+use Rattle.dem_text.proofs.texts.latest.Given as goal
 
 abbrev pub invariant-loop-left : goal.invariant-loop-left
 invariant-loop-left l = l.left ≤ length l.texts

@@ -1,7 +1,7 @@
 use Rattle.std.proofs.Common.{◌≡◌, ◌++◌, ◌∷◌, [], length, ap, ◌∙◌, arith}
 use Rattle.dem_text.specs.ErrorLines.{text_at}
 use Rattle.dem_text.proofs.ErrorLineLemmas.{keeps_pushed, last_text}
-use Rattle.dem_text.proofs.lines.number_of.Goals as goal
+use Rattle.dem_text.proofs.texts.number_of.Goals as goal
 
 pub returns-clause-kept : goal.returns-clause-kept
 returns-clause-kept g c =

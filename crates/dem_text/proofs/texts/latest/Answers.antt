@@ -1,6 +1,6 @@
 use Rattle.std.proofs.Common.{◌-◌, ◌∙◌, sym, refl, arith}
 use Rattle.dem_text.proofs.ErrorLineLemmas.{text_at-get_or}
-use Rattle.dem_text.proofs.lines.latest.Goals as goal
+use Rattle.dem_text.proofs.texts.latest.Goals as goal
 
 pub returns-then-is_same-clause-named : goal.returns-then-is_same-clause-named
 returns-then-is_same-clause-named c =
