@@ -3,6 +3,7 @@ mod HeldLines
 pub mod Judging
 pub mod LoneTerms
 pub mod MultiplyLemmas
+mod NumberedLemmas
 pub mod PassLines
 pub mod PassPlaces
 pub mod PassSets

@@ -87,7 +87,9 @@ fn kept_numbers<'a, A: Allocator + Copy>(
 ) -> Result<Vec<u32, A>, AllocError>
     ensures numbers { IfOk result (λ numbers. AreNumbers program.now text.new.texts numbers.items) }
     ensures counted { IfOk result (λ numbers. length numbers.items ≡ length program.now.kept) }
-    ensures same { text.new ≡ record text.old { texts = text.new.texts } }
+    ensures detectors { text.new.detectors ≡ text.old.detectors }
+    ensures targets { text.new.targets ≡ text.old.targets }
+    ensures text { text.new.text ≡ text.old.text }
 {
     let count = program.entry_count();
     let mut numbers = Vec::with_capacity(alloc, count)?;

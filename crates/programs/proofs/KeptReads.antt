@@ -1,5 +1,5 @@
 -- What is read of the entries that parts keep.
-use Rattle.std.proofs.Common.{◌≡◌, ℕ, zero, suc, ◌<◌, List, [], ◌∷◌, length, get_or, refl, arith}
+use Rattle.std.proofs.Common.{◌≡◌, ℕ, zero, suc, ◌<◌, ◌≤◌, List, [], ◌∷◌, length, get_or, refl, ap, arith}
 use Rattle.step_model.specs.declared.step.Term.{Term}
 use Rattle.step_model.specs.Listing.{Kept, none_kept}
 use Rattle.programs.specs.declared.program.EntryPart.{EntryPart}
@@ -27,3 +27,15 @@ is_entry (part ∷ parts) (ts ∷ terms) (suc e) h =
       bound = more.bound;
       terms = more.terms;
     }
+
+-- as many entries as the shorter of the two
+pub as_many_as_parts : (parts : List EntryPart) (lists : List (List Term)) → length parts ≤ length lists → length (entries_of parts lists) ≡ length parts
+as_many_as_parts [] lists h = refl
+as_many_as_parts (part ∷ parts) [] h = absurd (omega (arith, h))
+as_many_as_parts (part ∷ parts) (ts ∷ lists) h = ap suc (as_many_as_parts parts lists (omega (arith, h)))
+
+pub as_many_as_lists : (parts : List EntryPart) (lists : List (List Term)) → length lists ≤ length parts → length (entries_of parts lists) ≡ length lists
+as_many_as_lists [] [] h = refl
+as_many_as_lists [] (ts ∷ lists) h = absurd (omega (arith, h))
+as_many_as_lists (part ∷ parts) [] h = refl
+as_many_as_lists (part ∷ parts) (ts ∷ lists) h = ap suc (as_many_as_lists parts lists (omega (arith, h)))

@@ -178,7 +178,9 @@ impl<'a, A: Allocator + Copy> Program<'a, A> {
     pub fn entry_count(&self) -> usize
         ensures { result ≡ length self.now.kept }
     {
-        self.parts.entries.len().min(self.parts.terms.len())
+        let parts = self.parts.entries.len();
+        let terms = self.parts.terms.len();
+        if parts < terms { parts } else { terms }
     }
 
     /// The text of the probability that is kept at a number.
