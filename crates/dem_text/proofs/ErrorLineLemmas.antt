@@ -19,7 +19,7 @@ text_at-more [] more n h = absurd (omega (arith, h))
 text_at-more (text ∷ texts) more zero h = refl
 text_at-more (text ∷ texts) more (suc n) h = text_at-more texts more n (omega (arith, h))
 
-length-one_more : (texts : List (List ℕ)) (text : List ℕ) → length (texts ++ text ∷ []) ≡ length texts + 1
+pub length-one_more : (texts : List (List ℕ)) (text : List ℕ) → length (texts ++ text ∷ []) ≡ length texts + 1
 length-one_more [] text = refl
 length-one_more (other ∷ texts) text = ap suc (length-one_more texts text) ∙ (let e : suc (length texts + 1) ≡ suc (length texts) + 1 = omega arith in e)
 

@@ -54,7 +54,9 @@ impl<'a> LineText<'a> {
         ensures least { end ≤ result + 40 }
         ensures written { drop result buffer.new ≡ codes "error(" ++ self.now ++ codes ")" ++ drop end buffer.old }
     {
-        buffer[end - HEAD..end].copy_from_slice(&self.head);
+        // In a place of its own, so that nothing asks at run time whether it overlaps the buffer.
+        let head = self.head;
+        buffer[end - HEAD..end].copy_from_slice(&head);
         end - (self.text.len() + 7)
     }
 }

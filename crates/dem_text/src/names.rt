@@ -6,8 +6,11 @@ use crate::short_lines::target_before;
 use std::alloc::{AllocError, Allocator};
 use std::marker::Model;
 
-/// How long the text of a target is at most: a space, a letter and six digits.
+/// How long the text of a target is at most here: a space, a letter and six digits.
 const NAME: usize = 8;
+
+/// How long that of any target is at most.
+const ANY_NAME: usize = 12;
 
 /// The text of a target, at the end of a fixed number of bytes, so that all of them are copied at once.
 #[derive(Drop)]
@@ -27,22 +30,23 @@ impl Model for Name {
 }
 
 impl Name {
+    // The name of a target, where there are so many detectors.
     fn new(detectors: usize, target: usize) -> Self
         requires few_detectors { detectors ≤ 1000000 }
         requires few { target < detectors + 1000000 }
         ensures { result ≡ target_text detectors target }
     {
-        let mut text = [0; 12];
-        let start = target_before(&mut text, 12, detectors, target as u32);
+        let mut text = [0; ANY_NAME];
+        let start = target_before(&mut text, ANY_NAME, detectors, target as u32);
         let mut bytes = [0; NAME];
-        bytes.copy_from_slice(&text[12 - NAME..]);
+        bytes.copy_from_slice(&text[ANY_NAME - NAME..]);
         Name {
             bytes,
-            len: (12 - start) as u8,
+            len: (ANY_NAME - start) as u8,
         }
     }
 
-    /// Writes the text so that it ends at `end`, and answers where it starts.
+    // Writes the text so that it ends at `end`, and answers where it starts.
     #[inline(always)]
     fn before(&self, buffer: &mut [u8], end: usize) -> usize
         requires room { 8 ≤ end }
@@ -51,7 +55,9 @@ impl Name {
         ensures least { end ≤ result + 8 }
         ensures written { drop result buffer.new ≡ self.now ++ drop end buffer.old }
     {
-        buffer[end - NAME..end].copy_from_slice(&self.bytes);
+        // In a place of its own, so that nothing asks at run time whether it overlaps the buffer.
+        let bytes = self.bytes;
+        buffer[end - NAME..end].copy_from_slice(&bytes);
         end - self.len as usize
     }
 }
@@ -75,6 +81,7 @@ impl<A: Allocator + Copy> Model for Names<A> {
 }
 
 impl<A: Allocator + Copy> Names<A> {
+    /// The texts of so many targets, where there are so many detectors.
     pub(crate) fn new(alloc: A, detectors: usize, targets: usize) -> Result<Self, AllocError>
         requires few_detectors { detectors ≤ 1000000 }
         requires few { targets ≤ detectors + 1000000 }

@@ -7,7 +7,8 @@ abbrev pub invariant-loop-left : goal.invariant-loop-left
 invariant-loop-left g l =
     record {
       within : l.left ≤ length l.bytes;
-      detectors : l.self-inside.detectors ≡ l.fn.self.detectors;
+      names : l.self-inside.names ≡ record { detectors = l.fn.self.detectors; targets = l.fn.self.targets };
+      texts : l.self-inside.texts.items ≡ l.fn.self.texts;
       text : text_in l.self-inside.block l.self-inside.full.items ≡ drop l.left l.bytes ++ l.fn.self.text;
     }
 

@@ -13,8 +13,9 @@ loop-left-preserved g c =
     let part = take (left - from) (drop from targets) in
     record {
       within = omega (arith, le, c.loop-left.invariant.within);
-      detectors = c.loop-left.invariant.detectors;
+      names = c.loop-left.invariant.names;
+      texts = c.loop-left.invariant.texts;
       text = put_before (targets_text detectors part) (targets_text detectors (drop left targets)) c.args.self.now.text (targets_text detectors (drop from targets)) c.put_targets.new.self c.make_room.new.block c.make_room.new.full.items
-          (c.put_targets.ensures ∙ ap (λ d. targets_text d part ++ c.make_room.new.block.text) c.loop-left.invariant.detectors)
+          (c.put_targets.ensures ∙ ap (λ n. targets_text n.detectors part ++ c.make_room.new.block.text) c.loop-left.invariant.names)
           (c.make_room.ensures.same ∙ c.loop-left.invariant.text) (texts_and_rest (target_text detectors) targets from left le);
     }

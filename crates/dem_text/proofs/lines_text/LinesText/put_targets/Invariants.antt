@@ -8,7 +8,8 @@ abbrev pub invariant-loop-left : goal.invariant-loop-left
 invariant-loop-left g l =
     record {
       within : l.left ≤ length l.targets;
-      detectors : l.self-inside.detectors ≡ l.fn.self.detectors;
+      names : l.self-inside.names ≡ record { detectors = l.fn.self.detectors; targets = l.fn.self.targets };
+      texts : l.self-inside.texts.items ≡ l.fn.self.texts;
       text : text_in l.self-inside.block l.self-inside.full.items ≡ targets_text l.fn.self.detectors (drop l.left l.targets) ++ l.fn.self.text;
     }
 
