@@ -91,7 +91,7 @@ fn kept_numbers<'a, A: Allocator + Copy>(
     ensures targets { text.new.targets ≡ text.old.targets }
     ensures text { text.new.text ≡ text.old.text }
 {
-    let count = program.entry_count();
+    let count = program.chances().numbers.len();
     let mut numbers = Vec::with_capacity(alloc, count)?;
     for entry in 0..count {
         let number = text.keep_text(program.entry_text(entry as u32))?;

@@ -1,10 +1,10 @@
 -- What a builder of circuits keeps where a block closes, and what it answers at the end.
-use Rattle.std.proofs.Common.{◌≡◌, ℕ, zero, suc, ◌+◌, ◌-◌, ◌<◌, ◌≤◌, max, List, [], ◌∷◌, ◌++◌, length, take, set, refl, sym, ap, ap₂, ◌∙◌, subst, arith, length-append, append_assoc, append-nil}
+use Rattle.std.proofs.Common.{◌≡◌, ℕ, zero, suc, ◌+◌, ◌-◌, ◌<◌, ◌≤◌, List, [], ◌∷◌, ◌++◌, length, take, set, refl, sym, ap, ap₂, ◌∙◌, subst, arith, length-append, append_assoc, append-nil}
 use Rattle.programs.specs.declared.builder.Outer.{Outer}
 use Rattle.programs.specs.declared.node.Node.{Node}
-use Rattle.programs.specs.declared.node.Node.TheVariants.{Do, Open, Close}
+use Rattle.programs.specs.declared.node.Node.TheVariants.{Open, Close}
 use Rattle.programs.specs.declared.step.TextStep.{TextStep}
-use Rattle.programs.specs.Builders.{OpenBlock, Building, building, Closes, Frame, flat, outer_of, FramesFit, Builds}
+use Rattle.programs.specs.Builders.{OpenBlock, Building, building, Closes, Frame, flat, FramesFit, Builds}
 use Rattle.programs.specs.Trees.{Tree, Nothing, Then, Block, repeated, unrolled, nodes_of, tree_of, depth, IsFull, IsCircuit}
 use Rattle.programs.proofs.Building.{beside, nodes_of-beside, unrolled-beside}
 use Rattle.programs.proofs.BuilderLaws.{seen, view_of, viewed, take-there, set-there, length-flat, flat-beside, fit-beside, flat-inside, seen-inside, FitsOutside, fit-outside, Last, last_of}

@@ -1,12 +1,11 @@
 -- What a builder of circuits keeps over each call, and what its nodes are seen as.
-use Rattle.std.proofs.Common.{◌≡◌, ℕ, zero, suc, ◌+◌, ◌-◌, ◌<◌, ◌≤◌, List, [], ◌∷◌, ◌++◌, map, length, take, drop, set, refl, sym, ap, ap₂, ◌∙◌, subst, arith, length-append, append_assoc, append-nil}
-use Rattle.std.proofs.lemmas.List.{take_all, drop_all, take-append-le, drop-append-le, set-append_right}
+use Rattle.std.proofs.Common.{◌≡◌, ℕ, suc, ◌+◌, ◌-◌, ◌<◌, ◌≤◌, List, [], ◌∷◌, ◌++◌, length, take, drop, set, refl, sym, ap, ap₂, ◌∙◌, arith, length-append, append_assoc}
 use Rattle.programs.specs.declared.builder.Outer.{Outer}
 use Rattle.programs.specs.declared.node.Node.{Node}
-use Rattle.programs.specs.declared.node.Node.TheVariants.{Do, Open, Close}
+use Rattle.programs.specs.declared.node.Node.TheVariants.{Do, Open}
 use Rattle.programs.specs.declared.step.TextStep.{TextStep}
-use Rattle.programs.specs.Builders.{OpenBlock, Building, building, Closes, Frame, flat, outer_of, FramesFit, Builds}
-use Rattle.programs.specs.Trees.{Tree, Nothing, Then, Block, repeated, unrolled, nodes_of, tree_of, depth, IsFull, IsCircuit}
+use Rattle.programs.specs.Builders.{OpenBlock, Building, building, Frame, flat, outer_of, FramesFit, Builds}
+use Rattle.programs.specs.Trees.{Tree, Nothing, Then, unrolled, nodes_of, tree_of, depth, IsFull}
 use Rattle.programs.proofs.Building.{beside, nodes_of-beside, unrolled-beside, IsFull-beside, depth-beside}
 use Rattle.programs.proofs.Reading.{tree_of-written}
 

@@ -1,12 +1,11 @@
 -- How a tree is built at its end, and that feedback need only be looked at in the first turn of a block.
-use Rattle.std.proofs.Common.{◌≡◌, ℕ, zero, suc, ◌+◌, ◌<◌, ◌≤◌, max, List, [], ◌∷◌, ◌++◌, length, refl, sym, ap, ap₂, ◌∙◌, arith, length-append, append_assoc}
-use Rattle.programs.specs.declared.node.Node.{Node}
+use Rattle.std.proofs.Common.{◌≡◌, ℕ, zero, suc, ◌≤◌, List, [], ◌∷◌, ◌++◌, length, refl, sym, ap, ◌∙◌, arith, append_assoc}
 use Rattle.programs.specs.declared.node.Node.TheVariants.{Do, Open, Close}
 use Rattle.programs.specs.declared.step.TextStep.{TextStep}
 use Rattle.programs.specs.declared.step.TextStep.TheVariants as text
 use Rattle.programs.specs.declared.step.Counts.{Counts}
 use Rattle.programs.specs.Trees.{Tree, Nothing, Then, Block, repeated, unrolled, nodes_of, depth, IsFull}
-use Rattle.programs.specs.Numbering.{made_by, counts_after, counts_over, feeds_back, FeedBack}
+use Rattle.programs.specs.Numbering.{counts_after, counts_over, feeds_back, FeedBack}
 
 -- a tree, and then another
 abbrev pub beside : Tree → Tree → Tree

@@ -1,82 +1,48 @@
 -- What a pass over the unrolled steps of parts finds, step by step.
-use Rattle.std.proofs.Common.{◌≡◌, ℕ, zero, suc, ◌+◌, ◌<◌, ◌≤◌, ◌^◌, ◌&&◌, ◌==◌, nat_lt, Bool, true, List, [], ◌∷◌, ◌++◌, length, length-append, take, get_or, map, Some, refl, sym, ap, ap₂, ◌∙◌, subst, arith}
+use Rattle.std.proofs.Common.{◌≡◌, ℕ, ◌+◌, ◌<◌, ◌≤◌, ◌&&◌, Bool, true, List, [], ◌∷◌, ◌++◌, length, take, get_or, map, Some, refl, sym, ap, ap₂, ◌∙◌, subst, arith}
 use Rattle.std.specs.List.{list_all}
 use Rattle.std.specs.Option.{unwrap_or}
-use Rattle.std.specs.Prelude.{slice_get, All}
-use Rattle.std.proofs.lemmas.Bool.{and_from, lt-ltb}
+use Rattle.std.specs.Prelude.{All}
+use Rattle.std.proofs.lemmas.Bool.{and_from}
 use Rattle.std.proofs.lemmas.List.{take_more, take_all, map-append}
 use Rattle.std.proofs.lemmas.List.Folds.{list_all-append}
 use Rattle.std.proofs.lemmas.Option.{slice_get_within, get_or_from_slice_get}
 use Rattle.step_model.specs.declared.step.Term.{Term}
 use Rattle.step_model.specs.Probabilities.{probability_bound}
-use Rattle.step_model.specs.Listing.{Kept, none_kept}
-use Rattle.step_model.specs.WellFormed.{TermsFit, ProductFits, CoordinatesFit}
+use Rattle.step_model.specs.Listing.{Kept}
+use Rattle.step_model.specs.WellFormed.{ProductFits, CoordinatesFit}
 use Rattle.programs.specs.declared.by_hand.Entry.{Entry}
 use Rattle.programs.specs.declared.by_hand.fit.Totals.{Totals}
 use Rattle.programs.specs.declared.place.Place.{Place}
-use Rattle.programs.specs.declared.program.EntryPart.{EntryPart}
 use Rattle.programs.specs.declared.program.Parts.{Parts}
 use Rattle.programs.specs.declared.step.Counts.{Counts}
 use Rattle.programs.specs.declared.step.TextStep.{TextStep}
 use Rattle.programs.specs.ByHand.{StepsFit, FitsUpTo, AllFit, kept_of}
 use Rattle.programs.specs.Fits.{text_fits, is_kept}
-use Rattle.programs.specs.Made.{entries_of, kept_in, text_steps, EntryFits, PartsFit}
-use Rattle.programs.specs.Numbering.{no_counts, counts_after, counts_over, feeds_back, FeedBack}
+use Rattle.programs.specs.Made.{text_steps, EntryFits, PartsFit}
+use Rattle.programs.specs.Numbering.{no_counts, counts_after, counts_over, feeds_back}
 use Rattle.programs.specs.Steps.{IsAt, GoesOver, StaysAtEnd}
 use Rattle.programs.specs.Trees.{IsCircuit, tree_of}
 use Rattle.programs.proofs.Building.{FeedBack-append}
-use Rattle.programs.proofs.KeptReads.{is_entry}
 use Rattle.programs.proofs.Numbers.{counts_over-more, few}
 use Rattle.programs.proofs.Places.{first_place}
 
--- an entry is there where both its parts are
-pub entry_there : (parts : List EntryPart) (lists : List (List Term)) (e : ℕ) → e < length parts → e < length lists → e < length (entries_of parts lists)
-entry_there [] lists e h k = absurd (omega arith)
-entry_there (part ∷ parts) [] e h k = absurd (omega arith)
-entry_there (part ∷ parts) (terms ∷ lists) zero h k = omega arith
-entry_there (part ∷ parts) (terms ∷ lists) (suc e) h k = omega (arith, entry_there parts lists e (omega arith) (omega arith))
-
--- and fits where they do
-pub entry_fits : (n : ℕ) (parts : List EntryPart) (lists : List (List Term)) (e : ℕ) (part : EntryPart) (terms : List Term) → e < length parts → e < length lists → get_or parts e part ≡ part → get_or lists e [] ≡ terms → probability_bound part.text.now ≡ Some part.bound → TermsFit n terms → EntryFits n (get_or (entries_of parts lists) e none_kept)
-entry_fits n parts lists e part terms h k part_is terms_are bound fits =
-    let there = is_entry parts lists e (entry_there parts lists e h k) in
-    let text_is : part.text.now ≡ (get_or (entries_of parts lists) e none_kept).text = sym (ap (λ (x : EntryPart). x.text.now) part_is) ∙ there.text part in
-    let bound_is : part.bound ≡ (get_or (entries_of parts lists) e none_kept).bound = sym (ap (λ (x : EntryPart). x.bound) part_is) ∙ there.bound part in
-    record {
-      bound = sym (ap probability_bound text_is) ∙ bound ∙ ap Some bound_is;
-      terms = subst (TermsFit n) (sym terms_are ∙ there.terms) fits;
-    }
-
--- entries kept one after another
-entries_of-append : (parts : List EntryPart) (lists : List (List Term)) (part : EntryPart) (terms : List Term) → length parts ≡ length lists → entries_of (parts ++ part ∷ []) (lists ++ terms ∷ []) ≡ entries_of parts lists ++ record { text = part.text.now; bound = part.bound; terms = terms } ∷ []
-entries_of-append [] [] part terms e = refl
-entries_of-append [] (other ∷ lists) part terms e = absurd (omega (arith, e))
-entries_of-append (first ∷ parts) [] part terms e = absurd (omega (arith, e))
-entries_of-append (first ∷ parts) (other ∷ lists) part terms e =
-    ap (λ (xs : List Kept). record { text = first.text.now; bound = first.bound; terms = other } ∷ xs)
-    (entries_of-append parts lists part terms (omega (arith, e)))
-
 -- one more entry is kept
-pub same_more : (parts new_parts : List EntryPart) (lists new_lists : List (List Term)) (part : EntryPart) (terms : List Term) → new_parts ≡ parts ++ part ∷ [] → new_lists ≡ lists ++ terms ∷ [] → length parts ≡ length lists → length new_parts ≡ length new_lists
-same_more parts new_parts lists new_lists part terms p q same =
-    omega (arith, same, ap length p, ap length q, length-append parts (part ∷ []), length-append lists (terms ∷ []))
-
-pub kept_more : (parts new_parts : List EntryPart) (lists new_lists : List (List Term)) (entries : List Entry) (i : ℕ) (d : Entry) (part : EntryPart) (terms : List Term) → new_parts ≡ parts ++ part ∷ [] → new_lists ≡ lists ++ terms ∷ [] → length parts ≡ length lists → entries_of parts lists ≡ map kept_of (take i entries) → i < length entries → part.text.now ≡ (get_or entries i d).text.now → probability_bound (get_or entries i d).text.now ≡ Some part.bound → terms ≡ (get_or entries i d).terms.now → entries_of new_parts new_lists ≡ map kept_of (take (i + 1) entries)
-kept_more parts new_parts lists new_lists entries i d part terms p q same here below text bound letters =
-    ap₂ entries_of p q
-    ∙ entries_of-append parts lists part terms same
+pub kept_more : (kept more : List Kept) (entries : List Entry) (i : ℕ) (d : Entry) (text : List ℕ) (bound : ℕ) (terms : List Term) → more ≡ kept ++ record { text = text; bound = bound; terms = terms } ∷ [] → kept ≡ map kept_of (take i entries) → i < length entries → text ≡ (get_or entries i d).text.now → probability_bound (get_or entries i d).text.now ≡ Some bound → terms ≡ (get_or entries i d).terms.now → more ≡ map kept_of (take (i + 1) entries)
+kept_more kept more entries i d text bound terms pushed here below text_is bound_is terms_are =
+    pushed
     ∙ ap₂ (λ (xs : List Kept) (x : Kept). xs ++ x ∷ []) here one
     ∙ sym (map-append kept_of (take i entries) (get_or entries i d ∷ []))
     ∙ sym (ap (map kept_of) (take_more entries i d below))
   where
-    bound_is : part.bound ≡ unwrap_or (probability_bound (get_or entries i d).text.now) 0
-    bound_is = sym (ap (λ o. unwrap_or o 0) bound)
+    found : bound ≡ unwrap_or (probability_bound (get_or entries i d).text.now) 0
+    found = sym (ap (λ o. unwrap_or o 0) bound_is)
 
-    one : record { text = part.text.now; bound = part.bound; terms = terms } ≡ kept_of (get_or entries i d)
+    one : record { text = text; bound = bound; terms = terms } ≡ kept_of (get_or entries i d)
     one =
-        ap (λ (t : List ℕ). record { text = t; bound = part.bound; terms = terms }) text
-        ∙ ap (λ (b : ℕ). record { text = (get_or entries i d).text.now; bound = b; terms = terms }) bound_is
-        ∙ ap (λ (ts : List Term). record { text = (get_or entries i d).text.now; bound = unwrap_or (probability_bound (get_or entries i d).text.now) 0; terms = ts }) letters
+        ap (λ (t : List ℕ). record { text = t; bound = bound; terms = terms }) text_is
+        ∙ ap (λ (b : ℕ). record { text = (get_or entries i d).text.now; bound = b; terms = terms }) found
+        ∙ ap (λ (ts : List Term). record { text = (get_or entries i d).text.now; bound = unwrap_or (probability_bound (get_or entries i d).text.now) 0; terms = ts }) terms_are
 
 -- a test of one more
 one_more : {X : Type 0} (test : X → Bool) (xs : List X) (x : X) → list_all test xs ≡ true → test x ≡ true → list_all test (xs ++ x ∷ []) ≡ true
@@ -111,7 +77,7 @@ module _ {A : Type 0} (parts : Parts A) where
         faults = omega (arith, ap (λ (c : Counts). c.faults) f.fit.counted, all.faults);
       }
 
-  pub fits_further : (old new : Place) (count : ℕ) (made : Counts) (step : TextStep) → FitsUpTo parts old count made → GoesOver parts.nodes.items old new step count → text_fits parts.qubits step ≡ true → is_kept (kept_in parts) parts.products step ≡ true → feeds_back made step → FitsUpTo parts new (count + 1) (counts_after made step)
+  pub fits_further : (old new : Place) (count : ℕ) (made : Counts) (step : TextStep) → FitsUpTo parts old count made → GoesOver parts.nodes.items old new step count → text_fits parts.qubits step ≡ true → is_kept parts.entries parts.products step ≡ true → feeds_back made step → FitsUpTo parts new (count + 1) (counts_after made step)
   fits_further old new count made step f over text kept feeds =
       let steps = text_steps parts in
       let more : take (count + 1) steps ≡ take count steps ++ step ∷ [] =
@@ -121,7 +87,7 @@ module _ {A : Type 0} (parts : Parts A) where
         at_place = over.place;
         fit = subst (λ (xs : List TextStep). StepsFit parts xs (counts_after made step)) (sym more) (record {
           texts_fit = one_more (text_fits parts.qubits) (take count steps) step f.fit.texts_fit text;
-          all_kept = one_more (is_kept (kept_in parts) parts.products) (take count steps) step f.fit.all_kept kept;
+          all_kept = one_more (is_kept parts.entries parts.products) (take count steps) step f.fit.all_kept kept;
           feedback =
               FeedBack-append no_counts (take count steps) (step ∷ []) f.fit.feedback
               (subst (λ (c : Counts). feeds_back c step) f.fit.counted feeds, tt);
@@ -141,7 +107,7 @@ module _ {A : Type 0} (parts : Parts A) where
       }
 
   -- parts whose totals are put in
-  pub parts_fit : (totals : Totals) → IsCircuit parts.nodes.items → AllFit parts totals → All (EntryFits parts.qubits) (kept_in parts) → All (ProductFits parts.qubits) parts.products → All (All (λ r. r < totals.counts.records)) parts.detectors → All (All (λ r. r < totals.counts.records)) parts.observables → length parts.coordinates ≡ length parts.detectors → All CoordinatesFit parts.coordinates → length parts.detectors ≤ 1000000 → length parts.observables ≤ 1024 → PartsFit (record parts { steps = totals.steps; counts = totals.counts })
+  pub parts_fit : (totals : Totals) → IsCircuit parts.nodes.items → AllFit parts totals → All (EntryFits parts.qubits) parts.entries → All (ProductFits parts.qubits) parts.products → All (All (λ r. r < totals.counts.records)) parts.detectors → All (All (λ r. r < totals.counts.records)) parts.observables → length parts.coordinates ≡ length parts.detectors → All CoordinatesFit parts.coordinates → length parts.detectors ≤ 1000000 → length parts.observables ≤ 1024 → PartsFit (record parts { steps = totals.steps; counts = totals.counts })
   parts_fit totals circuit all entries products detectors observables given coordinates few_detectors few_observables =
       record {
         circuit = circuit;

@@ -1,11 +1,10 @@
 -- The ends of blocks, as they are written: the ends of one block are so far apart as they say, and no body is empty.
-use Rattle.std.proofs.Common.{◌≡◌, ℕ, zero, suc, ◌+◌, ◌-◌, ◌*◌, ◌<◌, ◌≤◌, ◌⊎◌, inl, inr, List, [], ◌∷◌, ◌++◌, length, refl, sym, ap, subst, ◌∙◌, arith, length-append, Option, None, Some}
+use Rattle.std.proofs.Common.{◌≡◌, ℕ, zero, suc, ◌+◌, ◌∷◌, length, refl, sym, ap, ◌∙◌, arith, Some}
 use Rattle.std.specs.Prelude.{slice_get}
 use Rattle.std.proofs.lemmas.Option.{slice_get_within}
-use Rattle.programs.specs.declared.node.Node.{Node}
 use Rattle.programs.specs.declared.node.Node.TheVariants.{Do, Open, Close}
 use Rattle.programs.specs.Trees.{Tree, Nothing, Then, Block, nodes_of, IsFull}
-use Rattle.programs.proofs.Indices.{Where, AtOpen, InBody, AtClose, InRest, where_in_block, inside, beyond, at_close}
+use Rattle.programs.proofs.Indices.{AtOpen, InBody, AtClose, InRest, where_in_block, inside, beyond, at_close}
 
 -- the other end of a block that opens at i
 pub closed : (t : Tree) (i count size : ℕ) → slice_get (nodes_of t) i ≡ Some (Open count size) → slice_get (nodes_of t) (i + 1 + size) ≡ Some (Close count size)

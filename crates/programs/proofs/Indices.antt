@@ -1,10 +1,9 @@
 -- Which node or step is at an index: of lists put together, of repeated steps, and of a block as it is written.
-use Rattle.std.proofs.Common.{◌≡◌, ℕ, zero, suc, ◌+◌, ◌*◌, ◌<◌, ◌≤◌, ◌⊎◌, inl, inr, List, [], ◌∷◌, ◌++◌, length, refl, sym, ap, subst, ◌∙◌, arith, length-append, append_assoc, Option, None, Some}
+use Rattle.std.proofs.Common.{◌≡◌, ℕ, zero, suc, ◌+◌, ◌*◌, ◌<◌, ◌≤◌, ◌⊎◌, inl, inr, List, [], ◌∷◌, ◌++◌, length, refl, ap, ◌∙◌, arith, length-append, Some}
 use Rattle.std.specs.Prelude.{slice_get}
-use Rattle.programs.specs.declared.node.Node.{Node}
 use Rattle.programs.specs.declared.step.TextStep.{TextStep}
-use Rattle.programs.specs.declared.node.Node.TheVariants.{Do, Open, Close}
-use Rattle.programs.specs.Trees.{Tree, Nothing, Then, Block, repeated, unrolled, nodes_of}
+use Rattle.programs.specs.declared.node.Node.TheVariants.{Close}
+use Rattle.programs.specs.Trees.{Tree, Block, repeated, nodes_of}
 
 pub get-left : {X : Type 0} (xs ys : List X) (i : ℕ) → i < length xs → slice_get (xs ++ ys) i ≡ slice_get xs i
 get-left [] ys i h = absurd (omega arith)

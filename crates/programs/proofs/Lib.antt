@@ -3,8 +3,8 @@ pub mod BuilderLaws
 pub mod Building
 pub mod ByHandLaws
 pub mod Ends
+pub mod EntryLaws
 pub mod Indices
-pub mod KeptReads
 pub mod ListedLaws
 pub mod MadeLaws
 pub mod Moves

@@ -1,24 +1,21 @@
 -- A text whose steps fit, place by place, stands for a program whose steps fit and whose records and faults are in
 -- order: that is so by the numbering.
-use Rattle.std.proofs.Common.{◌≡◌, ℕ, zero, suc, ◌+◌, ◌-◌, ◌<◌, ◌≤◌, ◌==◌, nat_lt, Bool, true, false, not, ◌&&◌, ◌||◌, List, [], ◌∷◌, ◌++◌, map, length, get_or, Option, None, Some, refl, sym, ap, ap₂, ◌∙◌, subst, arith, length-append, append_assoc, append-nil}
-use Rattle.std.specs.List.{range_with_len, list_all, list_any}
-use Rattle.std.specs.Prelude.{All, option_map, slice_get}
-use Rattle.std.specs.Option.{option_to_list}
-use Rattle.std.proofs.lemmas.List.FromFn.{length-range_with_len}
+use Rattle.std.proofs.Common.{◌≡◌, ℕ, zero, suc, ◌+◌, ◌<◌, ◌==◌, nat_lt, Bool, true, false, not, ◌||◌, List, [], ◌∷◌, ◌++◌, length, get_or, Option, None, Some, refl, sym, ap, ◌∙◌, arith, length-append, append_assoc}
+use Rattle.std.specs.List.{list_all, list_any}
+use Rattle.std.specs.Prelude.{All, option_map}
 use Rattle.std.proofs.lemmas.Bool.{and_parts, and_from, lt-ltb, ltb-true, eq-eqb, not-true}
 use Rattle.std.proofs.lemmas.List.{get_or-append-add}
 use Rattle.pauli_word.specs.declared.letter.Letter.{Letter}
 use Rattle.pauli_word.specs.Words.{lone_letter, no_letters}
 use Rattle.pauli_word.proofs.LoneLetters.{length-lone_letter}
 use Rattle.step_model.specs.declared.step.Term.{Term}
-use Rattle.step_model.specs.Listing.{Listing, ListedStep, ListedFault, Measured, Effect, Applies, Flips, Kept, effect_at, no_effect, word_of_terms}
-use Rattle.step_model.specs.Listing as listing
-use Rattle.step_model.specs.WellFormed.{is_I, applies_word, flips_record, word_fits, flip_fits, record_fits, measured_fits, step_fits, step_records, step_faults, records_made, faults_named, is_earlier, feeds_earlier, ProductFits}
+use Rattle.step_model.specs.Listing.{Listing, ListedFault, Applies, Flips, Kept, effect_at, no_effect, word_of_terms}
+use Rattle.step_model.specs.WellFormed.{is_I, applies_word, flips_record, word_fits, flip_fits, record_fits, measured_fits, step_fits, ProductFits}
 use Rattle.programs.specs.declared.step.TextStep.{TextStep}
 use Rattle.programs.specs.declared.step.TextStep.TheVariants as text
 use Rattle.programs.specs.declared.step.Recording.{Recording}
 use Rattle.programs.specs.declared.step.Counts.{Counts}
-use Rattle.programs.specs.Numbering.{made_by_flip, made_in_collapse, made_by, named, record_number, is_inverted, flip_name, counts_after, numbered, numbered_step, feeds_back, FeedBack}
+use Rattle.programs.specs.Numbering.{made_by_flip, made_in_collapse, made_by, named, record_number, is_inverted, flip_name, counts_after, numbered_step}
 use Rattle.programs.specs.Fits.{letter_fits, text_fits, recording_is_kept, is_kept}
 use Rattle.programs.specs.Listed.{listed_steps, number_of, measured, product_at, recorded, listed, entry_at, fault_of, flip_fault, recorded_faults, step_made_faults, made_faults}
 

@@ -1,5 +1,5 @@
 -- Parts that fit make a program that is well formed.
-use Rattle.std.proofs.Common.{◌≡◌, ℕ, suc, ◌+◌, ◌<◌, ◌≤◌, ◌==◌, nat_lt, Bool, true, ◌&&◌, List, [], ◌∷◌, ◌++◌, length, get_or, Option, None, Some, refl, sym, ap, ◌∙◌, subst, arith}
+use Rattle.std.proofs.Common.{◌≡◌, ℕ, suc, ◌<◌, ◌==◌, nat_lt, true, List, [], ◌∷◌, length, get_or, Option, None, Some, refl, sym, ap, ◌∙◌, arith}
 use Rattle.std.specs.List.{range_with_len, list_all}
 use Rattle.std.specs.Prelude.{All}
 use Rattle.std.proofs.lemmas.Bool.{and_parts, ltb-true, eqb-true}
@@ -8,7 +8,7 @@ use Rattle.std.proofs.lemmas.List.Sums.{AllPass-from_list_all}
 use Rattle.step_model.specs.declared.step.Term.{Term}
 use Rattle.step_model.specs.Listing.{Listing, ListedFault, Effect, Applies, Flips, Kept, none_kept, kept_at, effect_terms}
 use Rattle.step_model.specs.Sensitivities.{collapse_count}
-use Rattle.step_model.specs.WellFormed.{IsWellFormed, FaultFits, EffectFits, TermsFit, IsKept, step_fits}
+use Rattle.step_model.specs.WellFormed.{IsWellFormed, FaultFits, EffectFits, IsKept, step_fits}
 use Rattle.programs.specs.declared.program.Parts.{Parts}
 use Rattle.programs.specs.declared.step.TextStep.{TextStep}
 use Rattle.programs.specs.declared.step.TextStep.TheVariants as text
@@ -17,8 +17,8 @@ use Rattle.programs.specs.declared.step.Recording.{Recording}
 use Rattle.programs.specs.Fits.{flip_is_kept, recording_is_kept, is_kept}
 use Rattle.programs.specs.Held.{Held}
 use Rattle.programs.specs.Listed.{entry_at, fault_of, flip_fault, recorded_faults, step_made_faults, made_faults, listed_steps}
-use Rattle.programs.specs.Made.{kept_in, text_steps, listing_of, EntryFits, PartsFit}
-use Rattle.programs.specs.Numbering.{no_counts, counts_after, counts_over}
+use Rattle.programs.specs.Made.{text_steps, listing_of, EntryFits, PartsFit}
+use Rattle.programs.specs.Numbering.{no_counts, counts_after}
 use Rattle.programs.proofs.ListedLaws.{steps_are_fit}
 use Rattle.programs.proofs.NamedLaws.{steps_are_named}
 use Rattle.programs.proofs.Orders.{records_are_in_order, faults_are_in_order, length-made_faults, feedback_is_earlier, total_records, records-total, collapses-total}
@@ -86,7 +86,7 @@ module _ (program : Listing) (entries : List Kept) (kept_is : program.kept ≡ e
 pub parts_make_well_formed : {A : Type 0} (parts : Parts A) → PartsFit parts → IsWellFormed (listing_of parts)
 parts_make_well_formed parts fit =
     let steps = text_steps parts in
-    let entries = kept_in parts in
+    let entries = parts.entries in
     let program = listing_of parts in
     let listed = listed_steps parts.qubits parts.products no_counts steps in
     let records : parts.counts.records ≡ total_records steps = ap (λ (c : Counts). c.records) fit.counted ∙ records-total no_counts steps ∙ omega arith in
@@ -122,5 +122,5 @@ text_is_held parts fit =
       steps_counted = fit.steps_counted;
       counted = fit.counted;
       steps = refl;
-      named = steps_are_named (listing_of parts) (kept_in parts) refl no_counts (text_steps parts) [] refl refl (ap (λ (c : Counts). c.records) fit.counted) fit.feedback fit.texts_fit fit.all_kept;
+      named = steps_are_named (listing_of parts) parts.entries refl no_counts (text_steps parts) [] refl refl (ap (λ (c : Counts). c.records) fit.counted) fit.feedback fit.texts_fit fit.all_kept;
     }

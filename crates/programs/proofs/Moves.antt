@@ -1,15 +1,15 @@
 -- From each place where the node after it leads, and where the node before it leads.
 use Rattle.std.proofs.Common.{◌≡◌, ℕ, zero, suc, ◌+◌, ◌-◌, ◌*◌, ◌<◌, ◌≤◌, ◌⊎◌, inl, inr, List, [], ◌∷◌, ◌++◌, length, refl, sym, ap, subst, ◌∙◌, arith, length-append, append_assoc, Option, None, Some}
 use Rattle.std.specs.Prelude.{slice_get}
-use Rattle.std.proofs.lemmas.Option.{slice_get_cases, slice_get_past, slice_get_within}
+use Rattle.std.proofs.lemmas.Option.{slice_get_cases, slice_get_within}
 use Rattle.programs.specs.declared.node.Node.{Node}
 use Rattle.programs.specs.declared.step.TextStep.{TextStep}
 use Rattle.programs.specs.declared.node.Node.TheVariants.{Do, Open, Close}
 use Rattle.programs.specs.Trees.{Tree, Nothing, Then, Block, repeated, unrolled, nodes_of, depth, IsFull}
-use Rattle.programs.specs.Places.{IsFirst, IsBeyond, IsWithin, IsPlace}
-use Rattle.programs.specs.Moves.{PastStep, IntoBlock, OutOfTurn, AtEnd, Forward, BackOverStep, BackIntoBlock, BackOutOfTurn, Backward}
-use Rattle.programs.proofs.Indices.{get-left, get-right, length-repeated, get-repeated, turn-end, Inside, Beyond, inside, beyond, at_close}
-use Rattle.programs.proofs.Places.{moved, first_place, last_place, Bounded, bounded}
+use Rattle.programs.specs.Places.{IsPlace}
+use Rattle.programs.specs.Moves.{AtEnd, Forward, Backward}
+use Rattle.programs.proofs.Indices.{get-left, get-right, length-repeated, get-repeated, turn-end, inside, beyond, at_close}
+use Rattle.programs.proofs.Places.{moved, first_place, last_place, bounded}
 
 -- a tree inside another: its places are places there, past so many nodes and steps and in these turns outside
 pub record Lifts (t u : Tree) (a b : ℕ) (outside : List ℕ) : Type 0 where

@@ -1,8 +1,6 @@
 -- What a fault that a step names is: what is kept at the entry that it is named with.
-use Rattle.std.proofs.Common.{◌≡◌, ◌<◌, ℕ, Bool, true, nat_lt, ◌&&◌, ◌==◌, List, length, Option, None, Some, refl, sym, ap, ◌∙◌}
-use Rattle.std.specs.Prelude.{All, slice_get}
+use Rattle.std.proofs.Common.{◌≡◌, ℕ, true, nat_lt, length, Some, refl, sym, ap, ◌∙◌}
 use Rattle.std.proofs.lemmas.Bool.{and_parts, eqb-true}
-use Rattle.pauli_word.specs.declared.letter.Letter.{Letter}
 use Rattle.step_model.specs.Listing.{Listing, Fault, Collapse, Measured, Recorded, Effect, Applies, Flips, none_kept, kept_at, no_effect, fault_at, effect_at, effect_word, effect_terms, fault_word, word_of_terms}
 use Rattle.step_model.specs.WellFormed.{IsWellFormed, TermsFit, IsKept, step_fits, applies_word, flips_record, flip_fits, measured_fits, record_fits}
 use Rattle.programs.specs.declared.step.FaultName.{FaultName}

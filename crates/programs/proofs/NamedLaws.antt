@@ -1,13 +1,11 @@
 -- What the numbered steps of a text name is there, in the program for which the text stands.
-use Rattle.std.proofs.Common.{◌≡◌, ◌≢◌, ℕ, zero, suc, ◌+◌, ◌-◌, ◌<◌, ◌≤◌, ◌==◌, nat_lt, Bool, true, false, not, ◌&&◌, List, [], ◌∷◌, ◌++◌, length, get_or, Option, None, Some, refl, sym, ap, ◌∙◌, subst, arith, length-append, append_assoc}
+use Rattle.std.proofs.Common.{◌≡◌, ◌≢◌, ℕ, zero, suc, ◌+◌, ◌<◌, ◌≤◌, ◌==◌, nat_lt, true, false, not, List, [], ◌∷◌, ◌++◌, length, get_or, Option, None, Some, refl, sym, ap, ◌∙◌, subst, arith, length-append, append_assoc}
 use Rattle.std.specs.List.{list_all}
-use Rattle.std.specs.Prelude.{option_map, slice_get, nat_abs}
-use Rattle.std.proofs.lemmas.Bool.{and_parts, ltb-true, eqb-true, eqb-false, not-true}
-use Rattle.std.proofs.lemmas.List.{get_or-append-add}
-use Rattle.gate_table.specs.Images.{arity_of}
+use Rattle.std.specs.Prelude.{option_map, slice_get}
+use Rattle.std.proofs.lemmas.Bool.{and_parts, ltb-true, not-true}
 use Rattle.pauli_word.specs.declared.letter.Letter.{Letter}
 use Rattle.pauli_word.specs.declared.letter.Letter.TheVariants.{I, X, Y, Z}
-use Rattle.step_model.specs.Listing.{Listing, ListedFault, Applies, Flips, Kept, fault_at, no_effect}
+use Rattle.step_model.specs.Listing.{Listing, ListedFault, Applies, Flips, Kept, no_effect}
 use Rattle.step_model.specs.WellFormed.{is_I}
 use Rattle.step_model.proofs.StateIsGroup.{one_fits, two_fits}
 use Rattle.programs.specs.declared.step.TextStep.{TextStep}

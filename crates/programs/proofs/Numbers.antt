@@ -1,12 +1,11 @@
 -- The numbers of the steps of an unrolled text, one by one, and the counts behind and before each.
-use Rattle.std.proofs.Common.{◌≡◌, ℕ, zero, suc, ◌+◌, ◌-◌, ◌<◌, ◌≤◌, List, [], ◌∷◌, length, take, Option, None, Some, refl, sym, ap, ap₂, ◌∙◌, arith}
+use Rattle.std.proofs.Common.{◌≡◌, ℕ, zero, suc, ◌+◌, ◌-◌, ◌≤◌, List, [], ◌∷◌, length, take, Option, None, Some, refl, ap, ◌∙◌, arith}
 use Rattle.std.specs.Prelude.{slice_get}
 use Rattle.programs.specs.declared.step.TextStep.{TextStep}
 use Rattle.programs.specs.declared.step.TextStep.TheVariants as text
-use Rattle.programs.specs.declared.step.Step.{Step}
 use Rattle.programs.specs.declared.step.Recording.{Recording}
 use Rattle.programs.specs.declared.step.Counts.{Counts}
-use Rattle.programs.specs.Numbering.{made_by_flip, records_in_collapse, faults_in_collapse, made_in_collapse, made_by, counts_after, counts_before, counts_over, numbered_step, numbered, feeds_back, FeedBack}
+use Rattle.programs.specs.Numbering.{made_by_flip, made_in_collapse, made_by, counts_after, counts_before, counts_over, numbered_step, numbered, feeds_back, FeedBack}
 
 pub length-numbered : (c : Counts) (steps : List TextStep) → length (numbered c steps) ≡ length steps
 length-numbered c [] = refl

@@ -1,12 +1,12 @@
 -- The records and faults of an unrolled text are in order, and feedback is by earlier records.
-use Rattle.std.proofs.Common.{◌≡◌, ℕ, zero, suc, ◌+◌, ◌-◌, ◌<◌, ◌≤◌, true, List, [], ◌∷◌, ◌++◌, length, Option, None, Some, refl, sym, ap, ap₂, ◌∙◌, arith, length-append}
+use Rattle.std.proofs.Common.{◌≡◌, ℕ, zero, suc, ◌+◌, ◌-◌, true, List, [], ◌∷◌, ◌++◌, length, Option, None, Some, refl, ap, ap₂, ◌∙◌, arith, length-append}
 use Rattle.std.specs.List.{range_with_len}
 use Rattle.std.specs.Prelude.{option_map}
 use Rattle.std.specs.Option.{option_to_list}
 use Rattle.std.proofs.lemmas.List.FromFn.{length-range_with_len}
 use Rattle.std.proofs.lemmas.Bool.{and_from, lt-ltb}
 use Rattle.step_model.specs.declared.step.Term.{Term}
-use Rattle.step_model.specs.Listing.{Listing, ListedStep, Measured, Word, Collapse, Kept, word_of_terms}
+use Rattle.step_model.specs.Listing.{ListedStep, Measured, Word, Collapse, Kept, word_of_terms}
 use Rattle.step_model.specs.Sensitivities.{collapse_count}
 use Rattle.step_model.specs.WellFormed.{step_records, step_faults, records_made, faults_named, is_earlier, feeds_earlier}
 use Rattle.programs.specs.declared.step.TextStep.{TextStep}

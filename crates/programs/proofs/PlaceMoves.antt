@@ -1,18 +1,18 @@
 -- Where the places of a circuit lead, by the nodes that are read there.
-use Rattle.std.proofs.Common.{◌≡◌, ℕ, zero, suc, ◌+◌, ◌-◌, ◌<◌, ◌≤◌, ◌⊎◌, inl, inr, List, [], ◌∷◌, ◌++◌, length, refl, sym, ap, subst, ◌∙◌, arith, length-append, Option, None, Some, take}
-use Rattle.std.specs.Prelude.{slice_get, ⊤}
-use Rattle.std.proofs.lemmas.Option.{slice_get_within, slice_get_past, slice_get_cases, none-some}
+use Rattle.std.proofs.Common.{◌≡◌, ℕ, zero, suc, ◌+◌, ◌-◌, ◌<◌, ◌≤◌, inl, inr, List, [], ◌∷◌, ◌++◌, length, refl, sym, ap, subst, ◌∙◌, arith, length-append, Option, None, Some}
+use Rattle.std.specs.Prelude.{slice_get}
+use Rattle.std.proofs.lemmas.Option.{slice_get_cases, none-some}
 use Rattle.programs.specs.declared.node.Node.{Node}
 use Rattle.programs.specs.declared.step.TextStep.{TextStep}
 use Rattle.programs.specs.declared.node.Node.TheVariants.{Do, Open, Close}
 use Rattle.programs.specs.declared.place.Place.{Place}
-use Rattle.programs.specs.Trees.{Tree, unrolled, nodes_of, tree_of, depth, IsFull, IsCircuit}
+use Rattle.programs.specs.Trees.{nodes_of, tree_of, IsCircuit}
 use Rattle.programs.specs.Places.{IsPlace}
 use Rattle.programs.specs.Moves.{PastStep, IntoBlock, OutOfTurn, AtEnd, Forward, BackOverStep, BackIntoBlock, BackOutOfTurn, Backward}
-use Rattle.programs.specs.Steps.{IsAt, KeepsStep, IsNoOpen, IsNoClose, node_before, GoesOver, StaysAtEnd, GoesBackOver, StaysAtStart}
-use Rattle.programs.proofs.Ends.{OpensAt, opened, closed, apart}
+use Rattle.programs.specs.Steps.{IsAt, IsNoOpen, IsNoClose, node_before, GoesOver, StaysAtEnd, GoesBackOver, StaysAtStart}
+use Rattle.programs.proofs.Ends.{opened, closed, apart}
 use Rattle.programs.proofs.Moves.{forward, backward, at_start}
-use Rattle.programs.proofs.Places.{moved, bounded, first_place, last_place}
+use Rattle.programs.proofs.Places.{moved, bounded}
 
 last_same : (xs ys : List ℕ) (x y : ℕ) → xs ++ x ∷ [] ≡ ys ++ y ∷ [] → (xs ≡ ys) × (x ≡ y)
 last_same [] [] x y h = (refl, cc)

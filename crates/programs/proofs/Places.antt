@@ -1,8 +1,8 @@
 -- Places: their bounds, and that the first place is one.
-use Rattle.std.proofs.Common.{◌≡◌, ℕ, zero, suc, ◌+◌, ◌*◌, ◌<◌, ◌≤◌, ◌⊎◌, inl, inr, List, [], ◌∷◌, ◌++◌, length, refl, sym, ap, subst, ◌∙◌, arith, length-append}
+use Rattle.std.proofs.Common.{◌≡◌, ℕ, ◌+◌, ◌≤◌, inl, inr, List, [], ◌∷◌, length, refl, ap, subst, ◌∙◌, arith, length-append}
 use Rattle.programs.specs.declared.node.Node.TheVariants.{Close}
 use Rattle.programs.specs.Trees.{Tree, Nothing, Then, Block, repeated, unrolled, nodes_of, depth}
-use Rattle.programs.specs.Places.{IsFirst, IsBeyond, IsWithin, IsPlace}
+use Rattle.programs.specs.Places.{IsPlace}
 use Rattle.programs.proofs.Indices.{length-repeated, turn-end}
 
 pub moved : (t : Tree) {i j k m : ℕ} {turns ts : List ℕ} → i ≡ j → turns ≡ ts → k ≡ m → IsPlace t i turns k → IsPlace t j ts m

@@ -1,5 +1,5 @@
 -- A product of letters whose first stands apart is a word other than the identity.
-use Rattle.std.proofs.Common.{◌≡◌, ◌≢◌, ℕ, zero, suc, ◌<◌, ◌==◌, Bool, true, false, not, ◌||◌, List, [], ◌∷◌, length, get_or, set, refl, sym, ap, ◌∙◌, arith}
+use Rattle.std.proofs.Common.{◌≡◌, ◌≢◌, ℕ, zero, suc, ◌<◌, ◌==◌, Bool, true, false, not, ◌||◌, List, [], ◌∷◌, length, set, refl, sym, ap, ◌∙◌, arith}
 use Rattle.std.specs.List.{list_any}
 use Rattle.std.specs.Prelude.{All}
 use Rattle.std.proofs.lemmas.Bool.{and_from, eq-eqb}
@@ -13,9 +13,9 @@ use Rattle.pauli_word.proofs.LetterLaws.{letter_product-I}
 use Rattle.pauli_word.proofs.LoneLetters.{letters_product-lone_letter}
 use Rattle.step_model.specs.declared.step.Term.{Term}
 use Rattle.step_model.specs.Listing.{word_of_terms}
-use Rattle.step_model.specs.WellFormed.{is_I, word_fits, TermsFit, ProductFits}
+use Rattle.step_model.specs.WellFormed.{is_I, TermsFit, ProductFits}
 use Rattle.step_model.proofs.StepNumbers.{length-word_of_terms}
-use Rattle.programs.specs.ByHand.{StandsApart, BeginsApart}
+use Rattle.programs.specs.ByHand.{BeginsApart}
 
 -- a list that has a letter other than I somewhere
 some_set : (w : List Letter) (q : ℕ) (a : Letter) → q < length w → is_I a ≡ false → list_any (λ b. not (is_I b)) (set w q a) ≡ true

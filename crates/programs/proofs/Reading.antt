@@ -1,8 +1,8 @@
 -- The tree that is read from a tree as it is written is that tree.
-use Rattle.std.proofs.Common.{◌≡◌, ℕ, zero, suc, List, [], ◌∷◌, ◌++◌, length, drop, refl, sym, ap, ap₂, ◌∙◌, append_assoc, append-nil}
+use Rattle.std.proofs.Common.{◌≡◌, List, [], ◌∷◌, ◌++◌, length, drop, refl, sym, ap, ◌∙◌, append_assoc, append-nil}
 use Rattle.std.specs.Prelude.{slice_index_or}
 use Rattle.programs.specs.declared.node.Node.{Node}
-use Rattle.programs.specs.declared.node.Node.TheVariants.{Do, Open, Close}
+use Rattle.programs.specs.declared.node.Node.TheVariants.{Open, Close}
 use Rattle.programs.specs.Trees.{Tree, Nothing, Then, Block, nodes_of, read, tree_of}
 
 read-written : (t : Tree) (more : List Node) → (read more).0 ≡ Nothing → read (nodes_of t ++ more) ≡ (t, (read more).1)

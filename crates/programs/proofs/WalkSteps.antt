@@ -1,25 +1,23 @@
 -- What a walk keeps over a step forward and over a step back.
-use Rattle.std.proofs.Common.{◌≡◌, ℕ, zero, suc, ◌+◌, ◌-◌, ◌^◌, ◌<◌, ◌≤◌, List, length, take, Option, None, Some, refl, sym, ap, ap₂, ◌∙◌, subst, arith}
+use Rattle.std.proofs.Common.{◌≡◌, ℕ, ◌+◌, ◌-◌, ◌^◌, ◌<◌, ◌≤◌, List, length, take, None, Some, refl, sym, ap, ◌∙◌, subst, arith}
 use Rattle.std.specs.Prelude.{slice_get, option_map, nat_lt, ◌==◌, if◌then◌else◌, true, false}
 use Rattle.std.proofs.lemmas.Bool.{ne_eqb, lt-ltb, le-ltb}
 use Rattle.programs.specs.Walks.{Walked}
 use Rattle.std.proofs.lemmas.Option.{slice_get_within, slice_get-map}
-use Rattle.programs.specs.declared.node.Node.{Node}
 use Rattle.programs.specs.declared.place.Place.{Place}
 use Rattle.programs.specs.declared.step.TextStep.{TextStep}
-use Rattle.programs.specs.declared.step.Step.{Step}
 use Rattle.programs.specs.declared.step.Counts.{Counts}
-use Rattle.programs.specs.Trees.{IsCircuit, tree_of, unrolled}
-use Rattle.programs.specs.Steps.{IsAt, NextStep, PreviousStep, GoesOver, StaysAtEnd, GoesBackOver, StaysAtStart}
-use Rattle.programs.specs.Numbering.{made_by, counts_after, counts_before, counts_over, no_counts, numbered_step, numbered, feeds_back, FeedBack}
-use Rattle.programs.specs.WalkStates.{IsWalk, IsWalkOf}
+use Rattle.programs.specs.Trees.{tree_of, unrolled}
+use Rattle.programs.specs.Steps.{IsAt, GoesOver, StaysAtEnd, GoesBackOver}
+use Rattle.programs.specs.Numbering.{made_by, counts_after, counts_before, counts_over, no_counts, numbered_step, numbered, feeds_back}
+use Rattle.programs.specs.WalkStates.{IsWalkOf}
 use Rattle.programs.specs.Held.{Held}
 use Rattle.programs.specs.Named.{IsStepOf}
 use Rattle.programs.specs.Listed.{listed}
 use Rattle.programs.specs.declared.program.Text.{Text}
 use Rattle.step_model.specs.Listing.{Listing, ListedStep}
 use Rattle.std.proofs.lemmas.List.{length-map}
-use Rattle.programs.proofs.Numbers.{length-numbered, get-numbered, get-past, counts_over-more, FeedBack-at, AreFew, few, GoesBack, goes_back}
+use Rattle.programs.proofs.Numbers.{length-numbered, get-numbered, get-past, counts_over-more, FeedBack-at, few, goes_back}
 
 module _ (program : Listing) (text : Text) where
   length-listed : Held program text.nodes.now text.steps text.counts → length program.steps ≡ length (unrolled (tree_of text.nodes.now))

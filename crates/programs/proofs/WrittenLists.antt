@@ -9,7 +9,7 @@ use Rattle.programs.specs.declared.step.TextStep.{TextStep}
 use Rattle.programs.specs.ByHand.{written, kept_of, counted_listing}
 use Rattle.programs.specs.KeptLists.{Keeps}
 use Rattle.programs.specs.Listed.{listed_steps, made_faults}
-use Rattle.programs.specs.Made.{kept_in, text_steps}
+use Rattle.programs.specs.Made.{text_steps}
 use Rattle.programs.specs.Numbering.{no_counts, counts_over}
 
 pub weaken : (P Q : Listing → Type 0) (o : Option Listing) → ((p : Listing) → P p → Q p) → IfSome o P → IfSome o Q

@@ -1,6 +1,6 @@
 -- A circuit as it is written down from its start on: the steps so far of the circuit and of each block that is open in
 -- it. A block that closes stands for its turns. (Stim's circuit format.)
-use Rattle.std.specs.Prelude.{⊤, ◌≡◌, ◌<◌, ◌≤◌, ◌-◌, ℕ, suc, List, [], ◌∷◌, ◌++◌, length, take, drop}
+use Rattle.std.specs.Prelude.{◌≡◌, ◌<◌, ◌≤◌, ◌-◌, ℕ, suc, List, [], ◌∷◌, ◌++◌, length, take, drop}
 use Rattle.programs.specs.declared.builder.Outer.{Outer}
 use Rattle.programs.specs.declared.node.Node.{Node}
 use Rattle.programs.specs.declared.node.Node.TheVariants.{Open}

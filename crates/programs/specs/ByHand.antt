@@ -1,6 +1,6 @@
 -- The steps that pieces write, what is kept of their faults, and what a pass over the unrolled steps of parts finds of
 -- them. Pieces stand in the order of a circuit's text, and a block stands for its turns. (Stim's circuit format.)
-use Rattle.std.specs.Prelude.{◌≡◌, ◌≢◌, ◌≤◌, ℕ, Bool, true, false, List, [], ◌∷◌, ◌++◌, All, length, reverse, take}
+use Rattle.std.specs.Prelude.{◌≡◌, ◌≢◌, ◌≤◌, ℕ, true, false, List, [], ◌∷◌, ◌++◌, All, length, reverse, take}
 use Rattle.std.specs.List.{list_all}
 use Rattle.std.specs.Option.{unwrap_or}
 use Rattle.step_model.specs.declared.step.Term.{Term}
@@ -17,7 +17,7 @@ use Rattle.programs.specs.declared.step.Counts.{Counts}
 use Rattle.programs.specs.declared.step.TextStep.{TextStep}
 use Rattle.programs.specs.Builders.{OpenBlock, Building}
 use Rattle.programs.specs.Fits.{text_fits, is_kept}
-use Rattle.programs.specs.Made.{kept_in, text_steps, listing_of}
+use Rattle.programs.specs.Made.{text_steps, listing_of}
 use Rattle.programs.specs.Numbering.{no_counts, counts_over, FeedBack}
 use Rattle.programs.specs.Steps.{IsAt}
 use Rattle.programs.specs.Trees.{repeated}
@@ -49,7 +49,7 @@ counted_listing parts =
 -- these steps fit, and make so much
 pub record StepsFit {A : Type 0} (parts : Parts A) (steps : List TextStep) (made : Counts) : Type 0 where
   pub texts_fit : list_all (text_fits parts.qubits) steps ≡ true
-  pub all_kept : list_all (is_kept (kept_in parts) parts.products) steps ≡ true
+  pub all_kept : list_all (is_kept parts.entries parts.products) steps ≡ true
   pub feedback : FeedBack no_counts steps
   pub counted : made ≡ counts_over no_counts steps
 

@@ -4,12 +4,10 @@ use Rattle.std.specs.Prelude.{◌≡◌, [], map}
 use Rattle.programs.specs.declared.by_hand.Lists.{Lists}
 use Rattle.programs.specs.declared.program.Parts.{Parts}
 use Rattle.programs.specs.ByHand.{kept_of}
-use Rattle.programs.specs.Made.{kept_in}
 
 -- parts that keep nothing yet
 pub record KeepsNothing {A : Type 0} (parts : Parts A) : Type 0 where
-  pub entries : parts.entries.items ≡ []
-  pub terms : parts.terms ≡ []
+  pub entries : parts.entries ≡ []
   pub detectors : parts.detectors ≡ []
   pub observables : parts.observables ≡ []
   pub coordinates : parts.coordinates ≡ []
@@ -17,7 +15,7 @@ pub record KeepsNothing {A : Type 0} (parts : Parts A) : Type 0 where
 
 -- parts that keep these lists
 pub record Keeps {A : Type 0} (parts : Parts A) (lists : Lists) : Type 0 where
-  pub entries : kept_in parts ≡ map kept_of lists.entries.now
+  pub entries : parts.entries ≡ map kept_of lists.entries.now
   pub detectors : parts.detectors ≡ map (λ list. list.now) lists.detectors.now
   pub observables : parts.observables ≡ map (λ list. list.now) lists.observables.now
   pub coordinates : parts.coordinates ≡ map (λ list. list.now) lists.coordinates.now

@@ -1,5 +1,6 @@
 pub mod Builders
 pub mod ByHand
+pub mod Entries
 pub mod Fits
 pub mod Held
 pub mod Listed

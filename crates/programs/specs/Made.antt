@@ -2,28 +2,17 @@
 -- it stands, and what is kept of faults and of products is there. That records and faults are in order is so by the
 -- numbering.
 -- (Stim's circuit format, github.com/quantumlib/Stim, doc/file_format_stim_circuit.md; how it is kept is this project's own.)
-use Rattle.std.specs.Prelude.{◌≡◌, ◌<◌, ◌≤◌, ◌^◌, ℕ, true, List, [], ◌∷◌, length, All, Some}
+use Rattle.std.specs.Prelude.{◌≡◌, ◌<◌, ◌≤◌, ◌^◌, ℕ, true, List, length, All, Some}
 use Rattle.std.specs.List.{list_all}
-use Rattle.step_model.specs.declared.step.Term.{Term}
 use Rattle.step_model.specs.Listing.{Listing, Kept}
 use Rattle.step_model.specs.Probabilities.{probability_bound}
 use Rattle.step_model.specs.WellFormed.{TermsFit, ProductFits, CoordinatesFit}
-use Rattle.programs.specs.declared.program.EntryPart.{EntryPart}
 use Rattle.programs.specs.declared.program.Parts.{Parts}
 use Rattle.programs.specs.declared.step.TextStep.{TextStep}
 use Rattle.programs.specs.Fits.{text_fits, is_kept}
 use Rattle.programs.specs.Listed.{made_faults, listed_steps}
 use Rattle.programs.specs.Numbering.{no_counts, counts_over, FeedBack}
 use Rattle.programs.specs.Trees.{IsCircuit, tree_of, unrolled}
-
--- each entry with its terms
-abbrev pub entries_of : List EntryPart → List (List Term) → List Kept
-entries_of (part ∷ parts) (terms ∷ rest) =
-    record { text = part.text.now; bound = part.bound; terms = terms } ∷ entries_of parts rest
-entries_of parts rest = []
-
-abbrev pub kept_in : {A : Type 0} → Parts A → List Kept
-kept_in parts = entries_of parts.entries.items parts.terms
 
 -- the unrolled text
 abbrev pub text_steps : {A : Type 0} → Parts A → List TextStep
@@ -39,8 +28,8 @@ listing_of parts =
       detectors = parts.detectors;
       observables = parts.observables;
       coordinates = parts.coordinates;
-      faults = made_faults (kept_in parts) no_counts (text_steps parts);
-      kept = kept_in parts;
+      faults = made_faults parts.entries no_counts (text_steps parts);
+      kept = parts.entries;
       products = parts.products;
     }
 
@@ -52,12 +41,12 @@ pub record EntryFits (qubits : ℕ) (entry : Kept) : Type 0 where
 pub record PartsFit {A : Type 0} (parts : Parts A) : Type 0 where
   pub circuit : IsCircuit parts.nodes.items
   pub texts_fit : list_all (text_fits parts.qubits) (text_steps parts) ≡ true
-  pub all_kept : list_all (is_kept (kept_in parts) parts.products) (text_steps parts) ≡ true
+  pub all_kept : list_all (is_kept parts.entries parts.products) (text_steps parts) ≡ true
   pub feedback : FeedBack no_counts (text_steps parts)
   pub counted : parts.counts ≡ counts_over no_counts (text_steps parts)
   pub steps_counted : parts.steps ≡ length (text_steps parts)
   pub few_steps : length (text_steps parts) < 2 ^ 32
-  pub entries_fit : All (EntryFits parts.qubits) (kept_in parts)
+  pub entries_fit : All (EntryFits parts.qubits) parts.entries
   pub products_fit : All (ProductFits parts.qubits) parts.products
   pub detectors_fit : All (All (λ r. r < parts.counts.records)) parts.detectors
   pub observables_fit : All (All (λ r. r < parts.counts.records)) parts.observables

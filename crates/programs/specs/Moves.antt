@@ -1,10 +1,10 @@
 -- What a place is beside: the node after it or the node before it, and the places to which it leads.
 -- (Stim's circuit format, github.com/quantumlib/Stim, doc/file_format_stim_circuit.md; how it is kept is this project's own.)
-use Rattle.std.specs.Prelude.{⊤, ◌≡◌, ◌<◌, ◌≤◌, ◌+◌, ◌-◌, ℕ, suc, List, [], ◌∷◌, ◌++◌, length, Option, None, Some, slice_get}
+use Rattle.std.specs.Prelude.{⊤, ◌≡◌, ◌<◌, ◌≤◌, ◌+◌, ◌-◌, ℕ, List, [], ◌∷◌, ◌++◌, length, Option, None, Some, slice_get}
 use Rattle.programs.specs.declared.node.Node.{Node}
 use Rattle.programs.specs.declared.step.TextStep.{TextStep}
 use Rattle.programs.specs.declared.node.Node.TheVariants.{Do, Open, Close}
-use Rattle.programs.specs.Trees.{Tree, unrolled, nodes_of, depth}
+use Rattle.programs.specs.Trees.{Tree, unrolled, depth}
 use Rattle.programs.specs.Places.{IsPlace}
 
 -- past a step

@@ -1,7 +1,7 @@
 -- The numbers that steps have at their places: records, collapses and faults are numbered from 0 in the order of the
 -- unrolled steps, whatever blocks they stand in. So a text's step names none of them, and the unrolled list gives each
 -- its number: how many came before it. (Stim's circuit format.)
-use Rattle.std.specs.Prelude.{⊤, ◌≡◌, ◌≤◌, ℕ, ◌+◌, ◌-◌, Bool, false, List, [], ◌∷◌, Option, None, Some, option_map}
+use Rattle.std.specs.Prelude.{⊤, ◌≤◌, ℕ, ◌+◌, ◌-◌, Bool, false, List, [], ◌∷◌, Option, None, Some, option_map}
 use Rattle.programs.specs.declared.step.TextStep.{TextStep}
 use Rattle.programs.specs.declared.step.TextStep.TheVariants as text
 use Rattle.programs.specs.declared.step.Step.{Step}

@@ -1,7 +1,7 @@
 -- A place in a tree, between two nodes: before the node i, in these turns of the blocks that are open there, the
 -- outermost first and counted from 0. Then k steps of the unrolled list stand before it.
 -- (Stim's circuit format, github.com/quantumlib/Stim, doc/file_format_stim_circuit.md; how it is kept is this project's own.)
-use Rattle.std.specs.Prelude.{◌≡◌, ◌<◌, ◌+◌, ◌*◌, ◌⊎◌, ℕ, zero, suc, List, [], ◌∷◌, length}
+use Rattle.std.specs.Prelude.{◌≡◌, ◌<◌, ◌+◌, ◌*◌, ◌⊎◌, ℕ, List, [], ◌∷◌, length}
 use Rattle.programs.specs.Trees.{Tree, Nothing, Then, Block, unrolled, nodes_of}
 
 -- the place before all

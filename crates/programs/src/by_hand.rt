@@ -4,16 +4,16 @@ ghost use Rattle.step_model.specs.Probabilities.{probability_bound};
 ghost use Rattle.programs.specs.ByHand.{written, kept_of, Puts};
 ghost use Rattle.programs.specs.KeptLists.{Keeps, KeepsNothing};
 ghost use Rattle.programs.specs.Listed.{listed_steps, made_faults};
-ghost use Rattle.programs.specs.Made.{entries_of};
 ghost use Rattle.programs.specs.Numbering.{no_counts, counts_over};
 ghost use Rattle.programs.specs.Trees.{IsCircuit, tree_of, unrolled};
 
 mod fit;
 
 use crate::builder::CircuitBuilder;
+use crate::entries::Entries;
 use crate::node::Node;
 use crate::place::LEVELS;
-use crate::program::{EntryPart, Parts, Program};
+use crate::program::{Parts, Program};
 use crate::step::{Counts, TextStep};
 use fit::checked;
 use flat_lists::FlatLists;
@@ -91,8 +91,7 @@ fn bare<'a, A: Allocator + Copy>(alloc: A, qubits: u32, nodes: Vec<Node, A>) -> 
         detectors: FlatLists::new(alloc),
         observables: FlatLists::new(alloc),
         coordinates: FlatLists::new(alloc),
-        entries: Vec::new(alloc),
-        terms: FlatLists::new(alloc),
+        entries: Entries::new(alloc),
         products: FlatLists::new(alloc),
     }
 }
@@ -111,7 +110,7 @@ fn keep<'a, A: Allocator + Copy>(
     keep_lists(&mut parts.observables, lists.observables)?;
     keep_lists(&mut parts.coordinates, lists.coordinates)?;
     keep_lists(&mut parts.products, lists.products)?;
-    keep_entries(&mut parts.entries, &mut parts.terms, lists.entries)
+    keep_entries(&mut parts.entries, lists.entries)
 }
 
 // The nodes of a circuit in pieces, where its blocks are whole, have a turn and aren't too deep.
@@ -165,23 +164,17 @@ fn put<A: Allocator + Copy>(
 
 // Keeps these entries, where their texts are of those that can be read here.
 fn keep_entries<'a, A: Allocator + Copy>(
-    parts: &mut Vec<EntryPart<'a>, A>,
-    terms: &mut FlatLists<Term, A>,
+    kept: &mut Entries<'a, A>,
     entries: &'a [Entry<'a>],
 ) -> Result<bool, AllocError>
-    requires parts { parts.old.items ≡ [] }
-    requires terms { terms.old ≡ [] }
-    ensures { IfOk result (λ fits. fits ≡ true → entries_of parts.new.items terms.new ≡ map kept_of entries.now) }
+    requires { kept.old ≡ [] }
+    ensures { IfOk result (λ fits. fits ≡ true → kept.new ≡ map kept_of entries.now) }
 {
     for entry in entries {
         let Some(bound) = bound_of(entry.text) else {
             return Ok(false);
         };
-        parts.push(EntryPart {
-            text: entry.text,
-            bound,
-        })?;
-        terms.push(entry.terms)?;
+        kept.push(entry.text, bound, entry.terms)?;
     }
     Ok(true)
 }

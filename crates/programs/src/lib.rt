@@ -3,6 +3,7 @@
 
 mod builder;
 pub mod by_hand;
+mod entries;
 mod node;
 mod place;
 mod program;
@@ -10,7 +11,8 @@ mod step;
 mod walk;
 
 pub use builder::CircuitBuilder;
+pub use entries::{ChanceTable, Entries, EntryPart};
 pub use node::Node;
-pub use program::{EntryPart, Parts, Program, Text};
+pub use program::{Parts, Program, Text};
 pub use step::{Counts, FaultName, Recording, Step, TextStep};
 pub use walk::Walk;

@@ -3,9 +3,11 @@ ghost use Rattle.std.specs.List.{All};
 ghost use Rattle.step_model.specs.Listing.{none_kept, kept_at};
 ghost use Rattle.step_model.specs.Targets.{target_at};
 ghost use Rattle.step_model.specs.WellFormed.{IsWellFormed};
+ghost use Rattle.programs.specs.Entries.{TellsChances};
 ghost use Rattle.programs.specs.Held.{HoldsText};
 ghost use Rattle.programs.specs.Made.{listing_of, PartsFit};
 
+use crate::entries::{ChanceTable, Entries};
 use crate::node::Node;
 use crate::step::Counts;
 use flat_lists::FlatLists;
@@ -13,16 +15,8 @@ use std::alloc::Allocator;
 use std::marker::Model;
 use step_model::Term;
 
-/// What is kept of a fault, once for each place of the text: the text of its probability, and floor of probability
-/// times 2^64.
-#[derive(Clone, Copy, Drop)]
-pub struct EntryPart<'a> {
-    pub text: &'a [u8],
-    pub bound: u128,
-}
-
 /// What a program is made of: its circuit with its blocks, how many steps that has once unrolled and what these make,
-/// and what is kept of its faults, a list of letters at qubits for each entry, and of the products that it measures.
+/// and what is kept of its faults and of the products that it measures.
 #[derive(Drop)]
 pub struct Parts<'a, A: Allocator + Copy> {
     pub qubits: u32,
@@ -32,8 +26,7 @@ pub struct Parts<'a, A: Allocator + Copy> {
     pub detectors: FlatLists<u32, A>,
     pub observables: FlatLists<u32, A>,
     pub coordinates: FlatLists<i64, A>,
-    pub entries: Vec<EntryPart<'a>, A>,
-    pub terms: FlatLists<Term, A>,
+    pub entries: Entries<'a, A>,
     pub products: FlatLists<Term, A>,
 }
 
@@ -174,21 +167,12 @@ impl<'a, A: Allocator + Copy> Program<'a, A> {
         self.parts.coordinates.get(d)
     }
 
-    /// How many entries are kept.
-    pub fn entry_count(&self) -> usize
-        ensures { result ≡ length self.now.kept }
-    {
-        let parts = self.parts.entries.len();
-        let terms = self.parts.terms.len();
-        if parts < terms { parts } else { terms }
-    }
-
     /// The text of the probability that is kept at a number.
     pub fn entry_text(&self, e: u32) -> &'a [u8]
         requires { e < length self.now.kept }
         ensures { result.now ≡ (kept_at self.now e).text }
     {
-        self.parts.entries[e as usize].text
+        self.parts.entries.text(e as usize)
     }
 
     /// Floor of that probability times 2^64.
@@ -196,7 +180,7 @@ impl<'a, A: Allocator + Copy> Program<'a, A> {
         requires { e < length self.now.kept }
         ensures { result ≡ (kept_at self.now e).bound }
     {
-        self.parts.entries[e as usize].bound
+        self.parts.entries.bound(e as usize)
     }
 
     /// The letters at qubits that a fault of this entry applies: none where it flips a record.
@@ -204,7 +188,15 @@ impl<'a, A: Allocator + Copy> Program<'a, A> {
         requires { e < length self.now.kept }
         ensures { result.now ≡ (kept_at self.now e).terms }
     {
-        self.parts.terms.get(e as usize)
+        self.parts.entries.terms(e as usize)
+    }
+
+    /// The number of each entry's text and bound, and those which the numbers name: so a caller can keep something for each
+    /// of these in place of each entry.
+    pub fn chances(&self) -> ChanceTable<'_, 'a>
+        ensures { TellsChances self.now.kept result }
+    {
+        self.parts.entries.chances()
     }
 
     /// A product of letters at qubits that collapses measure.

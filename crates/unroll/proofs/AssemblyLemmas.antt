@@ -69,7 +69,7 @@ parts_fit t parts circuit accepted p =
       steps_counted = p.steps ∙ (sym (steps_counted t) ∙ ap length (sym p.unrolled));
       few_steps = subst (λ (ss : List TextStep). length ss < 2 ^ 32) (sym p.unrolled) (steps_few t within.steps);
       entries_fit =
-          subst (λ (m : ℕ). All (EntryFits m) (made.kept_in parts)) (sym p.qubits)
+          subst (λ (m : ℕ). All (EntryFits m) parts.entries) (sym p.qubits)
           (subst (λ (ks : List Kept). All (EntryFits n) ks) (sym p.kept) (entries_fit t circuit));
       products_fit =
           subst (λ (m : ℕ). All (ProductFits m) parts.products) (sym p.qubits)

@@ -4,7 +4,6 @@ pub mod SumLemmas
 pub mod ProductLemmas
 pub mod PushLemmas
 pub mod FarLemmas
-pub mod EntryLemmas
 pub mod ItemLemmas
 pub mod WritingLemmas
 pub mod GatherLemmas

@@ -4,7 +4,7 @@
 use Rattle.std.specs.Prelude.{◌≡◌}
 use Rattle.programs.specs.declared.program.Parts.{Parts}
 use Rattle.programs.specs.declared.step.Counts.{Counts}
-use Rattle.programs.specs.Made.{entries_of, kept_in, text_steps}
+use Rattle.programs.specs.Made.{text_steps}
 use Rattle.programs.specs.Trees.{IsCircuit, tree_of, unrolled}
 use Rattle.stim_parser.specs.Trees.{Tree}
 use Rattle.unroll.specs.declared.assembly.Lists.{Lists}
@@ -29,14 +29,14 @@ pub record ArePartsOf {A : Type 0} (tree : Tree) (parts : Parts A) : Type 0 wher
   pub detectors : parts.detectors ≡ detectors_of tree
   pub observables : parts.observables ≡ observables_of tree
   pub coordinates : parts.coordinates ≡ coordinates_of tree
-  pub kept : kept_in parts ≡ kept_entries tree
+  pub kept : parts.entries ≡ kept_entries tree
   pub products : parts.products ≡ kept_products tree
 
 -- these are the tree's steps with their blocks, and what is kept of them
 pub record IsWritten {A : Type 0} (tree : Tree) (written : Written A) : Type 0 where
   pub circuit : IsCircuit written.nodes.items
   pub steps : unrolled (tree_of written.nodes.items) ≡ steps_of tree
-  pub kept : entries_of written.entries.parts.items written.entries.terms ≡ kept_entries tree
+  pub kept : written.entries ≡ kept_entries tree
   pub products : written.products ≡ kept_products tree
 
 -- these are the tree's targets, and the coordinates of its detectors

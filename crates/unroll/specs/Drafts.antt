@@ -5,7 +5,6 @@
 use Rattle.std.specs.Prelude.{◌≡◌, ◌+◌, ◌<◌, ◌^◌, ℕ, List, [], ◌∷◌, ◌++◌, length, All}
 use Rattle.programs.specs.declared.step.TextStep.{TextStep}
 use Rattle.programs.specs.Builders.{OpenBlock}
-use Rattle.programs.specs.Made.{entries_of as entries_in}
 use Rattle.programs.specs.Trees.{repeated}
 use Rattle.step_model.specs.declared.step.Term.{Term}
 use Rattle.step_model.specs.Listing.{Kept}
@@ -29,7 +28,7 @@ draft_of w =
     record {
       outer = w.builder.outer;
       here = w.builder.here;
-      entries = entries_in w.entries.parts.items w.entries.terms;
+      entries = w.entries;
       products = w.products;
     }
 

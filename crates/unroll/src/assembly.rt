@@ -68,8 +68,7 @@ fn assembled<'a, A: Allocator + Copy>(
         detectors: lists.detectors,
         observables: lists.observables,
         coordinates: lists.coordinates,
-        entries: written.entries.parts,
-        terms: written.entries.terms,
+        entries: written.entries,
         products: written.products,
     }
 }

@@ -1,5 +1,4 @@
 ghost use Rattle.std.specs.Prelude.{◌≡◌, ◌≤◌, [], ◌∷◌, ◌++◌, All, length, map, unwrap_or, OnOk};
-ghost use Rattle.programs.specs.Made.{entries_of};
 ghost use Rattle.stim_parser.specs.Flat.{instruction_in};
 ghost use Rattle.unroll.specs.Kept.{entries_of as entries_made, entry_at, entry_of, first_argument, flip_entries, letter_at, term_at, term_of};
 ghost use Rattle.unroll.specs.Pushed.{IsSmall};
@@ -7,39 +6,11 @@ ghost use Rattle.unroll.specs.Totals.{qubits_to};
 ghost use Rattle.step_model.specs.Probabilities.{probability_bound};
 
 use crate::targets::qubit_of;
-use flat_lists::FlatLists;
 use pauli_word::Letter;
-use programs::EntryPart;
+use programs::Entries;
 use std::alloc::{AllocError, Allocator};
 use step_model::Term;
 use stim_parser::{Instruction, LastProbability, Operation, Target};
-
-/// What is kept of a circuit's faults, and beside each its letters at qubits.
-#[derive(Drop)]
-pub(crate) struct Entries<'a, A: Allocator + Copy> {
-    pub parts: Vec<EntryPart<'a>, A>,
-    pub terms: FlatLists<Term, A>,
-    ghost each: { length parts.items ≡ length terms },
-}
-
-impl<'a, A: Allocator + Copy> Entries<'a, A> {
-    /// No entries. Takes no memory.
-    pub(crate) fn new(alloc: A) -> Self
-        ensures { entries_of result.parts.items result.terms ≡ [] }
-    {
-        Entries {
-            parts: Vec::new(alloc),
-            terms: FlatLists::new(alloc),
-        }
-    }
-
-    /// How many entries there are.
-    pub(crate) fn len(&self) -> usize
-        ensures { result ≡ length (entries_of self.now.parts.items self.now.terms) }
-    {
-        self.parts.len()
-    }
-}
 
 /// Floor of a probability times 2^64, and 0 where the text is none.
 fn bound_of<'a>(last: &mut LastProbability<'a>, text: &'a [u8]) -> u128
@@ -87,24 +58,6 @@ fn name_terms<A: Allocator + Copy>(
     Ok(())
 }
 
-/// One entry more, of a probability's text, its bound and letters at qubits.
-fn push_entry<'a, A: Allocator + Copy>(
-    entries: &mut Entries<'a, A>,
-    text: &'a [u8],
-    bound: u128,
-    terms: &[Term],
-) -> Result<(), AllocError>
-    requires { bound ≡ unwrap_or (probability_bound text.now) 0 }
-    ensures { OnOk result (entries_of entries.new.parts.items entries.new.terms
-        ≡ entries_of entries.old.parts.items entries.old.terms ++ entry_of terms.now text.now ∷ []) }
-{
-    // Room for the part first, so that each part has its terms where memory runs out.
-    entries.parts.reserve(1)?;
-    entries.terms.push(terms)?;
-    entries.parts.push_reserved(EntryPart { text, bound });
-    Ok(())
-}
-
 /// An entry of one letter at each target.
 fn push_entries<'a, A: Allocator + Copy>(
     entries: &mut Entries<'a, A>,
@@ -114,12 +67,11 @@ fn push_entries<'a, A: Allocator + Copy>(
     targets: &[Target],
 ) -> Result<(), AllocError>
     requires { All IsSmall targets.now }
-    ensures { OnOk result (entries_of entries.new.parts.items entries.new.terms
-        ≡ entries_of entries.old.parts.items entries.old.terms ++ map (entry_at letter text.now) targets.now) }
+    ensures { OnOk result (entries.new ≡ entries.old ++ map (entry_at letter text.now) targets.now) }
 {
     let bound = bound_of(last, text);
     for target in targets {
-        push_entry(entries, text, bound, &[term_at(letter, *target)])?;
+        entries.push(text, bound, &[term_at(letter, *target)])?;
     }
     Ok(())
 }
@@ -140,11 +92,10 @@ fn push_flip<'a, A: Allocator + Copy>(
     last: &mut LastProbability<'a>,
     instruction: Instruction<'_, 'a>,
 ) -> Result<(), AllocError>
-    ensures { OnOk result (entries_of entries.new.parts.items entries.new.terms
-        ≡ entries_of entries.old.parts.items entries.old.terms ++ flip_entries (instruction_in instruction.entry).arguments) }
+    ensures { OnOk result (entries.new ≡ entries.old ++ flip_entries (instruction_in instruction.entry).arguments) }
 {
     match instruction.first_argument() {
-        Some(text) => push_entry(entries, text, bound_of(last, text), &[]),
+        Some(text) => entries.push(text, bound_of(last, text), &[]),
         None => Ok(()),
     }
 }
@@ -157,8 +108,7 @@ pub(crate) fn push_instruction<'a, A: Allocator + Copy>(
     instruction: Instruction<'_, 'a>,
 ) -> Result<(), AllocError>
     requires { All IsSmall instruction.targets.now }
-    ensures { OnOk result (entries_of entries.new.parts.items entries.new.terms
-        ≡ entries_of entries.old.parts.items entries.old.terms ++ entries_made (instruction_in instruction.entry)) }
+    ensures { OnOk result (entries.new ≡ entries.old ++ entries_made (instruction_in instruction.entry)) }
 {
     match instruction.operation {
         Operation::Measures(_) | Operation::MeasuresAndResets(_) | Operation::MeasuresProducts => {
@@ -174,7 +124,7 @@ pub(crate) fn push_instruction<'a, A: Allocator + Copy>(
         Operation::ErrsTogether => {
             name_terms(terms, instruction.targets)?;
             let text = first_argument(instruction);
-            push_entry(entries, text, bound_of(last, text), terms)
+            entries.push(text, bound_of(last, text), terms)
         }
         _ => Ok(()),
     }

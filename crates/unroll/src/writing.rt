@@ -1,5 +1,4 @@
 ghost use Rattle.std.specs.Prelude.{◌≡◌, ◌<◌, ◌^◌, [], None, IfOk, OnOk};
-ghost use Rattle.programs.specs.Made.{entries_of};
 ghost use Rattle.programs.specs.Trees.{IsCircuit, tree_of, unrolled};
 ghost use Rattle.stim_parser.specs.Flat.{instruction_in, item_in};
 ghost use Rattle.unroll.specs.Drafts.{CanWrite, HasRoom, Writes, draft_of, with_instruction};
@@ -9,11 +8,11 @@ ghost use Rattle.unroll.specs.Refusals.{first_far_line};
 ghost use Rattle.unroll.specs.Steps.{steps_of};
 ghost use Rattle.unroll.specs.Totals.{record_total, step_total};
 
-use crate::entries::{Entries, push_instruction};
+use crate::entries::push_instruction;
 use crate::products::push_kept_products;
 use crate::steps::push_steps;
 use flat_lists::FlatLists;
-use programs::{CircuitBuilder, Node};
+use programs::{CircuitBuilder, Entries, Node};
 use std::alloc::{AllocError, Allocator};
 use step_model::Term;
 use stim_parser::{Circuit, Instruction, Item, LastProbability};
@@ -106,7 +105,7 @@ impl<'a, A: Allocator + Copy> Writing<'a, A> {
         requires { self.builder.outer ≡ [] }
         ensures circuit { IsCircuit result.nodes.items }
         ensures steps { unrolled (tree_of result.nodes.items) ≡ self.entry.builder.here }
-        ensures entries { entries_of result.entries.parts.items result.entries.terms ≡ entries_of self.entry.entries.parts.items self.entry.entries.terms }
+        ensures entries { result.entries ≡ self.entry.entries }
         ensures products { result.products ≡ self.entry.products }
     {
         Written {
@@ -127,7 +126,7 @@ pub(crate) fn written_of<'a, A: Allocator + Copy>(
     requires few_steps { step_total circuit.now < 2 ^ 32 }
     ensures circuit { IfOk result (λ w. IsCircuit w.nodes.items) }
     ensures steps { IfOk result (λ w. unrolled (tree_of w.nodes.items) ≡ steps_of circuit.now) }
-    ensures entries { IfOk result (λ w. entries_of w.entries.parts.items w.entries.terms ≡ kept_entries circuit.now) }
+    ensures entries { IfOk result (λ w. w.entries ≡ kept_entries circuit.now) }
     ensures products { IfOk result (λ w. w.products ≡ kept_products circuit.now) }
 {
     circuit.fits();

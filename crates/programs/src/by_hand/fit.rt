@@ -4,13 +4,13 @@ ghost use Rattle.step_model.specs.Probabilities.{probability_bound};
 ghost use Rattle.step_model.specs.WellFormed.{TermsFit, ProductFits, CoordinatesFit, is_I};
 ghost use Rattle.programs.specs.ByHand.{AllFit, BeginsApart, counted_listing};
 ghost use Rattle.programs.specs.Fits.{letter_fits, text_fits, flip_is_kept, recording_is_kept, is_kept};
-ghost use Rattle.programs.specs.Made.{kept_in, EntryFits};
+ghost use Rattle.programs.specs.Made.{EntryFits};
 ghost use Rattle.programs.specs.Numbering.{feeds_back};
 ghost use Rattle.programs.specs.Trees.{IsCircuit};
 
 use crate::by_hand::bound_of;
 use crate::place::{Place, next};
-use crate::program::{EntryPart, Parts, Program};
+use crate::program::{Parts, Program};
 use crate::step::{Counts, Recording, TextStep, after};
 use arrayvec::ArrayVec;
 use flat_lists::FlatLists;
@@ -85,7 +85,7 @@ fn total_of<A: Allocator + Copy>(parts: &Parts<'_, A>) -> Option<Totals>
 
 fn step_fits<A: Allocator + Copy>(parts: &Parts<'_, A>, counts: Counts, step: TextStep) -> bool
     ensures text { result ≡ true → text_fits parts.now.qubits step ≡ true }
-    ensures kept { result ≡ true → is_kept (kept_in parts.now) parts.now.products step ≡ true }
+    ensures kept { result ≡ true → is_kept parts.now.entries parts.now.products step ≡ true }
     ensures feeds { result ≡ true → feeds_back counts step }
 {
     text_fits(parts.qubits, step) && is_kept(parts, step) && feeds_back(counts, step)
@@ -119,7 +119,7 @@ fn is_i(letter: Letter) -> bool
 }
 
 fn is_kept<A: Allocator + Copy>(parts: &Parts<'_, A>, step: TextStep) -> bool
-    ensures { result ≡ true → is_kept (kept_in parts.now) parts.now.products step ≡ true }
+    ensures { result ≡ true → is_kept parts.now.entries parts.now.products step ≡ true }
 {
     match step {
         TextStep::Collapse { recording, .. } => recording_is_kept(parts, recording),
@@ -135,7 +135,7 @@ fn recording_is_kept<A: Allocator + Copy>(
     parts: &Parts<'_, A>,
     recording: Option<Recording>,
 ) -> bool
-    ensures { result ≡ true → recording_is_kept (kept_in parts.now) recording ≡ true }
+    ensures { result ≡ true → recording_is_kept parts.now.entries recording ≡ true }
 {
     match recording {
         Some(Recording { flip: Some(e), .. }) => is_flip(parts, e),
@@ -145,16 +145,16 @@ fn recording_is_kept<A: Allocator + Copy>(
 
 // Whether there is an entry of this number.
 fn is_entry<A: Allocator + Copy>(parts: &Parts<'_, A>, e: u32) -> bool
-    ensures { result ≡ true → nat_lt e (length (kept_in parts.now)) ≡ true }
+    ensures { result ≡ true → nat_lt e (length parts.now.entries) ≡ true }
 {
-    ((e as usize) < parts.entries.len()) & ((e as usize) < parts.terms.len())
+    (e as usize) < parts.entries.len()
 }
 
 // Whether it is one without letters.
 fn is_flip<A: Allocator + Copy>(parts: &Parts<'_, A>, e: u32) -> bool
-    ensures { result ≡ true → flip_is_kept (kept_in parts.now) (Some e) ≡ true }
+    ensures { result ≡ true → flip_is_kept parts.now.entries (Some e) ≡ true }
 {
-    is_entry(parts, e) && parts.terms.get(e as usize).is_empty()
+    is_entry(parts, e) && parts.entries.terms(e as usize).is_empty()
 }
 
 fn feeds_back(counts: Counts, step: TextStep) -> bool
@@ -166,24 +166,24 @@ fn feeds_back(counts: Counts, step: TextStep) -> bool
     }
 }
 
-// Whether a part has the bound of its text.
-fn part_fits(part: EntryPart<'_>) -> bool
-    ensures { result ≡ true → probability_bound part.entry.text.now ≡ Some part.entry.bound }
+// Whether a text has this bound.
+fn bound_fits(text: &[u8], bound: u128) -> bool
+    ensures { result ≡ true → probability_bound text.now ≡ Some bound }
 {
-    match bound_of(part.text) {
-        Some(bound) => bound == part.bound,
+    match bound_of(text) {
+        Some(found) => found == bound,
         None => false,
     }
 }
 
 fn entries_fit<A: Allocator + Copy>(parts: &Parts<'_, A>) -> bool
-    ensures { result ≡ true → All (EntryFits parts.now.qubits) (kept_in parts.now) }
+    ensures { result ≡ true → All (EntryFits parts.now.qubits) parts.now.entries }
 {
-    for e in 0..parts.entries.len().min(parts.terms.len()) {
-        if !part_fits(parts.entries[e]) {
+    for e in 0..parts.entries.len() {
+        if !bound_fits(parts.entries.text(e), parts.entries.bound(e)) {
             return false;
         }
-        if !terms_fit(parts.terms.get(e), parts.qubits) {
+        if !terms_fit(parts.entries.terms(e), parts.qubits) {
             return false;
         }
     }

@@ -1,4 +1,4 @@
-use Rattle.std.proofs.Common.{◌≡◌, ap, ◌∙◌}
+use Rattle.std.proofs.Common.{ap, ◌∙◌}
 use Rattle.step_model.specs.Listing.{Listing}
 use Rattle.programs.specs.Trees.{tree_of, unrolled}
 use Rattle.programs.proofs.WrittenLists.{AreOf, weaken, of_some, qubits_are, steps_are, kept_are, faults_are, records_are, collapses_are}

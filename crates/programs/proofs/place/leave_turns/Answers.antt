@@ -1,10 +1,10 @@
 -- Each goal is a part of what `leaves` says of the turn that ends here.
-use Rattle.std.proofs.Common.{◌≡◌, ◌<◌, ◌++◌, ◌∷◌, [], length, Some, arith, ap, sym, ◌∙◌, refl, subst, ℕ, ◌-◌, ◌+◌, length-append}
+use Rattle.std.proofs.Common.{◌≡◌, ◌++◌, ◌∷◌, [], Some, arith, ap, sym, ◌∙◌, refl, subst, ℕ, ◌-◌}
 use Rattle.std.specs.Prelude.{slice_get}
 use Rattle.std.specs.Option.{option_to_list}
 use Rattle.std.proofs.lemmas.Option.{slice_get_within}
 use Rattle.programs.specs.declared.node.Node.TheVariants.{Close}
-use Rattle.programs.proofs.PlaceMoves.{Leaves, leaves, some_turn, no_close_at_turn}
+use Rattle.programs.proofs.PlaceMoves.{leaves, some_turn, no_close_at_turn}
 use Rattle.programs.proofs.Places.{moved}
 use Rattle.programs.specs.Trees.{tree_of}
 use Rattle.programs.specs.Places.{IsPlace}

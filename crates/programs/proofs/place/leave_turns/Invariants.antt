@@ -1,5 +1,5 @@
-use Rattle.std.proofs.Common.{slice_get, ◌-◌, length}
-use Rattle.programs.specs.Steps.{KeepsStep, IsNoClose}
+use Rattle.std.proofs.Common.{◌-◌, length}
+use Rattle.programs.specs.Steps.{KeepsStep}
 use Rattle.programs.proofs.place.leave_turns.Given as goal
 
 abbrev pub invariant-loop-turns : goal.invariant-loop-turns

@@ -1,11 +1,8 @@
-use Rattle.std.proofs.Common.{◌≡◌, ◌+◌, ◌-◌, ◌<◌, ◌++◌, ◌∷◌, [], length, Some, arith, ap, sym, ◌∙◌, refl, subst, length-append}
-use Rattle.std.specs.Prelude.{slice_get}
+use Rattle.std.proofs.Common.{◌≡◌, ◌+◌, ◌-◌, ◌++◌, ◌∷◌, [], length, Some, arith, ap, sym, ◌∙◌, refl, subst}
 use Rattle.std.specs.Option.{option_to_list}
-use Rattle.std.proofs.lemmas.Option.{slice_get_within}
-use Rattle.programs.specs.declared.node.Node.TheVariants.{Open, Close}
+use Rattle.programs.specs.declared.node.Node.TheVariants.{Open}
 use Rattle.programs.specs.Trees.{tree_of}
-use Rattle.programs.specs.Moves.{IntoBlock, BackIntoBlock}
-use Rattle.programs.proofs.PlaceMoves.{enters, enters_back, LeavesBack, leaves_back, some_turn_back, no_open_at_turn, no_close_after, no_open_back, before, node_before-suc}
+use Rattle.programs.proofs.PlaceMoves.{leaves_back, some_turn_back, no_open_at_turn, before, node_before-suc}
 use Rattle.programs.proofs.Places.{moved, bounded}
 use Rattle.programs.specs.Steps.{node_before, IsNoOpen}
 use Rattle.programs.proofs.place.leave_turns_back.Goals as goal

@@ -1,4 +1,4 @@
-use Rattle.programs.specs.Steps.{KeepsStep, IsNoOpen, node_before}
+use Rattle.programs.specs.Steps.{KeepsStep}
 use Rattle.programs.proofs.place.leave_turns_back.Given as goal
 
 abbrev pub invariant-loop-length : goal.invariant-loop-length

@@ -1,4 +1,4 @@
-use Rattle.std.proofs.Common.{◌≡◌, Some, None}
+use Rattle.std.proofs.Common.{◌≡◌, Some}
 use Rattle.std.specs.Prelude.{slice_get}
 use Rattle.programs.specs.declared.node.Node.TheVariants.{Do}
 use Rattle.programs.proofs.PlaceMoves.{over_step}

@@ -1,4 +1,4 @@
-use Rattle.std.proofs.Common.{◌≡◌, Some, None}
+use Rattle.std.proofs.Common.{◌≡◌, Some}
 use Rattle.programs.specs.Steps.{node_before}
 use Rattle.programs.specs.declared.node.Node.TheVariants.{Do}
 use Rattle.programs.proofs.PlaceMoves.{back_over_step}

@@ -1,10 +1,8 @@
-use Rattle.std.proofs.Common.{◌≡◌, ◌+◌, ◌-◌, ◌<◌, ◌≤◌, ℕ, List, [], ◌∷◌, ◌++◌, length, take, set, sym, ap, ap₂, ◌∙◌, subst, arith}
+use Rattle.std.proofs.Common.{◌≡◌, ◌+◌, ◌-◌, ◌<◌, ℕ, List, [], ◌∷◌, ◌++◌, length, take, set, sym, ap, ap₂, ◌∙◌, subst, arith}
 use Rattle.std.specs.Option.{option_to_list}
-use Rattle.programs.specs.declared.builder.Outer.{Outer}
 use Rattle.programs.specs.declared.node.Node.{Node}
 use Rattle.programs.specs.declared.node.Node.TheVariants.{Open, Close}
 use Rattle.programs.specs.Builders.{Building, Builds, building, Closes}
-use Rattle.programs.proofs.BuilderLaws.{count-below}
 use Rattle.programs.proofs.BuilderCloses.{enough, all-counted, dropped, dropped-view, written, written-view}
 use Rattle.programs.proofs.builder.CircuitBuilder.close.Goals as goal
 

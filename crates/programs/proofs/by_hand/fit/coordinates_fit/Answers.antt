@@ -1,4 +1,4 @@
-use Rattle.std.proofs.Common.{◌<◌, [], arith}
+use Rattle.std.proofs.Common.{[], arith}
 use Rattle.std.proofs.lemmas.List.Elements.{All-from_get_or}
 use Rattle.step_model.specs.WellFormed.{CoordinatesFit}
 use Rattle.programs.proofs.by_hand.fit.coordinates_fit.Goals as goal

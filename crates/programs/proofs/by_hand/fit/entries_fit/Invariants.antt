@@ -1,7 +1,7 @@
 use Rattle.std.proofs.Common.{ℕ, ◌<◌, get_or}
 use Rattle.step_model.specs.Listing.{none_kept}
-use Rattle.programs.specs.Made.{kept_in, EntryFits}
+use Rattle.programs.specs.Made.{EntryFits}
 use Rattle.programs.proofs.by_hand.fit.entries_fit.Given as goal
 
 abbrev pub invariant-loop-e : goal.invariant-loop-e
-invariant-loop-e g l = (k : ℕ) → k < l.e → EntryFits l.parts.qubits (get_or (kept_in l.parts) k none_kept)
+invariant-loop-e g l = (k : ℕ) → k < l.e → EntryFits l.parts.qubits (get_or l.parts.entries k none_kept)

@@ -1,6 +1,5 @@
-use Rattle.std.proofs.Common.{◌<◌, ◌≡◌, ◌+◌, ℕ, [], slice_index_or, sym, refl, subst, List, below_more, arith}
+use Rattle.std.proofs.Common.{[], slice_index_or, refl, subst, below_more, arith}
 use Rattle.std.proofs.lemmas.List.Elements.{All-from_get_or}
-use Rattle.step_model.specs.declared.step.Term.{Term}
 use Rattle.step_model.specs.WellFormed.{ProductFits}
 use Rattle.programs.proofs.ProductWords.{product_fits}
 use Rattle.programs.proofs.by_hand.fit.products_fit.Goals as goal

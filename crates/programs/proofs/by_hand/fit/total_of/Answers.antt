@@ -1,9 +1,8 @@
-use Rattle.std.proofs.Common.{◌≡◌, ◌+◌, ◌<◌, ◌≤◌, ◌^◌, List, sym, refl, subst, arith}
+use Rattle.std.proofs.Common.{◌+◌, List, sym, refl, subst, arith}
 use Rattle.programs.specs.declared.node.Node.{Node}
-use Rattle.programs.specs.declared.step.Counts.{Counts}
 use Rattle.programs.specs.ByHand.{FitsUpTo}
-use Rattle.programs.specs.Steps.{IsAt, GoesOver, StaysAtEnd}
-use Rattle.programs.proofs.ByHandLaws.{fits_first, counted, fits_further, fits_all}
+use Rattle.programs.specs.Steps.{IsAt, GoesOver}
+use Rattle.programs.proofs.ByHandLaws.{fits_first, counted, fits_further}
 use Rattle.programs.proofs.by_hand.fit.total_of.Goals as goal
 
 pub loop-steps-init : goal.loop-steps-init

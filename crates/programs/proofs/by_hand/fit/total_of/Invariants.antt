@@ -1,4 +1,4 @@
-use Rattle.std.proofs.Common.{◌≡◌, ◌≤◌}
+use Rattle.std.proofs.Common.{◌≡◌}
 use Rattle.programs.specs.ByHand.{FitsUpTo}
 use Rattle.programs.proofs.by_hand.fit.total_of.Given as goal
 

@@ -1,11 +1,9 @@
-use Rattle.std.proofs.Common.{◌≡◌, Some, ◌+◌, length, ap, ap₂, sym, ◌∙◌, subst, arith}
+use Rattle.std.proofs.Common.{Some, ◌+◌, ap, sym, ◌∙◌, subst, arith}
 use Rattle.std.specs.Prelude.{slice_get}
-use Rattle.step_model.specs.Listing.{Listing}
 use Rattle.programs.specs.declared.step.Counts.{Counts}
 use Rattle.programs.specs.declared.step.Step.{Step}
 use Rattle.programs.specs.Listed.{listed}
 use Rattle.programs.specs.Named.{IsStepOf}
-use Rattle.programs.specs.Numbering.{feeds_back, numbered_step}
 use Rattle.programs.specs.Walks.{Walked}
 use Rattle.programs.specs.WalkStates.{IsWalkOf}
 use Rattle.programs.proofs.WalkSteps.{goes, ends, taken, not_taken}
