@@ -1,19 +1,23 @@
--- The probability texts of a program's entries, each by the number that it has among those that are kept beside the text of
+-- The probability texts of a program's entries, by the numbers that they have among those that are kept beside the text of
 -- its error lines. (How they are kept is this project's own.)
 use Rattle.std.specs.Prelude.{◌≡◌, ◌<◌, ℕ, List, length, slice_index_or}
-use Rattle.step_model.specs.Listing.{Listing, kept_at}
+use Rattle.programs.specs.declared.entries.ChanceTable.{ChanceTable}
+use Rattle.programs.specs.declared.entries.EntryPart.{EntryPart}
+use Rattle.programs.specs.Entries.{TellsChances}
+use Rattle.step_model.specs.Listing.{Listing}
 use Rattle.step_model.specs.Targets.{targets_of}
 use Rattle.dem_text.specs.ErrorLines.{text_at}
 use Rattle.dem_text.specs.HeldText.{Held}
 
--- these are numbers of the texts of the first entries
-abbrev pub AreNumbers : Listing → List (List ℕ) → List ℕ → Type 0
-AreNumbers program texts numbers =
-    (e : ℕ) → e < length numbers → (slice_index_or numbers e 0 < length texts) × (text_at texts (slice_index_or numbers e 0) ≡ (kept_at program e).text)
+-- these are the numbers of the texts of the first parts
+abbrev pub AreNumbers : List EntryPart → List (List ℕ) → List ℕ → Type 0
+AreNumbers parts texts numbers =
+    (k : ℕ) (other : EntryPart) → k < length numbers → (slice_index_or numbers k 0 < length texts) × (text_at texts (slice_index_or numbers k 0) ≡ (slice_index_or parts k other).text.now)
 
--- each entry has a number, and the text is for the program's targets
-pub record IsTextFor (program : Listing) (numbers : List ℕ) (held : Held) : Type 0 where
-  pub numbered : AreNumbers program held.texts numbers
-  pub counted : length numbers ≡ length program.kept
+-- each part of the table of a program's entries has a number, and the text is for the program's targets
+pub record IsTextFor (program : Listing) (table : ChanceTable) (numbers : List ℕ) (held : Held) : Type 0 where
+  pub tells : TellsChances program.kept table
+  pub counted : length numbers ≡ length table.parts.now
+  pub numbered : AreNumbers table.parts.now held.texts numbers
   pub detectors : held.detectors ≡ length program.detectors
   pub targets : held.targets ≡ length (targets_of program)

@@ -8,7 +8,7 @@ ghost use Rattle.dem_text.specs.HeldText.{HoldsLines};
 
 use crate::targets::target_count;
 use dem_text::{LinesText, Model};
-use programs::Program;
+use programs::{ChanceTable, EntryPart, Program};
 use std::alloc::{AllocError, Allocator};
 
 /// What lines are given to, one after another. After an error nothing is said of what it holds.
@@ -49,10 +49,11 @@ impl<'p, 'a, A: Allocator + Copy> LineStore for ModelStore<'p, 'a, A> {
 #[derive(Drop)]
 pub(crate) struct TextStore<'p, 'a, A: Allocator + Copy> {
     program: &'p Program<'a, A>,
-    // For each entry the number of its text among those that are kept.
+    chances: ChanceTable<'p, 'a>,
+    // For each part of the table the number of its text among those that are kept beside the lines.
     numbers: Vec<u32, A>,
     text: LinesText<'a, A>,
-    ghost fits: { IsTextFor program.now numbers.items text },
+    ghost fits: { IsTextFor program.now chances numbers.items text },
 }
 
 impl<'p, 'a, A: Allocator + Copy> TextStore<'p, 'a, A> {
@@ -62,10 +63,12 @@ impl<'p, 'a, A: Allocator + Copy> TextStore<'p, 'a, A> {
         ensures program { IfOk result (λ store. store.program.now ≡ program.now) }
     {
         program.well_formed();
+        let chances = program.chances();
         let mut text = LinesText::new(alloc, program.detector_count(), target_count(program))?;
-        let numbers = kept_numbers(alloc, program, &mut text)?;
+        let numbers = kept_numbers(alloc, chances.parts, &mut text)?;
         Ok(TextStore {
             program,
+            chances,
             numbers,
             text,
         })
@@ -73,28 +76,27 @@ impl<'p, 'a, A: Allocator + Copy> TextStore<'p, 'a, A> {
 
     /// The text of the lines.
     pub(crate) fn into_text(self) -> LinesText<'a, A>
-        ensures { result ≡ self.text }
+        ensures { result ≡ self.entry.text }
     {
         self.text
     }
 }
 
-// Keeps the text of each entry, and answers its number for each.
+// Keeps the text of each part, and answers its number for each.
 fn kept_numbers<'a, A: Allocator + Copy>(
     alloc: A,
-    program: &Program<'a, A>,
+    parts: &[EntryPart<'a>],
     text: &mut LinesText<'a, A>,
 ) -> Result<Vec<u32, A>, AllocError>
-    ensures numbers { IfOk result (λ numbers. AreNumbers program.now text.new.texts numbers.items) }
-    ensures counted { IfOk result (λ numbers. length numbers.items ≡ length program.now.kept) }
+    ensures numbers { IfOk result (λ numbers. AreNumbers parts.now text.new.texts numbers.items) }
+    ensures counted { IfOk result (λ numbers. length numbers.items ≡ length parts.now) }
     ensures detectors { text.new.detectors ≡ text.old.detectors }
     ensures targets { text.new.targets ≡ text.old.targets }
     ensures text { text.new.text ≡ text.old.text }
 {
-    let count = program.chances().numbers.len();
-    let mut numbers = Vec::with_capacity(alloc, count)?;
-    for entry in 0..count {
-        let number = text.keep_text(program.entry_text(entry as u32))?;
+    let mut numbers = Vec::with_capacity(alloc, parts.len())?;
+    for part in parts {
+        let number = text.keep_text(part.text)?;
         numbers.push(number)?;
     }
     Ok(numbers)
@@ -106,7 +108,7 @@ impl<'p, 'a, A: Allocator + Copy> LineStore for TextStore<'p, 'a, A> {
     ghost holds = { λ store lines. HoldsLines store.text lines };
 
     fn give(&mut self, entry: u32, targets: &[u32]) -> Result<(), AllocError> {
-        let number = self.numbers[entry as usize];
-        self.text.put_line(number, targets)
+        let chance = self.chances.numbers[entry as usize];
+        self.text.put_line(self.numbers[chance as usize], targets)
     }
 }
