@@ -4,6 +4,7 @@ pub mod Judging
 pub mod LoneTerms
 pub mod MultiplyLemmas
 mod NumberedLemmas
+mod PairLemmas
 pub mod PassLines
 pub mod PassPlaces
 pub mod PassSets
