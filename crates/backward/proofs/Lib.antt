@@ -13,5 +13,6 @@ pub mod PassWords
 pub mod RangeLemmas
 pub mod Sensitivities
 pub mod SetLemmas
+mod TimesEach
 pub mod TransposedLemmas
 pub mod WordLemmas

@@ -201,6 +201,7 @@ impl<S: TargetSet, A: Allocator + Copy> Tracker for Words<S, A> {
         self.columns[q].clear();
     }
 
+    #[inline(always)]
     fn hit<B: Allocator + Copy>(
         &mut self,
         terms: &[Term],

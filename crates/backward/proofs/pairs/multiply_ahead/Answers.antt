@@ -17,9 +17,9 @@ returns-clause-columns g c =
     ap₂ (λ (f k : List (List Letter)). set f a x ++ set k 0 y) parts.front parts.back
     ∙ (parts_set columns a b x y c.requires.order c.requires.inside
     ∙ made columns a b c.args.to_first c.args.to_second _ _ x y
-        (ap (λ (l : List (List Letter)). get_or l a c.index-front-a.result) parts.front ∙ in_front columns a b _ [] c.requires.order c.requires.inside)
-        (ap (λ (l : List (List Letter)). get_or l 0 c.index-back-0.result) parts.back ∙ at_back columns b _ [] c.requires.inside)
-        x_is y_is))
+    (ap (λ (l : List (List Letter)). get_or l a c.index-front-a.result) parts.front ∙ in_front columns a b _ [] c.requires.order c.requires.inside)
+    (ap (λ (l : List (List Letter)). get_or l 0 c.index-back-0.result) parts.back ∙ at_back columns b _ [] c.requires.inside)
+    x_is y_is))
     c.multiply_both.ensures.first c.multiply_both.ensures.second
 
 pub returns-clause-long : goal.returns-clause-long
@@ -36,6 +36,6 @@ returns-clause-long g c =
     subst (All (λ column. length column ≡ m))
     (sym (ap₂ (λ (f k : List (List Letter)). set f a x ++ set k 0 y) parts.front parts.back ∙ parts_set columns a b x y c.requires.order c.requires.inside))
     (both_long m a b columns x y
-        (c.multiply_both.ensures.first_len ∙ (ap length first ∙ c.requires.long a [] (omega (arith, c.requires.order, c.requires.inside))))
-        (c.multiply_both.ensures.second_len ∙ (ap length second ∙ c.requires.long b [] c.requires.inside))
-        c.requires.long)
+    (c.multiply_both.ensures.first_len ∙ (ap length first ∙ c.requires.long a [] (omega (arith, c.requires.order, c.requires.inside))))
+    (c.multiply_both.ensures.second_len ∙ (ap length second ∙ c.requires.long b [] c.requires.inside))
+    c.requires.long)

@@ -19,9 +19,9 @@ returns-clause-columns g c =
     ∙ (parts_set columns b a y x c.requires.order c.requires.inside
     ∙ (set_comm columns b a y x (λ e. omega (arith, e, c.requires.order))
     ∙ made columns a b c.args.to_first c.args.to_second _ _ x y
-        (ap (λ (l : List (List Letter)). get_or l 0 c.index-back-0.result) parts.back ∙ at_back columns a _ [] c.requires.inside)
-        (ap (λ (l : List (List Letter)). get_or l b c.index-front-b.result) parts.front ∙ in_front columns b a _ [] c.requires.order c.requires.inside)
-        x_is y_is)))
+    (ap (λ (l : List (List Letter)). get_or l 0 c.index-back-0.result) parts.back ∙ at_back columns a _ [] c.requires.inside)
+    (ap (λ (l : List (List Letter)). get_or l b c.index-front-b.result) parts.front ∙ in_front columns b a _ [] c.requires.order c.requires.inside)
+    x_is y_is)))
     c.multiply_both.ensures.first c.multiply_both.ensures.second
 
 pub returns-clause-long : goal.returns-clause-long
@@ -38,6 +38,6 @@ returns-clause-long g c =
     subst (All (λ column. length column ≡ m))
     (sym (ap₂ (λ (f k : List (List Letter)). set f b y ++ set k 0 x) parts.front parts.back ∙ parts_set columns b a y x c.requires.order c.requires.inside))
     (both_long m b a columns y x
-        (c.multiply_both.ensures.second_len ∙ (ap length second ∙ c.requires.long b [] (omega (arith, c.requires.order, c.requires.inside))))
-        (c.multiply_both.ensures.first_len ∙ (ap length first ∙ c.requires.long a [] c.requires.inside))
-        c.requires.long)
+    (c.multiply_both.ensures.second_len ∙ (ap length second ∙ c.requires.long b [] (omega (arith, c.requires.order, c.requires.inside))))
+    (c.multiply_both.ensures.first_len ∙ (ap length first ∙ c.requires.long a [] c.requires.inside))
+    c.requires.long)
