@@ -84,7 +84,12 @@ pub fn next(nodes: &[Node], place: &mut Place) -> Option<TextStep>
     requires place { (k : ℕ) × IsAt nodes.now place.old k }
     ensures { NextStep nodes.now place.old place.new result }
 {
+    // Most steps are faults: where one stands no other kind is asked for.
     match node_at(nodes, place.index) {
+        Some(Node::Do(TextStep::Fault(entry))) => {
+            place.index += 1;
+            Some(TextStep::Fault(entry))
+        }
         Some(Node::Do(step)) => {
             place.index += 1;
             Some(step)
@@ -152,6 +157,10 @@ pub fn previous(nodes: &[Node], place: &mut Place) -> Option<TextStep>
     ensures { PreviousStep nodes.now place.old place.new result }
 {
     match node_before(nodes, place.index) {
+        Some(Node::Do(TextStep::Fault(entry))) => {
+            place.index -= 1;
+            Some(TextStep::Fault(entry))
+        }
         Some(Node::Do(step)) => {
             place.index -= 1;
             Some(step)

@@ -1,8 +1,15 @@
 use Rattle.std.proofs.Common.{◌≡◌, Some}
 use Rattle.std.specs.Prelude.{slice_get}
 use Rattle.programs.specs.declared.node.Node.TheVariants.{Do}
+use Rattle.programs.specs.declared.step.TextStep.TheVariants.{Fault}
 use Rattle.programs.proofs.PlaceMoves.{over_step}
 use Rattle.programs.proofs.place.next.Goals as goal
+
+pub returns-in-Some-Do-Fault : goal.returns-in-Some-Do-Fault
+returns-in-Some-Do-Fault c k h =
+    let step = Fault c.in-Some-Do-Fault.entry in
+    let node : slice_get c.args.nodes.now c.args.place.now.index ≡ Some (Do step) = cc in
+    over_step c.args.nodes.now c.requires.circuit c.args.place.now c.args.place.now k step h node
 
 pub returns-in-Some-Do : goal.returns-in-Some-Do
 returns-in-Some-Do c k h =
