@@ -8,7 +8,7 @@ use Rattle.std.proofs.lemmas.List.FromFn.{fill_by_all, get_or-map-range_with_len
 use Rattle.bit_rows.specs.Rows.{xor_rows}
 use Rattle.pauli_word.specs.Bits.{letter_of, letters_of}
 use Rattle.pauli_word.specs.declared.letter.Letter.{Letter}
-use Rattle.pauli_word.specs.declared.letter.Letter.TheVariants.{X, Z}
+use Rattle.pauli_word.specs.declared.letter.Letter.TheVariants.{X, Y, Z}
 use Rattle.pauli_word.specs.Letters.{letters_clash}
 use Rattle.pauli_word.specs.Parity.{exclusive_or}
 use Rattle.pauli_word.specs.Words.{anticommute, letter_at}
@@ -40,6 +40,18 @@ pub clashes_of_Z : (x z : List Bool) → length x ≡ length z → x ≡ map (le
 clashes_of_Z [] z h = refl
 clashes_of_Z (c ∷ x) [] h = cc
 clashes_of_Z (c ∷ x) (d ∷ z) h = ap₂ (λ b row. b ∷ row) (clash_Z c d) (clashes_of_Z x z (suc_inj h))
+
+clash_Y : (c d : Bool) → exclusive_or c d ≡ letters_clash Y (letter_of c d)
+clash_Y false false = refl
+clash_Y false true = refl
+clash_Y true false = refl
+clash_Y true true = refl
+
+pub clashes_of_Y : (x z : List Bool) → length x ≡ length z → xor_rows x z ≡ map (letters_clash Y) (letters_of x z)
+clashes_of_Y [] [] h = refl
+clashes_of_Y [] (d ∷ z) h = cc
+clashes_of_Y (c ∷ x) [] h = cc
+clashes_of_Y (c ∷ x) (d ∷ z) h = ap₂ (λ b row. b ∷ row) (clash_Y c d) (clashes_of_Y x z (suc_inj h))
 
 pub lone_term : (terms : List Term) (d : Term) → length terms ≡ 1 → terms ≡ get_or terms 0 d ∷ []
 lone_term [] d h = cc

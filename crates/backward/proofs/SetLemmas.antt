@@ -226,3 +226,18 @@ add_none row other n set same none is =
 pub descends_copied : {A V E : Type 0} (items : A → List ℕ) (r : Result V E) (old new : A) (m : ℕ) (other : List ℕ) → OnOk r (items new ≡ items old ++ other) → OnErr r (new ≡ old) → items old ≡ [] → DescendsBelow m other → DescendsBelow m (items new)
 descends_copied items (Ok v) old new m other ok err none h = subst (DescendsBelow m) (sym (ok ∙ ap (λ l. l ++ other) none)) h
 descends_copied items (Err e) old new m other ok err none h = subst (DescendsBelow m) (sym (ap items err ∙ none)) tt
+
+-- no more than both have
+step_short : (x n : ℕ) (rest : List ℕ → List ℕ) (ys : List ℕ) → ((zs : List ℕ) → length (rest zs) ≤ n + length zs) → length (xor_step x rest ys) ≤ suc n + length ys
+step_short x n rest [] h = let le = h [] in omega (arith, le)
+step_short x n rest (y ∷ ys) h = by_order (nat_lt y x) (nat_lt x y) (h (y ∷ ys)) (h ys) (step_short x n rest ys h)
+  where
+    by_order : (b c : Bool) → length (rest (y ∷ ys)) ≤ n + length (y ∷ ys) → length (rest ys) ≤ n + length ys → length (xor_step x rest ys) ≤ suc n + length ys
+        → length (if b then x ∷ rest (y ∷ ys) else (if c then y ∷ xor_step x rest ys else rest ys)) ≤ suc n + length (y ∷ ys)
+    by_order true c first both later = omega (arith, first)
+    by_order false true first both later = omega (arith, later)
+    by_order false false first both later = omega (arith, both)
+
+pub xor_sets_short : (xs ys : List ℕ) → length (xor_sets xs ys) ≤ length xs + length ys
+xor_sets_short [] ys = omega arith
+xor_sets_short (x ∷ xs) ys = step_short x (length xs) (xor_sets xs) ys (xor_sets_short xs)

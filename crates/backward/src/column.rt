@@ -1,14 +1,15 @@
-ghost use Rattle.std.specs.Prelude.{◌≡◌, ◌<◌, map, length, true, All, IfSome, OnOk};
+ghost use Rattle.std.specs.Prelude.{◌≡◌, ◌<◌, map, length, true, All, IfOk, IfSome, OnOk};
 ghost use Rattle.bit_rows.specs.Rows.{xor_rows};
 ghost use Rattle.pauli_word.specs.Bits.{x_bit, z_bit, letters_of};
-ghost use Rattle.pauli_word.specs.declared.letter.Letter.TheVariants.{I, X, Z};
+ghost use Rattle.pauli_word.specs.declared.letter.Letter.TheVariants.{I, X, Y, Z};
 ghost use Rattle.pauli_word.specs.Letters.{letters_clash};
 ghost use Rattle.pauli_word.specs.Words.{letters_product, no_letters};
+ghost use Rattle.backward.specs.TargetSets.{members};
 ghost use Rattle.backward.specs.Transposed.{combined, xor_where, times_each, times_at, flipped_where};
 
 use crate::target_set::TargetSet;
 use pauli_word::Letter;
-use std::alloc::AllocError;
+use std::alloc::{AllocError, Allocator};
 use std::marker::Model;
 
 /// The letters that all words have at one qubit: the targets whose letter has an X in it, and those whose letter has
@@ -182,6 +183,19 @@ impl<S: TargetSet> Column<S> {
         }
     }
 
+    /// Lists the targets of two columns of which one of the two letters alone clashes with Y, and answers whether it did: it
+    /// need not.
+    pub(crate) fn list_clashing_y<B: Allocator + Copy>(
+        &self,
+        other: &Column<S>,
+        hit: &mut Vec<u32, B>,
+    ) -> Result<bool, AllocError>
+        requires { length self.now ≡ length other.now }
+        ensures { IfOk result (λ done. done ≡ true → hit.new.items ≡ members (xor_rows (map (letters_clash Y) self.now) (map (letters_clash Y) other.now))) }
+    {
+        self.x.list_sum_of_four(&self.z, &other.x, &other.z, hit)
+    }
+
     /// Multiplies the letters of these targets by a letter.
     pub(crate) fn times_each(&mut self, targets: &[u32], letter: Letter) -> Result<(), AllocError>
         requires { All (λ t. t < length self.old) targets.now }
@@ -261,6 +275,13 @@ fn is_z(letter: Letter) -> bool
     ensures { result ≡ true → letter ≡ Z }
 {
     matches!(letter, Letter::Z)
+}
+
+#[inline(always)]
+pub(crate) fn is_y(letter: Letter) -> bool
+    ensures { result ≡ true → letter ≡ Y }
+{
+    matches!(letter, Letter::Y)
 }
 
 fn has_x(letter: Letter) -> bool

@@ -10,6 +10,9 @@ use std::marker::Model;
 /// Of how many targets a set has few.
 const FEW: usize = 8;
 
+/// Of how many targets each of four sets has few.
+const FOURTH: usize = 4;
+
 /// A set of targets as the list of those in it, the greatest first: where targets come from the greatest down, adding
 /// one appends it.
 #[derive(Drop)]
@@ -101,6 +104,31 @@ impl<'a, A: Allocator + Copy> TargetSet for SparseSet<'a, A> {
         }
         let mut sum = [0; 2 * FEW];
         let len = merge_few(self.items.as_slice(), other.items.as_slice(), &mut sum);
+        list_ascending(&sum[..len], into)?;
+        Ok(true)
+    }
+
+    fn list_sum_of_four<B: Allocator + Copy>(
+        &self,
+        second: &Self,
+        third: &Self,
+        fourth: &Self,
+        into: &mut Vec<u32, B>,
+    ) -> Result<bool, AllocError> {
+        if self.items.len() > FOURTH || second.items.len() > FOURTH {
+            return Ok(false);
+        }
+        if third.items.len() > FOURTH || fourth.items.len() > FOURTH {
+            return Ok(false);
+        }
+        let mut sum = [0; 2 * FEW];
+        let len = merge_four(
+            self.items.as_slice(),
+            second.items.as_slice(),
+            third.items.as_slice(),
+            fourth.items.as_slice(),
+            &mut sum,
+        );
         list_ascending(&sum[..len], into)?;
         Ok(true)
     }
@@ -254,6 +282,28 @@ fn merge_few(first: &[u32], second: &[u32], sum: &mut [u32; 16]) -> usize
     // one of them is used up
     let len = append_few(sum, len, &first[i..]);
     append_few(sum, len, &second[j..])
+}
+
+// The same of four descending lists.
+fn merge_four(
+    first: &[u32],
+    second: &[u32],
+    third: &[u32],
+    fourth: &[u32],
+    sum: &mut [u32; 16],
+) -> usize
+    requires first { length first.now ≤ 4 }
+    requires second { length second.now ≤ 4 }
+    requires third { length third.now ≤ 4 }
+    requires fourth { length fourth.now ≤ 4 }
+    ensures within { result ≤ 16 }
+    ensures sum { take result sum.new ≡ xor_sets (xor_sets first.now second.now) (xor_sets third.now fourth.now) }
+{
+    let mut front = [0; 2 * FEW];
+    let front_len = merge_few(first, second, &mut front);
+    let mut back = [0; 2 * FEW];
+    let back_len = merge_few(third, fourth, &mut back);
+    merge_few(&front[..front_len], &back[..back_len], sum)
 }
 
 // Puts these behind the first `len`, and answers how many there are then.

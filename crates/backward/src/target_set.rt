@@ -48,6 +48,19 @@ pub trait TargetSet: Drop {
     ) -> Result<bool, AllocError>
         requires { length (bits self.now) ≡ length (bits other.now) }
         ensures { IfOk result (λ done. done ≡ true → into.new.items ≡ members (xor_rows (bits self.now) (bits other.now))) };
+
+    /// The same of the targets that are in an odd number of four sets.
+    fn list_sum_of_four<B: Allocator + Copy>(
+        &self,
+        second: &Self,
+        third: &Self,
+        fourth: &Self,
+        into: &mut Vec<u32, B>,
+    ) -> Result<bool, AllocError>
+        requires second { length (bits self.now) ≡ length (bits second.now) }
+        requires third { length (bits self.now) ≡ length (bits third.now) }
+        requires fourth { length (bits self.now) ≡ length (bits fourth.now) }
+        ensures { IfOk result (λ done. done ≡ true → into.new.items ≡ members (xor_rows (xor_rows (bits self.now) (bits second.now)) (xor_rows (bits third.now) (bits fourth.now)))) };
 }
 
 impl<A: Allocator + Copy> TargetSet for BitRow<A> {
@@ -74,6 +87,16 @@ impl<A: Allocator + Copy> TargetSet for BitRow<A> {
     fn list_sum<B: Allocator + Copy>(
         &self,
         _other: &Self,
+        _into: &mut Vec<u32, B>,
+    ) -> Result<bool, AllocError> {
+        Ok(false)
+    }
+
+    fn list_sum_of_four<B: Allocator + Copy>(
+        &self,
+        _second: &Self,
+        _third: &Self,
+        _fourth: &Self,
         _into: &mut Vec<u32, B>,
     ) -> Result<bool, AllocError> {
         Ok(false)

@@ -1,6 +1,6 @@
 ghost use Rattle.std.specs.Prelude.{◌≡◌, ◌<◌, ◌≤◌, ◌≢◌, ◌^◌, ◌∷◌, [], ℕ, false, true, length, All, IfOk, OnOk, map, replicate};
 ghost use Rattle.gate_table.specs.Images.{arity_of};
-ghost use Rattle.pauli_word.specs.declared.letter.Letter.TheVariants.{I};
+ghost use Rattle.pauli_word.specs.declared.letter.Letter.TheVariants.{I, Y};
 ghost use Rattle.std.specs.List.{range_with_len};
 ghost use Rattle.pauli_word.specs.Words.{anticommute};
 ghost use Rattle.step_model.specs.Listing.{word_of_terms};
@@ -8,7 +8,7 @@ ghost use Rattle.backward.specs.Tracked.{anticommuting, each_word, fresh, undone
 ghost use Rattle.backward.specs.TargetSets.{members};
 ghost use Rattle.backward.specs.Transposed.{combined, multiplied_at, word_at};
 
-use crate::column::{Column, is_kept, is_lost};
+use crate::column::{Column, is_kept, is_lost, is_y};
 use crate::pairs::multiply_pair;
 use crate::sparse_set::SparseSet;
 use crate::target_set::TargetSet;
@@ -128,12 +128,32 @@ impl<S: TargetSet, A: Allocator + Copy> Words<S, A> {
         requires second_in_range { second.now.qubit < self.now.qubits }
         ensures { IfOk result (λ done. done ≡ true → hit.new.items ≡ anticommuting (first.now ∷ second.now ∷ []) self.now) }
     {
+        if is_y(first.letter) && is_y(second.letter) {
+            return self.list_both_y(first, second, hit);
+        }
         let one = self.columns[first.qubit as usize].kept_clashing(first.letter);
         let other = self.columns[second.qubit as usize].kept_clashing(second.letter);
         match (one, other) {
             (Some(one), Some(other)) => one.list_sum(other, hit),
             _ => Ok(false),
         }
+    }
+
+    // The same of two letters Y.
+    fn list_both_y<B: Allocator + Copy>(
+        &self,
+        first: &Term,
+        second: &Term,
+        hit: &mut Vec<u32, B>,
+    ) -> Result<bool, AllocError>
+        requires first_in_range { first.now.qubit < self.now.qubits }
+        requires second_in_range { second.now.qubit < self.now.qubits }
+        requires first_is_y { first.now.letter ≡ Y }
+        requires second_is_y { second.now.letter ≡ Y }
+        ensures { IfOk result (λ done. done ≡ true → hit.new.items ≡ anticommuting (first.now ∷ second.now ∷ []) self.now) }
+    {
+        let other = &self.columns[second.qubit as usize];
+        self.columns[first.qubit as usize].list_clashing_y(other, hit)
     }
 
     // Any gate of two qubits, by the images of the letters at both.
