@@ -1,6 +1,6 @@
-ghost use Rattle.std.specs.Prelude.{◌≡◌, ◌≤◌, [], ◌∷◌, ◌++◌, All, length, map, unwrap_or, OnOk};
+ghost use Rattle.std.specs.Prelude.{◌≡◌, ◌≤◌, ◌++◌, All, map, unwrap_or, OnOk};
 ghost use Rattle.stim_parser.specs.Flat.{instruction_in};
-ghost use Rattle.unroll.specs.Kept.{entries_of as entries_made, entry_at, entry_of, first_argument, flip_entries, letter_at, term_at, term_of};
+ghost use Rattle.unroll.specs.Kept.{entries_of as entries_made, entry_at, first_argument, flip_entries, letter_at, term_at, term_of};
 ghost use Rattle.unroll.specs.Pushed.{IsSmall};
 ghost use Rattle.unroll.specs.Totals.{qubits_to};
 ghost use Rattle.step_model.specs.Probabilities.{probability_bound};
