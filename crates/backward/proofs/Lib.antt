@@ -4,6 +4,7 @@ pub mod Judging
 pub mod LoneTerms
 pub mod MultiplyLemmas
 mod NumberedLemmas
+mod PairLemmas
 pub mod PassLines
 pub mod PassPlaces
 pub mod PassSets
@@ -12,5 +13,6 @@ pub mod PassWords
 pub mod RangeLemmas
 pub mod Sensitivities
 pub mod SetLemmas
+mod TimesEach
 pub mod TransposedLemmas
 pub mod WordLemmas

@@ -73,19 +73,6 @@ exchanged_rows (a ∷ x) (b ∷ z) h =
 
 -- ---- places of a list
 
-set_again : {T : Type 0} (xs : List T) (a : ℕ) (s z : T) → set (set xs a s) a z ≡ set xs a z
-set_again [] a s z = refl
-set_again (x ∷ xs) zero s z = refl
-set_again (x ∷ xs) (suc a) s z = ap (λ ys. x ∷ ys) (set_again xs a s z)
-
--- a place that is set last may be set first
-pub set_last : {T : Type 0} (xs : List T) (a b : ℕ) (s y z : T) → a ≢ b → set (set (set xs a s) b y) a z ≡ set (set xs a z) b y
-set_last [] a b s y z h = refl
-set_last (x ∷ xs) zero zero s y z h = absurd (h refl)
-set_last (x ∷ xs) zero (suc b) s y z h = refl
-set_last (x ∷ xs) (suc a) zero s y z h = ap (λ ys. y ∷ ys) (set_again xs a s z)
-set_last (x ∷ xs) (suc a) (suc b) s y z h = ap (λ ys. x ∷ ys) (set_last xs a b s y z (λ e. h (ap suc e)))
-
 -- ---- words
 
 product_at : (r s : Letter) (u v : List Letter) (m t : ℕ) → length u ≡ m → length v ≡ m → t < m → letter_at (letters_product u (map (combined r s) v)) t ≡ letter_product (letter_at u t) (combined r s (letter_at v t))

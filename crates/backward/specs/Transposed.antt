@@ -7,7 +7,7 @@ use Rattle.pauli_word.specs.declared.letter.Letter.{Letter}
 use Rattle.pauli_word.specs.declared.letter.Letter.TheVariants.{I, X, Y, Z}
 use Rattle.pauli_word.specs.Letters.{letter_product}
 use Rattle.pauli_word.specs.Parity.{exclusive_or}
-use Rattle.pauli_word.specs.Words.{letter_at}
+use Rattle.pauli_word.specs.Words.{letter_at, letters_product}
 use Rattle.backward.specs.Tracked.{Tracked}
 
 -- the word of target t
@@ -50,6 +50,12 @@ abbrev pub multiplied_at : ℕ → ℕ → Letter × Letter → Letter × Letter
 multiplied_at a b to_first to_second w =
     slice_set (slice_set w a (letter_product (letter_at w a) (combined to_first.0 to_first.1 (letter_at w b)))) b
     (letter_product (letter_at w b) (combined to_second.0 to_second.1 (letter_at w a)))
+
+-- the columns of two qubits, the letters of each multiplied by an image of those of the other
+abbrev pub multiplied_columns : ℕ → ℕ → Letter × Letter → Letter × Letter → List (List Letter) → List (List Letter)
+multiplied_columns a b to_first to_second columns =
+    slice_set (slice_set columns a (letters_product (slice_index_or columns a []) (map (combined to_first.0 to_first.1) (slice_index_or columns b [])))) b
+    (letters_product (slice_index_or columns b []) (map (combined to_second.0 to_second.1) (slice_index_or columns a [])))
 
 -- columns, spare columns and spare sets for m targets
 pub record IsTransposed (m : ℕ) (columns : List (List Letter)) (first second : List Letter) (set spare : List Bool) : Type 0 where

@@ -172,10 +172,13 @@ impl<S: TargetSet> Column<S> {
     pub(crate) fn kept_clashing(&self, letter: Letter) -> Option<&S>
         ensures { IfSome result (λ set. S.bits set.now ≡ map (letters_clash letter) self.now) }
     {
-        match letter {
-            Letter::X => Some(&self.z),
-            Letter::Z => Some(&self.x),
-            Letter::I | Letter::Y => None,
+        // Two questions, and no table of jumps.
+        if is_x(letter) {
+            Some(&self.z)
+        } else if is_z(letter) {
+            Some(&self.x)
+        } else {
+            None
         }
     }
 
@@ -185,8 +188,11 @@ impl<S: TargetSet> Column<S> {
         ensures ok { OnOk result (self.new ≡ times_each letter targets.now self.old) }
         ensures len { length self.new ≡ length self.old }
     {
-        for t in targets {
-            self.times_at(*t, letter)?;
+        // from the greatest down, so that each is appended where a set is empty
+        let mut left = targets.len();
+        while left > 0 {
+            left -= 1;
+            self.times_at(targets[left], letter)?;
         }
         Ok(())
     }
@@ -241,6 +247,20 @@ pub(crate) fn is_lost(x: Letter, z: Letter, letter: Letter) -> bool
         Letter::Z => matches!(z, Letter::I),
         Letter::Y => matches!((x, z), (Letter::I, Letter::I)),
     }
+}
+
+#[inline(always)]
+fn is_x(letter: Letter) -> bool
+    ensures { result ≡ true → letter ≡ X }
+{
+    matches!(letter, Letter::X)
+}
+
+#[inline(always)]
+fn is_z(letter: Letter) -> bool
+    ensures { result ≡ true → letter ≡ Z }
+{
+    matches!(letter, Letter::Z)
 }
 
 fn has_x(letter: Letter) -> bool

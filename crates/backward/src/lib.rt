@@ -6,6 +6,7 @@ mod analysis;
 mod collapse;
 mod column;
 mod line_store;
+mod pairs;
 mod pass;
 mod places;
 mod record_sets;

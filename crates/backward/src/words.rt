@@ -8,7 +8,8 @@ ghost use Rattle.backward.specs.Tracked.{anticommuting, each_word, fresh, undone
 ghost use Rattle.backward.specs.TargetSets.{members};
 ghost use Rattle.backward.specs.Transposed.{combined, multiplied_at, word_at};
 
-use crate::column::{Column, is_kept, is_lost, multiply_both};
+use crate::column::{Column, is_kept, is_lost};
+use crate::pairs::multiply_pair;
 use crate::sparse_set::SparseSet;
 use crate::target_set::TargetSet;
 use crate::tracker::Tracker;
@@ -105,16 +106,14 @@ impl<S: TargetSet, A: Allocator + Copy> Words<S, A> {
         requires z_is_lost { combined to_second.0 to_second.1 to_first.1 ≡ I }
         ensures { OnOk result (self.new ≡ each_word (multiplied_at a b to_first to_second) self.old) }
     {
-        self.columns[a].swap(&mut self.first);
-        multiply_both(
-            &mut self.first,
-            &mut self.columns[b],
+        multiply_pair(
+            self.columns.as_mut_slice(),
+            a,
+            b,
             to_first,
             to_second,
             &mut self.spare,
-        )?;
-        self.columns[a].swap(&mut self.first);
-        Ok(())
+        )
     }
 
     // Lists the targets whose words anticommute with the product of two letters, and answers whether it did: it need not.
@@ -202,6 +201,7 @@ impl<S: TargetSet, A: Allocator + Copy> Tracker for Words<S, A> {
         self.columns[q].clear();
     }
 
+    #[inline(always)]
     fn hit<B: Allocator + Copy>(
         &mut self,
         terms: &[Term],

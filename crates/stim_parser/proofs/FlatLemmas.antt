@@ -13,7 +13,7 @@ use Rattle.stim_parser.specs.Texts.{Item, Does}
 
 -- a list of targets more changes no item that was there
 one_kept : (lists : List (List Target)) (more : List Target) (n : Node) → HasTargets (length lists) n → item_kept (lists ++ more ∷ []) n ≡ item_kept lists n
-one_kept lists more (node.Does line operation arguments list) h =
+one_kept lists more (node.Does operation list line arguments) h =
     ap
     (λ (ts : List Target). Does (record { line = line; operation = operation; arguments = arguments_in arguments.now; targets = ts }))
     (get_or_append_left lists (more ∷ []) [] list h)
@@ -29,10 +29,10 @@ all_kept lists more (n ∷ nodes) h =
 -- an instruction more, with its targets
 pub kept-more : (lists : List (List Target)) (nodes : List Node) (targets : List Target) (line : ℕ) (operation : Operation) (arguments : Bor (List ℕ))
     → All (HasTargets (length lists)) nodes
-    → items_kept (lists ++ targets ∷ []) (nodes ++ node.Does line operation arguments (length lists) ∷ [])
+    → items_kept (lists ++ targets ∷ []) (nodes ++ node.Does operation (length lists) line arguments ∷ [])
     ≡ items_kept lists nodes ++ Does (record { line = line; operation = operation; arguments = arguments_in arguments.now; targets = targets }) ∷ []
 kept-more lists nodes targets line operation arguments h =
-    map-append (item_kept (lists ++ targets ∷ [])) nodes (node.Does line operation arguments (length lists) ∷ [])
+    map-append (item_kept (lists ++ targets ∷ [])) nodes (node.Does operation (length lists) line arguments ∷ [])
     ∙ ap₂
     (λ (is : List Item) (ts : List Target). is ++ Does (record { line = line; operation = operation; arguments = arguments_in arguments.now; targets = ts }) ∷ [])
     (all_kept lists targets nodes h) (get_or-append_seam lists targets [] [])

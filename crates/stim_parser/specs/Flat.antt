@@ -62,11 +62,11 @@ pub record IsWritten (items : List Item) : Type 0 where
 
 -- an instruction's heading names a list that is there
 abbrev pub HasTargets : ℕ → Node → Type 0
-HasTargets count (node.Does line operation arguments list) = list < count
+HasTargets count (node.Does operation list line arguments) = list < count
 HasTargets count kept = ⊤
 
 abbrev pub item_kept : List (List Target) → Node → Item
-item_kept lists (node.Does line operation arguments list) =
+item_kept lists (node.Does operation list line arguments) =
     Does
     (record {
       line = line;

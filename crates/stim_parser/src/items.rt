@@ -13,11 +13,12 @@ use std::marker::Model;
 /// What is kept of an item: all but the targets of an instruction, of which it has the number of their list.
 #[derive(Clone, Copy)]
 pub(crate) enum Node<'a> {
+    // Small fields first and a list's number in 32 bits: so a node takes 32 bytes and not 48.
     Does {
-        line: u64,
         operation: Operation,
+        list: u32,
+        line: u64,
         arguments: &'a [u8],
-        list: usize,
     },
     Begins {
         line: u64,
@@ -65,20 +66,24 @@ impl<'a, A: Allocator + Copy> Items<'a, A> {
         self.nodes.len()
     }
 
-    /// Appends an instruction with a copy of its targets. It may fail only where memory runs out.
+    /// Appends an instruction with a copy of its targets. It may fail only where memory runs out, or the instructions or
+    /// their targets would be more than 32 bits number.
     pub(crate) fn push(&mut self, instruction: Instruction<'_, 'a>) -> Result<(), AllocError>
         ensures ok { OnOk result (self.new ≡ self.old ++ Does (instruction_in instruction.entry) ∷ []) }
         ensures err { OnErr result (self.new ≡ self.old) }
     {
+        let list = self.targets.len();
+        if list > u32::MAX as usize {
+            return Err(AllocError);
+        }
         // Room for the node first, so that nothing changes where memory runs out.
         self.nodes.reserve(1)?;
-        let list = self.targets.len();
         self.targets.push(instruction.targets)?;
         self.nodes.push_reserved(Node::Does {
-            line: instruction.line,
             operation: instruction.operation,
+            list: list as u32,
+            line: instruction.line,
             arguments: instruction.arguments,
-            list,
         });
         Ok(())
     }
@@ -109,15 +114,15 @@ impl<'a, A: Allocator + Copy> Items<'a, A> {
     {
         match self.nodes[i] {
             Node::Does {
-                line,
                 operation,
-                arguments,
                 list,
+                line,
+                arguments,
             } => Item::Does(Instruction {
                 line,
                 operation,
                 arguments,
-                targets: self.targets.get(list),
+                targets: self.targets.get(list as usize),
             }),
             Node::Begins { line, turns } => Item::Begins { line, turns },
             Node::Ends => Item::Ends,

@@ -15,7 +15,7 @@ returns g c =
     let rest = c.in_ok-without_lines-in-None.field-0 in (
       subst (λ lowest. IfNone lowest (NoneIsRandom program)) c.in-None.is c.in_ok-judged.ensures.none,
       ap (λ (held : Held). held.text ++ model_text rest) c.into_text.ensures
-      ∙ whole_text (model_of program) rest judged.lines.text
+          ∙ whole_text (model_of program) rest judged.lines.text
           (judged.lines.fits.detectors ∙ ap (λ (p : Listing). length p.detectors) (c.in_ok-judged.ensures.store ∙ c.in_ok-none.ensures.program)) c.in_ok-judged.ensures.lines
           c.in_ok-without_lines-in-None.ensures,
     )

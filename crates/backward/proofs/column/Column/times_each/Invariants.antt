@@ -1,11 +1,15 @@
-use Rattle.std.proofs.Common.{◌≡◌, length, drop}
+use Rattle.std.proofs.Common.{◌≡◌, ◌≤◌, length, drop}
 use Rattle.backward.specs.Transposed.{times_each}
 use Rattle.backward.proofs.column.Column.times_each.Given as goal
 
--- the targets that are left make of the column what all make of that at the start
-abbrev pub invariant-loop-t : goal.invariant-loop-t
-invariant-loop-t g l =
+-- the targets from this one on are done
+abbrev pub invariant-loop-left : goal.invariant-loop-left
+invariant-loop-left g l =
     record {
       long : length l.self ≡ length l.fn.self;
-      left : times_each l.letter (drop l.t-index l.targets) l.self ≡ times_each l.letter l.targets l.fn.self;
+      within : l.left ≤ length l.targets;
+      done : l.self ≡ times_each l.letter (drop l.left l.targets) l.fn.self;
     }
+
+abbrev pub decreases-loop-left : goal.decreases-loop-left
+decreases-loop-left g l = l.left

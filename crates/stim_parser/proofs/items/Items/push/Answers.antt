@@ -11,11 +11,11 @@ pub returns-clause-ok : goal.returns-clause-ok
 returns-clause-ok g c =
     let i = c.args.instruction in
     let lists = c.self.inside.targets in
-    let nodes : c.push_reserved.new.self.items ≡ c.self.inside.nodes.items ++ node.Does i.line i.operation i.arguments c.len-list.result ∷ [] =
-    c.push_reserved.ensures.items ∙ ap (λ (ns : List Node). ns ++ node.Does i.line i.operation i.arguments c.len-list.result ∷ []) c.reserve.ensures.items in
-    let made : items_kept c.push.new.self c.push_reserved.new.self.items ≡ items_kept (lists ++ i.targets.now ∷ []) (c.self.inside.nodes.items ++ node.Does i.line i.operation i.arguments (length lists) ∷ []) =
+    let nodes : c.push_reserved.new.self.items ≡ c.self.inside.nodes.items ++ node.Does i.operation c.len-list.result i.line i.arguments ∷ [] =
+    c.push_reserved.ensures.items ∙ ap (λ (ns : List Node). ns ++ node.Does i.operation c.len-list.result i.line i.arguments ∷ []) c.reserve.ensures.items in
+    let made : items_kept c.push.new.self c.push_reserved.new.self.items ≡ items_kept (lists ++ i.targets.now ∷ []) (c.self.inside.nodes.items ++ node.Does i.operation (length lists) i.line i.arguments ∷ []) =
     ap₂ (λ (ls : List (List Target)) (ns : List Node). items_kept ls ns) c.in_ok-push.ensures.ok
-    (nodes ∙ ap (λ (n : ℕ). c.self.inside.nodes.items ++ node.Does i.line i.operation i.arguments n ∷ []) c.len-list.ensures) in
+    (nodes ∙ ap (λ (n : ℕ). c.self.inside.nodes.items ++ node.Does i.operation n i.line i.arguments ∷ []) c.len-list.ensures) in
     made
     ∙ kept-more lists c.self.inside.nodes.items i.targets.now i.line i.operation i.arguments c.self.invariant
     ∙ ap (λ (is : List Item). is ++ Does (instruction_in i) ∷ []) c.self.view_is
