@@ -242,22 +242,14 @@ fn put_two<'m>(lines: &mut LinesText<'static, Memory<'m>>, text: u32) -> Result<
     lines.put_line(text, &[0, 1, 2, 0, 1, 2, 0, 1, 2, 0, 1, 2, 0, 1, 2, 0, 1])
 }
 
-/// Puts so many lines that they fill two blocks of 64 KiB, and begin a third.
-fn put_many<'m>(lines: &mut LinesText<'static, Memory<'m>>, text: u32) -> Result<(), AllocError>
-    requires text { text < length lines.old.texts }
-    requires targets { lines.old.targets ≡ 3 }
-{
-    for _ in 0..2_000 {
-        put_two(lines, text)?;
-    }
-    Ok(())
-}
-
+/// So many lines that they fill two blocks of 64 KiB, and begin a third.
 fn many_lines<'m>(ration: Ration<'m>) -> Result<LinesText<'static, Memory<'m>>, AllocError> {
     let mut lines = held_lines(ration.memory)?;
     let text = lines.keep_text(b"1.000e-12")?;
     let _memory = ration.begin();
-    put_many(&mut lines, text)?;
+    for turn in 0..2_000u32 {
+        put_two(&mut lines, text)?;
+    }
     Ok(lines)
 }
 
