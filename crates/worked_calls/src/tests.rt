@@ -2,6 +2,7 @@ mod arguments;
 mod bits;
 mod coin_pairs;
 mod drawn_shots;
+mod entries;
 mod error_models;
 mod fault_lists;
 mod faults;

@@ -1,29 +1,39 @@
-//! Lists and other values that are made or grow by themselves. Where a growth of one is refused, it is as it was.
-ghost use Rattle.std.specs.Prelude.{◌≡◌, [], length, OnOk};
+//! Lists and other values that are made or grow by themselves. Where a growth of one is refused, it is as it was; but of lines to
+//! which one is put nothing is said then, so that only their memory is looked at.
+ghost use Rattle.std.specs.Prelude.{◌≡◌, ◌<◌, ◌≤◌, [], length, IfOk, OnOk};
 
 use super::growths::{Call, Memory, Ration, told};
 use super::lent::Lent;
-use dem_text::Model;
+use dem_text::{LinesText, Model, write_behind};
 use flat_lists::FlatLists;
 use gate_table::Gate;
-use programs::{CircuitBuilder, TextStep};
+use pauli_word::Letter;
+use programs::{CircuitBuilder, Entries, TextStep};
 use slow_ends::SlowSource;
 use std::alloc::{AllocError, Global};
-use step_model::{Fault, read_all};
+use step_model::{Fault, MemorySink, Term, read_all};
 
 #[derive(Clone, Copy, Debug)]
 pub(super) enum Growing {
     Lists,
+    Entries,
     ModelLines,
+    HeldLines,
+    HeldText,
+    HeldLine,
     Step,
     BlockStart,
     BlockEnd,
     Source,
 }
 
-pub(super) const GROWING: [Growing; 6] = [
+pub(super) const GROWING: [Growing; 10] = [
     Growing::Lists,
+    Growing::Entries,
     Growing::ModelLines,
+    Growing::HeldLines,
+    Growing::HeldText,
+    Growing::HeldLine,
     Growing::Step,
     Growing::BlockStart,
     Growing::BlockEnd,
@@ -34,7 +44,11 @@ impl Call for Growing {
     fn is_right<'m>(self, ration: Ration<'m>, _lent: &Lent<'_, 'm>) -> Result<bool, Fault> {
         match self {
             Growing::Lists => lists_are_right(ration.begin()),
+            Growing::Entries => entries_are_right(ration.begin()),
             Growing::ModelLines => model_is_right(ration.begin()),
+            Growing::HeldLines => told(held_lines_are_made(ration.begin())),
+            Growing::HeldText => held_texts_are_right(ration),
+            Growing::HeldLine => many_are_put(ration),
             Growing::Step => step_is_right(ration.begin()),
             Growing::BlockStart => start_is_right(ration.begin()),
             Growing::BlockEnd => told(end_is_right(ration)),
@@ -71,6 +85,47 @@ fn lists_are_right(memory: Memory<'_>) -> Result<bool, Fault> {
     Ok(are_pairs(&lists, 20))
 }
 
+/// X at a qubit.
+fn x_at(qubit: u32) -> Term {
+    Term {
+        qubit,
+        letter: Letter::X,
+    }
+}
+
+/// Whether the entry with this number has that as its bound and its qubit.
+fn is_numbered<'m>(entries: &Entries<'_, Memory<'m>>, n: u32) -> bool
+    requires { n < length entries.now }
+{
+    let e = n as usize;
+    (entries.text(e) == b"0.5".as_slice())
+        & (entries.bound(e) == u128::from(n))
+        & (entries.terms(e) == [x_at(n)].as_slice())
+}
+
+/// Whether there are so many entries, each with its number.
+fn are_numbered<'m>(entries: &Entries<'_, Memory<'m>>, count: u32) -> bool {
+    if entries.len() != count as usize {
+        return false;
+    }
+    for n in 0..count {
+        if !is_numbered(entries, n) {
+            return false;
+        }
+    }
+    true
+}
+
+fn entries_are_right(memory: Memory<'_>) -> Result<bool, Fault> {
+    let mut entries = Entries::new(memory);
+    for n in 0..20u32 {
+        if entries.push(b"0.5", u128::from(n), &[x_at(n)]).is_err() {
+            return refused(are_numbered(&entries, n));
+        }
+    }
+    Ok(are_numbered(&entries, 20))
+}
+
 /// Whether a model has so many lines, of which the last flips this target.
 fn has_lines<'m>(model: &Model<'_, Memory<'m>>, count: u32) -> bool {
     let lines = model.line_count();
@@ -88,6 +143,121 @@ fn model_is_right(memory: Memory<'_>) -> Result<bool, Fault> {
         }
     }
     Ok(has_lines(&model, 20))
+}
+
+/// No lines, of two detectors and an observable.
+fn held_lines<'m>(memory: Memory<'m>) -> Result<LinesText<'static, Memory<'m>>, AllocError>
+    ensures targets { IfOk result (λ lines. lines.targets ≡ 3) }
+{
+    LinesText::new(memory, 2, 3)
+}
+
+fn held_lines_are_made(memory: Memory<'_>) -> Result<bool, AllocError> {
+    let _lines = held_lines(memory)?;
+    Ok(true)
+}
+
+/// One line.
+fn one_line<'m>(memory: Memory<'m>) -> Result<LinesText<'static, Memory<'m>>, AllocError> {
+    let mut lines = held_lines(memory)?;
+    let text = lines.keep_text(b"0.1")?;
+    lines.put_line(text, &[1, 2])?;
+    Ok(lines)
+}
+
+/// The texts that are kept, that of the one line first.
+const TEXTS: [&[u8]; 6] = [b"0.1", b"0.2", b"0.3", b"0.4", b"0.5", b"0.6"];
+
+/// Whether a text is kept with this number.
+fn has_number<'m>(lines: &mut LinesText<'static, Memory<'m>>, number: usize) -> bool
+    requires { number < 6 }
+{
+    match lines.keep_text(TEXTS[number]) {
+        Ok(kept) => kept as usize == number,
+        Err(_) => false,
+    }
+}
+
+/// The text of lines.
+fn text_of<'m>(
+    ration: Ration<'m>,
+    lines: &LinesText<'_, Memory<'m>>,
+) -> Result<MemorySink<Global>, Fault> {
+    let mut sink = MemorySink::new(ration.alloc);
+    let model = Model::new(ration.memory, FlatLists::new(ration.memory), 0);
+    write_behind(lines, &model, &mut sink)?;
+    Ok(sink)
+}
+
+/// Whether the one line is the text.
+fn is_one_line<'m>(ration: Ration<'m>, lines: &LinesText<'_, Memory<'m>>) -> Result<bool, Fault> {
+    let text = text_of(ration, lines)?;
+    Ok(text.bytes() == b"error(0.1) D1 L0\n".as_slice())
+}
+
+/// Whether the first texts have their numbers, and the one line is the text.
+fn are_kept<'m>(
+    ration: Ration<'m>,
+    lines: &mut LinesText<'static, Memory<'m>>,
+    count: usize,
+) -> Result<bool, Fault>
+    requires { count ≤ 6 }
+{
+    for number in 0..count {
+        if !has_number(lines, number) {
+            return Ok(false);
+        }
+    }
+    is_one_line(ration, lines)
+}
+
+fn texts_are_kept<'m>(
+    ration: Ration<'m>,
+    lines: &mut LinesText<'static, Memory<'m>>,
+) -> Result<bool, Fault> {
+    let _memory = ration.begin();
+    for number in 0..6usize {
+        if lines.keep_text(TEXTS[number]).is_err() {
+            return refused(are_kept(ration, lines, number)?);
+        }
+    }
+    are_kept(ration, lines, 6)
+}
+
+fn held_texts_are_right(ration: Ration<'_>) -> Result<bool, Fault> {
+    match one_line(ration.memory) {
+        Ok(mut lines) => texts_are_kept(ration, &mut lines),
+        Err(_) => Err(Fault::MEMORY),
+    }
+}
+
+/// Puts a line of 20 bytes, and one of 68 with many targets, which goes in parts.
+fn put_two<'m>(lines: &mut LinesText<'static, Memory<'m>>, text: u32) -> Result<(), AllocError>
+    requires text { text < length lines.old.texts }
+    requires targets { lines.old.targets ≡ 3 }
+    ensures texts { lines.new.texts ≡ lines.old.texts }
+    ensures targets { lines.new.targets ≡ lines.old.targets }
+{
+    lines.put_line(text, &[2])?;
+    lines.put_line(text, &[0, 1, 2, 0, 1, 2, 0, 1, 2, 0, 1, 2, 0, 1, 2, 0, 1])
+}
+
+/// So many lines that they fill two blocks of 64 KiB, and begin a third.
+fn many_lines<'m>(ration: Ration<'m>) -> Result<LinesText<'static, Memory<'m>>, AllocError> {
+    let mut lines = held_lines(ration.memory)?;
+    let text = lines.keep_text(b"1.000e-12")?;
+    let _memory = ration.begin();
+    for turn in 0..2_000u32 {
+        put_two(&mut lines, text)?;
+    }
+    Ok(lines)
+}
+
+fn many_are_put(ration: Ration<'_>) -> Result<bool, Fault> {
+    match many_lines(ration) {
+        Ok(lines) => Ok(text_of(ration, &lines)?.bytes().len() == 176_000),
+        Err(_) => Err(Fault::MEMORY),
+    }
 }
 
 const STEP: TextStep = TextStep::One {

@@ -21,7 +21,7 @@ fn two_detectors(alloc: Global) -> Result<Model<'static, Global>, AllocError> {
 fn text_is(
     rt: &impl Abort,
     alloc: Global,
-    lines: &LinesText<Global>,
+    lines: &LinesText<'_, Global>,
     model: &Model<'_, Global>,
     text: &[u8],
 ) {
@@ -29,10 +29,12 @@ fn text_is(
     assert!(rt; write_behind(lines, model, &mut sink) == Ok(()) && sink.bytes() == text);
 }
 
-fn two_lines(alloc: Global) -> Result<LinesText<Global>, AllocError> {
-    let mut lines = LinesText::new(alloc, 2);
-    lines.put_line(b"1e-3", &[1])?;
-    lines.put_line(b"0.1", &[0, 2])?;
+fn two_lines(alloc: Global) -> Result<LinesText<'static, Global>, AllocError> {
+    let mut lines = LinesText::new(alloc, 2, 3)?;
+    let first = lines.keep_text(b"1e-3")?;
+    lines.put_line(first, &[1])?;
+    let second = lines.keep_text(b"0.1")?;
+    lines.put_line(second, &[0, 2])?;
     Ok(lines)
 }
 
@@ -46,10 +48,11 @@ fn the_line_put_last_is_the_first(rt: HostRuntime) -> Result<(), Fail> {
     Ok(())
 }
 
-fn long_line(alloc: Global) -> Result<LinesText<Global>, AllocError> {
-    let mut lines = LinesText::new(alloc, 18);
+fn long_line(alloc: Global) -> Result<LinesText<'static, Global>, AllocError> {
+    let mut lines = LinesText::new(alloc, 18, 20)?;
+    let text = lines.keep_text(b"0.1000000000000000000000000000000000000000")?;
     lines.put_line(
-        b"0.1000000000000000000000000000000000000000",
+        text,
         &[
             0, 1, 2, 3, 4, 5, 6, 7, 8, 9, 10, 11, 12, 13, 14, 15, 16, 17, 18, 19,
         ],
@@ -68,11 +71,13 @@ fn a_long_line_goes_in_parts(rt: HostRuntime) -> Result<(), Fail> {
 }
 
 // The last of the lines is put first.
-fn many_lines(alloc: Global) -> Result<LinesText<Global>, AllocError> {
-    let mut lines = LinesText::new(alloc, 0);
-    lines.put_line(b"0.5", &[7])?;
-    for _ in 1..MANY {
-        lines.put_line(b"1.000e-12", &[0])?;
+fn many_lines(alloc: Global) -> Result<LinesText<'static, Global>, AllocError> {
+    let mut lines = LinesText::new(alloc, 0, 8)?;
+    let first = lines.keep_text(b"0.5")?;
+    lines.put_line(first, &[7])?;
+    let text = lines.keep_text(b"1.000e-12")?;
+    for line in 1..MANY {
+        lines.put_line(text, &[0])?;
     }
     Ok(lines)
 }
