@@ -9,4 +9,4 @@ note_line-requires-clause-named g c =
     let program = c.args.program.now in
     let tracked = g.T.Tracker.tracked c.args.tracker.now in
     subst (All (λ t. t < length (targets_of program))) (sym (c.as_slice.ensures.value ∙ c.in_ok-hit.ensures.hit))
-    (hit_in_range program c.entry_terms.result.now tracked c.requires.words)
+    (hit_in_range program _ tracked c.requires.words)
