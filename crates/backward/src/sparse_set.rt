@@ -1,5 +1,5 @@
 //! A set of targets as the list of those in it.
-ghost use Rattle.std.specs.Prelude.{◌≡◌, ◌<◌, ◌≤◌, ◌+◌, ◌-◌, ◌∷◌, ◌++◌, [], ℕ, take, false, insert, length, replicate, reverse, slice_index, OnOk, OnErr};
+ghost use Rattle.std.specs.Prelude.{◌≡◌, ◌<◌, ◌≤◌, ◌+◌, ◌-◌, ◌∷◌, ◌++◌, [], ℕ, take, true, false, insert, length, replicate, reverse, slice_index, IfOk, OnOk, OnErr};
 ghost use Rattle.backward.specs.Sets.{xor_sets, DescendsBelow};
 
 use crate::target_set::TargetSet;
@@ -64,14 +64,14 @@ impl<'a, A: Allocator + Copy> TargetSet for SparseSet<'a, A> {
     }
 
     fn add(&mut self, other: &Self, spare: &mut Self) -> Result<(), AllocError> {
+        if self.items.len() <= FEW && other.items.len() <= FEW {
+            return add_few(&mut self.items, other.items.as_slice());
+        }
         if other.items.as_slice().is_empty() {
             return Ok(());
         }
         if self.items.as_slice().is_empty() {
             return self.items.extend_from_slice(other.items.as_slice());
-        }
-        if self.items.len() <= FEW && other.items.len() <= FEW {
-            return add_few(&mut self.items, other.items.as_slice());
         }
         spare.items.clear();
         match merge(
@@ -99,13 +99,7 @@ impl<'a, A: Allocator + Copy> TargetSet for SparseSet<'a, A> {
         other: &Self,
         into: &mut Vec<u32, B>,
     ) -> Result<bool, AllocError> {
-        if self.items.len() > FEW || other.items.len() > FEW {
-            return Ok(false);
-        }
-        let mut sum = [0; 2 * FEW];
-        let len = merge_few(self.items.as_slice(), other.items.as_slice(), &mut sum);
-        list_ascending(&sum[..len], into)?;
-        Ok(true)
+        list_sum(self.items.as_slice(), other.items.as_slice(), into)
     }
 
     fn list_sum_of_four<B: Allocator + Copy>(
@@ -115,22 +109,13 @@ impl<'a, A: Allocator + Copy> TargetSet for SparseSet<'a, A> {
         fourth: &Self,
         into: &mut Vec<u32, B>,
     ) -> Result<bool, AllocError> {
-        if self.items.len() > FOURTH || second.items.len() > FOURTH {
-            return Ok(false);
-        }
-        if third.items.len() > FOURTH || fourth.items.len() > FOURTH {
-            return Ok(false);
-        }
-        let mut sum = [0; 2 * FEW];
-        let len = merge_four(
+        list_sum_of_four(
             self.items.as_slice(),
             second.items.as_slice(),
             third.items.as_slice(),
             fourth.items.as_slice(),
-            &mut sum,
-        );
-        list_ascending(&sum[..len], into)?;
-        Ok(true)
+            into,
+        )
     }
 }
 
@@ -284,29 +269,8 @@ fn merge_few(first: &[u32], second: &[u32], sum: &mut [u32; 16]) -> usize
     append_few(sum, len, &second[j..])
 }
 
-// The same of four descending lists.
-fn merge_four(
-    first: &[u32],
-    second: &[u32],
-    third: &[u32],
-    fourth: &[u32],
-    sum: &mut [u32; 16],
-) -> usize
-    requires first { length first.now ≤ 4 }
-    requires second { length second.now ≤ 4 }
-    requires third { length third.now ≤ 4 }
-    requires fourth { length fourth.now ≤ 4 }
-    ensures within { result ≤ 16 }
-    ensures sum { take result sum.new ≡ xor_sets (xor_sets first.now second.now) (xor_sets third.now fourth.now) }
-{
-    let mut front = [0; 2 * FEW];
-    let front_len = merge_few(first, second, &mut front);
-    let mut back = [0; 2 * FEW];
-    let back_len = merge_few(third, fourth, &mut back);
-    merge_few(&front[..front_len], &back[..back_len], sum)
-}
-
-// Puts these behind the first `len`, and answers how many there are then.
+// Puts these behind the first `len`, and answers how many there are then. A remainder at each place keeps the loop from
+// being made a call that copies, which takes longer than copying few.
 #[inline(always)]
 fn append_few(sum: &mut [u32; 16], len: usize, rest: &[u32]) -> usize
     requires { len + length rest.now ≤ 16 }
@@ -315,10 +279,59 @@ fn append_few(sum: &mut [u32; 16], len: usize, rest: &[u32]) -> usize
 {
     let mut end = len;
     for target in rest {
-        sum[end] = *target;
+        sum[end % 16] = *target;
         end += 1;
     }
     end
+}
+
+// Lists the exclusive or of two descending lists ascending, and answers whether it did: where one is empty, or both are
+// of few.
+fn list_sum<B: Allocator + Copy>(
+    first: &[u32],
+    second: &[u32],
+    into: &mut Vec<u32, B>,
+) -> Result<bool, AllocError>
+    ensures { IfOk result (λ done. done ≡ true → into.new.items ≡ reverse (xor_sets first.now second.now)) }
+{
+    if first.is_empty() {
+        list_ascending(second, into)?;
+        return Ok(true);
+    }
+    if second.is_empty() {
+        list_ascending(first, into)?;
+        return Ok(true);
+    }
+    if first.len() > FEW || second.len() > FEW {
+        return Ok(false);
+    }
+    let mut sum = [0; 2 * FEW];
+    let len = merge_few(first, second, &mut sum);
+    list_ascending(&sum[..len], into)?;
+    Ok(true)
+}
+
+// The same of four descending lists, of fewer each.
+fn list_sum_of_four<B: Allocator + Copy>(
+    first: &[u32],
+    second: &[u32],
+    third: &[u32],
+    fourth: &[u32],
+    into: &mut Vec<u32, B>,
+) -> Result<bool, AllocError>
+    ensures { IfOk result (λ done. done ≡ true → into.new.items ≡ reverse (xor_sets (xor_sets first.now second.now) (xor_sets third.now fourth.now))) }
+{
+    if first.len() > FOURTH || second.len() > FOURTH {
+        return Ok(false);
+    }
+    if third.len() > FOURTH || fourth.len() > FOURTH {
+        return Ok(false);
+    }
+    let mut front = [0; 2 * FEW];
+    let front_len = merge_few(first, second, &mut front);
+    let mut back = [0; 2 * FEW];
+    let back_len = merge_few(third, fourth, &mut back);
+    list_sum(&front[..front_len], &back[..back_len], into)
 }
 
 fn list_ascending<B: Allocator + Copy>(

@@ -1,5 +1,6 @@
 use Rattle.std.proofs.Common.{ap, ap₂, subst, sym, ◌∙◌}
 use Rattle.std.specs.Prelude.{reverse}
+use Rattle.std.proofs.lemmas.Result.{IfOk-weaker}
 use Rattle.bit_rows.specs.Rows.{xor_rows}
 use Rattle.backward.specs.Sets.{DescendsBelow, row_of_set, xor_sets}
 use Rattle.backward.specs.TargetSets.{members}
@@ -13,7 +14,9 @@ returns g c =
     let other = c.other.inside.items.items in
     let counted = same_count m c.other.inside.targets mine other _ _ c.self.view_is c.other.view_is c.requires in
     let descends = DescendsBelow-xor_sets m mine other c.self.invariant (subst (λ n. DescendsBelow n other) (sym counted) c.other.invariant) in
-    λ done. c.in_ok-list_ascending.ensures
-    ∙ (ap reverse (c.merge_few-len.ensures.sum ∙ ap₂ xor_sets c.as_slice.ensures c.as_slice-2.ensures)
+    IfOk-weaker c.list_sum.result _ _
+    (λ ok h done. h done
+    ∙ (ap reverse (ap₂ xor_sets c.as_slice.ensures c.as_slice-2.ensures)
     ∙ (reverse_is_members m (xor_sets mine other) descends
-    ∙ ap members (row_of_xor_sets m mine other ∙ ap₂ xor_rows c.self.view_is (ap (λ n. row_of_set n other) counted ∙ c.other.view_is))))
+    ∙ ap members (row_of_xor_sets m mine other ∙ ap₂ xor_rows c.self.view_is (ap (λ n. row_of_set n other) counted ∙ c.other.view_is)))))
+    c.list_sum.ensures
