@@ -32,7 +32,7 @@ noted_first value t ts places lt =
       target = t;
       in_range = omega (arith, lt, length-noted value (t ∷ ts) places);
       is_some = λ none. some_after value (get_or places t None)
-      (sym (ap (λ b. or_where value (b || is_among ts t) (get_or places t None)) (eq-eqb t t refl)) ∙ (sym (noted_at value (t ∷ ts) places t lt) ∙ none));
+          (sym (ap (λ b. or_where value (b || is_among ts t) (get_or places t None)) (eq-eqb t t refl)) ∙ (sym (noted_at value (t ∷ ts) places t lt) ∙ none));
     }
 
 -- ---- what is held

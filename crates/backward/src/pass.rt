@@ -132,7 +132,13 @@ fn collapse<'s, 'a, A: Allocator + Copy, T: Tracker, L: LineStore>(
     note(&mut found.latest, found.hit.as_slice(), found.left);
     found.wanted = found.wanted && found.hit.is_empty();
     list_record(program, &found.sets, rec, &mut found.hit)?;
-    note_flip(program, found.wanted, flip, found.hit.as_slice(), &mut found.lines)?;
+    note_flip(
+        program,
+        found.wanted,
+        flip,
+        found.hit.as_slice(),
+        &mut found.lines,
+    )?;
     undo_collapse(tracker, found.hit.as_slice(), terms, reset)
 }
 
