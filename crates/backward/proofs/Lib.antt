@@ -15,4 +15,5 @@ pub mod Sensitivities
 pub mod SetLemmas
 mod TimesEach
 pub mod TransposedLemmas
+mod WantedLines
 pub mod WordLemmas

@@ -38,7 +38,7 @@ length-noted value [] found = refl
 length-noted value (t ∷ ts) found = length-noted value ts (set found t (or_where value true (get_or found t None))) ∙ length-set found t (or_where value true (get_or found t None))
 
 -- what is noted at a target: nothing depends on the order of the list, or on how often it names one
-noted_at : (value : ℕ) (ts : List ℕ) (found : List (Option ℕ)) (k : ℕ) → k < length found → get_or (noted value ts found) k None ≡ or_where value (is_among ts k) (get_or found k None)
+pub noted_at : (value : ℕ) (ts : List ℕ) (found : List (Option ℕ)) (k : ℕ) → k < length found → get_or (noted value ts found) k None ≡ or_where value (is_among ts k) (get_or found k None)
 noted_at value [] found k h = same (get_or found k None)
   where
     same : (o : Option ℕ) → o ≡ or_where value false o

@@ -20,7 +20,7 @@ use Rattle.programs.specs.declared.step.Step.{Step}
 use Rattle.programs.specs.Listed.{listed, measured, recorded}
 use Rattle.programs.specs.Named.{IsNamed, IsNamedFlip, IsRecord, IsStepOf}
 use Rattle.backward.specs.Collapses.{IsOfSize, undone_collapse, members_at, noted, toggled_each}
-use Rattle.backward.specs.Passes.{sensitivity_before, listing_sets, line_for, with_line, with_flip, line_at, lines_found, latest_before, IsPassed, IsPassedWith}
+use Rattle.backward.specs.Passes.{sensitivity_before, listing_sets, line_for, with_line, with_flip, line_at, lines_found, latest_before, IsPassed, HeldOrNoted, IsPassedWith}
 use Rattle.backward.specs.Tracked.{Tracked, each_word, undone_one, undone_two, anticommuting}
 use Rattle.backward.proofs.PassLines.{hit_at-collapse, hit_at-fault, anticommuting-before}
 use Rattle.backward.proofs.PassPlaces.{latest_before-collapse, length-latest_before}
@@ -248,10 +248,10 @@ collapse_is_left program place c r t sets lines places left fits at h =
     omega (arith, h.counted, fits.collapses_counted, ap collapse_count at.front, collapses_left (place - 1) program.steps)
 
 -- ---- what lines are given to
--- it holds the lines found, where it holds these
-pub held_on : (holds : List ErrorLine → Type 0) (program : Listing) (steps : List ListedStep) (t : Tracked) (sets : List (List Bool)) (lines : List ErrorLine) (places : List (Option ℕ)) (left : ℕ)
-    → IsPassed program steps t sets lines places left → holds lines → IsPassedWith holds program steps t sets places left
-held_on holds program steps t sets lines places left p h = (
+-- it holds the lines found while they are wanted, where it holds these
+pub held_on : (wanted : Bool) (holds : List ErrorLine → Type 0) (program : Listing) (steps : List ListedStep) (t : Tracked) (sets : List (List Bool)) (lines : List ErrorLine) (places : List (Option ℕ)) (left : ℕ)
+    → IsPassed program steps t sets lines places left → HeldOrNoted wanted holds places lines → IsPassedWith wanted holds program steps t sets places left
+held_on wanted holds program steps t sets lines places left p h = (
   record { words = p.words; sets = p.sets; lines = refl; latest = p.latest; counted = p.counted },
-  subst holds p.lines h,
+  subst (HeldOrNoted wanted holds places) p.lines h,
 )

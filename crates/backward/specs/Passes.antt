@@ -1,7 +1,7 @@
 -- Going back over the steps of a program: the words that a tracker keeps, the targets that list each record, the error
 -- lines found on the way, and where targets are random. (Gottesman, arXiv:quant-ph/9807006: words carried through a
 -- circuit.)
-use Rattle.std.specs.Prelude.{◌≡◌, ℕ, ◌+◌, Bool, List, [], ◌∷◌, ◌++◌, map, filter, length, take, Option, None, Some, option_map}
+use Rattle.std.specs.Prelude.{◌≡◌, ◌≢◌, ℕ, ◌+◌, ◌<◌, Bool, true, false, List, [], ◌∷◌, ◌++◌, map, filter, length, take, Option, None, Some, option_map, slice_index_or}
 use Rattle.std.specs.List.{range_with_len, flat_map}
 use Rattle.step_model.specs.ErrorModels.{ErrorLine}
 use Rattle.step_model.specs.Hits.{hits_at}
@@ -70,6 +70,17 @@ abbrev pub lowest_below : Listing → ℕ → List (Option ℕ)
 lowest_below program q =
     map (λ d. lowest_X_or_Y (take q (sensitivity_before program program.steps d).word)) (range_with_len 0 (length (targets_of program)))
 
+-- something is noted for some target
+pub record IsNoted (places : List (Option ℕ)) : Type 0 where
+  pub target : ℕ
+  pub in_range : target < length places
+  pub is_some : slice_index_or places target None ≢ None
+
+-- while lines are wanted, these are held; they are not wanted only where something is noted
+abbrev pub HeldOrNoted : Bool → (List ErrorLine → Type 0) → List (Option ℕ) → List ErrorLine → Type 0
+HeldOrNoted true holds places lines = holds lines
+HeldOrNoted false holds places lines = IsNoted places
+
 -- what is kept before these steps
 pub record IsPassed (program : Listing) (steps : List ListedStep) (tracked : Tracked) (record_sets : List (List Bool)) (found : List ErrorLine) (places : List (Option ℕ)) (left : ℕ) : Type 0 where
   pub words : tracked ≡ tracked_before program steps
@@ -78,7 +89,7 @@ pub record IsPassed (program : Listing) (steps : List ListedStep) (tracked : Tra
   pub latest : places ≡ latest_before program left steps
   pub counted : left + collapse_count steps ≡ program.collapses
 
--- the same, where the lines are held by what they were given to
-abbrev pub IsPassedWith : (List ErrorLine → Type 0) → Listing → List ListedStep → Tracked → List (List Bool) → List (Option ℕ) → ℕ → Type 0
-IsPassedWith holds program steps tracked record_sets places left =
-    IsPassed program steps tracked record_sets (lines_found program steps) places left × holds (lines_found program steps)
+-- the same, where the lines are held by what they were given to, while they are wanted
+abbrev pub IsPassedWith : Bool → (List ErrorLine → Type 0) → Listing → List ListedStep → Tracked → List (List Bool) → List (Option ℕ) → ℕ → Type 0
+IsPassedWith wanted holds program steps tracked record_sets places left =
+    IsPassed program steps tracked record_sets (lines_found program steps) places left × HeldOrNoted wanted holds places (lines_found program steps)

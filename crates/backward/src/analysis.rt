@@ -2,7 +2,7 @@ ghost use Rattle.std.specs.Prelude.{◌≡◌, [], length, reverse, IfOk, IfErr,
 ghost use Rattle.step_model.specs.Faults.{memory_fault};
 ghost use Rattle.step_model.specs.HitModels.{model_of};
 ghost use Rattle.step_model.specs.Targets.{targets_of};
-ghost use Rattle.backward.specs.Passes.{IsPassedWith};
+ghost use Rattle.backward.specs.Passes.{IsPassedWith, lines_found};
 ghost use Rattle.backward.specs.Places.{IsAnalysed, IsAnalysedText, IsLowestRandom, NoneIsRandom};
 ghost use Rattle.backward.specs.Tracked.{fresh};
 
@@ -42,7 +42,7 @@ pub enum AnalysedText<'a, A: Allocator + Copy> {
     },
 }
 
-/// What was given all lines, and the lowest random target, where there is one.
+/// The lowest random target, where there is one; else what was given all lines.
 #[derive(Drop)]
 struct Judged<L> {
     lines: L,
@@ -125,7 +125,8 @@ fn find_text<'a, A: Allocator + Copy, T: Tracker>(
     }
 }
 
-// Goes back over all steps, with the lines given to what was given none, and then asks for the lowest random target.
+// Goes back over all steps, with the lines given to what was given none, and then asks for the lowest random target. Where
+// there is one, some lines may not be given.
 fn go_back_and_judge<'s, 'a, A: Allocator + Copy, T: Tracker, L: LineStore + Drop>(
     alloc: &'s A,
     program: &Program<'a, A>,
@@ -135,7 +136,7 @@ fn go_back_and_judge<'s, 'a, A: Allocator + Copy, T: Tracker, L: LineStore + Dro
     requires tracked { T.tracked tracker.old ≡ fresh program.now.qubits (length (targets_of program.now)) }
     requires none { L.holds lines [] }
     requires store { L.program lines ≡ program.now }
-    ensures lines { IfOk result (λ judged. L.holds judged.lines (reverse (model_of program.now).lines)) }
+    ensures lines { IfOk result (λ judged. IfNone judged.lowest (L.holds judged.lines (reverse (model_of program.now).lines))) }
     ensures store { IfOk result (λ judged. L.program judged.lines ≡ L.program lines) }
     ensures none { IfOk result (λ judged. IfNone judged.lowest (NoneIsRandom program.now)) }
     ensures lowest { IfOk result (λ judged. IfSome judged.lowest (λ random. IsLowestRandom program.now random.0 random.1)) }
@@ -157,7 +158,7 @@ fn nothing_found<'s, 'a, A: Allocator + Copy, L: LineStore + Drop>(
     lines: L,
 ) -> Result<Found<'s, A, L>, AllocError>
     requires { L.holds lines [] }
-    ensures passed { IfOk result (λ found. IsPassedWith (L.holds found.lines) program.now [] (fresh program.now.qubits (length (targets_of program.now))) found.sets.items found.latest.items found.left) }
+    ensures passed { IfOk result (λ found. IsPassedWith found.wanted (L.holds found.lines) program.now [] (fresh program.now.qubits (length (targets_of program.now))) found.sets.items found.latest.items found.left) }
     ensures lines { IfOk result (λ found. found.lines ≡ lines) }
 {
     let sets = record_sets(alloc, program)?;
@@ -165,6 +166,7 @@ fn nothing_found<'s, 'a, A: Allocator + Copy, L: LineStore + Drop>(
     Ok(Found {
         sets,
         lines,
+        wanted: true,
         latest,
         left: program.collapse_count(),
         hit: Vec::new(*alloc),
@@ -178,9 +180,10 @@ fn judge<'s, 'a, A: Allocator + Copy, T: Tracker, L: LineStore>(
     tracker: &mut T,
     found: &mut Found<'s, A, L>,
 ) -> Result<Option<(u32, Place)>, AllocError>
-    requires { IsPassedWith (L.holds found.old.lines) program.now program.now.steps (T.tracked tracker.old) found.old.sets.items found.old.latest.items found.old.left }
+    requires { IsPassedWith found.old.wanted (L.holds found.old.lines) program.now program.now.steps (T.tracked tracker.old) found.old.sets.items found.old.latest.items found.old.left }
     ensures none { IfOk result (λ lowest. IfNone lowest (NoneIsRandom program.now)) }
     ensures lowest { IfOk result (λ lowest. IfSome lowest (λ random. IsLowestRandom program.now random.0 random.1)) }
+    ensures lines { IfOk result (λ lowest. IfNone lowest (L.holds found.old.lines (lines_found program.now program.now.steps))) }
     ensures same { found.new.lines ≡ found.old.lines }
 {
     program.well_formed();
@@ -201,8 +204,8 @@ fn go_back<'s, 'a, A: Allocator + Copy, T: Tracker, L: LineStore>(
     found: &mut Found<'s, A, L>,
 ) -> Result<(), AllocError>
     requires store { L.program found.old.lines ≡ program.now }
-    requires passed { IsPassedWith (L.holds found.old.lines) program.now [] (T.tracked tracker.old) found.old.sets.items found.old.latest.items found.old.left }
-    ensures passed { OnOk result (IsPassedWith (L.holds found.new.lines) program.now program.now.steps (T.tracked tracker.new) found.new.sets.items found.new.latest.items found.new.left) }
+    requires passed { IsPassedWith found.old.wanted (L.holds found.old.lines) program.now [] (T.tracked tracker.old) found.old.sets.items found.old.latest.items found.old.left }
+    ensures passed { OnOk result (IsPassedWith found.new.wanted (L.holds found.new.lines) program.now program.now.steps (T.tracked tracker.new) found.new.sets.items found.new.latest.items found.new.left) }
     ensures store { L.program found.new.lines ≡ L.program found.old.lines }
 {
     let mut walk = Walk::end(program);

@@ -1,11 +1,11 @@
 //! The pass over the steps of a program from the last to the first, and what it keeps beside the words.
-ghost use Rattle.std.specs.Prelude.{◌≡◌, ◌<◌, ◌≤◌, ◌-◌, ◌+◌, ◌∷◌, [], ◌==◌, ℕ, List, not, length, drop, All, IfOk, OnOk, IfSome, if◌then◌else◌, slice_index_or, slice_set};
+ghost use Rattle.std.specs.Prelude.{◌≡◌, ◌<◌, ◌≤◌, ◌-◌, ◌+◌, ◌∷◌, [], ◌==◌, ℕ, true, List, not, length, drop, All, IfOk, OnOk, IfSome, if◌then◌else◌, slice_index_or, slice_set};
 ghost use Rattle.step_model.specs.ErrorModels.{ErrorLine};
 ghost use Rattle.step_model.specs.Listing.{kept_at};
 ghost use Rattle.step_model.specs.Targets.{targets_of};
 ghost use Rattle.programs.specs.Named.{IsRecord, IsNamedFlip};
 ghost use Rattle.backward.specs.Collapses.{IsOfSize, undone_collapse, members_at, noted, toggled_each};
-ghost use Rattle.backward.specs.Passes.{IsPassedWith, with_line, with_flip};
+ghost use Rattle.backward.specs.Passes.{HeldOrNoted, IsPassedWith, with_line, with_flip};
 ghost use Rattle.backward.specs.Tracked.{anticommuting};
 
 use crate::collapse::undo_collapse;
@@ -22,10 +22,13 @@ use step_model::Term;
 
 /// What is found going back: the targets that list each record, what the error lines were given to, the last fault's first, the
 /// latest collapse that each target's word anticommutes with, and how many collapses are left. `hit` is a buffer.
+///
+/// Lines are `wanted` until something is noted in `latest`: that target is random, so that no lines are answered.
 #[derive(Drop)]
 pub(crate) struct Found<'s, A: Allocator + Copy, L> {
     pub(crate) sets: Vec<SparseSet<'s, A>, A>,
     pub(crate) lines: L,
+    pub(crate) wanted: bool,
     pub(crate) latest: Vec<Option<u32>, A>,
     pub(crate) left: u32,
     pub(crate) hit: Vec<u32, A>,
@@ -41,11 +44,11 @@ pub(crate) fn step_back<'s, 'p, 'a, A: Allocator + Copy, T: Tracker, L: LineStor
     requires program { walk.old.program ≡ program.now }
     requires within { walk.old.place ≤ length program.now.steps }
     requires store { L.program found.old.lines ≡ program.now }
-    requires passed { IsPassedWith (L.holds found.old.lines) program.now (drop walk.old.place program.now.steps) (T.tracked tracker.old) found.old.sets.items found.old.latest.items found.old.left }
+    requires passed { IsPassedWith found.old.wanted (L.holds found.old.lines) program.now (drop walk.old.place program.now.steps) (T.tracked tracker.old) found.old.sets.items found.old.latest.items found.old.left }
     ensures program { walk.new.program ≡ walk.old.program }
     ensures place { walk.new.place ≡ walk.old.place - 1 }
     ensures more { IfOk result (λ more. more ≡ not (walk.old.place == 0)) }
-    ensures passed { OnOk result (IsPassedWith (L.holds found.new.lines) program.now (drop walk.new.place program.now.steps) (T.tracked tracker.new) found.new.sets.items found.new.latest.items found.new.left) }
+    ensures passed { OnOk result (IsPassedWith found.new.wanted (L.holds found.new.lines) program.now (drop walk.new.place program.now.steps) (T.tracked tracker.new) found.new.sets.items found.new.latest.items found.new.left) }
     ensures store { L.program found.new.lines ≡ L.program found.old.lines }
 {
     program.well_formed();
@@ -100,7 +103,7 @@ fn reset_qubit(reset: bool, qubit: u32) -> Option<u32>
 }
 
 // Goes back over a collapse of a product of letters: notes the targets for which it is the latest place, then the line
-// of its recorded flip, and takes the words back.
+// of its recorded flip, where lines are still wanted, and takes the words back.
 fn collapse<'s, 'a, A: Allocator + Copy, T: Tracker, L: LineStore>(
     program: &Program<'a, A>,
     terms: &[Term],
@@ -119,7 +122,7 @@ fn collapse<'s, 'a, A: Allocator + Copy, T: Tracker, L: LineStore>(
     requires store { L.program found.old.lines ≡ program.now }
     ensures words { OnOk result (T.tracked tracker.new ≡ undone_collapse (members_at found.old.sets.items rec) terms.now reset (T.tracked tracker.old)) }
     ensures sets { OnOk result (found.new.sets.items ≡ found.old.sets.items) }
-    ensures lines { OnOk result ((lines : List ErrorLine) → L.holds found.old.lines lines → L.holds found.new.lines (with_flip program.now flip (members_at found.old.sets.items rec) lines)) }
+    ensures lines { OnOk result ((lines : List ErrorLine) → HeldOrNoted found.old.wanted (L.holds found.old.lines) found.old.latest.items lines → HeldOrNoted found.new.wanted (L.holds found.new.lines) found.new.latest.items (with_flip program.now flip (members_at found.old.sets.items rec) lines)) }
     ensures store { L.program found.new.lines ≡ L.program found.old.lines }
     ensures latest { OnOk result (found.new.latest.items ≡ noted (found.old.left - 1) (anticommuting terms.now (T.tracked tracker.old)) found.old.latest.items) }
     ensures left { OnOk result (found.new.left ≡ found.old.left - 1) }
@@ -127,8 +130,15 @@ fn collapse<'s, 'a, A: Allocator + Copy, T: Tracker, L: LineStore>(
     tracker.hit(terms, &mut found.hit)?;
     found.left -= 1;
     note(&mut found.latest, found.hit.as_slice(), found.left);
+    found.wanted = found.wanted && found.hit.is_empty();
     list_record(program, &found.sets, rec, &mut found.hit)?;
-    note_flip(program, flip, found.hit.as_slice(), &mut found.lines)?;
+    note_flip(
+        program,
+        found.wanted,
+        flip,
+        found.hit.as_slice(),
+        &mut found.lines,
+    )?;
     undo_collapse(tracker, found.hit.as_slice(), terms, reset)
 }
 
@@ -153,8 +163,10 @@ fn list_record<'s, 'a, A: Allocator + Copy>(
     }
 }
 
+// Appends the line of a recorded flip, where there is one and lines are wanted.
 fn note_flip<'a, A: Allocator + Copy, L: LineStore>(
     program: &Program<'a, A>,
+    wanted: bool,
     flip: Option<FaultName>,
     targets: &[u32],
     lines: &mut L,
@@ -162,12 +174,12 @@ fn note_flip<'a, A: Allocator + Copy, L: LineStore>(
     requires flip { IsNamedFlip program.now flip }
     requires named { All (λ t. t < length (targets_of program.now)) targets.now }
     requires store { L.program lines.old ≡ program.now }
-    ensures lines { OnOk result ((given : List ErrorLine) → L.holds lines.old given → L.holds lines.new (with_flip program.now flip targets.now given)) }
+    ensures lines { OnOk result ((given : List ErrorLine) → wanted ≡ true → L.holds lines.old given → L.holds lines.new (with_flip program.now flip targets.now given)) }
     ensures store { L.program lines.new ≡ L.program lines.old }
 {
     match flip {
-        Some(name) => note_line(program, name.entry, targets, lines),
-        None => Ok(()),
+        Some(name) if wanted => note_line(program, name.entry, targets, lines),
+        _ => Ok(()),
     }
 }
 
@@ -191,7 +203,7 @@ fn note_line<'a, A: Allocator + Copy, L: LineStore>(
     }
 }
 
-// Goes back over a fault: notes the line of the targets whose words it anticommutes with.
+// Goes back over a fault: notes the line of the targets whose words it anticommutes with, where lines are still wanted.
 fn fault<'s, 'a, A: Allocator + Copy, T: Tracker, L: LineStore>(
     program: &Program<'a, A>,
     name: FaultName,
@@ -204,11 +216,14 @@ fn fault<'s, 'a, A: Allocator + Copy, T: Tracker, L: LineStore>(
     requires store { L.program found.old.lines ≡ program.now }
     ensures words { OnOk result (T.tracked tracker.new ≡ T.tracked tracker.old) }
     ensures sets { OnOk result (found.new.sets.items ≡ found.old.sets.items) }
-    ensures lines { OnOk result ((lines : List ErrorLine) → L.holds found.old.lines lines → L.holds found.new.lines (with_line (kept_at program.now name.entry).text (anticommuting (kept_at program.now name.entry).terms (T.tracked tracker.old)) lines)) }
+    ensures lines { OnOk result ((lines : List ErrorLine) → HeldOrNoted found.old.wanted (L.holds found.old.lines) found.old.latest.items lines → HeldOrNoted found.new.wanted (L.holds found.new.lines) found.new.latest.items (with_line (kept_at program.now name.entry).text (anticommuting (kept_at program.now name.entry).terms (T.tracked tracker.old)) lines)) }
     ensures store { L.program found.new.lines ≡ L.program found.old.lines }
     ensures latest { OnOk result (found.new.latest.items ≡ found.old.latest.items) }
     ensures left { OnOk result (found.new.left ≡ found.old.left) }
 {
+    if !found.wanted {
+        return Ok(());
+    }
     program.well_formed();
     tracker.hit(program.entry_terms(name.entry), &mut found.hit)?;
     note_line(program, name.entry, found.hit.as_slice(), &mut found.lines)
@@ -229,6 +244,7 @@ fn feedback<'s, 'a, A: Allocator + Copy, T: Tracker, L: LineStore>(
     ensures words { OnOk result (T.tracked tracker.new ≡ T.tracked tracker.old) }
     ensures sets { OnOk result (found.new.sets.items ≡ slice_set found.old.sets.items rec (toggled_each (anticommuting (term ∷ []) (T.tracked tracker.old)) (slice_index_or found.old.sets.items rec []))) }
     ensures lines { found.new.lines ≡ found.old.lines }
+    ensures wanted { found.new.wanted ≡ found.old.wanted }
     ensures latest { OnOk result (found.new.latest.items ≡ found.old.latest.items) }
     ensures left { OnOk result (found.new.left ≡ found.old.left) }
 {

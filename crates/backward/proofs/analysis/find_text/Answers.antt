@@ -1,6 +1,7 @@
-use Rattle.std.proofs.Common.{◌≡◌, ◌++◌, length, ap, subst, sym, ◌∙◌}
+use Rattle.std.proofs.Common.{◌++◌, length, ap, subst, ◌∙◌}
+use Rattle.std.specs.Prelude.{reverse}
 use Rattle.std.specs.Option.{IfNone}
-use Rattle.dem_text.specs.HeldText.{Held}
+use Rattle.dem_text.specs.HeldText.{Held, HoldsLines}
 use Rattle.dem_text.specs.ModelText.{model_text}
 use Rattle.step_model.specs.HitModels.{model_of}
 use Rattle.step_model.specs.Listing.{Listing}
@@ -16,6 +17,6 @@ returns g c =
       subst (λ lowest. IfNone lowest (NoneIsRandom program)) c.in-None.is c.in_ok-judged.ensures.none,
       ap (λ (held : Held). held.text ++ model_text rest) c.into_text.ensures
           ∙ whole_text (model_of program) rest judged.lines.text
-          (judged.lines.fits.detectors ∙ ap (λ (p : Listing). length p.detectors) (c.in_ok-judged.ensures.store ∙ c.in_ok-none.ensures.program)) c.in_ok-judged.ensures.lines
+          (judged.lines.fits.detectors ∙ ap (λ (p : Listing). length p.detectors) (c.in_ok-judged.ensures.store ∙ c.in_ok-none.ensures.program)) (subst (λ lowest. IfNone lowest (HoldsLines judged.lines.text (reverse (model_of program).lines))) c.in-None.is c.in_ok-judged.ensures.lines)
           c.in_ok-without_lines-in-None.ensures,
     )

@@ -1,5 +1,6 @@
 use Rattle.std.proofs.Common.{List, subst, sym}
 use Rattle.std.specs.Prelude.{reverse}
+use Rattle.std.specs.Option.{IfNone}
 use Rattle.step_model.specs.ErrorModels.{ErrorLine}
 use Rattle.step_model.specs.HitModels.{model_of}
 use Rattle.backward.proofs.PassLines.{lines_found-all}
@@ -10,6 +11,6 @@ returns-clause-lines g c =
     let program = c.args.program.now in
     let holds = g.L.LineStore.holds in
     let found = c.go_back.new.found in
-    let all : holds found.lines (reverse (model_of program).lines) =
-    subst (λ (lines : List ErrorLine). holds found.lines lines) (lines_found-all program c.well_formed-2.ensures) c.in_ok-go_back.ensures.passed.1 in
-    subst (λ store. holds store (reverse (model_of program).lines)) (sym c.judge.ensures.same) all
+    let lowest = c.in_ok-lowest.lowest in
+    subst (λ store. IfNone lowest (holds store (reverse (model_of program).lines))) (sym c.judge.ensures.same)
+    (subst (λ (lines : List ErrorLine). IfNone lowest (holds found.lines lines)) (lines_found-all program c.well_formed-2.ensures) c.in_ok-lowest.ensures.lines)

@@ -1,6 +1,8 @@
-use Rattle.std.proofs.Common.{length, ap, ◌∙◌, arith}
+use Rattle.std.proofs.Common.{ℕ, List, length, get_or, Option, None, ap, sym, ◌∙◌, arith}
+use Rattle.backward.specs.Passes.{lines_found}
 use Rattle.backward.proofs.Judging.{none_left, random_found, none_found}
 use Rattle.backward.proofs.PassPlaces.{length-latest_before}
+use Rattle.backward.proofs.WantedLines.{held_at_last, no_latest}
 use Rattle.backward.proofs.analysis.judge.Goals as goal
 
 pub lowest_at_start-requires : goal.lowest_at_start-requires
@@ -31,3 +33,12 @@ returns-clause-none g c =
     let long = ap length is_latest ∙ length-latest_before program left program.steps in
     none_found program left c.as_slice.result.now c.as_slice-2.result.now fits (none_left program left fits c.requires.0.counted) is_latest (c.as_slice-2.ensures.value ∙ c.in_ok-lowest.ensures)
     (λ d lt. c.in-None.ensures.none d (omega (arith, lt, long)))
+
+pub returns-clause-lines : goal.returns-clause-lines
+returns-clause-lines g c =
+    let program = c.args.program.now in
+    let found = c.args.found.now in
+    held_at_last found.wanted found.latest.items (g.L.LineStore.holds found.lines) (lines_found program program.steps)
+    (λ d lt. ap (λ (l : List (Option ℕ)). get_or l d None) (sym c.as_slice.ensures.value)
+    ∙ no_latest (get_or c.as_slice.result.now d None) (get_or c.as_slice-2.result.now d None) (c.in-None.ensures.none d (omega (arith, lt, ap length c.as_slice.ensures.value))))
+    c.requires.1

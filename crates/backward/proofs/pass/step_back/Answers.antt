@@ -8,7 +8,7 @@ use Rattle.step_model.specs.Listing as listing
 use Rattle.programs.specs.declared.step.Step.TheVariants.{One, Two, Collapse, CollapseWord, Fault, Feedback}
 use Rattle.programs.specs.Listed.{listed, measured, recorded}
 use Rattle.backward.specs.Collapses.{members_at}
-use Rattle.backward.specs.Passes.{lines_found, with_flip, with_line}
+use Rattle.backward.specs.Passes.{HeldOrNoted, lines_found, with_flip, with_line}
 use Rattle.backward.specs.Tracked.{anticommuting}
 use Rattle.backward.proofs.PassWords.{IsMeasured}
 use Rattle.backward.proofs.PassSteps.{walk_step, walk_named, gone_over, of_size, later_fit, collapse_is_left, held_on, reset_within, passed-one, passed-two, passed-collapse, passed-fault, passed-feedback, measured-letter, measured-product}
@@ -112,7 +112,7 @@ returns-in_ok-undo1-in-One-clause-passed g c =
     let is = c.in-Some.is ∙ ap Some s.is in
     let at = walk_step walk.program program walk.place c.previous_step.result step c.requires.program is c.previous_step.ensures.step in
     let named = walk_named walk.program program c.previous_step.result step c.requires.program is c.previous_step.ensures.named in
-    held_on (g.L.LineStore.holds f.lines) program (drop c.previous_step.new.self.place program.steps) _ f.sets.items lines f.latest.items f.left
+    held_on f.wanted (g.L.LineStore.holds f.lines) program (drop c.previous_step.new.self.place program.steps) _ f.sets.items lines f.latest.items f.left
     (gone_over program walk.place c.previous_step.new.self.place (listed program.qubits program.products step) _ f.sets.items lines f.latest.items f.left at c.previous_step.ensures.place
     (passed-one program rest tracked f.sets.items lines f.latest.items f.left c.requires.passed.0 s.gate s.q _ c.in_ok-undo1-in-One.ensures))
     c.requires.passed.1
@@ -130,7 +130,7 @@ returns-in_ok-undo2-in-Two-clause-passed g c =
     let is = c.in-Some.is ∙ ap Some s.is in
     let at = walk_step walk.program program walk.place c.previous_step.result step c.requires.program is c.previous_step.ensures.step in
     let named = walk_named walk.program program c.previous_step.result step c.requires.program is c.previous_step.ensures.named in
-    held_on (g.L.LineStore.holds f.lines) program (drop c.previous_step.new.self.place program.steps) _ f.sets.items lines f.latest.items f.left
+    held_on f.wanted (g.L.LineStore.holds f.lines) program (drop c.previous_step.new.self.place program.steps) _ f.sets.items lines f.latest.items f.left
     (gone_over program walk.place c.previous_step.new.self.place (listed program.qubits program.products step) _ f.sets.items lines f.latest.items f.left at c.previous_step.ensures.place
     (passed-two program rest tracked f.sets.items lines f.latest.items f.left c.requires.passed.0 s.gate s.a s.b _ c.in_ok-undo2-in-Two.ensures))
     c.requires.passed.1
@@ -153,7 +153,7 @@ returns-in_ok-collapse-in-Collapse-clause-passed g c =
     let terms : List Term = record { qubit = s.qubit; letter = s.letter } ∷ [] in
     let is_measured = subst (λ reset. IsMeasured program.qubits terms reset (measured program.qubits s.reset s.letter s.qubit)) (sym c.reset_qubit.ensures) (measured-letter program.qubits s.letter s.qubit s.reset) in
     let made : List ErrorLine = with_flip program s.flip (members_at f.sets.items s.rec) lines in
-    held_on (g.L.LineStore.holds now.lines) program (drop c.previous_step.new.self.place program.steps) (g.T.Tracker.tracked c.collapse.new.tracker) now.sets.items made now.latest.items now.left
+    held_on now.wanted (g.L.LineStore.holds now.lines) program (drop c.previous_step.new.self.place program.steps) (g.T.Tracker.tracked c.collapse.new.tracker) now.sets.items made now.latest.items now.left
     (gone_over program walk.place c.previous_step.new.self.place (listed program.qubits program.products step) (g.T.Tracker.tracked c.collapse.new.tracker) now.sets.items made now.latest.items now.left at c.previous_step.ensures.place
     (passed-collapse program rest tracked f.sets.items lines f.latest.items f.left c.requires.passed.0 c.well_formed-2.ensures (later_fit program walk.place c.well_formed-2.ensures.steps_fit) terms c.reset_qubit.result s.rec s.inverted s.flip (measured program.qubits s.reset s.letter s.qubit)
     (g.T.Tracker.tracked c.collapse.new.tracker) now.sets.items made lines now.latest.items now.left
@@ -180,7 +180,7 @@ returns-in_ok-collapse-in-CollapseWord-clause-passed g c =
     let product = get_or program.products s.product [] in
     let is_measured = subst (λ terms. IsMeasured program.qubits terms None (listing.Word (word_of_terms program.qubits product))) (sym c.product-terms.ensures) (measured-product program.qubits product) in
     let made : List ErrorLine = with_flip program s.flip (members_at f.sets.items s.rec) lines in
-    held_on (g.L.LineStore.holds now.lines) program (drop c.previous_step.new.self.place program.steps) (g.T.Tracker.tracked c.collapse-in-CollapseWord.new.tracker) now.sets.items made now.latest.items now.left
+    held_on now.wanted (g.L.LineStore.holds now.lines) program (drop c.previous_step.new.self.place program.steps) (g.T.Tracker.tracked c.collapse-in-CollapseWord.new.tracker) now.sets.items made now.latest.items now.left
     (gone_over program walk.place c.previous_step.new.self.place (listed program.qubits program.products step) (g.T.Tracker.tracked c.collapse-in-CollapseWord.new.tracker) now.sets.items made now.latest.items now.left at c.previous_step.ensures.place
     (passed-collapse program rest tracked f.sets.items lines f.latest.items f.left c.requires.passed.0 c.well_formed-2.ensures (later_fit program walk.place c.well_formed-2.ensures.steps_fit) terms None s.rec s.inverted s.flip (listing.Word (word_of_terms program.qubits product))
     (g.T.Tracker.tracked c.collapse-in-CollapseWord.new.tracker) now.sets.items made lines now.latest.items now.left
@@ -204,7 +204,7 @@ returns-in_ok-fault-in-Fault-clause-passed g c =
     let now = c.fault.new.found in
     let e = c.in_ok-fault-in-Fault.ensures in
     let made : List ErrorLine = with_line (kept_at program s.name.entry).text (anticommuting (kept_at program s.name.entry).terms tracked) lines in
-    held_on (g.L.LineStore.holds now.lines) program (drop c.previous_step.new.self.place program.steps) (g.T.Tracker.tracked c.fault.new.tracker) now.sets.items made now.latest.items now.left
+    held_on now.wanted (g.L.LineStore.holds now.lines) program (drop c.previous_step.new.self.place program.steps) (g.T.Tracker.tracked c.fault.new.tracker) now.sets.items made now.latest.items now.left
     (gone_over program walk.place c.previous_step.new.self.place (listed program.qubits program.products step) (g.T.Tracker.tracked c.fault.new.tracker) now.sets.items made now.latest.items now.left at c.previous_step.ensures.place
     (passed-fault program rest tracked f.sets.items lines f.latest.items f.left c.requires.passed.0 c.well_formed-2.ensures s.name (g.T.Tracker.tracked c.fault.new.tracker) now.sets.items made lines now.latest.items now.left named refl e.words e.sets refl e.latest e.left))
     (e.lines lines c.requires.passed.1)
@@ -225,7 +225,9 @@ returns-in_ok-feedback-in-Feedback-clause-passed g c =
     let now = c.feedback.new.found in
     let e = c.in_ok-feedback-in-Feedback.ensures in
     let made : List ErrorLine = lines in
-    held_on (g.L.LineStore.holds now.lines) program (drop c.previous_step.new.self.place program.steps) (g.T.Tracker.tracked c.feedback.new.tracker) now.sets.items made now.latest.items now.left
+    held_on now.wanted (g.L.LineStore.holds now.lines) program (drop c.previous_step.new.self.place program.steps) (g.T.Tracker.tracked c.feedback.new.tracker) now.sets.items made now.latest.items now.left
     (gone_over program walk.place c.previous_step.new.self.place (listed program.qubits program.products step) (g.T.Tracker.tracked c.feedback.new.tracker) now.sets.items made now.latest.items now.left at c.previous_step.ensures.place
     (passed-feedback program rest tracked f.sets.items lines f.latest.items f.left c.requires.passed.0 s.letter s.q s.rec (g.T.Tracker.tracked c.feedback.new.tracker) now.sets.items made lines now.latest.items now.left named.2 refl e.words e.sets refl e.latest e.left))
-    (subst (λ store. g.L.LineStore.holds store lines) (sym e.lines) c.requires.passed.1)
+    (subst (λ wanted. HeldOrNoted wanted (g.L.LineStore.holds now.lines) now.latest.items lines) (sym e.wanted)
+    (subst (λ store. HeldOrNoted f.wanted (g.L.LineStore.holds store) now.latest.items lines) (sym e.lines)
+    (subst (λ places. HeldOrNoted f.wanted (g.L.LineStore.holds f.lines) places lines) (sym e.latest) c.requires.passed.1)))
