@@ -1,6 +1,7 @@
 pub mod ColumnLemmas
 mod HeldLines
 pub mod Judging
+mod LinkLemmas
 pub mod LoneTerms
 pub mod MultiplyLemmas
 mod NumberedLemmas

@@ -14,7 +14,7 @@ use Rattle.step_model.specs.Targets.{targets_of, target_at, is_listed}
 use Rattle.backward.specs.Collapses.{toggled, toggled_each}
 use Rattle.backward.specs.Passes.{sensitivity_before, listing_set, listing_sets}
 use Rattle.backward.specs.RecordSets.{toggled_in, toggled_in_each}
-use Rattle.backward.proofs.RangeLemmas.{listed_in_range, set-map-range, map_agree}
+use Rattle.backward.proofs.RangeLemmas.{listed_in_range, set-map-range, map_agree, map_range_below}
 
 and_same : (a b : Bool) → b ≡ true → a ≡ (a && b)
 and_same false b h = refl
@@ -97,13 +97,13 @@ listing_sets-feedback program w r steps within =
         ∙ added_one (anticommutes d) s (sensitivity_before program steps d).records)
         (range_with_len 0 (target_count program))
 
--- ---- the sets from the lists: those of the targets from t on have been gone through
-abbrev pub listed_from : Listing → ℕ → ℕ → ℕ → Bool
-listed_from program t r d = not (nat_lt d t) && is_listed (target_at program d) r
+-- ---- the sets from the lists: those of the targets below t have been gone through
+abbrev pub listed_below : Listing → ℕ → ℕ → ℕ → Bool
+listed_below program t r d = nat_lt d t && is_listed (target_at program d) r
 
-abbrev pub listing_from : Listing → ℕ → List (List Bool)
-listing_from program t =
-    map (λ r. map (listed_from program t r) (range_with_len 0 (length (targets_of program)))) (range_with_len 0 program.records)
+abbrev pub listing_below : Listing → ℕ → List (List Bool)
+listing_below program t =
+    map (λ r. map (listed_below program t r) (range_with_len 0 (length (targets_of program)))) (range_with_len 0 program.records)
 
 pub length-toggled_in_each : (t : ℕ) (named : List ℕ) (sets : List (List Bool)) → length (toggled_in_each t named sets) ≡ length sets
 length-toggled_in_each t [] sets = refl
@@ -169,58 +169,58 @@ toggled_in_long t (r ∷ named) sets m s h long =
     size : length (toggled_in t r sets) ≡ length sets
     size = length-set sets r (toggled t (get_or sets r []))
 
-pub listing_from-rows : (program : Listing) (t r : ℕ) → r < program.records → get_or (listing_from program t) r [] ≡ map (listed_from program t r) (range_with_len 0 (length (targets_of program)))
-listing_from-rows program t r h = get_or-map-range_with_len (λ r. map (listed_from program t r) (range_with_len 0 (target_count program))) 0 program.records r r [] h (omega arith)
+pub listing_below-rows : (program : Listing) (t r : ℕ) → r < program.records → get_or (listing_below program t) r [] ≡ map (listed_below program t r) (range_with_len 0 (length (targets_of program)))
+listing_below-rows program t r h = get_or-map-range_with_len (λ r. map (listed_below program t r) (range_with_len 0 (target_count program))) 0 program.records r r [] h (omega arith)
 
-pub length-listing_from : (program : Listing) (t : ℕ) → length (listing_from program t) ≡ program.records
-length-listing_from program t = length-map-range_with_len (λ r. map (listed_from program t r) (range_with_len 0 (target_count program))) 0 program.records
+pub length-listing_below : (program : Listing) (t : ℕ) → length (listing_below program t) ≡ program.records
+length-listing_below program t = length-map-range_with_len (λ r. map (listed_below program t r) (range_with_len 0 (target_count program))) 0 program.records
 
-pub listing_from-long : (program : Listing) (t r : ℕ) → r < program.records → length (get_or (listing_from program t) r []) ≡ length (targets_of program)
-listing_from-long program t r h = ap length (listing_from-rows program t r h) ∙ length-map-range_with_len (listed_from program t r) 0 (target_count program)
+pub listing_below-long : (program : Listing) (t r : ℕ) → r < program.records → length (get_or (listing_below program t) r []) ≡ length (targets_of program)
+listing_below-long program t r h = ap length (listing_below-rows program t r h) ∙ length-map-range_with_len (listed_below program t r) 0 (target_count program)
 
 -- one target more
-pub listing_from-more : (program : Listing) (t : ℕ) → t < length (targets_of program) → toggled_in_each t (target_at program t) (listing_from program (t + 1)) ≡ listing_from program t
-listing_from-more program t within =
-    rows_same program (toggled_in_each t (target_at program t) before) (listed_from program t)
+pub listing_below-more : (program : Listing) (t : ℕ) → t < length (targets_of program) → toggled_in_each t (target_at program t) (listing_below program t) ≡ listing_below program (t + 1)
+listing_below-more program t within =
+    rows_same program (toggled_in_each t (target_at program t) before) (listed_below program (t + 1))
     (length-toggled_in_each t (target_at program t) before ∙ size)
-    (λ r lt. toggled_in_long t (target_at program t) before (target_count program) r (omega (arith, lt, size)) (λ k below. listing_from-long program (t + 1) k (omega (arith, below, size))))
+    (λ r lt. toggled_in_long t (target_at program t) before (target_count program) r (omega (arith, lt, size)) (λ k below. listing_below-long program t k (omega (arith, below, size))))
     (λ r d lt below.
-    toggled_in_at t r (target_at program t) before d (omega (arith, lt, size)) (omega (arith, below, listing_from-long program (t + 1) r lt))
+    toggled_in_at t r (target_at program t) before d (omega (arith, lt, size)) (omega (arith, below, listing_below-long program t r lt))
     ∙ (ap (exclusive_or ((t == d) && is_listed (target_at program t) r))
-    (ap (λ row. get_or row d false) (listing_from-rows program (t + 1) r lt)
-    ∙ get_or-map-range_with_len (listed_from program (t + 1) r) 0 (target_count program) d d false below (omega arith))
+    (ap (λ row. get_or row d false) (listing_below-rows program t r lt)
+    ∙ get_or-map-range_with_len (listed_below program t r) 0 (target_count program) d d false below (omega arith))
     ∙ by_order r d))
   where
     before : List (List Bool)
-    before = listing_from program (t + 1)
+    before = listing_below program t
 
     size : length before ≡ program.records
-    size = length-listing_from program (t + 1)
+    size = length-listing_below program t
 
-    by_order : (r d : ℕ) → exclusive_or ((t == d) && is_listed (target_at program t) r) (listed_from program (t + 1) r d) ≡ listed_from program t r d
+    by_order : (r d : ℕ) → exclusive_or ((t == d) && is_listed (target_at program t) r) (listed_below program t r d) ≡ listed_below program (t + 1) r d
     by_order r d =
-        elim (cases_eq t d) as (λ _. exclusive_or ((t == d) && is_listed (target_at program t) r) (listed_from program (t + 1) r d) ≡ listed_from program t r d) [
+        elim (cases_eq t d) as (λ _. exclusive_or ((t == d) && is_listed (target_at program t) r) (listed_below program t r d) ≡ listed_below program (t + 1) r d) [
           | inl e ↦
-              ap₂ (λ b c. exclusive_or (b && is_listed (target_at program t) r) (not c && is_listed (target_at program d) r)) (eq-eqb t d e) (lt-ltb d (t + 1) (omega (arith, e)))
+              ap₂ (λ b c. exclusive_or (b && is_listed (target_at program t) r) (c && is_listed (target_at program d) r)) (eq-eqb t d e) (le-ltb d t (omega (arith, e)))
               ∙ (exclusive_or-false (is_listed (target_at program t) r)
-              ∙ (ap (λ k. is_listed (target_at program k) r) e ∙ ap (λ b. not b && is_listed (target_at program d) r) (sym (le-ltb d t (omega (arith, e))))))
+              ∙ (ap (λ k. is_listed (target_at program k) r) e ∙ ap (λ b. b && is_listed (target_at program d) r) (sym (lt-ltb d (t + 1) (omega (arith, e))))))
           | inr ne ↦
-              ap (λ b. exclusive_or (b && is_listed (target_at program t) r) (listed_from program (t + 1) r d)) (ne_eqb t d ne)
-              ∙ elim (cases_lt d t) as (λ _. listed_from program (t + 1) r d ≡ listed_from program t r d) [
-                | inl lt ↦ ap₂ (λ b c. not b && c) (lt-ltb d (t + 1) (omega (arith, lt))) refl ∙ sym (ap (λ b. not b && is_listed (target_at program d) r) (lt-ltb d t lt))
-                | inr le ↦ ap (λ b. not b && is_listed (target_at program d) r) (le-ltb d (t + 1) (omega (arith, le, ne))) ∙ sym (ap (λ b. not b && is_listed (target_at program d) r) (le-ltb d t le))
+              ap (λ b. exclusive_or (b && is_listed (target_at program t) r) (listed_below program t r d)) (ne_eqb t d ne)
+              ∙ elim (cases_lt d t) as (λ _. listed_below program t r d ≡ listed_below program (t + 1) r d) [
+                | inl lt ↦ ap (λ b. b && is_listed (target_at program d) r) (lt-ltb d t lt ∙ sym (lt-ltb d (t + 1) (omega (arith, lt))))
+                | inr le ↦ ap (λ b. b && is_listed (target_at program d) r) (le-ltb d t le ∙ sym (le-ltb d (t + 1) (omega (arith, le, ne))))
               ]
         ]
 
 -- before any target, and after all
-pub listing_from-none : (program : Listing) (sets : List (List Bool)) → sets ≡ replicate program.records (replicate (length (targets_of program)) false) → sets ≡ listing_from program (length (targets_of program))
-listing_from-none program sets e =
-    e ∙ rows_same program empty (listed_from program (target_count program))
+pub listing_below-none : (program : Listing) → replicate program.records (replicate (length (targets_of program)) false) ≡ listing_below program 0
+listing_below-none program =
+    rows_same program empty (listed_below program 0)
     (length-replicate program.records (replicate (target_count program) false))
     (λ r lt. ap length (row r lt) ∙ length-replicate (target_count program) false)
     (λ r d lt below. ap (λ bits. get_or bits d false) (row r lt)
     ∙ (get_or-replicate (target_count program) d false false below
-    ∙ ap (λ b. not b && is_listed (target_at program d) r) (sym (lt-ltb d (target_count program) below))))
+    ∙ ap (λ b. b && is_listed (target_at program d) r) (sym (le-ltb d 0 (omega arith)))))
   where
     empty : List (List Bool)
     empty = replicate program.records (replicate (target_count program) false)
@@ -228,26 +228,19 @@ listing_from-none program sets e =
     row : (r : ℕ) → r < program.records → get_or empty r [] ≡ replicate (target_count program) false
     row r lt = get_or-replicate program.records r (replicate (target_count program) false) [] lt
 
-pub listing_from-all : (program : Listing) → listing_from program 0 ≡ listing_sets program []
-listing_from-all program =
-    map_agree (λ r. map (listed_from program 0 r) (range_with_len 0 (target_count program))) (listing_set program [])
-    (λ r. map_agree (listed_from program 0 r) (λ d. is_listed (target_at program d) r)
-    (λ d. ap (λ b. not b && is_listed (target_at program d) r) (le-ltb d 0 (omega arith)))
-    (range_with_len 0 (target_count program)))
+pub listing_below-all : (program : Listing) → listing_below program (length (targets_of program)) ≡ listing_sets program []
+listing_below-all program =
+    map_agree (λ r. map (listed_below program (target_count program) r) (range_with_len 0 (target_count program))) (listing_set program [])
+    (λ r. map_range_below (listed_below program (target_count program) r) (λ d. is_listed (target_at program d) r) 0 (target_count program)
+    (λ d lt. ap (λ b. b && is_listed (target_at program d) r) (lt-ltb d (target_count program) (omega (arith, lt)))))
     (range_with_len 0 program.records)
 
 -- ---- what a loop over the targets needs
-pub sets_take_targets : (program : Listing) (t n : ℕ) (sets : List (List Bool)) → sets ≡ listing_from program n → t < length (targets_of program) → All (λ set. t < length set) sets
-sets_take_targets program t n sets e h k d lt =
-    let within : k < program.records = omega (arith, lt, ap length e, length-listing_from program n) in
-    let read : get_or sets k d ≡ get_or (listing_from program n) k [] = ap (λ s. get_or s k d) e ∙ get_or_default (listing_from program n) k d [] (omega (arith, within, length-listing_from program n)) in
-    omega (arith, h, ap length read, listing_from-long program n k within)
-
-pub records_within : (program : Listing) (t n : ℕ) (named : List ℕ) (sets : List (List Bool)) → All (All (λ r. r < program.records)) (targets_of program) → t < length (targets_of program) → named ≡ target_at program t → sets ≡ listing_from program n → All (λ r. r < length sets) named
-records_within program t n named sets all h is e k d lt =
+pub records_within : (program : Listing) (t : ℕ) (named places : List ℕ) → All (All (λ r. r < program.records)) (targets_of program) → t < length (targets_of program) → named ≡ target_at program t → length places ≡ program.records → All (λ r. r < length places) named
+records_within program t named places all h is e k d lt =
     let fits : All (λ r. r < program.records) named = subst (All (λ r. r < program.records)) (sym is) (all t [] h) in
     let low = fits k d lt in
-    omega (arith, low, ap length e, length-listing_from program n)
+    omega (arith, low, e)
 
 -- ---- sizes
 pub length-listing_sets : (program : Listing) (steps : List ListedStep) → length (listing_sets program steps) ≡ program.records

@@ -133,12 +133,12 @@ xor_front t x xs h =
     ap₂ (λ b c. if b then t ∷ x ∷ xs else (if c then x ∷ xor_sets (t ∷ []) xs else xs))
     (le-ltb x t (omega (arith, h))) (lt-ltb t x h)
 
-xor_same : (t x : ℕ) (xs : List ℕ) → x ≡ t → xor_sets (t ∷ []) (x ∷ xs) ≡ xs
+pub xor_same : (t x : ℕ) (xs : List ℕ) → x ≡ t → xor_sets (t ∷ []) (x ∷ xs) ≡ xs
 xor_same t x xs h =
     ap₂ (λ b c. if b then t ∷ x ∷ xs else (if c then x ∷ xor_sets (t ∷ []) xs else xs))
     (le-ltb x t (omega (arith, h))) (le-ltb t x (omega (arith, h)))
 
-xor_before : (t x : ℕ) (xs : List ℕ) → x < t → xor_sets (t ∷ []) (x ∷ xs) ≡ t ∷ x ∷ xs
+pub xor_before : (t x : ℕ) (xs : List ℕ) → x < t → xor_sets (t ∷ []) (x ∷ xs) ≡ t ∷ x ∷ xs
 xor_before t x xs h =
     ap (λ b. if b then t ∷ x ∷ xs else (if nat_lt t x then x ∷ xor_sets (t ∷ []) xs else xs)) (lt-ltb x t h)
 

@@ -1,4 +1,5 @@
 pub mod Collapses
+pub mod Links
 pub mod Numbered
 pub mod Passes
 pub mod Places

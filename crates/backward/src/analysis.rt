@@ -9,7 +9,7 @@ ghost use Rattle.backward.specs.Tracked.{fresh};
 use crate::line_store::{LineStore, ModelStore, TextStore};
 use crate::pass::{Found, step_back};
 use crate::places::{lowest_at_start, lowest_random, none_noted};
-use crate::record_sets::record_sets;
+use crate::record_sets::RecordSets;
 use crate::targets::target_count;
 use crate::tracker::Tracker;
 use dem_text::{LinesText, Model};
@@ -144,7 +144,7 @@ fn go_back_and_judge<'s, 'a, A: Allocator + Copy, T: Tracker, L: LineStore + Dro
     program.well_formed();
     let mut found = nothing_found(alloc, program, lines)?;
     go_back(program, tracker, &mut found)?;
-    let lowest = judge(*alloc, program, tracker, &mut found)?;
+    let lowest = judge(alloc, program, tracker, &mut found)?;
     Ok(Judged {
         lines: found.lines,
         lowest,
@@ -158,10 +158,10 @@ fn nothing_found<'s, 'a, A: Allocator + Copy, L: LineStore + Drop>(
     lines: L,
 ) -> Result<Found<'s, A, L>, AllocError>
     requires { L.holds lines [] }
-    ensures passed { IfOk result (λ found. IsPassedWith found.wanted (L.holds found.lines) program.now [] (fresh program.now.qubits (length (targets_of program.now))) found.sets.items found.latest.items found.left) }
+    ensures passed { IfOk result (λ found. IsPassedWith found.wanted (L.holds found.lines) program.now [] (fresh program.now.qubits (length (targets_of program.now))) found.sets found.latest.items found.left) }
     ensures lines { IfOk result (λ found. found.lines ≡ lines) }
 {
-    let sets = record_sets(alloc, program)?;
+    let sets = RecordSets::new(alloc, program)?;
     let latest = none_noted(*alloc, target_count(program))?;
     Ok(Found {
         sets,
@@ -175,12 +175,12 @@ fn nothing_found<'s, 'a, A: Allocator + Copy, L: LineStore + Drop>(
 
 // The lowest target that is random, by what was found over all steps.
 fn judge<'s, 'a, A: Allocator + Copy, T: Tracker, L: LineStore>(
-    alloc: A,
+    alloc: &'s A,
     program: &Program<'a, A>,
     tracker: &mut T,
     found: &mut Found<'s, A, L>,
 ) -> Result<Option<(u32, Place)>, AllocError>
-    requires { IsPassedWith found.old.wanted (L.holds found.old.lines) program.now program.now.steps (T.tracked tracker.old) found.old.sets.items found.old.latest.items found.old.left }
+    requires { IsPassedWith found.old.wanted (L.holds found.old.lines) program.now program.now.steps (T.tracked tracker.old) found.old.sets found.old.latest.items found.old.left }
     ensures none { IfOk result (λ lowest. IfNone lowest (NoneIsRandom program.now)) }
     ensures lowest { IfOk result (λ lowest. IfSome lowest (λ random. IsLowestRandom program.now random.0 random.1)) }
     ensures lines { IfOk result (λ lowest. IfNone lowest (L.holds found.old.lines (lines_found program.now program.now.steps))) }
@@ -189,8 +189,8 @@ fn judge<'s, 'a, A: Allocator + Copy, T: Tracker, L: LineStore>(
     program.well_formed();
     let _few = target_count(program);
     // No step is left, so that what comes may have the room of the sets.
-    found.sets = Vec::new(alloc);
-    let lowest = lowest_at_start(alloc, program, tracker, &mut found.hit)?;
+    found.sets = RecordSets::none(alloc);
+    let lowest = lowest_at_start(*alloc, program, tracker, &mut found.hit)?;
     match lowest_random(found.latest.as_slice(), lowest.as_slice()) {
         Some((which, place)) => Ok(Some((which, place))),
         None => Ok(None),
@@ -204,8 +204,8 @@ fn go_back<'s, 'a, A: Allocator + Copy, T: Tracker, L: LineStore>(
     found: &mut Found<'s, A, L>,
 ) -> Result<(), AllocError>
     requires store { L.program found.old.lines ≡ program.now }
-    requires passed { IsPassedWith found.old.wanted (L.holds found.old.lines) program.now [] (T.tracked tracker.old) found.old.sets.items found.old.latest.items found.old.left }
-    ensures passed { OnOk result (IsPassedWith found.new.wanted (L.holds found.new.lines) program.now program.now.steps (T.tracked tracker.new) found.new.sets.items found.new.latest.items found.new.left) }
+    requires passed { IsPassedWith found.old.wanted (L.holds found.old.lines) program.now [] (T.tracked tracker.old) found.old.sets found.old.latest.items found.old.left }
+    ensures passed { OnOk result (IsPassedWith found.new.wanted (L.holds found.new.lines) program.now program.now.steps (T.tracked tracker.new) found.new.sets found.new.latest.items found.new.left) }
     ensures store { L.program found.new.lines ≡ L.program found.old.lines }
 {
     let mut walk = Walk::end(program);

@@ -9,6 +9,7 @@ mod line_store;
 mod pairs;
 mod pass;
 mod places;
+mod record_lists;
 mod record_sets;
 mod sparse_set;
 mod target_set;

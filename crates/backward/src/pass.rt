@@ -11,9 +11,7 @@ ghost use Rattle.backward.specs.Tracked.{anticommuting};
 use crate::collapse::undo_collapse;
 use crate::line_store::LineStore;
 use crate::places::note;
-use crate::record_sets::toggle_each;
-use crate::sparse_set::SparseSet;
-use crate::target_set::TargetSet;
+use crate::record_sets::RecordSets;
 use crate::targets::target_count;
 use crate::tracker::Tracker;
 use programs::{FaultName, Program, Step, Walk};
@@ -26,7 +24,7 @@ use step_model::Term;
 /// Lines are `wanted` until something is noted in `latest`: that target is random, so that no lines are answered.
 #[derive(Drop)]
 pub(crate) struct Found<'s, A: Allocator + Copy, L> {
-    pub(crate) sets: Vec<SparseSet<'s, A>, A>,
+    pub(crate) sets: RecordSets<'s, A>,
     pub(crate) lines: L,
     pub(crate) wanted: bool,
     pub(crate) latest: Vec<Option<u32>, A>,
@@ -44,11 +42,11 @@ pub(crate) fn step_back<'s, 'p, 'a, A: Allocator + Copy, T: Tracker, L: LineStor
     requires program { walk.old.program ≡ program.now }
     requires within { walk.old.place ≤ length program.now.steps }
     requires store { L.program found.old.lines ≡ program.now }
-    requires passed { IsPassedWith found.old.wanted (L.holds found.old.lines) program.now (drop walk.old.place program.now.steps) (T.tracked tracker.old) found.old.sets.items found.old.latest.items found.old.left }
+    requires passed { IsPassedWith found.old.wanted (L.holds found.old.lines) program.now (drop walk.old.place program.now.steps) (T.tracked tracker.old) found.old.sets found.old.latest.items found.old.left }
     ensures program { walk.new.program ≡ walk.old.program }
     ensures place { walk.new.place ≡ walk.old.place - 1 }
     ensures more { IfOk result (λ more. more ≡ not (walk.old.place == 0)) }
-    ensures passed { OnOk result (IsPassedWith found.new.wanted (L.holds found.new.lines) program.now (drop walk.new.place program.now.steps) (T.tracked tracker.new) found.new.sets.items found.new.latest.items found.new.left) }
+    ensures passed { OnOk result (IsPassedWith found.new.wanted (L.holds found.new.lines) program.now (drop walk.new.place program.now.steps) (T.tracked tracker.new) found.new.sets found.new.latest.items found.new.left) }
     ensures store { L.program found.new.lines ≡ L.program found.old.lines }
 {
     program.well_formed();
@@ -113,16 +111,16 @@ fn collapse<'s, 'a, A: Allocator + Copy, T: Tracker, L: LineStore>(
     tracker: &mut T,
     found: &mut Found<'s, A, L>,
 ) -> Result<(), AllocError>
-    requires size { IsOfSize program.now (T.tracked tracker.old) found.old.sets.items found.old.latest.items }
+    requires size { IsOfSize program.now (T.tracked tracker.old) found.old.sets found.old.latest.items }
     requires terms { All (λ term. term.qubit < program.now.qubits) terms.now }
     requires reset { IfSome reset (λ q. q < program.now.qubits) }
     requires rec { IsRecord program.now rec }
     requires flip { IsNamedFlip program.now flip }
     requires left { 0 < found.old.left }
     requires store { L.program found.old.lines ≡ program.now }
-    ensures words { OnOk result (T.tracked tracker.new ≡ undone_collapse (members_at found.old.sets.items rec) terms.now reset (T.tracked tracker.old)) }
-    ensures sets { OnOk result (found.new.sets.items ≡ found.old.sets.items) }
-    ensures lines { OnOk result ((lines : List ErrorLine) → HeldOrNoted found.old.wanted (L.holds found.old.lines) found.old.latest.items lines → HeldOrNoted found.new.wanted (L.holds found.new.lines) found.new.latest.items (with_flip program.now flip (members_at found.old.sets.items rec) lines)) }
+    ensures words { OnOk result (T.tracked tracker.new ≡ undone_collapse (members_at found.old.sets rec) terms.now reset (T.tracked tracker.old)) }
+    ensures sets { OnOk result (found.new.sets ≡ found.old.sets) }
+    ensures lines { OnOk result ((lines : List ErrorLine) → HeldOrNoted found.old.wanted (L.holds found.old.lines) found.old.latest.items lines → HeldOrNoted found.new.wanted (L.holds found.new.lines) found.new.latest.items (with_flip program.now flip (members_at found.old.sets rec) lines)) }
     ensures store { L.program found.new.lines ≡ L.program found.old.lines }
     ensures latest { OnOk result (found.new.latest.items ≡ noted (found.old.left - 1) (anticommuting terms.now (T.tracked tracker.old)) found.old.latest.items) }
     ensures left { OnOk result (found.new.left ≡ found.old.left - 1) }
@@ -145,17 +143,17 @@ fn collapse<'s, 'a, A: Allocator + Copy, T: Tracker, L: LineStore>(
 // Puts into `hit` the targets that list a record.
 fn list_record<'s, 'a, A: Allocator + Copy>(
     program: &Program<'a, A>,
-    sets: &Vec<SparseSet<'s, A>, A>,
+    sets: &RecordSets<'s, A>,
     rec: Option<u32>,
     hit: &mut Vec<u32, A>,
 ) -> Result<(), AllocError>
-    requires rec { IfSome rec (λ r. r < length sets.now.items) }
-    requires long { All (λ set. length set ≡ length (targets_of program.now)) sets.now.items }
-    ensures { OnOk result (hit.new.items ≡ members_at sets.now.items rec) }
+    requires rec { IfSome rec (λ r. r < length sets.now) }
+    requires long { All (λ set. length set ≡ length (targets_of program.now)) sets.now }
+    ensures { OnOk result (hit.new.items ≡ members_at sets.now rec) }
 {
     let _few = target_count(program);
     match rec {
-        Some(r) => sets[r as usize].list(hit),
+        Some(r) => sets.list(r as usize, hit),
         None => {
             hit.clear();
             Ok(())
@@ -215,7 +213,7 @@ fn fault<'s, 'a, A: Allocator + Copy, T: Tracker, L: LineStore>(
     requires words { length (T.tracked tracker.old).words ≡ length (targets_of program.now) }
     requires store { L.program found.old.lines ≡ program.now }
     ensures words { OnOk result (T.tracked tracker.new ≡ T.tracked tracker.old) }
-    ensures sets { OnOk result (found.new.sets.items ≡ found.old.sets.items) }
+    ensures sets { OnOk result (found.new.sets ≡ found.old.sets) }
     ensures lines { OnOk result ((lines : List ErrorLine) → HeldOrNoted found.old.wanted (L.holds found.old.lines) found.old.latest.items lines → HeldOrNoted found.new.wanted (L.holds found.new.lines) found.new.latest.items (with_line (kept_at program.now name.entry).text (anticommuting (kept_at program.now name.entry).terms (T.tracked tracker.old)) lines)) }
     ensures store { L.program found.new.lines ≡ L.program found.old.lines }
     ensures latest { OnOk result (found.new.latest.items ≡ found.old.latest.items) }
@@ -238,16 +236,18 @@ fn feedback<'s, 'a, A: Allocator + Copy, T: Tracker, L: LineStore>(
     tracker: &mut T,
     found: &mut Found<'s, A, L>,
 ) -> Result<(), AllocError>
-    requires size { IsOfSize program.now (T.tracked tracker.old) found.old.sets.items found.old.latest.items }
+    requires size { IsOfSize program.now (T.tracked tracker.old) found.old.sets found.old.latest.items }
     requires term { term.qubit < program.now.qubits }
     requires rec { rec < program.now.records }
     ensures words { OnOk result (T.tracked tracker.new ≡ T.tracked tracker.old) }
-    ensures sets { OnOk result (found.new.sets.items ≡ slice_set found.old.sets.items rec (toggled_each (anticommuting (term ∷ []) (T.tracked tracker.old)) (slice_index_or found.old.sets.items rec []))) }
+    ensures sets { OnOk result (found.new.sets ≡ slice_set found.old.sets rec (toggled_each (anticommuting (term ∷ []) (T.tracked tracker.old)) (slice_index_or found.old.sets rec []))) }
     ensures lines { found.new.lines ≡ found.old.lines }
     ensures wanted { found.new.wanted ≡ found.old.wanted }
     ensures latest { OnOk result (found.new.latest.items ≡ found.old.latest.items) }
     ensures left { OnOk result (found.new.left ≡ found.old.left) }
 {
     tracker.hit(&[term], &mut found.hit)?;
-    toggle_each(&mut found.sets[rec as usize], found.hit.as_slice())
+    found
+        .sets
+        .toggle_each(rec as usize, found.hit.as_slice())
 }

@@ -22,19 +22,19 @@ note-requires g c =
 pub note_flip-requires-clause-named : goal.note_flip-requires-clause-named
 note_flip-requires-clause-named g c =
     let program = c.args.program.now in
-    let sets = c.args.found.now.sets.items in
+    let sets = c.args.found.now.sets in
     subst (All (λ t. t < length (targets_of program))) (sym (c.as_slice-2.ensures.value ∙ c.in_ok-list_record.ensures))
     (members_at-within sets c.args.rec (length (targets_of program))
     (record_has_set c.args.rec program.records (length sets) c.requires.size.sets (record_named program c.args.rec c.requires.rec)) c.requires.size.sets_long)
 
 pub undo_collapse-requires-clause-ascending : goal.undo_collapse-requires-clause-ascending
 undo_collapse-requires-clause-ascending g c =
-    subst IsStrictlyIncreasing (sym (c.as_slice-3.ensures.value ∙ c.in_ok-list_record.ensures)) (members_at-ascend c.args.found.now.sets.items c.args.rec)
+    subst IsStrictlyIncreasing (sym (c.as_slice-3.ensures.value ∙ c.in_ok-list_record.ensures)) (members_at-ascend c.args.found.now.sets c.args.rec)
 
 pub undo_collapse-requires-clause-named : goal.undo_collapse-requires-clause-named
 undo_collapse-requires-clause-named g c =
     let program = c.args.program.now in
-    let sets = c.args.found.now.sets.items in
+    let sets = c.args.found.now.sets in
     let count = ap (λ t. length t.words) c.in_ok-hit.ensures.same ∙ c.requires.size.words in
     subst (λ n. All (λ t. t < n) c.as_slice-3.result.now) (sym count)
     (subst (All (λ t. t < length (targets_of program))) (sym (c.as_slice-3.ensures.value ∙ c.in_ok-list_record.ensures))
@@ -67,7 +67,7 @@ returns-clause-lines g c =
       | else-found w ↦ w.found-is ∙ (w.if-found.false ∙ ap (λ wanted. wanted && (length hit == 0)) (sym w.if-found.false))
     ] in
     on_ok_weaker c.undo_collapse.result
-    (λ h lines held. subst (λ places. HeldOrNoted c.if-found.found (holds c.note_flip.new.lines) places (with_flip program c.args.flip (members_at f.sets.items c.args.rec) lines))
+    (λ h lines held. subst (λ places. HeldOrNoted c.if-found.found (holds c.note_flip.new.lines) places (with_flip program c.args.flip (members_at f.sets c.args.rec) lines))
     (sym (c.note.ensures ∙ ap (λ named. noted (f.left - 1) named f.latest.items) c.as_slice.ensures.value))
     (held_over_collapse f.wanted c.if-found.found (f.left - 1) hit f.latest.items (holds f.lines) (holds c.note_flip.new.lines) lines _ still within held
     (λ wanted given. subst (λ named. holds c.note_flip.new.lines (with_flip program c.args.flip named lines)) targets (c.in_ok-note_flip.ensures.lines lines wanted given))))

@@ -1,0 +1,56 @@
+use Rattle.std.proofs.Common.{◌≡◌, ◌+◌, [], ℕ, List, length, false, refl, ap, ap₂, subst, sym, ◌∙◌, arith}
+use Rattle.std.specs.Prelude.{replicate}
+use Rattle.std.proofs.lemmas.List.{length-map}
+use Rattle.backward.specs.declared.record_lists.Link.{Link}
+use Rattle.backward.specs.Links.{list_at, rows_at, AreLists}
+use Rattle.step_model.specs.Targets.{targets_of}
+use Rattle.backward.specs.RecordSets.{toggled_in_each}
+use Rattle.backward.specs.Sets.{row_of_set}
+use Rattle.backward.proofs.LinkLemmas.{no_lists, no_rows}
+use Rattle.backward.proofs.PassSets.{listing_below, length-listing_below, listing_below-none, listing_below-more, listing_below-all, records_within}
+use Rattle.backward.proofs.record_lists.RecordLists.new.Goals as goal
+
+pub loop-t-init : goal.loop-t-init
+loop-t-init g c =
+    let program = c.args.program.now in
+    let records = program.records in
+    let targets = c.target_count-targets.result in
+    let none : c.in_ok-links.links.items ≡ [] = c.in_ok-links.ensures.items in
+    let zeros : c.in_ok-places.places.items ≡ replicate records 0 =
+    c.in_ok-places.ensures.items_if_clones_equal (λ y h. h) ∙ ap (λ n. replicate n 0) c.record_count.ensures in
+    record {
+      lists = subst (λ (links : List Link). AreLists 0 links c.in_ok-places.places.items) (sym none) (subst (AreLists 0 []) (sym zeros) (no_lists 0 records));
+      rows =
+          ap₂ (rows_at targets) none zeros
+          ∙ (no_rows targets records
+          ∙ (ap (λ (n : ℕ). replicate records (replicate n false)) c.target_count-targets.ensures.count ∙ listing_below-none program));
+    }
+
+pub toggle_in_each-requires-clause-named : goal.toggle_in_each-requires-clause-named
+toggle_in_each-requires-clause-named g c =
+    let program = c.args.program.now in
+    let links = c.loop-t.links.items in
+    let places = c.loop-t.places.items in
+    let t = c.loop-t.t in
+    let long : length places ≡ program.records =
+    sym (length-map places (λ k. row_of_set c.target_count-targets.result (list_at links k))) ∙ (ap length c.loop-t.invariant.rows ∙ length-listing_below program t) in
+    records_within program t c.target.result.now places c.target_count-targets.ensures.records (omega (arith, c.loop-t-test.true, c.target_count-targets.ensures.count)) c.target.ensures long
+
+pub loop-t-preserved : goal.loop-t-preserved
+loop-t-preserved g c =
+    let program = c.args.program.now in
+    let t = c.loop-t.t in
+    let below = c.loop-t-test.true in
+    record {
+      lists = c.in_ok-toggle_in_each.ensures.lists;
+      rows =
+          c.in_ok-toggle_in_each.ensures.rows c.target_count-targets.result below
+          ∙ (ap₂ (toggled_in_each t) c.target.ensures c.loop-t.invariant.rows
+          ∙ listing_below-more program t (omega (arith, below, c.target_count-targets.ensures.count)));
+    }
+
+pub returns : goal.returns
+returns g c =
+    let program = c.args.program.now in
+    let done : c.loop-t.t ≡ length (targets_of program) = omega (arith, c.loop-t-test.false, c.loop-t.auto.t-end, c.target_count-targets.ensures.count) in
+    c.loop-t.invariant.rows ∙ (ap (listing_below program) done ∙ listing_below-all program)

@@ -1,0 +1,40 @@
+-- Lists of targets as links of one list of links. A place is a number of links, and tells of the list that begins with
+-- the last of them; at place 0 the list is empty. (This project's own.)
+use Rattle.std.specs.Prelude.{◌≡◌, ◌<◌, ◌≤◌, ℕ, zero, suc, Bool, List, [], ◌∷◌, length, map, slice_index_or, All}
+use Rattle.backward.specs.declared.record_lists.Link.{Link}
+use Rattle.backward.specs.Sets.{DescendsBelow, row_of_set, xor_sets}
+
+abbrev pub no_link : Link
+no_link = record { target = 0; next = 0 }
+
+-- the first of the targets of the list at a place, going over no more links than given
+abbrev pub chain : List Link → ℕ → ℕ → List ℕ
+chain links zero place = []
+chain links (suc n) zero = []
+chain links (suc n) (suc p) = (slice_index_or links p no_link).target ∷ chain links n (slice_index_or links p no_link).next
+
+-- the list at a place
+abbrev pub list_at : List Link → ℕ → List ℕ
+list_at links place = chain links (length links) place
+
+-- the rows of bits for which the lists at some places stand
+abbrev pub rows_at : ℕ → List Link → List ℕ → List (List Bool)
+rows_at targets links places = map (λ place. row_of_set targets (list_at links place)) places
+
+-- each link leads to one before it
+abbrev pub LeadBack : List Link → Type 0
+LeadBack links = (p : ℕ) → p < length links → (slice_index_or links p no_link).next ≤ p
+
+-- the lists at these places descend from below a bound
+pub record AreLists (bound : ℕ) (links : List Link) (places : List ℕ) : Type 0 where
+  pub back : LeadBack links
+  pub placed : All (λ place. place ≤ length links) places
+  pub descend : All (λ place. DescendsBelow bound (list_at links place)) places
+
+-- the list at a place, with a target toggled, is at another place; the lists at all places that there were stay
+pub record IsToggledAt (target : ℕ) (links : List Link) (place : ℕ) (new_links : List Link) (new_place : ℕ) : Type 0 where
+  pub back : LeadBack new_links
+  pub longer : length links ≤ length new_links
+  pub placed : new_place ≤ length new_links
+  pub others : (k : ℕ) → k ≤ length links → list_at new_links k ≡ list_at links k
+  pub toggled : list_at new_links new_place ≡ xor_sets (target ∷ []) (list_at links place)
