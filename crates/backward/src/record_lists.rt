@@ -85,13 +85,15 @@ impl<A: Allocator + Copy> RecordLists<A> {
     }
 
     /// The same as a set for each record.
-    pub(crate) fn to_sets<'s>(
-        &self,
-        alloc: &'s A,
-    ) -> Result<Vec<SparseSet<'s, A>, A>, AllocError>
+    pub(crate) fn to_sets<'s>(&self, alloc: &'s A) -> Result<Vec<SparseSet<'s, A>, A>, AllocError>
         ensures { IfOk result (λ sets. sets.items ≡ self.now) }
     {
-        sets_at(alloc, self.targets, self.links.as_slice(), self.places.as_slice())
+        sets_at(
+            alloc,
+            self.targets,
+            self.links.as_slice(),
+            self.places.as_slice(),
+        )
     }
 }
 

@@ -24,6 +24,6 @@ loop-rec-preserved g c =
       long = length-set places rec new_place ∙ inv.long;
       lists = lists_toggled target rec links places place new_links new_place inv.lists within c.index_mut.ensures.value made;
       left = λ m low.
-      ap (toggled_in_each target (drop (index + 1) named)) (rows_toggled m target rec links places place new_links new_place low inv.lists within c.index_mut.ensures.value made)
-      ∙ (ap (λ l. toggled_in_each target l (rows_at m links places)) (sym (drop_more named index 0 c.loop-rec-test.true)) ∙ inv.left m low);
+          ap (toggled_in_each target (drop (index + 1) named)) (rows_toggled m target rec links places place new_links new_place low inv.lists within c.index_mut.ensures.value made)
+          ∙ (ap (λ l. toggled_in_each target l (rows_at m links places)) (sym (drop_more named index 0 c.loop-rec-test.true)) ∙ inv.left m low);
     }
