@@ -1,4 +1,4 @@
-use Rattle.std.proofs.Common.{◌≡◌, ◌++◌, length, ap, subst, sym, ◌∙◌}
+use Rattle.std.proofs.Common.{◌++◌, length, ap, subst, ◌∙◌}
 use Rattle.std.specs.Option.{IfNone}
 use Rattle.dem_text.specs.HeldText.{Held}
 use Rattle.dem_text.specs.ModelText.{model_text}

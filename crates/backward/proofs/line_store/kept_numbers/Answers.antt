@@ -1,4 +1,4 @@
-use Rattle.std.proofs.Common.{◌≡◌, ◌+◌, ◌∷◌, [], ◌++◌, List, ℕ, length, ap, subst, sym, ◌∙◌, arith, length-append}
+use Rattle.std.proofs.Common.{◌∷◌, [], length, ap, subst, sym, ◌∙◌, arith, length-append}
 use Rattle.std.proofs.lemmas.List.{get_or_default}
 use Rattle.programs.specs.declared.entries.EntryPart.{EntryPart}
 use Rattle.backward.specs.Numbered.{AreNumbers}

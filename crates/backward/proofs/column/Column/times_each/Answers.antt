@@ -1,4 +1,4 @@
-use Rattle.std.proofs.Common.{◌≡◌, ◌<◌, ◌+◌, ◌-◌, length, drop, get_or, ap, ◌∙◌, arith}
+use Rattle.std.proofs.Common.{◌≡◌, ◌<◌, ◌+◌, ◌-◌, length, get_or, ap, ◌∙◌, arith}
 use Rattle.backward.specs.Transposed.{times_at}
 use Rattle.backward.proofs.TimesEach.{one_before}
 use Rattle.backward.proofs.column.Column.times_each.Goals as goal

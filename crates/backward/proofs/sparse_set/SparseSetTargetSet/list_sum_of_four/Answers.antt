@@ -1,4 +1,4 @@
-use Rattle.std.proofs.Common.{◌≡◌, ap, ap₂, subst, sym, ◌∙◌}
+use Rattle.std.proofs.Common.{ap, ap₂, subst, sym, ◌∙◌}
 use Rattle.std.specs.Prelude.{reverse}
 use Rattle.bit_rows.specs.Rows.{xor_rows}
 use Rattle.backward.specs.Sets.{DescendsBelow, row_of_set, xor_sets}
