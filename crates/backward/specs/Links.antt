@@ -7,7 +7,7 @@ use Rattle.backward.specs.Sets.{DescendsBelow, row_of_set, xor_sets}
 abbrev pub no_link : Link
 no_link = record { target = 0; next = 0 }
 
--- the first of the targets of the list at a place, going over no more links than given
+-- the targets of the list at a place, as far as they are among the first n
 abbrev pub chain : List Link → ℕ → ℕ → List ℕ
 chain links zero place = []
 chain links (suc n) zero = []

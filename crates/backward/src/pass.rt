@@ -247,7 +247,5 @@ fn feedback<'s, 'a, A: Allocator + Copy, T: Tracker, L: LineStore>(
     ensures left { OnOk result (found.new.left ≡ found.old.left) }
 {
     tracker.hit(&[term], &mut found.hit)?;
-    found
-        .sets
-        .toggle_each(rec as usize, found.hit.as_slice())
+    found.sets.toggle_each(rec as usize, found.hit.as_slice())
 }

@@ -1,5 +1,6 @@
 //! For each record the targets that list it, as linked lists: most records have none or few.
-ghost use Rattle.std.specs.Prelude.{◌≡◌, ◌≢◌, ◌<◌, ◌≤◌, ◌+◌, ◌-◌, ℕ, [], true, false, length, reverse, slice_index_or, All, IfOk, OnOk};
+ghost use Rattle.std.specs.Prelude.{◌≡◌, ◌≢◌, ◌<◌, ◌≤◌, ◌+◌, ◌-◌, ◌^◌, ℕ, [], true, false, length, sum_by, slice_index_or, All, IfOk, OnOk};
+ghost use Rattle.step_model.specs.Targets.{targets_of};
 ghost use Rattle.backward.specs.Links.{no_link, list_at, rows_at, LeadBack, AreLists, IsToggledAt};
 ghost use Rattle.backward.specs.Passes.{listing_sets};
 ghost use Rattle.backward.specs.RecordSets.{toggled_in_each};
@@ -85,18 +86,22 @@ impl<A: Allocator + Copy> RecordLists<A> {
     }
 
     /// The same as a set for each record.
-    pub(crate) fn to_sets<'s>(
-        &self,
-        alloc: &'s A,
-    ) -> Result<Vec<SparseSet<'s, A>, A>, AllocError>
+    pub(crate) fn to_sets<'s>(&self, alloc: &'s A) -> Result<Vec<SparseSet<'s, A>, A>, AllocError>
         ensures { IfOk result (λ sets. sets.items ≡ self.now) }
     {
-        sets_at(alloc, self.targets, self.links.as_slice(), self.places.as_slice())
+        sets_at(
+            alloc,
+            self.targets,
+            self.links.as_slice(),
+            self.places.as_slice(),
+        )
     }
 }
 
 // How many records the targets list together, each as often as it is listed.
-fn listed_count<'a, A: Allocator + Copy>(program: &Program<'a, A>) -> usize {
+fn listed_count<'a, A: Allocator + Copy>(program: &Program<'a, A>) -> usize
+    ensures { sum_by length (targets_of program.now) < 2 ^ 64 → result ≡ sum_by length (targets_of program.now) }
+{
     let mut count: usize = 0;
     for t in 0..target_count(program) {
         count = count.saturating_add(target(program, t).len());

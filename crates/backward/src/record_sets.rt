@@ -81,6 +81,7 @@ impl<'s, A: Allocator + Copy> RecordSets<'s, A> {
         };
         toggle_each(&mut sets[rec], targets)?;
         self.sets = Some(sets);
+        // the sets tell it all, so that the lists may go
         self.lists = RecordLists::none(*self.alloc);
         Ok(())
     }
