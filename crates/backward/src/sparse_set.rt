@@ -131,12 +131,55 @@ fn add_few<A: Allocator + Copy>(
 {
     let mut sum = [0; 2 * FEW];
     let len = merge_few(items.as_slice(), more, &mut sum);
-    empty(items);
-    let pushed = push_few(items, &sum[..len]);
-    if pushed.is_err() {
+    let put = put_few(items, &sum, len);
+    if put.is_err() {
         empty(items);
     }
-    pushed
+    put
+}
+
+// Puts the first `len` of these in place of what a list holds: over what is there, since to take one out or put one in waits
+// for the length that the one before left.
+#[inline]
+fn put_few<A: Allocator + Copy>(
+    items: &mut SmallVec<u32, 4, A>,
+    sum: &[u32; 16],
+    len: usize,
+) -> Result<(), AllocError>
+    requires { len ≤ 16 }
+    ensures { OnOk result (items.new.items ≡ take len sum.now) }
+{
+    let kept = write_over(items.as_mut_slice(), sum, len);
+    shorten(items, kept);
+    push_few(items, &sum[kept..len])
+}
+
+// Writes of the first `len` of these as many as there are places for, and answers how many. A remainder at each keeps the loop
+// from being made a call that copies.
+#[inline(always)]
+fn write_over(places: &mut [u32], sum: &[u32; 16], len: usize) -> usize
+    requires { len ≤ 16 }
+    ensures within { result ≤ len }
+    ensures fits { result ≤ length places.old }
+    ensures len { length places.new ≡ length places.old }
+    ensures written { take result places.new ≡ take result sum.now }
+{
+    let mut kept = 0;
+    while kept < places.len() && kept < len {
+        places[kept] = sum[kept % 16];
+        kept += 1;
+    }
+    kept
+}
+
+// Takes out all behind the first `kept`.
+#[inline(always)]
+fn shorten<A: Allocator + Copy>(items: &mut SmallVec<u32, 4, A>, kept: usize)
+    ensures { items.new.items ≡ take kept items.old.items }
+{
+    if items.len() > kept {
+        items.truncate(kept);
+    }
 }
 
 // Takes all targets out, one by one: they are few, and each takes less than a call.
@@ -147,14 +190,13 @@ fn empty<A: Allocator + Copy>(items: &mut SmallVec<u32, 4, A>)
     while items.pop().is_some() {}
 }
 
-// Puts these into an empty list, one by one.
+// Appends these, one by one.
 #[inline]
 fn push_few<A: Allocator + Copy>(
     items: &mut SmallVec<u32, 4, A>,
     targets: &[u32],
 ) -> Result<(), AllocError>
-    requires { items.old.items ≡ [] }
-    ensures { OnOk result (items.new.items ≡ targets.now) }
+    ensures { OnOk result (items.new.items ≡ items.old.items ++ targets.now) }
 {
     for target in targets {
         items.push(*target)?;
