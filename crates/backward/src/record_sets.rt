@@ -75,10 +75,10 @@ impl<'s, A: Allocator + Copy> RecordSets<'s, A> {
         requires targets { All (λ t. t < length (slice_index_or self.old rec [])) targets.now }
         ensures { OnOk result (self.new ≡ slice_set self.old rec (toggled_each targets.now (slice_index_or self.old rec []))) }
     {
-        let mut sets = match self.sets.take() {
-            Some(sets) => sets,
-            None => self.lists.to_sets(self.alloc)?,
-        };
+        if let Some(sets) = &mut self.sets {
+            return toggle_each(&mut sets[rec], targets);
+        }
+        let mut sets = self.lists.to_sets(self.alloc)?;
         toggle_each(&mut sets[rec], targets)?;
         self.sets = Some(sets);
         // the sets tell it all, so that the lists may go

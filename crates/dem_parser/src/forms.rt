@@ -5,7 +5,7 @@ use crate::operation::{Keyword, Operation};
 use stim_parser::ArgumentForm;
 
 /// Which targets a line takes.
-#[derive(Clone, Copy, Debug, PartialEq, Eq)]
+#[derive(Clone, Copy)]
 pub(crate) enum TargetForm {
     /// Detectors, observables and separators.
     Effects,

@@ -12,7 +12,7 @@ pub enum Operation {
 }
 
 /// What a name says: an operation, or the start of a block.
-#[derive(Clone, Copy, Debug, PartialEq, Eq)]
+#[derive(Clone, Copy)]
 pub(crate) enum Keyword {
     Does(Operation),
     Repeats,

@@ -21,7 +21,7 @@ use step_model::Cause;
 use stim_lexer::{Lexer, Line};
 
 /// What a reader does at a line.
-#[derive(Clone, Copy, Debug)]
+#[derive(Clone, Copy)]
 pub(crate) enum Step {
     /// Goes on behind it.
     Goes,

@@ -20,7 +20,7 @@ pub enum ArgumentForm {
 }
 
 /// Which targets an instruction takes.
-#[derive(Clone, Copy, PartialEq, Eq)]
+#[derive(Clone, Copy)]
 pub(crate) enum TargetForm {
     NoTargets,
     Qubits,

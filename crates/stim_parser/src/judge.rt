@@ -24,7 +24,7 @@ use stim_lexer::{Braces, Line, after_blanks};
 pub(crate) const DEEPEST: usize = 32;
 
 /// What a line says; the targets of what it takes stand apart.
-#[derive(Clone, Copy, Debug)]
+#[derive(Clone, Copy)]
 pub(crate) enum Said<'a> {
     /// An instruction, and what stands in its parentheses.
     Takes {

@@ -31,7 +31,7 @@ pub enum Operation {
 }
 
 /// What a name says: an instruction, or the start of a block.
-#[derive(Clone, Copy, Debug, PartialEq, Eq)]
+#[derive(Clone, Copy)]
 pub(crate) enum Keyword {
     Does(Operation),
     Repeats,

@@ -1,7 +1,6 @@
 mod agreement;
 mod analyses;
 mod destabilizers;
-mod drawn;
 mod gates;
 mod large;
 mod notation;

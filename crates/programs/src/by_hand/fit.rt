@@ -19,7 +19,7 @@ use std::alloc::Allocator;
 use step_model::Term;
 
 // How many steps a circuit has once unrolled, and what they make.
-#[derive(Clone, Copy, Debug, PartialEq, Eq)]
+#[derive(Clone, Copy)]
 struct Totals {
     steps: usize,
     counts: Counts,

@@ -2,7 +2,7 @@
 use std::alloc::Global;
 use std::process::Abort;
 use std::test::Fail;
-use stim_parser::{Item, first_argument, parse};
+use stim_parser::{Circuit, Item, first_argument, parse};
 
 /// Lines, and whether each has an argument.
 const LINES: [(&[u8], bool); 6] = [
@@ -22,16 +22,21 @@ const FIRST: [(&[u8], &[u8]); 4] = [
     (b" ,2", b""),
 ];
 
-fn has_argument(alloc: Global, line: &[u8]) -> Option<bool> {
-    let Ok(circuit) = parse(alloc, line) else {
-        return None;
-    };
+/// Whether the first line has an argument, where there is one and it is an instruction.
+fn first_has_argument(circuit: &Circuit<'_, Global>) -> Option<bool> {
     if circuit.is_empty() {
         return None;
     }
     match circuit.item(0) {
         Item::Does(instruction) => Some(instruction.has_argument()),
         _ => None,
+    }
+}
+
+fn has_argument(alloc: Global, line: &[u8]) -> Option<bool> {
+    match parse(alloc, line) {
+        Ok(circuit) => first_has_argument(&circuit),
+        Err(_) => None,
     }
 }
 

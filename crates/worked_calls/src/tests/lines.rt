@@ -1,5 +1,4 @@
 use std::test::Fail;
-use step_model::{Cause, Fault};
 use stim_lexer::{Braces, Lexer, Line};
 
 const TEXT: &[u8] = b"# note\nH[x#{y] 0 # z\n\t\r\n REPEAT 2 {\nX_ERROR( 0.1 ) 3\nM(0.1";
@@ -48,20 +47,6 @@ fn are_cut(lexer: &mut Lexer<'_>, rows: &[Cut]) -> Result<bool, Fail> {
 #[test]
 fn lines_are_cut(rt: HostRuntime) -> Result<(), Fail> {
     assert!(rt; are_cut(&mut Lexer::new(TEXT), CUT)?);
-    Ok(())
-}
-
-#[test]
-fn a_bad_byte_is_refused_again(rt: HostRuntime) -> Result<(), Fail> {
-    let refused = Fault {
-        cause: Cause::Byte,
-        line: 3,
-    };
-    let mut lexer = Lexer::new(b"H[\x01] 0 #\x7f\n\nH\xff 0\nH 0");
-    assert!(rt; next_of(&mut lexer)?.number == 1);
-    for _ in 0..2 {
-        assert!(rt; lexer.next_line().err() == Some(refused));
-    }
     Ok(())
 }
 

@@ -10,17 +10,10 @@ struct Place {
     column: i8,
 }
 
-const COUNTS: [&[u32]; 4] = [&[], &[7, 0, u32::MAX], &[], &[5]];
-
-const NUMBERS: [&[i64]; 4] = [&[], &[-7, 0, i64::MAX], &[], &[i64::MIN]];
-
 const PLACES: [&[Place]; 2] = [
     &[Place { row: 1, column: -1 }, Place { row: 2, column: 3 }],
     &[Place { row: 2, column: 3 }],
 ];
-
-// One empty list is not the same as no list.
-const ONE_EMPTY: [&[u32]; 1] = [&[]];
 
 fn push_all<T: Copy>(lists: &mut FlatLists<T, Global>, pushed: &[&[T]]) -> Result<(), AllocError> {
     for list in pushed {
@@ -41,34 +34,9 @@ fn are<T: Copy + Debug + PartialEq>(
 }
 
 #[test]
-fn lists_of_u32_come_back(rt: HostRuntime) -> Result<(), Fail> {
-    let mut lists = FlatLists::new(rt.alloc());
-    are(&rt, &lists, &[]);
-    push_all(&mut lists, &COUNTS)?;
-    are(&rt, &lists, &COUNTS);
-    Ok(())
-}
-
-#[test]
-fn lists_of_i64_come_back(rt: HostRuntime) -> Result<(), Fail> {
-    let mut lists = FlatLists::new(rt.alloc());
-    push_all(&mut lists, &NUMBERS)?;
-    are(&rt, &lists, &NUMBERS);
-    Ok(())
-}
-
-#[test]
 fn lists_of_structs_come_back(rt: HostRuntime) -> Result<(), Fail> {
     let mut lists = FlatLists::new(rt.alloc());
     push_all(&mut lists, &PLACES)?;
     are(&rt, &lists, &PLACES);
-    Ok(())
-}
-
-#[test]
-fn an_empty_list_counts(rt: HostRuntime) -> Result<(), Fail> {
-    let mut lists = FlatLists::new(rt.alloc());
-    push_all(&mut lists, &ONE_EMPTY)?;
-    are(&rt, &lists, &ONE_EMPTY);
     Ok(())
 }

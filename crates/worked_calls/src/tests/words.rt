@@ -137,58 +137,6 @@ fn commuting(rt: HostRuntime) -> Result<(), Fail> {
     Ok(())
 }
 
-/// A long word with this letter at both ends, made of one that has none.
-fn long_word(rt: &impl Abort, alloc: Global, letter: Letter) -> Result<Word<Global>, AllocError>
-    ensures { IfOk result (λ w. length w.letters ≡ 4096) }
-{
-    let mut word = Word::identity(alloc, 4096)?;
-    assert!(rt; !word.sign() && word.letter(4095) == I);
-    word.set_letter(0, letter);
-    word.set_letter(4095, letter);
-    Ok(word)
-}
-
-/// Multiplies X at both ends by Z at both ends.
-fn ends_multiply(rt: &impl Abort, first: &mut Word<Global>, second: &Word<Global>)
-    requires first { length first.old.letters ≡ 4096 }
-    requires second { length second.now.letters ≡ 4096 }
-{
-    assert!(rt; first.commutes(second));
-    assert!(rt; times(first, second) && first.sign());
-    for qubit in 0..4096 {
-        let letter = if qubit == 0 || qubit == 4095 { Y } else { I };
-        assert!(rt; first.letter(qubit) == letter, "at {qubit}");
-    }
-}
-
-#[test]
-fn ends_of_a_long_word(rt: HostRuntime) -> Result<(), Fail> {
-    let mut first = long_word(&rt, rt.alloc(), X)?;
-    let second = long_word(&rt, rt.alloc(), Z)?;
-    ends_multiply(&rt, &mut first, &second);
-    Ok(())
-}
-
-/// Changes a word X Y Z with sign minus, and not its copy.
-fn changes_alone(rt: &impl Abort, original: &mut Word<Global>, copy: &Word<Global>)
-    requires original { length original.old.letters ≡ 3 }
-    requires copy { length copy.now.letters ≡ 3 }
-{
-    original.set_letter(1, I);
-    original.set_sign(PLUS);
-    assert!(rt; !original.sign() && original.letter(1) == I);
-    assert!(rt; copy.sign());
-    assert!(rt; [copy.letter(0), copy.letter(1), copy.letter(2)] == [X, Y, Z]);
-}
-
-#[test]
-fn a_copy_stands_alone(rt: HostRuntime) -> Result<(), Fail> {
-    let mut original = word_of(rt.alloc(), MINUS, &[X, Y, Z])?;
-    let copy = original.copy()?;
-    changes_alone(&rt, &mut original, &copy);
-    Ok(())
-}
-
 // No machine has this much memory.
 #[test]
 fn too_long_a_word(rt: HostRuntime) {

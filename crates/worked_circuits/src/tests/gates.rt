@@ -1,4 +1,4 @@
-//! The gates by how many qubits they act on, and those of them that take products of Z to products of Z.
+//! The gates by how many qubits they act on.
 
 use gate_table::Gate;
 
@@ -37,29 +37,6 @@ pub(super) const TWO: [Gate; 18] = [
     Gate::SqrtXXDag,
     Gate::SqrtYY,
     Gate::SqrtYYDag,
-    Gate::SqrtZZ,
-    Gate::SqrtZZDag,
-];
-
-pub(super) const CALM_ONE: [Gate; 7] = [
-    Gate::I,
-    Gate::X,
-    Gate::Y,
-    Gate::Z,
-    Gate::HXY,
-    Gate::S,
-    Gate::SDag,
-];
-
-pub(super) const CALM_TWO: [Gate; 10] = [
-    Gate::CX,
-    Gate::CY,
-    Gate::CZ,
-    Gate::XCZ,
-    Gate::YCZ,
-    Gate::Swap,
-    Gate::ISwap,
-    Gate::ISwapDag,
     Gate::SqrtZZ,
     Gate::SqrtZZDag,
 ];

@@ -21,7 +21,7 @@ pub(super) fn finding_of(
     tally: &mut Tally,
 ) -> Result<Finding, Fault> {
     let sparse = random_by_sparse(&alloc, program)?;
-    let analysed = analyse(alloc, program, dense_words(alloc, program)?)?;
+    let analysed = analyse_dense(alloc, program)?;
     if random_of(&analysed) != sparse {
         return Ok(Finding::Wrong("the trackers differ"));
     }
@@ -43,13 +43,29 @@ fn answer_holds(
     }
 }
 
+fn analyse_dense<'a>(
+    alloc: Global,
+    program: &Program<'a, Global>,
+) -> Result<Analysed<'a, Global>, Fault> {
+    let words = dense_words(alloc, program)?;
+    analyse(alloc, program, words)
+}
+
 /// The random target and its place, by lists of targets.
 fn random_by_sparse(
     alloc: &Global,
     program: &Program<'_, Global>,
 ) -> Result<Option<(u32, Place)>, Fault> {
-    let analysed = analyse(*alloc, program, sparse_words(alloc, program)?)?;
+    let analysed = analyse_sparse(alloc, program)?;
     Ok(random_of(&analysed))
+}
+
+fn analyse_sparse<'a>(
+    alloc: &Global,
+    program: &Program<'a, Global>,
+) -> Result<Analysed<'a, Global>, Fault> {
+    let words = sparse_words(alloc, program)?;
+    analyse(*alloc, program, words)
 }
 
 fn random_of(analysed: &Analysed<'_, Global>) -> Option<(u32, Place)> {

@@ -5,28 +5,39 @@ use slow_ends::{SlowSink, SlowSource};
 use std::alloc::Global;
 use step_model::Fault;
 
-/// Serves a row byte by byte, from a source and to a sink that fail at these calls.
-fn served_slowly(
+/// Serves a row byte by byte.
+fn serve_row(
     alloc: Global,
     row: &Row,
-    read: u64,
-    write: u64,
-) -> (Result<Status, Fault>, SlowSource<'static>, SlowSink<Global>) {
-    let mut source = SlowSource::new(row.text.as_bytes(), read);
-    let mut sink = SlowSink::new(alloc, write);
-    let end = serve(alloc, &row.order, &mut source, &mut sink);
-    (end, source, sink)
+    source: &mut SlowSource<'_>,
+    sink: &mut SlowSink<Global>,
+) -> Result<Status, Fault> {
+    serve(alloc, &row.order, source, sink)
 }
 
 /// Whether a failed read is told, and nothing is read or written after it.
 fn stops_at_read(alloc: Global, row: &Row, call: u64) -> bool {
-    let (end, source, sink) = served_slowly(alloc, row, call, 0);
+    let mut source = SlowSource::new(row.text.as_bytes(), call);
+    let mut sink = SlowSink::new(alloc, 0);
+    let end = serve_row(alloc, row, &mut source, &mut sink);
     end == Err(Fault::READ) && source.calls() == call && sink.calls() == 0
 }
 
 /// Whether a failed write is told, what went out is a beginning, and nothing is written after it. With no failure all goes out.
 fn stops_at_write(alloc: Global, row: &Row, call: u64) -> bool {
-    let (end, _source, sink) = served_slowly(alloc, row, 0, call);
+    let mut sink = SlowSink::new(alloc, call);
+    let mut source = SlowSource::new(row.text.as_bytes(), 0);
+    let end = serve_row(alloc, row, &mut source, &mut sink);
+    is_stopped_at(row, call, end, &sink)
+}
+
+/// Whether a sink that failed at this write took all that came before, and nothing after.
+fn is_stopped_at(
+    row: &Row,
+    call: u64,
+    end: Result<Status, Fault>,
+    sink: &SlowSink<Global>,
+) -> bool {
     let length = row.length();
     let (wanted, calls, taken) = if 0 < call && call <= length {
         (Err(Fault::WRITE), call, call - 1)
