@@ -33,12 +33,13 @@ impl<S: TargetSet> Model for Column<S> {
 }
 
 impl<S: TargetSet> Column<S> {
-    /// The letters of two sets.
-    pub(crate) fn of(x: S, z: S) -> Self
-        requires { length (S.bits x) ≡ length (S.bits z) }
-        ensures { result ≡ letters_of (S.bits x) (S.bits z) }
+    /// The letters that two copies of a set make.
+    pub(crate) fn of_copies(set: &S) -> Result<Self, AllocError>
+        ensures { IfOk result (λ column. column ≡ letters_of (S.bits set.now) (S.bits set.now)) }
     {
-        Column { x, z }
+        let x = set.copy()?;
+        let z = set.copy()?;
+        Ok(Column { x, z })
     }
 
     /// Makes every letter I.

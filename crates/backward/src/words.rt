@@ -79,14 +79,17 @@ impl<S: TargetSet, A: Allocator + Copy> Words<S, A> {
     {
         let mut columns = Vec::with_capacity(alloc, qubits)?;
         for _made in 0..qubits {
-            columns.push(Column::of(none.copy()?, none.copy()?))?;
+            columns.push(Column::of_copies(&none)?)?;
         }
+        let first = Column::of_copies(&none)?;
+        let second = Column::of_copies(&none)?;
+        let set = none.copy()?;
         Ok(Words {
             targets,
             columns,
-            first: Column::of(none.copy()?, none.copy()?),
-            second: Column::of(none.copy()?, none.copy()?),
-            set: none.copy()?,
+            first,
+            second,
+            set,
             spare: none,
         })
     }

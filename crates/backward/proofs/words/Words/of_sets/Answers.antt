@@ -10,7 +10,7 @@ use Rattle.backward.proofs.words.Words.of_sets.Goals as goal
 pub loop-made-preserved : goal.loop-made-preserved
 loop-made-preserved g c =
     let m = c.args.targets in
-    let column = c.of.ensures ∙ column_of_none m _ _ (c.in_ok-copy.ensures ∙ c.requires.none) (c.in_ok-copy-2.ensures ∙ c.requires.none) in
+    let column = c.in_ok-of_copies.ensures ∙ column_of_none m _ _ c.requires.none c.requires.none in
     c.in_ok-push.ensures.items
     ∙ (ap₂ (λ (columns : List (List Letter)) (column : List Letter). columns ++ column ∷ []) c.loop-made.invariant column
     ∙ replicate-append-replicate c.loop-made._made 1 (no_letters m))
@@ -18,13 +18,13 @@ loop-made-preserved g c =
 pub invariant_of-result : goal.invariant_of-result
 invariant_of-result g c =
     let m = c.args.targets in
-    let first = c.of-2.ensures ∙ column_of_none m _ _ (c.in_ok-copy-3.ensures ∙ c.requires.none) (c.in_ok-copy-4.ensures ∙ c.requires.none) in
-    let second = c.of-3.ensures ∙ column_of_none m _ _ (c.in_ok-copy-5.ensures ∙ c.requires.none) (c.in_ok-copy-6.ensures ∙ c.requires.none) in
+    let first = c.in_ok-first.ensures ∙ column_of_none m _ _ c.requires.none c.requires.none in
+    let second = c.in_ok-second.ensures ∙ column_of_none m _ _ c.requires.none c.requires.none in
     record {
       columns_long = columns_fresh m c.loop-made._made c.loop-made.columns.items c.loop-made.invariant;
       first_long = ap length first ∙ length-replicate m _;
       second_long = ap length second ∙ length-replicate m _;
-      set_long = ap length (c.in_ok-copy-7.ensures ∙ c.requires.none) ∙ length-replicate m false;
+      set_long = ap length (c.in_ok-set.ensures ∙ c.requires.none) ∙ length-replicate m false;
       spare_long = ap length c.requires.none ∙ length-replicate m false;
       few = c.requires.few;
     }
