@@ -3,6 +3,8 @@
 -- (Sensitivities taken back over a circuit are told of by Gidney, Quantum 5, 497 (2021); how they are kept is this project's own.)
 use Rattle.std.specs.Prelude.{◌≡◌, ◌≤◌, ◌^◌, ℕ, Bool, ◌&&◌, List, [], ◌∷◌, false, map, length, All, slice_index_or, slice_set}
 use Rattle.std.specs.List.{range_with_len}
+use Rattle.gate_table.specs.declared.gate.Gate.{Gate}
+use Rattle.gate_table.specs.Images.{image2, inverse_of}
 use Rattle.pauli_word.specs.declared.letter.Letter.{Letter}
 use Rattle.pauli_word.specs.declared.letter.Letter.TheVariants.{I, X, Y, Z}
 use Rattle.pauli_word.specs.Letters.{letter_product}
@@ -44,6 +46,15 @@ times_at letter t column = slice_set column t (letter_product letter (letter_at 
 abbrev pub times_each : Letter → List ℕ → List Letter → List Letter
 times_each letter [] column = column
 times_each letter (t ∷ ts) column = times_each letter ts (times_at letter t column)
+
+-- the letters at the first and at the second of two qubits before a gate, from those behind it
+abbrev pub first_before : Gate → List Letter → List Letter → List Letter
+first_before gate first second =
+    letters_product (map (combined (image2 (inverse_of gate) X I).0 (image2 (inverse_of gate) Z I).0) first) (map (combined (image2 (inverse_of gate) I X).0 (image2 (inverse_of gate) I Z).0) second)
+
+abbrev pub second_before : Gate → List Letter → List Letter → List Letter
+second_before gate first second =
+    letters_product (map (combined (image2 (inverse_of gate) X I).1 (image2 (inverse_of gate) Z I).1) first) (map (combined (image2 (inverse_of gate) I X).1 (image2 (inverse_of gate) I Z).1) second)
 
 -- a word whose letters at two qubits are each multiplied by an image of the other
 abbrev pub multiplied_at : ℕ → ℕ → Letter × Letter → Letter × Letter → List Letter → List Letter

@@ -1,10 +1,12 @@
-//! Two columns of a list, multiplied by images of one another where they stand.
-ghost use Rattle.std.specs.Prelude.{◌≡◌, ◌≢◌, ◌<◌, length, All, OnOk};
+//! Two columns of a list: multiplied by images of one another where they stand, or made anew.
+ghost use Rattle.std.specs.Prelude.{◌≡◌, ◌≢◌, ◌<◌, [], length, All, OnOk, slice_index_or};
+ghost use Rattle.gate_table.specs.Images.{arity_of};
 ghost use Rattle.pauli_word.specs.declared.letter.Letter.TheVariants.{I};
-ghost use Rattle.backward.specs.Transposed.{combined, multiplied_columns};
+ghost use Rattle.backward.specs.Transposed.{combined, first_before, multiplied_columns, second_before};
 
 use crate::column::{Column, multiply_both};
 use crate::target_set::TargetSet;
+use gate_table::Gate;
 use pauli_word::Letter;
 use std::alloc::AllocError;
 
@@ -80,4 +82,47 @@ fn multiply_behind<S: TargetSet>(
 {
     let (front, back) = columns.split_at_mut(a);
     multiply_both(&mut back[0], &mut front[b], to_first, to_second, spare)
+}
+
+/// Makes of two columns those that the columns at two places were before a gate.
+pub(crate) fn image_pair<S: TargetSet>(
+    columns: &[Column<S>],
+    gate: Gate,
+    a: usize,
+    b: usize,
+    first: &mut Column<S>,
+    second: &mut Column<S>,
+    spare: &mut S,
+) -> Result<(), AllocError>
+    requires arity { arity_of gate ≡ 2 }
+    requires first_place { a < length columns.now }
+    requires second_place { b < length columns.now }
+    requires long { All (λ column. length column ≡ length (S.bits spare.old)) columns.now }
+    requires first_long { length first.old ≡ length (S.bits spare.old) }
+    requires second_long { length second.old ≡ length (S.bits spare.old) }
+    ensures first { OnOk result (first.new ≡ first_before gate (slice_index_or columns.now a []) (slice_index_or columns.now b [])) }
+    ensures second { OnOk result (second.new ≡ second_before gate (slice_index_or columns.now a []) (slice_index_or columns.now b [])) }
+    ensures first_len { length first.new ≡ length first.old }
+    ensures second_len { length second.new ≡ length second.old }
+    ensures spare { length (S.bits spare.new) ≡ length (S.bits spare.old) }
+{
+    let inverse = gate.inverse();
+    let xa = inverse.image2(Letter::X, Letter::I);
+    let za = inverse.image2(Letter::Z, Letter::I);
+    let xb = inverse.image2(Letter::I, Letter::X);
+    let zb = inverse.image2(Letter::I, Letter::Z);
+    first.set_images(
+        &columns[a],
+        &columns[b],
+        (xa.0, za.0),
+        (xb.0, zb.0),
+        spare,
+    )?;
+    second.set_images(
+        &columns[a],
+        &columns[b],
+        (xa.1, za.1),
+        (xb.1, zb.1),
+        spare,
+    )
 }

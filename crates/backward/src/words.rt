@@ -9,7 +9,7 @@ ghost use Rattle.backward.specs.TargetSets.{members};
 ghost use Rattle.backward.specs.Transposed.{combined, multiplied_at, word_at};
 
 use crate::column::{Column, is_kept, is_lost, is_y};
-use crate::pairs::multiply_pair;
+use crate::pairs::{image_pair, multiply_pair};
 use crate::sparse_set::SparseSet;
 use crate::target_set::TargetSet;
 use crate::tracker::Tracker;
@@ -167,23 +167,13 @@ impl<S: TargetSet, A: Allocator + Copy> Words<S, A> {
         requires different { a ≢ b }
         ensures { OnOk result (self.new ≡ each_word (undone_two gate a b) self.old) }
     {
-        let inverse = gate.inverse();
-        let xa = inverse.image2(Letter::X, Letter::I);
-        let za = inverse.image2(Letter::Z, Letter::I);
-        let xb = inverse.image2(Letter::I, Letter::X);
-        let zb = inverse.image2(Letter::I, Letter::Z);
-        self.first.set_images(
-            &self.columns[a],
-            &self.columns[b],
-            (xa.0, za.0),
-            (xb.0, zb.0),
-            &mut self.spare,
-        )?;
-        self.second.set_images(
-            &self.columns[a],
-            &self.columns[b],
-            (xa.1, za.1),
-            (xb.1, zb.1),
+        image_pair(
+            self.columns.as_slice(),
+            gate,
+            a,
+            b,
+            &mut self.first,
+            &mut self.second,
             &mut self.spare,
         )?;
         self.columns[a].swap(&mut self.first);
