@@ -111,18 +111,6 @@ pub(crate) fn image_pair<S: TargetSet>(
     let za = inverse.image2(Letter::Z, Letter::I);
     let xb = inverse.image2(Letter::I, Letter::X);
     let zb = inverse.image2(Letter::I, Letter::Z);
-    first.set_images(
-        &columns[a],
-        &columns[b],
-        (xa.0, za.0),
-        (xb.0, zb.0),
-        spare,
-    )?;
-    second.set_images(
-        &columns[a],
-        &columns[b],
-        (xa.1, za.1),
-        (xb.1, zb.1),
-        spare,
-    )
+    first.set_images(&columns[a], &columns[b], (xa.0, za.0), (xb.0, zb.0), spare)?;
+    second.set_images(&columns[a], &columns[b], (xa.1, za.1), (xb.1, zb.1), spare)
 }
