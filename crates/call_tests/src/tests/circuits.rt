@@ -1,0 +1,25 @@
+mod agreement;
+mod analyses;
+mod destabilizers;
+mod gates;
+mod large;
+mod notation;
+mod runs;
+mod states;
+mod table;
+mod three_steps;
+
+/// Whether these truth values are written as these digits.
+fn are_digits(values: &[bool], digits: &str) -> bool {
+    let digits = digits.as_bytes();
+    for (number, value) in values.iter().enumerate() {
+        if digits.get(number).copied() != Some(digit(*value)) {
+            return false;
+        }
+    }
+    values.len() == digits.len()
+}
+
+fn digit(value: bool) -> u8 {
+    if value { b'1' } else { b'0' }
+}
