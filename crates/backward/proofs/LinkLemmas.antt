@@ -1,9 +1,9 @@
--- Lists of targets as links of one list of links: what a link more leaves, and a target toggled at the front.
-use Rattle.std.proofs.Common.{◌≡◌, ◌≢◌, ℕ, zero, suc, ◌+◌, ◌-◌, ◌<◌, ◌≤◌, Bool, false, List, [], ◌∷◌, ◌++◌, length, map, get_or, set, inl, inr, refl, ap, ap₂, subst, sym, ◌∙◌, arith}
-use Rattle.std.specs.Prelude.{All, replicate, reverse}
+-- Lists of targets as links of one list of links: what a link more leaves, and targets put in front.
+use Rattle.std.proofs.Common.{◌≡◌, ◌≢◌, ℕ, zero, suc, ◌+◌, ◌-◌, ◌<◌, ◌≤◌, Bool, false, List, [], ◌∷◌, ◌++◌, length, map, drop, get_or, set, inl, inr, refl, ap, ap₂, subst, sym, ◌∙◌, arith}
+use Rattle.std.specs.Prelude.{All, replicate}
 use Rattle.std.proofs.Math.ListN.{get_or-append}
 use Rattle.std.proofs.Math.Seq.{get_or-append_seam}
-use Rattle.std.proofs.lemmas.List.{append_assoc, get_or-map, get_or-replicate, length-append, length-replicate, length-map, map-set}
+use Rattle.std.proofs.lemmas.List.{append_assoc, drop_more, get_or-map, get_or-replicate, length-append, length-replicate, length-map, map-set}
 use Rattle.std.proofs.lemmas.List.Elements.{All-set}
 use Rattle.std.proofs.lemmas.List.FromFn.{fill_by_all}
 use Rattle.std.proofs.lemmas.Bool.{cases_lt}
@@ -11,13 +11,11 @@ use Rattle.pauli_word.specs.Parity.{exclusive_or}
 use Rattle.pauli_word.proofs.Parities.{exclusive_or-false}
 use Rattle.step_model.specs.Targets.{is_listed}
 use Rattle.backward.specs.declared.record_lists.Link.{Link}
-use Rattle.backward.specs.Collapses.{toggled, toggled_each}
-use Rattle.backward.specs.Links.{no_link, chain, list_at, rows_at, LeadBack, AreLists, IsToggledAt}
-use Rattle.backward.specs.RecordSets.{toggled_in}
-use Rattle.backward.specs.Sets.{DescendsBelow, row_of_set, xor_sets}
-use Rattle.backward.specs.TargetSets.{members}
+use Rattle.backward.specs.Collapses.{toggled_each}
+use Rattle.backward.specs.Links.{no_link, chain, list_at, rows_at, LeadBack, AreLists, Falls, IsGrown, IsPutAt, put_before}
+use Rattle.backward.specs.Sets.{DescendsBelow, row_of_set}
 use Rattle.backward.proofs.PassSets.{length-toggled_each, toggled_each_at}
-use Rattle.backward.proofs.SetLemmas.{xor_same, xor_before, DescendsBelow-weaker, DescendsBelow-xor_sets, reverse_is_members, row_of_no_set, row_of_toggled}
+use Rattle.backward.proofs.SetLemmas.{row_of_no_set, row_of_more}
 
 -- ---- how many links are gone over, and which stand behind, changes no list
 enough : (links : List Link) (n m k : ℕ) → LeadBack links → k ≤ length links → k ≤ n → k ≤ m → chain links n k ≡ chain links m k
@@ -61,7 +59,7 @@ list_at-append links more k back within =
     chain-append links more (length (links ++ more)) k back within
     ∙ enough links (length (links ++ more)) (length links) k back within (omega (arith, within, length-append links more)) within
 
--- ---- a target toggled at the front
+-- ---- a target put in front
 LeadBack-more : (links : List Link) (link : Link) → LeadBack links → link.next ≤ length links → LeadBack (links ++ link ∷ [])
 LeadBack-more links link back low p lt =
     elim (cases_lt p (length links)) as (λ _. (get_or (links ++ link ∷ []) p no_link).next ≤ p) [
@@ -75,33 +73,28 @@ LeadBack-more links link back low p lt =
           omega (arith, same, low, last)
     ]
 
-put_first : (target : ℕ) (links : List Link) (place : ℕ) → LeadBack links → place ≤ length links → DescendsBelow (target + 1) (list_at links place)
-    → (0 < place → (get_or links (place - 1) no_link).target ≢ target) → target ∷ list_at links place ≡ xor_sets (target ∷ []) (list_at links place)
-put_first target links zero back within descends other =
-    ap (λ l. target ∷ l) (list_at-none links) ∙ ap (xor_sets (target ∷ [])) (sym (list_at-none links))
-put_first target links (suc p) back within descends other =
-    let first = list_at-first links (suc p) back (omega arith) within in
-    let next = get_or links (suc p - 1) no_link in
-    let low : next.target < target + 1 = (subst (DescendsBelow (target + 1)) first descends).0 in
-    let apart : next.target ≢ target = other (omega arith) in
-    ap (λ l. target ∷ l) first
-    ∙ (sym (xor_before target next.target (list_at links next.next) (omega (arith, low, apart))) ∙ ap (xor_sets (target ∷ [])) (sym first))
+pub grown_none : (links : List Link) → LeadBack links → IsGrown links links
+grown_none links back = record { back = back; longer = omega arith; others = λ k low. refl }
 
-pub put_in_front : (target : ℕ) (links : List Link) (place : ℕ) → LeadBack links → place ≤ length links → DescendsBelow (target + 1) (list_at links place)
-    → (0 < place → (get_or links (place - 1) no_link).target ≢ target)
-    → IsToggledAt target links place (links ++ record { target = target; next = place } ∷ []) (length (links ++ record { target = target; next = place } ∷ []))
-put_in_front target links place back within descends other =
+pub grown_on : (links more most : List Link) → IsGrown links more → IsGrown more most → IsGrown links most
+grown_on links more most first second =
     record {
-      back = leads;
-      longer = omega (arith, long);
+      back = second.back;
+      longer = omega (arith, first.longer, second.longer);
+      others = λ k low. second.others k (omega (arith, low, first.longer)) ∙ first.others k low;
+    }
+
+pub put_in_front : (target : ℕ) (links : List Link) (place : ℕ) → LeadBack links → place ≤ length links
+    → IsPutAt (target ∷ []) links place (links ++ record { target = target; next = place } ∷ []) (length (links ++ record { target = target; next = place } ∷ []))
+put_in_front target links place back within =
+    record {
+      grown = record { back = leads; longer = omega (arith, long); others = λ k low. list_at-append links (link ∷ []) k back low; };
       placed = omega arith;
-      others = λ k low. list_at-append links (link ∷ []) k back low;
-      toggled =
+      put =
           ap (list_at more) long
           ∙ (list_at-first more (length links + 1) leads (omega arith) (omega (arith, long))
           ∙ (ap (λ (l : Link). l.target ∷ list_at more l.next) last
-          ∙ (ap (λ l. target ∷ l) (list_at-append links (link ∷ []) place back within)
-          ∙ put_first target links place back within descends other)));
+          ∙ ap (λ l. target ∷ l) (list_at-append links (link ∷ []) place back within)));
     }
   where
     link : Link
@@ -119,19 +112,6 @@ put_in_front target links place back within descends other =
     last : get_or more (length links + 1 - 1) no_link ≡ link
     last = let before : length links + 1 - 1 ≡ length links = omega arith in ap (λ q. get_or more q no_link) before ∙ get_or-append_seam links link [] no_link
 
-pub take_off : (target : ℕ) (links : List Link) (place : ℕ) → LeadBack links → place ≤ length links → 0 < place → (get_or links (place - 1) no_link).target ≡ target
-    → IsToggledAt target links place links (get_or links (place - 1) no_link).next
-take_off target links place back within some same =
-    let next = get_or links (place - 1) no_link in
-    let low : next.next ≤ place - 1 = back (place - 1) (omega (arith, within, some)) in
-    record {
-      back = back;
-      longer = omega arith;
-      placed = omega (arith, low, within);
-      others = λ k low. refl;
-      toggled = sym (ap (xor_sets (target ∷ [])) (list_at-first links place back some within) ∙ xor_same target next.target (list_at links next.next) same);
-    }
-
 -- ---- a list read off
 pub list_at-read : (links : List Link) (place : ℕ) (read rest whole : List ℕ) → LeadBack links → 0 < place → place ≤ length links → read ++ list_at links place ≡ whole
     → rest ≡ read ++ (get_or links (place - 1) no_link).target ∷ [] → rest ++ list_at links (get_or links (place - 1) no_link).next ≡ whole
@@ -141,11 +121,12 @@ list_at-read links place read rest whole back some within so_far next =
     ∙ (append_assoc read (link.target ∷ []) (list_at links link.next)
     ∙ (ap (λ l. read ++ l) (sym (list_at-first links place back some within)) ∙ so_far))
 
-pub reverse_is_members_at : (m rec place : ℕ) (links : List Link) (places : List ℕ) (rows : List (List Bool)) → AreLists m links places → rows_at m links places ≡ rows → rec < length rows → place ≡ get_or places rec place
-    → reverse (list_at links place) ≡ members (get_or rows rec [])
-reverse_is_members_at m rec place links places rows lists is low read =
-    reverse_is_members m (list_at links place) (subst (λ k. DescendsBelow m (list_at links k)) (sym read) (lists.descend rec place within))
-    ∙ ap members (ap row read ∙ (sym (get_or-map row places rec place [] within) ∙ ap (λ (r : List (List Bool)). get_or r rec []) is))
+-- ---- the set of a record
+-- the row of a list at a place that is read from the places
+pub row_at : (m rec place : ℕ) (links : List Link) (places : List ℕ) (rows : List (List Bool)) → rows_at m links places ≡ rows → rec < length rows → place ≡ get_or places rec place
+    → row_of_set m (list_at links place) ≡ get_or rows rec []
+row_at m rec place links places rows is low read =
+    ap row read ∙ (sym (get_or-map row places rec place [] within) ∙ ap (λ (r : List (List Bool)). get_or r rec []) is)
   where
     row : ℕ → List Bool
     row k = row_of_set m (list_at links k)
@@ -153,43 +134,97 @@ reverse_is_members_at m rec place links places rows lists is low read =
     within : rec < length places
     within = omega (arith, low, ap length is, length-map places row)
 
+pub below_at : (m rec place : ℕ) (links : List Link) (places : List ℕ) (rows : List (List Bool)) → AreLists m links places → rows_at m links places ≡ rows → rec < length rows → place ≡ get_or places rec place
+    → All (λ t. t < m) (list_at links place)
+below_at m rec place links places rows lists is low read =
+    let within : rec < length places = omega (arith, low, ap length is, length-map places (λ k. row_of_set m (list_at links k))) in
+    subst (λ k. All (λ t. t < m) (list_at links k)) (sym read) (lists.below rec place within)
+
+pub falls_below : (m : ℕ) (list : List ℕ) → Falls list → All (λ t. t < m) list → DescendsBelow m list
+falls_below m [] falls below = tt
+falls_below m (t ∷ ts) falls below = (below 0 t (omega arith), falls)
+
+-- the last target, or none
+pub falls_end : (list : List ℕ) (left : ℕ) → length list ≤ left + 1 → Falls (drop left list)
+falls_end [] zero h = tt
+falls_end [] (suc left) h = tt
+falls_end (t ∷ []) zero h = tt
+falls_end (t ∷ u ∷ list) zero h = absurd (omega (arith, h))
+falls_end (t ∷ list) (suc left) h = falls_end list left (omega (arith, h))
+
+-- one target more before those that fall
+pub falls_more : (list : List ℕ) (left : ℕ) → left + 1 < length list → get_or list (left + 1) 0 < get_or list left 0 → Falls (drop (left + 1) list) → Falls (drop left list)
+falls_more list left within less falls =
+    let here = drop_more list left 0 (omega (arith, within)) in
+    let next : drop (left + 1) list ≡ get_or list (left + 1) 0 ∷ drop (left + 1 + 1) list = drop_more list (left + 1) 0 within in
+    subst Falls (sym here)
+    (subst (DescendsBelow (get_or list left 0)) (sym next) (less, subst Falls next falls))
+
 -- ---- the lists of all records
 map_agree_on : {X Y : Type 0} (f g : X → Y) (xs : List X) → All (λ x. f x ≡ g x) xs → map f xs ≡ map g xs
 map_agree_on f g [] same = refl
 map_agree_on f g (x ∷ xs) same = ap₂ (λ y ys. y ∷ ys) (same 0 x (omega arith)) (map_agree_on f g xs (λ k d lt. same (suc k) d (omega (arith, lt))))
 
-pub lists_toggled : (target r : ℕ) (links : List Link) (places : List ℕ) (place : ℕ) (new_links : List Link) (new_place : ℕ) → AreLists (target + 1) links places → r < length places → place ≡ get_or places r place
-    → IsToggledAt target links place new_links new_place → AreLists (target + 1) new_links (set places r new_place)
-lists_toggled target r links places place new_links new_place lists within read t =
+below_put : (m : ℕ) (targets list : List ℕ) → All (λ t. t < m) targets → All (λ t. t < m) list → All (λ t. t < m) (put_before targets list)
+below_put m [] list low below = below
+below_put m (t ∷ ts) list low below =
+    below_put m ts (t ∷ list) (λ k d lt. low (suc k) d (omega (arith, lt))) more
+  where
+    more : All (λ t. t < m) (t ∷ list)
+    more zero d lt = low 0 d (omega arith)
+    more (suc k) d lt = below k d (omega (arith, lt))
+
+pub below_one : (t m : ℕ) → t < m → All (λ t. t < m) (t ∷ [])
+below_one t m low zero d lt = low
+below_one t m low (suc k) d lt = absurd (omega (arith, lt))
+
+pub lists_put : (m r : ℕ) (links : List Link) (places : List ℕ) (place : ℕ) (new_links : List Link) (new_place : ℕ) (targets : List ℕ) → AreLists m links places → r < length places → place ≡ get_or places r place
+    → All (λ t. t < m) targets → IsPutAt targets links place new_links new_place → AreLists m new_links (set places r new_place)
+lists_put m r links places place new_links new_place targets lists within read low t =
     record {
-      back = t.back;
-      placed = All-set (λ k. k ≤ length new_links) places r new_place t.placed (λ k d lt. let low : get_or places k d ≤ length links = lists.placed k d lt in omega (arith, low, t.longer));
-      descend =
-          All-set (λ k. DescendsBelow (target + 1) (list_at new_links k)) places r new_place
-          (subst (DescendsBelow (target + 1)) (sym t.toggled)
-          (DescendsBelow-xor_sets (target + 1) (target ∷ []) (list_at links place) (omega arith, tt) (subst (λ k. DescendsBelow (target + 1) (list_at links k)) (sym read) (lists.descend r place within))))
-          (λ k d lt. subst (DescendsBelow (target + 1)) (sym (t.others (get_or places k d) (lists.placed k d lt))) (lists.descend k d lt));
+      back = t.grown.back;
+      placed = All-set (λ k. k ≤ length new_links) places r new_place t.placed (λ k d lt. let before : get_or places k d ≤ length links = lists.placed k d lt in omega (arith, before, t.grown.longer));
+      below =
+          All-set (λ k. All (λ t. t < m) (list_at new_links k)) places r new_place
+          (subst (All (λ t. t < m)) (sym t.put) (below_put m targets (list_at links place) low (subst (λ k. All (λ t. t < m) (list_at links k)) (sym read) (lists.below r place within))))
+          (λ k d lt. subst (All (λ t. t < m)) (sym (t.grown.others (get_or places k d) (lists.placed k d lt))) (lists.below k d lt));
     }
 
-pub rows_toggled : (m target r : ℕ) (links : List Link) (places : List ℕ) (place : ℕ) (new_links : List Link) (new_place : ℕ) → target < m → AreLists (target + 1) links places → r < length places → place ≡ get_or places r place
-    → IsToggledAt target links place new_links new_place → rows_at m new_links (set places r new_place) ≡ toggled_in target r (rows_at m links places)
-rows_toggled m target r links places place new_links new_place low lists within read t =
+row_of_put : (m : ℕ) (targets list : List ℕ) → All (λ t. t < m) targets → row_of_set m (put_before targets list) ≡ toggled_each targets (row_of_set m list)
+row_of_put m [] list low = refl
+row_of_put m (t ∷ ts) list low =
+    let first : t < m = low 0 t (omega arith) in
+    row_of_put m ts (t ∷ list) (λ k d lt. low (suc k) d (omega (arith, lt)))
+    ∙ ap (toggled_each ts) (row_of_more m t list first)
+
+pub rows_put : (m r : ℕ) (links : List Link) (places : List ℕ) (place : ℕ) (new_links : List Link) (new_place : ℕ) (targets : List ℕ) → LeadBack links → All (λ k. k ≤ length links) places → r < length places → place ≡ get_or places r place
+    → All (λ t. t < m) targets → IsPutAt targets links place new_links new_place → rows_at m new_links (set places r new_place) ≡ set (rows_at m links places) r (toggled_each targets (get_or (rows_at m links places) r []))
+rows_put m r links places place new_links new_place targets back placed within read low t =
     map-set row places r new_place
     ∙ ap₂ (λ rows bits. set rows r bits)
-    (map_agree_on row (λ k. row_of_set m (list_at links k)) places (λ k d lt. ap (row_of_set m) (t.others (get_or places k d) (lists.placed k d lt))))
-    (ap (row_of_set m) t.toggled
-    ∙ (row_of_toggled m target (list_at links place) low
-    ∙ ap (toggled target) (ap (λ k. row_of_set m (list_at links k)) read ∙ sym (get_or-map (λ k. row_of_set m (list_at links k)) places r place [] within))))
+    (map_agree_on row (λ k. row_of_set m (list_at links k)) places (λ k d lt. ap (row_of_set m) (t.grown.others (get_or places k d) (placed k d lt))))
+    (ap (row_of_set m) t.put
+    ∙ (row_of_put m targets (list_at links place) low
+    ∙ ap (toggled_each targets) (ap (λ k. row_of_set m (list_at links k)) read ∙ sym (get_or-map (λ k. row_of_set m (list_at links k)) places r place [] within))))
   where
     row : ℕ → List Bool
     row k = row_of_set m (list_at new_links k)
+
+-- the lists stay where only links were added
+pub lists_grown : (m : ℕ) (links new_links : List Link) (places : List ℕ) → AreLists m links places → IsGrown links new_links → AreLists m new_links places
+lists_grown m links new_links places lists t =
+    record {
+      back = t.back;
+      placed = λ k d lt. let before : get_or places k d ≤ length links = lists.placed k d lt in omega (arith, before, t.longer);
+      below = λ k d lt. subst (All (λ t. t < m)) (sym (t.others (get_or places k d) (lists.placed k d lt))) (lists.below k d lt);
+    }
 
 pub AreLists-weaker : (m n : ℕ) (links : List Link) (places : List ℕ) → m ≤ n → AreLists m links places → AreLists n links places
 AreLists-weaker m n links places le lists =
     record {
       back = lists.back;
       placed = lists.placed;
-      descend = λ k d lt. DescendsBelow-weaker m n (list_at links (get_or places k d)) le (lists.descend k d lt);
+      below = λ k d lt q e at. let low : get_or (list_at links (get_or places k d)) q e < m = lists.below k d lt q e at in omega (arith, low, le);
     }
 
 -- ---- no links
@@ -198,7 +233,7 @@ no_lists m n =
     record {
       back = λ p lt. absurd (omega (arith, lt));
       placed = λ k d lt. let none : get_or zeros k d ≡ 0 = get_or-replicate n k zero d (omega (arith, lt, length-replicate n zero)) in omega (arith, none);
-      descend = λ k d lt. tt;
+      below = λ k d lt. subst (λ place. All (λ t. t < m) (list_at [] place)) (sym (get_or-replicate n k zero d (omega (arith, lt, length-replicate n zero)))) (λ q e at. absurd (omega (arith, at)));
     }
   where
     zeros : List ℕ
@@ -215,11 +250,3 @@ toggled_from_none m set =
     (length-toggled_each set (replicate m false) ∙ length-replicate m false)
     (λ k lt. toggled_each_at set k (replicate m false) (omega (arith, lt, length-replicate m false))
     ∙ (ap (λ b. exclusive_or (is_listed set k) b) (get_or-replicate m k false false lt) ∙ exclusive_or-false (is_listed set k)))
-
-pub DescendsBelow-all : (m : ℕ) (set : List ℕ) → DescendsBelow m set → All (λ t. t < m) set
-DescendsBelow-all m [] h k d lt = absurd (omega (arith, lt))
-DescendsBelow-all m (x ∷ xs) h zero d lt = h.0
-DescendsBelow-all m (x ∷ xs) h (suc k) d lt =
-    let below : get_or xs k d < x = DescendsBelow-all x xs h.1 k d (omega (arith, lt)) in
-    let top : x < m = h.0 in
-    omega (arith, below, top)

@@ -194,6 +194,12 @@ row_of_toggled m t xs h =
     (ap not (get_or-row_of_set m xs t h) ∙ sym (is_listed-xor_sets (t ∷ []) xs t ∙ ap (λ b. exclusive_or (exclusive_or b false) (is_listed xs t)) (eq-eqb t t refl)))
     (λ r other. sym (is_listed-xor_sets (t ∷ []) xs r ∙ ap (λ b. exclusive_or (exclusive_or b false) (is_listed xs r)) (ne_eqb t r (λ e. other (sym e))))))
 
+pub row_of_more : (m t : ℕ) (xs : List ℕ) → t < m → row_of_set m (t ∷ xs) ≡ set (row_of_set m xs) t (not (get_or (row_of_set m xs) t false))
+row_of_more m t xs h =
+    sym (set-map-range (is_listed xs) (is_listed (t ∷ xs)) m t (not (get_or (row_of_set m xs) t false)) h
+    (ap not (get_or-row_of_set m xs t h) ∙ sym (ap (λ b. exclusive_or b (is_listed xs t)) (eq-eqb t t refl)))
+    (λ r other. sym (ap (λ b. exclusive_or b (is_listed xs r)) (ne_eqb t r (λ e. other (sym e))))))
+
 -- a descending list, reversed, is the members of its row
 pub reverse_is_members : (m : ℕ) (xs : List ℕ) → DescendsBelow m xs → reverse xs ≡ members (row_of_set m xs)
 reverse_is_members m xs h =

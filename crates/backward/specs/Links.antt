@@ -1,8 +1,8 @@
 -- Lists of targets as links of one list of links. A place is a number of links, and tells of the list that begins with
 -- the last of them; at place 0 the list is empty. (This project's own.)
-use Rattle.std.specs.Prelude.{◌≡◌, ◌<◌, ◌≤◌, ℕ, zero, suc, Bool, List, [], ◌∷◌, length, map, slice_index_or, All}
+use Rattle.std.specs.Prelude.{⊤, ◌≡◌, ◌<◌, ◌≤◌, ℕ, zero, suc, Bool, List, [], ◌∷◌, length, map, slice_index_or, All}
 use Rattle.backward.specs.declared.record_lists.Link.{Link}
-use Rattle.backward.specs.Sets.{DescendsBelow, row_of_set, xor_sets}
+use Rattle.backward.specs.Sets.{DescendsBelow, row_of_set}
 
 abbrev pub no_link : Link
 no_link = record { target = 0; next = 0 }
@@ -25,16 +25,30 @@ rows_at targets links places = map (λ place. row_of_set targets (list_at links 
 abbrev pub LeadBack : List Link → Type 0
 LeadBack links = (p : ℕ) → p < length links → (slice_index_or links p no_link).next ≤ p
 
--- the lists at these places descend from below a bound
+-- the targets of the lists at these places are below a bound
 pub record AreLists (bound : ℕ) (links : List Link) (places : List ℕ) : Type 0 where
   pub back : LeadBack links
   pub placed : All (λ place. place ≤ length links) places
-  pub descend : All (λ place. DescendsBelow bound (list_at links place)) places
+  pub below : All (λ place. All (λ target. target < bound) (list_at links place)) places
 
--- the list at a place, with a target toggled, is at another place; the lists at all places that there were stay
-pub record IsToggledAt (target : ℕ) (links : List Link) (place : ℕ) (new_links : List Link) (new_place : ℕ) : Type 0 where
+-- a list with each of some targets put in front of it, the last in front of all
+abbrev pub put_before : List ℕ → List ℕ → List ℕ
+put_before [] list = list
+put_before (t ∷ ts) list = put_before ts (t ∷ list)
+
+-- more links, behind which the lists at all places that there were stay
+pub record IsGrown (links new_links : List Link) : Type 0 where
   pub back : LeadBack new_links
   pub longer : length links ≤ length new_links
-  pub placed : new_place ≤ length new_links
   pub others : (k : ℕ) → k ≤ length links → list_at new_links k ≡ list_at links k
-  pub toggled : list_at new_links new_place ≡ xor_sets (target ∷ []) (list_at links place)
+
+-- the list at a place, with some targets put before it, is at another place of more links
+pub record IsPutAt (targets : List ℕ) (links : List Link) (place : ℕ) (new_links : List Link) (new_place : ℕ) : Type 0 where
+  pub grown : IsGrown links new_links
+  pub placed : new_place ≤ length new_links
+  pub put : list_at new_links new_place ≡ put_before targets (list_at links place)
+
+-- each target is less than the one before it
+abbrev pub Falls : List ℕ → Type 0
+Falls [] = ⊤
+Falls (t ∷ ts) = DescendsBelow t ts

@@ -9,7 +9,7 @@ ghost use Rattle.backward.specs.Tracked.{fresh};
 use crate::line_store::{LineStore, ModelStore, TextStore};
 use crate::pass::{Found, step_back};
 use crate::places::{lowest_at_start, lowest_random, none_noted};
-use crate::record_sets::RecordSets;
+use crate::record_lists::RecordLists;
 use crate::targets::target_count;
 use crate::tracker::Tracker;
 use dem_text::{LinesText, Model};
@@ -161,7 +161,7 @@ fn nothing_found<'s, 'a, A: Allocator + Copy, L: LineStore + Drop>(
     ensures passed { IfOk result (λ found. IsPassedWith found.wanted (L.holds found.lines) program.now [] (fresh program.now.qubits (length (targets_of program.now))) found.sets found.latest.items found.left) }
     ensures lines { IfOk result (λ found. found.lines ≡ lines) }
 {
-    let sets = RecordSets::new(alloc, program)?;
+    let sets = RecordLists::new(alloc, program)?;
     let latest = none_noted(*alloc, target_count(program))?;
     Ok(Found {
         sets,
@@ -189,7 +189,7 @@ fn judge<'s, 'a, A: Allocator + Copy, T: Tracker, L: LineStore>(
     program.well_formed();
     let _few = target_count(program);
     // No step is left, so that what comes may have the room of the sets.
-    found.sets = RecordSets::none(alloc);
+    found.sets = RecordLists::none(alloc);
     let lowest = lowest_at_start(*alloc, program, tracker, &mut found.hit)?;
     match lowest_random(found.latest.as_slice(), lowest.as_slice()) {
         Some((which, place)) => Ok(Some((which, place))),

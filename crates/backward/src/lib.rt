@@ -10,7 +10,6 @@ mod pairs;
 mod pass;
 mod places;
 mod record_lists;
-mod record_sets;
 mod sparse_set;
 mod target_set;
 mod targets;

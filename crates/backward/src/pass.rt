@@ -11,7 +11,7 @@ ghost use Rattle.backward.specs.Tracked.{anticommuting};
 use crate::collapse::undo_collapse;
 use crate::line_store::LineStore;
 use crate::places::note;
-use crate::record_sets::RecordSets;
+use crate::record_lists::RecordLists;
 use crate::targets::target_count;
 use crate::tracker::Tracker;
 use programs::{FaultName, Program, Step, Walk};
@@ -24,7 +24,7 @@ use step_model::Term;
 /// Lines are `wanted` until something is noted in `latest`: that target is random, so that no lines are answered.
 #[derive(Drop)]
 pub(crate) struct Found<'s, A: Allocator + Copy, L> {
-    pub(crate) sets: RecordSets<'s, A>,
+    pub(crate) sets: RecordLists<'s, A>,
     pub(crate) lines: L,
     pub(crate) wanted: bool,
     pub(crate) latest: Vec<Option<u32>, A>,
@@ -143,7 +143,7 @@ fn collapse<'s, 'a, A: Allocator + Copy, T: Tracker, L: LineStore>(
 // Puts into `hit` the targets that list a record.
 fn list_record<'s, 'a, A: Allocator + Copy>(
     program: &Program<'a, A>,
-    sets: &RecordSets<'s, A>,
+    sets: &RecordLists<'s, A>,
     rec: Option<u32>,
     hit: &mut Vec<u32, A>,
 ) -> Result<(), AllocError>

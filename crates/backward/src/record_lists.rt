@@ -1,14 +1,14 @@
 //! For each record the targets that list it, as linked lists: most records have none or few.
-ghost use Rattle.std.specs.Prelude.{◌≡◌, ◌≢◌, ◌<◌, ◌≤◌, ◌+◌, ◌-◌, ◌^◌, ℕ, [], true, false, length, sum_by, slice_index_or, All, IfOk, OnOk};
+ghost use Rattle.std.specs.Prelude.{◌≡◌, ◌<◌, ◌≤◌, ◌+◌, ◌∷◌, ◌^◌, ℕ, [], true, length, sum_by, slice_index_or, slice_set, All, IfOk, OnOk};
 ghost use Rattle.step_model.specs.Targets.{targets_of};
-ghost use Rattle.backward.specs.Links.{no_link, list_at, rows_at, LeadBack, AreLists, IsToggledAt};
+ghost use Rattle.backward.specs.Collapses.{toggled_each};
+ghost use Rattle.backward.specs.Links.{list_at, rows_at, LeadBack, AreLists, Falls, IsGrown, IsPutAt};
 ghost use Rattle.backward.specs.Passes.{listing_sets};
 ghost use Rattle.backward.specs.RecordSets.{toggled_in_each};
-ghost use Rattle.backward.specs.Sets.{DescendsBelow};
 ghost use Rattle.backward.specs.TargetSets.{members};
 
-use crate::record_sets::toggle_each;
 use crate::sparse_set::SparseSet;
+use crate::target_set::{TargetSet, toggle_each};
 use crate::targets::{target, target_count};
 use programs::Program;
 use std::alloc::{AllocError, Allocator};
@@ -21,16 +21,20 @@ struct Link {
     next: u32,
 }
 
-/// For each record the targets that list it an odd number of times, as a list of links, the greatest first. Its place
-/// is how many links there were when its first was pushed, and 0 where it is empty.
+/// For each record the set of the targets that list it an odd number of times. Feedback alone changes them.
+///
+/// They are kept as lists of links, the last put first, and a target is in a set where it is in the list an odd number of
+/// times: to toggle it, it is put in front. A list's place is how many links there were when its first was pushed, and 0
+/// where it is empty.
 #[derive(Drop)]
-pub(crate) struct RecordLists<A: Allocator + Copy> {
+pub(crate) struct RecordLists<'s, A: Allocator + Copy> {
+    alloc: &'s A,
     targets: usize,
     links: Vec<Link, A>,
     places: Vec<u32, A>,
 }
 
-impl<A: Allocator + Copy> Model for RecordLists<A> {
+impl<'s, A: Allocator + Copy> Model for RecordLists<'s, A> {
     ghost use Rattle.std.specs.Prelude.{List, Bool};
     ghost use Rattle.backward.specs.Links.{rows_at, AreLists};
 
@@ -41,60 +45,68 @@ impl<A: Allocator + Copy> Model for RecordLists<A> {
     ghost invariant = { λ lists. AreLists lists.targets lists.links.items lists.places.items };
 }
 
-impl<A: Allocator + Copy> RecordLists<A> {
+impl<'s, A: Allocator + Copy> RecordLists<'s, A> {
     /// Of no records. Takes no memory.
-    pub(crate) fn none(alloc: A) -> Self
+    pub(crate) fn none(alloc: &'s A) -> Self
         ensures { result ≡ [] }
     {
         RecordLists {
+            alloc,
             targets: 0,
-            links: Vec::new(alloc),
-            places: Vec::new(alloc),
+            links: Vec::new(*alloc),
+            places: Vec::new(*alloc),
         }
     }
 
     /// Those of a program before its steps are gone over.
-    pub(crate) fn new<'a>(alloc: A, program: &Program<'a, A>) -> Result<Self, AllocError>
+    pub(crate) fn new<'a>(alloc: &'s A, program: &Program<'a, A>) -> Result<Self, AllocError>
         ensures { IfOk result (λ lists. lists ≡ listing_sets program.now []) }
     {
         let targets = target_count(program);
-        let mut links = Vec::with_capacity(alloc, listed_count(program))?;
-        let mut places = Vec::from_elem(alloc, 0, program.record_count() as usize)?;
-        // from the least up, so that each comes first
+        let mut links = Vec::with_capacity(*alloc, listed_count(program))?;
+        let mut places = Vec::from_elem(*alloc, 0, program.record_count() as usize)?;
+        // from the least up, so that lists descend
         for t in 0..targets {
-            toggle_in_each(&mut links, &mut places, target(program, t), t as u32)?;
+            put_in_each(&mut links, &mut places, target(program, t), t as u32)?;
         }
         Ok(RecordLists {
+            alloc,
             targets,
             links,
             places,
         })
     }
 
-    /// Puts the targets that list a record into `into`, ascending, in place of what it held.
+    /// Puts the targets in the set of a record into `into`, ascending, in place of what it held.
     pub(crate) fn list<B: Allocator + Copy>(
         &self,
         rec: usize,
         into: &mut Vec<u32, B>,
     ) -> Result<(), AllocError>
-        requires { rec < length self.now }
+        requires rec { rec < length self.now }
+        requires long { length (slice_index_or self.now rec []) ≤ 2 ^ 32 }
         ensures { OnOk result (into.new.items ≡ members (slice_index_or self.now rec [])) }
     {
         list_from(self.links.as_slice(), self.places[rec], into)?;
-        into.reverse();
-        Ok(())
+        // A list that feedback left alone falls, if no target lists the record twice.
+        if falls(into.as_slice()) {
+            into.reverse();
+            return Ok(());
+        }
+        let mut set = SparseSet::none(self.alloc, self.targets);
+        toggle_each(&mut set, into.as_slice())?;
+        set.list(into)
     }
 
-    /// The same as a set for each record.
-    pub(crate) fn to_sets<'s>(&self, alloc: &'s A) -> Result<Vec<SparseSet<'s, A>, A>, AllocError>
-        ensures { IfOk result (λ sets. sets.items ≡ self.now) }
+    /// Toggles each of these targets in the set of a record.
+    pub(crate) fn toggle_each(&mut self, rec: usize, targets: &[u32]) -> Result<(), AllocError>
+        requires rec { rec < length self.old }
+        requires targets { All (λ t. t < length (slice_index_or self.old rec [])) targets.now }
+        ensures { OnOk result (self.new ≡ slice_set self.old rec (toggled_each targets.now (slice_index_or self.old rec []))) }
     {
-        sets_at(
-            alloc,
-            self.targets,
-            self.links.as_slice(),
-            self.places.as_slice(),
-        )
+        let first = put_each(&mut self.links, self.places[rec], targets)?;
+        self.places[rec] = first;
+        Ok(())
     }
 }
 
@@ -109,8 +121,8 @@ fn listed_count<'a, A: Allocator + Copy>(program: &Program<'a, A>) -> usize
     count
 }
 
-// Toggles a target, which is above all that are there, in the list of each of these records.
-fn toggle_in_each<A: Allocator + Copy>(
+// Puts a target, which is above all that are there, in front of the list of each of these records.
+fn put_in_each<A: Allocator + Copy>(
     links: &mut Vec<Link, A>,
     places: &mut Vec<u32, A>,
     named: &[u32],
@@ -122,44 +134,64 @@ fn toggle_in_each<A: Allocator + Copy>(
     ensures rows { OnOk result ((m : ℕ) → target < m → rows_at m links.new.items places.new.items ≡ toggled_in_each target named.now (rows_at m links.old.items places.old.items)) }
 {
     for rec in named {
-        toggle_first(links, &mut places[*rec as usize], target)?;
+        let first = put_first(links, places[*rec as usize], target)?;
+        places[*rec as usize] = first;
     }
     Ok(())
 }
 
-// Puts a target in front of a list, or takes it off where it is the first.
-fn toggle_first<A: Allocator + Copy>(
+// Puts each of these targets in front of a list, the last in front of all, and answers the place of that list. What was put
+// before an error stays, and no list has it.
+fn put_each<A: Allocator + Copy>(
     links: &mut Vec<Link, A>,
-    place: &mut u32,
-    target: u32,
-) -> Result<(), AllocError>
+    place: u32,
+    targets: &[u32],
+) -> Result<u32, AllocError>
     requires back { LeadBack links.old.items }
-    requires placed { place.old ≤ length links.old.items }
-    requires descends { DescendsBelow (target + 1) (list_at links.old.items place.old) }
-    ensures { OnOk result (IsToggledAt target links.old.items place.old links.new.items place.new) }
+    requires placed { place ≤ length links.old.items }
+    ensures put { IfOk result (λ first. IsPutAt targets.now links.old.items place links.new.items first) }
+    ensures grown { IsGrown links.old.items links.new.items }
 {
-    if is_first(links.as_slice(), *place, target) {
-        *place = links[*place as usize - 1].next;
-        return Ok(());
+    let mut first = place;
+    for target in targets {
+        first = put_first(links, first, *target)?;
     }
+    Ok(first)
+}
+
+// Puts a target in front of a list, and answers the place of that list.
+fn put_first<A: Allocator + Copy>(
+    links: &mut Vec<Link, A>,
+    place: u32,
+    target: u32,
+) -> Result<u32, AllocError>
+    requires back { LeadBack links.old.items }
+    requires placed { place ≤ length links.old.items }
+    ensures put { IfOk result (λ first. IsPutAt (target ∷ []) links.old.items place links.new.items first) }
+    ensures grown { IsGrown links.old.items links.new.items }
+{
     if links.len() >= u32::MAX as usize {
         return Err(AllocError);
     }
     links.push(Link {
         target,
-        next: *place,
+        next: place,
     })?;
-    *place = links.len() as u32;
-    Ok(())
+    Ok(links.len() as u32)
 }
 
-// Whether a target is the first of a list.
-fn is_first(links: &[Link], place: u32, target: u32) -> bool
-    requires { place ≤ length links.now }
-    ensures yes { result ≡ true → (0 < place) × ((slice_index_or links.now (place - 1) no_link).target ≡ target) }
-    ensures no { result ≡ false → 0 < place → (slice_index_or links.now (place - 1) no_link).target ≢ target }
+// Whether each target is less than the one before it.
+fn falls(targets: &[u32]) -> bool
+    ensures { result ≡ true → Falls targets.now }
 {
-    place > 0 && links[place as usize - 1].target == target
+    let mut left = targets.len();
+    while left > 1 {
+        left -= 1;
+        if targets[left] >= targets[left - 1] {
+            return false;
+        }
+    }
+    true
 }
 
 // Puts the targets of a list into `into`, in place of what it held.
@@ -180,25 +212,4 @@ fn list_from<B: Allocator + Copy>(
         left = link.next;
     }
     Ok(())
-}
-
-// The lists at these places as sets. The greatest target comes first, so that each is appended.
-fn sets_at<'s, A: Allocator + Copy>(
-    alloc: &'s A,
-    targets: usize,
-    links: &[Link],
-    places: &[u32],
-) -> Result<Vec<SparseSet<'s, A>, A>, AllocError>
-    requires { AreLists targets links.now places.now }
-    ensures { IfOk result (λ sets. sets.items ≡ rows_at targets links.now places.now) }
-{
-    let mut listed = Vec::new(*alloc);
-    let mut sets = Vec::with_capacity(*alloc, places.len())?;
-    for place in places {
-        list_from(links, *place, &mut listed)?;
-        let mut set = SparseSet::none(alloc, targets);
-        toggle_each(&mut set, listed.as_slice())?;
-        sets.push(set)?;
-    }
-    Ok(sets)
 }

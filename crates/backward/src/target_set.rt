@@ -1,7 +1,8 @@
 //! Sets of targets, which tracked words are kept in.
-ghost use Rattle.std.specs.Prelude.{◌≡◌, ◌<◌, ◌≤◌, ◌^◌, false, true, not, length, filter, replicate, IfOk, OnOk, List, Bool, slice_index_or, slice_set};
+ghost use Rattle.std.specs.Prelude.{◌≡◌, ◌<◌, ◌≤◌, ◌^◌, false, true, not, length, filter, replicate, All, IfOk, OnOk, List, Bool, slice_index_or, slice_set};
 ghost use Rattle.std.specs.List.{range_with_len};
 ghost use Rattle.bit_rows.specs.Rows.{xor_rows};
+ghost use Rattle.backward.specs.Collapses.{toggled_each};
 ghost use Rattle.backward.specs.TargetSets.{members};
 
 use bit_rows::BitRow;
@@ -111,4 +112,15 @@ impl<A: Allocator + Copy> TargetSet for BitRow<A> {
         }
         Ok(())
     }
+}
+
+/// Toggles each of these targets.
+pub(crate) fn toggle_each<S: TargetSet>(set: &mut S, targets: &[u32]) -> Result<(), AllocError>
+    requires { All (λ t. t < length (S.bits set.old)) targets.now }
+    ensures { OnOk result (S.bits set.new ≡ toggled_each targets.now (S.bits set.old)) }
+{
+    for t in targets {
+        set.toggle(*t)?;
+    }
+    Ok(())
 }

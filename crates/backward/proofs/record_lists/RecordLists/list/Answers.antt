@@ -1,13 +1,56 @@
-use Rattle.std.proofs.Common.{ap, ◌∙◌}
-use Rattle.std.specs.Prelude.{reverse}
-use Rattle.backward.specs.Links.{list_at}
-use Rattle.backward.proofs.LinkLemmas.{reverse_is_members_at}
+use Rattle.std.proofs.Common.{◌≡◌, ◌<◌, List, [], false, length, get_or, ap, ap₂, subst, sym, ◌∙◌, arith}
+use Rattle.std.specs.Prelude.{All, reverse, replicate}
+use Rattle.std.proofs.lemmas.List.{length-replicate}
+use Rattle.std.proofs.lemmas.Result.{on_ok_weaker}
+use Rattle.backward.specs.Collapses.{toggled_each}
+use Rattle.backward.specs.Links.{list_at, Falls}
+use Rattle.backward.specs.Sets.{row_of_set}
+use Rattle.backward.specs.TargetSets.{members}
+use Rattle.backward.proofs.LinkLemmas.{below_at, falls_below, row_at, toggled_from_none}
+use Rattle.backward.proofs.SetLemmas.{reverse_is_members}
 use Rattle.backward.proofs.record_lists.RecordLists.list.Goals as goal
+
+pub returns-then-falls : goal.returns-then-falls
+returns-then-falls g c =
+    let m = c.self.inside.targets in
+    let links = c.self.inside.links.items in
+    let places = c.self.inside.places.items in
+    let place = c.index.result.now in
+    let list = list_at links place in
+    let is_list : c.list_from.new.into.items ≡ list = c.in_ok-list_from.ensures ∙ ap (λ l. list_at l place) c.as_slice.ensures.value in
+    let falls : Falls list = subst Falls (c.as_slice-2.ensures.value ∙ is_list) (c.falls.ensures c.if-falls.true) in
+    c.reverse.ensures.items
+    ∙ (ap reverse is_list
+    ∙ (reverse_is_members m list (falls_below m list falls (below_at m c.args.rec place links places c.args.self.now c.self.invariant c.self.view_is c.requires.rec c.index.ensures))
+    ∙ ap members (row_at m c.args.rec place links places c.args.self.now c.self.view_is c.requires.rec c.index.ensures)))
+
+pub toggle_each-requires : goal.toggle_each-requires
+toggle_each-requires g c =
+    let m = c.self.inside.targets in
+    let links = c.self.inside.links.items in
+    let place = c.index.result.now in
+    let is_list : c.as_slice-3.result.now ≡ list_at links place = c.as_slice-3.ensures.value ∙ (c.in_ok-list_from.ensures ∙ ap (λ l. list_at l place) c.as_slice.ensures.value) in
+    let long : length c.none-set.result ≡ m = ap length c.none-set.ensures ∙ length-replicate m false in
+    subst (λ n. All (λ t. t < n) c.as_slice-3.result.now) (sym long)
+    (subst (All (λ t. t < m)) (sym is_list) (below_at m c.args.rec place links c.self.inside.places.items c.args.self.now c.self.invariant c.self.view_is c.requires.rec c.index.ensures))
+
+pub list-requires : goal.list-requires
+list-requires g c =
+    let m = c.self.inside.targets in
+    let links = c.self.inside.links.items in
+    let place = c.index.result.now in
+    let is_list : c.as_slice-3.result.now ≡ list_at links place = c.as_slice-3.ensures.value ∙ (c.in_ok-list_from.ensures ∙ ap (λ l. list_at l place) c.as_slice.ensures.value) in
+    let row = c.in_ok-toggle_each.ensures ∙ (ap₂ toggled_each is_list c.none-set.ensures ∙ toggled_from_none m (list_at links place)) in
+    let same = row ∙ row_at m c.args.rec place links c.self.inside.places.items c.args.self.now c.self.view_is c.requires.rec c.index.ensures in
+    omega (arith, ap length same, c.requires.long)
 
 pub returns : goal.returns
 returns g c =
-    let inside = c.self.inside in
+    let m = c.self.inside.targets in
+    let links = c.self.inside.links.items in
     let place = c.index.result.now in
-    c.reverse.ensures.items
-    ∙ (ap reverse (c.in_ok-list_from.ensures ∙ ap (λ links. list_at links place) c.as_slice.ensures.value)
-    ∙ reverse_is_members_at inside.targets c.args.rec place inside.links.items inside.places.items c.args.self.now c.self.invariant c.self.view_is c.requires c.index.ensures)
+    let is_list : c.as_slice-3.result.now ≡ list_at links place = c.as_slice-3.ensures.value ∙ (c.in_ok-list_from.ensures ∙ ap (λ l. list_at l place) c.as_slice.ensures.value) in
+    let row = c.in_ok-toggle_each.ensures ∙ (ap₂ toggled_each is_list c.none-set.ensures ∙ toggled_from_none m (list_at links place)) in
+    on_ok_weaker c.list.result
+    (λ h. h ∙ ap members (row ∙ row_at m c.args.rec place links c.self.inside.places.items c.args.self.now c.self.view_is c.requires.rec c.index.ensures))
+    c.list.ensures

@@ -26,8 +26,8 @@ loop-t-init g c =
           ∙ (ap (λ (n : ℕ). replicate records (replicate n false)) c.target_count-targets.ensures.count ∙ listing_below-none program));
     }
 
-pub toggle_in_each-requires-clause-named : goal.toggle_in_each-requires-clause-named
-toggle_in_each-requires-clause-named g c =
+pub put_in_each-requires-clause-named : goal.put_in_each-requires-clause-named
+put_in_each-requires-clause-named g c =
     let program = c.args.program.now in
     let links = c.loop-t.links.items in
     let places = c.loop-t.places.items in
@@ -42,9 +42,9 @@ loop-t-preserved g c =
     let t = c.loop-t.t in
     let below = c.loop-t-test.true in
     record {
-      lists = c.in_ok-toggle_in_each.ensures.lists;
+      lists = c.in_ok-put_in_each.ensures.lists;
       rows =
-          c.in_ok-toggle_in_each.ensures.rows c.target_count-targets.result below
+          c.in_ok-put_in_each.ensures.rows c.target_count-targets.result below
           ∙ (ap₂ (toggled_in_each t) c.target.ensures c.loop-t.invariant.rows
           ∙ listing_below-more program t (omega (arith, below, c.target_count-targets.ensures.count)));
     }

@@ -1,6 +1,6 @@
 use Rattle.std.proofs.Common.{◌≡◌, length, drop}
 use Rattle.backward.specs.Collapses.{toggled_each}
-use Rattle.backward.proofs.record_sets.toggle_each.Given as goal
+use Rattle.backward.proofs.target_set.toggle_each.Given as goal
 
 -- the targets that are left make of the set what all targets make of that at the start
 abbrev pub invariant-loop-t : goal.invariant-loop-t

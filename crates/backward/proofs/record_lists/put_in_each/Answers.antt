@@ -1,9 +1,10 @@
-use Rattle.std.proofs.Common.{◌≡◌, set, ◌<◌, ◌+◌, length, get_or, drop, length-set, ap, sym, ◌∙◌, arith}
+use Rattle.std.proofs.Common.{◌≡◌, set, ◌<◌, ◌+◌, ◌∷◌, [], ℕ, length, get_or, drop, length-set, ap, sym, ◌∙◌, arith}
+use Rattle.std.specs.Prelude.{All}
 use Rattle.std.proofs.lemmas.List.{drop_more}
 use Rattle.backward.specs.Links.{rows_at}
 use Rattle.backward.specs.RecordSets.{toggled_in, toggled_in_each}
-use Rattle.backward.proofs.LinkLemmas.{lists_toggled, rows_toggled}
-use Rattle.backward.proofs.record_lists.toggle_in_each.Goals as goal
+use Rattle.backward.proofs.LinkLemmas.{lists_put, rows_put, below_one}
+use Rattle.backward.proofs.record_lists.put_in_each.Goals as goal
 
 pub loop-rec-preserved : goal.loop-rec-preserved
 loop-rec-preserved g c =
@@ -14,20 +15,20 @@ loop-rec-preserved g c =
     let target = c.args.target in
     let index = c.loop-rec.rec-index in
     let rec = get_or named index 0 in
-    let place = c.index_mut.result.now in
-    let new_links = c.toggle_first.new.links.items in
-    let new_place = c.toggle_first.new.place in
+    let place = c.index.result.now in
+    let new_links = c.put_first.new.links.items in
+    let new_place = c.in_ok-first.first in
     let fits : rec < length c.args.places.now.items = c.requires.named index 0 c.loop-rec-test.true in
     let within : rec < length places = omega (arith, fits, inv.long) in
-    let made = c.in_ok-toggle_first.ensures in
+    let made = c.in_ok-first.ensures.put in
     record {
       long = length-set places rec new_place ∙ inv.long;
-      lists = lists_toggled target rec links places place new_links new_place inv.lists within c.index_mut.ensures.value made;
+      lists = lists_put (target + 1) rec links places place new_links new_place (target ∷ []) inv.lists within c.index.ensures (below_one target (target + 1) (omega arith)) made;
       left = λ m low.
           let rows = rows_at m links places in
-          let toggled_rows : rows_at m new_links (set places rec new_place) ≡ toggled_in target rec rows =
-          rows_toggled m target rec links places place new_links new_place low inv.lists within c.index_mut.ensures.value made in
+          let put_rows : rows_at m new_links (set places rec new_place) ≡ toggled_in target rec rows =
+          rows_put m rec links places place new_links new_place (target ∷ []) inv.lists.back inv.lists.placed within c.index.ensures (below_one target m low) made in
           let next : toggled_in_each target (drop index named) rows ≡ toggled_in_each target (drop (index + 1) named) (toggled_in target rec rows) =
           ap (λ l. toggled_in_each target l rows) (drop_more named index 0 c.loop-rec-test.true) in
-          ap (toggled_in_each target (drop (index + 1) named)) toggled_rows ∙ (sym next ∙ inv.left m low);
+          ap (toggled_in_each target (drop (index + 1) named)) put_rows ∙ (sym next ∙ inv.left m low);
     }
