@@ -1,4 +1,5 @@
 pub mod ColumnLemmas
+pub mod ExchangeLemmas
 mod HeldLines
 pub mod Judging
 mod LinkLemmas

@@ -1,5 +1,5 @@
 -- Lists of targets as links of one list of links: what a link more leaves, and targets put in front.
-use Rattle.std.proofs.Common.{◌≡◌, ◌≢◌, ℕ, zero, suc, ◌+◌, ◌-◌, ◌<◌, ◌≤◌, Bool, false, List, [], ◌∷◌, ◌++◌, length, map, drop, get_or, set, inl, inr, refl, ap, ap₂, subst, sym, ◌∙◌, arith}
+use Rattle.std.proofs.Common.{◌≡◌, ℕ, zero, suc, ◌+◌, ◌-◌, ◌<◌, ◌≤◌, Bool, false, List, [], ◌∷◌, ◌++◌, length, map, drop, get_or, set, inl, inr, refl, ap, ap₂, subst, sym, ◌∙◌, arith}
 use Rattle.std.specs.Prelude.{All, replicate}
 use Rattle.std.proofs.Math.ListN.{get_or-append}
 use Rattle.std.proofs.Math.Seq.{get_or-append_seam}
@@ -88,7 +88,7 @@ pub put_in_front : (target : ℕ) (links : List Link) (place : ℕ) → LeadBack
     → IsPutAt (target ∷ []) links place (links ++ record { target = target; next = place } ∷ []) (length (links ++ record { target = target; next = place } ∷ []))
 put_in_front target links place back within =
     record {
-      grown = record { back = leads; longer = omega (arith, long); others = λ k low. list_at-append links (link ∷ []) k back low; };
+      grown = record { back = leads; longer = omega (arith, long); others = λ k low. list_at-append links (link ∷ []) k back low };
       placed = omega arith;
       put =
           ap (list_at more) long

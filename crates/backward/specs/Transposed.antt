@@ -68,6 +68,17 @@ multiplied_columns a b to_first to_second columns =
     slice_set (slice_set columns a (letters_product (slice_index_or columns a []) (map (combined to_first.0 to_first.1) (slice_index_or columns b [])))) b
     (letters_product (slice_index_or columns b []) (map (combined to_second.0 to_second.1) (slice_index_or columns a [])))
 
+-- a word whose letters at two qubits are each an image of the other
+abbrev pub exchanged_at : ℕ → ℕ → Letter × Letter → Letter × Letter → List Letter → List Letter
+exchanged_at a b to_first to_second w =
+    slice_set (slice_set w a (combined to_first.0 to_first.1 (letter_at w b))) b (combined to_second.0 to_second.1 (letter_at w a))
+
+-- the columns of two qubits, the letters of each an image of those of the other
+abbrev pub exchanged_columns : ℕ → ℕ → Letter × Letter → Letter × Letter → List (List Letter) → List (List Letter)
+exchanged_columns a b to_first to_second columns =
+    slice_set (slice_set columns a (map (combined to_first.0 to_first.1) (slice_index_or columns b []))) b
+    (map (combined to_second.0 to_second.1) (slice_index_or columns a []))
+
 -- columns, spare columns and spare sets for m targets
 pub record IsTransposed (m : ℕ) (columns : List (List Letter)) (first second : List Letter) (set spare : List Bool) : Type 0 where
   pub columns_long : All (λ column. length column ≡ m) columns

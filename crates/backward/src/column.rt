@@ -252,6 +252,13 @@ pub(crate) fn is_kept(x: Letter, z: Letter) -> bool
     matches!((x, z), (Letter::X, Letter::Z))
 }
 
+/// Whether the images of X and Z are both I.
+pub(crate) fn is_left(x: Letter, z: Letter) -> bool
+    ensures { result ≡ true → (x ≡ I) × (z ≡ I) }
+{
+    matches!((x, z), (Letter::I, Letter::I))
+}
+
 /// Whether the image of a letter is I, from those of X and Z.
 pub(crate) fn is_lost(x: Letter, z: Letter, letter: Letter) -> bool
     ensures { result ≡ true → combined x z letter ≡ I }

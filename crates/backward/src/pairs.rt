@@ -1,8 +1,8 @@
-//! Two columns of a list: multiplied by images of one another where they stand, or made anew.
+//! Two columns of a list: multiplied by images of one another where they stand, exchanged, or made anew.
 ghost use Rattle.std.specs.Prelude.{◌≡◌, ◌≢◌, ◌<◌, [], length, All, OnOk, slice_index_or};
 ghost use Rattle.gate_table.specs.Images.{arity_of};
 ghost use Rattle.pauli_word.specs.declared.letter.Letter.TheVariants.{I};
-ghost use Rattle.backward.specs.Transposed.{combined, first_before, multiplied_columns, second_before};
+ghost use Rattle.backward.specs.Transposed.{combined, exchanged_columns, first_before, multiplied_columns, second_before};
 
 use crate::column::{Column, multiply_both};
 use crate::target_set::TargetSet;
@@ -82,6 +82,32 @@ fn multiply_behind<S: TargetSet>(
 {
     let (front, back) = columns.split_at_mut(a);
     multiply_both(&mut back[0], &mut front[b], to_first, to_second, spare)
+}
+
+/// Puts at each of two places an image of the letters of the column at the other.
+#[inline(always)]
+pub(crate) fn exchange_pair<S: TargetSet>(
+    columns: &mut [Column<S>],
+    a: usize,
+    b: usize,
+    to_first: (Letter, Letter),
+    to_second: (Letter, Letter),
+    other: &mut Column<S>,
+    spare: &mut S,
+) -> Result<(), AllocError>
+    requires first { a < length columns.old }
+    requires second { b < length columns.old }
+    requires different { a ≢ b }
+    requires long { All (λ column. length column ≡ length (S.bits spare.old)) columns.old }
+    requires other { length other.old ≡ length (S.bits spare.old) }
+    ensures columns { OnOk result (columns.new ≡ exchanged_columns a b to_first to_second columns.old) }
+    ensures long { All (λ column. length column ≡ length (S.bits spare.old)) columns.new }
+    ensures other { length other.new ≡ length other.old }
+    ensures spare { length (S.bits spare.new) ≡ length (S.bits spare.old) }
+{
+    columns.swap(a, b);
+    columns[a].become_image(to_first.0, to_first.1, other, spare)?;
+    columns[b].become_image(to_second.0, to_second.1, other, spare)
 }
 
 /// Makes of two columns those that the columns at two places were before a gate.

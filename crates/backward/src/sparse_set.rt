@@ -64,21 +64,18 @@ impl<'a, A: Allocator + Copy> TargetSet for SparseSet<'a, A> {
     }
 
     fn add(&mut self, other: &Self, spare: &mut Self) -> Result<(), AllocError> {
-        if self.items.len() <= FEW && other.items.len() <= FEW {
-            return add_few(&mut self.items, other.items.as_slice());
-        }
-        if other.items.as_slice().is_empty() {
+        let more = other.items.as_slice();
+        if more.is_empty() {
             return Ok(());
         }
+        if self.items.len() <= FEW && more.len() <= FEW {
+            return add_few(&mut self.items, more);
+        }
         if self.items.as_slice().is_empty() {
-            return self.items.extend_from_slice(other.items.as_slice());
+            return self.items.extend_from_slice(more);
         }
         spare.items.clear();
-        match merge(
-            self.items.as_slice(),
-            other.items.as_slice(),
-            &mut spare.items,
-        ) {
+        match merge(self.items.as_slice(), more, &mut spare.items) {
             Ok(()) => {
                 std::mem::swap(&mut self.items, &mut spare.items);
                 Ok(())

@@ -6,10 +6,10 @@ ghost use Rattle.pauli_word.specs.Words.{anticommute};
 ghost use Rattle.step_model.specs.Listing.{word_of_terms};
 ghost use Rattle.backward.specs.Tracked.{anticommuting, each_word, fresh, undone_two};
 ghost use Rattle.backward.specs.TargetSets.{members};
-ghost use Rattle.backward.specs.Transposed.{combined, multiplied_at, word_at};
+ghost use Rattle.backward.specs.Transposed.{combined, exchanged_at, multiplied_at, word_at};
 
-use crate::column::{Column, is_kept, is_lost, is_y};
-use crate::pairs::{image_pair, multiply_pair};
+use crate::column::{Column, is_kept, is_left, is_lost, is_y};
+use crate::pairs::{exchange_pair, image_pair, multiply_pair};
 use crate::sparse_set::SparseSet;
 use crate::target_set::TargetSet;
 use crate::tracker::Tracker;
@@ -119,6 +119,30 @@ impl<S: TargetSet, A: Allocator + Copy> Words<S, A> {
         )
     }
 
+    // Puts at each of two qubits an image of the letters at the other.
+    fn exchange(
+        &mut self,
+        a: usize,
+        b: usize,
+        to_first: (Letter, Letter),
+        to_second: (Letter, Letter),
+    ) -> Result<(), AllocError>
+        requires first_in_range { a < self.old.qubits }
+        requires second_in_range { b < self.old.qubits }
+        requires different { a ≢ b }
+        ensures { OnOk result (self.new ≡ each_word (exchanged_at a b to_first to_second) self.old) }
+    {
+        exchange_pair(
+            self.columns.as_mut_slice(),
+            a,
+            b,
+            to_first,
+            to_second,
+            &mut self.first,
+            &mut self.spare,
+        )
+    }
+
     // Lists the targets whose words anticommute with the product of two letters, and answers whether it did: it need not.
     #[inline(never)]
     fn list_both<B: Allocator + Copy>(
@@ -201,6 +225,8 @@ impl<S: TargetSet, A: Allocator + Copy> Tracker for Words<S, A> {
         let kept = is_kept(xa.0, za.0) && is_kept(xb.1, zb.1);
         if kept && is_lost(xa.1, za.1, xb.0) && is_lost(xa.1, za.1, zb.0) {
             self.multiply(a, b, (xb.0, zb.0), (xa.1, za.1))
+        } else if is_left(xa.0, za.0) && is_left(xb.1, zb.1) {
+            self.exchange(a, b, (xb.0, zb.0), (xa.1, za.1))
         } else {
             self.undo_by_images(gate, a, b)
         }

@@ -1,5 +1,4 @@
-use Rattle.std.proofs.Common.{◌≡◌, set, ◌<◌, ◌+◌, ◌∷◌, [], ℕ, length, get_or, drop, length-set, ap, sym, ◌∙◌, arith}
-use Rattle.std.specs.Prelude.{All}
+use Rattle.std.proofs.Common.{◌≡◌, set, ◌<◌, ◌+◌, ◌∷◌, [], length, get_or, drop, length-set, ap, sym, ◌∙◌, arith}
 use Rattle.std.proofs.lemmas.List.{drop_more}
 use Rattle.backward.specs.Links.{rows_at}
 use Rattle.backward.specs.RecordSets.{toggled_in, toggled_in_each}

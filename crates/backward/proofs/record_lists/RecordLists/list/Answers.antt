@@ -1,10 +1,9 @@
-use Rattle.std.proofs.Common.{◌≡◌, ◌<◌, List, [], false, length, get_or, ap, ap₂, subst, sym, ◌∙◌, arith}
-use Rattle.std.specs.Prelude.{All, reverse, replicate}
+use Rattle.std.proofs.Common.{◌≡◌, ◌<◌, false, length, ap, ap₂, subst, sym, ◌∙◌, arith}
+use Rattle.std.specs.Prelude.{All, reverse}
 use Rattle.std.proofs.lemmas.List.{length-replicate}
 use Rattle.std.proofs.lemmas.Result.{on_ok_weaker}
 use Rattle.backward.specs.Collapses.{toggled_each}
 use Rattle.backward.specs.Links.{list_at, Falls}
-use Rattle.backward.specs.Sets.{row_of_set}
 use Rattle.backward.specs.TargetSets.{members}
 use Rattle.backward.proofs.LinkLemmas.{below_at, falls_below, row_at, toggled_from_none}
 use Rattle.backward.proofs.SetLemmas.{reverse_is_members}
