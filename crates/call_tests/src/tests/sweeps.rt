@@ -6,7 +6,6 @@ mod plain;
 mod quiet;
 mod runs;
 mod texts;
-mod trackers;
 mod values;
 
 use growths::sweep;
@@ -18,7 +17,6 @@ fn every_growth_is_refused_once(rt: HostRuntime) -> Result<(), Fail> {
     sweep(&rt, alloc, &texts::READERS, true)?;
     sweep(&rt, alloc, &runs::RUNNING, true)?;
     sweep(&rt, alloc, &analyses::ANALYSES, true)?;
-    sweep(&rt, alloc, &trackers::TRACKING, true)?;
     sweep(&rt, alloc, &lists::GROWING, true)?;
     sweep(&rt, alloc, &values::MADE, true)?;
     sweep(&rt, alloc, &plain::PLAIN, true)?;
