@@ -6,21 +6,21 @@ use Rattle.stim_parser.specs.Arguments.{arguments_in}
 use Rattle.stim_parser.specs.Limits.{has_wrong_arguments, has_wrong_probability}
 use Rattle.stim_parser.specs.Said.{AreProbabilities}
 use Rattle.dem_parser.specs.declared.counts.TargetCounts.{TargetCounts}
-use Rattle.dem_parser.specs.declared.forms.TargetForm.TheVariants.{Effects}
-use Rattle.dem_parser.specs.declared.operation.Operation.TheVariants.{Errs}
+use Rattle.dem_lines.specs.declared.forms.TargetForm.TheVariants.{Effects}
+use Rattle.dem_lines.specs.declared.operation.Operation.TheVariants.{Errs}
 use Rattle.dem_parser.specs.declared.plain_reader.Step.TheVariants as step
-use Rattle.dem_parser.specs.declared.target.Target.{Target}
+use Rattle.dem_lines.specs.declared.target.Target.{Target}
 use Rattle.dem_parser.specs.ErrorTexts.{AreCounted, is_quiet}
-use Rattle.dem_parser.specs.Instructions.{keyword_named}
-use Rattle.dem_parser.specs.Limits.{are_of_form, has_coordinate_beyond, has_target_beyond, is_effect}
+use Rattle.dem_lines.specs.Instructions.{keyword_named}
+use Rattle.dem_lines.specs.Limits.{are_of_form, has_coordinate_beyond, has_target_beyond, is_effect}
 use Rattle.dem_parser.specs.Meanings.{detectors_to, greatest_of, observables_to}
 use Rattle.dem_parser.specs.PlainLines.{Passes}
 use Rattle.dem_parser.specs.Tallies.{Tally, tallied}
-use Rattle.dem_parser.specs.Targets.{targets_in}
-use Rattle.dem_parser.specs.Texts.{line_reading}
-use Rattle.dem_parser.specs.Verdicts.{Instruction, Takes, judged, read_targets, reading_of, refusal_of}
+use Rattle.dem_lines.specs.Targets.{targets_in}
+use Rattle.dem_lines.specs.Texts.{line_reading}
+use Rattle.dem_lines.specs.Verdicts.{Instruction, Takes, judged, read_targets, reading_of, refusal_of}
 use Rattle.dem_parser.proofs.ErrorTextLemmas.{cut_found, error_cut, error_text, no_bad_byte, says_something}
-use Rattle.dem_parser.proofs.JudgeLemmas.{read_targets-at}
+use Rattle.dem_lines.proofs.JudgeLemmas.{read_targets-at}
 
 abbrev error_instruction : ℕ → List ℕ → List Target → Instruction
 error_instruction number arguments targets =

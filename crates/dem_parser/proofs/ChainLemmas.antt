@@ -4,22 +4,22 @@ use Rattle.std.specs.Prelude.{⊤, find, slice_index_or}
 use Rattle.std.specs.List.{list_any}
 use Rattle.std.proofs.lemmas.Bool.{or_from, or_parts}
 use Rattle.stim_parser.specs.Numbers.{is_number_beyond, has_minus, magnitude_of, whole_value}
-use Rattle.dem_parser.specs.declared.operation.Operation.{Operation}
-use Rattle.dem_parser.specs.declared.operation.Operation.TheVariants.{Errs, Detects, Observes, Shifts}
-use Rattle.dem_parser.specs.declared.target.Target.{Target}
-use Rattle.dem_parser.specs.Fitting.{Fits, AllFit}
-use Rattle.dem_parser.specs.Flat.{tree_of-items}
-use Rattle.dem_parser.specs.Limits.{has_coordinate_beyond, has_target_beyond}
+use Rattle.dem_lines.specs.declared.operation.Operation.{Operation}
+use Rattle.dem_lines.specs.declared.operation.Operation.TheVariants.{Errs, Detects, Observes, Shifts}
+use Rattle.dem_lines.specs.declared.target.Target.{Target}
+use Rattle.dem_lines.specs.Fitting.{Fits, AllFit}
+use Rattle.dem_lines.specs.Flat.{tree_of-items}
+use Rattle.dem_lines.specs.Limits.{has_coordinate_beyond, has_target_beyond}
 use Rattle.dem_parser.specs.Meanings.{meaning_of}
 use Rattle.dem_parser.specs.Models.{is_beyond, is_far, model_in, model_of_items, model_of_tree, placed_lines, refusal_of_tree, unless_refused_by}
-use Rattle.dem_parser.specs.Reached.{block_lines, reached}
+use Rattle.dem_lines.specs.Reached.{block_lines, reached}
 use Rattle.dem_parser.specs.Shifts.{Placed, Shift, coordinates_given, moved, no_shift, placed_from, shifted_by, placed_at}
 use Rattle.dem_parser.specs.Tallies.{shifts}
-use Rattle.dem_parser.specs.Texts.{Does}
-use Rattle.dem_parser.specs.Trees.{Tree, Nothing, Then, Writes, items_of}
-use Rattle.dem_parser.specs.Verdicts.{Instruction}
+use Rattle.dem_lines.specs.Texts.{Does}
+use Rattle.dem_lines.specs.Trees.{Tree, Nothing, Then, Writes, items_of}
+use Rattle.dem_lines.specs.Verdicts.{Instruction}
 use Rattle.dem_parser.proofs.PlaceLemmas.{unmoved}
-use Rattle.dem_parser.proofs.TreeLemmas.{each_tree_is_accepted}
+use Rattle.dem_lines.proofs.TreeLemmas.{each_tree_is_accepted}
 
 abbrev pub AllStill : List Instruction → Type 0
 AllStill [] = ⊤

@@ -1,13 +1,3 @@
-mod NameLemmas
-mod TargetLemmas
-mod JudgeLemmas
-mod CheckLemmas
-mod FlatLemmas
-mod FitLemmas
-pub mod TreeLemmas
-mod TextLemmas
-mod PassLemmas
-mod LineCountLemmas
 mod GatherLemmas
 mod SumLemmas
 mod SummedLemmas

@@ -14,19 +14,19 @@ use Rattle.stim_lexer.specs.Cut.{Cut, cut_of, has_bad_byte}
 use Rattle.stim_lexer.specs.Lexing.{Numbered, Unread, after_silent, next_found}
 use Rattle.stim_lexer.specs.Lines.{lines_of, says_nothing}
 use Rattle.stim_lexer.proofs.ScanLemmas.{lines_of-cut, lines_of-none, list_any-from_first}
-use Rattle.dem_parser.specs.declared.operation.Keyword.{Keyword}
-use Rattle.dem_parser.specs.declared.operation.Keyword.TheVariants.{Does as keyword_Does, Repeats}
+use Rattle.dem_lines.specs.declared.operation.Keyword.{Keyword}
+use Rattle.dem_lines.specs.declared.operation.Keyword.TheVariants.{Does as keyword_Does, Repeats}
 use Rattle.dem_parser.specs.declared.plain_reader.Step.TheVariants as step
-use Rattle.dem_parser.specs.Instructions.{keyword_named}
+use Rattle.dem_lines.specs.Instructions.{keyword_named}
 use Rattle.dem_parser.specs.Models.{model_in, model_of_items}
 use Rattle.dem_parser.specs.PlainLines.{IsTallied, Passes}
 use Rattle.dem_parser.specs.Stripped.{stripped_or}
 use Rattle.dem_parser.specs.Tallies.{IsWhole, Tally, model_tallied, no_tally, tallied}
-use Rattle.dem_parser.specs.Texts.{Item, Does, before, items_from, items_in, line_reading, refused}
-use Rattle.dem_parser.specs.Verdicts.{Instruction, Reading, Takes, Opens, Closes, Refuses, accepted, closed_at, judged, read_targets, reading_of, refusal_of, said_by, unless_refused}
+use Rattle.dem_lines.specs.Texts.{Item, Does, before, items_from, items_in, line_reading, refused}
+use Rattle.dem_lines.specs.Verdicts.{Instruction, Reading, Takes, Opens, Closes, Refuses, accepted, closed_at, judged, read_targets, reading_of, refusal_of, said_by, unless_refused}
 use Rattle.dem_parser.proofs.ChainLemmas.{AllStill, chain_means, items_of-then_all}
 use Rattle.dem_parser.proofs.TallyLemmas.{model-tallied, tally-more, tally_from, whole-tallied}
-use Rattle.dem_parser.proofs.TextLemmas.{after, after-append, after-err, after-ok}
+use Rattle.dem_lines.proofs.TextLemmas.{after, after-append, after-err, after-ok}
 
 -- ---- one line
 

@@ -1,7 +1,7 @@
 -- The sum of a model's lines that stay texts: the targets of a line named turn round what the line flips.
 use Rattle.std.proofs.Common.{◌≡◌, ℕ, zero, suc, ◌+◌, ◌<◌, Bool, false, if◌then◌else◌, List, [], ◌∷◌, length, drop, get_or, map, replicate, refl, ap, ap₂, subst, sym, ◌∙◌, arith}
 use Rattle.step_model.specs.ErrorModels.{ErrorLine, ErrorModel}
-use Rattle.dem_parser.specs.declared.target.Target.{Target}
+use Rattle.dem_lines.specs.declared.target.Target.{Target}
 use Rattle.dem_parser.specs.Numbered.{numbers_of}
 use Rattle.dem_parser.specs.Sums.{symptom_of, turned, turned_by}
 use Rattle.dem_parser.specs.Tallies.{AreCountsOf, Tally, line_tallied, model_tallied}

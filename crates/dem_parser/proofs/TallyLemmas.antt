@@ -4,12 +4,12 @@ use Rattle.std.specs.Prelude.{All}
 use Rattle.std.specs.List.{filter}
 use Rattle.std.proofs.lemmas.List.Elements.{All-append, All-cons}
 use Rattle.step_model.specs.ErrorModels.{ErrorLine, ErrorModel}
-use Rattle.dem_parser.specs.declared.target.Target.{Target}
+use Rattle.dem_lines.specs.declared.target.Target.{Target}
 use Rattle.dem_parser.specs.Meanings.{detector_count, detectors_to, error_line, error_lines, greatest_of, greatest_over, is_error, meaning_of, observable_count, observables_to}
 use Rattle.dem_parser.specs.Shifts.{Placed}
 use Rattle.dem_parser.specs.Stripped.{stripped, stripped_line}
 use Rattle.dem_parser.specs.Tallies.{IsWhole, Tally, line_tallied, model_tallied, no_tally, tallied}
-use Rattle.dem_parser.specs.Verdicts.{Instruction}
+use Rattle.dem_lines.specs.Verdicts.{Instruction}
 use Rattle.dem_parser.proofs.ChainLemmas.{placed}
 use Rattle.dem_parser.proofs.CountLemmas.{max-more}
 

@@ -10,10 +10,10 @@ use Rattle.step_model.specs.Probabilities.{digits_value}
 use Rattle.stim_lexer.specs.Bytes.{is_empty}
 use Rattle.stim_parser.specs.Pieces.{ends_here}
 use Rattle.dem_parser.specs.declared.counts.TargetCounts.{TargetCounts}
-use Rattle.dem_parser.specs.declared.target.Target.{Target}
-use Rattle.dem_parser.specs.Limits.{has_target_beyond, is_effect}
+use Rattle.dem_lines.specs.declared.target.Target.{Target}
+use Rattle.dem_lines.specs.Limits.{has_target_beyond, is_effect}
 use Rattle.dem_parser.specs.Meanings.{detectors_to, greatest_of, observables_to}
-use Rattle.dem_parser.specs.Targets.{target_of, targets_in}
+use Rattle.dem_lines.specs.Targets.{target_of, targets_in}
 
 -- printable bytes before the braces, of which none ends a word of targets, ends arguments or begins a comment
 abbrev pub is_word_byte : ℕ → Bool

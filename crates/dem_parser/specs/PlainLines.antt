@@ -6,8 +6,8 @@ use Rattle.stim_lexer.specs.Lines.{says_nothing}
 use Rattle.dem_parser.specs.declared.plain_reader.Step.{Step}
 use Rattle.dem_parser.specs.declared.plain_reader.Step.TheVariants as step
 use Rattle.dem_parser.specs.Tallies.{Tally, shifts, tallied}
-use Rattle.dem_parser.specs.Texts.{line_reading}
-use Rattle.dem_parser.specs.Verdicts.{Instruction, Reading, Takes, Refuses}
+use Rattle.dem_lines.specs.Texts.{line_reading}
+use Rattle.dem_lines.specs.Verdicts.{Instruction, Reading, Takes, Refuses}
 
 -- an instruction that shifts nothing was taken and tallied
 pub record IsTallied (reading : Reading) (t t' : Tally) : Type 0 where

@@ -6,12 +6,12 @@ use Rattle.std.specs.Prelude.{◌≡◌, ℕ, max, ◌≤◌, Bool, true, false,
 use Rattle.std.specs.Borrow.{Bor}
 use Rattle.std.specs.Coded.{Coded, code_by, coded×, coded_ℕ, coded_list}
 use Rattle.step_model.specs.ErrorModels.{ErrorLine, ErrorModel}
-use Rattle.dem_parser.specs.contracts.target.Target as target
-use Rattle.dem_parser.specs.declared.operation.Operation.{Operation}
-use Rattle.dem_parser.specs.declared.operation.Operation.TheVariants.{Shifts}
-use Rattle.dem_parser.specs.declared.target.Target.{Target}
+use Rattle.dem_lines.specs.contracts.target.Target as target
+use Rattle.dem_lines.specs.declared.operation.Operation.{Operation}
+use Rattle.dem_lines.specs.declared.operation.Operation.TheVariants.{Shifts}
+use Rattle.dem_lines.specs.declared.target.Target.{Target}
 use Rattle.dem_parser.specs.Meanings.{detectors_to, flipped, greatest_of, is_error, observables_to}
-use Rattle.dem_parser.specs.Verdicts.{read_targets}
+use Rattle.dem_lines.specs.Verdicts.{read_targets}
 
 pub record Tally : Type 0 where
   pub errors : List (List Target)

@@ -3,9 +3,8 @@ ghost use Rattle.dem_parser.specs.KeptLines.{placed_in};
 ghost use Rattle.dem_parser.specs.Meanings.{detector_count, detectors_to, greatest_of, is_error, observable_count, observables_to};
 ghost use Rattle.dem_parser.specs.Summed.{error_count, passed_after};
 
-use crate::operation::Operation;
 use crate::placed::{PlacedLine, PlacedLines};
-use crate::target::Target;
+use dem_lines::{Operation, Target};
 use std::alloc::Allocator;
 
 /// How many detectors and how many observables targets name.

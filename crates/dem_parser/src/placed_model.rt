@@ -7,10 +7,9 @@ ghost use Rattle.dem_parser.specs.Sums.{symptom_of, turned};
 
 use crate::counts::{counts_of, is_error};
 use crate::flips::number_at;
-use crate::narrow::narrowed;
 use crate::placed::{PlacedLine, PlacedLines};
 use crate::sums::{no_bits, turn_at};
-use crate::target::Target;
+use dem_lines::{Target, narrowed};
 use std::alloc::{AllocError, Allocator};
 use std::marker::Model;
 

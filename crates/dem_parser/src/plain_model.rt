@@ -2,13 +2,12 @@ ghost use Rattle.std.specs.Prelude.{◌≡◌, if◌then◌else◌, length, IfOk
 ghost use Rattle.dem_parser.specs.Numbered.{numbers_of};
 ghost use Rattle.dem_parser.specs.Sums.{symptom_of, turned};
 ghost use Rattle.dem_parser.specs.Tallies.{IsWhole, model_tallied};
-ghost use Rattle.dem_parser.specs.Verdicts.{read_targets};
+ghost use Rattle.dem_lines.specs.Verdicts.{read_targets};
 
-use crate::narrow::narrowed;
 use crate::placed_model::{named_end, turn_targets};
 use crate::plain_tally::TalliedLines;
 use crate::sums::no_bits;
-use crate::target::{Target, read_targets};
+use dem_lines::{Target, narrowed, read_targets};
 use std::alloc::{AllocError, Allocator};
 use std::marker::Model;
 

@@ -8,14 +8,12 @@ ghost use Rattle.stim_lexer.specs.Lines.{says_nothing};
 ghost use Rattle.dem_parser.specs.declared.plain_reader.Step.TheVariants.{Goes};
 ghost use Rattle.dem_parser.specs.PlainLines.{Passes, Steps};
 ghost use Rattle.dem_parser.specs.Tallies.{no_tally};
-ghost use Rattle.dem_parser.specs.Verdicts.{reading_of};
+ghost use Rattle.dem_lines.specs.Verdicts.{reading_of};
 
-use crate::judge::{Last, Said, read_line};
-use crate::operation::Operation;
 use crate::plain_head::{Head, behind_head, head_in};
 use crate::plain_tally::TalliedLines;
 use crate::plain_targets::counted;
-use crate::target::Target;
+use dem_lines::{Last, Operation, Said, Target, read_line};
 use std::alloc::{AllocError, Allocator};
 use step_model::Cause;
 use stim_lexer::{Lexer, Line};

@@ -1,10 +1,9 @@
 ghost use Rattle.std.specs.Prelude.{◌≡◌, ◌<◌, [], ◌∷◌, ◌++◌, length, slice_index_or, IfOk};
 ghost use Rattle.dem_parser.specs.Tallies.{no_tally, tallied};
-ghost use Rattle.dem_parser.specs.Verdicts.{read_targets};
+ghost use Rattle.dem_lines.specs.Verdicts.{read_targets};
 
 use crate::counts::{TargetCounts, is_error, raised};
-use crate::operation::Operation;
-use crate::target::Target;
+use dem_lines::{Operation, Target};
 use std::alloc::{AllocError, Allocator};
 use std::marker::Model;
 

@@ -2,9 +2,8 @@ ghost use Rattle.std.specs.Prelude.{◌≡◌, ◌<◌, ◌∷◌, true, length,
 ghost use Rattle.std.specs.Char.{is_ascii_digit};
 ghost use Rattle.dem_parser.specs.ErrorTexts.{AreCounted, IsNumberFront, IsTargetFront};
 
-use crate::checks::is_target_beyond;
 use crate::counts::{TargetCounts, raised_to};
-use crate::target::Target;
+use dem_lines::{Target, is_target_beyond};
 
 /// The greatest number behind which one digit more is read.
 const MOST_READ: u64 = 99_999_999;

@@ -1,9 +1,9 @@
 use Rattle.std.proofs.Common.{◌≡◌, ◌∙◌, ap, sym}
 use Rattle.stim_lexer.specs.Lexing.{cut_in}
 use Rattle.stim_parser.specs.Arguments.{arguments_in}
-use Rattle.dem_parser.specs.declared.judge.Said.{Said}
-use Rattle.dem_parser.specs.Said.{reading_in}
-use Rattle.dem_parser.specs.Verdicts.{Instruction, Takes, reading_of}
+use Rattle.dem_lines.specs.declared.judge.Said.{Said}
+use Rattle.dem_lines.specs.Said.{reading_in}
+use Rattle.dem_lines.specs.Verdicts.{Instruction, Takes, reading_of}
 use Rattle.dem_parser.proofs.PlainLemmas.{taken_targets}
 use Rattle.dem_parser.proofs.plain_reader.PlainReader.take.Goals as goal
 
