@@ -7,7 +7,3 @@ pub mod KeptLines
 pub mod Numbered
 pub mod Summed
 pub mod Marked
-pub mod Stripped
-pub mod Tallies
-pub mod PlainLines
-pub mod ErrorTexts

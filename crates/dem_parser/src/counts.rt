@@ -9,7 +9,7 @@ use std::alloc::Allocator;
 
 /// How many detectors and how many observables targets name.
 #[derive(Clone, Copy)]
-pub(crate) struct TargetCounts {
+pub struct TargetCounts {
     pub detectors: u128,
     pub observables: u128,
 }
@@ -43,7 +43,7 @@ fn observables_to(target: Target) -> u128
 
 /// Counts raised to what a target names.
 #[inline(always)]
-pub(crate) fn raised_to(counts: TargetCounts, target: Target) -> TargetCounts
+pub fn raised_to(counts: TargetCounts, target: Target) -> TargetCounts
     ensures detectors { result.detectors ≡ max counts.detectors (detectors_to target) }
     ensures observables { result.observables ≡ max counts.observables (observables_to target) }
 {
@@ -54,7 +54,7 @@ pub(crate) fn raised_to(counts: TargetCounts, target: Target) -> TargetCounts
 }
 
 /// Counts raised to what targets name.
-pub(crate) fn raised(counts: TargetCounts, targets: &[Target]) -> TargetCounts
+pub fn raised(counts: TargetCounts, targets: &[Target]) -> TargetCounts
     ensures detectors { result.detectors ≡ max counts.detectors (greatest_of detectors_to targets.now) }
     ensures observables { result.observables ≡ max counts.observables (greatest_of observables_to targets.now) }
 {
@@ -69,7 +69,7 @@ pub(crate) fn raised(counts: TargetCounts, targets: &[Target]) -> TargetCounts
 }
 
 /// Whether a line is an error line.
-pub(crate) fn is_error(operation: Operation) -> bool
+pub fn is_error(operation: Operation) -> bool
     ensures { result ≡ is_error operation }
 {
     matches!(operation, Operation::Errs)

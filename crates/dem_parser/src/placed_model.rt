@@ -36,7 +36,7 @@ impl<'c, 'a, A: Allocator + Copy> Model for PlacedModel<'c, 'a, A> {
 }
 
 /// Behind which number no line is named.
-pub(crate) fn named_end(named: &[bool]) -> usize
+pub fn named_end(named: &[bool]) -> usize
     ensures within { result ≤ length named.now }
     ensures none { (k : ℕ) → result ≤ k → slice_index_or named.now k false ≡ false }
 {
@@ -67,7 +67,7 @@ fn turn_target(bits: &mut [bool], detectors: u32, target: Target) -> Result<(), 
 }
 
 /// The same of targets, one after another.
-pub(crate) fn turn_targets(
+pub fn turn_targets(
     bits: &mut [bool],
     detectors: u32,
     targets: &[Target],
