@@ -67,11 +67,7 @@ fn turn_target(bits: &mut [bool], detectors: u32, target: Target) -> Result<(), 
 }
 
 /// The same of targets, one after another.
-pub fn turn_targets(
-    bits: &mut [bool],
-    detectors: u32,
-    targets: &[Target],
-) -> Result<(), AllocError>
+pub fn turn_targets(bits: &mut [bool], detectors: u32, targets: &[Target]) -> Result<(), AllocError>
     ensures { IfOk result (λ _. bits.new ≡ turned bits.old (numbers_of detectors targets.now)) }
 {
     for target in targets {

@@ -16,7 +16,10 @@ ghost use Rattle.dem_lines.specs.Trees.{items_of};
 
 use crate::placed::PlacedLines;
 use crate::shifts::{Shift, coordinates_read, pass, sum_at};
-use dem_lines::{GREATEST_DETECTOR, GREATEST_NUMBER, Instruction, ModelLines, Operation, Target, is_target_beyond};
+use dem_lines::{
+    GREATEST_DETECTOR, GREATEST_NUMBER, Instruction, ModelLines, Operation, Target,
+    is_target_beyond,
+};
 use std::alloc::{AllocError, Allocator};
 use step_model::{Cause, Fault};
 

@@ -6,8 +6,8 @@ ghost use Rattle.dem_lines.specs.Passes.{CanStand};
 ghost use Rattle.dem_lines.specs.Reached.{copies, reached};
 ghost use Rattle.dem_lines.specs.Trees.{items_of};
 
-use dem_lines::{Item, LEVELS, ModelLines, OpenBlock, narrowed};
 use arrayvec::ArrayVec;
+use dem_lines::{Item, LEVELS, ModelLines, OpenBlock, narrowed};
 use std::alloc::{AllocError, Allocator};
 
 /// The places of the instructions that are reached up to a place of a model's text, and the blocks that are open there.

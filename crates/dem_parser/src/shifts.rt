@@ -6,8 +6,8 @@ ghost use Rattle.dem_lines.specs.Flat.{instruction_in};
 ghost use Rattle.dem_parser.specs.KeptLines.{added_at, shift_of};
 ghost use Rattle.dem_parser.specs.Shifts.{both_offsets, shift_after};
 
-use dem_lines::{Instruction, Operation, number_in};
 use arrayvec::ArrayVec;
+use dem_lines::{Instruction, Operation, number_in};
 use std::alloc::{AllocError, Allocator};
 use stim_parser::{MOST_ARGUMENTS, first_argument, read_arguments, whole_values};
 
