@@ -6,7 +6,7 @@ use stim_parser::ArgumentForm;
 
 /// Which targets a line takes.
 #[derive(Clone, Copy)]
-pub(crate) enum TargetForm {
+pub enum TargetForm {
     /// Detectors, observables and separators.
     Effects,
     Detectors,

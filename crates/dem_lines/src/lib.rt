@@ -19,11 +19,12 @@ mod target;
 
 pub use blocks::{LEVELS, OpenBlock};
 pub use checks::{GREATEST_DETECTOR, GREATEST_NUMBER, is_target_beyond};
+pub use forms::TargetForm;
 pub use instruction::Instruction;
 pub use judge::{Last, Said, number_in, read_line};
 pub use line_counts::has_many_lines;
 pub use lines::{Item, ModelLines};
 pub use narrow::narrowed;
-pub use operation::Operation;
+pub use operation::{Keyword, Operation};
 pub use parser::parse;
 pub use target::{Target, read_targets};

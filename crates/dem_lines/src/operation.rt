@@ -13,7 +13,7 @@ pub enum Operation {
 
 /// What a name says: an operation, or the start of a block.
 #[derive(Clone, Copy)]
-pub(crate) enum Keyword {
+pub enum Keyword {
     Does(Operation),
     Repeats,
 }
