@@ -1,6 +1,6 @@
 use Rattle.std.proofs.Common.{◌≡◌, length}
 use Rattle.backward.specs.Numbered.{AreNumbers}
-use Rattle.backward.proofs.line_store.kept_numbers.Given as goal
+use Rattle.backward.proofs.line_store.keep_each.Given as goal
 
 -- the texts of the parts before this one are kept
 abbrev pub invariant-loop-part : goal.invariant-loop-part

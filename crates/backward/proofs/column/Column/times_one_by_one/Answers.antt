@@ -1,7 +1,7 @@
 use Rattle.std.proofs.Common.{◌≡◌, ◌<◌, ◌+◌, ◌-◌, length, get_or, ap, ◌∙◌, arith}
 use Rattle.backward.specs.Transposed.{times_at}
 use Rattle.backward.proofs.TimesEach.{one_before}
-use Rattle.backward.proofs.column.Column.times_each.Goals as goal
+use Rattle.backward.proofs.column.Column.times_one_by_one.Goals as goal
 
 pub loop-left-preserved : goal.loop-left-preserved
 loop-left-preserved g c =

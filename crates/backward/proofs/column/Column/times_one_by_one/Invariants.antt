@@ -1,6 +1,6 @@
 use Rattle.std.proofs.Common.{◌≡◌, ◌≤◌, length, drop}
 use Rattle.backward.specs.Transposed.{times_each}
-use Rattle.backward.proofs.column.Column.times_each.Given as goal
+use Rattle.backward.proofs.column.Column.times_one_by_one.Given as goal
 
 -- the targets from this one on are done
 abbrev pub invariant-loop-left : goal.invariant-loop-left

@@ -6,7 +6,7 @@ use Rattle.backward.specs.Links.{list_at}
 use Rattle.backward.specs.Sets.{row_of_set}
 use Rattle.backward.proofs.LinkLemmas.{lists_put, rows_put, row_at}
 use Rattle.backward.proofs.SetLemmas.{length-row_of_set}
-use Rattle.backward.proofs.record_lists.RecordLists.toggle_each.Goals as goal
+use Rattle.backward.proofs.record_lists.RecordLists.put.Goals as goal
 
 pub invariant_of-self-2 : goal.invariant_of-self-2
 invariant_of-self-2 g c =

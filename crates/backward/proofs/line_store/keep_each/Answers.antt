@@ -3,7 +3,7 @@ use Rattle.std.proofs.lemmas.List.{get_or_default}
 use Rattle.programs.specs.declared.entries.EntryPart.{EntryPart}
 use Rattle.backward.specs.Numbered.{AreNumbers}
 use Rattle.backward.proofs.NumberedLemmas.{numbers_kept, numbers_more}
-use Rattle.backward.proofs.line_store.kept_numbers.Goals as goal
+use Rattle.backward.proofs.line_store.keep_each.Goals as goal
 
 pub loop-part-preserved : goal.loop-part-preserved
 loop-part-preserved g c =
