@@ -15,6 +15,7 @@ pub mod PassWords
 pub mod RangeLemmas
 pub mod Sensitivities
 pub mod SetLemmas
+mod TimesAll
 mod TimesEach
 pub mod TransposedLemmas
 mod WantedLines

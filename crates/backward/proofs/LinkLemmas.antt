@@ -3,7 +3,7 @@ use Rattle.std.proofs.Common.{◌≡◌, ℕ, zero, suc, ◌+◌, ◌-◌, ◌<�
 use Rattle.std.specs.Prelude.{All, replicate}
 use Rattle.std.proofs.Math.ListN.{get_or-append}
 use Rattle.std.proofs.Math.Seq.{get_or-append_seam}
-use Rattle.std.proofs.lemmas.List.{append_assoc, drop_more, get_or-map, get_or-replicate, length-append, length-replicate, length-map, map-set}
+use Rattle.std.proofs.lemmas.List.{append_assoc, drop_more, ext_get_or, get_or_default, get_or-map, get_or-replicate, length-append, length-replicate, length-map, map-set}
 use Rattle.std.proofs.lemmas.List.Elements.{All-set}
 use Rattle.std.proofs.lemmas.List.FromFn.{fill_by_all}
 use Rattle.std.proofs.lemmas.Bool.{cases_lt}
@@ -15,7 +15,9 @@ use Rattle.backward.specs.Collapses.{toggled_each}
 use Rattle.backward.specs.Links.{no_link, chain, list_at, rows_at, LeadBack, AreLists, Falls, IsGrown, IsPutAt, put_before}
 use Rattle.backward.specs.Sets.{DescendsBelow, row_of_set}
 use Rattle.backward.proofs.PassSets.{length-toggled_each, toggled_each_at}
-use Rattle.backward.proofs.SetLemmas.{row_of_no_set, row_of_more}
+use Rattle.backward.specs.TargetSets.{members}
+use Rattle.backward.proofs.RangeLemmas.{listed_in_range}
+use Rattle.backward.proofs.SetLemmas.{row_of_no_set, row_of_more, length-row_of_set, get_or-row_of_set}
 
 -- ---- how many links are gone over, and which stand behind, changes no list
 enough : (links : List Link) (n m k : ℕ) → LeadBack links → k ≤ length links → k ≤ n → k ≤ m → chain links n k ≡ chain links m k
@@ -250,3 +252,22 @@ toggled_from_none m set =
     (length-toggled_each set (replicate m false) ∙ length-replicate m false)
     (λ k lt. toggled_each_at set k (replicate m false) (omega (arith, lt, length-replicate m false))
     ∙ (ap (λ b. exclusive_or (is_listed set k) b) (get_or-replicate m k false false lt) ∙ exclusive_or-false (is_listed set k)))
+
+-- all rows are of the number of targets
+pub rows_of_length : (m : ℕ) (links : List Link) (places : List ℕ) (rows : List (List Bool)) (k : ℕ) → rows_at m links places ≡ rows → k < length rows → length (get_or rows k []) ≡ m
+rows_of_length m links places rows k is low =
+    sym (ap length (row_at m k (get_or places k 0) links places rows is low (get_or_default places k 0 _ within)))
+    ∙ length-row_of_set m (list_at links (get_or places k 0))
+  where
+    within : k < length places
+    within = omega (arith, low, ap length is, length-map places (λ place. row_of_set m (list_at links place)))
+
+-- the members of a row, toggled in a row of none, make the row
+pub put_members : (row : List Bool) (list : List ℕ) (none : List Bool) → list ≡ members row → none ≡ replicate (length row) false → toggled_each list none ≡ row
+put_members row list none is blank =
+    ap₂ toggled_each is blank
+    ∙ (toggled_from_none (length row) (members row)
+    ∙ ext_get_or false (row_of_set (length row) (members row)) row (length-row_of_set (length row) (members row))
+    (λ k lt.
+    let within : k < length row = omega (arith, lt, length-row_of_set (length row) (members row)) in
+    get_or-row_of_set (length row) (members row) k within ∙ listed_in_range (λ t. get_or row t false) k 0 (length row) (omega arith) (omega (arith, within))))

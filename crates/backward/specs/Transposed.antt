@@ -7,6 +7,7 @@ use Rattle.gate_table.specs.declared.gate.Gate.{Gate}
 use Rattle.gate_table.specs.Images.{image2, inverse_of}
 use Rattle.pauli_word.specs.declared.letter.Letter.{Letter}
 use Rattle.pauli_word.specs.declared.letter.Letter.TheVariants.{I, X, Y, Z}
+use Rattle.pauli_word.specs.Bits.{x_bit, z_bit, letters_of}
 use Rattle.pauli_word.specs.Letters.{letter_product}
 use Rattle.pauli_word.specs.Parity.{exclusive_or}
 use Rattle.pauli_word.specs.Words.{letter_at, letters_product}
@@ -46,6 +47,13 @@ times_at letter t column = slice_set column t (letter_product letter (letter_at 
 abbrev pub times_each : Letter → List ℕ → List Letter → List Letter
 times_each letter [] column = column
 times_each letter (t ∷ ts) column = times_each letter ts (times_at letter t column)
+
+-- a row of bits that, added to the rows of a column where a letter has an X and where it has a Z, multiplies the letter in at
+-- each place of a list
+abbrev pub Multiplies : List ℕ → List Bool → Type 0
+Multiplies targets row =
+    (letter : Letter) (x z : List Bool) → length x ≡ length row → length z ≡ length row
+    → letters_of (xor_where (x_bit letter) x row) (xor_where (z_bit letter) z row) ≡ times_each letter targets (letters_of x z)
 
 -- the letters at the first and at the second of two qubits before a gate, from those behind it
 abbrev pub first_before : Gate → List Letter → List Letter → List Letter

@@ -5,12 +5,15 @@ ghost use Rattle.pauli_word.specs.declared.letter.Letter.TheVariants.{I, X, Y, Z
 ghost use Rattle.pauli_word.specs.Letters.{letters_clash};
 ghost use Rattle.pauli_word.specs.Words.{letters_product, no_letters};
 ghost use Rattle.backward.specs.TargetSets.{members};
-ghost use Rattle.backward.specs.Transposed.{combined, xor_where, times_each, times_at, flipped_where};
+ghost use Rattle.backward.specs.Transposed.{combined, xor_where, times_each, times_at, flipped_where, Multiplies};
 
 use crate::target_set::TargetSet;
 use pauli_word::Letter;
 use std::alloc::{AllocError, Allocator};
 use std::marker::Model;
+
+/// From how many targets on a set is made of them, and added: to toggle one takes longer where a set has many.
+const MANY: usize = 16;
 
 /// The letters that all words have at one qubit: the targets whose letter has an X in it, and those whose letter has
 /// a Z, where Y has both.
@@ -197,8 +200,30 @@ impl<S: TargetSet> Column<S> {
         self.x.list_sum_of_four(&self.z, &other.x, &other.z, hit)
     }
 
-    /// Multiplies the letters of these targets by a letter.
-    pub(crate) fn times_each(&mut self, targets: &[u32], letter: Letter) -> Result<(), AllocError>
+    /// Multiplies the letters of these targets by a letter. What the sets held is lost.
+    pub(crate) fn times_each(
+        &mut self,
+        targets: &[u32],
+        letter: Letter,
+        set: &mut S,
+        spare: &mut S,
+    ) -> Result<(), AllocError>
+        requires targets { All (λ t. t < length self.old) targets.now }
+        requires set { length (S.bits set.old) ≡ length self.old }
+        requires spare { length (S.bits spare.old) ≡ length self.old }
+        ensures ok { OnOk result (self.new ≡ times_each letter targets.now self.old) }
+        ensures len { length self.new ≡ length self.old }
+        ensures set { length (S.bits set.new) ≡ length (S.bits set.old) }
+        ensures spare { length (S.bits spare.new) ≡ length (S.bits spare.old) }
+    {
+        if targets.len() < MANY {
+            self.times_one_by_one(targets, letter)
+        } else {
+            self.times_all(targets, letter, set, spare)
+        }
+    }
+
+    fn times_one_by_one(&mut self, targets: &[u32], letter: Letter) -> Result<(), AllocError>
         requires { All (λ t. t < length self.old) targets.now }
         ensures ok { OnOk result (self.new ≡ times_each letter targets.now self.old) }
         ensures len { length self.new ≡ length self.old }
@@ -210,6 +235,27 @@ impl<S: TargetSet> Column<S> {
             self.times_at(targets[left], letter)?;
         }
         Ok(())
+    }
+
+    // The same by a set of the targets, which takes no longer for many.
+    fn times_all(
+        &mut self,
+        targets: &[u32],
+        letter: Letter,
+        set: &mut S,
+        spare: &mut S,
+    ) -> Result<(), AllocError>
+        requires targets { All (λ t. t < length self.old) targets.now }
+        requires set { length (S.bits set.old) ≡ length self.old }
+        requires spare { length (S.bits spare.old) ≡ length self.old }
+        ensures ok { OnOk result (self.new ≡ times_each letter targets.now self.old) }
+        ensures len { length self.new ≡ length self.old }
+        ensures set { length (S.bits set.new) ≡ length (S.bits set.old) }
+        ensures spare { length (S.bits spare.new) ≡ length (S.bits spare.old) }
+    {
+        make_set(set, targets)?;
+        add_where(has_x(letter), &mut self.x, set, spare)?;
+        add_where(has_z(letter), &mut self.z, set, spare)
     }
 
     fn times_at(&mut self, t: u32, letter: Letter) -> Result<(), AllocError>
@@ -319,6 +365,22 @@ fn add_where<S: TargetSet>(
     ensures spare { length (S.bits spare.new) ≡ length (S.bits spare.old) }
 {
     if add { set.add(other, spare) } else { Ok(()) }
+}
+
+// Makes a set of these targets, each toggled, which multiplies their letters where it is added.
+fn make_set<S: TargetSet>(set: &mut S, targets: &[u32]) -> Result<(), AllocError>
+    requires { All (λ t. t < length (S.bits set.old)) targets.now }
+    ensures ok { OnOk result (Multiplies targets.now (S.bits set.new)) }
+    ensures len { length (S.bits set.new) ≡ length (S.bits set.old) }
+{
+    set.clear();
+    // from the last on, so that each is appended where they ascend
+    let mut left = targets.len();
+    while left > 0 {
+        left -= 1;
+        set.toggle(targets[left])?;
+    }
+    Ok(())
 }
 
 // Toggles a target where `toggle`.

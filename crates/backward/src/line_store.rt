@@ -95,11 +95,28 @@ fn kept_numbers<'a, A: Allocator + Copy>(
     ensures text { text.new.text ≡ text.old.text }
 {
     let mut numbers = Vec::with_capacity(alloc, parts.len())?;
+    keep_each(parts, text, &mut numbers)?;
+    Ok(numbers)
+}
+
+// The same, with the numbers put in a list of none.
+fn keep_each<'a, A: Allocator + Copy>(
+    parts: &[EntryPart<'a>],
+    text: &mut LinesText<'a, A>,
+    numbers: &mut Vec<u32, A>,
+) -> Result<(), AllocError>
+    requires { numbers.old.items ≡ [] }
+    ensures numbers { OnOk result (AreNumbers parts.now text.new.texts numbers.new.items) }
+    ensures counted { OnOk result (length numbers.new.items ≡ length parts.now) }
+    ensures detectors { text.new.detectors ≡ text.old.detectors }
+    ensures targets { text.new.targets ≡ text.old.targets }
+    ensures text { text.new.text ≡ text.old.text }
+{
     for part in parts {
         let number = text.keep_text(part.text)?;
         numbers.push(number)?;
     }
-    Ok(numbers)
+    Ok(())
 }
 
 impl<'p, 'a, A: Allocator + Copy> LineStore for TextStore<'p, 'a, A> {

@@ -246,6 +246,7 @@ fn feedback<'s, 'a, A: Allocator + Copy, T: Tracker, L: LineStore>(
     ensures latest { OnOk result (found.new.latest.items ≡ found.old.latest.items) }
     ensures left { OnOk result (found.new.left ≡ found.old.left) }
 {
+    let _few = target_count(program);
     tracker.hit(&[term], &mut found.hit)?;
     found.sets.toggle_each(rec as usize, found.hit.as_slice())
 }

@@ -1,5 +1,5 @@
 //! For each record the targets that list it, as linked lists: most records have none or few.
-ghost use Rattle.std.specs.Prelude.{◌≡◌, ◌<◌, ◌≤◌, ◌+◌, ◌∷◌, ◌^◌, ℕ, [], true, length, sum_by, slice_index_or, slice_set, All, IfOk, OnOk};
+ghost use Rattle.std.specs.Prelude.{◌≡◌, ◌<◌, ◌≤◌, ◌+◌, ◌∷◌, ◌^◌, ℕ, [], true, false, length, replicate, sum_by, slice_index_or, slice_set, All, IfOk, OnOk};
 ghost use Rattle.step_model.specs.Targets.{targets_of};
 ghost use Rattle.backward.specs.Collapses.{toggled_each};
 ghost use Rattle.backward.specs.Links.{list_at, rows_at, LeadBack, AreLists, Falls, IsGrown, IsPutAt};
@@ -25,13 +25,15 @@ struct Link {
 ///
 /// They are kept as lists of links, the last put first, and a target is in a set where it is in the list an odd number of
 /// times: to toggle it, it is put in front. A list's place is how many links there were when its first was pushed, and 0
-/// where it is empty.
+/// where it is empty. Where feedback has put many, the lists are made anew, so that links don't grow with steps.
 #[derive(Drop)]
 pub(crate) struct RecordLists<'s, A: Allocator + Copy> {
     alloc: &'s A,
     targets: usize,
     links: Vec<Link, A>,
     places: Vec<u32, A>,
+    // From how many links on the lists are made anew.
+    many: usize,
 }
 
 impl<'s, A: Allocator + Copy> Model for RecordLists<'s, A> {
@@ -55,6 +57,7 @@ impl<'s, A: Allocator + Copy> RecordLists<'s, A> {
             targets: 0,
             links: Vec::new(*alloc),
             places: Vec::new(*alloc),
+            many: 0,
         }
     }
 
@@ -69,11 +72,27 @@ impl<'s, A: Allocator + Copy> RecordLists<'s, A> {
         for t in 0..targets {
             put_in_each(&mut links, &mut places, target(program, t), t as u32)?;
         }
+        let many = many_links(links.len(), places.len());
         Ok(RecordLists {
             alloc,
             targets,
             links,
             places,
+            many,
+        })
+    }
+
+    // Sets of none, of so many targets, for so many records.
+    fn of_none(alloc: &'s A, targets: usize, records: usize) -> Result<Self, AllocError>
+        ensures { IfOk result (λ lists. lists ≡ replicate records (replicate targets false)) }
+    {
+        let places = Vec::from_elem(*alloc, 0, records)?;
+        Ok(RecordLists {
+            alloc,
+            targets,
+            links: Vec::new(*alloc),
+            places,
+            many: many_links(0, records),
         })
     }
 
@@ -102,12 +121,62 @@ impl<'s, A: Allocator + Copy> RecordLists<'s, A> {
     pub(crate) fn toggle_each(&mut self, rec: usize, targets: &[u32]) -> Result<(), AllocError>
         requires rec { rec < length self.old }
         requires targets { All (λ t. t < length (slice_index_or self.old rec [])) targets.now }
+        requires long { All (λ set. length set ≤ 2 ^ 32) self.old }
+        ensures { OnOk result (self.new ≡ slice_set self.old rec (toggled_each targets.now (slice_index_or self.old rec []))) }
+    {
+        self.shorten()?;
+        self.put(rec, targets)
+    }
+
+    // Makes the lists anew where they have many links.
+    fn shorten(&mut self) -> Result<(), AllocError>
+        requires { All (λ set. length set ≤ 2 ^ 32) self.old }
+        ensures { OnOk result (self.new ≡ self.old) }
+    {
+        if self.links.len() < self.many {
+            return Ok(());
+        }
+        let lists = self.anew()?;
+        *self = lists;
+        self.many = many_links(self.links.len(), self.places.len());
+        Ok(())
+    }
+
+    // The same sets, each target put once.
+    fn anew(&self) -> Result<Self, AllocError>
+        requires { All (λ set. length set ≤ 2 ^ 32) self.now }
+        ensures { IfOk result (λ lists. lists ≡ self.now) }
+    {
+        let records = self.places.len();
+        let mut lists = RecordLists::of_none(self.alloc, self.targets, records)?;
+        let mut set = Vec::new(*self.alloc);
+        for rec in 0..records {
+            self.list(rec, &mut set)?;
+            lists.put(rec, set.as_slice())?;
+        }
+        Ok(lists)
+    }
+
+    // Puts each of these targets in front of the list of a record.
+    fn put(&mut self, rec: usize, targets: &[u32]) -> Result<(), AllocError>
+        requires rec { rec < length self.old }
+        requires targets { All (λ t. t < length (slice_index_or self.old rec [])) targets.now }
         ensures { OnOk result (self.new ≡ slice_set self.old rec (toggled_each targets.now (slice_index_or self.old rec []))) }
     {
         let first = put_each(&mut self.links, self.places[rec], targets)?;
         self.places[rec] = first;
         Ok(())
     }
+}
+
+// From how many links on lists of so many links and records are made anew: many more, so that it is done seldom.
+fn many_links(links: usize, records: usize) -> usize
+    ensures { links ≤ result }
+{
+    links
+        .saturating_mul(4)
+        .saturating_add(records)
+        .saturating_add(1024)
 }
 
 // How many records the targets list together, each as often as it is listed.

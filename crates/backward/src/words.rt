@@ -233,7 +233,7 @@ impl<S: TargetSet, A: Allocator + Copy> Tracker for Words<S, A> {
     }
 
     fn add(&mut self, targets: &[u32], letter: Letter, q: usize) -> Result<(), AllocError> {
-        self.columns[q].times_each(targets, letter)
+        self.columns[q].times_each(targets, letter, &mut self.set, &mut self.spare)
     }
 
     fn clear(&mut self, q: usize) {

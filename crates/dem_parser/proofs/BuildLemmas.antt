@@ -4,14 +4,15 @@ use Rattle.std.specs.Prelude.{All, cond, filter, slice_get}
 use Rattle.std.proofs.lemmas.List.{map-append, get_or-map, length-map}
 use Rattle.std.proofs.lemmas.List.Elements.{All-append, All-cons}
 use Rattle.step_model.specs.ErrorModels.{ErrorLine, ErrorModel}
-use Rattle.dem_parser.specs.declared.target.Target.{Target}
-use Rattle.dem_parser.specs.Fitting.{AllFit, Fits}
-use Rattle.dem_parser.specs.Gathered.{instruction_at, instructions_at}
+use Rattle.dem_lines.specs.declared.target.Target.{Target}
+use Rattle.dem_lines.specs.Fitting.{AllFit, Fits}
+use Rattle.dem_parser.specs.Gathered.{instructions_at}
+use Rattle.dem_lines.specs.Places.{instruction_at}
 use Rattle.dem_parser.specs.Meanings.{error_line, error_lines, greatest_of, greatest_over, is_error}
-use Rattle.dem_parser.specs.Reached.{copies, reached}
+use Rattle.dem_lines.specs.Reached.{copies, reached}
 use Rattle.dem_parser.specs.Shifts.{Placed}
-use Rattle.dem_parser.specs.Trees.{Tree, Nothing, Then, Block, items_of}
-use Rattle.dem_parser.specs.Verdicts.{Instruction}
+use Rattle.dem_lines.specs.Trees.{Tree, Nothing, Then, Block, items_of}
+use Rattle.dem_lines.specs.Verdicts.{Instruction}
 use Rattle.dem_parser.proofs.MarkLemmas.{take-got}
 
 pub greatest-got : (f : Target → ℕ) (lines : List Placed) (i : ℕ) (p : Placed) → Some p ≡ slice_get lines i → greatest_of f p.targets ≤ greatest_over f lines

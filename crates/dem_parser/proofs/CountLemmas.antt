@@ -2,10 +2,10 @@
 use Rattle.std.proofs.Common.{◌≡◌, ℕ, suc, ◌+◌, ◌≤◌, List, [], ◌∷◌, Some, length, drop, ap, ap₂, sym, ◌∙◌, arith}
 use Rattle.std.specs.Prelude.{max, slice_get}
 use Rattle.std.proofs.lemmas.List.{drop_all}
-use Rattle.dem_parser.specs.declared.target.Target.{Target}
+use Rattle.dem_lines.specs.declared.target.Target.{Target}
 use Rattle.dem_parser.specs.Meanings.{greatest_of, greatest_over}
 use Rattle.dem_parser.specs.Shifts.{Placed}
-use Rattle.dem_parser.proofs.PassLemmas.{drop_got}
+use Rattle.dem_lines.proofs.PassLemmas.{drop_got}
 
 max-none : (a : ℕ) → max a 0 ≡ a
 max-none a = omega arith

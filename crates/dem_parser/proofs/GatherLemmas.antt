@@ -3,15 +3,16 @@ use Rattle.std.proofs.Common.{◌≡◌, ℕ, zero, suc, ◌+◌, ◌-◌, ◌<�
 use Rattle.std.specs.Prelude.{slice_get, slice_range}
 use Rattle.std.proofs.lemmas.List.{reverse-append, drop_all, drop-append-le, drop-map, length-map, map-append, take-append-le, take_all}
 use Rattle.std.proofs.Math.Seq.{drop-append_seam}
-use Rattle.dem_parser.specs.declared.blocks.OpenBlock.{OpenBlock}
-use Rattle.dem_parser.specs.Fitting.{AllFit, IsAccepted}
-use Rattle.dem_parser.specs.Gathered.{Finds, HasEnded, Gathers, instruction_at, instruction_of, instructions_at}
-use Rattle.dem_parser.specs.Passes.{opened, CanStand}
-use Rattle.dem_parser.specs.Reached.{copies, reached}
-use Rattle.dem_parser.specs.Texts.{Item, Does, Begins, Ends}
-use Rattle.dem_parser.specs.Trees.{Tree, Nothing, Then, Block, items_of}
-use Rattle.dem_parser.specs.Verdicts.{Instruction}
-use Rattle.dem_parser.proofs.PassLemmas.{AreWhole, can_stand, drop_got, whole-tree}
+use Rattle.dem_lines.specs.declared.blocks.OpenBlock.{OpenBlock}
+use Rattle.dem_lines.specs.Fitting.{AllFit, IsAccepted}
+use Rattle.dem_parser.specs.Gathered.{Finds, HasEnded, Gathers, instructions_at}
+use Rattle.dem_lines.specs.Places.{instruction_at, instruction_of}
+use Rattle.dem_lines.specs.Passes.{opened, CanStand}
+use Rattle.dem_lines.specs.Reached.{copies, reached}
+use Rattle.dem_lines.specs.Texts.{Item, Does, Begins, Ends}
+use Rattle.dem_lines.specs.Trees.{Tree, Nothing, Then, Block, items_of}
+use Rattle.dem_lines.specs.Verdicts.{Instruction}
+use Rattle.dem_lines.proofs.PassLemmas.{AreWhole, can_stand, drop_got, whole-tree}
 
 -- ---- copies
 

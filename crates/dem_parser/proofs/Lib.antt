@@ -1,31 +1,13 @@
-mod NameLemmas
-mod TargetLemmas
-mod JudgeLemmas
-mod CheckLemmas
-mod FlatLemmas
-mod FitLemmas
-pub mod TreeLemmas
-mod TextLemmas
-mod PassLemmas
-mod LineCountLemmas
 mod GatherLemmas
-mod SumLemmas
-mod SummedLemmas
-mod ChainLemmas
-mod TallyLemmas
-mod PlainLemmas
-mod ErrorTextLemmas
-mod CountedLemmas
-mod AlikeLemmas
-mod PlainSumLemmas
+pub mod SumLemmas
+pub mod SummedLemmas
 mod WorkedTexts
-mod FrontLemmas
+pub mod FrontLemmas
 mod ShiftLemmas
-mod PlaceLemmas
-mod CountLemmas
+pub mod PlaceLemmas
+pub mod CountLemmas
 pub mod FlipLemmas
 pub mod NumberLemmas
 mod MarkLemmas
 mod BuildLemmas
 mod ReadLemmas
-pub mod StrippedLemmas

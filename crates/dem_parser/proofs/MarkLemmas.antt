@@ -5,8 +5,8 @@ use Rattle.std.specs.List.{range_with_len, list_any}
 use Rattle.std.proofs.lemmas.Bool.{eq-eqb, ne_eqb}
 use Rattle.std.proofs.lemmas.List.{map-set}
 use Rattle.stim_lexer.specs.Bytes.{is_empty}
-use Rattle.dem_parser.specs.declared.target.Target.{Target}
-use Rattle.dem_parser.specs.declared.target.Target.TheVariants.{Plain, Detector, Observable, Separator}
+use Rattle.dem_lines.specs.declared.target.Target.{Target}
+use Rattle.dem_lines.specs.declared.target.Target.TheVariants.{Plain, Detector, Observable, Separator}
 use Rattle.dem_parser.specs.Marked.{AreMarks, coordinates_at, marked, marked_by, no_placed}
 use Rattle.dem_parser.specs.Meanings.{gives_coordinates, is_detector_of, last_coordinates}
 use Rattle.dem_parser.specs.Shifts.{Placed}

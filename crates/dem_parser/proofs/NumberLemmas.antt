@@ -8,8 +8,8 @@ use Rattle.std.proofs.lemmas.List.Elements.{All-cons}
 use Rattle.std.proofs.lemmas.List.Sorted.{sum_by-IsPermutation}
 use Rattle.std.proofs.lemmas.List.Sums.{sum_by-append}
 use Rattle.pauli_word.specs.Parity.{exclusive_or}
-use Rattle.dem_parser.specs.declared.target.Target.{Target}
-use Rattle.dem_parser.specs.declared.target.Target.TheVariants.{Plain, Detector, Observable, Separator}
+use Rattle.dem_lines.specs.declared.target.Target.{Target}
+use Rattle.dem_lines.specs.declared.target.Target.TheVariants.{Plain, Detector, Observable, Separator}
 use Rattle.dem_parser.specs.Meanings.{detectors_to, flipped, greatest_of, is_detector_of, is_observable_of, is_odd_among, observables_to}
 use Rattle.dem_parser.specs.Numbered.{numbers_of, odd_below}
 use Rattle.dem_parser.specs.Sums.{is_flipped}

@@ -5,15 +5,15 @@ use Rattle.std.proofs.lemmas.List.{get_or_append_left, map-append}
 use Rattle.std.proofs.lemmas.List.Elements.{All-append, All-cons}
 use Rattle.std.proofs.Math.Seq.{get_or-append_seam}
 use Rattle.dem_parser.specs.declared.placed.Heading.{Heading}
-use Rattle.dem_parser.specs.declared.target.Target.{Target}
-use Rattle.dem_parser.specs.declared.target.Target.TheVariants.{Plain, Detector, Observable, Separator}
-use Rattle.dem_parser.specs.Gathered.{instruction_at}
+use Rattle.dem_lines.specs.declared.target.Target.{Target}
+use Rattle.dem_lines.specs.declared.target.Target.TheVariants.{Plain, Detector, Observable, Separator}
+use Rattle.dem_lines.specs.Places.{instruction_at}
 use Rattle.dem_parser.specs.KeptLines.{HasLists, IsNumbered, Placement, line_kept, lines_kept, list_numbered, list_or, placed_with}
-use Rattle.dem_parser.specs.Limits.{has_target_beyond}
+use Rattle.dem_lines.specs.Limits.{has_target_beyond}
 use Rattle.dem_parser.specs.Models.{first_beyond, is_beyond}
 use Rattle.dem_parser.specs.Shifts.{Placed, Shift, no_shift, placed_at, placed_from, shift_after, target_at}
-use Rattle.dem_parser.specs.Texts.{Item}
-use Rattle.dem_parser.specs.Verdicts.{Instruction}
+use Rattle.dem_lines.specs.Texts.{Item}
+use Rattle.dem_lines.specs.Verdicts.{Instruction}
 
 -- ---- lists by their numbers
 

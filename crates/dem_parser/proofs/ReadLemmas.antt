@@ -8,12 +8,13 @@ use Rattle.step_model.specs.declared.fault.Cause.TheVariants as cause
 use Rattle.step_model.specs.declared.fault.Fault.{Fault}
 use Rattle.step_model.specs.ErrorModels.{ErrorModel}
 use Rattle.step_model.specs.Faults.{memory_fault, without_line}
-use Rattle.dem_parser.specs.Flat.{tree_of-items}
+use Rattle.dem_lines.specs.Flat.{tree_of-items}
 use Rattle.dem_parser.specs.Meanings.{detector_count, error_lines, last_coordinates, meaning_of, observable_count}
-use Rattle.dem_parser.specs.Models.{first_beyond, has_many_lines, model_in, model_of_items, model_of_tree, placed_lines, unless_refused_by}
+use Rattle.dem_parser.specs.Models.{first_beyond, model_in, model_of_items, model_of_tree, placed_lines, unless_refused_by}
+use Rattle.dem_lines.specs.Reached.{has_many_lines}
 use Rattle.dem_parser.specs.Shifts.{Placed}
-use Rattle.dem_parser.specs.Texts.{refused}
-use Rattle.dem_parser.specs.Trees.{IsRefusedBy, Tree, Writes}
+use Rattle.dem_lines.specs.Texts.{refused}
+use Rattle.dem_lines.specs.Trees.{IsRefusedBy, Tree, Writes}
 use Rattle.dem_parser.proofs.BuildLemmas.{with_lines}
 
 -- ---- the model of placed lines

@@ -6,12 +6,12 @@ use Rattle.stim_parser.specs.declared.forms.ArgumentForm.{ArgumentForm}
 use Rattle.stim_parser.specs.declared.forms.ArgumentForm.TheVariants.{NoArguments, ProbabilityAtWill, OneProbability, WholeNumbers, Decimals, OneNumber}
 use Rattle.stim_parser.specs.Limits.{has_wrong_arguments, is_wrong_count}
 use Rattle.stim_parser.specs.Numbers.{whole_value}
-use Rattle.dem_parser.specs.declared.operation.Keyword.TheVariants.{Does}
-use Rattle.dem_parser.specs.Fitting.{Fits}
-use Rattle.dem_parser.specs.Instructions.{argument_form}
+use Rattle.dem_lines.specs.declared.operation.Keyword.TheVariants.{Does}
+use Rattle.dem_lines.specs.Fitting.{Fits}
+use Rattle.dem_lines.specs.Instructions.{argument_form}
 use Rattle.dem_parser.specs.KeptLines.{added_at}
 use Rattle.dem_parser.specs.Shifts.{both_offsets, moved}
-use Rattle.dem_parser.specs.Verdicts.{Instruction}
+use Rattle.dem_lines.specs.Verdicts.{Instruction}
 
 -- ---- offsets
 

@@ -7,7 +7,7 @@ use Rattle.std.proofs.lemmas.List.{drop_all, get_or-drop, ext_get_or, length-rep
 use Rattle.std.proofs.lemmas.List.FromFn.{get_or-map-range_with_len, length-map-range_with_len}
 use Rattle.pauli_word.specs.Parity.{exclusive_or}
 use Rattle.step_model.specs.ErrorModels.{ErrorLine, ErrorModel}
-use Rattle.dem_parser.specs.declared.target.Target.{Target}
+use Rattle.dem_lines.specs.declared.target.Target.{Target}
 use Rattle.dem_parser.specs.Meanings.{detector_count, detectors_to, error_line, error_lines, flipped, greatest_of, is_error, meaning_of, observable_count}
 use Rattle.dem_parser.specs.Numbered.{numbered, numbers_of, odd_below}
 use Rattle.dem_parser.specs.Shifts.{Placed}
@@ -15,7 +15,7 @@ use Rattle.dem_parser.specs.Summed.{error_count, passed_after, turned_past}
 use Rattle.dem_parser.specs.Sums.{is_flipped, symptom_of, turned, turned_at, turned_by}
 use Rattle.dem_parser.proofs.BuildLemmas.{greatest-got}
 use Rattle.dem_parser.proofs.NumberLemmas.{flipped-numbers}
-use Rattle.dem_parser.proofs.PassLemmas.{drop_got}
+use Rattle.dem_lines.proofs.PassLemmas.{drop_got}
 use Rattle.dem_parser.proofs.SumLemmas.{length-turned_if, symptom-turned, turned-map}
 
 -- ---- targets one after another

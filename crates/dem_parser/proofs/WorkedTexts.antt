@@ -6,15 +6,15 @@ use Rattle.stim_lexer.specs.Lines.{lines_of, says_nothing}
 use Rattle.stim_parser.specs.Arguments.{arguments_in}
 use Rattle.stim_parser.specs.Limits.{has_wrong_arguments, has_wrong_probability}
 use Rattle.stim_parser.specs.Pieces.{pieces_of}
-use Rattle.dem_parser.specs.Instructions.{keyword_named}
-use Rattle.dem_parser.specs.Limits.{has_coordinate_beyond, are_of_form, has_target_beyond}
+use Rattle.dem_lines.specs.Instructions.{keyword_named}
+use Rattle.dem_lines.specs.Limits.{has_coordinate_beyond, are_of_form, has_target_beyond}
 use Rattle.dem_parser.specs.Meanings.{greatest_over, last_coordinates}
 use Rattle.dem_parser.specs.Models.{model_in}
-use Rattle.dem_parser.specs.Reached.{lines_inside, block_lines}
+use Rattle.dem_lines.specs.Reached.{lines_inside, block_lines}
 use Rattle.dem_parser.specs.Shifts.{placed_from}
-use Rattle.dem_parser.specs.Targets.{target_of, targets_in}
-use Rattle.dem_parser.specs.Texts.{items_from}
-use Rattle.dem_parser.specs.Verdicts.{refusal_of, judged, reading_of}
+use Rattle.dem_lines.specs.Targets.{target_of, targets_in}
+use Rattle.dem_lines.specs.Texts.{items_from}
+use Rattle.dem_lines.specs.Verdicts.{refusal_of, judged, reading_of}
 
 nothing : model_in (codes "") ≡ Ok (record { lines = []; coordinates = []; detectors = 0; observables = 0 })
 unfolding lines_of says_nothing cut_of has_bad_byte pieces_of arguments_in has_wrong_arguments has_wrong_probability keyword_named has_coordinate_beyond are_of_form has_target_beyond greatest_over last_coordinates lines_inside block_lines placed_from target_of targets_in items_from refusal_of judged reading_of

@@ -2,27 +2,13 @@
 -- block what its first turn gave is appended once for each later turn.
 -- (Stim's detector error model format, github.com/quantumlib/Stim, doc/file_format_dem_detector_error_model.md,
 -- "repeat".)
-use Rattle.std.specs.Prelude.{◌≡◌, ◌-◌, ℕ, List, [], ◌∷◌, ◌++◌, Option, None, Some, drop, length, map, slice_get}
-use Rattle.stim_parser.specs.Arguments.{arguments_in}
-use Rattle.dem_parser.specs.declared.blocks.OpenBlock.{OpenBlock}
-use Rattle.dem_parser.specs.declared.operation.Operation.TheVariants.{Errs}
-use Rattle.dem_parser.specs.Passes.{opened}
-use Rattle.dem_parser.specs.Reached.{copies}
-use Rattle.dem_parser.specs.Texts.{Item, Does, Begins, Ends}
-use Rattle.dem_parser.specs.Verdicts.{Instruction}
-
-abbrev pub no_instruction : Instruction
-no_instruction = record { line = 0; operation = Errs; arguments = arguments_in []; targets = [] }
-
--- the instruction that is found, where one is
-abbrev pub instruction_of : Option Item → Instruction
-instruction_of (Some (Does i)) = i
-instruction_of (Some (Begins line turns)) = no_instruction
-instruction_of (Some Ends) = no_instruction
-instruction_of None = no_instruction
-
-abbrev pub instruction_at : List Item → ℕ → Instruction
-instruction_at items place = instruction_of (slice_get items place)
+use Rattle.std.specs.Prelude.{◌≡◌, ◌-◌, ℕ, List, [], ◌∷◌, ◌++◌, Some, drop, length, map}
+use Rattle.dem_lines.specs.declared.blocks.OpenBlock.{OpenBlock}
+use Rattle.dem_lines.specs.Passes.{opened}
+use Rattle.dem_lines.specs.Places.{instruction_at, instruction_of}
+use Rattle.dem_lines.specs.Reached.{copies}
+use Rattle.dem_lines.specs.Texts.{Item, Does, Begins, Ends}
+use Rattle.dem_lines.specs.Verdicts.{Instruction}
 
 -- the instructions at places
 abbrev pub instructions_at : List Item → List ℕ → List Instruction

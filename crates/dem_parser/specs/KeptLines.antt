@@ -4,17 +4,17 @@
 use Rattle.std.specs.Prelude.{◌≡◌, ℕ, zero, suc, ◌≤◌, ℤ, ◌+ℤ◌, List, [], ◌∷◌, ◌++◌, length, map, slice_index_or, refl}
 use Rattle.std.specs.Coded.{Coded, code_by, coded×, coded_ℕ, coded_ℤ, coded_list}
 use Rattle.stim_parser.specs.Arguments.{arguments_in}
-use Rattle.dem_parser.specs.contracts.operation.Operation as operation
-use Rattle.dem_parser.specs.contracts.target.Target as target
-use Rattle.dem_parser.specs.declared.operation.Operation.{Operation}
+use Rattle.dem_lines.specs.contracts.operation.Operation as operation
+use Rattle.dem_lines.specs.contracts.target.Target as target
+use Rattle.dem_lines.specs.declared.operation.Operation.{Operation}
 use Rattle.dem_parser.specs.declared.placed.Heading.{Heading}
 use Rattle.dem_parser.specs.declared.placed.PlacedLine.{PlacedLine}
-use Rattle.dem_parser.specs.declared.target.Target.{Target}
-use Rattle.dem_parser.specs.Flat.{coded_items}
-use Rattle.dem_parser.specs.Gathered.{instruction_at}
+use Rattle.dem_lines.specs.declared.target.Target.{Target}
+use Rattle.dem_lines.specs.Flat.{coded_items}
+use Rattle.dem_lines.specs.Places.{instruction_at}
 use Rattle.dem_parser.specs.Shifts.{Placed, Shift}
-use Rattle.dem_parser.specs.Texts.{Item}
-use Rattle.dem_parser.specs.Verdicts.{Instruction}
+use Rattle.dem_lines.specs.Texts.{Item}
+use Rattle.dem_lines.specs.Verdicts.{Instruction}
 
 -- a shift by so much, with this offset
 abbrev pub shift_of : ℕ → List ℤ → Shift

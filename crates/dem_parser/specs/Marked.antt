@@ -4,9 +4,9 @@
 use Rattle.std.specs.Prelude.{◌≡◌, ℕ, zero, suc, not, if◌then◌else◌, ℤ, List, [], ◌∷◌, map, slice_index_or, slice_set}
 use Rattle.std.specs.List.{range_with_len}
 use Rattle.stim_lexer.specs.Bytes.{is_empty}
-use Rattle.dem_parser.specs.declared.operation.Operation.TheVariants.{Errs}
-use Rattle.dem_parser.specs.declared.target.Target.{Target}
-use Rattle.dem_parser.specs.declared.target.Target.TheVariants.{Detector}
+use Rattle.dem_lines.specs.declared.operation.Operation.TheVariants.{Errs}
+use Rattle.dem_lines.specs.declared.target.Target.{Target}
+use Rattle.dem_lines.specs.declared.target.Target.TheVariants.{Detector}
 use Rattle.dem_parser.specs.Meanings.{last_coordinates}
 use Rattle.dem_parser.specs.Shifts.{Placed}
 

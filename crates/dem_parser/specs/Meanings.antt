@@ -10,10 +10,10 @@ use Rattle.std.specs.List.{filter, list_any, range_with_len}
 use Rattle.stim_lexer.specs.Bytes.{is_empty}
 use Rattle.pauli_word.specs.Parity.{exclusive_or}
 use Rattle.step_model.specs.ErrorModels.{ErrorLine, ErrorModel}
-use Rattle.dem_parser.specs.declared.operation.Operation.{Operation}
-use Rattle.dem_parser.specs.declared.operation.Operation.TheVariants.{Errs}
-use Rattle.dem_parser.specs.declared.target.Target.{Target}
-use Rattle.dem_parser.specs.declared.target.Target.TheVariants.{Detector, Observable}
+use Rattle.dem_lines.specs.declared.operation.Operation.{Operation}
+use Rattle.dem_lines.specs.declared.operation.Operation.TheVariants.{Errs}
+use Rattle.dem_lines.specs.declared.target.Target.{Target}
+use Rattle.dem_lines.specs.declared.target.Target.TheVariants.{Detector, Observable}
 use Rattle.dem_parser.specs.Shifts.{Placed}
 
 -- ---- how many detectors and observables

@@ -3,7 +3,7 @@
 -- a detector above 999,999 once shifted, or gives a coordinate of 10^18 or more in magnitude.
 -- (Stim's detector error model format, github.com/quantumlib/Stim, doc/file_format_dem_detector_error_model.md; the limits
 -- and the order of refusals are this project's.)
-use Rattle.std.specs.Prelude.{ℕ, nat_lt, nat_abs, Bool, ◌||◌, if◌then◌else◌, ℤ, List, Option, None, Some, option_map, find, Result, Ok, Err}
+use Rattle.std.specs.Prelude.{ℕ, nat_abs, Bool, ◌||◌, if◌then◌else◌, ℤ, List, Option, None, Some, option_map, find, Result, Ok, Err}
 use Rattle.std.specs.List.{list_any}
 use Rattle.std.specs.Option.{option_or}
 use Rattle.step_model.specs.declared.fault.Fault.{Fault}
@@ -11,20 +11,13 @@ use Rattle.step_model.specs.declared.fault.Cause.TheVariants as cause
 use Rattle.step_model.specs.ErrorModels.{ErrorModel}
 use Rattle.step_model.specs.Faults.{without_line}
 use Rattle.stim_parser.specs.Numbers.{is_number_beyond}
-use Rattle.dem_parser.specs.Flat.{tree_of}
-use Rattle.dem_parser.specs.Limits.{has_target_beyond}
+use Rattle.dem_lines.specs.Flat.{tree_of}
+use Rattle.dem_lines.specs.Limits.{has_target_beyond}
 use Rattle.dem_parser.specs.Meanings.{meaning_of}
-use Rattle.dem_parser.specs.Reached.{reached, block_lines}
+use Rattle.dem_lines.specs.Reached.{reached, has_many_lines}
 use Rattle.dem_parser.specs.Shifts.{Placed, no_shift, placed_from}
-use Rattle.dem_parser.specs.Texts.{Item, items_in, refused}
-use Rattle.dem_parser.specs.Trees.{Tree}
-
--- how many lines blocks may unroll to
-abbrev pub most_lines : ℕ
-most_lines = 4_000_000
-
-abbrev pub has_many_lines : Tree → Bool
-has_many_lines tree = nat_lt most_lines (block_lines tree)
+use Rattle.dem_lines.specs.Texts.{Item, items_in, refused}
+use Rattle.dem_lines.specs.Trees.{Tree}
 
 -- the lines of a tree where they are reached
 abbrev pub placed_lines : Tree → List Placed

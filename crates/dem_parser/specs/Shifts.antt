@@ -6,11 +6,11 @@
 -- "shift_detectors".)
 use Rattle.std.specs.Prelude.{ℕ, ◌+◌, ℤ, ◌+ℤ◌, List, [], ◌∷◌, map, slice_index_or}
 use Rattle.stim_parser.specs.Numbers.{whole_value}
-use Rattle.dem_parser.specs.declared.operation.Operation.{Operation}
-use Rattle.dem_parser.specs.declared.operation.Operation.TheVariants.{Detects, Shifts}
-use Rattle.dem_parser.specs.declared.target.Target.{Target}
-use Rattle.dem_parser.specs.declared.target.Target.TheVariants.{Detector}
-use Rattle.dem_parser.specs.Verdicts.{Instruction, number_in}
+use Rattle.dem_lines.specs.declared.operation.Operation.{Operation}
+use Rattle.dem_lines.specs.declared.operation.Operation.TheVariants.{Detects, Shifts}
+use Rattle.dem_lines.specs.declared.target.Target.{Target}
+use Rattle.dem_lines.specs.declared.target.Target.TheVariants.{Detector}
+use Rattle.dem_lines.specs.Verdicts.{Instruction, number_in}
 
 -- by how much detectors are shifted, and each coordinate
 pub record Shift : Type 0 where

@@ -5,10 +5,9 @@ ghost use Rattle.dem_parser.specs.Meanings.{detector_count, detectors_to, error_
 use crate::counts::counts_of;
 use crate::flips::read_flipped;
 use crate::marks::coordinates_of;
-use crate::narrow::narrowed;
-use crate::operation::Operation;
 use crate::placed::{PlacedLine, PlacedLines};
 use crate::shifts::first_text;
+use dem_lines::{Operation, narrowed};
 use dem_text::Model;
 use std::alloc::{AllocError, Allocator};
 

@@ -3,14 +3,13 @@ ghost use Rattle.dem_parser.specs.KeptLines.{placed_in};
 ghost use Rattle.dem_parser.specs.Meanings.{detector_count, detectors_to, greatest_of, is_error, observable_count, observables_to};
 ghost use Rattle.dem_parser.specs.Summed.{error_count, passed_after};
 
-use crate::operation::Operation;
 use crate::placed::{PlacedLine, PlacedLines};
-use crate::target::Target;
+use dem_lines::{Operation, Target};
 use std::alloc::Allocator;
 
 /// How many detectors and how many observables targets name.
 #[derive(Clone, Copy)]
-pub(crate) struct TargetCounts {
+pub struct TargetCounts {
     pub detectors: u128,
     pub observables: u128,
 }
@@ -44,7 +43,7 @@ fn observables_to(target: Target) -> u128
 
 /// Counts raised to what a target names.
 #[inline(always)]
-pub(crate) fn raised_to(counts: TargetCounts, target: Target) -> TargetCounts
+pub fn raised_to(counts: TargetCounts, target: Target) -> TargetCounts
     ensures detectors { result.detectors ≡ max counts.detectors (detectors_to target) }
     ensures observables { result.observables ≡ max counts.observables (observables_to target) }
 {
@@ -55,7 +54,7 @@ pub(crate) fn raised_to(counts: TargetCounts, target: Target) -> TargetCounts
 }
 
 /// Counts raised to what targets name.
-pub(crate) fn raised(counts: TargetCounts, targets: &[Target]) -> TargetCounts
+pub fn raised(counts: TargetCounts, targets: &[Target]) -> TargetCounts
     ensures detectors { result.detectors ≡ max counts.detectors (greatest_of detectors_to targets.now) }
     ensures observables { result.observables ≡ max counts.observables (greatest_of observables_to targets.now) }
 {
@@ -70,7 +69,7 @@ pub(crate) fn raised(counts: TargetCounts, targets: &[Target]) -> TargetCounts
 }
 
 /// Whether a line is an error line.
-pub(crate) fn is_error(operation: Operation) -> bool
+pub fn is_error(operation: Operation) -> bool
     ensures { result ≡ is_error operation }
 {
     matches!(operation, Operation::Errs)

@@ -3,7 +3,7 @@ ghost use Rattle.std.specs.List.Sorted.{IsNonDecreasing};
 ghost use Rattle.dem_parser.specs.Meanings.{detectors_to, flipped, greatest_of, observables_to};
 ghost use Rattle.dem_parser.specs.Numbered.{numbered, numbers_of, odd_below};
 
-use crate::target::Target;
+use dem_lines::Target;
 use std::alloc::{AllocError, Allocator};
 
 /// A number of a target. One that does not fit would take more targets than memory holds.

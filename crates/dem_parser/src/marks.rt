@@ -5,7 +5,7 @@ ghost use Rattle.dem_parser.specs.Marked.{AreMarks, coordinates_at, marked, mark
 ghost use Rattle.dem_parser.specs.Meanings.{last_coordinates};
 
 use crate::placed::{PlacedLine, PlacedLines};
-use crate::target::Target;
+use dem_lines::Target;
 use flat_lists::FlatLists;
 use std::alloc::{AllocError, Allocator};
 

@@ -1,12 +1,9 @@
 ghost use Rattle.std.specs.Prelude.{◌≡◌, ◌≤◌, ◌<◌, ◌++◌, [], ◌∷◌, Some, length, slice_get, IfOk, OnErr};
-ghost use Rattle.dem_parser.specs.Gathered.{instruction_at};
+ghost use Rattle.dem_lines.specs.Places.{instruction_at};
 ghost use Rattle.dem_parser.specs.KeptLines.{IsNumbered, list_numbered, list_or, placed_in, placed_with};
-ghost use Rattle.dem_parser.specs.Trees.{items_of};
+ghost use Rattle.dem_lines.specs.Trees.{items_of};
 
-use crate::lines::ModelLines;
-use crate::narrow::narrowed;
-use crate::operation::Operation;
-use crate::target::Target;
+use dem_lines::{ModelLines, Operation, Target, narrowed};
 use flat_lists::FlatLists;
 use std::alloc::{AllocError, Allocator};
 use std::marker::Model;
@@ -43,7 +40,7 @@ pub(crate) struct PlacedLines<'c, 'a, A: Allocator + Copy> {
 impl<'c, 'a, A: Allocator + Copy> Model for PlacedLines<'c, 'a, A> {
     ghost use Rattle.std.specs.Prelude.{All, length};
     ghost use Rattle.dem_parser.specs.KeptLines.{HasLists, Placement, coded_placement, lines_kept};
-    ghost use Rattle.dem_parser.specs.Trees.{items_of};
+    ghost use Rattle.dem_lines.specs.Trees.{items_of};
 
     ghost Value = { Placement };
 

@@ -7,10 +7,9 @@ ghost use Rattle.dem_parser.specs.Sums.{symptom_of, turned};
 
 use crate::counts::{counts_of, is_error};
 use crate::flips::number_at;
-use crate::narrow::narrowed;
 use crate::placed::{PlacedLine, PlacedLines};
 use crate::sums::{no_bits, turn_at};
-use crate::target::Target;
+use dem_lines::{Target, narrowed};
 use std::alloc::{AllocError, Allocator};
 use std::marker::Model;
 
@@ -37,7 +36,7 @@ impl<'c, 'a, A: Allocator + Copy> Model for PlacedModel<'c, 'a, A> {
 }
 
 /// Behind which number no line is named.
-pub(crate) fn named_end(named: &[bool]) -> usize
+pub fn named_end(named: &[bool]) -> usize
     ensures within { result ≤ length named.now }
     ensures none { (k : ℕ) → result ≤ k → slice_index_or named.now k false ≡ false }
 {
@@ -68,11 +67,7 @@ fn turn_target(bits: &mut [bool], detectors: u32, target: Target) -> Result<(), 
 }
 
 /// The same of targets, one after another.
-pub(crate) fn turn_targets(
-    bits: &mut [bool],
-    detectors: u32,
-    targets: &[Target],
-) -> Result<(), AllocError>
+pub fn turn_targets(bits: &mut [bool], detectors: u32, targets: &[Target]) -> Result<(), AllocError>
     ensures { IfOk result (λ _. bits.new ≡ turned bits.old (numbers_of detectors targets.now)) }
 {
     for target in targets {

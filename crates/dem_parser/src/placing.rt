@@ -3,23 +3,23 @@ ghost use Rattle.std.specs.List.{list_any};
 ghost use Rattle.step_model.specs.declared.fault.Cause.TheVariants as cause;
 ghost use Rattle.step_model.specs.Faults.{memory_fault};
 ghost use Rattle.stim_parser.specs.Arguments.{arguments_in};
-ghost use Rattle.dem_parser.specs.Fitting.{Fits};
-ghost use Rattle.dem_parser.specs.Flat.{instruction_in};
-ghost use Rattle.dem_parser.specs.Gathered.{instruction_at, instructions_at};
+ghost use Rattle.dem_lines.specs.Fitting.{Fits};
+ghost use Rattle.dem_lines.specs.Flat.{instruction_in};
+ghost use Rattle.dem_parser.specs.Gathered.{instructions_at};
+ghost use Rattle.dem_lines.specs.Places.{instruction_at};
 ghost use Rattle.dem_parser.specs.KeptLines.{list_or, shift_of};
-ghost use Rattle.dem_parser.specs.Limits.{greatest_detector, has_target_beyond, is_target_beyond};
+ghost use Rattle.dem_lines.specs.Limits.{greatest_detector, has_target_beyond, is_target_beyond};
 ghost use Rattle.dem_parser.specs.Models.{first_beyond, is_beyond, is_far};
 ghost use Rattle.dem_parser.specs.Shifts.{coordinates_given, moved, no_shift, placed_at, placed_from, shift_after, target_at};
-ghost use Rattle.dem_parser.specs.Texts.{refused};
-ghost use Rattle.dem_parser.specs.Trees.{items_of};
+ghost use Rattle.dem_lines.specs.Texts.{refused};
+ghost use Rattle.dem_lines.specs.Trees.{items_of};
 
-use crate::checks::{GREATEST_DETECTOR, GREATEST_NUMBER, is_target_beyond};
-use crate::instruction::Instruction;
-use crate::lines::ModelLines;
-use crate::operation::Operation;
 use crate::placed::PlacedLines;
 use crate::shifts::{Shift, coordinates_read, pass, sum_at};
-use crate::target::Target;
+use dem_lines::{
+    GREATEST_DETECTOR, GREATEST_NUMBER, Instruction, ModelLines, Operation, Target,
+    is_target_beyond,
+};
 use std::alloc::{AllocError, Allocator};
 use step_model::{Cause, Fault};
 

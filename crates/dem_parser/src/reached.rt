@@ -1,15 +1,13 @@
 ghost use Rattle.std.specs.Prelude.{◌≡◌, ◌++◌, IfOk, drop};
 ghost use Rattle.arrayvec.specs.ArrayVec.{array_vec_len};
-ghost use Rattle.dem_parser.specs.Flat.{item_in};
+ghost use Rattle.dem_lines.specs.Flat.{item_in};
 ghost use Rattle.dem_parser.specs.Gathered.{Finds, instructions_at};
-ghost use Rattle.dem_parser.specs.Passes.{CanStand};
-ghost use Rattle.dem_parser.specs.Reached.{copies, reached};
-ghost use Rattle.dem_parser.specs.Trees.{items_of};
+ghost use Rattle.dem_lines.specs.Passes.{CanStand};
+ghost use Rattle.dem_lines.specs.Reached.{copies, reached};
+ghost use Rattle.dem_lines.specs.Trees.{items_of};
 
-use crate::blocks::{LEVELS, OpenBlock};
-use crate::lines::{Item, ModelLines};
-use crate::narrow::narrowed;
 use arrayvec::ArrayVec;
+use dem_lines::{Item, LEVELS, ModelLines, OpenBlock, narrowed};
 use std::alloc::{AllocError, Allocator};
 
 /// The places of the instructions that are reached up to a place of a model's text, and the blocks that are open there.

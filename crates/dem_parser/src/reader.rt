@@ -3,16 +3,14 @@ ghost use Rattle.step_model.specs.declared.fault.Cause.TheVariants as cause;
 ghost use Rattle.step_model.specs.Faults.{memory_fault};
 ghost use Rattle.dem_parser.specs.Meanings.{meaning_of};
 ghost use Rattle.dem_parser.specs.Models.{first_beyond, model_in, model_of_tree, placed_lines};
-ghost use Rattle.dem_parser.specs.Texts.{refused};
+ghost use Rattle.dem_lines.specs.Texts.{refused};
 
 use crate::build::model_of;
-use crate::line_counts::has_many_lines;
-use crate::lines::ModelLines;
-use crate::parser::parse;
 use crate::placed::PlacedLines;
 use crate::placed_model::PlacedModel;
 use crate::placing::placed_lines;
 use crate::reached::reached_of;
+use dem_lines::{ModelLines, has_many_lines, parse};
 use dem_text::Model;
 use std::alloc::Allocator;
 use step_model::{Cause, Fault};

@@ -1,15 +1,13 @@
 ghost use Rattle.std.specs.Prelude.{◌≡◌, ◌≤◌, ◌<◌, ◌+ℤ◌, pos, [], length, map, slice_index_or, IfOk};
 ghost use Rattle.stim_parser.specs.Arguments.{arguments_in};
 ghost use Rattle.stim_parser.specs.Numbers.{whole_value};
-ghost use Rattle.dem_parser.specs.Fitting.{Fits};
-ghost use Rattle.dem_parser.specs.Flat.{instruction_in};
+ghost use Rattle.dem_lines.specs.Fitting.{Fits};
+ghost use Rattle.dem_lines.specs.Flat.{instruction_in};
 ghost use Rattle.dem_parser.specs.KeptLines.{added_at, shift_of};
 ghost use Rattle.dem_parser.specs.Shifts.{both_offsets, shift_after};
 
-use crate::instruction::Instruction;
-use crate::judge::number_in;
-use crate::operation::Operation;
 use arrayvec::ArrayVec;
+use dem_lines::{Instruction, Operation, number_in};
 use std::alloc::{AllocError, Allocator};
 use stim_parser::{MOST_ARGUMENTS, first_argument, read_arguments, whole_values};
 

@@ -5,9 +5,9 @@ use Rattle.step_model.specs.declared.fault.Cause.TheVariants.{FaultNumber}
 use Rattle.step_model.specs.declared.fault.Fault.{Fault}
 use Rattle.step_model.specs.ErrorModels.{ErrorModel}
 use Rattle.step_model.specs.Faults.{without_line}
-use Rattle.dem_parser.specs.Stripped.{stripped, stripped_or}
+use Rattle.plain_models.specs.Stripped.{stripped, stripped_or}
 use Rattle.dem_parser.specs.Sums.{symptom_of}
-use Rattle.dem_parser.proofs.StrippedLemmas.{count-stripped, symptom-stripped}
+use Rattle.plain_models.proofs.StrippedLemmas.{count-stripped, symptom-stripped}
 use Rattle.forward_sim.specs.Lists.{numbers_of}
 use Rattle.sampling.specs.Lines.{line_of}
 use Rattle.engine.specs.Output.{◌>>=◌, Output, done, model_prediction}

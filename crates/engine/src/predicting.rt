@@ -7,8 +7,9 @@ ghost use Rattle.engine.specs.Output.{done, model_prediction, prediction_output,
 use crate::lines::symptom_line;
 use crate::order::Status;
 use crate::refusing::refuse;
-use dem_parser::{PlacedModel, PlainModel, place, read_lines, read_plain};
+use dem_parser::{PlacedModel, place, read_lines};
 use forward_sim::read_numbers;
+use plain_models::{PlainModel, read_plain};
 use std::alloc::Allocator;
 use step_model::{Fault, Sink, write_all};
 

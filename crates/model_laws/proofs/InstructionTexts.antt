@@ -2,11 +2,11 @@
 -- its targets, each after one space.
 use Rattle.std.specs.Prelude.{ℕ, List, [], ◌∷◌, ◌++◌, codes, decimal}
 use Rattle.std.specs.List.{flat_map}
-use Rattle.dem_parser.specs.declared.operation.Operation.{Operation}
-use Rattle.dem_parser.specs.declared.operation.Operation.TheVariants.{Errs, Detects, Observes, Shifts}
-use Rattle.dem_parser.specs.declared.target.Target.{Target}
-use Rattle.dem_parser.specs.declared.target.Target.TheVariants.{Plain, Detector, Observable, Separator}
-use Rattle.dem_parser.specs.Verdicts.{Instruction}
+use Rattle.dem_lines.specs.declared.operation.Operation.{Operation}
+use Rattle.dem_lines.specs.declared.operation.Operation.TheVariants.{Errs, Detects, Observes, Shifts}
+use Rattle.dem_lines.specs.declared.target.Target.{Target}
+use Rattle.dem_lines.specs.declared.target.Target.TheVariants.{Plain, Detector, Observable, Separator}
+use Rattle.dem_lines.specs.Verdicts.{Instruction}
 
 abbrev pub name_text : Operation → List ℕ
 name_text Errs = codes "error"

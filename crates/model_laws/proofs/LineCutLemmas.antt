@@ -7,9 +7,9 @@ use Rattle.stim_lexer.specs.declared.line.Braces.TheVariants.{NoBrace}
 use Rattle.stim_lexer.specs.Bytes.{after_blanks, is_bad_byte, is_brace, is_close_parenthesis, is_hash, is_line_feed, is_open_brace, is_open_bracket, is_open_parenthesis}
 use Rattle.stim_lexer.specs.Cut.{Cut, after_brackets, after_name, body_of, braces_of, cut_of, has_bad_byte, has_opening, in_brackets, leaves_open, name_of}
 use Rattle.stim_lexer.specs.Lines.{content_of, is_closing, says_nothing}
-use Rattle.dem_parser.specs.declared.operation.Operation.{Operation}
-use Rattle.dem_parser.specs.declared.operation.Operation.TheVariants.{Errs, Detects, Observes, Shifts}
-use Rattle.dem_parser.specs.declared.target.Target.{Target}
+use Rattle.dem_lines.specs.declared.operation.Operation.{Operation}
+use Rattle.dem_lines.specs.declared.operation.Operation.TheVariants.{Errs, Detects, Observes, Shifts}
+use Rattle.dem_lines.specs.declared.target.Target.{Target}
 use Rattle.model_laws.proofs.CutLemmas.{after_first-append, before_first-append, before_first-none, none-append, none-where}
 use Rattle.model_laws.proofs.InstructionTexts.{after_name_text, in_parentheses, inside, instruction_line, more_arguments, name_text, target_word, target_words}
 use Rattle.model_laws.proofs.WordLemmas.{is_word, is_word_byte, no_bad_byte, no_blank, other_byte, word_bytes}

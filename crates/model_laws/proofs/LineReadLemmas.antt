@@ -7,15 +7,15 @@ use Rattle.stim_parser.specs.Arguments.{arguments_in, is_comma, trimmed}
 use Rattle.stim_parser.specs.Numbers.{greatest_number}
 use Rattle.stim_parser.specs.Pieces.{ends_here, ends_piece, is_star, pieces_of}
 use Rattle.stim_parser.specs.Targets.{each_of}
-use Rattle.dem_parser.specs.declared.operation.Operation.{Operation}
-use Rattle.dem_parser.specs.declared.operation.Operation.TheVariants.{Errs, Detects, Observes, Shifts}
-use Rattle.dem_parser.specs.declared.target.Target.{Target}
-use Rattle.dem_parser.specs.declared.target.Target.TheVariants.{Plain, Detector, Observable, Separator}
-use Rattle.dem_parser.specs.Fitting.{Fits}
-use Rattle.dem_parser.specs.Instructions.{keyword_named}
-use Rattle.dem_parser.specs.Limits.{has_target_beyond, is_target_beyond}
-use Rattle.dem_parser.specs.Targets.{target_of, targets_in}
-use Rattle.dem_parser.specs.Verdicts.{Takes, judged, reading_of, refusal_of}
+use Rattle.dem_lines.specs.declared.operation.Operation.{Operation}
+use Rattle.dem_lines.specs.declared.operation.Operation.TheVariants.{Errs, Detects, Observes, Shifts}
+use Rattle.dem_lines.specs.declared.target.Target.{Target}
+use Rattle.dem_lines.specs.declared.target.Target.TheVariants.{Plain, Detector, Observable, Separator}
+use Rattle.dem_lines.specs.Fitting.{Fits}
+use Rattle.dem_lines.specs.Instructions.{keyword_named}
+use Rattle.dem_lines.specs.Limits.{has_target_beyond, is_target_beyond}
+use Rattle.dem_lines.specs.Targets.{target_of, targets_in}
+use Rattle.dem_lines.specs.Verdicts.{Takes, judged, reading_of, refusal_of}
 use Rattle.model_laws.proofs.CutLemmas.{none-where, slice_split-alone, slice_split-first}
 use Rattle.model_laws.proofs.InstructionTexts.{inside, instruction, more_arguments, target_word, target_words}
 use Rattle.model_laws.proofs.LineCutLemmas.{AreTargetWords, AreWords, line_cut}

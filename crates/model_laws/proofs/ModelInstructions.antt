@@ -7,10 +7,10 @@ use Rattle.std.specs.List.{flat_map, range_with_len}
 use Rattle.std.proofs.lemmas.Bool.{cases_Bool}
 use Rattle.step_model.specs.ErrorModels.{ErrorLine, ErrorModel}
 use Rattle.dem_text.specs.ModelText.{coordinates_text, detector_text, detectors_text, line_text, lines_text, model_text, more_coordinates_text, observable_text, observables_text, target_text, targets_text}
-use Rattle.dem_parser.specs.declared.operation.Operation.TheVariants.{Errs, Detects, Observes}
-use Rattle.dem_parser.specs.declared.target.Target.{Target}
-use Rattle.dem_parser.specs.declared.target.Target.TheVariants.{Detector, Observable}
-use Rattle.dem_parser.specs.Verdicts.{Instruction}
+use Rattle.dem_lines.specs.declared.operation.Operation.TheVariants.{Errs, Detects, Observes}
+use Rattle.dem_lines.specs.declared.target.Target.{Target}
+use Rattle.dem_lines.specs.declared.target.Target.TheVariants.{Detector, Observable}
+use Rattle.dem_lines.specs.Verdicts.{Instruction}
 use Rattle.model_laws.proofs.InstructionTexts.{in_parentheses, instruction, instruction_line, more_arguments, target_word, target_words}
 use Rattle.model_laws.proofs.TextReadLemmas.{text_of}
 

@@ -15,23 +15,23 @@ use Rattle.step_model.proofs.RangeLemmas.{range_rises}
 use Rattle.stim_parser.specs.Limits.{has_wrong_arguments, has_wrong_probability, is_probability}
 use Rattle.stim_parser.specs.Numbers.{whole_value}
 use Rattle.dem_text.specs.ModelText.{model_text}
-use Rattle.dem_parser.specs.declared.operation.Operation.{Operation}
-use Rattle.dem_parser.specs.declared.operation.Operation.TheVariants.{Errs, Detects, Observes, Shifts}
-use Rattle.dem_parser.specs.declared.target.Target.{Target}
-use Rattle.dem_parser.specs.declared.target.Target.TheVariants.{Plain, Detector, Observable, Separator}
-use Rattle.dem_parser.specs.Fitting.{AllFit, Fits}
-use Rattle.dem_parser.specs.Flat.{tree_of}
-use Rattle.dem_parser.specs.Limits.{has_target_beyond, is_target_beyond}
+use Rattle.dem_lines.specs.declared.operation.Operation.{Operation}
+use Rattle.dem_lines.specs.declared.operation.Operation.TheVariants.{Errs, Detects, Observes, Shifts}
+use Rattle.dem_lines.specs.declared.target.Target.{Target}
+use Rattle.dem_lines.specs.declared.target.Target.TheVariants.{Plain, Detector, Observable, Separator}
+use Rattle.dem_lines.specs.Fitting.{AllFit, Fits}
+use Rattle.dem_lines.specs.Flat.{tree_of}
+use Rattle.dem_lines.specs.Limits.{has_target_beyond, is_target_beyond}
 use Rattle.dem_parser.specs.Meanings.{detector_count, detectors_to, error_line, error_lines, flipped, gives_coordinates, greatest_of, greatest_over, is_error, last_coordinates, meaning_of, observable_count, observables_to}
-use Rattle.dem_parser.specs.Models.{first_beyond, has_many_lines, is_beyond, is_far, model_in, model_of_items, model_of_tree, placed_lines, refusal_of_tree, unless_refused_by}
+use Rattle.dem_parser.specs.Models.{first_beyond, is_beyond, is_far, model_in, model_of_items, model_of_tree, placed_lines, refusal_of_tree, unless_refused_by}
+use Rattle.dem_lines.specs.Reached.{copies, has_many_lines, reached}
 use Rattle.dem_parser.specs.Numbered.{numbers_of, odd_below}
-use Rattle.dem_parser.specs.Reached.{copies, reached}
 use Rattle.dem_parser.specs.Shifts.{Placed, Shift, moved, no_shift, placed_at, placed_from, shift_after}
-use Rattle.dem_parser.specs.Texts.{Item, items_in}
-use Rattle.dem_parser.specs.Trees.{Tree, Nothing, Then, Block}
-use Rattle.dem_parser.specs.Verdicts.{Instruction}
+use Rattle.dem_lines.specs.Texts.{Item, items_in}
+use Rattle.dem_lines.specs.Trees.{Tree, Nothing, Then, Block}
+use Rattle.dem_lines.specs.Verdicts.{Instruction}
 use Rattle.dem_parser.proofs.NumberLemmas.{flipped-numbers}
-use Rattle.dem_parser.proofs.TreeLemmas.{items_are_written}
+use Rattle.dem_lines.proofs.TreeLemmas.{items_are_written}
 use Rattle.model_laws.specs.Writable.{IsWritable, IsWritableLine}
 use Rattle.model_laws.proofs.InstructionTexts.{instruction}
 use Rattle.model_laws.proofs.MeaningLemmas.{reads_back}

@@ -9,8 +9,8 @@ use Rattle.step_model.specs.WellFormed.{CoordinatesFit}
 use Rattle.stim_lexer.specs.Bytes.{is_empty}
 use Rattle.stim_parser.specs.Limits.{has_wrong_arguments, has_wrong_probability}
 use Rattle.stim_parser.specs.Numbers.{is_number_beyond, is_whole_number, magnitude_of}
-use Rattle.dem_parser.specs.Limits.{are_of_form, has_coordinate_beyond, has_target_beyond, is_effect, is_target_beyond}
-use Rattle.dem_parser.specs.Verdicts.{Instruction}
+use Rattle.dem_lines.specs.Limits.{are_of_form, has_coordinate_beyond, has_target_beyond, is_effect, is_target_beyond}
+use Rattle.dem_lines.specs.Verdicts.{Instruction}
 use Rattle.model_laws.specs.Writable.{IsWritable, IsWritableLine}
 use Rattle.model_laws.proofs.AcceptedLemmas.{accepted_is_word}
 use Rattle.model_laws.proofs.LineCutLemmas.{AreWords}

@@ -6,20 +6,20 @@ use Rattle.std.proofs.lemmas.Bool.{or_from, or_parts}
 use Rattle.stim_lexer.specs.Cut.{cut_of}
 use Rattle.stim_lexer.specs.Lines.{lines_of}
 use Rattle.stim_parser.specs.Numbers.{is_number_beyond, has_minus, magnitude_of, whole_value}
-use Rattle.dem_parser.specs.declared.operation.Operation.{Operation}
-use Rattle.dem_parser.specs.declared.operation.Operation.TheVariants.{Errs, Detects, Observes, Shifts}
-use Rattle.dem_parser.specs.declared.target.Target.{Target}
-use Rattle.dem_parser.specs.declared.target.Target.TheVariants.{Plain, Detector, Observable, Separator}
-use Rattle.dem_parser.specs.Fitting.{Fits}
-use Rattle.dem_parser.specs.Flat.{tree_of, tree_of-items}
-use Rattle.dem_parser.specs.Limits.{has_coordinate_beyond, has_target_beyond}
+use Rattle.dem_lines.specs.declared.operation.Operation.{Operation}
+use Rattle.dem_lines.specs.declared.operation.Operation.TheVariants.{Errs, Detects, Observes, Shifts}
+use Rattle.dem_lines.specs.declared.target.Target.{Target}
+use Rattle.dem_lines.specs.declared.target.Target.TheVariants.{Plain, Detector, Observable, Separator}
+use Rattle.dem_lines.specs.Fitting.{Fits}
+use Rattle.dem_lines.specs.Flat.{tree_of, tree_of-items}
+use Rattle.dem_lines.specs.Limits.{has_coordinate_beyond, has_target_beyond}
 use Rattle.dem_parser.specs.Meanings.{detectors_to, observables_to, detector_count, error_line, error_lines, gives_coordinates, greatest_of, greatest_over, is_error, last_coordinates, meaning_of, observable_count}
 use Rattle.dem_parser.specs.Models.{is_beyond, is_far, model_in, model_of_items, model_of_tree, placed_lines, refusal_of_tree, unless_refused_by}
-use Rattle.dem_parser.specs.Reached.{block_lines, reached}
+use Rattle.dem_lines.specs.Reached.{block_lines, reached}
 use Rattle.dem_parser.specs.Shifts.{Placed, Shift, coordinates_given, moved, no_shift, placed_at, placed_from, shift_after, target_at}
-use Rattle.dem_parser.specs.Texts.{Does, before, items_from}
-use Rattle.dem_parser.specs.Trees.{Tree, Nothing, Then, items_of}
-use Rattle.dem_parser.specs.Verdicts.{Instruction, Takes, reading_of}
+use Rattle.dem_lines.specs.Texts.{Does, before, items_from}
+use Rattle.dem_lines.specs.Trees.{Tree, Nothing, Then, items_of}
+use Rattle.dem_lines.specs.Verdicts.{Instruction, Takes, reading_of}
 use Rattle.model_laws.proofs.CutLemmas.{lines_of-line}
 use Rattle.model_laws.proofs.InstructionTexts.{instruction, instruction_line}
 use Rattle.model_laws.proofs.LineCutLemmas.{AreWords, cut_found, has_no_bad_byte, no_line_feed, says_something}

@@ -1,85 +1,12 @@
-//! The program: reads a circuit or an error model from standard input, does what its command line asks, and writes to standard output.
-//! It ends with status 0 where that is done or help was asked for, with 1 where memory ran out or a stream failed, with 2
-//! where the input, what was given beside it or the command line is refused, and with 3 where an analysis names a
-//! random detector or observable.
+//! The program: does what its command line asks, and ends with the status that comes of it.
 #![tactic(auto)]
 
-mod command_line;
-mod help;
 #[cfg(test)]
 mod tests;
 
-use clap::error::ErrorKind;
-use clap::{ArgMatches, Error};
-use command_line::{order_of, read_words};
-use engine::{Order, Status, serve};
+use commands::respond;
 use std::process::ExitCode;
-use std::rt::Env;
-use std::{env, io};
-use streams::{ReaderSource, WriterSink};
-
-const DONE: u8 = 0;
-
-const FAILED: u8 = 1;
-
-const REFUSED: u8 = 2;
-
-const RANDOM: u8 = 3;
 
 fn main(rt: HostRuntime) -> ExitCode {
     ExitCode::from(respond(&rt))
-}
-
-/// Does what the command line asks; answers the exit status, as the functions below do.
-fn respond<R: Env + Input + Print + AllocGlobal>(rt: &R) -> u8 {
-    let words: Vec<String> = match env::args(rt) {
-        Ok(words) => match words.collect(rt.alloc()) {
-            Ok(words) => words,
-            Err(_) => return FAILED,
-        },
-        Err(error) if error.kind() == io::ErrorKind::OutOfMemory => return FAILED,
-        Err(_) => return refuse_line(rt),
-    };
-    match read_words(rt.alloc(), words.as_slice()) {
-        Ok(matches) => obey(rt, &matches),
-        Err(error) => explain(rt, &error),
-    }
-}
-
-fn obey<R: Input + Print + AllocGlobal>(rt: &R, matches: &ArgMatches<'_>) -> u8 {
-    match order_of(matches) {
-        Some(order) => respond_to(rt, &order),
-        None => refuse_line(rt),
-    }
-}
-
-/// Serves the order from standard input to standard output.
-fn respond_to<R: Input + Print + AllocGlobal>(rt: &R, order: &Order<'_>) -> u8 {
-    let mut source = ReaderSource::new(rt.reader());
-    let mut sink = WriterSink::new(io::writer(rt));
-    match serve(rt.alloc(), order, &mut source, &mut sink) {
-        Ok(Status::Done) => DONE,
-        Ok(Status::Refused) => REFUSED,
-        Ok(Status::Random) => RANDOM,
-        Err(_) => FAILED,
-    }
-}
-
-/// Writes the help that was asked for, or refuses the command line.
-fn explain<R: Print>(rt: &R, error: &Error) -> u8 {
-    match error.kind() {
-        ErrorKind::OutOfMemory => FAILED,
-        ErrorKind::DisplayHelp => match rt.print(error) {
-            Ok(()) => DONE,
-            Err(_) => FAILED,
-        },
-        _ => refuse_line(rt),
-    }
-}
-
-fn refuse_line<R: Print>(rt: &R) -> u8 {
-    match rt.println("usage") {
-        Ok(()) => REFUSED,
-        Err(_) => FAILED,
-    }
 }

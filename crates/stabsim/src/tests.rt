@@ -2,7 +2,7 @@
 mod rows;
 mod runtime;
 
-use crate::respond;
+use commands::respond;
 use rows::{DETECTED, PAIR, Row, TABLES};
 use runtime::{FAILS, TestRuntime};
 use std::alloc::Global;

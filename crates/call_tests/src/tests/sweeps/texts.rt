@@ -1,9 +1,10 @@
 //! Readers of texts and of what is given beside them.
 use super::growths::{Call, Memory, Ration};
 use super::lent::{CIRCUIT, Lent, MODEL, are_false};
-use dem_parser::{PlacedModel, PlainModel};
+use dem_parser::PlacedModel;
 use dem_text::Model;
 use forward_sim::{read_coins, read_numbers};
+use plain_models::PlainModel;
 use programs::Program;
 use step_model::Fault;
 use stim_parser::Circuit;
@@ -137,7 +138,7 @@ fn is_plain<'m>(memory: Memory<'m>, model: &PlainModel<'_, Memory<'m>>) -> Resul
 
 fn plain_is_right(memory: Memory<'_>) -> Result<bool, Fault> {
     let text = b"error(0.1) D0 L0\nerror(0.2) D0 D2\nerror(0.2) D1\n";
-    match dem_parser::read_plain(memory, text)? {
+    match plain_models::read_plain(memory, text)? {
         Some(model) => is_plain(memory, &model),
         None => Ok(false),
     }

@@ -1,7 +1,7 @@
 use Rattle.std.proofs.Common.{◌∙◌, ap}
 use Rattle.std.specs.Prelude.{max}
 use Rattle.std.proofs.lemmas.List.{drop_more, drop_all}
-use Rattle.dem_parser.specs.declared.target.Target.TheVariants.{Plain}
+use Rattle.dem_lines.specs.declared.target.Target.TheVariants.{Plain}
 use Rattle.dem_parser.specs.Meanings.{detectors_to, observables_to}
 use Rattle.dem_parser.proofs.CountLemmas.{raised-next, raised-done}
 use Rattle.dem_parser.proofs.counts.raised.Goals as goal

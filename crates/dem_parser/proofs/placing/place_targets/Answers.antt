@@ -1,7 +1,7 @@
 use Rattle.std.proofs.Common.{map, ap}
 use Rattle.std.proofs.lemmas.List.{at_drop_more, drop_all}
-use Rattle.dem_parser.specs.declared.target.Target.TheVariants.{Plain}
-use Rattle.dem_parser.specs.Limits.{has_target_beyond, is_target_beyond}
+use Rattle.dem_lines.specs.declared.target.Target.TheVariants.{Plain}
+use Rattle.dem_lines.specs.Limits.{has_target_beyond, is_target_beyond}
 use Rattle.dem_parser.specs.Shifts.{target_at}
 use Rattle.dem_parser.proofs.FrontLemmas.{front-done, front-found}
 use Rattle.dem_parser.proofs.placing.place_targets.Goals as goal

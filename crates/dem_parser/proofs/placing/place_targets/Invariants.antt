@@ -1,5 +1,5 @@
 use Rattle.std.proofs.Common.{drop, map}
-use Rattle.dem_parser.specs.Limits.{is_target_beyond}
+use Rattle.dem_lines.specs.Limits.{is_target_beyond}
 use Rattle.dem_parser.specs.Shifts.{target_at}
 use Rattle.dem_parser.proofs.FrontLemmas.{IsFront}
 use Rattle.dem_parser.proofs.placing.place_targets.Given as goal

@@ -3,8 +3,8 @@ use Rattle.std.specs.Prelude.{option_map}
 use Rattle.std.proofs.lemmas.List.{at_drop_more, drop_all}
 use Rattle.step_model.specs.declared.fault.Cause.TheVariants as cause
 use Rattle.dem_parser.specs.Gathered.{instructions_at}
-use Rattle.dem_parser.specs.Texts.{refused}
-use Rattle.dem_parser.specs.Trees.{items_of}
+use Rattle.dem_lines.specs.Texts.{refused}
+use Rattle.dem_lines.specs.Trees.{items_of}
 use Rattle.dem_parser.proofs.PlaceLemmas.{placing-beyond-at, placing-done, placing-next-at}
 use Rattle.dem_parser.proofs.placing.placed_lines.Goals as goal
 

@@ -1,7 +1,7 @@
 use Rattle.std.proofs.Common.{◌≡◌, drop}
 use Rattle.dem_parser.specs.Gathered.{instructions_at}
 use Rattle.dem_parser.specs.KeptLines.{shift_of}
-use Rattle.dem_parser.specs.Trees.{items_of}
+use Rattle.dem_lines.specs.Trees.{items_of}
 use Rattle.dem_parser.proofs.PlaceLemmas.{IsPlacing}
 use Rattle.dem_parser.proofs.placing.placed_lines.Given as goal
 

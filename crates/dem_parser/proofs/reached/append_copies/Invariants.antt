@@ -1,5 +1,5 @@
 use Rattle.std.proofs.Common.{◌≡◌, ◌++◌, drop}
-use Rattle.dem_parser.specs.Reached.{copies}
+use Rattle.dem_lines.specs.Reached.{copies}
 use Rattle.dem_parser.proofs.reached.append_copies.Given as goal
 
 abbrev pub invariant-loop-turn : goal.invariant-loop-turn

@@ -1,6 +1,6 @@
 use Rattle.std.proofs.Common.{refl, arith}
-use Rattle.dem_parser.specs.Flat.{item_in}
-use Rattle.dem_parser.specs.Trees.{items_of}
+use Rattle.dem_lines.specs.Flat.{item_in}
+use Rattle.dem_lines.specs.Trees.{items_of}
 use Rattle.dem_parser.proofs.GatherLemmas.{gathering-first, gathering-can, gathering-next, gathering-done, gathers-at}
 use Rattle.dem_parser.proofs.reached.reached_of.Goals as goal
 

@@ -1,5 +1,5 @@
 use Rattle.dem_parser.specs.Gathered.{instructions_at}
-use Rattle.dem_parser.specs.Trees.{items_of}
+use Rattle.dem_lines.specs.Trees.{items_of}
 use Rattle.dem_parser.proofs.GatherLemmas.{IsGathering}
 use Rattle.dem_parser.proofs.reached.reached_of.Given as goal
 

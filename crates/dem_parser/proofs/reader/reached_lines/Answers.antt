@@ -1,6 +1,6 @@
 use Rattle.std.proofs.Common.{ap, ◌∙◌}
 use Rattle.dem_parser.specs.Gathered.{instructions_at}
-use Rattle.dem_parser.specs.Trees.{items_of}
+use Rattle.dem_lines.specs.Trees.{items_of}
 use Rattle.dem_parser.proofs.BuildLemmas.{fits-kept}
 use Rattle.dem_parser.proofs.reader.reached_lines.Goals as goal
 

@@ -1,4 +1,4 @@
-use Rattle.dem_parser.specs.Flat.{instruction_in}
+use Rattle.dem_lines.specs.Flat.{instruction_in}
 use Rattle.dem_parser.proofs.ShiftLemmas.{few_arguments}
 use Rattle.dem_parser.proofs.shifts.pass.Goals as goal
 

@@ -4,7 +4,7 @@ use Rattle.step_model.specs.declared.fault.Fault.{Fault}
 use Rattle.step_model.specs.ErrorModels.{ErrorModel}
 use Rattle.step_model.specs.Faults.{memory_fault}
 use Rattle.dem_parser.specs.Models.{model_in}
-use Rattle.dem_parser.specs.Stripped.{stripped_or}
+use Rattle.plain_models.specs.Stripped.{stripped_or}
 use Rattle.engine.specs.Output.{Output, done, model_prediction, prediction_output}
 use Rattle.engine.proofs.PredictionLemmas.{of_stripped}
 use Rattle.engine.proofs.predicting.prediction_text.Goals as goal

@@ -1,4 +1,4 @@
-use Rattle.std.proofs.Common.{◌≡◌, ◌<◌, [], length, set, get_or, ap, ◌∙◌, arith}
+use Rattle.std.proofs.Common.{◌≡◌, ◌<◌, [], length, set, get_or, ap, sym, ◌∙◌, arith}
 use Rattle.std.proofs.lemmas.List.{get_or_default}
 use Rattle.std.proofs.lemmas.List.FromFn.{length-map-range_with_len}
 use Rattle.std.proofs.lemmas.Result.{on_ok_weaker}
@@ -7,8 +7,8 @@ use Rattle.backward.specs.Transposed.{tracked_of, word_at, times_each}
 use Rattle.backward.proofs.TransposedLemmas.{tracked_added}
 use Rattle.backward.proofs.words.WordsTracker.add.Goals as goal
 
-pub times_each-requires : goal.times_each-requires
-times_each-requires g c =
+pub times_each-requires-clause-targets : goal.times_each-requires-clause-targets
+times_each-requires-clause-targets g c =
     let m = c.self.inside.targets in
     let columns = c.self.inside.columns.items in
     let q = c.args.q in
@@ -18,6 +18,22 @@ times_each-requires g c =
     let within : q < length columns = omega (arith, count, c.requires.in_range) in
     let long : length c.index_mut.result.now ≡ m = ap length c.index_mut.ensures.value ∙ c.self.invariant.columns_long q _ within in
     λ k d lt. let low = c.requires.named k d lt in omega (arith, low, words, size, long)
+
+pub times_each-requires-clause-set : goal.times_each-requires-clause-set
+times_each-requires-clause-set g c =
+    let columns = c.self.inside.columns.items in
+    let q = c.args.q in
+    let count = ap (λ (t : Tracked). t.qubits) c.self.view_is in
+    let within : q < length columns = omega (arith, count, c.requires.in_range) in
+    c.self.invariant.set_long ∙ sym (ap length c.index_mut.ensures.value ∙ c.self.invariant.columns_long q _ within)
+
+pub times_each-requires-clause-spare : goal.times_each-requires-clause-spare
+times_each-requires-clause-spare g c =
+    let columns = c.self.inside.columns.items in
+    let q = c.args.q in
+    let count = ap (λ (t : Tracked). t.qubits) c.self.view_is in
+    let within : q < length columns = omega (arith, count, c.requires.in_range) in
+    c.self.invariant.spare_long ∙ sym (ap length c.index_mut.ensures.value ∙ c.self.invariant.columns_long q _ within)
 
 pub returns : goal.returns
 returns g c =

@@ -1,8 +1,8 @@
 use Rattle.std.proofs.Common.{[], ◌∷◌, ◌++◌, ap, ◌∙◌}
 use Rattle.dem_parser.specs.declared.placed.Heading.{Heading}
-use Rattle.dem_parser.specs.Gathered.{instruction_at}
+use Rattle.dem_lines.specs.Places.{instruction_at}
 use Rattle.dem_parser.specs.KeptLines.{Placement, list_or, placed_with}
-use Rattle.dem_parser.specs.Trees.{items_of}
+use Rattle.dem_lines.specs.Trees.{items_of}
 use Rattle.dem_parser.proofs.PlaceLemmas.{has-lists-more, has-lists-still, kept-more}
 use Rattle.dem_parser.proofs.placed.PlacedLines.push.Goals as goal
 

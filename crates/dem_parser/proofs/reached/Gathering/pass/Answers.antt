@@ -1,6 +1,6 @@
 use Rattle.std.proofs.Common.{sym, subst}
-use Rattle.dem_parser.specs.declared.lines.Item as lines
-use Rattle.dem_parser.specs.Flat.{item_in}
+use Rattle.dem_lines.specs.declared.lines.Item as lines
+use Rattle.dem_lines.specs.Flat.{item_in}
 use Rattle.dem_parser.specs.Gathered.{Finds}
 use Rattle.dem_parser.proofs.GatherLemmas.{ends_block}
 use Rattle.dem_parser.proofs.reached.Gathering.pass.Goals as goal

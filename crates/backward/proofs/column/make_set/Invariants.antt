@@ -1,0 +1,15 @@
+use Rattle.std.proofs.Common.{◌≡◌, ◌≤◌, length, drop}
+use Rattle.backward.specs.Transposed.{Multiplies}
+use Rattle.backward.proofs.column.make_set.Given as goal
+
+-- the set is of the targets from this one on
+abbrev pub invariant-loop-left : goal.invariant-loop-left
+invariant-loop-left g l =
+    record {
+      long : length (g.S.TargetSet.bits l.set) ≡ length (g.S.TargetSet.bits l.fn.set);
+      within : l.left ≤ length l.targets;
+      done : Multiplies (drop l.left l.targets) (g.S.TargetSet.bits l.set);
+    }
+
+abbrev pub decreases-loop-left : goal.decreases-loop-left
+decreases-loop-left g l = l.left

@@ -1,0 +1,38 @@
+use Rattle.std.proofs.Common.{◌≡◌, ◌<◌, [], List, Bool, length, get_or, set, ap, subst, sym, ◌∙◌, arith}
+use Rattle.std.specs.Prelude.{All}
+use Rattle.std.proofs.lemmas.List.{length-map}
+use Rattle.backward.specs.Collapses.{toggled_each}
+use Rattle.backward.specs.Links.{list_at}
+use Rattle.backward.specs.Sets.{row_of_set}
+use Rattle.backward.proofs.LinkLemmas.{lists_put, rows_put, row_at}
+use Rattle.backward.proofs.SetLemmas.{length-row_of_set}
+use Rattle.backward.proofs.record_lists.RecordLists.put.Goals as goal
+
+pub invariant_of-self-2 : goal.invariant_of-self-2
+invariant_of-self-2 g c =
+    let m = c.self.inside.targets in
+    let links = c.self.inside.links.items in
+    let places = c.self.inside.places.items in
+    let place = c.index.result.now in
+    let rec = c.args.rec in
+    let targets = c.args.targets.now in
+    let within : rec < length places = omega (arith, c.requires.rec, ap length c.self.view_is, length-map places (λ k. row_of_set m (list_at links k))) in
+    let row = row_at m rec place links places c.args.self.now c.self.view_is c.requires.rec c.index.ensures in
+    let long : length (get_or c.args.self.now rec []) ≡ m = sym (ap length row) ∙ length-row_of_set m (list_at links place) in
+    let low = subst (λ n. All (λ t. t < n) targets) long c.requires.targets in
+    lists_put m rec links places place c.put_each.new.links.items c.in_ok-first.first targets c.self.invariant within c.index.ensures low c.in_ok-first.ensures.put
+
+pub returns : goal.returns
+returns g c =
+    let m = c.self.inside.targets in
+    let links = c.self.inside.links.items in
+    let places = c.self.inside.places.items in
+    let place = c.index.result.now in
+    let rec = c.args.rec in
+    let targets = c.args.targets.now in
+    let within : rec < length places = omega (arith, c.requires.rec, ap length c.self.view_is, length-map places (λ k. row_of_set m (list_at links k))) in
+    let row = row_at m rec place links places c.args.self.now c.self.view_is c.requires.rec c.index.ensures in
+    let long : length (get_or c.args.self.now rec []) ≡ m = sym (ap length row) ∙ length-row_of_set m (list_at links place) in
+    let low = subst (λ n. All (λ t. t < n) targets) long c.requires.targets in
+    rows_put m rec links places place c.put_each.new.links.items c.in_ok-first.first targets c.self.invariant.back c.self.invariant.placed within c.index.ensures low c.in_ok-first.ensures.put
+    ∙ ap (λ (rows : List (List Bool)). set rows rec (toggled_each targets (get_or rows rec []))) c.self.view_is

@@ -1,0 +1,33 @@
+-- What the tree of an error model keeps: each instruction fits what its name takes, each block has a turn, and no more
+-- blocks stand inside one another than may. (Stim's detector error model format,
+-- github.com/quantumlib/Stim, doc/file_format_dem_detector_error_model.md; the limits are this project's.)
+use Rattle.std.specs.Prelude.{⊤, ◌≡◌, ◌<◌, ◌≤◌, ℕ, suc, max, false, true}
+use Rattle.stim_parser.specs.Limits.{has_wrong_arguments, has_wrong_probability}
+use Rattle.dem_lines.specs.declared.operation.Keyword.TheVariants.{Does}
+use Rattle.dem_lines.specs.Instructions.{argument_form, target_form}
+use Rattle.dem_lines.specs.Limits.{has_coordinate_beyond, are_of_form, has_target_beyond}
+use Rattle.dem_lines.specs.Trees.{Tree, Nothing, Then, Block}
+use Rattle.dem_lines.specs.Verdicts.{Instruction, deepest}
+
+-- an instruction with arguments and targets as it takes them
+pub record Fits (i : Instruction) : Type 0 where
+  pub arguments : has_wrong_arguments (argument_form (Does i.operation)) i.arguments ≡ false
+  pub probability : has_wrong_probability (argument_form (Does i.operation)) i.arguments ≡ false
+  pub arguments_within : has_coordinate_beyond (argument_form (Does i.operation)) i.arguments ≡ false
+  pub targets : are_of_form (target_form (Does i.operation)) i.targets ≡ true
+  pub targets_within : has_target_beyond i.targets ≡ false
+
+-- how deep blocks stand inside one another
+abbrev pub depth : Tree → ℕ
+depth Nothing = 0
+depth (Then instruction rest) = depth rest
+depth (Block line turns body rest) = max (suc (depth body)) (depth rest)
+
+abbrev pub AllFit : Tree → Type 0
+AllFit Nothing = ⊤
+AllFit (Then instruction rest) = Fits instruction × AllFit rest
+AllFit (Block line turns body rest) = (0 < turns) × AllFit body × AllFit rest
+
+pub record IsAccepted (tree : Tree) : Type 0 where
+  pub fit : AllFit tree
+  pub shallow : depth tree ≤ deepest

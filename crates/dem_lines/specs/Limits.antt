@@ -1,0 +1,68 @@
+-- What a line of an error model asks of its arguments and of its targets. How many arguments there are and of which form
+-- each is, is asked as of a circuit's instruction. The limits: a detector's number is at most 999,999, an observable's at
+-- most 1,023; all other numbers and the magnitudes of coordinates are below 10^18.
+-- (Stim's detector error model format, github.com/quantumlib/Stim, doc/file_format_dem_detector_error_model.md; the limits
+-- are this project's.)
+use Rattle.std.specs.Prelude.{ℕ, nat_lt, Bool, true, false, ◌&&◌, List, [], ◌∷◌}
+use Rattle.std.specs.List.{list_any, list_all}
+use Rattle.stim_parser.specs.declared.forms.ArgumentForm.{ArgumentForm}
+use Rattle.stim_parser.specs.declared.forms.ArgumentForm.TheVariants.{WholeNumbers}
+use Rattle.stim_parser.specs.Numbers.{is_number_beyond, magnitude_of}
+use Rattle.dem_lines.specs.declared.forms.TargetForm.{TargetForm}
+use Rattle.dem_lines.specs.declared.forms.TargetForm.TheVariants.{Effects, Detectors, Observables, OneNumber}
+use Rattle.dem_lines.specs.declared.target.Target.{Target}
+use Rattle.dem_lines.specs.declared.target.Target.TheVariants.{Plain, Detector, Observable, Separator}
+
+-- ---- arguments
+
+-- whole numbers are coordinates
+abbrev pub takes_coordinates : ArgumentForm → Bool
+takes_coordinates WholeNumbers = true
+takes_coordinates form = false
+
+unfoldable pub has_coordinate_beyond : ArgumentForm → List (List ℕ) → Bool
+has_coordinate_beyond form arguments =
+    takes_coordinates form && list_any (λ text. is_number_beyond (magnitude_of text)) arguments
+
+-- ---- forms of targets
+
+abbrev pub is_detector : Target → Bool
+is_detector (Detector d) = true
+is_detector target = false
+
+abbrev pub is_observable : Target → Bool
+is_observable (Observable k) = true
+is_observable target = false
+
+-- a target that may stand in an error
+abbrev pub is_effect : Target → Bool
+is_effect (Plain n) = false
+is_effect target = true
+
+abbrev pub is_one_number : List Target → Bool
+is_one_number (Plain n ∷ []) = true
+is_one_number targets = false
+
+-- targets of the form that a line takes, and as many as it takes
+unfoldable pub are_of_form : TargetForm → List Target → Bool
+are_of_form Effects targets = list_all is_effect targets
+are_of_form Detectors targets = list_all is_detector targets
+are_of_form Observables targets = list_all is_observable targets
+are_of_form OneNumber targets = is_one_number targets
+
+-- ---- limits of targets
+
+abbrev pub greatest_detector : ℕ
+greatest_detector = 999_999
+
+abbrev pub greatest_observable : ℕ
+greatest_observable = 1023
+
+abbrev pub is_target_beyond : Target → Bool
+is_target_beyond (Plain n) = is_number_beyond n
+is_target_beyond (Detector d) = nat_lt greatest_detector d
+is_target_beyond (Observable k) = nat_lt greatest_observable k
+is_target_beyond Separator = false
+
+unfoldable pub has_target_beyond : List Target → Bool
+has_target_beyond targets = list_any is_target_beyond targets

@@ -1,0 +1,38 @@
+-- The instructions of an error model in the order in which they are reached, where a block of n turns is n copies of its
+-- body, and how many lines its blocks unroll to: each turn counts 1 and what stands in it, where each instruction counts
+-- 1. What stands in no block counts nothing, and so does a `repeat` line. Blocks may unroll to 4,000,000 lines.
+-- (Stim's detector error model format, github.com/quantumlib/Stim, doc/file_format_dem_detector_error_model.md,
+-- "repeat"; what is counted is this project's choice.)
+use Rattle.std.specs.Prelude.{ℕ, zero, suc, ◌+◌, ◌*◌, nat_lt, Bool, List, [], ◌∷◌, ◌++◌}
+use Rattle.dem_lines.specs.Trees.{Tree, Nothing, Then, Block}
+use Rattle.dem_lines.specs.Verdicts.{Instruction}
+
+-- so many copies of a list, one after another
+abbrev pub copies : {X : Type 0} → ℕ → List X → List X
+copies zero xs = []
+copies (suc n) xs = xs ++ copies n xs
+
+-- each instruction each time that it is reached
+abbrev pub reached : Tree → List Instruction
+reached Nothing = []
+reached (Then instruction rest) = instruction ∷ reached rest
+reached (Block line turns body rest) = copies turns (reached body) ++ reached rest
+
+-- the lines of what stands in a block
+unfoldable pub lines_inside : Tree → ℕ
+lines_inside Nothing = 0
+lines_inside (Then instruction rest) = 1 + lines_inside rest
+lines_inside (Block line turns body rest) = turns * (1 + lines_inside body) + lines_inside rest
+
+-- the lines of all blocks together
+unfoldable pub block_lines : Tree → ℕ
+block_lines Nothing = 0
+block_lines (Then instruction rest) = block_lines rest
+block_lines (Block line turns body rest) = turns * (1 + lines_inside body) + block_lines rest
+
+-- how many lines blocks may unroll to
+abbrev pub most_lines : ℕ
+most_lines = 4_000_000
+
+abbrev pub has_many_lines : Tree → Bool
+has_many_lines tree = nat_lt most_lines (block_lines tree)

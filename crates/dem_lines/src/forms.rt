@@ -1,0 +1,41 @@
+ghost use Rattle.std.specs.Prelude.{◌≡◌};
+ghost use Rattle.dem_lines.specs.Instructions.{argument_form, target_form};
+
+use crate::operation::{Keyword, Operation};
+use stim_parser::ArgumentForm;
+
+/// Which targets a line takes.
+#[derive(Clone, Copy)]
+pub enum TargetForm {
+    /// Detectors, observables and separators.
+    Effects,
+    Detectors,
+    Observables,
+    /// One number in digits.
+    OneNumber,
+}
+
+/// The arguments that a keyword takes.
+pub(crate) fn argument_form(keyword: Keyword) -> ArgumentForm
+    ensures { result ≡ argument_form keyword }
+{
+    match keyword {
+        Keyword::Does(Operation::Errs) => ArgumentForm::OneProbability,
+        Keyword::Does(Operation::Detects) | Keyword::Does(Operation::Shifts) => {
+            ArgumentForm::WholeNumbers
+        }
+        Keyword::Does(Operation::Observes) | Keyword::Repeats => ArgumentForm::NoArguments,
+    }
+}
+
+/// The targets that a keyword takes.
+pub(crate) fn target_form(keyword: Keyword) -> TargetForm
+    ensures { result ≡ target_form keyword }
+{
+    match keyword {
+        Keyword::Does(Operation::Errs) => TargetForm::Effects,
+        Keyword::Does(Operation::Detects) => TargetForm::Detectors,
+        Keyword::Does(Operation::Observes) => TargetForm::Observables,
+        Keyword::Does(Operation::Shifts) | Keyword::Repeats => TargetForm::OneNumber,
+    }
+}

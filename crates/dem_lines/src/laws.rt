@@ -1,0 +1,19 @@
+//! Laws of error models' texts. Each is the contract of a function that does nothing.
+
+ghost use Rattle.std.specs.Prelude.{◌≡◌, ◌⊎◌, ℕ, List};
+ghost use Rattle.step_model.specs.declared.fault.Fault.{Fault};
+ghost use Rattle.dem_lines.specs.Fitting.{IsAccepted};
+ghost use Rattle.dem_lines.specs.Trees.{Tree, Writes, IsRefusedBy};
+
+/// The lines of each text make exactly one tree, or are refused by exactly one fault, and never both.
+pub fn texts_are_judged_once()
+    ensures judged { (text : List ℕ) → ((tree : Tree) × Writes text tree) ⊎ ((fault : Fault) × IsRefusedBy text fault) }
+    ensures one_tree { (text : List ℕ) (t u : Tree) → Writes text t → Writes text u → t ≡ u }
+    ensures one_fault { (text : List ℕ) (f g : Fault) → IsRefusedBy text f → IsRefusedBy text g → f ≡ g }
+    ensures not_both { (text : List ℕ) (t : Tree) (f : Fault) → Writes text t → IsRefusedBy text f → ⊥ }
+{}
+
+/// The instructions of a tree that a text writes fit, and its blocks have turns and do not stand too deep.
+pub fn texts_write_accepted_trees()
+    ensures { (text : List ℕ) (tree : Tree) → Writes text tree → IsAccepted tree }
+{}

@@ -1,0 +1,4 @@
+pub mod Stripped
+pub mod Tallies
+pub mod PlainLines
+pub mod ErrorTexts

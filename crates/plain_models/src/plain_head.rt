@@ -1,0 +1,70 @@
+ghost use Rattle.std.specs.Prelude.{◌≡◌, ◌∷◌, ◌++◌, true, codes, IfSome};
+ghost use Rattle.std.specs.List.{list_all};
+ghost use Rattle.stim_parser.specs.Arguments.{arguments_in};
+ghost use Rattle.stim_parser.specs.declared.forms.ArgumentForm.TheVariants.{OneProbability};
+ghost use Rattle.stim_parser.specs.Said.{AreProbabilities};
+ghost use Rattle.plain_models.specs.ErrorTexts.{is_quiet};
+
+use crate::plain_targets::behind_byte;
+use stim_lexer::cut_at;
+use stim_parser::{
+    ArgumentForm, LastProbability, has_wrong_arguments, has_wrong_probability, read_arguments,
+};
+
+/// What stood in the parentheses of an error line, where that is right: most that follow have the same.
+#[derive(Clone, Copy)]
+pub(crate) struct Head<'a> {
+    pub arguments: &'a [u8],
+    ghost quiet: { list_all is_quiet arguments.now ≡ true },
+    ghost right: { AreProbabilities OneProbability (arguments_in arguments.now) },
+}
+
+/// Whether no byte of a text ends arguments or a line, or may not stand there.
+fn is_quiet(text: &[u8]) -> bool
+    ensures { result ≡ list_all is_quiet text.now }
+{
+    text.iter()
+        .all(|byte| *byte == b' ' || (43..=122).contains(byte))
+}
+
+/// What follows a text at the front of another.
+#[inline(always)]
+fn behind<'t>(front: &[u8], text: &'t [u8]) -> Option<&'t [u8]>
+    ensures { IfSome result (λ rest. text.now ≡ front.now ++ rest.now) }
+{
+    text.strip_prefix(front)
+}
+
+/// What follows `error`, a parenthesis, arguments and a parenthesis, where a text begins so.
+#[inline(always)]
+pub(crate) fn behind_head<'t>(arguments: &[u8], text: &'t [u8]) -> Option<&'t [u8]>
+    ensures { IfSome result (λ rest. text.now ≡ codes "error(" ++ (arguments.now ++ 41 ∷ rest.now)) }
+{
+    let inside = behind(b"error(", text)?;
+    let closed = behind(arguments, inside)?;
+    let rest = behind_byte(b')', closed)?;
+    Some(rest)
+}
+
+/// Whether arguments are those of an error line.
+fn are_right<'a>(last: &mut LastProbability<'a>, arguments: &'a [u8]) -> bool
+    ensures { result ≡ true → AreProbabilities OneProbability (arguments_in arguments.now) }
+{
+    let Some(read) = read_arguments(arguments) else {
+        return false;
+    };
+    let form = ArgumentForm::OneProbability;
+    !has_wrong_arguments(form, read.as_slice())
+        && !has_wrong_probability(last, form, read.as_slice())
+}
+
+/// The arguments that the error line has which a text begins as, where later lines may be told by them.
+pub(crate) fn head_in<'a>(last: &mut LastProbability<'a>, text: &'a [u8]) -> Option<Head<'a>> {
+    let inside = behind(b"error(", text)?;
+    let (arguments, _) = cut_at(inside, b')');
+    if is_quiet(arguments) && are_right(last, arguments) {
+        Some(Head { arguments })
+    } else {
+        None
+    }
+}

@@ -1,0 +1,103 @@
+ghost use Rattle.std.specs.Prelude.{◌≡◌, if◌then◌else◌, length, IfOk};
+ghost use Rattle.dem_parser.specs.Numbered.{numbers_of};
+ghost use Rattle.dem_parser.specs.Sums.{symptom_of, turned};
+ghost use Rattle.plain_models.specs.Tallies.{IsWhole, model_tallied};
+ghost use Rattle.dem_lines.specs.Verdicts.{read_targets};
+
+use crate::plain_tally::TalliedLines;
+use dem_lines::{Target, narrowed, read_targets};
+use dem_parser::{named_end, no_bits, turn_targets};
+use std::alloc::{AllocError, Allocator};
+use std::marker::Model;
+
+/// An error model whose error lines stay texts: the targets of a line are read again where it is named, and most are not. It
+/// is seen as the model that is left without the texts of probabilities and without coordinates.
+#[derive(Drop)]
+pub struct PlainModel<'a, A: Allocator + Copy> {
+    lines: TalliedLines<'a, A>,
+    detectors: u32,
+    observables: u32,
+}
+
+impl<'a, A: Allocator + Copy> Model for PlainModel<'a, A> {
+    ghost use Rattle.step_model.specs.ErrorModels.{ErrorModel};
+    ghost use Rattle.plain_models.specs.Tallies.{AreCountsOf, model_tallied};
+
+    ghost Value = { ErrorModel };
+
+    ghost view = { λ m. model_tallied m.lines };
+
+    ghost invariant = { λ m. AreCountsOf m.lines m.detectors m.observables };
+}
+
+/// Turns the truth values of the targets that a text writes round, where there are so many detectors.
+fn turn_text<A: Allocator + Copy>(
+    bits: &mut [bool],
+    targets: &mut Vec<Target, A>,
+    detectors: u32,
+    text: &[u8],
+) -> Result<(), AllocError>
+    ensures { IfOk result (λ _. bits.new ≡ turned bits.old (numbers_of detectors (read_targets text.now))) }
+{
+    if read_targets(targets, text)? {
+        turn_targets(bits, detectors, targets.as_slice())?;
+    }
+    Ok(())
+}
+
+/// The same where the line is named, and nothing where it is not.
+fn turn_named<A: Allocator + Copy>(
+    named: bool,
+    bits: &mut [bool],
+    targets: &mut Vec<Target, A>,
+    detectors: u32,
+    text: &[u8],
+) -> Result<(), AllocError>
+    ensures { IfOk result (λ _. bits.new ≡ (if named then turned bits.old (numbers_of detectors (read_targets text.now)) else bits.old)) }
+{
+    if named {
+        turn_text(bits, targets, detectors, text)?;
+    }
+    Ok(())
+}
+
+impl<'a, A: Allocator + Copy> PlainModel<'a, A> {
+    /// The model of lines that were tallied. It may fail only where memory runs out.
+    pub(crate) fn new(lines: TalliedLines<'a, A>) -> Result<Self, AllocError>
+        requires { IsWhole lines }
+        ensures { IfOk result (λ model. model ≡ model_tallied lines.entry) }
+    {
+        let counts = lines.counts();
+        Ok(PlainModel {
+            detectors: narrowed(counts.detectors)?,
+            observables: narrowed(counts.observables)?,
+            lines,
+        })
+    }
+
+    /// How many error lines there are.
+    pub fn line_count(&self) -> usize
+        ensures { result ≡ length self.now.lines }
+    {
+        self.lines.len()
+    }
+
+    /// What the error lines flip that are named, all together: a truth value for each detector, then one for each
+    /// observable. Two lines that flip the same cancel there. A line is named by the truth value at its number, from 0.
+    pub fn symptom(&self, alloc: A, named: &[bool]) -> Result<Vec<bool, A>, AllocError>
+        ensures { IfOk result (λ bits. bits.items ≡ symptom_of self.now named.now) }
+    {
+        let mut bits = no_bits(alloc, self.detectors as usize, self.observables as usize)?;
+        let mut targets = Vec::new(alloc);
+        for line in 0..self.lines.len().min(named_end(named)) {
+            turn_named(
+                named[line],
+                &mut bits,
+                &mut targets,
+                self.detectors,
+                self.lines.text(line),
+            )?;
+        }
+        Ok(bits)
+    }
+}
