@@ -82,7 +82,10 @@ fn fresh_words<'s, A: Allocator + Copy>(
 {
     program.well_formed();
     let targets = program.detector_count() + program.observable_count();
-    Words::sparse(alloc, program.qubits() as usize, targets).map_err(|_| Fault::MEMORY)
+    match Words::sparse(alloc, program.qubits() as usize, targets) {
+        Ok(words) => Ok(words),
+        Err(_) => Err(Fault::MEMORY),
+    }
 }
 
 /// The lines of a random target with its place.
