@@ -1,4 +1,4 @@
-use Rattle.std.proofs.Common.{◌≡◌, ◌<◌, ◌≤◌, ◌∷◌, [], List, length, get_or, subst, sym, ◌∙◌, arith}
+use Rattle.std.proofs.Common.{◌≡◌, ◌<◌, ◌∷◌, [], List, length, get_or, subst, sym, ◌∙◌, arith}
 use Rattle.std.specs.Prelude.{All}
 use Rattle.step_model.specs.declared.step.Term.{Term}
 use Rattle.step_model.specs.Targets.{targets_of}

@@ -1,11 +1,9 @@
-use Rattle.std.proofs.Common.{◌≡◌, ◌<◌, ◌≤◌, ◌+◌, ℕ, Bool, false, [], List, length, get_or, set, length-set, inl, inr, ap, subst, sym, ◌∙◌, arith}
+use Rattle.std.proofs.Common.{◌≡◌, ◌<◌, ℕ, Bool, false, [], List, length, get_or, set, length-set, inl, inr, ap, subst, sym, ◌∙◌, arith}
 use Rattle.std.specs.Prelude.{All, replicate}
 use Rattle.std.proofs.lemmas.Bool.{cases_eq}
 use Rattle.std.proofs.lemmas.List.{ext_get_or, get_or-replicate, get_or-set_other, get_or-set_same, length-map, length-replicate}
-use Rattle.backward.specs.Collapses.{toggled_each}
 use Rattle.backward.specs.Links.{list_at}
 use Rattle.backward.specs.Sets.{row_of_set}
-use Rattle.backward.specs.TargetSets.{members}
 use Rattle.backward.proofs.LinkLemmas.{rows_of_length, put_members}
 use Rattle.backward.proofs.RangeLemmas.{members_within}
 use Rattle.backward.proofs.record_lists.RecordLists.anew.Goals as goal

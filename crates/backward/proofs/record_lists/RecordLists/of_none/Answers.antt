@@ -1,4 +1,4 @@
-use Rattle.std.proofs.Common.{◌≡◌, zero, false, [], List, ℕ, length, ap, ap₂, subst, sym, ◌∙◌}
+use Rattle.std.proofs.Common.{◌≡◌, [], List, ap₂, subst, sym, ◌∙◌}
 use Rattle.std.specs.Prelude.{replicate}
 use Rattle.backward.specs.declared.record_lists.Link.{Link}
 use Rattle.backward.specs.Links.{rows_at, AreLists}
