@@ -6,12 +6,12 @@ use Rattle.std.proofs.lemmas.List.FromFn.{length-range_with_len}
 use Rattle.std.specs.List.{range_with_len}
 use Rattle.pauli_word.specs.declared.letter.Letter.{Letter}
 use Rattle.pauli_word.specs.Parity.{exclusive_or}
-use Rattle.pauli_word.specs.States.{outcome, collapsed}
+use Rattle.pauli_word.specs.States.{outcome}
 use Rattle.pauli_word.specs.Words.{Signed}
 use Rattle.pauli_word.proofs.Parities.{exclusive_or-false}
 use Rattle.step_model.specs.declared.step.Term.{Term}
 use Rattle.step_model.specs.Listing.{Listing, ListedStep, One, Two, Collapse, Fault, Feedback, Measured, Word, Recorded, measured_word}
-use Rattle.step_model.specs.Runs.{RunState, next, next_coin, correction, corrected, record_changes, run_from, run_state_after, records_of, start}
+use Rattle.step_model.specs.Runs.{RunState, next, next_coin, record_changes, run_from, run_state_after, records_of, start}
 use Rattle.step_model.specs.Sensitivities.{is_collapse, collapse_count}
 use Rattle.step_model.specs.WellFormed.{IsWellFormed, step_records, records_made}
 use Rattle.run_laws.proofs.ConstancyRecords.{get_or-push, first_of_range, in_order-next}
