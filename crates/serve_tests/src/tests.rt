@@ -1,3 +1,4 @@
+mod command_lines;
 mod drawn;
 mod sweeps;
 mod worked;

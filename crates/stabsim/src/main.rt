@@ -1,9 +1,6 @@
 //! The program: does what its command line asks, and ends with the status that comes of it.
 #![tactic(auto)]
 
-#[cfg(test)]
-mod tests;
-
 use commands::respond;
 use std::process::ExitCode;
 
