@@ -4,6 +4,7 @@ ghost use Rattle.pauli_word.specs.declared.letter.Letter.TheVariants.{I, Y};
 ghost use Rattle.std.specs.List.{range_with_len};
 ghost use Rattle.pauli_word.specs.Words.{anticommute};
 ghost use Rattle.step_model.specs.Listing.{word_of_terms};
+ghost use Rattle.step_model.specs.Targets.{targets_of};
 ghost use Rattle.backward.specs.Tracked.{anticommuting, each_word, fresh, undone_two};
 ghost use Rattle.backward.specs.TargetSets.{members};
 ghost use Rattle.backward.specs.Transposed.{combined, exchanged_at, multiplied_at, word_at};
@@ -12,10 +13,12 @@ use crate::column::{Column, is_kept, is_left, is_lost, is_y};
 use crate::pairs::{exchange_pair, image_pair, multiply_pair};
 use crate::sparse_set::SparseSet;
 use crate::target_set::TargetSet;
+use crate::targets::target_count;
 use crate::tracker::Tracker;
 use bit_rows::BitRow;
 use gate_table::Gate;
 use pauli_word::Letter;
+use programs::Program;
 use std::alloc::{AllocError, Allocator};
 use std::marker::Model;
 use step_model::Term;
@@ -58,6 +61,13 @@ impl<A: Allocator + Copy> Words<BitRow<A>, A> {
     {
         Words::of_sets(alloc, qubits, targets, BitRow::zeros(alloc, targets)?)
     }
+
+    /// An identity word for each target of a program.
+    pub fn dense_for(alloc: A, program: &Program<'_, A>) -> Result<Self, AllocError>
+        ensures { IfOk result (λ w. w ≡ fresh program.now.qubits (length (targets_of program.now))) }
+    {
+        Words::dense(alloc, program.qubits() as usize, target_count(program))
+    }
 }
 
 impl<'a, A: Allocator + Copy> Words<SparseSet<'a, A>, A> {
@@ -67,6 +77,13 @@ impl<'a, A: Allocator + Copy> Words<SparseSet<'a, A>, A> {
         ensures { IfOk result (λ w. w ≡ fresh qubits targets) }
     {
         Words::of_sets(*alloc, qubits, targets, SparseSet::none(alloc, targets))
+    }
+
+    /// An identity word for each target of a program.
+    pub fn sparse_for(alloc: &'a A, program: &Program<'_, A>) -> Result<Self, AllocError>
+        ensures { IfOk result (λ w. w ≡ fresh program.now.qubits (length (targets_of program.now))) }
+    {
+        Words::sparse(alloc, program.qubits() as usize, target_count(program))
     }
 }
 

@@ -80,9 +80,7 @@ fn fresh_words<'s, A: Allocator + Copy>(
     ensures ok { IfOk result (λ words. words ≡ fresh program.now.qubits (length (targets_of program.now))) }
     ensures err { IfErr result (λ e. e ≡ memory_fault) }
 {
-    program.well_formed();
-    let targets = program.detector_count() + program.observable_count();
-    match Words::sparse(alloc, program.qubits() as usize, targets) {
+    match Words::sparse_for(alloc, program) {
         Ok(words) => Ok(words),
         Err(_) => Err(Fault::MEMORY),
     }

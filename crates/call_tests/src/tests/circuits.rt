@@ -5,7 +5,6 @@ mod gates;
 mod large;
 mod notation;
 mod runs;
-mod states;
 mod table;
 mod three_steps;
 

@@ -1,12 +1,9 @@
 //! Analyses as the table has them, by both trackers, and the coin pairs of its random targets.
-ghost use Rattle.std.specs.Prelude.{◌≡◌, length, IfOk};
-ghost use Rattle.step_model.specs.Targets.{targets_of};
-ghost use Rattle.backward.specs.Tracked.{fresh};
 
 use super::are_digits;
 use super::runs::differences;
 use super::table::{Answer, Row};
-use backward::{Analysed, DenseWords, QubitSets, Words, analyse};
+use backward::{Analysed, Words, analyse};
 use frames::coin_pair;
 use plain_runs::place_of;
 use programs::Program;
@@ -38,7 +35,7 @@ pub(super) fn by_dense<'p>(
     alloc: Global,
     program: &Program<'p, Global>,
 ) -> Result<Analysed<'p, Global>, Fail> {
-    Ok(analyse(alloc, program, dense_words(alloc, program)?)?)
+    Ok(analyse(alloc, program, Words::dense_for(alloc, program)?)?)
 }
 
 /// The analysis by lists of targets.
@@ -46,31 +43,7 @@ pub(super) fn by_sparse<'p>(
     alloc: &Global,
     program: &Program<'p, Global>,
 ) -> Result<Analysed<'p, Global>, Fail> {
-    Ok(analyse(*alloc, program, sparse_words(alloc, program)?)?)
-}
-
-/// A word for each target.
-fn dense_words(
-    alloc: Global,
-    program: &Program<'_, Global>,
-) -> Result<DenseWords<Global>, AllocError>
-    ensures { IfOk result (λ words. words ≡ fresh program.now.qubits (length (targets_of program.now))) }
-{
-    program.well_formed();
-    let targets = program.detector_count() + program.observable_count();
-    Words::dense(alloc, program.qubits() as usize, targets)
-}
-
-/// The same, kept as lists.
-fn sparse_words<'s>(
-    alloc: &'s Global,
-    program: &Program<'_, Global>,
-) -> Result<QubitSets<'s, Global>, AllocError>
-    ensures { IfOk result (λ words. words ≡ fresh program.now.qubits (length (targets_of program.now))) }
-{
-    program.well_formed();
-    let targets = program.detector_count() + program.observable_count();
-    Words::sparse(alloc, program.qubits() as usize, targets)
+    Ok(analyse(*alloc, program, Words::sparse_for(alloc, program)?)?)
 }
 
 fn answer_holds(

@@ -48,9 +48,7 @@ fn sparse_is_right<'m>(
     ration: Ration<'m>,
     program: &Program<'_, Memory<'m>>,
 ) -> Result<bool, Fault> {
-    program.well_formed();
-    let targets = program.detector_count() + program.observable_count();
-    match Words::sparse(&ration.memory, program.qubits() as usize, targets) {
+    match Words::sparse_for(&ration.memory, program) {
         Ok(words) => Ok(is_model(&analyse(ration.begin(), program, words)?)),
         Err(_) => Err(Fault::MEMORY),
     }
@@ -60,18 +58,14 @@ fn dense_is_right<'m>(
     ration: Ration<'m>,
     program: &Program<'_, Memory<'m>>,
 ) -> Result<bool, Fault> {
-    program.well_formed();
-    let targets = program.detector_count() + program.observable_count();
-    match Words::dense(ration.memory, program.qubits() as usize, targets) {
+    match Words::dense_for(ration.memory, program) {
         Ok(words) => Ok(is_model(&analyse(ration.begin(), program, words)?)),
         Err(_) => Err(Fault::MEMORY),
     }
 }
 
 fn text_is_right<'m>(ration: Ration<'m>, program: &Program<'_, Memory<'m>>) -> Result<bool, Fault> {
-    program.well_formed();
-    let targets = program.detector_count() + program.observable_count();
-    match Words::sparse(&ration.memory, program.qubits() as usize, targets) {
+    match Words::sparse_for(&ration.memory, program) {
         Ok(words) => Ok(is_text(&analyse_to_text(ration.begin(), program, words)?)),
         Err(_) => Err(Fault::MEMORY),
     }

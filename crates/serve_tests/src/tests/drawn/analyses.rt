@@ -1,13 +1,10 @@
 //! The analyses of a drawn text's program, by both trackers.
-ghost use Rattle.std.specs.Prelude.{◌≡◌, length, IfOk};
-ghost use Rattle.step_model.specs.Targets.{targets_of};
-ghost use Rattle.backward.specs.Tracked.{fresh};
 
 use super::drawing::Drawing;
 use super::models::model_holds;
 use super::randoms::random_holds;
 use super::{Finding, Tally};
-use backward::{Analysed, DenseWords, QubitSets, Words, analyse};
+use backward::{Analysed, Words, analyse};
 use programs::Program;
 use std::alloc::Global;
 use step_model::{Fault, Place};
@@ -47,8 +44,10 @@ fn analyse_dense<'a>(
     alloc: Global,
     program: &Program<'a, Global>,
 ) -> Result<Analysed<'a, Global>, Fault> {
-    let words = dense_words(alloc, program)?;
-    analyse(alloc, program, words)
+    match Words::dense_for(alloc, program) {
+        Ok(words) => analyse(alloc, program, words),
+        Err(_) => Err(Fault::MEMORY),
+    }
 }
 
 /// The random target and its place, by lists of targets.
@@ -64,8 +63,10 @@ fn analyse_sparse<'a>(
     alloc: &Global,
     program: &Program<'a, Global>,
 ) -> Result<Analysed<'a, Global>, Fault> {
-    let words = sparse_words(alloc, program)?;
-    analyse(*alloc, program, words)
+    match Words::sparse_for(alloc, program) {
+        Ok(words) => analyse(*alloc, program, words),
+        Err(_) => Err(Fault::MEMORY),
+    }
 }
 
 fn random_of(analysed: &Analysed<'_, Global>) -> Option<(u32, Place)> {
@@ -73,25 +74,4 @@ fn random_of(analysed: &Analysed<'_, Global>) -> Option<(u32, Place)> {
         Analysed::Random { which, place } => Some((*which, *place)),
         Analysed::Model(_) => None,
     }
-}
-
-/// A word for each target, as rows of bits.
-fn dense_words(alloc: Global, program: &Program<'_, Global>) -> Result<DenseWords<Global>, Fault>
-    ensures { IfOk result (λ words. words ≡ fresh program.now.qubits (length (targets_of program.now))) }
-{
-    program.well_formed();
-    let targets = program.detector_count() + program.observable_count();
-    Words::dense(alloc, program.qubits() as usize, targets).map_err(|_| Fault::MEMORY)
-}
-
-/// The same, kept as lists.
-fn sparse_words<'s>(
-    alloc: &'s Global,
-    program: &Program<'_, Global>,
-) -> Result<QubitSets<'s, Global>, Fault>
-    ensures { IfOk result (λ words. words ≡ fresh program.now.qubits (length (targets_of program.now))) }
-{
-    program.well_formed();
-    let targets = program.detector_count() + program.observable_count();
-    Words::sparse(alloc, program.qubits() as usize, targets).map_err(|_| Fault::MEMORY)
 }
