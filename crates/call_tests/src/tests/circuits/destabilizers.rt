@@ -53,16 +53,20 @@ fn word_at(alloc: Global, qubit: usize) -> Result<Word<Global>, AllocError>
     ensures { IfOk result (λ w. length w.letters ≡ 66) }
 {
     let mut word = Word::identity(alloc, QUBITS)?;
-    if 0 < qubit && qubit <= QUBITS {
-        word.set_letter(qubit - 1, Letter::Z);
-    }
-    if qubit < QUBITS {
-        word.set_letter(qubit, Letter::X);
-    }
-    if qubit < QUBITS - 1 {
-        word.set_letter(qubit + 1, Letter::Z);
-    }
+    put(&mut word, qubit.wrapping_sub(1), Letter::Z);
+    put(&mut word, qubit, Letter::X);
+    put(&mut word, qubit.saturating_add(1), Letter::Z);
     Ok(word)
+}
+
+/// Puts a letter at a qubit, where there is that qubit.
+fn put(word: &mut Word<Global>, qubit: usize, letter: Letter)
+    requires { length word.old.letters ≡ 66 }
+    ensures { length word.new.letters ≡ 66 }
+{
+    if qubit < QUBITS {
+        word.set_letter(qubit, letter);
+    }
 }
 
 fn rows_pair(alloc: Global, tableau: &Tableau<Global>, named: &Named) -> Result<bool, AllocError> {

@@ -7,7 +7,7 @@ use std::alloc::{AllocError, Global};
 use std::fmt::Debug;
 use std::process::Abort;
 use std::test::Fail;
-use step_model::Fault;
+use step_model::{Cause, Fault};
 use stim_parser::{Circuit, parse};
 use unroll::read_program;
 
@@ -67,9 +67,14 @@ fn outcome_of(answer: Result<bool, Fault>, refused: bool) -> Outcome {
     match answer {
         Ok(true) if refused => Outcome::Spared,
         Ok(true) => Outcome::Unrefused,
-        Err(fault) if refused && fault == Fault::MEMORY => Outcome::Wanted,
+        Err(fault) if refused && is_want(fault) => Outcome::Wanted,
         _ => Outcome::Wrong,
     }
+}
+
+/// Whether a fault is want of memory, which no line is blamed for.
+fn is_want(fault: Fault) -> bool {
+    matches!(fault.cause, Cause::Memory) && fault.line == 0
 }
 
 /// Calls with one growth refused. A call that doesn't give back what it took is wrong.

@@ -239,7 +239,7 @@ fn put_two<'m>(lines: &mut LinesText<'static, Memory<'m>>, text: u32) -> Result<
     ensures targets { lines.new.targets ≡ lines.old.targets }
 {
     lines.put_line(text, &[2])?;
-    lines.put_line(text, &[0, 1, 2, 0, 1, 2, 0, 1, 2, 0, 1, 2, 0, 1, 2, 0, 1])
+    lines.put_line(text, &[2; 17])
 }
 
 /// So many lines that they fill two blocks of 64 KiB, and begin a third.
