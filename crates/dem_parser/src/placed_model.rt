@@ -1,4 +1,4 @@
-ghost use Rattle.std.specs.Prelude.{◌≡◌, ◌≤◌, ◌+◌, ◌<◌, ◌^◌, ℕ, false, length, slice_index_or, IfOk};
+ghost use Rattle.std.specs.Prelude.{◌≡◌, ◌≤◌, ◌+◌, ◌<◌, ◌^◌, ℕ, false, true, length, slice_index_or, IfOk};
 ghost use Rattle.dem_parser.specs.KeptLines.{placed_in};
 ghost use Rattle.dem_parser.specs.Meanings.{meaning_of};
 ghost use Rattle.dem_parser.specs.Numbered.{numbered, numbers_of};
@@ -35,9 +35,10 @@ impl<'c, 'a, A: Allocator + Copy> Model for PlacedModel<'c, 'a, A> {
     ghost invariant = { λ m. AreCounts m.lines.placed m.detectors m.observables m.errors };
 }
 
-/// Behind which number no line is named.
+/// The number behind the last line that is named, or 0 where none is.
 pub fn named_end(named: &[bool]) -> usize
     ensures within { result ≤ length named.now }
+    ensures last { (k : ℕ) → result ≡ 1 + k → slice_index_or named.now k false ≡ true }
     ensures none { (k : ℕ) → result ≤ k → slice_index_or named.now k false ≡ false }
 {
     let mut end = named.len();

@@ -77,6 +77,34 @@ fn enter_turns(nodes: &[Node], place: &mut Place)
     }
 }
 
+// Goes on to where a step follows, or to the end. Most often a step follows, and nothing else is asked for.
+#[inline(always)]
+fn go_to_step(nodes: &[Node], place: &mut Place)
+    requires circuit { IsCircuit nodes.now }
+    requires place { (k : ℕ) × IsAt nodes.now place.old k }
+    ensures kept { KeepsStep nodes.now place.old place.new }
+    ensures no_close { IsNoClose (slice_get nodes.now place.new.index) }
+    ensures no_open { IsNoOpen (slice_get nodes.now place.new.index) }
+{
+    if let Some(Node::Do(_)) = node_at(nodes, place.index) {
+        return;
+    }
+    go_past_turns(nodes, place);
+}
+
+// Goes over the ends and starts of turns, which stand at few places.
+#[inline(never)]
+fn go_past_turns(nodes: &[Node], place: &mut Place)
+    requires circuit { IsCircuit nodes.now }
+    requires place { (k : ℕ) × IsAt nodes.now place.old k }
+    ensures kept { KeepsStep nodes.now place.old place.new }
+    ensures no_close { IsNoClose (slice_get nodes.now place.new.index) }
+    ensures no_open { IsNoOpen (slice_get nodes.now place.new.index) }
+{
+    leave_turns(nodes, place);
+    enter_turns(nodes, place);
+}
+
 // The step after a place, and goes over it.
 #[inline(always)]
 pub fn next(nodes: &[Node], place: &mut Place) -> Option<TextStep>
@@ -84,29 +112,7 @@ pub fn next(nodes: &[Node], place: &mut Place) -> Option<TextStep>
     requires place { (k : ℕ) × IsAt nodes.now place.old k }
     ensures { NextStep nodes.now place.old place.new result }
 {
-    // Most steps are faults: where one stands no other kind is asked for.
-    match node_at(nodes, place.index) {
-        Some(Node::Do(TextStep::Fault(entry))) => {
-            place.index += 1;
-            Some(TextStep::Fault(entry))
-        }
-        Some(Node::Do(step)) => {
-            place.index += 1;
-            Some(step)
-        }
-        _ => next_past_turns(nodes, place),
-    }
-}
-
-// The same over the ends and starts of turns, which stand at few places.
-#[inline(never)]
-fn next_past_turns(nodes: &[Node], place: &mut Place) -> Option<TextStep>
-    requires circuit { IsCircuit nodes.now }
-    requires place { (k : ℕ) × IsAt nodes.now place.old k }
-    ensures { NextStep nodes.now place.old place.new result }
-{
-    leave_turns(nodes, place);
-    enter_turns(nodes, place);
+    go_to_step(nodes, place);
     match node_at(nodes, place.index) {
         Some(Node::Do(step)) => {
             place.index += 1;
@@ -149,6 +155,34 @@ fn enter_turns_back(nodes: &[Node], place: &mut Place)
     }
 }
 
+// Goes back to where a step stands before, or to the start. Most often one stands there, and nothing else is asked for.
+#[inline(always)]
+fn go_back_to_step(nodes: &[Node], place: &mut Place)
+    requires circuit { IsCircuit nodes.now }
+    requires place { (k : ℕ) × IsAt nodes.now place.old k }
+    ensures kept { KeepsStep nodes.now place.old place.new }
+    ensures no_open { IsNoOpen (node_before nodes.now place.new.index) }
+    ensures no_close { IsNoClose (node_before nodes.now place.new.index) }
+{
+    if let Some(Node::Do(_)) = node_before(nodes, place.index) {
+        return;
+    }
+    go_back_past_turns(nodes, place);
+}
+
+// Goes back over the starts and ends of turns, which stand at few places.
+#[inline(never)]
+fn go_back_past_turns(nodes: &[Node], place: &mut Place)
+    requires circuit { IsCircuit nodes.now }
+    requires place { (k : ℕ) × IsAt nodes.now place.old k }
+    ensures kept { KeepsStep nodes.now place.old place.new }
+    ensures no_open { IsNoOpen (node_before nodes.now place.new.index) }
+    ensures no_close { IsNoClose (node_before nodes.now place.new.index) }
+{
+    leave_turns_back(nodes, place);
+    enter_turns_back(nodes, place);
+}
+
 // The step before a place, and goes back over it.
 #[inline(always)]
 pub fn previous(nodes: &[Node], place: &mut Place) -> Option<TextStep>
@@ -156,28 +190,7 @@ pub fn previous(nodes: &[Node], place: &mut Place) -> Option<TextStep>
     requires place { (k : ℕ) × IsAt nodes.now place.old k }
     ensures { PreviousStep nodes.now place.old place.new result }
 {
-    match node_before(nodes, place.index) {
-        Some(Node::Do(TextStep::Fault(entry))) => {
-            place.index -= 1;
-            Some(TextStep::Fault(entry))
-        }
-        Some(Node::Do(step)) => {
-            place.index -= 1;
-            Some(step)
-        }
-        _ => previous_past_turns(nodes, place),
-    }
-}
-
-// The same over the starts and ends of turns.
-#[inline(never)]
-fn previous_past_turns(nodes: &[Node], place: &mut Place) -> Option<TextStep>
-    requires circuit { IsCircuit nodes.now }
-    requires place { (k : ℕ) × IsAt nodes.now place.old k }
-    ensures { PreviousStep nodes.now place.old place.new result }
-{
-    leave_turns_back(nodes, place);
-    enter_turns_back(nodes, place);
+    go_back_to_step(nodes, place);
     match node_before(nodes, place.index) {
         Some(Node::Do(step)) => {
             place.index -= 1;
