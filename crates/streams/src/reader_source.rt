@@ -1,4 +1,7 @@
-ghost use Rattle.std.specs.Prelude.{◌≡◌, None};
+ghost use Rattle.std.specs.Prelude.{◌≡◌, ◌≤◌, length, None, IfOk, IfErr, OnErr};
+ghost use Rattle.std.specs.Io.KnownBytes.{ReadConsumes};
+ghost use Rattle.step_model.specs.Ends.{read_failures};
+ghost use Rattle.step_model.specs.Faults.{read_fault};
 
 use std::io::{ErrorKind, Read};
 use step_model::{Fault, Source};
@@ -44,7 +47,14 @@ impl<R: Read + Drop> Source for ReaderSource<R> {
 
     ghost failures = { λ s. s.failures };
 
-    fn read(&mut self, buffer: &mut [u8]) -> Result<usize, Fault> {
+    // Where the reader's bytes are known, as of one over memory, the next of them are handed out, and none is lost.
+    fn read(&mut self, buffer: &mut [u8]) -> Result<usize, Fault>
+        ensures within { IfOk result (λ n. n ≤ length buffer.new) }
+        ensures passed_on { ReadConsumes (R.remaining self.old.reader) (R.remaining self.new.reader) result buffer.new }
+        ensures fault { IfErr result (λ e. e ≡ read_fault) }
+        ensures kept { OnErr result (buffer.new ≡ buffer.old) }
+        ensures count { self.new.failures ≡ read_failures result self.old.failures }
+    {
         let mut piece = [0u8; PIECE];
         let room = buffer.len().min(PIECE);
         for _ in 0..u64::MAX {

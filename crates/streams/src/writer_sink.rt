@@ -1,4 +1,7 @@
-ghost use Rattle.std.specs.Prelude.{◌≡◌, None};
+ghost use Rattle.std.specs.Prelude.{◌≡◌, ◌<◌, ◌≤◌, length, None, IfOk, IfErr};
+ghost use Rattle.std.specs.Io.KnownBytes.{WriteAppends};
+ghost use Rattle.step_model.specs.Ends.{write_failures};
+ghost use Rattle.step_model.specs.Faults.{write_fault};
 
 use std::io::{ErrorKind, Write};
 use step_model::{Fault, Sink};
@@ -41,7 +44,14 @@ impl<W: Write + Drop> Sink for WriterSink<W> {
 
     ghost failures = { λ s. s.failures };
 
-    fn write(&mut self, bytes: &[u8]) -> Result<usize, Fault> {
+    // Where the writer's bytes are known, as of one over memory, it took just those that are counted, after what it had.
+    fn write(&mut self, bytes: &[u8]) -> Result<usize, Fault>
+        ensures within { IfOk result (λ n. n ≤ length bytes.now) }
+        ensures some { IfOk result (λ n. 0 < length bytes.now → 0 < n) }
+        ensures passed_on { WriteAppends (W.contents self.old.writer) (W.contents self.new.writer) result bytes.now }
+        ensures fault { IfErr result (λ e. e ≡ write_fault) }
+        ensures count { self.new.failures ≡ write_failures result self.old.failures }
+    {
         for _ in 0..u64::MAX {
             match self.writer.write(bytes) {
                 Ok(n) if 0 < n || bytes.is_empty() => return Ok(n),
