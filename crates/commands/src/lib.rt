@@ -1,5 +1,8 @@
 //! What a command line asks for, done from a runtime's standard input to its standard output.
 #![tactic(auto)]
+ghost use Rattle.std.specs.Prelude.{◌≡◌, ◌≢◌};
+ghost use Rattle.clap.specs.declared.error.kind.ErrorKind.TheVariants.{OutOfMemory, DisplayHelp};
+ghost use Rattle.commands.specs.declared.Reply.TheVariants.{Nothing, Help, Usage};
 
 mod command_line;
 mod help;
@@ -7,7 +10,7 @@ mod help;
 use clap::error::ErrorKind;
 use clap::{ArgMatches, Error};
 use command_line::{order_of, read_words};
-use engine::{Order, Status, serve};
+use engine::{Order, exit_status, serve};
 use std::rt::Env;
 use std::{env, io};
 use streams::{ReaderSource, WriterSink};
@@ -17,8 +20,6 @@ const DONE: u8 = 0;
 const FAILED: u8 = 1;
 
 const REFUSED: u8 = 2;
-
-const RANDOM: u8 = 3;
 
 /// Reads a circuit or an error model from standard input, does what the command line asks, and writes to standard output.
 /// Answers the exit status: 0 where that is done or help was asked for, 1 where memory ran out or a stream failed, 2 where
@@ -50,23 +51,38 @@ fn obey<R: Input + Print + AllocGlobal>(rt: &R, matches: &ArgMatches<'_>) -> u8 
 fn respond_to<R: Input + Print + AllocGlobal>(rt: &R, order: &Order<'_>) -> u8 {
     let mut source = ReaderSource::new(rt.reader());
     let mut sink = WriterSink::new(io::writer(rt));
-    match serve(rt.alloc(), order, &mut source, &mut sink) {
-        Ok(Status::Done) => DONE,
-        Ok(Status::Refused) => REFUSED,
-        Ok(Status::Random) => RANDOM,
-        Err(_) => FAILED,
+    exit_status(serve(rt.alloc(), order, &mut source, &mut sink))
+}
+
+/// What is written for words that give no order.
+enum Reply {
+    Nothing,
+    Help,
+    Usage,
+}
+
+/// Want of memory is no fault of the words, and help isn't either.
+fn reply_to(kind: ErrorKind) -> Reply
+    ensures memory { kind ≡ OutOfMemory → result ≡ Nothing }
+    ensures help { kind ≡ DisplayHelp → result ≡ Help }
+    ensures others { kind ≢ OutOfMemory → kind ≢ DisplayHelp → result ≡ Usage }
+{
+    match kind {
+        ErrorKind::OutOfMemory => Reply::Nothing,
+        ErrorKind::DisplayHelp => Reply::Help,
+        _ => Reply::Usage,
     }
 }
 
 /// Writes the help that was asked for, or refuses the command line.
 fn explain<R: Print>(rt: &R, error: &Error) -> u8 {
-    match error.kind() {
-        ErrorKind::OutOfMemory => FAILED,
-        ErrorKind::DisplayHelp => match rt.print(error) {
+    match reply_to(error.kind()) {
+        Reply::Nothing => FAILED,
+        Reply::Help => match rt.print(error) {
             Ok(()) => DONE,
             Err(_) => FAILED,
         },
-        _ => refuse_line(rt),
+        Reply::Usage => refuse_line(rt),
     }
 }
 

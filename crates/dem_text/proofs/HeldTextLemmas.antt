@@ -4,7 +4,7 @@ use Rattle.std.proofs.Common.{◌≡◌, ℕ, ◌+◌, ◌-◌, ◌≤◌, ◌<�
 use Rattle.std.specs.List.{flat_map}
 use Rattle.std.proofs.lemmas.Grind.{flat_map-append}
 use Rattle.std.proofs.lemmas.List.{take-append-drop, drop-drop, drop_more, reverse-append}
-use Rattle.dem_text.specs.HeldText.{Filled, text_in, texts_of}
+use Rattle.dem_text.specs.HeldText.{Filled, text_in, texts_of, EndsIn}
 
 -- a part of a list and what stands behind it
 pub part_and_rest : {X : Type 0} (xs : List X) (from left : ℕ) → from ≤ left → take (left - from) (drop from xs) ++ drop left xs ≡ drop from xs
@@ -43,3 +43,7 @@ one_block_more full i left b next within is =
     ∙ ap (flat_map f) (sym (reverse-append (b ∷ []) behind))
     ∙ ap (λ c. texts_of (c ∷ behind)) is
     ∙ ap texts_of (sym (drop_more full i b within))
+
+-- what is behind what is behind
+pub EndsIn-trans : {a b c : List ℕ} → EndsIn a b → EndsIn b c → EndsIn a c
+EndsIn-trans {a} (front, p) (more, q) = (more ++ front, q ∙ (ap (λ l. more ++ l) p ∙ sym (append_assoc more front a)))

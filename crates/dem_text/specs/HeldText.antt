@@ -21,6 +21,10 @@ texts_of full = flat_map (λ b. b.text) (reverse full)
 abbrev pub text_in : Filled → List Filled → List ℕ
 text_in block full = block.text ++ texts_of full
 
+-- a text that was there is the end of one
+abbrev pub EndsIn : List ℕ → List ℕ → Type 0
+EndsIn old new = (front : List ℕ) × (new ≡ front ++ old)
+
 -- what is held of error lines: of how many detectors targets are told apart, how many targets there are, the texts of
 -- probabilities that lines may have, and the text of the lines
 pub record Held : Type 0 where

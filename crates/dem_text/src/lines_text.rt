@@ -1,7 +1,7 @@
 //! The text of error lines that are found from the last to the first.
 ghost use Rattle.std.specs.Prelude.{◌≡◌, ◌<◌, ◌≤◌, ◌+◌, ◌++◌, [], All, length, IfOk, OnOk};
 ghost use Rattle.dem_text.specs.ErrorLines.{text_at, KeepsTexts};
-ghost use Rattle.dem_text.specs.HeldText.{text_in, texts_of};
+ghost use Rattle.dem_text.specs.HeldText.{text_in, texts_of, EndsIn};
 ghost use Rattle.dem_text.specs.ModelText.{line_text, targets_text};
 ghost use Rattle.pieces.specs.Pushed.{Pushes};
 
@@ -107,12 +107,13 @@ impl<'a, A: Allocator + Copy> LinesText<'a, A> {
         number_of(&mut self.texts, text)
     }
 
-    /// Puts a line before those that were there, with the kept text of this number. It may fail only where memory runs
-    /// out.
+    /// Puts a line before those that were there, with the kept text of this number. Where memory runs out they are still
+    /// there, behind a part of the line or none.
     pub fn put_line(&mut self, number: u32, targets: &[u32]) -> Result<(), AllocError>
         requires number { number < length self.old.texts }
         requires targets { All (λ target. target < self.old.targets) targets.now }
         ensures ok { OnOk result (self.new.text ≡ line_text self.old.detectors (record { text = text_at self.old.texts number; targets = targets.now }) ++ self.old.text) }
+        ensures kept { EndsIn self.old.text self.new.text }
         ensures detectors { self.new.detectors ≡ self.old.detectors }
         ensures targets { self.new.targets ≡ self.old.targets }
         ensures texts { self.new.texts ≡ self.old.texts }
@@ -131,6 +132,7 @@ impl<'a, A: Allocator + Copy> LinesText<'a, A> {
     fn put_long_line(&mut self, text: &[u8], targets: &[u32]) -> Result<(), AllocError>
         requires { All (λ target. target < self.old.targets) targets.now }
         ensures ok { OnOk result (self.new.text ≡ line_text self.old.detectors (record { text = text.now; targets = targets.now }) ++ self.old.text) }
+        ensures kept { EndsIn self.old.text self.new.text }
         ensures detectors { self.new.detectors ≡ self.old.detectors }
         ensures targets { self.new.targets ≡ self.old.targets }
         ensures texts { self.new.texts ≡ self.old.texts }
@@ -145,6 +147,7 @@ impl<'a, A: Allocator + Copy> LinesText<'a, A> {
     // Puts bytes before the text.
     fn put(&mut self, bytes: &[u8]) -> Result<(), AllocError>
         ensures ok { OnOk result (self.new.text ≡ bytes.now ++ self.old.text) }
+        ensures kept { EndsIn self.old.text self.new.text }
         ensures detectors { self.new.detectors ≡ self.old.detectors }
         ensures targets { self.new.targets ≡ self.old.targets }
         ensures texts { self.new.texts ≡ self.old.texts }
@@ -163,6 +166,7 @@ impl<'a, A: Allocator + Copy> LinesText<'a, A> {
     fn put_targets(&mut self, targets: &[u32]) -> Result<(), AllocError>
         requires { All (λ target. target < self.old.targets) targets.now }
         ensures ok { OnOk result (self.new.text ≡ targets_text self.old.detectors targets.now ++ self.old.text) }
+        ensures kept { EndsIn self.old.text self.new.text }
         ensures detectors { self.new.detectors ≡ self.old.detectors }
         ensures targets { self.new.targets ≡ self.old.targets }
         ensures texts { self.new.texts ≡ self.old.texts }

@@ -11,5 +11,5 @@ mod refusing;
 mod running;
 mod serving;
 
-pub use order::{Order, Status};
+pub use order::{Order, Status, exit_status};
 pub use serving::serve;

@@ -45,7 +45,10 @@ pub fn serve<R: Source, W: Sink, A: Allocator + Copy>(
     ensures reads { R.failures source.new ≡ read_failures result (R.failures source.old) }
     ensures writes { W.failures sink.new ≡ write_failures result (W.failures sink.old) }
 
-    // After an error a beginning of the output is written, and none of it unless all was read.
+    // Where the source failed nothing is written, though it had handed out all of its bytes.
+    ensures silent { IfErr result (λ e. e ≡ read_fault → W.taken sink.new ≡ W.taken sink.old) }
+
+    // After another error a beginning of the output is written, and none of it unless all was read.
     ensures rest { OnErr result (HandsOutSome (R.left source.old) (R.left source.new)) }
     ensures unread { OnErr result ((W.taken sink.new ≡ W.taken sink.old) ⊎ IsAtEnd (R.left source.new)) }
     ensures beginning { OnErr result (IfSome (R.left source.old) (λ text.

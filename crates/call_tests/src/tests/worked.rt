@@ -9,6 +9,7 @@ mod judged;
 mod last_probabilities;
 mod lines;
 mod lists;
+mod long_streams;
 mod reader_ends;
 mod texts;
 mod walks;

@@ -1,9 +1,9 @@
-//! A runtime over memory: words, an input, and an output that is kept or closed.
+//! A runtime over memory: words, an input that may fail, and an output that is kept or closed.
 use std::alloc::{Alloc, Allocator, Global};
 use std::cell::RefCell;
 use std::env::FillError;
 use std::fmt::Display;
-use std::io::{BufRead, Error, ErrorKind, Lines, Result};
+use std::io::{BufRead, Error, ErrorKind, Lines, Read, Result};
 use std::rt::Env;
 
 /// Stands for a word whose bytes are no UTF-8.
@@ -16,6 +16,41 @@ pub(super) struct TestRuntime<'a> {
     input: &'a [u8],
     output: RefCell<Vec<u8>>,
     is_closed: bool,
+    fails: bool,
+}
+
+/// An input of these bytes, or one of which each read fails.
+#[derive(Drop)]
+pub(super) struct TestReader<'a> {
+    left: &'a [u8],
+    fails: bool,
+}
+
+impl<'a> TestReader<'a> {
+    fn check(&self) -> Result<()> {
+        if self.fails {
+            return Err(Error::from(ErrorKind::UnexpectedEof));
+        }
+        Ok(())
+    }
+}
+
+impl<'a> Read for TestReader<'a> {
+    fn read(&mut self, buf: &mut [u8]) -> Result<usize> {
+        self.check()?;
+        self.left.read(buf)
+    }
+}
+
+impl<'a> BufRead for TestReader<'a> {
+    fn fill_buf(&mut self) -> Result<&[u8]> {
+        self.check()?;
+        Ok(self.left)
+    }
+
+    fn consume(&mut self, amount: usize) {
+        self.left.consume(amount)
+    }
 }
 
 impl<'a> TestRuntime<'a> {
@@ -27,11 +62,17 @@ impl<'a> TestRuntime<'a> {
             input,
             output: RefCell::new(Vec::new(alloc)),
             is_closed: false,
+            fails: false,
         }
     }
 
     pub(super) fn with_closed_output(mut self) -> Self {
         self.is_closed = true;
+        self
+    }
+
+    pub(super) fn with_failing_input(mut self) -> Self {
+        self.fails = true;
         self
     }
 
@@ -93,18 +134,21 @@ impl<'a> Env for TestRuntime<'a> {
 }
 
 impl<'a> Input for TestRuntime<'a> {
-    type Reader = &'a [u8];
+    type Reader = TestReader<'a>;
 
     fn read_line<A: Allocator + Clone>(&self, buf: &mut String<A>) -> Result<usize> {
         self.reader().read_line(buf)
     }
 
-    fn lines<A: Allocator>(&self, alloc: A) -> Lines<&'a [u8], A> {
+    fn lines<A: Allocator>(&self, alloc: A) -> Lines<TestReader<'a>, A> {
         self.reader().lines(alloc)
     }
 
-    fn reader(&self) -> &'a [u8] {
-        self.input
+    fn reader(&self) -> TestReader<'a> {
+        TestReader {
+            left: self.input,
+            fails: self.fails,
+        }
     }
 }
 

@@ -34,3 +34,13 @@ returns-clause-ok g c =
     (c.put_line.ensures ∙ ap₂ (λ h text. line_text h.detectors (line_from text c.args.targets.now) ++ c.make_room.new.block.text) c.self.view_is kept)
     (c.make_room.ensures.same ∙ ap (λ h. h.text) c.self.view_is)
     (append-nil line)
+
+pub returns-clause-kept : goal.returns-clause-kept
+returns-clause-kept g c =
+    let line = line_text c.self.inside.names.detectors (line_from c.index-text.result.now c.args.targets.now) in (
+      line,
+      put_before line [] c.args.self.now.text line c.put_line.new.self c.make_room.new.block c.make_room.new.full.items
+          c.put_line.ensures
+          (c.make_room.ensures.same ∙ ap (λ h. h.text) c.self.view_is)
+          (append-nil line),
+    )
