@@ -49,19 +49,20 @@ place_image x z Z = z
 abbrev pub pair_image : SignedPair → SignedPair → SignedPair → SignedPair → Letter → Letter → SignedPair
 pair_image xi zi ix iz a b = signed_pair_product one (place_image xi zi a) (place_image ix iz b)
 
--- a letter where it is a factor, else I
+-- the letter where it is a factor, otherwise I
 abbrev pub factor : Bool → Letter → Letter
 factor true a = a
 factor false a = I
 
--- what a gate with A on the first qubit and B on the second makes of a letter on the first, and of one on the second
+-- the image of a letter on the first qubit under a gate with A on the first qubit and B on the second
 abbrev pub first_image : Letter → Letter → Letter → SignedPair
 first_image A B a = (a, factor (letters_clash a A) B, plus)
 
+-- that of a letter on the second qubit
 abbrev pub second_image : Letter → Letter → Letter → SignedPair
 second_image A B b = (factor (letters_clash b B) A, b, plus)
 
--- how many qubits a gate acts on
+-- how many qubits a gate acts on, by its row of the table and by its name
 abbrev pub row_arity : Row → ℕ
 row_arity (one_qubit x z g) = 1
 row_arity (controlled a b) = 2
@@ -70,7 +71,7 @@ row_arity (two_qubit xi zi ix iz g) = 2
 abbrev pub arity_of : Gate → ℕ
 arity_of g = row_arity (row_of g)
 
--- the image of a letter under a one-qubit gate; another gate leaves it as it is
+-- the image of a letter under a one-qubit gate, by row and by name; any other gate leaves it as it is
 abbrev pub row_image1 : Row → Letter → Letter × Bool
 row_image1 (one_qubit x z g) a = letter_image x z a
 row_image1 (controlled A B) a = (a, plus)
@@ -79,7 +80,7 @@ row_image1 (two_qubit xi zi ix iz g) a = (a, plus)
 abbrev pub image1 : Gate → Letter → Letter × Bool
 image1 g a = row_image1 (row_of g) a
 
--- the image of a pair of letters under a two-qubit gate; another gate leaves it as it is
+-- the image of a pair of letters under a two-qubit gate, by row and by name; any other gate leaves it as it is
 abbrev pub row_image2 : Row → Letter → Letter → Letter × Letter × Bool
 row_image2 (one_qubit x z g) a b = (a, b, plus)
 row_image2 (controlled A B) a b =
@@ -89,7 +90,7 @@ row_image2 (two_qubit xi zi ix iz g) a b = pair_image xi zi ix iz a b
 abbrev pub image2 : Gate → Letter → Letter → Letter × Letter × Bool
 image2 g a b = row_image2 (row_of g) a b
 
--- the gate that undoes a gate: a controlled gate undoes itself
+-- the gate that undoes a gate, by its row and by its name: a controlled gate undoes itself
 abbrev pub row_inverse : Gate → Row → Gate
 row_inverse g (one_qubit x z h) = h
 row_inverse g (controlled a b) = g

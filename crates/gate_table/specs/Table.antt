@@ -1,5 +1,5 @@
--- The table of gates. A gate U is given by what it makes of X and Z: the image of P is U P U-dagger, a letter
--- or a pair of letters with a sign. A controlled gate is given by its two letters alone.
+-- The table of gates. A gate U is given by the images of X and Z: the image of P is U P U-dagger, a letter or a pair of
+-- letters with a sign. A controlled gate is given by its two letters alone.
 -- (Stim's gate reference, github.com/quantumlib/Stim, doc/gates.md: "Stabilizer Generators" of each gate.)
 use Rattle.std.specs.Prelude.{Bool, true, false}
 use Rattle.pauli_word.specs.declared.letter.Letter.{Letter}
@@ -14,6 +14,7 @@ SignedLetter = Letter × Bool
 abbrev pub SignedPair : Type 0
 SignedPair = Letter × Letter × Bool
 
+-- the two signs
 abbrev pub plus : Bool
 plus = false
 
@@ -28,6 +29,7 @@ pub data Row : Type 0 where
   controlled : Letter → Letter → Row
   two_qubit : SignedPair → SignedPair → SignedPair → SignedPair → Gate → Row
 
+-- the row of each gate
 abbrev pub row_of : Gate → Row
 -- the images of X and Z, and the inverse
 row_of gate.I = one_qubit (X, plus) (Z, plus) gate.I

@@ -1,5 +1,5 @@
 -- Maps of the signed words of n letters that keep what makes a state's words a group: length, the identity with its
--- sign, which words anticommute, and products with their signs. Conjugations by Clifford unitaries are such maps.
+-- sign, which words anticommute, and products with their signs. Conjugation by a Clifford unitary is such a map.
 -- (Nielsen and Chuang, Quantum Computation and Quantum Information, section 10.5.2.)
 -- (Conjugation by Clifford gates: Aaronson and Gottesman, Phys. Rev. A 70, 052328.)
 use Rattle.std.specs.Prelude.{◌≡◌, ℕ, Bool, length}

@@ -1,4 +1,4 @@
--- What is seen of bytes that go out in pieces: those that are held back, and whether the sink has failed.
+-- The value of a buffer before a sink: the bytes that are held back, and whether the sink has failed.
 -- (This project's own.)
 use Rattle.std.specs.Prelude.{ℕ, List, Bool}
 
