@@ -1,5 +1,5 @@
-//! Readers and writers of std, such as standard input and output, as sources and sinks. What bytes a device hands out or
-//! takes isn't known, so contracts say nothing of their bytes. A call that a signal interrupts is made again, as std does.
+//! Readers and writers of std, such as standard input and output, as sources and sinks. What bytes a device hands out
+//! or takes isn't known, so contracts say nothing of them. A call that a signal interrupts is made again, as std does.
 #![tactic(auto)]
 
 mod reader_source;
