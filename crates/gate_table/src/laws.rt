@@ -58,7 +58,7 @@ pub fn word_preimages_undo()
     ensures two_back { (g : Gate) (a b : ℕ) (p : Signed) → a ≢ b → a < length p.letters → b < length p.letters → preimage_at_two g a b (image_at_two g a b p) ≡ p }
 {}
 
-/// After a gate at any of its qubits, a state's words still form a commutative group without minus the identity.
+/// A gate at any qubits of a state keeps the state's words a commutative group without minus the identity.
 pub fn gates_keep_group()
     ensures one { (n : ℕ) (g : Gate) (q : ℕ) (s : State) → q < n → IsGroup n s → IsGroup n (λ p. s (preimage_at g q p)) }
     ensures two { (n : ℕ) (g : Gate) (a b : ℕ) (s : State) → a < n → b < n → a ≢ b → IsGroup n s → IsGroup n (λ p. s (preimage_at_two g a b p)) }

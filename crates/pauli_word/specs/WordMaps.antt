@@ -5,6 +5,7 @@
 use Rattle.std.specs.Prelude.{◌≡◌, ℕ, Bool, length}
 use Rattle.pauli_word.specs.Words.{Signed, signed, anticommute, product, no_letters}
 
+-- the map f keeps all of these
 pub record KeepsWords (n : ℕ) (f : Signed → Signed) : Type 0 where
   pub size : (p : Signed) → length p.letters ≡ n → length (f p).letters ≡ n
   pub identity : (b : Bool) → f (signed (no_letters n) b) ≡ signed (no_letters n) b

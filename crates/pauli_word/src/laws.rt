@@ -74,12 +74,12 @@ pub fn start_is_group()
     ensures { (n : ℕ) → IsGroup n start_state }
 {}
 
-/// They still do after a Pauli word is applied, as by a fault that happens or by the correction of a reset.
+/// Applying a Pauli word, as a fault that happens or the correction of a reset does, keeps a state's words such a group.
 pub fn applied_words_keep_group()
     ensures { (n : ℕ) (b : Bool) (w : List Letter) (s : State) → IsGroup n s → IsGroup n (applied b w s) }
 {}
 
-/// They still do after a collapse of any word, whether its outcome is decided or random.
+/// A collapse of any word keeps a state's words such a group, whether its outcome is decided or random.
 pub fn collapses_keep_group()
     ensures { (n : ℕ) (w : List Letter) (coin : Bool) (s : State) → length w ≡ n → IsGroup n s → IsGroup n (collapsed w coin s) }
 {}

@@ -1,6 +1,6 @@
 -- What pushing bytes does to a sink and to what is held back for it. While no call fails, what the sink took, followed by
--- what is held now, is what was held before, followed by the bytes pushed. Where the sink fails, some of these bytes went
--- out, from the front. After that nothing changes any more. (The contract of a buffered writer, such as that of Rust's
+-- what is held now, is what was held before, followed by the bytes pushed. Where the sink fails, a prefix of these went
+-- out. After that nothing changes any more. (The contract of a buffered writer, such as that of Rust's
 -- std::io::BufWriter, with the failure kept until the end.)
 use Rattle.std.specs.Prelude.{◌≡◌, ℕ, Bool, true, false, List, ◌++◌, Option}
 use Rattle.step_model.specs.Ends.{Takes, TakesBeginning, next_count}
@@ -19,7 +19,7 @@ pub record Holds (old new : Outlet) (bytes : List ℕ) : Type 0 where
   pub rest : gone ++ new.held ≡ old.held ++ bytes
   pub same_count : new.failures ≡ old.failures
 
--- a call failed: the sink took some of the bytes from the front, or none, but not all
+-- a call failed: the sink took a prefix of the bytes, but not all
 pub record Breaks (old new : Outlet) (bytes : List ℕ) : Type 0 where
   pub beginning : TakesBeginning old.taken new.taken (old.held ++ bytes)
   pub counted : new.failures ≡ next_count old.failures

@@ -1,4 +1,4 @@
-//! A buffer before a sink: bytes that are pushed in order go out in pieces.
+//! A buffer in front of a sink: bytes that are pushed in order go out in pieces.
 #![tactic(auto)]
 
 ghost use Rattle.std.specs.Prelude.{◌≡◌, if◌then◌else◌, [], ◌++◌, false, true, Err, OnOk, OnErr, IfErr};

@@ -48,7 +48,7 @@ abbrev pub outer_of : List Frame → List Outer
 outer_of [] = []
 outer_of (f ∷ fs) = record { length = length (nodes_of f.before); turns = f.turns } ∷ outer_of fs
 
--- each block has at least one turn and one node, and at most `room` are nested
+-- each closed block has at least one turn and one node, each open one at least one turn, and at most `room` are nested
 abbrev pub FramesFit : ℕ → List Frame → Tree → Type 0
 FramesFit room [] t = IsFull t × (depth t ≤ room)
 FramesFit room (f ∷ fs) t = (0 < f.turns) × IsFull f.before × (depth f.before ≤ room) × (0 < room) × FramesFit (room - 1) fs t

@@ -30,7 +30,8 @@ written (Open n ∷ pieces) outer here = written pieces (record { before = here;
 written (Close ∷ pieces) [] here = here
 written (Close ∷ pieces) (b ∷ outer) here = written pieces outer (b.before ++ repeated b.turns here)
 
--- a builder that took a piece: what further pieces write is the same as if the piece were still to come before them
+-- a builder takes a piece: whatever pieces follow, the old builder with this piece and these, and the new one with these
+-- alone, write the same steps
 abbrev pub Puts : Piece → Building → Building → Type 0
 Puts piece old new =
     (pieces : List Piece) → written (piece ∷ pieces) (reverse old.outer) old.here ≡ written pieces (reverse new.outer) new.here

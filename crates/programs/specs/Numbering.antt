@@ -14,19 +14,22 @@ use Rattle.programs.specs.declared.step.Counts.{Counts}
 abbrev pub no_counts : Counts
 no_counts = record { records = 0; collapses = 0; faults = 0 }
 
--- what a collapse makes: itself, a record where it is recorded, and a fault where the record may be flipped
+-- how many faults a record has that flip it: 0 or 1
 abbrev pub made_by_flip : Option ℕ → ℕ
 made_by_flip None = 0
 made_by_flip (Some e) = 1
 
+-- how many records a collapse makes
 abbrev pub records_in_collapse : Option Recording → ℕ
 records_in_collapse None = 0
 records_in_collapse (Some r) = 1
 
+-- how many faults
 abbrev pub faults_in_collapse : Option Recording → ℕ
 faults_in_collapse None = 0
 faults_in_collapse (Some r) = made_by_flip r.flip
 
+-- what a collapse makes: itself, a record where it is recorded, and a fault where the record may be flipped
 abbrev pub made_in_collapse : Option Recording → Counts
 made_in_collapse r = record { records = records_in_collapse r; collapses = 1; faults = faults_in_collapse r }
 
@@ -60,18 +63,21 @@ abbrev pub counts_over : Counts → List TextStep → Counts
 counts_over c [] = c
 counts_over c (s ∷ steps) = counts_over (counts_after c s) steps
 
--- of a collapse's record after these counts: its number, whether the outcome is inverted, and the fault that flips it
+-- the number of a collapse's record, after these counts
 abbrev pub record_number : Counts → Option Recording → Option ℕ
 record_number c None = None
 record_number c (Some r) = Some c.records
 
+-- whether the outcome is inverted in it
 abbrev pub is_inverted : Option Recording → Bool
 is_inverted None = false
 is_inverted (Some r) = r.inverted
 
+-- a fault by its number and its entry
 abbrev pub named : ℕ → ℕ → FaultName
 named f e = record { number = f; entry = e }
 
+-- the fault that flips a collapse's record, after these counts
 abbrev pub flip_name : Counts → Option Recording → Option FaultName
 flip_name c None = None
 flip_name c (Some r) = option_map (named c.faults) r.flip

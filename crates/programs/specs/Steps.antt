@@ -50,17 +50,19 @@ abbrev pub NextStep : List Node → Place → Place → Option TextStep → Type
 NextStep nodes old new None = (k : ℕ) → IsAt nodes old k → StaysAtEnd nodes old new k
 NextStep nodes old new (Some step) = (k : ℕ) → IsAt nodes old k → GoesOver nodes old new step k
 
--- the same moves back
+-- a move back, over the last of k steps
 pub record GoesBackOver (nodes : List Node) (old new : Place) (step : TextStep) (k : ℕ) : Type 0 where
   pub m : ℕ
   pub k_is : k ≡ m + 1
   pub step_is : slice_get (unrolled (tree_of nodes)) m ≡ Some step
   pub place : IsAt nodes new m
 
+-- no step is before, and none is gone over
 pub record StaysAtStart (nodes : List Node) (old new : Place) (k : ℕ) : Type 0 where
   pub k_is : k ≡ 0
   pub place : IsAt nodes new k
 
+-- the step before and a move back over it, or none at the start
 abbrev pub PreviousStep : List Node → Place → Place → Option TextStep → Type 0
 PreviousStep nodes old new None = (k : ℕ) → IsAt nodes old k → StaysAtStart nodes old new k
 PreviousStep nodes old new (Some step) = (k : ℕ) → IsAt nodes old k → GoesBackOver nodes old new step k

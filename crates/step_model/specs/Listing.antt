@@ -77,10 +77,11 @@ abbrev pub effect_word : ℕ → Effect → List Letter
 effect_word n (Applies terms) = word_of_terms n terms
 effect_word n (Flips r) = no_letters n
 
--- a fault that does nothing, and what would be kept of it: what the look-ups below answer past the ends of their lists
+-- a fault that does nothing, which a number stands for that no fault has
 abbrev pub no_effect : ListedFault
 no_effect = record { text = []; bound = 0; effect = Applies []; entry = 0 }
 
+-- what is kept of such a fault
 abbrev pub none_kept : Kept
 none_kept = record { text = []; bound = 0; terms = [] }
 
@@ -88,13 +89,15 @@ none_kept = record { text = []; bound = 0; terms = [] }
 abbrev pub kept_at : Listing → ℕ → Kept
 kept_at program e = slice_index_or program.kept e none_kept
 
--- the fault with a number, its effect, and the word that it applies
+-- the fault with a number
 abbrev pub fault_at : Listing → ℕ → ListedFault
 fault_at program f = slice_index_or program.faults f no_effect
 
+-- what it does
 abbrev pub effect_at : Listing → ℕ → Effect
 effect_at program f = (fault_at program f).effect
 
+-- the word that it applies
 abbrev pub fault_word : Listing → ℕ → List Letter
 fault_word program f = effect_word program.qubits (effect_at program f)
 

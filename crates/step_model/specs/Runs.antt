@@ -49,7 +49,7 @@ abbrev pub flip_happens : List Bool → Option ℕ → Bool
 flip_happens faults None = false
 flip_happens faults (Some f) = happens faults f
 
--- whether a record differs from its outcome: where either it is inverted or its flip happens, not both
+-- whether a record differs from its outcome: it does where it is inverted or its flip happens, but not where both are so
 abbrev pub record_changes : List Bool → Option Recorded → Bool
 record_changes faults None = false
 record_changes faults (Some r) = exclusive_or r.inverted (flip_happens faults r.flip)

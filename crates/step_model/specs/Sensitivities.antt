@@ -73,8 +73,8 @@ abbrev pub collapse_count : List ListedStep → ℕ
 collapse_count [] = 0
 collapse_count (step ∷ steps) = (if is_collapse step then 1 else 0) + collapse_count steps
 
--- the latest collapse sought, from a step on: one after the step where there is one, otherwise the step itself where its
--- word anticommutes with the sensitivity after it
+-- the latest collapse from a step on whose word anticommutes with the sensitivity after it: one after the step where
+-- there is one, otherwise the step itself where it is such a collapse
 abbrev pub later_or_here : ListedStep → Option ℕ → Bool → Option ℕ
 later_or_here step (Some k) anticommutes = Some ((if is_collapse step then 1 else 0) + k)
 later_or_here step None true = Some 0

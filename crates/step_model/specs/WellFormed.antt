@@ -128,7 +128,7 @@ pub record IsKept (program : Listing) (fault : ListedFault) : Type 0 where
   pub bound : fault.bound ≡ (kept_at program fault.entry).bound
   pub terms : (kept_at program fault.entry).terms ≡ effect_terms fault.effect
 
--- all of this
+-- all of this holds of a program
 pub record IsWellFormed (program : Listing) : Type 0 where
   pub steps_fit : AllPass (step_fits program) program.steps
   pub collapses_counted : collapse_count program.steps ≡ program.collapses

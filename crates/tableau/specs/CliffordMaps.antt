@@ -6,6 +6,7 @@ use Rattle.std.specs.Prelude.{◌≡◌, ℕ, true, length, if◌then◌else◌}
 use Rattle.pauli_word.specs.WordMaps.{KeepsWords}
 use Rattle.pauli_word.specs.Words.{Signed, anticommute, product, with_sign_changed}
 
+-- f is such a map
 pub record IsClifford (n : ℕ) (f : Signed → Signed) : Type 0 where
   pub keeps : KeepsWords n f
   pub back : Signed → Signed

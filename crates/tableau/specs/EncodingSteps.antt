@@ -80,7 +80,7 @@ code_of n rows w = encoded n rows (signed w false)
 abbrev pub without : ℕ → Signed → Signed
 without k x = signed (slice_set x.letters k I) x.negative
 
--- a gate that turns Z into X, and turns into Z what the twist about Z makes of the code's letter, X or Y
+-- a gate that turns Z into X, and turns into Z the letter that the twist about Z leaves of the code's, X or Y
 abbrev pub turning_gate : Letter → Gate
 turning_gate X = gate.CXYZ
 turning_gate a = gate.SqrtY
