@@ -1,6 +1,5 @@
 -- 64 runs of a program, followed beside its reference run, in which no fault happens and all coins are 0. For each record
--- a word says in which runs it differs from the reference run's. (Stim's frame simulator: Gidney, Quantum 5, 497 (2021),
--- section 4.)
+-- a word says in which runs it differs from the reference run's. (Stim's frame simulator: Gidney, Quantum 5, 497 (2021).)
 use Rattle.std.specs.Prelude.{◌≡◌, ℕ, Bool, List, [], length}
 use Rattle.forward_sim.specs.References.{IsReferenceOf, ReferenceRun}
 use Rattle.lanes.specs.Lanes.{lane}
@@ -38,6 +37,6 @@ AreRuns program faults coins batch =
 abbrev pub start_frame : ℕ → Frame
 start_frame n = record { word = no_letters n; records = [] }
 
--- all frames are
+-- all frames are those of the start
 abbrev pub AreAtStart : LaneFrames → Type 0
 AreAtStart f = (j : ℕ) → frame_in j f ≡ start_frame (length f.letters)

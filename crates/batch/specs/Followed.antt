@@ -2,7 +2,7 @@
 -- happens and all coins are 0. Where the outcome of a collapse is random in the reference run, the other run's outcome is
 -- its coin. Where the frame would give another outcome, it is first multiplied by a word of the reference run's state
 -- that anticommutes with the word measured; that leaves the run's state the same. (Pauli frames: Knill, Nature 434, 39
--- (2005); with a reference sample, as in Stim's frame simulator: Gidney, Quantum 5, 497 (2021), section 4.)
+-- (2005); with a reference sample, as in Stim's frame simulator: Gidney, Quantum 5, 497 (2021).)
 use Rattle.std.specs.Prelude.{⊤, ◌≡◌, ℕ, Bool, true, List, [], Option, None, Some, option_map}
 use Rattle.std.specs.Borrow.{Bor}
 use Rattle.pauli_word.specs.declared.letter.Letter.{Letter}
@@ -24,7 +24,7 @@ turned_where n (Some terms) b v = record v { word = multiplied b (word_of_terms 
 abbrev pub turned : ℕ → Option (List Term) → Bool → List Letter → Frame → Frame
 turned n replaced coin w v = turned_where n replaced (exclusive_or coin (anticommute v.word w)) v
 
--- a frame that comes to a step
+-- a frame that comes to any step: only a collapse turns it
 abbrev pub turned_at : ℕ → Option (List Term) → Bool → ListedStep → Frame → Frame
 turned_at n replaced coin (One gate q) v = v
 turned_at n replaced coin (Two gate a b) v = v

@@ -1,5 +1,5 @@
 -- The frames of 64 runs that go side by side, each a Pauli word and a flip for each record so far. (Bit-sliced Pauli
--- frames, as in Stim's frame simulator: Gidney, Quantum 5, 497 (2021), section 4.)
+-- frames, as in Stim's frame simulator: Gidney, Quantum 5, 497 (2021).)
 use Rattle.std.specs.Prelude.{◌≡◌, ℕ, Bool, [], ◌∷◌, ◌++◌, List, length, Option, is_some, if◌then◌else◌}
 use Rattle.lanes.specs.Lanes.{lane}
 use Rattle.step_model.specs.Frames.{Frame}

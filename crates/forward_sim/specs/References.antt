@@ -2,7 +2,7 @@
 -- whether its outcome was random, and if so the letters of a word that was in the state, up to its sign, and
 -- anticommutes with the word measured. A frame that is multiplied by that word is still a frame of the same two runs, and
 -- its flip at the collapse changes: so batches of runs are sampled by frames, from one run.
--- (Gidney, Quantum 5, 497 (2021), section 3: reference samples and frames.)
+-- (Gidney, Quantum 5, 497 (2021): reference samples and frames.)
 use Rattle.std.specs.Prelude.{◌≡◌, ℕ, Bool, true, false, List, [], ◌∷◌, Option, None, Some}
 use Rattle.pauli_word.specs.declared.letter.Letter.{Letter}
 use Rattle.pauli_word.specs.States.{State, is_decided}

@@ -7,10 +7,11 @@ use Rattle.pauli_word.specs.declared.letter.Letter.TheVariants.{I, X, Y, Z}
 use Rattle.gate_table.specs.declared.gate.Gate.{Gate}
 use Rattle.gate_table.specs.declared.gate.Gate.TheVariants as gate
 
--- a letter with its sign, and a pair of letters with their sign: the sign is true for minus
+-- a letter with its sign, which is true for minus
 abbrev pub SignedLetter : Type 0
 SignedLetter = Letter × Bool
 
+-- a pair of letters with their sign
 abbrev pub SignedPair : Type 0
 SignedPair = Letter × Letter × Bool
 

@@ -4,7 +4,7 @@
 -- or -w is in the state the outcome is decided and the state stays. Otherwise the outcome is random: it is the
 -- collapse's coin b, and the new state holds those words p that commute with w and for which p or (-1)^b w p was in the
 -- old one. After each of these the words of a state form a commutative group without minus the identity. (Aaronson and
--- Gottesman, Phys. Rev. A 70, 052328 (2004), sections II and III; Gottesman, arXiv:quant-ph/9705052, section 3.1:
+-- Gottesman, Phys. Rev. A 70, 052328 (2004), sections II and III; Gottesman, arXiv:quant-ph/9705052, chapter 3:
 -- stabilizer groups.)
 use Rattle.std.specs.Prelude.{◌≡◌, ℕ, Bool, true, false, not, ◌&&◌, ◌||◌, if◌then◌else◌, List, length}
 use Rattle.std.specs.List.{list_all}

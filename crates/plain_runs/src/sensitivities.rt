@@ -61,7 +61,7 @@ pub fn sensitivity<A: Allocator + Copy>(
     sensitivity_after(alloc, &program, named, steps)
 }
 
-/// The place of a target, if it has one: it is random exactly where it has. Detectors are numbered first, then
+/// The place of a target, if it has one: a target is random exactly where it has one. Detectors are numbered first, then
 /// observables.
 pub fn place_of<A: Allocator + Copy>(
     alloc: A,

@@ -21,6 +21,6 @@ pub record Held (program : Listing) (nodes : List Node) (count : ℕ) (made : Co
   pub steps : program.steps ≡ listed_steps program.qubits program.products no_counts (unrolled (tree_of nodes))
   pub named : (k : ℕ) (s : Step) → slice_get (numbered no_counts (unrolled (tree_of nodes))) k ≡ Some s → IsStepOf program s
 
--- the same of a text
+-- so do the nodes of a text, with its counts
 abbrev pub HoldsText : Listing → Text → Type 0
 HoldsText program text = Held program text.nodes.now text.steps text.counts

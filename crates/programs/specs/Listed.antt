@@ -33,7 +33,7 @@ recorded (Some r) inverted flip = Some (record { number = r; inverted = inverted
 abbrev pub product_at : List (List Term) → ℕ → List Term
 product_at products p = slice_index_or products p []
 
--- a step of the code, on n qubits, with these products kept
+-- a numbered step as the program lists it, on n qubits, with these products kept
 abbrev pub listed : ℕ → List (List Term) → Step → ListedStep
 listed n products (step.One gate q) = listing.One gate q
 listed n products (step.Two gate a b) = listing.Two gate a b

@@ -14,7 +14,7 @@ use Rattle.programs.specs.declared.step.Counts.{Counts}
 abbrev pub no_counts : Counts
 no_counts = record { records = 0; collapses = 0; faults = 0 }
 
--- how many faults a record has that flip it: 0 or 1
+-- how many faults may flip a record: 0 or 1
 abbrev pub made_by_flip : Option ℕ → ℕ
 made_by_flip None = 0
 made_by_flip (Some e) = 1
@@ -24,7 +24,7 @@ abbrev pub records_in_collapse : Option Recording → ℕ
 records_in_collapse None = 0
 records_in_collapse (Some r) = 1
 
--- how many faults
+-- how many faults a collapse has
 abbrev pub faults_in_collapse : Option Recording → ℕ
 faults_in_collapse None = 0
 faults_in_collapse (Some r) = made_by_flip r.flip

@@ -42,7 +42,7 @@ fn turn_after(turn: u64, turns: u64) -> Option<u64>
     }
 }
 
-// Goes forward over the ends of turns, to a place that is before no such end.
+// Goes forward over the ends of turns, to a place that isn't before one.
 fn leave_turns(nodes: &[Node], place: &mut Place)
     requires circuit { IsCircuit nodes.now }
     requires place { (k : ℕ) × IsAt nodes.now place.old k }
@@ -77,7 +77,7 @@ fn enter_turns(nodes: &[Node], place: &mut Place)
     }
 }
 
-// Goes forward to a place before a step, or to the end. Most places are before a step, and this is all they need.
+// Goes forward to a place before a step, or to the end. Most places are before a step, and nothing is to be done there.
 #[inline(always)]
 fn go_to_step(nodes: &[Node], place: &mut Place)
     requires circuit { IsCircuit nodes.now }
@@ -122,7 +122,7 @@ pub fn next(nodes: &[Node], place: &mut Place) -> Option<TextStep>
     }
 }
 
-// Goes back over the starts of turns, to a place that is after no such start.
+// Goes back over the starts of turns, to a place that isn't after one.
 fn leave_turns_back(nodes: &[Node], place: &mut Place)
     requires circuit { IsCircuit nodes.now }
     requires place { (k : ℕ) × IsAt nodes.now place.old k }
@@ -155,7 +155,7 @@ fn enter_turns_back(nodes: &[Node], place: &mut Place)
     }
 }
 
-// Goes back to a place after a step, or to the start. Most places are after a step, and this is all they need.
+// Goes back to a place after a step, or to the start. Most places are after a step, and nothing is to be done there.
 #[inline(always)]
 fn go_back_to_step(nodes: &[Node], place: &mut Place)
     requires circuit { IsCircuit nodes.now }

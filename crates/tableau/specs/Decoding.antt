@@ -1,7 +1,7 @@
 -- From a code back to its word. The rows of the circuit's own map are such words: stabilizer row i is the word whose code
 -- is Z at qubit i, and destabilizer row i the word whose code is X there. A word has its x bit set at a qubit where its
 -- code anticommutes with the code of Z there, and its z bit where its code anticommutes with that of X.
--- (Aaronson and Gottesman, Phys. Rev. A 70, 052328 (2004), section III; Gidney, Quantum 5, 497 (2021), section 4.)
+-- (Aaronson and Gottesman, Phys. Rev. A 70, 052328 (2004), section III; Gidney, Quantum 5, 497 (2021).)
 use Rattle.std.specs.Prelude.{ℕ, false, List, [], ◌∷◌, length, map}
 use Rattle.std.specs.List.{range_with_len}
 use Rattle.pauli_word.specs.Bits.{letter_of}

@@ -1,7 +1,6 @@
 -- The rows that a tableau keeps: for each qubit the words that X and Z there become under the inverse of the circuit's
 -- Clifford map. From these follows what every word becomes under that inverse: its code. A word is in the state exactly
--- where its code is in the state at the start. (Gidney, Quantum 5, 497 (2021), section 4: the tableau of the inverse
--- circuit.)
+-- where its code is in the state at the start. (Gidney, Quantum 5, 497 (2021): the tableau of the inverse circuit.)
 use Rattle.std.specs.Prelude.{◌≡◌, ◌<◌, ℕ, true, List, ◌∷◌, length, slice_index_or}
 use Rattle.pauli_word.specs.declared.letter.Letter.{Letter}
 use Rattle.pauli_word.specs.declared.letter.Letter.TheVariants.{I, X, Y, Z}

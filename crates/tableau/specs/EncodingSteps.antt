@@ -4,7 +4,7 @@
 -- Otherwise the outcome is the coin. Let x be the code, its sign changed where the coin is 1, let k be the first qubit
 -- where x has X or Y, and let y be x with I at k. Each row is twisted about Z at k by y, and then goes through a gate at
 -- k; together these turn x into Z at k, and Z at k into X at k.
--- (Gidney, Quantum 5, 497 (2021), section 4.)
+-- (Gidney, Quantum 5, 497 (2021).)
 use Rattle.std.specs.Prelude.{◌≡◌, ◌<◌, ℕ, Bool, true, false, List, ◌∷◌, Option, None, Some, length, map, slice_set}
 use Rattle.std.specs.List.{range_with_len}
 use Rattle.gate_table.specs.declared.gate.Gate.{Gate}
@@ -80,7 +80,7 @@ code_of n rows w = encoded n rows (signed w false)
 abbrev pub without : ℕ → Signed → Signed
 without k x = signed (slice_set x.letters k I) x.negative
 
--- a gate that turns Z into X, and turns into Z the letter that the twist about Z leaves of the code's, X or Y
+-- a gate that turns Z into X, and turns into Z, up to sign, what the code's letter at k, X or Y, becomes in the twist
 abbrev pub turning_gate : Letter → Gate
 turning_gate X = gate.CXYZ
 turning_gate a = gate.SqrtY

@@ -95,7 +95,7 @@ pub(crate) fn change_sign<A: Allocator + Copy>(word: &mut Word<A>, minus: bool)
     word.set_sign(minus ^ word.sign());
 }
 
-/// Makes a pair equal to another, in its own memory: pairs so keep their order in memory, and a pass over all of them
+/// Makes a pair equal to another, in its own memory. So pairs keep their order in memory, and a pass over all of them
 /// reads it in order.
 pub(crate) fn replace<A: Allocator + Copy>(pair: &mut Pair<A>, new: &Pair<A>)
     requires x { length pair.old.0.letters ≡ length new.now.0.letters }
