@@ -1,7 +1,8 @@
--- A reference run of a program: no fault happens and all coins are 0. Besides its records it keeps for each collapse
--- whether its outcome was random, and if so the letters of a word that was in the state, up to its sign, and
--- anticommutes with the word measured. A frame that is multiplied by that word is still a frame of the same two runs, and
--- its flip at the collapse changes: so batches of runs are sampled by frames, from one run.
+-- A reference run of a program: no fault happens and all coins are 0, so each random outcome is 0. Besides its records it
+-- keeps for each collapse (the projective measurement inside a measurement or a reset) whether its outcome was random, and
+-- if so the letters of a word that was in the state, up to its sign, and anticommutes with the word measured. A frame that
+-- is multiplied by that word is still a frame of the same two runs, and its flip at the collapse changes: so batches of
+-- runs are sampled by frames, from one run.
 -- (Gidney, Quantum 5, 497 (2021): reference samples and frames.)
 use Rattle.std.specs.Prelude.{◌≡◌, ℕ, Bool, true, false, List, [], ◌∷◌, Option, None, Some}
 use Rattle.pauli_word.specs.declared.letter.Letter.{Letter}

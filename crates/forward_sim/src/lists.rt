@@ -1,4 +1,5 @@
-//! What a user gives besides a circuit: a text of coins, and a list of numbers.
+//! What a user gives besides a circuit: a text of coins, and a list of numbers. A collapse is the projective measurement
+//! inside a measurement or a reset; its coin is the outcome where that is random.
 ghost use Rattle.std.specs.Prelude.{◌≡◌, ◌⊎◌, false, None, Some, IfOk, IfErr, MatchBool, length, map, replicate};
 ghost use Rattle.std.specs.List.{list_all};
 ghost use Rattle.step_model.specs.declared.fault.Cause.TheVariants.{CoinCount, FaultNumber};

@@ -7,7 +7,8 @@ ghost use Rattle.step_model.specs.declared.step.Term.{Term};
 use gate_table::Gate;
 use pauli_word::Letter;
 
-/// How a collapse is recorded: whether its outcome is inverted, and the entry of the fault that flips the record.
+/// How a collapse, the projective measurement inside a measurement or a reset, is recorded: whether its outcome is
+/// inverted, and the entry of the fault that flips the record.
 #[derive(Clone, Copy, Debug, PartialEq, Eq)]
 pub struct Recording {
     pub inverted: bool,

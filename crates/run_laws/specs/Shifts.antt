@@ -2,7 +2,8 @@
 -- exactly where the word, its sign changed if it anticommutes with v, is in the first. Let the coins of the second run be
 -- those of the first, changed where a collapse has a flip. Then the runs differ by the frame carried forward, and each
 -- outcome is changed exactly by its flip. The runs may have different faults: a word applied in one run and not in the
--- other multiplies the frame, and a record that is flipped in one run and not in the other is changed by that too.
+-- other multiplies the frame, and a record that is flipped in one run and not in the other is changed by that too. (A
+-- collapse is the projective measurement inside a measurement or a reset; its coin is the outcome where that is random.)
 -- (Knill, Quantum computing with realistically noisy devices, Nature 434, 39 (2005): Pauli frames.)
 use Rattle.std.specs.Prelude.{◌≡◌, ℕ, Bool, if◌then◌else◌, List, [], ◌∷◌, ◌++◌, length, drop, Option, None, Some}
 use Rattle.std.specs.List.{AllPass}

@@ -20,8 +20,9 @@ pub fn sensitivities_stay()
     ensures { SensitivityStays }
 {}
 
-/// A target without a place has the same parity in any two runs with the same faults, whatever the coins. A target has no
-/// place where its sensitivity just after each collapse commutes with the collapse's word, and has no X or Y at the start.
+/// A target without a place has the same parity in any two runs with the same faults, whatever the coins. A target has
+/// no place where its sensitivity just after each collapse commutes with the collapse's word, and has no X or Y at the
+/// start.
 pub fn parity_is_constant()
     ensures { (program : Listing) (d : ℕ) → IsWellFormed program → place_of program d ≡ None → IsConstant program d }
 {}

@@ -2,8 +2,9 @@
 -- is carried forward by the gates; a reset clears it at its qubit. Each collapse has a flip: it is 1 where the frame
 -- anticommutes with the collapse's word, and 0 for the collapses up to that at which the frame begins, itself included.
 -- The coin pair of a target is two lists of coins: all zeros, and the flips of the frame that begins at the target's
--- place, as the word collapsed there or as Z at a qubit of the start. (Knill, Quantum computing with realistically noisy
--- devices, Nature 434, 39 (2005): Pauli frames.)
+-- place, as the word collapsed there or as Z at a qubit of the start. (A collapse is the projective measurement inside a
+-- measurement or a reset; its coin is the outcome where that is random.) (Knill, Quantum computing with realistically
+-- noisy devices, Nature 434, 39 (2005): Pauli frames.)
 use Rattle.std.specs.Prelude.{ℕ, ◌+◌, suc, Option, None, Some, length, Bool, false, if◌then◌else◌, List, [], ◌∷◌, ◌++◌, replicate, slice_index_or}
 use Rattle.pauli_word.specs.declared.letter.Letter.{Letter}
 use Rattle.pauli_word.specs.declared.letter.Letter.TheVariants.{Z}

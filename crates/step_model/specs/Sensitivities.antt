@@ -6,7 +6,7 @@
 -- feedback's word anticommutes with the sensitivity's; over a fault it stays.
 -- The place of a target is the latest collapse whose word anticommutes with the sensitivity just after it. Where there
 -- is no such collapse it is the start, at the lowest qubit at which the sensitivity there has X or Y; where there is no
--- such qubit the target has no place.
+-- such qubit the target has no place. (A collapse is the projective measurement inside a measurement or a reset.)
 -- (Gottesman, arXiv:quant-ph/9807006: words carried through a circuit.)
 use Rattle.std.specs.Prelude.{◌+◌, ℕ, Bool, true, false, if◌then◌else◌, List, [], ◌∷◌, Option, None, Some, option_map, slice_set}
 use Rattle.pauli_word.specs.declared.letter.Letter.{Letter}

@@ -117,8 +117,8 @@ impl<A: Allocator + Copy> Tableau<A> {
         apply_letters(&mut self.rows, word);
     }
 
-    /// Measures a letter at a qubit. Answers the outcome, which is the coin where it is random, and the row whose
-    /// stabilizer was then replaced.
+    /// Measures a letter at a qubit: a collapse. Answers the outcome, which is the coin where it is random, and the row
+    /// whose stabilizer was then replaced.
     pub fn collapse(&mut self, letter: Letter, qubit: usize, coin: bool) -> (bool, Option<usize>)
         requires { qubit < row_count self.old }
         ensures len { row_count self.new ≡ row_count self.old }
