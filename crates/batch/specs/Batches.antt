@@ -1,6 +1,5 @@
--- 64 runs of a program that were followed beside its reference run, in which no fault happens and all coins are 0: a word
--- for each record says in which of them it differs from the reference run's. (Stim's frame simulator: Gidney, Quantum 5,
--- 497 (2021), section 4.)
+-- 64 runs of a program, followed beside its reference run, in which no fault happens and all coins are 0. For each record
+-- a word says in which runs it differs from the reference run's. (Stim's frame simulator: Gidney, Quantum 5, 497 (2021).)
 use Rattle.std.specs.Prelude.{◌≡◌, ℕ, Bool, List, [], length}
 use Rattle.forward_sim.specs.References.{IsReferenceOf, ReferenceRun}
 use Rattle.lanes.specs.Lanes.{lane}
@@ -34,9 +33,10 @@ abbrev pub AreRuns : Listing → List ℕ → List ℕ → Followed → Type 0
 AreRuns program faults coins batch =
     (shot : ℕ) → shot_records shot batch ≡ records_of program (lane shot faults) (lane shot coins)
 
--- frames at the start of a run
+-- the frame of a run at its start
 abbrev pub start_frame : ℕ → Frame
 start_frame n = record { word = no_letters n; records = [] }
 
+-- all frames are those of the start
 abbrev pub AreAtStart : LaneFrames → Type 0
 AreAtStart f = (j : ℕ) → frame_in j f ≡ start_frame (length f.letters)

@@ -1,8 +1,8 @@
--- What a run's frame is, beside the reference run whose coins are all 0 and in which no fault happens, and how the frame
--- goes over a step. Where the outcome of a collapse is random in the reference run, another run takes the outcome that
--- its coin says: where that isn't what its frame makes of the reference's outcome, the frame is multiplied by a word of
--- the reference's state that anticommutes with the word measured, which changes no state. (Pauli frames: Knill, Nature
--- 434, 39 (2005); with a reference sample, as in Stim's frame simulator: Gidney, Quantum 5, 497 (2021), section 4.)
+-- How the frame of a run goes over a step. The frame says how the run differs from the reference run, in which no fault
+-- happens and all coins are 0. Where the outcome of a collapse is random in the reference run, the other run's outcome is
+-- its coin. Where the frame would give another outcome, it is first multiplied by a word of the reference run's state
+-- that anticommutes with the word measured; that leaves the run's state the same. (Pauli frames: Knill, Nature 434, 39
+-- (2005); with a reference sample, as in Stim's frame simulator: Gidney, Quantum 5, 497 (2021).)
 use Rattle.std.specs.Prelude.{⊤, ◌≡◌, ℕ, Bool, true, List, [], Option, None, Some, option_map}
 use Rattle.std.specs.Borrow.{Bor}
 use Rattle.pauli_word.specs.declared.letter.Letter.{Letter}
@@ -20,11 +20,11 @@ abbrev pub turned_where : ℕ → Option (List Term) → Bool → Frame → Fram
 turned_where n None b v = v
 turned_where n (Some terms) b v = record v { word = multiplied b (word_of_terms n terms) v.word }
 
--- a frame that meets a collapse of w, whose coin this is, and of which the reference run keeps these letters at qubits
+-- a frame that comes to a collapse of w with this coin, where the reference run keeps these letters at qubits of it
 abbrev pub turned : ℕ → Option (List Term) → Bool → List Letter → Frame → Frame
 turned n replaced coin w v = turned_where n replaced (exclusive_or coin (anticommute v.word w)) v
 
--- a frame that comes to a step
+-- a frame that comes to any step: only a collapse turns it
 abbrev pub turned_at : ℕ → Option (List Term) → Bool → ListedStep → Frame → Frame
 turned_at n replaced coin (One gate q) v = v
 turned_at n replaced coin (Two gate a b) v = v
@@ -32,24 +32,26 @@ turned_at n replaced coin (Collapse c r) v = turned n replaced coin (measured_wo
 turned_at n replaced coin (Fault f) v = v
 turned_at n replaced coin (Feedback w r) v = v
 
--- and the frame behind the step, where these faults happen
+-- the frame after the step, where these faults happen
 abbrev pub followed : Listing → List Bool → Option (List Term) → Bool → ListedStep → Frame → Frame
 followed program faults replaced coin step v =
     carried_with program [] faults step (turned_at program.qubits replaced coin step v)
 
--- letters at qubits, as they are given
+-- the letters at qubits that a reference points to
 abbrev pub terms_of : Option (Bor (List Term)) → Option (List Term)
 terms_of replaced = option_map (λ terms. terms.now) replaced
 
+-- these, or no letters
 abbrev pub terms_or_none : Option (List Term) → List Term
 terms_or_none None = []
 terms_or_none (Some terms) = terms
 
--- where letters at qubits are kept of a collapse of w, they are of n qubits and their word anticommutes with w
+-- letters at qubits that are kept of a collapse of w, if any, are at n qubits, and their word anticommutes with w
 abbrev pub Turns : ℕ → Option (List Term) → List Letter → Type 0
 Turns n None w = ⊤
 Turns n (Some terms) w = TermsFit n terms × (anticommute w (word_of_terms n terms) ≡ true)
 
+-- so it is where a step is a collapse
 abbrev pub TurnsAt : ℕ → Option (List Term) → ListedStep → Type 0
 TurnsAt n replaced (One gate q) = ⊤
 TurnsAt n replaced (Two gate a b) = ⊤

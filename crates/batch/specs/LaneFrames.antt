@@ -1,5 +1,5 @@
 -- The frames of 64 runs that go side by side, each a Pauli word and a flip for each record so far. (Bit-sliced Pauli
--- frames, as in Stim's frame simulator: Gidney, Quantum 5, 497 (2021), section 4.)
+-- frames, as in Stim's frame simulator: Gidney, Quantum 5, 497 (2021).)
 use Rattle.std.specs.Prelude.{◌≡◌, ℕ, Bool, [], ◌∷◌, ◌++◌, List, length, Option, is_some, if◌then◌else◌}
 use Rattle.lanes.specs.Lanes.{lane}
 use Rattle.step_model.specs.Frames.{Frame}
@@ -16,7 +16,7 @@ pub record LaneFrames : Type 0 where
 abbrev pub frame_in : ℕ → LaneFrames → Frame
 frame_in j f = record { word = word_in j f.letters; records = lane j f.flips }
 
--- each run's frame becomes what `go` makes of it, of as many qubits and with the same room
+-- the frame of each run j becomes `go j` of it; the numbers of qubits and the room stay
 pub record GoesTo (old new : LaneFrames) (go : ℕ → Frame → Frame) : Type 0 where
   pub qubits : length new.letters ≡ length old.letters
   pub room : new.room ≡ old.room

@@ -13,8 +13,9 @@ use std::alloc::{AllocError, Allocator};
 use std::marker::Model;
 use step_model::Fault;
 
-/// 64 runs of a program side by side, each with its own faults and coins: bit j of a word belongs to run j, the lowest
-/// bit to run 0. They are followed by their Pauli frames beside a reference run, which is made once.
+/// 64 runs (shots) of a program side by side, each with its own faults and coins: bit j of a word belongs to run j, the
+/// lowest bit to run 0. Each run is followed by its Pauli frame beside a reference run, which is made once. (A collapse
+/// is the projective measurement inside a measurement or a reset; its coin is the outcome where that is random.)
 #[derive(Drop)]
 pub struct Batch<A: Allocator + Copy> {
     reference: Reference<A>,
@@ -32,7 +33,7 @@ impl<A: Allocator + Copy> Model for Batch<A> {
 }
 
 impl<A: Allocator + Copy> Batch<A> {
-    /// Makes the reference run, and takes the memory for all batches of the program.
+    /// Makes the reference run, and takes the memory that `follow` needs.
     pub fn new(alloc: A, program: &Program<'_, A>) -> Result<Self, Fault>
         ensures ok { IfOk result (IsBatchOf program.now) }
         ensures err { IfErr result (λ fault. fault ≡ memory_fault) }
@@ -44,8 +45,8 @@ impl<A: Allocator + Copy> Batch<A> {
         }
     }
 
-    /// Follows 64 runs from the start: `faults` says in a word for each fault in which of them it happens, and `coins`
-    /// has a word of coins for each collapse. A word that isn't there is 0. Takes no memory.
+    /// Follows 64 runs from the start. `faults` has a word for each fault, which says in which runs it happens, and
+    /// `coins` a word for each collapse. A missing word counts as 0. Allocates nothing.
     pub fn follow(&mut self, program: &Program<'_, A>, faults: &[u64], coins: &[u64])
         requires { IsBatchOf program.now self.old }
         ensures runs { AreRuns program.now faults.now coins.now self.new }
@@ -72,7 +73,7 @@ impl<A: Allocator + Copy> Batch<A> {
         bit(self.records_word(index), shot)
     }
 
-    /// A record of all runs, in lanes.
+    /// A record of all runs: bit j is that of run j.
     pub fn records_word(&self, index: usize) -> u64
         requires { index < length self.now.reference.records }
         ensures { (j : ℕ) → j < 64 → lane_bit j result ≡ slice_index_or (shot_records j self.now) index false }
@@ -81,8 +82,8 @@ impl<A: Allocator + Copy> Batch<A> {
         xor(self.frames.flips(index), spread(value))
     }
 
-    /// In which of the runs, in lanes, the parity of a target differs from that in the reference run: the detectors come
-    /// first, and then the observables.
+    /// In which runs the parity of a target differs from that in the reference run, a bit a run: detection events, and
+    /// flips of observables. Detectors are numbered first, then observables.
     pub fn detections_word(&self, program: &Program<'_, A>, number: usize) -> u64
         requires { number < length program.now.detectors + length program.now.observables }
         ensures { (j : ℕ) → lane_bit j result ≡ slice_index_or (difference program.now (shot_records j self.now) self.now.reference.records) number false }

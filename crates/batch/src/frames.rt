@@ -38,7 +38,7 @@ impl<A: Allocator + Copy> Model for Frames<A> {
 }
 
 impl<A: Allocator + Copy> Frames<A> {
-    /// Frames of I alone, before the first record, with memory for so many qubits and records.
+    /// Frames of I alone, before the first record, with memory for these numbers of qubits and records.
     pub(crate) fn start(alloc: A, qubits: usize, records: usize) -> Result<Self, AllocError>
         ensures qubits { IfOk result (λ f. length f.letters ≡ qubits) }
         ensures room { IfOk result (λ f. f.room ≡ records) }
@@ -97,7 +97,7 @@ impl<A: Allocator + Copy> Frames<A> {
         self.put(b, second);
     }
 
-    /// Drops the letters at a qubit.
+    /// Makes the letters at a qubit I.
     pub(crate) fn clear(&mut self, qubit: usize)
         requires { qubit < length self.old.letters }
         ensures { GoesTo self.old self.new (λ j v. record v { word = slice_set v.word qubit I }) }
@@ -142,7 +142,7 @@ impl<A: Allocator + Copy> Frames<A> {
         odd
     }
 
-    /// Notes the flips of a record, where there is a number for it.
+    /// Appends the flips of a record, where there is a number for it.
     pub(crate) fn record(&mut self, number: Option<u32>, flips: u64)
         requires { length self.old.flips + (if is_some number then 1 else 0) ≤ self.old.room }
         ensures { GoesTo self.old self.new (λ j v. with_record number (lane_bit j flips) v) }
@@ -152,14 +152,14 @@ impl<A: Allocator + Copy> Frames<A> {
         }
     }
 
-    /// The flips of a record: none where it isn't there.
+    /// The flips of a record: 0 where it isn't made yet.
     pub(crate) fn flips(&self, number: usize) -> u64
         ensures { (j : ℕ) → lane_bit j result ≡ slice_index_or (lane j self.now.flips) number false }
     {
         word_at(self.flips.as_slice(), number)
     }
 
-    /// The parity of the flips of these records, each as often as it is named.
+    /// The parity of the flips of these records. One that is named twice counts twice.
     pub(crate) fn parity(&self, named: &[u32]) -> u64
         ensures { (j : ℕ) → lane_bit j result ≡ parity named.now (lane j self.now.flips) }
     {

@@ -38,8 +38,8 @@ impl Letters {
         }
     }
 
-    /// The letters multiplied by this one, in the runs of these lanes. No jump tells letters apart: those of a word follow
-    /// one another in no order.
+    /// The letters, multiplied by this one in these runs. There is no branch on the letter, since the letters of a word
+    /// come in no order that could be predicted.
     #[inline(always)]
     pub(crate) fn times(self, letter: Letter, runs: u64) -> Letters
         ensures { (j : ℕ) → letter_in j result ≡ times_where (lane_bit j runs) letter (letter_in j self) }
@@ -78,7 +78,7 @@ impl Letters {
         )
     }
 
-    // The letters multiplied by the images of others, of which X has the image `x` and Z the image `z`.
+    // The letters, multiplied by the images of others under a map that makes `x` of X and `z` of Z.
     fn times_images(self, others: Letters, x: Letter, z: Letter) -> Letters
         ensures { (j : ℕ) → letter_in j result ≡ times_where (lane_bit j others.z) z (times_where (lane_bit j others.x) x (letter_in j self)) }
     {
@@ -100,7 +100,7 @@ fn has_z(letter: Letter) -> bool
     matches!(letter, Letter::Y | Letter::Z)
 }
 
-/// These lanes, or none of them.
+/// These lanes where `some`, otherwise none.
 #[inline(always)]
 fn lanes_where(some: bool, lanes: u64) -> u64
     ensures { (j : ℕ) → lane_bit j result ≡ (some && lane_bit j lanes) }

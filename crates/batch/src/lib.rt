@@ -1,4 +1,5 @@
-//! Runs of a program, 64 side by side, followed beside one reference run by their Pauli frames.
+//! Runs (shots) of a program, 64 side by side, followed beside one reference run by their Pauli frames, as in Stim's
+//! frame simulator.
 #![tactic(auto)]
 
 mod batch;

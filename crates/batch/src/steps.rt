@@ -18,8 +18,8 @@ use programs::{FaultName, Program, Step};
 use std::alloc::Allocator;
 use step_model::Term;
 
-/// Takes the frames of 64 runs over a step of a program. A lane of `faults` says which happen in its run; at a collapse
-/// these are the runs' coins, and `replaced` is what the reference run keeps of it.
+/// Takes the frames of 64 runs over a step of a program. Lane j of `faults` says which faults happen in run j. At a
+/// collapse, `coins` has a coin for each run, and `replaced` is what the reference run keeps of the collapse.
 pub(crate) fn take_step<A: Allocator + Copy>(
     frames: &mut Frames<A>,
     program: &Program<'_, A>,
@@ -71,7 +71,7 @@ pub(crate) fn take_step<A: Allocator + Copy>(
     }
 }
 
-// A collapse of a letter at a qubit, which is reset or left. Answers the flips.
+// A collapse of a letter at a qubit, which is then reset where `reset`. Answers the flips.
 fn collapse_letter<A: Allocator + Copy>(
     frames: &mut Frames<A>,
     replaced: Option<&[Term]>,
@@ -113,8 +113,8 @@ fn collapse_product<A: Allocator + Copy>(
     turn(frames, replaced, coins, met)
 }
 
-// Where the reference run's outcome was random, multiplies the frames of the runs whose coin isn't their flip by the
-// word that was replaced, so that the coins are the flips. Answers the flips.
+// Where the reference run's outcome was random, multiplies by the word that was replaced the frames of the runs whose
+// coin differs from their flip, so that the flips become the coins. Answers the flips.
 fn turn<A: Allocator + Copy>(
     frames: &mut Frames<A>,
     replaced: Option<&[Term]>,
@@ -134,7 +134,7 @@ fn turn<A: Allocator + Copy>(
     }
 }
 
-// The runs in which the fault happens that flips a record, if there is one.
+// The runs in which the fault that flips a record happens, if there is such a fault.
 fn flips_of(faults: &[u64], flip: Option<FaultName>) -> u64
     ensures { (j : ℕ) → lane_bit j result ≡ flip_happens (lane j faults.now) (option_map number_of flip) }
 {
@@ -144,7 +144,7 @@ fn flips_of(faults: &[u64], flip: Option<FaultName>) -> u64
     }
 }
 
-/// The word at an index: one that isn't there is 0.
+/// The word at an index, 0 past the end.
 pub(crate) fn word_at(words: &[u64], index: usize) -> u64
     ensures { (j : ℕ) → lane_bit j result ≡ slice_index_or (lane j words.now) index false }
 {

@@ -1,5 +1,5 @@
 -- Rows of bits as lists of truth values. Two rows of equal length are combined place by place.
--- A pair of rows stands for a word of Pauli letters: at each place, the bits (x, z) are I at (0, 0), X at (1, 0), Y at
+-- A pair of rows stands for a Pauli word: at each place, the bits (x, z) are I at (0, 0), X at (1, 0), Y at
 -- (1, 1) and Z at (0, 1). Each letter times itself is I; X Y = i Z, Y Z = i X, Z X = i Y, and in the other order the
 -- factor is -i. The factor of two words is the product over the places. (Aaronson and Gottesman, Phys. Rev. A 70,
 -- 052328 (2004), section III, where the power of i at a place is called g.)
@@ -31,7 +31,7 @@ letter_phase false true true true = 3
 letter_phase true false false true = 3
 letter_phase xa za xb zb = 0
 
--- the sum of the powers over the places of two words
+-- the sum of the powers of i over the places of two words
 abbrev pub phase_sum : (xa za xb zb : List Bool) → ℕ
 phase_sum (a ∷ xa) (b ∷ za) (c ∷ xb) (d ∷ zb) = letter_phase a b c d + phase_sum xa za xb zb
 phase_sum xa za xb zb = 0

@@ -1,5 +1,5 @@
--- What the loops over words count, bit by bit: the common ones of two lists of words, and the powers of i of two words
--- of letters whose x bits and z bits are four lists of words.
+-- What the loops over machine words count, bit by bit: the common ones of two lists of words, and the powers of i of
+-- two Pauli words whose x bits and z bits are four lists of machine words.
 -- (This project's own.)
 use Rattle.std.specs.Prelude.{Bool, ℕ, ◌+◌, ◌*◌, ◌&&◌, if◌then◌else◌, List, slice_index}
 use Rattle.bit_rows.specs.Rows.{letter_phase}
@@ -18,7 +18,7 @@ word_ones word = total (λ j. value (bit_of word j)) 64
 unfoldable pub ones_of : List ℕ → ℕ → ℕ
 ones_of words n = total (λ k. word_ones (slice_index words k)) n
 
--- the number of bits that are set in two words
+-- the number of bits that are set in both of two words
 unfoldable pub word_common : ℕ → ℕ → ℕ
 word_common first second = total (λ j. value (bit_of first j && bit_of second j)) 64
 

@@ -1,5 +1,5 @@
-//! Rows of bits of fixed length, 64 places to a word: exclusive or, parities of common ones, and the powers of i
-//! of products of words of Pauli letters.
+//! Rows of bits of fixed length, 64 places to a machine word: exclusive or, parities of common ones, and the power of
+//! i of the product of two Pauli words, each kept as a row of x bits and a row of z bits.
 #![tactic(auto)]
 
 mod bits;

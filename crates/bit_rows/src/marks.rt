@@ -24,7 +24,7 @@ pub(crate) fn mark(marks: u64, block: usize) -> u64
     marks | 1u64 << block
 }
 
-// Sets it where a condition holds.
+// Sets the mark of a block where a condition holds.
 #[inline(always)]
 pub(crate) fn mark_where(marks: u64, block: usize, condition: bool) -> u64
     ensures { (b : ℕ) → b < 64 → bit_of result b ≡ true → (bit_of marks b ≡ true) ⊎ ((b ≡ block) × (condition ≡ true)) }
@@ -35,7 +35,7 @@ pub(crate) fn mark_where(marks: u64, block: usize, condition: bool) -> u64
     marks
 }
 
-// The marks of either list.
+// The marks that either of two lists has.
 #[inline(always)]
 pub(crate) fn either(first: u64, second: u64) -> u64
     ensures { (b : ℕ) → bit_of result b ≡ false → (bit_of first b ≡ false) × (bit_of second b ≡ false) }
@@ -43,7 +43,7 @@ pub(crate) fn either(first: u64, second: u64) -> u64
     first | second
 }
 
-// Marks of the sum of two lists, in which some blocks are noted as blank.
+// Marks of the exclusive or of two lists, whose noted blocks are known to be blank.
 #[inline(always)]
 pub(crate) fn marks_of_sum(first: u64, second: u64, noted: u64) -> u64
     ensures { (b : ℕ) → b < 64 → bit_of result b ≡ false → (bit_of noted b ≡ true) ⊎ ((bit_of first b ≡ false) × (bit_of second b ≡ false)) }

@@ -1,6 +1,6 @@
-// The product of two words of letters in one pass: the x bits and the z bits of the first are lists of words that become those
-// of the product, and the power of i comes out. Four words at a time, which leaves the carry words in registers of 16 bytes, past
-// the blocks without marks, which have no letters in the second.
+// The product of two Pauli words in one pass: the x bits and the z bits of the first, lists of machine words, become
+// those of the product, and the power of i is answered. It goes four machine words at a time, so that the carry words
+// stay in registers of 16 bytes, and skips the blocks without marks, in which the second word has no letters.
 ghost use Rattle.std.specs.Prelude.{◌≡◌, ℕ, ◌+◌, ◌*◌, ◌/◌, ◌%◌, ◌<◌, ◌≤◌, true, length, slice_index, bit_xor};
 ghost use Rattle.bit_rows.specs.Marks.{BlanksBelow, MarksOnes};
 ghost use Rattle.bit_rows.specs.Spans.{XorsWithin};
@@ -10,7 +10,7 @@ use crate::marks::{is_unmarked, mark_where};
 use crate::phase::{carry, carry_block, join_lanes, power_held};
 use std::simd::prelude::*;
 
-// Besides the power it answers marks of blocks in which no letter is left.
+// Answers the power of i and, as bits, blocks that are known to have no letter left.
 #[inline(always)]
 pub(crate) fn multiply_words(
     xa: &mut [u64],
@@ -35,7 +35,7 @@ pub(crate) fn multiply_words(
     multiply_many(xa, za, xb, zb, marks)
 }
 
-// The same of words of less than a block.
+// The same for words of less than a block.
 #[inline(always)]
 fn multiply_few(xa: &mut [u64], za: &mut [u64], xb: &[u64], zb: &[u64]) -> u8
     requires za { length za.old ≡ length xa.old }
@@ -57,8 +57,7 @@ fn multiply_few(xa: &mut [u64], za: &mut [u64], xb: &[u64], zb: &[u64]) -> u8
     (power_held(ones, twos) % 4) as u8
 }
 
-// The same of words of a block or more. No part of it comes into the body of a caller, which words of a few letters would
-// pay for.
+// The same for words of a block or more. It is never inlined: that would slow its callers where words are short.
 #[inline(never)]
 fn multiply_many(xa: &mut [u64], za: &mut [u64], xb: &[u64], zb: &[u64], marks: u64) -> (u8, u64)
     requires za { length za.old ≡ length xa.old }
@@ -80,7 +79,7 @@ fn multiply_many(xa: &mut [u64], za: &mut [u64], xb: &[u64], zb: &[u64], marks: 
     ((power_held(ones, twos) % 4) as u8, noted)
 }
 
-// The whole blocks of four words: the carry words behind them, and marks as above.
+// The whole blocks of four words: answers the carry words after them, and the blocks without letters as above.
 fn multiply_blocks(
     xa: &mut [u64],
     za: &mut [u64],
@@ -109,7 +108,7 @@ fn multiply_blocks(
     multiply_marked(xa, za, xb, zb, marks)
 }
 
-// The same where each block may have letters, with no look at marks, and none noted.
+// The same where every block may have letters: no mark is looked at, and no block is noted as empty.
 fn multiply_all(xa: &mut [u64], za: &mut [u64], xb: &[u64], zb: &[u64]) -> (u64, u64)
     requires za { length za.old ≡ length xa.old }
     requires xb { length xb.now ≡ length xa.old }
@@ -127,7 +126,7 @@ fn multiply_all(xa: &mut [u64], za: &mut [u64], xb: &[u64], zb: &[u64]) -> (u64,
     join_lanes(&ones.to_array(), &twos.to_array())
 }
 
-// The same past the blocks without marks.
+// The same, skipping the blocks without marks.
 fn multiply_marked(
     xa: &mut [u64],
     za: &mut [u64],
@@ -160,7 +159,7 @@ fn multiply_marked(
     (one, two, noted)
 }
 
-// One block, and whether no letter is left in it; most of a long word has no letters.
+// One block. The last answer is true only where no letter is left in it. Most blocks of a long word have no letters.
 #[inline(always)]
 fn multiply_block(
     ones: u64x4,
@@ -195,7 +194,8 @@ fn multiply_block(
     (next_ones, next_twos, bits == 0)
 }
 
-// Both sums are made before either is written, so that no word is read twice. Answers the bits that any of them has.
+// Both exclusive ors are made before either is written, so that no word is read twice. Answers the bits that are set
+// in any of the new words.
 #[inline(always)]
 fn xor_both(xa: &mut [u64], za: &mut [u64], xb: &[u64], zb: &[u64], at: usize) -> u64
     requires xa { at + 4 ≤ length xa.old }

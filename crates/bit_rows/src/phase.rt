@@ -1,5 +1,5 @@
-// The power of i of the product of two words of letters, whose x bits and z bits are lists of words, four words at a
-// time.
+// The power of i of the product of two Pauli words, whose x bits and z bits are lists of machine words, four at a time.
+// Two carry words add the powers modulo 4 at 64 places at once, as Stim does for its products of Pauli strings.
 ghost use Rattle.std.specs.Prelude.{◌≡◌, ℕ, ◌+◌, ◌*◌, ◌/◌, ◌%◌, ◌<◌, ◌≤◌, length, slice_index};
 ghost use Rattle.bit_rows.specs.WordTotals.{carried, carried_by, word_phase, words_phase};
 
@@ -20,7 +20,7 @@ pub(crate) fn power_of_words(xa: &[u64], za: &[u64], xb: &[u64], zb: &[u64]) -> 
     ((before + power_held(ones, twos)) % 4) as u8
 }
 
-// That of the whole blocks of four words.
+// The power of the whole blocks of four words.
 fn power_of_blocks(xa: &[u64], za: &[u64], xb: &[u64], zb: &[u64]) -> u32
     requires za { length za.now ≡ length xa.now }
     requires xb { length xb.now ≡ length xa.now }
@@ -43,7 +43,7 @@ fn power_of_lanes(ones: &[u64], twos: &[u64]) -> u32
     power_held(one, two) % 4
 }
 
-// Two carry words that hold what all lanes hold, modulo 4: counting ones takes longer than joining words.
+// The carry words of all lanes joined into two, modulo 4: joining words takes less than counting their ones.
 #[inline(always)]
 pub(crate) fn join_lanes(ones: &[u64], twos: &[u64]) -> (u64, u64)
     requires { length ones.now ≡ length twos.now }
@@ -57,7 +57,7 @@ pub(crate) fn join_lanes(ones: &[u64], twos: &[u64]) -> (u64, u64)
     (one, two)
 }
 
-// What two pairs of carry words hold, modulo 4, in one pair.
+// One pair of carry words that holds, modulo 4, the sum of what two pairs hold.
 #[inline(always)]
 fn join(ones: u64, twos: u64, more_ones: u64, more_twos: u64) -> (u64, u64)
     ensures { carried result.0 result.1 % 4 ≡ (carried ones twos + carried more_ones more_twos) % 4 }
@@ -65,7 +65,7 @@ fn join(ones: u64, twos: u64, more_ones: u64, more_twos: u64) -> (u64, u64)
     (ones ^ more_ones, (twos ^ more_twos) ^ (ones & more_ones))
 }
 
-// What two carry words hold.
+// The power of i that two carry words hold.
 #[inline(always)]
 pub(crate) fn power_held(ones: u64, twos: u64) -> u32
     ensures value { result ≡ carried ones twos }

@@ -13,12 +13,12 @@ use std::marker::Model;
 
 /// A row of bits of fixed length.
 ///
-/// `zeros` and `copy` alone take memory.
+/// Only `zeros` and `copy` allocate.
 #[derive(Drop)]
 pub struct BitRow<A: Allocator + Copy> {
     words: Vec<u64, A>,
     places: usize,
-    // of the blocks of words that may have ones
+    // the blocks of words that may have ones
     marks: u64,
 }
 
@@ -78,7 +78,7 @@ impl<A: Allocator + Copy> BitRow<A> {
         bit_at_place(self.words.as_slice(), i)
     }
 
-    /// The bits at a place of two rows. It takes less than two calls of `get`.
+    /// The bits at a place of two rows, faster than by two calls of `get`.
     #[inline(always)]
     pub fn get_both(first: &BitRow<A>, second: &BitRow<A>, i: usize) -> (bool, bool)
         requires first { i < length first.now }
@@ -106,7 +106,7 @@ impl<A: Allocator + Copy> BitRow<A> {
         self.marks = mark(self.marks, i / 256);
     }
 
-    /// Turns the bit at a place.
+    /// Flips the bit at a place.
     pub fn flip(&mut self, i: usize)
         requires { i < length self.old }
         ensures { self.new ≡ slice_set self.old i (not (slice_index_or self.old i false)) }
@@ -152,8 +152,8 @@ impl<A: Allocator + Copy> BitRow<A> {
         self.marks = either(self.marks, other.marks);
     }
 
-    /// Multiplies the word with x bits `xa` and z bits `za` by that with `xb` and `zb` from the right: answers the power of
-    /// i, 0 to 3, of their product.
+    /// Multiplies the Pauli word with x bits `xa` and z bits `za` from the right by the one with `xb` and `zb`, and
+    /// answers the power of i, 0 to 3, of their product.
     #[inline(always)]
     pub fn multiply(xa: &mut BitRow<A>, za: &mut BitRow<A>, xb: &BitRow<A>, zb: &BitRow<A>) -> u8
         requires za { length za.old ≡ length xa.old }
@@ -202,7 +202,8 @@ impl<A: Allocator + Copy> BitRow<A> {
         all_zero(self.words.as_slice())
     }
 
-    /// The power of i, 0 to 3, of the product of the word with x bits `xa` and z bits `za` with that of `xb` and `zb`.
+    /// The power of i, 0 to 3, of a product of Pauli words: the one with x bits `xa` and z bits `za`, times the one with
+    /// `xb` and `zb`.
     pub fn phase_step(xa: &BitRow<A>, za: &BitRow<A>, xb: &BitRow<A>, zb: &BitRow<A>) -> u8
         requires za { length za.now ≡ length xa.now }
         requires xb { length xb.now ≡ length xa.now }

@@ -1,4 +1,4 @@
-// Lists of words are copied and cleared here. Those of one or two words are met most often, and take less than a call.
+// Lists of words are copied and cleared here. Most have one or two words, for which this is faster than a call.
 ghost use Rattle.std.specs.Prelude.{◌≡◌, length, replicate};
 
 #[inline(always)]

@@ -1,5 +1,5 @@
 //! A list of lists kept flat: all items one after another, and where each list ends. Millions of short lists
-//! take two blocks of memory, and not one each.
+//! take two blocks of memory in all, instead of one each.
 #![tactic(auto)]
 
 ghost use Rattle.std.specs.Prelude.{◌≡◌, ◌<◌, ◌==◌, [], ◌∷◌, ◌++◌, length, OnOk, OnErr, Some, slice_get, slice_index, slice_index_or};
@@ -27,7 +27,7 @@ impl<T: Copy, A: Allocator + Copy> Model for FlatLists<T, A> {
 }
 
 impl<T: Copy, A: Allocator + Copy> FlatLists<T, A> {
-    /// No lists. Takes no memory.
+    /// No lists. Allocates nothing.
     pub fn new(alloc: A) -> Self
         ensures { result ≡ [] }
     {
@@ -53,8 +53,8 @@ impl<T: Copy, A: Allocator + Copy> FlatLists<T, A> {
         self.len() == 0
     }
 
-    /// Appends a copy of the list. It may fail only where memory runs out, or all lists together would have more than
-    /// `u32::MAX` items.
+    /// Appends a copy of the list. It fails only where memory runs out, or where all lists together would have more
+    /// than `u32::MAX` items.
     #[tactic(auto, using(crate::proofs::CutLemmas::pushes))]
     pub fn push(&mut self, list: &[T]) -> Result<(), AllocError>
         ensures ok { OnOk result (self.new ≡ self.old ++ list.now ∷ []) }

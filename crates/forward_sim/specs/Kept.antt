@@ -1,4 +1,4 @@
--- How the words that a reference run's collapses replaced are found on the rows of a tableau, and kept.
+-- How the words that a reference run's collapses replaced are found in the rows of a tableau, and kept.
 -- (The replaced row of a random measurement: Aaronson and Gottesman, Phys. Rev. A 70, 052328, section III.)
 use Rattle.std.specs.Prelude.{◌≡◌, ◌<◌, ◌+◌, ℕ, true, if◌then◌else◌, List, [], ◌∷◌, ◌++◌, Option, None, Some}
 use Rattle.pauli_word.specs.declared.letter.Letter.{Letter}
@@ -9,20 +9,21 @@ use Rattle.step_model.specs.WellFormed.{is_I}
 use Rattle.tableau.specs.Rows.{Rows, row_count, state_of, destabilizer_at}
 use Rattle.forward_sim.specs.References.{IsEntry, IsReplacing}
 
--- the letters of a word other than I, at their qubits, the first being q
+-- a letter at the qubit q, as a list: none where it is I
 abbrev pub term_here : ℕ → Letter → List Term
 term_here q a = if is_I a then [] else record { qubit = q; letter = a } ∷ []
 
+-- the letters of a word other than I, with their qubits, the first at qubit q
 abbrev pub terms_from : ℕ → List Letter → List Term
 terms_from q [] = []
 terms_from q (a ∷ w) = term_here q a ++ terms_from (q + 1) w
 
--- what a list stands for: one without letters for an outcome that wasn't random
+-- what a list of letters stands for: an empty one for an outcome that wasn't random
 abbrev pub entry_of : List Term → Option (List Term)
 entry_of [] = None
 entry_of (term ∷ terms) = Some (term ∷ terms)
 
--- what is kept where a collapse names a row
+-- what is kept of a collapse, by the row that it names, if any
 abbrev pub entry_for : Rows → Option ℕ → Option (List Term)
 entry_for rows None = None
 entry_for rows (Some row) = entry_of (terms_from 0 (destabilizer_at rows row).letters)
@@ -32,11 +33,11 @@ abbrev pub NamesRow : Rows → Rows → List Letter → Option ℕ → Type 0
 NamesRow old new w None = is_decided (state_of old) w ≡ true
 NamesRow old new w (Some row) = (row < row_count new) × IsReplacing (state_of old) w (destabilizer_at new row).letters
 
--- what is kept of a collapse of w in the state s is put behind what was kept before
+-- what is kept of a collapse of w in the state s is appended to what was kept before
 abbrev pub Keeps : ℕ → State → List Letter → List (Option (List Term)) → List (Option (List Term)) → Type 0
 Keeps n s w old new = (entry : Option (List Term)) × (new ≡ old ++ entry ∷ []) × IsEntry n s w entry
 
--- so it is with a step from the state s, and of other steps nothing is kept
+-- so it is where a step from the state s is a collapse; of other steps nothing is kept
 abbrev pub StepKeeps : ℕ → State → ListedStep → List (Option (List Term)) → List (Option (List Term)) → Type 0
 StepKeeps n s (One gate q) old new = new ≡ old
 StepKeeps n s (Two gate a b) old new = new ≡ old

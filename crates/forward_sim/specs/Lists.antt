@@ -1,13 +1,15 @@
--- What a user gives beside a circuit: a text of coins, one digit 0 or 1 for each collapse, and a list of numbers, which
+-- What a user gives besides a circuit: a text of coins, one digit 0 or 1 for each collapse; and a list of numbers, which
 -- is empty or has numbers in decimal digits joined by single commas. Zeros in front of a number change nothing.
 -- (This project's own.)
 use Rattle.std.specs.Prelude.{ℕ, ◌+◌, ◌-◌, ◌*◌, ◌==◌, nat_lt, Bool, true, false, not, ◌&&◌, ◌||◌, if◌then◌else◌, List, [], ◌∷◌, length, map, fold, replicate, Option, None, Some}
 use Rattle.std.specs.Char.{is_ascii_digit}
 use Rattle.std.specs.List.{list_all, list_any, range_with_len, slice_split}
 
+-- whether a byte is the digit 0 or 1
 abbrev pub is_zero_or_one : ℕ → Bool
 is_zero_or_one byte = byte == 48 || byte == 49
 
+-- whether a byte is the digit 1
 abbrev pub is_one : ℕ → Bool
 is_one byte = byte == 49
 
@@ -16,14 +18,15 @@ abbrev pub coins_of : ℕ → List ℕ → Option (List Bool)
 coins_of collapses text =
     if length text == collapses && list_all is_zero_or_one text then Some (map is_one text) else None
 
+-- whether a byte is a comma
 abbrev pub is_comma : ℕ → Bool
 is_comma byte = byte == 44
 
--- one digit or more
+-- whether a piece is one digit or more
 abbrev pub is_number : List ℕ → Bool
 is_number piece = nat_lt 0 (length piece) && list_all is_ascii_digit piece
 
--- the number that digits write, the greatest place first
+-- the number that decimal digits write
 abbrev pub number_of : List ℕ → ℕ
 number_of digits = fold (λ n digit. 10 * n + (digit - 48)) 0 digits
 
@@ -32,10 +35,11 @@ abbrev pub number_below : ℕ → List ℕ → Option ℕ
 number_below count piece =
     if is_number piece && nat_lt (number_of piece) count then Some (number_of piece) else None
 
+-- whether a number is among these
 abbrev pub is_among : List ℕ → ℕ → Bool
 is_among numbers n = list_any (λ other. other == n) numbers
 
--- whether no number stands twice
+-- whether no number is there twice
 abbrev pub is_distinct : List ℕ → Bool
 is_distinct [] = true
 is_distinct (n ∷ numbers) = not (is_among numbers n) && is_distinct numbers
@@ -44,13 +48,13 @@ is_distinct (n ∷ numbers) = not (is_among numbers n) && is_distinct numbers
 abbrev pub marks : ℕ → List ℕ → List Bool
 marks count numbers = map (is_among numbers) (range_with_len 0 count)
 
--- the same where each is below count and none stands twice
+-- the same, where each is below count and none is there twice
 abbrev pub marks_of : ℕ → List ℕ → Option (List Bool)
 marks_of count numbers =
     if list_all (λ n. nat_lt n count) numbers && is_distinct numbers then Some (marks count numbers) else None
 
--- for each number below count, whether a list names it: none where the text is no list, where it names a number that
--- isn't below count, or one twice
+-- for each number below count, whether a text lists it: none where the text isn't a list, or lists a number that isn't
+-- below count, or one number twice
 abbrev pub numbers_of : ℕ → List ℕ → Option (List Bool)
 numbers_of count [] = Some (replicate count false)
 numbers_of count (byte ∷ text) =

@@ -1,4 +1,4 @@
--- What a run holds between two steps, and what a part of a step makes of it.
+-- What a run holds between two steps, and what a part of a step does to it.
 -- (Runs of stabilizer circuits: Aaronson and Gottesman, Phys. Rev. A 70, 052328.)
 use Rattle.std.specs.Prelude.{◌≡◌, ℕ, Bool, if◌then◌else◌, List, [], ◌∷◌, ◌++◌, Option}
 use Rattle.pauli_word.specs.declared.letter.Letter.{Letter}
@@ -7,21 +7,23 @@ use Rattle.step_model.specs.Runs.{RunState, corrected}
 use Rattle.tableau.specs.Rows.{Rows, row_count, state_of}
 use Rattle.forward_sim.specs.SameRuns.{IsSameRun}
 
--- the rows of the tableau, the coins of the collapses to come, the records so far, and for how many there is room
+-- the rows of the tableau, the coins of the collapses to come, the records so far, and for how many records there is room
 pub record Running : Type 0 where
   pub rows : Rows
   pub coins : List Bool
   pub records : List Bool
   pub room : ℕ
 
+-- how many qubits there are
 abbrev pub qubit_count : Running → ℕ
 qubit_count r = row_count r.rows
 
--- where the run stands
+-- the run between the two steps
 abbrev pub run_of : Running → RunState
 run_of r = record { state = state_of r.rows; coins = r.coins; records = r.records }
 
--- the run where a collapse has ended that saw an outcome: the outcome is corrected, and recorded with its changes
+-- the run after the end of a collapse that saw this outcome: the outcome is corrected, where there is a correction, and
+-- recorded, inverted if `changes`, where it has a record
 abbrev pub ended : Option (List Letter) → Bool → Bool → Bool → RunState → RunState
 ended correction recorded seen changes m =
     record {
@@ -30,7 +32,7 @@ ended correction recorded seen changes m =
       records = if recorded then m.records ++ exclusive_or seen changes ∷ [] else m.records;
     }
 
--- from `old` it has come to a run that can't be told from m
+-- from `old` the run has come to one that is the same as m
 pub record ComesTo (old new : Running) (m : RunState) : Type 0 where
   pub qubits : qubit_count new ≡ qubit_count old
   pub room : new.room ≡ old.room

@@ -9,7 +9,8 @@ use programs::Program;
 use std::alloc::{AllocError, Allocator};
 use step_model::Fault;
 
-/// Of each detector and then of each observable, whether its parity in a run differs from that in a reference run.
+/// For each detector, and then for each observable, whether its parity in a run differs from that in a reference run:
+/// detection events, and flips of observables.
 pub fn detections<A: Allocator + Copy>(
     alloc: A,
     program: &Program<'_, A>,
@@ -24,7 +25,7 @@ pub fn detections<A: Allocator + Copy>(
     differences(alloc, program, records, reference).map_err(|_| Fault::MEMORY)
 }
 
-// The answers, one after another in memory taken before the first.
+// The answers, in memory that is taken before the first.
 fn differences<A: Allocator + Copy>(
     alloc: A,
     program: &Program<'_, A>,
@@ -44,7 +45,7 @@ fn differences<A: Allocator + Copy>(
     Ok(answers)
 }
 
-// Whether the parities of the records named differ.
+// Whether the parities of these records differ.
 fn differs<A: Allocator + Copy>(named: &[u32], records: &Records<A>, reference: &Records<A>) -> bool
     requires records_fit { All (λ r. r < length records.now) named.now }
     requires reference_fit { All (λ r. r < length reference.now) named.now }

@@ -1,4 +1,5 @@
-//! The steps of a reference run: no fault happens, and each collapse keeps what it replaced.
+//! The steps of a reference run: no fault happens, and of each collapse the word that it replaced is kept. (A collapse is
+//! the projective measurement inside a measurement or a reset.)
 ghost use Rattle.std.specs.Prelude.{◌≡◌, ◌+◌, ◌<◌, ◌≤◌, ◌++◌, ◌∷◌, [], false, None, length, IfOk, IfSome, OnOk};
 ghost use Rattle.pauli_word.specs.States.{outcome};
 ghost use Rattle.pauli_word.specs.Words.{lone_letter};
@@ -23,7 +24,7 @@ use step_model::Term;
 use tableau::Tableau;
 use tableau::laws::rows_have_all_letters;
 
-/// Takes a step of a program, no fault happening, and keeps what its collapse replaced, if it is one.
+/// Takes a step of a program, in which no fault happens. If it is a collapse, keeps the word that it replaced.
 pub(crate) fn follow_step<A: Allocator + Copy>(
     machine: &mut Machine<'_, A>,
     program: &Program<'_, A>,
@@ -76,7 +77,7 @@ pub(crate) fn follow_step<A: Allocator + Copy>(
     }
 }
 
-// Measures a letter at a qubit, and keeps what that replaced. Answers the outcome, and records nothing.
+// Measures a letter at a qubit, and keeps the word that this replaced. Answers the outcome, and records nothing.
 fn follow_letter<A: Allocator + Copy>(
     machine: &mut Machine<'_, A>,
     program: &Program<'_, A>,
@@ -95,7 +96,7 @@ fn follow_letter<A: Allocator + Copy>(
     Ok(seen)
 }
 
-// The same of a product of letters at qubits.
+// The same for a Pauli product.
 fn follow_product<A: Allocator + Copy>(
     machine: &mut Machine<'_, A>,
     program: &Program<'_, A>,
@@ -113,7 +114,7 @@ fn follow_product<A: Allocator + Copy>(
     Ok(seen)
 }
 
-// Keeps the word that became the destabilizer of a row, if one was replaced.
+// Keeps the word that became the destabilizer of the row that was replaced, if one was.
 fn keep_row<A: Allocator + Copy>(
     machine: &mut Machine<'_, A>,
     program: &Program<'_, A>,

@@ -9,8 +9,9 @@ use programs::{Program, Walk};
 use std::alloc::{AllocError, Allocator};
 use step_model::Fault;
 
-/// The records of a run in which these faults happen and the collapses take these coins: a truth value a fault and one
-/// a collapse. A fault or a coin that isn't there is false.
+/// The records of a run in which these faults happen and the collapses take these coins: a truth value for each fault
+/// and one for each collapse. Past the end of a list no fault happens, and coins are 0. (A collapse is the projective
+/// measurement inside a measurement or a reset; its coin is the outcome where that is random.)
 ///
 /// All memory is taken before the first step.
 pub fn run<A: Allocator + Copy>(

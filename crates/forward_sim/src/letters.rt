@@ -9,7 +9,7 @@ use crate::machine::Machine;
 use pauli_word::Letter;
 use std::alloc::Allocator;
 
-/// Measures a letter at a qubit: the outcome, and the row that was replaced where it was random. Records nothing.
+/// Measures a letter at a qubit. Answers the outcome, and the row that was replaced where it was random. Records nothing.
 pub(crate) fn collapse_letter<A: Allocator + Copy>(
     machine: &mut Machine<'_, A>,
     letter: Letter,

@@ -1,5 +1,5 @@
-//! Runs of a program forward: the records that it makes under given faults and coins, and the detections in them; and
-//! a program's reference run, kept for batches of frames. Beside these the coins and the numbers that a user gives.
+//! Runs of a program, forward: its records under given faults and coins, and the detection events in them; and a
+//! program's reference run, kept for batches of frames. Also the lists of coins and of fault numbers that a user gives.
 #![tactic(auto)]
 
 mod difference;

@@ -1,4 +1,5 @@
-//! What a user gives beside a circuit: a text of coins, and a list of numbers.
+//! What a user gives besides a circuit: a text of coins, and a list of numbers. A collapse is the projective measurement
+//! inside a measurement or a reset; its coin is the outcome where that is random.
 ghost use Rattle.std.specs.Prelude.{◌≡◌, ◌⊎◌, false, None, Some, IfOk, IfErr, MatchBool, length, map, replicate};
 ghost use Rattle.std.specs.List.{list_all};
 ghost use Rattle.step_model.specs.declared.fault.Cause.TheVariants.{CoinCount, FaultNumber};
@@ -19,7 +20,7 @@ const FAULT_NUMBER: Fault = Fault {
     line: 0,
 };
 
-/// The coins that a text gives a run of the program.
+/// The coins that a text gives a run of the program: one digit 0 or 1 for each collapse, in the order of the steps.
 pub fn read_coins<A: Allocator + Copy>(
     alloc: A,
     program: &Program<'_, A>,
@@ -49,8 +50,8 @@ fn ones<A: Allocator + Copy>(alloc: A, text: &[u8]) -> Result<Vec<bool, A>, Allo
     text.iter().map(|b| *b == b'1').collect(alloc)
 }
 
-/// The number that a piece of a list writes, where it is one and below a count. It is kept at the count once it
-/// reaches that, however many digits follow.
+/// The number that a piece of a list writes, where it is one and below a count. While it is read it stays at the count
+/// once it reaches that, however many digits follow.
 fn number_below(count: usize, piece: &[u8]) -> Option<usize>
     ensures { result ≡ number_below count piece.now }
 {
@@ -67,8 +68,8 @@ fn number_below(count: usize, piece: &[u8]) -> Option<usize>
     (!piece.is_empty() && n < count).then_some(n)
 }
 
-/// Marks each number that a text lists, where none has its mark yet. Answers whether it is a list of numbers that
-/// have a mark, none twice; the marks are of no use if not.
+/// Marks each number that a text lists; none is marked before. Answers whether the text is a list of numbers that have
+/// a mark, none twice; if not, the marks are of no use.
 fn mark_numbers(marks: &mut [bool], text: &[u8]) -> bool
     requires { marks.old ≡ replicate (length marks.old) false }
     ensures { MatchBool result (numbers_of (length marks.old) text.now ≡ Some marks.new)
@@ -89,7 +90,7 @@ fn mark_numbers(marks: &mut [bool], text: &[u8]) -> bool
     true
 }
 
-/// For each number below a count, whether a list names it.
+/// For each number below a count, whether a list names it: decimal numbers joined by commas, or nothing.
 pub fn read_numbers<A: Allocator + Copy>(
     alloc: A,
     count: usize,

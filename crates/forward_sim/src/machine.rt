@@ -19,11 +19,11 @@ use std::marker::Model;
 use step_model::Term;
 use tableau::Tableau;
 
-/// What a run holds between two steps. All of its memory is taken before the first.
+/// What a run holds between two steps. All of its memory is taken before the first step.
 #[derive(Drop)]
 pub(crate) struct Machine<'c, A: Allocator + Copy> {
     pub(crate) tableau: Tableau<A>,
-    // for a product that is measured
+    // a spare word, for products that are measured
     pub(crate) word: Word<A>,
     // those of the collapses to come
     coins: &'c [bool],
@@ -72,7 +72,7 @@ impl<'c, A: Allocator + Copy> Machine<'c, A> {
         Records::new(self.records)
     }
 
-    /// Takes the coin of the next collapse: one that isn't there is 0.
+    /// Takes the coin of the next collapse: 0 where none is left.
     pub(crate) fn take_coin(&mut self) -> bool
         ensures coin { result ≡ next_coin self.old.coins }
         ensures taken { self.new ≡ record self.old { coins = drop 1 self.old.coins } }
@@ -85,7 +85,7 @@ impl<'c, A: Allocator + Copy> Machine<'c, A> {
         coin
     }
 
-    /// Ends the reset of a qubit whose letter was measured, where it is one.
+    /// Where `reset`, ends the reset of a qubit whose letter was measured with this outcome.
     pub(crate) fn correct(&mut self, letter: Letter, qubit: u32, reset: bool, seen: bool)
         requires { qubit < qubit_count self.old }
         ensures { ComesTo self.old self.new (record (run_of self.old) { state = corrected (correction (qubit_count self.old) (measured (qubit_count self.old) reset letter qubit)) seen (run_of self.old).state }) }
@@ -112,7 +112,7 @@ impl<'c, A: Allocator + Copy> Machine<'c, A> {
         }
     }
 
-    /// The record of a number.
+    /// The record with a number: false where it isn't made yet.
     pub(crate) fn record(&self, number: u32) -> bool
         ensures { result ≡ slice_index_or self.now.records number false }
     {

@@ -12,8 +12,7 @@ use pauli_word::Word;
 use std::alloc::Allocator;
 use step_model::Term;
 
-/// Measures a product of letters at qubits: the outcome, and the row that was replaced where it was random. Records
-/// nothing.
+/// Measures a Pauli product. Answers the outcome, and the row that was replaced where it was random. Records nothing.
 pub(crate) fn collapse_product<A: Allocator + Copy>(
     machine: &mut Machine<'_, A>,
     terms: &[Term],
@@ -28,7 +27,7 @@ pub(crate) fn collapse_product<A: Allocator + Copy>(
     machine.tableau.collapse_word(&machine.word, coin)
 }
 
-// Makes a word the product of letters at qubits, with sign plus.
+// Sets a word to the product of letters at qubits, with sign plus.
 fn set_product<A: Allocator + Copy>(word: &mut Word<A>, terms: &[Term])
     requires { TermsFit (length word.old.letters) terms.now }
     ensures { word.new ≡ signed (word_of_terms (length word.old.letters) terms.now) false }

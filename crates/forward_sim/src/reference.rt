@@ -14,10 +14,12 @@ use std::alloc::{AllocError, Allocator};
 use std::marker::Model;
 use step_model::{Fault, Term};
 
-/// The run of a program in which no fault happens and all coins are 0, made once by a tableau: what it recorded, and for
-/// each collapse whose outcome was random a word that this replaced. With these, runs are sampled by frames alone.
+/// The run of a program in which no fault happens and all coins are 0, made once by a tableau: its records, and for each
+/// collapse with a random outcome a word of the state that this replaced. With these, runs are sampled by Pauli frames
+/// alone.
 ///
-/// A collapse that isn't random takes a few bytes, and one that is as many terms as the word has letters other than I.
+/// A collapse with a decided outcome takes a few bytes of memory, one with a random outcome a term for each letter of its
+/// word other than I.
 #[derive(Drop)]
 pub struct Reference<A: Allocator + Copy> {
     records: Records<A>,
@@ -33,7 +35,8 @@ impl<A: Allocator + Copy> Model for Reference<A> {
 }
 
 impl<A: Allocator + Copy> Reference<A> {
-    /// The reference run of a program. It takes the time of one run, and for each random outcome time by the qubits.
+    /// The reference run of a program. It takes the time of one run, and for each random outcome time linear in the number
+    /// of qubits.
     pub fn of(alloc: A, program: &Program<'_, A>) -> Result<Self, Fault>
         ensures ok { IfOk result (IsReferenceOf program.now) }
         ensures count { IfOk result (λ reference. length reference.replaced ≡ program.now.collapses) }
@@ -42,7 +45,7 @@ impl<A: Allocator + Copy> Reference<A> {
         follow(alloc, program).map_err(|_| Fault::MEMORY)
     }
 
-    /// What the run recorded.
+    /// The records of the run.
     pub fn records(&self) -> &Records<A>
         ensures { result.now ≡ self.now.records }
     {
@@ -56,8 +59,8 @@ impl<A: Allocator + Copy> Reference<A> {
         self.replaced.len()
     }
 
-    /// Of a collapse whose outcome was random the letters at qubits of a word that was in the state, up to its sign, and
-    /// anticommutes with the word that was measured: no qubit twice, and no letter I. None where it wasn't random.
+    /// For a collapse with a random outcome, the letters at qubits of a word that was in the state, up to its sign, and
+    /// anticommutes with the word measured: no qubit twice, and no letter I. None where the outcome was decided.
     pub fn replaced(&self, collapse: usize) -> Option<&[Term]>
         requires { collapse < length self.now.replaced }
         ensures { option_map (λ terms. terms.now) result ≡ slice_index_or self.now.replaced collapse None }

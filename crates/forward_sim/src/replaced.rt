@@ -8,12 +8,12 @@ use std::alloc::{AllocError, Allocator};
 use std::marker::Model;
 use step_model::Term;
 
-/// For each collapse the word that it replaced, none where its outcome wasn't random.
+/// For each collapse the word that it replaced: none where its outcome wasn't random.
 #[derive(Drop)]
 pub(crate) struct Replaced<A: Allocator + Copy> {
-    // the letters other than I; a word that is replaced has one, so an empty list says that there is none
+    // the letters other than I; a word that is replaced has at least one, so an empty list stands for no word
     lists: FlatLists<Term, A>,
-    // those of the word that is being kept
+    // the letters of the word that is being kept
     terms: Vec<Term, A>,
 }
 
@@ -28,7 +28,7 @@ impl<A: Allocator + Copy> Model for Replaced<A> {
 }
 
 impl<A: Allocator + Copy> Replaced<A> {
-    /// Of no collapse. Takes no memory.
+    /// For no collapse yet. Allocates nothing.
     pub(crate) fn new(alloc: A) -> Self
         ensures { result ≡ [] }
     {
@@ -38,7 +38,7 @@ impl<A: Allocator + Copy> Replaced<A> {
         }
     }
 
-    /// Of how many collapses.
+    /// For how many collapses.
     pub(crate) fn len(&self) -> usize
         ensures { result ≡ length self.now }
     {
@@ -52,7 +52,7 @@ impl<A: Allocator + Copy> Replaced<A> {
         self.lists.push(&[])
     }
 
-    /// Keeps the letters of a word on so many qubits.
+    /// Keeps the letters of a word on this number of qubits.
     pub(crate) fn push_word(&mut self, word: &Word<A>, qubits: u32) -> Result<(), AllocError>
         requires { length word.now.letters ≡ qubits }
         ensures { OnOk result (self.new ≡ self.old ++ entry_of (terms_from 0 word.now.letters) ∷ []) }
@@ -71,7 +71,7 @@ impl<A: Allocator + Copy> Replaced<A> {
     }
 }
 
-// The letters of a word other than I, in place of those that were there.
+// Reads the letters of a word other than I, in place of those that were there.
 fn read_terms<A: Allocator + Copy>(
     terms: &mut Vec<Term, A>,
     word: &Word<A>,
@@ -88,7 +88,7 @@ fn read_terms<A: Allocator + Copy>(
     Ok(())
 }
 
-// Puts a letter at a qubit behind others, where it isn't I.
+// Appends a letter at a qubit, where it isn't I.
 fn push_term<A: Allocator + Copy>(
     terms: &mut Vec<Term, A>,
     qubit: u32,

@@ -57,7 +57,7 @@ pub(crate) fn take_step<A: Allocator + Copy>(
     }
 }
 
-// Measures a letter at a qubit, resets the qubit where `reset`, and records the outcome, changed where `changes`, where
+// Measures a letter at a qubit, resets the qubit where `reset`, and records the outcome, inverted where `changes`, where
 // there is a number for it.
 fn collapse<A: Allocator + Copy>(
     machine: &mut Machine<'_, A>,
@@ -76,8 +76,8 @@ fn collapse<A: Allocator + Copy>(
     end_collapse(machine, letter, qubit, reset, seen, rec, changes);
 }
 
-/// Ends the collapse of a letter at a qubit that saw an outcome: resets the qubit where `reset`, and records the outcome,
-/// changed where `changes`, where there is a number for it.
+/// Ends the collapse of a letter at a qubit with this outcome: resets the qubit where `reset`, and records the outcome,
+/// inverted where `changes`, where there is a number for it.
 pub(crate) fn end_collapse<A: Allocator + Copy>(
     machine: &mut Machine<'_, A>,
     letter: Letter,

@@ -49,51 +49,56 @@ place_image x z Z = z
 abbrev pub pair_image : SignedPair → SignedPair → SignedPair → SignedPair → Letter → Letter → SignedPair
 pair_image xi zi ix iz a b = signed_pair_product one (place_image xi zi a) (place_image ix iz b)
 
--- a letter where it is a factor, else I
+-- the letter where it is a factor, otherwise I
 abbrev pub factor : Bool → Letter → Letter
 factor true a = a
 factor false a = I
 
--- what a gate with A on the first qubit and B on the second makes of a letter on the first, and of one on the second
+-- the image of a letter on the first qubit under a gate with A on the first qubit and B on the second
 abbrev pub first_image : Letter → Letter → Letter → SignedPair
 first_image A B a = (a, factor (letters_clash a A) B, plus)
 
+-- that of a letter on the second qubit
 abbrev pub second_image : Letter → Letter → Letter → SignedPair
 second_image A B b = (factor (letters_clash b B) A, b, plus)
 
--- how many qubits a gate acts on
+-- how many qubits a gate acts on, by its row of the table
 abbrev pub row_arity : Row → ℕ
 row_arity (one_qubit x z g) = 1
 row_arity (controlled a b) = 2
 row_arity (two_qubit xi zi ix iz g) = 2
 
+-- how many qubits a gate acts on
 abbrev pub arity_of : Gate → ℕ
 arity_of g = row_arity (row_of g)
 
--- the image of a letter under a one-qubit gate; another gate leaves it as it is
+-- the image of a letter under a one-qubit gate, by the gate's row; any other gate leaves it as it is
 abbrev pub row_image1 : Row → Letter → Letter × Bool
 row_image1 (one_qubit x z g) a = letter_image x z a
 row_image1 (controlled A B) a = (a, plus)
 row_image1 (two_qubit xi zi ix iz g) a = (a, plus)
 
+-- the image of a letter under a one-qubit gate
 abbrev pub image1 : Gate → Letter → Letter × Bool
 image1 g a = row_image1 (row_of g) a
 
--- the image of a pair of letters under a two-qubit gate; another gate leaves it as it is
+-- the image of a pair of letters under a two-qubit gate, by the gate's row; any other gate leaves it as it is
 abbrev pub row_image2 : Row → Letter → Letter → Letter × Letter × Bool
 row_image2 (one_qubit x z g) a b = (a, b, plus)
 row_image2 (controlled A B) a b =
     pair_image (first_image A B X) (first_image A B Z) (second_image A B X) (second_image A B Z) a b
 row_image2 (two_qubit xi zi ix iz g) a b = pair_image xi zi ix iz a b
 
+-- the image of a pair of letters under a two-qubit gate
 abbrev pub image2 : Gate → Letter → Letter → Letter × Letter × Bool
 image2 g a b = row_image2 (row_of g) a b
 
--- the gate that undoes a gate: a controlled gate undoes itself
+-- the gate that undoes a gate, by its row: a controlled gate undoes itself
 abbrev pub row_inverse : Gate → Row → Gate
 row_inverse g (one_qubit x z h) = h
 row_inverse g (controlled a b) = g
 row_inverse g (two_qubit xi zi ix iz h) = h
 
+-- the gate that undoes a gate
 abbrev pub inverse_of : Gate → Gate
 inverse_of g = row_inverse g (row_of g)

@@ -29,7 +29,7 @@ pub record KeepsPairProduct (g : Gate) (a b c d : Letter) : Type 0 where
 abbrev pub KeepsClash : Gate → Letter → Letter → Type 0
 KeepsClash g a b = letters_clash (image1 g a).0 (image1 g b).0 ≡ letters_clash a b
 
--- the images of two pairs, a b and c d, clash at one place alone exactly where the pairs do
+-- the images of two pairs, a b and c d, anticommute exactly where the pairs do: where they clash at one place alone
 abbrev pub KeepsPairClash : Gate → Letter → Letter → Letter → Letter → Type 0
 KeepsPairClash g a b c d =
     exclusive_or (letters_clash (image2 g a b).0 (image2 g c d).0) (letters_clash (image2 g a b).1 (image2 g c d).1)

@@ -6,6 +6,7 @@ use Rattle.std.specs.Borrow.{Bor}
 use Rattle.gate_table.specs.declared.gate.Gate.{Gate}
 use Rattle.gate_table.specs.declared.gate.Gate.TheVariants as gate
 
+-- each name with the gate that it names
 abbrev pub names : List (List ℕ × Gate)
 names =
     (codes "I", gate.I)

@@ -1,5 +1,5 @@
--- The table of gates. A gate U is given by what it makes of X and Z: the image of P is U P U-dagger, a letter
--- or a pair of letters with a sign. A controlled gate is given by its two letters alone.
+-- The table of gates. A gate U is given by the images of X and Z: the image of P is U P U-dagger, a letter or a pair of
+-- letters with a sign. A controlled gate is given by its two letters alone.
 -- (Stim's gate reference, github.com/quantumlib/Stim, doc/gates.md: "Stabilizer Generators" of each gate.)
 use Rattle.std.specs.Prelude.{Bool, true, false}
 use Rattle.pauli_word.specs.declared.letter.Letter.{Letter}
@@ -7,13 +7,15 @@ use Rattle.pauli_word.specs.declared.letter.Letter.TheVariants.{I, X, Y, Z}
 use Rattle.gate_table.specs.declared.gate.Gate.{Gate}
 use Rattle.gate_table.specs.declared.gate.Gate.TheVariants as gate
 
--- a letter with its sign, and a pair of letters with their sign: the sign is true for minus
+-- a letter with its sign, which is true for minus
 abbrev pub SignedLetter : Type 0
 SignedLetter = Letter × Bool
 
+-- a pair of letters with their sign
 abbrev pub SignedPair : Type 0
 SignedPair = Letter × Letter × Bool
 
+-- the two signs
 abbrev pub plus : Bool
 plus = false
 
@@ -28,6 +30,7 @@ pub data Row : Type 0 where
   controlled : Letter → Letter → Row
   two_qubit : SignedPair → SignedPair → SignedPair → SignedPair → Gate → Row
 
+-- the row of each gate
 abbrev pub row_of : Gate → Row
 -- the images of X and Z, and the inverse
 row_of gate.I = one_qubit (X, plus) (Z, plus) gate.I

@@ -14,7 +14,7 @@ pub fn arity_is_one_or_two()
     ensures { (g : Gate) → (arity_of g ≡ 1) ⊎ (arity_of g ≡ 2) }
 {}
 
-/// The image of a product of letters is the product of their images, with its sign; of a product of pairs too.
+/// The image of a product of letters is the product of their images, signs included, and so it is for pairs of letters.
 pub fn images_keep_products()
     ensures letters { (g : Gate) (a b : Letter) → KeepsProduct g a b }
     ensures pairs { (g : Gate) (a b c d : Letter) → KeepsPairProduct g a b c d }
@@ -26,19 +26,19 @@ pub fn images_keep_clashes()
     ensures pairs { (g : Gate) (a b c d : Letter) → KeepsPairClash g a b c d }
 {}
 
-/// A gate after its inverse, and before it, leaves every letter and every pair as it is, sign and all. The
-/// inverse acts on as many qubits, and its inverse is the gate.
+/// A gate after its inverse, or before it, leaves every letter and every pair as it is, sign included. The
+/// inverse acts on as many qubits as the gate, and its inverse is the gate.
 pub fn inverses_undo()
     ensures { (g : Gate) → IsUndoneByInverse g }
 {}
 
-/// The image of I is I, of sign plus, and so for the pair of two I.
+/// The image of I is I, and that of the pair I I is I I, of sign plus.
 pub fn images_keep_identity()
     ensures letter { (g : Gate) → image1 g I ≡ (I, false) }
     ensures pair { (g : Gate) → image2 g I I ≡ (I, I, false) }
 {}
 
-/// The image of a product of two words is the product of their images, signs too.
+/// The image of a product of two words is the product of their images, signs included.
 pub fn word_images_keep_products()
     ensures one { (g : Gate) (q : ℕ) (p r : Signed) → length p.letters ≡ length r.letters → q < length p.letters → image_at g q (product p r) ≡ product (image_at g q p) (image_at g q r) }
     ensures two { (g : Gate) (a b : ℕ) (p r : Signed) → length p.letters ≡ length r.letters → a ≢ b → a < length p.letters → b < length p.letters → image_at_two g a b (product p r) ≡ product (image_at_two g a b p) (image_at_two g a b r) }
@@ -58,7 +58,7 @@ pub fn word_preimages_undo()
     ensures two_back { (g : Gate) (a b : ℕ) (p : Signed) → a ≢ b → a < length p.letters → b < length p.letters → preimage_at_two g a b (image_at_two g a b p) ≡ p }
 {}
 
-/// A gate, at qubits that there are, keeps the words of a state a commutative group without minus the identity.
+/// A gate at any qubits of a state keeps the state's words a commutative group without minus the identity.
 pub fn gates_keep_group()
     ensures one { (n : ℕ) (g : Gate) (q : ℕ) (s : State) → q < n → IsGroup n s → IsGroup n (λ p. s (preimage_at g q p)) }
     ensures two { (n : ℕ) (g : Gate) (a b : ℕ) (s : State) → a < n → b < n → a ≢ b → IsGroup n s → IsGroup n (λ p. s (preimage_at_two g a b p)) }

@@ -1,4 +1,5 @@
-//! The images of all letters and pairs of letters, worked out from those of X and Z.
+//! The images of all letters and pairs of letters, worked out from those of X and Z, which Stim's gate reference gives
+//! as stabilizer generators.
 use pauli_word::Letter;
 use pauli_word::Letter::{I, X, Y, Z};
 

@@ -11,13 +11,14 @@ letter_of true false = X
 letter_of true true = Y
 letter_of false true = Z
 
--- the bits of a letter
+-- whether a letter is X or Y
 abbrev pub x_bit : Letter → Bool
 x_bit I = false
 x_bit X = true
 x_bit Y = true
 x_bit Z = false
 
+-- whether a letter is Z or Y
 abbrev pub z_bit : Letter → Bool
 z_bit I = false
 z_bit X = false

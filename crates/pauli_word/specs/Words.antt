@@ -1,6 +1,6 @@
--- Signed words: one letter a qubit, and a sign. The product of two words is taken qubit by qubit; its power of i
--- is the product of the qubits' powers, and -1 for each minus sign. Two words commute exactly when an even
--- number of qubits clash. Of two commuting words the power is 1 or -1, so their product is a signed word.
+-- Signed words (Stim's Pauli strings): one letter a qubit, and a sign. The product of two words is taken qubit by
+-- qubit; its power of i is the product of the qubits' powers, times -1 for each minus sign. Two words commute exactly
+-- when an even number of qubits clash. For two commuting words the power is 1 or -1, so their product is a signed word.
 -- (Aaronson and Gottesman, Phys. Rev. A 70, 052328 (2004), section II.)
 use Rattle.std.specs.Prelude.{Bool, true, false, if◌then◌else◌, ℕ, suc, List, [], ◌∷◌, Option, None, Some, option_map, replicate, slice_set, slice_index_or}
 use Rattle.pauli_word.specs.Parity.{exclusive_or}
@@ -60,6 +60,7 @@ letter_at p q = slice_index_or p q I
 abbrev pub lone_letter : ℕ → ℕ → Letter → List Letter
 lone_letter n q a = slice_set (no_letters n) q a
 
+-- whether a letter is X or Y
 abbrev pub has_X_or_Y : Letter → Bool
 has_X_or_Y I = false
 has_X_or_Y X = true

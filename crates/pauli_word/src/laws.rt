@@ -1,5 +1,6 @@
-//! What holds of all words. Each function does nothing: its contract is the law, proved. The letters of a product
-//! leave out the power of i that they bring, so laws of letters come with laws of powers.
+//! What holds of all Pauli words. Each function does nothing: its contract is the law, proved. The letters of a product
+//! leave out its power of i, so laws of letters come with laws of powers. A collapse is the projective measurement of a
+//! word inside a measurement or a reset; its coin is the outcome where that is random.
 ghost use Rattle.std.specs.Prelude.{◌≡◌, Bool, false, ℕ, List, length};
 ghost use Rattle.pauli_word.specs.declared.letter.Letter.{Letter};
 ghost use Rattle.pauli_word.specs.Letters.{Power, one, power_product, is_minus, sign_power};
@@ -26,13 +27,13 @@ pub fn products_associate()
     ensures powers { (p q r : List Letter) → length p ≡ length q → length q ≡ length r → power_product (letters_power p q) (letters_power (letters_product p q) r) ≡ power_product (letters_power q r) (letters_power p (letters_product q r)) }
 {}
 
-/// The word of letters I changes no word of its length, and brings no factor.
+/// Multiplying by the word of letters I changes no word of its length, and brings no factor.
 pub fn identity_is_neutral()
     ensures letters { (p : List Letter) → letters_product (no_letters (length p)) p ≡ p }
     ensures power { (p : List Letter) → letters_power (no_letters (length p)) p ≡ one }
 {}
 
-/// A word times itself is the identity, with the power 1: each word is its own inverse.
+/// A word times itself is the identity, with the factor 1: each word is its own inverse.
 pub fn words_are_their_own_inverses()
     ensures letters { (p : List Letter) → letters_product p p ≡ no_letters (length p) }
     ensures power { (p : List Letter) → letters_power p p ≡ one }
@@ -68,17 +69,17 @@ pub fn commuting_words_form_a_group()
     ensures inverse { (p : Signed) → product p p ≡ identity_word (length p.letters) }
 {}
 
-/// The words of the state at the start form a commutative group without minus the identity.
+/// The words of the state at the start form a commutative group without minus the identity: a stabilizer group.
 pub fn start_is_group()
     ensures { (n : ℕ) → IsGroup n start_state }
 {}
 
-/// A Pauli word that is applied keeps that: a fault that happens, or the correction of a reset.
+/// Applying a Pauli word, as a fault that happens or the correction of a reset does, keeps a state's words such a group.
 pub fn applied_words_keep_group()
     ensures { (n : ℕ) (b : Bool) (w : List Letter) (s : State) → IsGroup n s → IsGroup n (applied b w s) }
 {}
 
-/// A collapse of any word keeps it, whether its outcome is decided or random.
+/// A collapse of any word keeps a state's words such a group, whether its outcome is decided or random.
 pub fn collapses_keep_group()
     ensures { (n : ℕ) (w : List Letter) (coin : Bool) (s : State) → length w ≡ n → IsGroup n s → IsGroup n (collapsed w coin s) }
 {}

@@ -20,7 +20,7 @@ impl Letter {
         self != Letter::I && other != Letter::I && self != other
     }
 
-    /// The letter of the product.
+    /// The letter of the product, without its power of i.
     pub fn times(self, other: Letter) -> Letter
         ensures { result ≡ letter_product self other }
     {

@@ -1,4 +1,5 @@
-//! Signed Pauli words: letters of I, X, Y and Z with a sign, their products, and which of them commute.
+//! Signed Pauli words (Stim's Pauli strings): letters I, X, Y and Z with a sign, their products, and which of them
+//! commute.
 #![tactic(auto)]
 
 pub mod laws;

@@ -9,7 +9,7 @@ use std::marker::Model;
 
 /// A signed Pauli word: one letter a qubit, and a sign.
 ///
-/// It is kept as two rows of bits, 64 qubits to a machine word. `identity` and `copy` alone take memory.
+/// It is kept as two rows of bits, 64 qubits to a machine word. Only `identity` and `copy` allocate.
 #[derive(Drop)]
 pub struct Word<A: Allocator + Copy> {
     x: BitRow<A>,
@@ -80,7 +80,7 @@ impl<A: Allocator + Copy> Word<A> {
         self.negative
     }
 
-    /// Makes the sign minus where `negative`, else plus.
+    /// Makes the sign minus where `negative`, otherwise plus.
     #[inline(always)]
     pub fn set_sign(&mut self, negative: bool)
         ensures { self.new ≡ record self.old { negative = negative } }
@@ -103,8 +103,8 @@ impl<A: Allocator + Copy> Word<A> {
         self.x.first_one()
     }
 
-    /// Multiplies by a word from the right, and answers whether the product of the letters brought a factor -1; of
-    /// two words that anticommute it is i or -i, and the answer tells whether it is -i.
+    /// Multiplies by a word from the right. Answers whether the product of the letters brings the factor -1 or, where
+    /// the two words anticommute, -i. In the sign, i counts as 1 and -i as -1.
     #[inline(always)]
     pub fn times(&mut self, other: &Word<A>) -> bool
         requires { length self.old.letters ≡ length other.now.letters }

@@ -1,4 +1,4 @@
-//! Bytes pushed in order go out to a sink in pieces.
+//! A buffer in front of a sink: bytes that are pushed in order go out in pieces.
 #![tactic(auto)]
 
 ghost use Rattle.std.specs.Prelude.{◌≡◌, if◌then◌else◌, [], ◌++◌, false, true, Err, OnOk, OnErr, IfErr};
@@ -10,11 +10,11 @@ use arrayvec::ArrayVec;
 use std::marker::Model;
 use step_model::{Cause, Fault, Sink, write_all};
 
-/// How many bytes are held back at most. It is a local of those who write, so it is small.
+/// How many bytes are held back at most. The buffer is a local variable of its users, so it is small.
 const PIECE: usize = 16384;
 
-/// Bytes held back until they make a piece for a sink. All its calls get the same sink. Once the sink has failed,
-/// it is not called again: what is pushed then is dropped, and `finish` says that it failed. Takes no memory.
+/// Bytes held back until they make a piece for a sink. All calls are to be given the same sink. Once the sink has failed
+/// it is not called again: what is pushed after that is dropped, and `finish` answers the failure. Allocates nothing.
 #[derive(Drop)]
 pub struct Pieces {
     held: ArrayVec<u8, PIECE>,
@@ -40,7 +40,7 @@ impl Pieces {
         }
     }
 
-    /// Whether the sink has failed. Who has much to compute may ask and stop.
+    /// Whether the sink has failed: then a long computation of more output may stop.
     pub fn has_failed(&self) -> bool
         ensures { result ≡ self.now.failed }
     {
@@ -61,7 +61,7 @@ impl Pieces {
         self.send_past(sink, bytes);
     }
 
-    /// Sends what is still held back, and says whether the sink took all.
+    /// Sends what is still held back. Fails where the sink has failed, now or before.
     pub fn finish<W: Sink>(mut self, sink: &mut W) -> Result<(), Fault>
         ensures after_failure { self.failed ≡ true → (result ≡ Err write_fault) × (sink.new ≡ sink.old) }
         ensures all { OnOk result (Takes (W.taken sink.old) (W.taken sink.new) self.bytes) }
@@ -86,7 +86,7 @@ impl Pieces {
         self.held.try_extend_from_slice(bytes).is_ok()
     }
 
-    // Sends bytes that are longer than a piece, with no copy.
+    // Sends more bytes than a piece holds, without copying them.
     fn send_past<W: Sink>(&mut self, sink: &mut W, bytes: &[u8])
         requires sound { self.old.failed ≡ false }
         requires none_held { self.old.bytes ≡ [] }

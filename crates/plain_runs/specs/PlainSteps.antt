@@ -1,4 +1,4 @@
--- A step with its words written out: the word that a collapse measures, and that which a fault or feedback applies.
+-- A step with its words written out: the word that a collapse measures, or that a fault or feedback applies.
 -- (This project's own.)
 use Rattle.std.specs.Prelude.{⊤, ◌≡◌, ◌<◌, ℕ, false, List, length, Option, None, Some, option_map, slice_index_or}
 use Rattle.gate_table.specs.Images.{arity_of}
@@ -16,9 +16,11 @@ abbrev pub measured : List Letter → Option Term → Measured
 measured w None = listing.Word w
 measured w (Some term) = listing.Reset term.letter term.qubit
 
+-- what becomes of an outcome
 abbrev pub recorded : Recording → Recorded
 recorded r = record { number = r.number; inverted = r.inverted; flip = r.flip }
 
+-- the step as a program lists it
 abbrev pub listed_step : {A : Type 0} → PlainStep A → ListedStep
 listed_step (One gate q) = listing.One gate q
 listed_step (Two gate a b) = listing.Two gate a b
@@ -30,12 +32,12 @@ listed_step (Feedback word r) = listing.Feedback word.letters r
 abbrev pub step_at : Listing → ℕ → ListedStep
 step_at program i = slice_index_or program.steps i (listing.Fault 0)
 
--- a qubit that is reset is there
+-- a qubit that is reset is one of n
 abbrev pub ResetFits : ℕ → Option Term → Type 0
 ResetFits n None = ⊤
 ResetFits n (Some term) = term.qubit < n
 
--- a step's qubits are there, and its words are what they stand for
+-- a step's qubits are the program's, and its words are those that the program's step measures or applies
 abbrev pub WordsFit : {A : Type 0} → Listing → PlainStep A → Type 0
 WordsFit program (One gate q) = (arity_of gate ≡ 1) × (q < program.qubits)
 WordsFit program (Two gate a b) = (arity_of gate ≡ 2) × (a < program.qubits) × (b < program.qubits)

@@ -6,6 +6,7 @@ use Rattle.programs.specs.declared.step.Step.{Step}
 use Rattle.programs.specs.Listed.{listed}
 use Rattle.programs.specs.Named.{IsStepOf}
 
+-- these are the steps of a program, and all that they name exists
 pub record AreSteps (program : Listing) (steps : List Step) : Type 0 where
   pub listed : map (listed program.qubits program.products) steps ≡ program.steps
   pub named : All (IsStepOf program) steps

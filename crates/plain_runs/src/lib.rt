@@ -1,6 +1,7 @@
 //! Runs, sensitivities and places of programs, computed straight from their definitions: slowly, for small programs and
-//! for tests of what is fast. Whether a word is in the state after a step is asked of other words before it, so the work
-//! of a run grows as a power of the number of collapses.
+//! as a reference in tests. Whether a word is in the state after a collapse is answered by asking it of up to four words
+//! before the collapse, so the work of a run grows exponentially with the number of collapses. (A collapse is the
+//! projective measurement inside a measurement or a reset; its coin is the outcome where that is random.)
 #![tactic(auto)]
 
 mod plain_step;

@@ -35,7 +35,7 @@ pub(crate) enum PlainStep<A: Allocator + Copy> {
         a: u32,
         b: u32,
     },
-    /// Measures a word, and resets this letter's qubit, where there is one.
+    /// Measures a word, and resets the qubit of `reset`, where there is one.
     Collapse {
         word: Word<A>,
         reset: Option<Term>,

@@ -19,8 +19,8 @@ use programs::{Program, Step};
 use std::alloc::{AllocError, Allocator};
 use step_model::Term;
 
-/// The records of a run in which these faults happen and the collapses take these coins. A fault or a coin that is
-/// not listed is 0.
+/// The records of a run in which these faults happen and the collapses take these coins, one each. Past the end of a list
+/// no fault happens, and coins are 0.
 pub fn records<A: Allocator + Copy>(
     alloc: A,
     program: &Program<'_, A>,
@@ -39,7 +39,7 @@ pub fn records<A: Allocator + Copy>(
     Ok(records)
 }
 
-/// Whether a signed word leaves the state unchanged after the first steps of a run.
+/// Whether a signed word leaves the state of a run unchanged after its first `steps` steps.
 pub fn is_in_state<A: Allocator + Copy>(
     alloc: A,
     program: &Program<'_, A>,
@@ -57,7 +57,7 @@ pub fn is_in_state<A: Allocator + Copy>(
     is_in(alloc, &program, faults, coins, steps, word)
 }
 
-// The same, of the steps in a list.
+// The same, where the steps are in a list.
 #[cycle(state)]
 fn is_in<A: Allocator + Copy>(
     alloc: A,
@@ -128,7 +128,7 @@ fn is_in_after<A: Allocator + Copy>(
     }
 }
 
-// Whether a word is in the state after another was applied, or wasn't.
+// Whether a word is in the state after another was applied, where `applies`.
 #[cycle(state)]
 fn is_in_applied<A: Allocator + Copy>(
     alloc: A,
@@ -262,7 +262,7 @@ fn record_made<A: Allocator + Copy>(
     Ok(seen ^ (recording.inverted ^ flip_happens(faults, recording.flip)))
 }
 
-// A record of those that the first steps make: false where they don't make it.
+// A record, after the first steps: false where they don't make it.
 #[cycle(state)]
 fn record_at<A: Allocator + Copy>(
     alloc: A,
@@ -296,7 +296,7 @@ fn record_at<A: Allocator + Copy>(
     }
 }
 
-// The same of those that the first steps and a collapse of a word make.
+// The same after the first steps and a collapse of a word.
 #[cycle(state)]
 fn record_after<A: Allocator + Copy>(
     alloc: A,

@@ -1,4 +1,4 @@
-//! The sensitivity and the place of a target.
+//! The sensitivity and the place of a target, which is a detector or an observable.
 ghost use Rattle.std.specs.Prelude.{◌≡◌, ◌<◌, ◌≤◌, ◌+◌, [], length, take, drop, IfOk, OnOk, option_map};
 ghost use Rattle.pauli_word.specs.Words.{anticommute, letter_at};
 ghost use Rattle.step_model.specs.Sensitivities.{sensitivity, sensitivity_before, record_counts, cleared, multiplied, collapse_word, collapse_count, latest_place, has_X_or_Y, lowest_X_or_Y, place_of};
@@ -15,7 +15,8 @@ use std::alloc::{AllocError, Allocator};
 use std::marker::Model;
 use step_model::{Place, Term};
 
-/// The sensitivity of a target at a place: a word, and the records so far whose flips flip the target.
+/// The sensitivity of a target between two steps: the word such that a Pauli fault there flips the target exactly where
+/// it anticommutes with it, and the records so far whose flips flip the target.
 #[derive(Drop)]
 pub struct TargetSensitivity<A: Allocator + Copy> {
     word: Word<A>,
@@ -38,7 +39,7 @@ impl<A: Allocator + Copy> TargetSensitivity<A> {
         self.word.letter(qubit)
     }
 
-    /// The records whose flips flip the target, each as often as it is listed.
+    /// The records whose flips flip the target. One that is listed an even number of times doesn't.
     pub fn records(&self) -> &[u32]
         ensures { result.now ≡ self.now.records }
     {
@@ -46,7 +47,7 @@ impl<A: Allocator + Copy> TargetSensitivity<A> {
     }
 }
 
-/// The sensitivity, after the first steps, of a target that lists these records.
+/// The sensitivity, after the first `steps` steps, of a target with these records.
 pub fn sensitivity<A: Allocator + Copy>(
     alloc: A,
     program: &Program<'_, A>,
@@ -60,7 +61,8 @@ pub fn sensitivity<A: Allocator + Copy>(
     sensitivity_after(alloc, &program, named, steps)
 }
 
-/// The place of a target, if it has one. The detectors come first, then the observables.
+/// The place of a target, if it has one: a target is random exactly where it has one. Detectors are numbered first, then
+/// observables.
 pub fn place_of<A: Allocator + Copy>(
     alloc: A,
     program: &Program<'_, A>,
@@ -78,7 +80,7 @@ pub fn place_of<A: Allocator + Copy>(
     Ok(lowest_x_or_y(&first, program.qubits()).map(Place::Start))
 }
 
-// The same of the steps in a list.
+// The sensitivity, where the steps are in a list.
 fn sensitivity_after<A: Allocator + Copy>(
     alloc: A,
     program: &Unrolled<'_, '_, A>,
@@ -111,7 +113,7 @@ fn at_the_end<A: Allocator + Copy>(
     Ok(TargetSensitivity { word, records })
 }
 
-// Makes the sensitivity after a step that before it.
+// Turns the sensitivity after a step into that before it.
 fn go_back_over<A: Allocator + Copy>(
     alloc: A,
     program: &Unrolled<'_, '_, A>,
@@ -127,7 +129,7 @@ fn go_back_over<A: Allocator + Copy>(
     go_back_over_plain(program, &plain, s)
 }
 
-// The same of a step with its words written out.
+// The same for a step with its words written out.
 fn go_back_over_plain<A: Allocator + Copy>(
     program: &Unrolled<'_, '_, A>,
     step: &PlainStep<A>,
@@ -163,7 +165,8 @@ fn go_back_over_plain<A: Allocator + Copy>(
     Ok(())
 }
 
-// The word of a sensitivity before a collapse, where its record counts or doesn't, from that after it.
+// The word of a sensitivity before a collapse, from that after it. The collapse's record is listed an odd number of times
+// where `counts`.
 fn before_collapse<A: Allocator + Copy>(
     counts: bool,
     word: &Word<A>,

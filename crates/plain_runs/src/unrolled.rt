@@ -30,7 +30,7 @@ impl<'a, 'p, A: Allocator + Copy> Model for Unrolled<'a, 'p, A> {
 }
 
 impl<'a, 'p, A: Allocator + Copy> Unrolled<'a, 'p, A> {
-    /// The steps of a program, one after the other.
+    /// A program, with its steps put in a list.
     pub(crate) fn of(alloc: A, program: &'a Program<'p, A>) -> Result<Self, AllocError>
         ensures { IfOk result (λ u. u ≡ program.now) }
     {
@@ -96,7 +96,7 @@ impl<'a, 'p, A: Allocator + Copy> Unrolled<'a, 'p, A> {
         self.program.product(product)
     }
 
-    /// The records of a target: the detectors come first, then the observables.
+    /// The records of a target: detectors are numbered first, then observables.
     pub(crate) fn target(&self, target: usize) -> &[u32]
         requires { target < length (targets_of self.now) }
         ensures { result.now ≡ target_at self.now target }

@@ -107,7 +107,7 @@ pub(crate) fn lone_word<A: Allocator + Copy>(
     Ok(word)
 }
 
-/// The word that these letters at qubits make, of sign plus.
+/// The word that these letters at qubits multiply to, with sign plus in place of the power of i.
 pub(crate) fn word_of_terms<A: Allocator + Copy>(
     alloc: A,
     qubits: usize,
@@ -126,7 +126,7 @@ pub(crate) fn word_of_terms<A: Allocator + Copy>(
     Ok(word)
 }
 
-/// The product of a word of letters, with this sign, and a word that commutes with it.
+/// The product of the first word, with this sign in place of its own, and a word that commutes with it.
 pub(crate) fn product<A: Allocator + Copy>(
     first: &Word<A>,
     negative: bool,
@@ -166,7 +166,7 @@ pub(crate) fn cleared<A: Allocator + Copy>(
     Ok(copy)
 }
 
-/// Where `multiplies`, a word's letters times those of another, with any sign; else a copy.
+/// A copy of `word`, with its letters multiplied by those of `first` where `multiplies`. Its sign is to be ignored.
 pub(crate) fn multiplied<A: Allocator + Copy>(
     multiplies: bool,
     first: &Word<A>,
@@ -187,7 +187,7 @@ pub(crate) fn multiplied<A: Allocator + Copy>(
     Ok(copy)
 }
 
-/// The letter that turns the outcome 1 of this letter into 0, at its qubit.
+/// The letter, at the same qubit, by which a reset turns an outcome 1 of this letter into 0.
 fn correction_of(term: Term) -> Term
     ensures { result ≡ record { qubit = term.qubit; letter = correcting term.letter } }
 {
@@ -201,7 +201,7 @@ fn correction_of(term: Term) -> Term
     }
 }
 
-/// The word of the state before a reset's correction for which this one stands after it.
+/// The word that is in the state before a reset's correction exactly where this one is in it after the correction.
 pub(crate) fn uncorrected<A: Allocator + Copy>(
     alloc: A,
     qubits: usize,

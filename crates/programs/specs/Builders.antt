@@ -1,5 +1,5 @@
--- A circuit as it is written down from its start on: the steps so far of the circuit and of each block that is open in
--- it. A block that closes stands for its turns. (Stim's circuit format.)
+-- A circuit while it is written down from its start on: the steps so far of the circuit and of each block that is open
+-- in it. A block that closes stands for its turns, the repetitions of its body. (Stim's circuit format, REPEAT.)
 use Rattle.std.specs.Prelude.{◌≡◌, ◌<◌, ◌≤◌, ◌-◌, ℕ, suc, List, [], ◌∷◌, ◌++◌, length, take, drop}
 use Rattle.programs.specs.declared.builder.Outer.{Outer}
 use Rattle.programs.specs.declared.node.Node.{Node}
@@ -7,7 +7,7 @@ use Rattle.programs.specs.declared.node.Node.TheVariants.{Open}
 use Rattle.programs.specs.declared.step.TextStep.{TextStep}
 use Rattle.programs.specs.Trees.{Tree, repeated, unrolled, nodes_of, tree_of, depth, IsFull}
 
--- a block that is open: the steps before it of what it stands in, and its turns
+-- an open block: the steps before it in what it stands in, and its number of turns
 pub record OpenBlock : Type 0 where
   pub before : List TextStep
   pub turns : ℕ
@@ -17,6 +17,7 @@ pub record Building : Type 0 where
   pub outer : List OpenBlock
   pub here : List TextStep
 
+-- the circuit that these nodes and open blocks write so far
 abbrev pub building : List Node → List Outer → Building
 building nodes [] = record { outer = []; here = unrolled (tree_of nodes) }
 building nodes (o ∷ outer) =
@@ -26,31 +27,33 @@ building nodes (o ∷ outer) =
       here = inner.here;
     }
 
--- the innermost block closes, and its turns stand behind what was before it
+-- the innermost block closes: its turns follow what was before it
 pub record Closes (old new : Building) : Type 0 where
   pub last : OpenBlock
   pub outer : old.outer ≡ new.outer ++ last ∷ []
   pub here : new.here ≡ last.before ++ repeated last.turns old.here
 
--- an open block as its nodes stand there
+-- an open block: the tree before it in what it stands in, and its number of turns
 pub record Frame : Type 0 where
   pub before : Tree
   pub turns : ℕ
 
+-- the nodes of open blocks, the outermost first, and of the tree in the innermost
 abbrev pub flat : List Frame → Tree → List Node
 flat [] t = nodes_of t
 flat (f ∷ fs) t = nodes_of f.before ++ Open f.turns 0 ∷ flat fs t
 
+-- what the builder keeps of the open blocks
 abbrev pub outer_of : List Frame → List Outer
 outer_of [] = []
 outer_of (f ∷ fs) = record { length = length (nodes_of f.before); turns = f.turns } ∷ outer_of fs
 
--- each block has a turn and a step, with room for so many inside one another
+-- each closed block has at least one turn and one node, each open one at least one turn, and at most `room` are nested
 abbrev pub FramesFit : ℕ → List Frame → Tree → Type 0
 FramesFit room [] t = IsFull t × (depth t ≤ room)
 FramesFit room (f ∷ fs) t = (0 < f.turns) × IsFull f.before × (depth f.before ≤ room) × (0 < room) × FramesFit (room - 1) fs t
 
--- what a builder keeps
+-- what holds of a builder between two calls
 pub record Builds (nodes : List Node) (outer : List Outer) (count : ℕ) : Type 0 where
   pub frames : List Frame
   pub tree : Tree

@@ -1,5 +1,5 @@
--- The steps that pieces write, what is kept of their faults, and what a pass over the unrolled steps of parts finds of
--- them. Pieces stand in the order of a circuit's text, and a block stands for its turns. (Stim's circuit format.)
+-- The steps that pieces write, what is kept of their faults, and what a pass over the unrolled steps of parts checks.
+-- Pieces are in the order of a circuit's text, and a block stands for its turns. (Stim's circuit format.)
 use Rattle.std.specs.Prelude.{◌≡◌, ◌≢◌, ◌≤◌, ℕ, true, false, List, [], ◌∷◌, ◌++◌, All, length, reverse, take}
 use Rattle.std.specs.List.{list_all}
 use Rattle.std.specs.Option.{unwrap_or}
@@ -22,7 +22,7 @@ use Rattle.programs.specs.Numbering.{no_counts, counts_over, FeedBack}
 use Rattle.programs.specs.Steps.{IsAt}
 use Rattle.programs.specs.Trees.{repeated}
 
--- the steps that pieces write behind those that are here, where these blocks are open, the innermost first
+-- the steps that pieces write after those that are here, where these blocks are open, the innermost first
 abbrev pub written : List Piece → List OpenBlock → List TextStep → List TextStep
 written [] outer here = here
 written (Do s ∷ pieces) outer here = written pieces outer (here ++ s ∷ [])
@@ -30,7 +30,8 @@ written (Open n ∷ pieces) outer here = written pieces (record { before = here;
 written (Close ∷ pieces) [] here = here
 written (Close ∷ pieces) (b ∷ outer) here = written pieces outer (b.before ++ repeated b.turns here)
 
--- a builder behind a piece has what it had before it
+-- a builder takes a piece: whatever pieces follow, the old builder with this piece and these, and the new one with these
+-- alone, write the same steps
 abbrev pub Puts : Piece → Building → Building → Type 0
 Puts piece old new =
     (pieces : List Piece) → written (piece ∷ pieces) (reverse old.outer) old.here ≡ written pieces (reverse new.outer) new.here
@@ -40,25 +41,25 @@ abbrev pub kept_of : Entry → Kept
 kept_of entry =
     record { text = entry.text.now; bound = unwrap_or (probability_bound entry.text.now) 0; terms = entry.terms.now }
 
--- the program that parts make, its records and collapses being those of its steps
+-- the program that parts make, with the records and collapses of its steps counted
 abbrev pub counted_listing : {A : Type 0} → Parts A → Listing
 counted_listing parts =
     let made = counts_over no_counts (text_steps parts) in
     record (listing_of parts) { records = made.records; collapses = made.collapses }
 
--- these steps fit, and make so much
+-- these steps fit, and make this many records, collapses and faults
 pub record StepsFit {A : Type 0} (parts : Parts A) (steps : List TextStep) (made : Counts) : Type 0 where
   pub texts_fit : list_all (text_fits parts.qubits) steps ≡ true
   pub all_kept : list_all (is_kept parts.entries parts.products) steps ≡ true
   pub feedback : FeedBack no_counts steps
   pub counted : made ≡ counts_over no_counts steps
 
--- so do the first of the unrolled steps, up to a place
+-- the first of the unrolled steps, up to a place, fit and make this many
 pub record FitsUpTo {A : Type 0} (parts : Parts A) (place : Place) (count : ℕ) (made : Counts) : Type 0 where
   pub at_place : IsAt parts.nodes.items place count
   pub fit : StepsFit parts (take count (text_steps parts)) made
 
--- all of them do, a million at most
+-- all of them do, and they are at most a million
 pub record AllFit {A : Type 0} (parts : Parts A) (totals : Totals) : Type 0 where
   pub fit : StepsFit parts (text_steps parts) totals.counts
   pub counted : totals.steps ≡ length (text_steps parts)
@@ -69,6 +70,7 @@ pub record StandsApart (first : Term) (others : List Term) : Type 0 where
   pub letter : is_I first.letter ≡ false
   pub alone : All (λ term. term.qubit ≢ first.qubit) others
 
+-- so it is of the first letter of a list
 abbrev pub BeginsApart : List Term → Type 0
 BeginsApart [] = ⊥
 BeginsApart (first ∷ others) = StandsApart first others

@@ -1,4 +1,4 @@
--- What a program's nodes are to its steps.
+-- How a program's nodes stand for its steps.
 -- (Stim's circuit format, github.com/quantumlib/Stim, doc/file_format_stim_circuit.md; how it is kept is this project's own.)
 use Rattle.std.specs.Prelude.{◌≡◌, ◌<◌, ◌^◌, ℕ, List, length, slice_get, Some}
 use Rattle.step_model.specs.Listing.{Listing}
@@ -11,7 +11,7 @@ use Rattle.programs.specs.Named.{IsStepOf}
 use Rattle.programs.specs.Numbering.{no_counts, numbered, counts_over, FeedBack}
 use Rattle.programs.specs.Trees.{IsCircuit, tree_of, unrolled}
 
--- these nodes write the steps of a program, so many, that make so much
+-- these nodes write the steps of a program: `count` of them, which make the records, collapses and faults of `made`
 pub record Held (program : Listing) (nodes : List Node) (count : ℕ) (made : Counts) : Type 0 where
   pub circuit : IsCircuit nodes
   pub feedback : FeedBack no_counts (unrolled (tree_of nodes))
@@ -21,5 +21,6 @@ pub record Held (program : Listing) (nodes : List Node) (count : ℕ) (made : Co
   pub steps : program.steps ≡ listed_steps program.qubits program.products no_counts (unrolled (tree_of nodes))
   pub named : (k : ℕ) (s : Step) → slice_get (numbered no_counts (unrolled (tree_of nodes))) k ≡ Some s → IsStepOf program s
 
+-- so do the nodes of a text, with its counts
 abbrev pub HoldsText : Listing → Text → Type 0
 HoldsText program text = Held program text.nodes.now text.steps text.counts

@@ -1,4 +1,4 @@
--- What parts keep beside their circuit: nothing, or lists as they are given, each list of theirs as it stands there.
+-- What parts keep besides their circuit: nothing, or lists just as they are given.
 -- (Stim's circuit format: detectors, observables, coordinates, products and what faults apply.)
 use Rattle.std.specs.Prelude.{◌≡◌, [], map}
 use Rattle.programs.specs.declared.by_hand.Lists.{Lists}

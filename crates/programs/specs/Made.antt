@@ -1,6 +1,6 @@
--- The program that parts make, and what parts have to be: the tree of blocks is whole, each step of the text fits where
--- it stands, and what is kept of faults and of products is there. That records and faults are in order is so by the
--- numbering.
+-- The program that parts make, and what is required of parts: the tree of blocks is whole, each step of the text fits
+-- where it stands, and what is kept of faults and of products exists. Records and faults are in order by the way they are
+-- numbered.
 -- (Stim's circuit format, github.com/quantumlib/Stim, doc/file_format_stim_circuit.md; how it is kept is this project's own.)
 use Rattle.std.specs.Prelude.{◌≡◌, ◌<◌, ◌≤◌, ◌^◌, ℕ, true, List, length, All, Some}
 use Rattle.std.specs.List.{list_all}
@@ -14,10 +14,11 @@ use Rattle.programs.specs.Listed.{made_faults, listed_steps}
 use Rattle.programs.specs.Numbering.{no_counts, counts_over, FeedBack}
 use Rattle.programs.specs.Trees.{IsCircuit, tree_of, unrolled}
 
--- the unrolled text
+-- the steps of the unrolled text
 abbrev pub text_steps : {A : Type 0} → Parts A → List TextStep
 text_steps parts = unrolled (tree_of parts.nodes.items)
 
+-- the program that parts make
 abbrev pub listing_of : {A : Type 0} → Parts A → Listing
 listing_of parts =
     record {
@@ -33,11 +34,12 @@ listing_of parts =
       products = parts.products;
     }
 
--- the bound is the text's, and the qubits are there
+-- an entry's bound is that of its text, and its letters are at the program's qubits
 pub record EntryFits (qubits : ℕ) (entry : Kept) : Type 0 where
   pub bound : probability_bound entry.text ≡ Some entry.bound
   pub terms : TermsFit qubits entry.terms
 
+-- what is required of parts
 pub record PartsFit {A : Type 0} (parts : Parts A) : Type 0 where
   pub circuit : IsCircuit parts.nodes.items
   pub texts_fit : list_all (text_fits parts.qubits) (text_steps parts) ≡ true

@@ -1,4 +1,4 @@
--- What a place is beside: the node after it or the node before it, and the places to which it leads.
+-- What is next to a place, the node after it or the node before it, and the places to which that leads.
 -- (Stim's circuit format, github.com/quantumlib/Stim, doc/file_format_stim_circuit.md; how it is kept is this project's own.)
 use Rattle.std.specs.Prelude.{⊤, ◌≡◌, ◌<◌, ◌≤◌, ◌+◌, ◌-◌, ℕ, List, [], ◌∷◌, ◌++◌, length, Option, None, Some, slice_get}
 use Rattle.programs.specs.declared.node.Node.{Node}
@@ -27,10 +27,12 @@ pub record OutOfTurn (t : Tree) (i : ℕ) (turns : List ℕ) (k count size : ℕ
   pub again : turn + 1 < count → IsPlace t (i - size) (outer ++ (turn + 1) ∷ []) k
   pub out : turn + 1 ≡ count → IsPlace t (i + 1) outer k
 
+-- at the end of the circuit: no block is open, and all steps are before
 pub record AtEnd (t : Tree) (turns : List ℕ) (k : ℕ) : Type 0 where
   pub turns_is : turns ≡ []
   pub k_is : k ≡ length (unrolled t)
 
+-- from a place forward, by the node after it
 abbrev pub Forward : Tree → ℕ → List ℕ → ℕ → Option Node → Type 0
 Forward t i turns k None = AtEnd t turns k
 Forward t i turns k (Some (Do step)) = PastStep t i turns k step
@@ -59,7 +61,7 @@ pub record BackOutOfTurn (t : Tree) (i : ℕ) (turns : List ℕ) (k count size :
   pub again : 0 < turn → IsPlace t (i + 1 + size) (outer ++ (turn - 1) ∷ []) k
   pub out : turn ≡ 0 → IsPlace t i outer k
 
--- from the place after the node i
+-- from the place after node i back, by that node
 abbrev pub Backward : Tree → ℕ → List ℕ → ℕ → Option Node → Type 0
 Backward t i turns k None = ⊤
 Backward t i turns k (Some (Do step)) = BackOverStep t i turns k step

@@ -1,5 +1,5 @@
--- What the steps of a program name is there: qubits, a gate of its arity, a letter other than I, records, products,
--- and faults, each of the entry that it is named with.
+-- What the steps of a program name exists: qubits, a gate of its arity, a letter other than I, records, products, and
+-- faults, each with the entry that it is named with.
 -- (Stim's circuit format, github.com/quantumlib/Stim, doc/file_format_stim_circuit.md; how it is kept is this project's own.)
 use Rattle.std.specs.Prelude.{⊤, ◌≡◌, ◌≢◌, ◌<◌, ℕ, length, Option, None, Some}
 use Rattle.gate_table.specs.Images.{arity_of}
@@ -9,20 +9,23 @@ use Rattle.programs.specs.declared.step.FaultName.{FaultName}
 use Rattle.programs.specs.declared.step.Step.{Step}
 use Rattle.programs.specs.declared.step.Step.TheVariants.{One, Two, Collapse, CollapseWord, Fault, Feedback}
 
--- a fault is there, and so is what is kept of it
+-- a fault exists, and so does what is kept of it
 pub record IsNamed (program : Listing) (name : FaultName) : Type 0 where
   pub number : name.number < length program.faults
   pub entry : name.entry < length program.kept
   pub of_entry : (fault_at program name.number).entry ≡ name.entry
 
+-- so it is of the fault that flips a record, where there is one
 abbrev pub IsNamedFlip : Listing → Option FaultName → Type 0
 IsNamedFlip program None = ⊤
 IsNamedFlip program (Some name) = IsNamed program name
 
+-- a record, where there is one, is the program's
 abbrev pub IsRecord : Listing → Option ℕ → Type 0
 IsRecord program None = ⊤
 IsRecord program (Some r) = r < program.records
 
+-- all that a step names exists
 abbrev pub IsStepOf : Listing → Step → Type 0
 IsStepOf program (One gate q) = (arity_of gate ≡ 1) × (q < program.qubits)
 IsStepOf program (Two gate a b) = (arity_of gate ≡ 2) × (a < program.qubits) × (b < program.qubits) × (a ≢ b)

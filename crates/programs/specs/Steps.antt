@@ -1,4 +1,4 @@
--- What moves of a place do: some keep how many steps stand before it, others go over one.
+-- What moving a place does: some moves go over no step, others go over one.
 -- (Stim's circuit format, github.com/quantumlib/Stim, doc/file_format_stim_circuit.md; how it is kept is this project's own.)
 use Rattle.std.specs.Prelude.{⊤, ◌≡◌, ◌+◌, ℕ, zero, suc, List, length, Option, None, Some, slice_get}
 use Rattle.programs.specs.declared.node.Node.{Node}
@@ -8,52 +8,61 @@ use Rattle.programs.specs.declared.place.Place.{Place}
 use Rattle.programs.specs.Trees.{tree_of, unrolled}
 use Rattle.programs.specs.Places.{IsPlace}
 
--- k steps stand before the place
+-- k steps are before the place
 abbrev pub IsAt : List Node → Place → ℕ → Type 0
 IsAt nodes place k = IsPlace (tree_of nodes) place.index place.turns.items k
 
+-- a move over no step
 abbrev pub KeepsStep : List Node → Place → Place → Type 0
 KeepsStep nodes old new = (k : ℕ) → IsAt nodes old k → IsAt nodes new k
 
+-- a node, if there is one, isn't the start of a block
 abbrev pub IsNoOpen : Option Node → Type 0
 IsNoOpen None = ⊤
 IsNoOpen (Some (Do step)) = ⊤
 IsNoOpen (Some (Open turns size)) = ⊥
 IsNoOpen (Some (Close turns size)) = ⊤
 
+-- a node, if there is one, isn't the end of a block
 abbrev pub IsNoClose : Option Node → Type 0
 IsNoClose None = ⊤
 IsNoClose (Some (Do step)) = ⊤
 IsNoClose (Some (Open turns size)) = ⊤
 IsNoClose (Some (Close turns size)) = ⊥
 
+-- the node before a place
 abbrev pub node_before : List Node → ℕ → Option Node
 node_before nodes zero = None
 node_before nodes (suc i) = slice_get nodes i
 
--- the step after the place and one step more before it, or none at the end
+-- a move forward, over the step after k others
 pub record GoesOver (nodes : List Node) (old new : Place) (step : TextStep) (k : ℕ) : Type 0 where
   pub step_is : slice_get (unrolled (tree_of nodes)) k ≡ Some step
   pub place : IsAt nodes new (k + 1)
 
+-- no step follows, and none is gone over
 pub record StaysAtEnd (nodes : List Node) (old new : Place) (k : ℕ) : Type 0 where
   pub k_is : k ≡ length (unrolled (tree_of nodes))
   pub place : IsAt nodes new k
 
+-- the next step and a move over it, or none at the end
 abbrev pub NextStep : List Node → Place → Place → Option TextStep → Type 0
 NextStep nodes old new None = (k : ℕ) → IsAt nodes old k → StaysAtEnd nodes old new k
 NextStep nodes old new (Some step) = (k : ℕ) → IsAt nodes old k → GoesOver nodes old new step k
 
+-- a move back, over the last of k steps
 pub record GoesBackOver (nodes : List Node) (old new : Place) (step : TextStep) (k : ℕ) : Type 0 where
   pub m : ℕ
   pub k_is : k ≡ m + 1
   pub step_is : slice_get (unrolled (tree_of nodes)) m ≡ Some step
   pub place : IsAt nodes new m
 
+-- no step is before, and none is gone over
 pub record StaysAtStart (nodes : List Node) (old new : Place) (k : ℕ) : Type 0 where
   pub k_is : k ≡ 0
   pub place : IsAt nodes new k
 
+-- the step before and a move back over it, or none at the start
 abbrev pub PreviousStep : List Node → Place → Place → Option TextStep → Type 0
 PreviousStep nodes old new None = (k : ℕ) → IsAt nodes old k → StaysAtStart nodes old new k
 PreviousStep nodes old new (Some step) = (k : ℕ) → IsAt nodes old k → GoesBackOver nodes old new step k

@@ -1,4 +1,4 @@
--- What a walk keeps: its place is after so many steps, and its counts are theirs.
+-- What holds of a walk between two calls: its place is after k steps, and its counts are those of these steps.
 -- (Stim's circuit format, github.com/quantumlib/Stim, doc/file_format_stim_circuit.md; how it is kept is this project's own.)
 use Rattle.std.specs.Prelude.{◌≡◌, ◌<◌, ◌^◌, ℕ, List, length, take}
 use Rattle.programs.specs.declared.node.Node.{Node}
@@ -11,6 +11,7 @@ use Rattle.programs.specs.Trees.{IsCircuit, tree_of, unrolled}
 use Rattle.programs.specs.Steps.{IsAt}
 use Rattle.programs.specs.Numbering.{FeedBack, no_counts, counts_over}
 
+-- a walk over nodes
 pub record IsWalk (nodes : List Node) (at_place : Place) (counted : Counts) (k : ℕ) : Type 0 where
   pub circuit : IsCircuit nodes
   pub short : length (unrolled (tree_of nodes)) < 2 ^ 32

@@ -9,15 +9,15 @@ use arrayvec::ArrayVec;
 use std::alloc::{AllocError, Allocator};
 use std::marker::Model;
 
-/// What an open block stands behind: how many nodes of what it stands in; and its turns.
+/// An open block: how many nodes came before it in what it stands in, and its turns.
 #[derive(Clone, Copy, Debug, Default, PartialEq, Eq)]
 pub struct Outer {
     pub length: usize,
     pub turns: u64,
 }
 
-/// A circuit with its blocks as it is written down, from its start on. A block without steps leaves nothing, whatever
-/// its turns.
+/// A circuit with its blocks, built from its start on as it is written down. A block without steps leaves nothing,
+/// whatever its turns. A turn is one repetition of a block.
 #[derive(Drop)]
 pub struct CircuitBuilder<A: Allocator + Copy> {
     nodes: Vec<Node, A>,
@@ -37,7 +37,7 @@ impl<A: Allocator + Copy> Model for CircuitBuilder<A> {
 }
 
 impl<A: Allocator + Copy> CircuitBuilder<A> {
-    /// A circuit without steps. Takes no memory.
+    /// A circuit without steps. Allocates nothing.
     pub fn new(alloc: A) -> Self
         ensures { result ≡ record { outer = []; here = [] } }
     {
@@ -55,7 +55,7 @@ impl<A: Allocator + Copy> CircuitBuilder<A> {
         self.outer.len()
     }
 
-    /// Appends a step. It may fail only where memory runs out.
+    /// Appends a step. It fails only where memory runs out.
     pub fn push(&mut self, step: TextStep) -> Result<(), AllocError>
         ensures ok { OnOk result (self.new ≡ record self.old { here = self.old.here ++ step ∷ [] }) }
         ensures err { OnErr result (self.new ≡ self.old) }
@@ -65,7 +65,7 @@ impl<A: Allocator + Copy> CircuitBuilder<A> {
         Ok(())
     }
 
-    /// Opens a block of so many turns. It may fail only where memory runs out.
+    /// Opens a block with this number of turns. It fails only where memory runs out.
     pub fn open(&mut self, turns: u64) -> Result<(), AllocError>
         requires turns { 0 < turns }
         requires room { length self.old.outer < 32 }
@@ -81,7 +81,7 @@ impl<A: Allocator + Copy> CircuitBuilder<A> {
         Ok(())
     }
 
-    /// Closes the innermost block. It may fail only where memory runs out.
+    /// Closes the innermost block. It fails only where memory runs out.
     pub fn close(&mut self) -> Result<(), AllocError>
         requires { 0 < length self.old.outer }
         ensures ok { OnOk result (Closes self.old self.new) }

@@ -1,4 +1,4 @@
-//! Programs written by hand, as tests need them: all that a program asks for is tested here, over its unrolled steps.
+//! Programs written by hand, for tests: all that `Program::new` requires is checked here, over the unrolled steps.
 ghost use Rattle.std.specs.Prelude.{◌≡◌, [], map, true, IfOk, IfSome, OnOk, Some};
 ghost use Rattle.step_model.specs.Probabilities.{probability_bound};
 ghost use Rattle.programs.specs.ByHand.{written, kept_of, Puts};
@@ -20,7 +20,7 @@ use flat_lists::FlatLists;
 use std::alloc::{AllocError, Allocator};
 use step_model::Term;
 
-/// A piece of a circuit: a step, the start of a block of so many turns, or its end.
+/// A piece of a circuit: a step, the start of a block with its number of turns, or its end.
 #[derive(Clone, Copy, Debug, PartialEq, Eq)]
 pub enum Piece {
     Do(TextStep),
@@ -28,14 +28,14 @@ pub enum Piece {
     Close,
 }
 
-/// What is kept of a fault: a probability's text, one of 0, 1, 0.5 and 0.25, and its letters at qubits.
+/// What is kept of a fault: the text of its probability, one of 0, 1, 0.5 and 0.25, and its letters at qubits.
 #[derive(Clone, Copy, Drop)]
 pub struct Entry<'a> {
     pub text: &'a [u8],
     pub terms: &'a [Term],
 }
 
-/// What a program has beside its circuit.
+/// What a program has besides its steps.
 #[derive(Clone, Copy, Drop)]
 pub struct Lists<'a> {
     pub entries: &'a [Entry<'a>],
@@ -45,7 +45,8 @@ pub struct Lists<'a> {
     pub coordinates: &'a [&'a [i64]],
 }
 
-/// The program of these pieces and lists, where they make one that has a million steps at most.
+/// The program of these pieces and lists. None where they don't make one, or where it would have more than a million
+/// steps.
 pub fn program_of<'a, A: Allocator + Copy>(
     alloc: A,
     qubits: u32,
@@ -73,7 +74,7 @@ pub fn program_of<'a, A: Allocator + Copy>(
     Ok(checked(parts))
 }
 
-// Parts with nothing beside their circuit.
+// Parts with nothing but their circuit.
 fn bare<'a, A: Allocator + Copy>(alloc: A, qubits: u32, nodes: Vec<Node, A>) -> Parts<'a, A>
     ensures qubits { result.qubits ≡ qubits }
     ensures nodes { result.nodes ≡ nodes }
@@ -96,7 +97,7 @@ fn bare<'a, A: Allocator + Copy>(alloc: A, qubits: u32, nodes: Vec<Node, A>) -> 
     }
 }
 
-// Keeps these lists in parts without any, where the texts of the entries are of those that can be read here.
+// Keeps these lists in parts without any, where all texts of the entries are among those that are read here.
 fn keep<'a, A: Allocator + Copy>(
     parts: &mut Parts<'a, A>,
     lists: Lists<'a>,
@@ -133,7 +134,7 @@ fn nodes_of<A: Allocator + Copy>(
     Ok(Some(builder.finish()))
 }
 
-// Puts a piece behind those that are there, where it may stand.
+// Appends a piece, where it may stand.
 fn put<A: Allocator + Copy>(
     builder: &mut CircuitBuilder<A>,
     piece: Piece,
@@ -162,7 +163,7 @@ fn put<A: Allocator + Copy>(
     }
 }
 
-// Keeps these entries, where their texts are of those that can be read here.
+// Keeps these entries, where their texts are among those that are read here.
 fn keep_entries<'a, A: Allocator + Copy>(
     kept: &mut Entries<'a, A>,
     entries: &'a [Entry<'a>],
@@ -193,7 +194,7 @@ fn keep_lists<T: Copy, A: Allocator + Copy>(
     Ok(())
 }
 
-// Floor of a probability times 2^64.
+// The floor of a probability times 2^64.
 pub(crate) fn bound_of(text: &[u8]) -> Option<u128>
     ensures { IfSome result (λ bound. probability_bound text.now ≡ Some bound) }
 {

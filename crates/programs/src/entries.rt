@@ -1,4 +1,4 @@
-//! What is kept of faults.
+//! What is kept of faults: probabilities, and the letters that they apply.
 ghost use Rattle.std.specs.Prelude.{◌≡◌, ◌<◌, ◌++◌, ◌∷◌, [], true, length, IfOk, IfSome, OnErr, OnOk, slice_index_or};
 ghost use Rattle.step_model.specs.Listing.{none_kept};
 ghost use Rattle.programs.specs.Entries.{chance_at, chance_of, KeepsChances, TellsChances};
@@ -8,17 +8,17 @@ use std::alloc::{AllocError, Allocator};
 use std::marker::Model;
 use step_model::Term;
 
-// Among how many of the latest parts that of a new entry is looked for.
+// How many of the latest parts are searched for that of a new entry.
 const LATEST: usize = 8;
 
-/// The text of a probability, and floor of that probability times 2^64.
+/// The text of a probability, and the floor of that probability times 2^64.
 #[derive(Clone, Copy, Drop)]
 pub struct EntryPart<'a> {
     pub text: &'a [u8],
     pub bound: u128,
 }
 
-/// The texts and bounds of entries, each once or a few times, and the number of each entry's.
+/// For each entry the number of its part; and the parts, texts with their bounds. The same part may stand there twice.
 #[derive(Clone, Copy, Drop)]
 pub struct ChanceTable<'t, 'a> {
     pub numbers: &'t [u32],
@@ -26,7 +26,7 @@ pub struct ChanceTable<'t, 'a> {
 }
 
 /// What is kept of faults, once for each place of the text: a probability's text with its bound, and letters at qubits. A
-/// circuit has few texts of probabilities, so that an entry keeps the number of its text and bound.
+/// circuit has few different probabilities, so an entry keeps the number of its text and bound.
 #[derive(Drop)]
 pub struct Entries<'a, A: Allocator + Copy> {
     parts: Vec<EntryPart<'a>, A>,
@@ -47,7 +47,7 @@ impl<'a, A: Allocator + Copy> Model for Entries<'a, A> {
 }
 
 impl<'a, A: Allocator + Copy> Entries<'a, A> {
-    /// No entries. Takes no memory.
+    /// No entries. Allocates nothing.
     pub fn new(alloc: A) -> Self
         ensures { result ≡ [] }
     {
@@ -65,8 +65,8 @@ impl<'a, A: Allocator + Copy> Entries<'a, A> {
         self.numbers.len()
     }
 
-    /// Appends an entry. It may fail only where memory runs out, or all entries together would have more than `u32::MAX`
-    /// letters, or more than that many texts and bounds.
+    /// Appends an entry. It fails only where memory runs out, where all entries together would have more than `u32::MAX`
+    /// letters, or where there are more than `u32::MAX` texts with bounds already.
     pub fn push(&mut self, text: &'a [u8], bound: u128, terms: &[Term]) -> Result<(), AllocError>
         ensures ok { OnOk result (self.new ≡ self.old ++ record { text = text.now; bound = bound; terms = terms.now } ∷ []) }
         ensures err { OnErr result (self.new ≡ self.old) }
@@ -87,7 +87,7 @@ impl<'a, A: Allocator + Copy> Entries<'a, A> {
         self.part(e).text
     }
 
-    /// Floor of that probability times 2^64.
+    /// The floor of that probability times 2^64.
     pub fn bound(&self, e: usize) -> u128
         requires { e < length self.now }
         ensures { result ≡ (slice_index_or self.now e none_kept).bound }
@@ -103,7 +103,7 @@ impl<'a, A: Allocator + Copy> Entries<'a, A> {
         self.terms.get(e)
     }
 
-    /// The number of each entry's text and bound, and those which the numbers name.
+    /// The number of each entry's text and bound, and the texts and bounds that these numbers index.
     pub fn chances(&self) -> ChanceTable<'_, 'a>
         ensures { TellsChances self.now result }
     {
@@ -145,7 +145,7 @@ fn number_of<'a, A: Allocator + Copy>(
     Ok(count as u32)
 }
 
-// Where a part with this text and bound stands among the latest.
+// Where a part with this text and bound stands, if it is among the latest.
 fn latest(parts: &[EntryPart<'_>], text: &[u8], bound: u128) -> Option<usize>
     ensures within { IfSome result (λ n. n < length parts.now) }
     ensures named { IfSome result (λ n. chance_at parts.now n ≡ record { text = text.now; bound = bound }) }
@@ -161,7 +161,7 @@ fn latest(parts: &[EntryPart<'_>], text: &[u8], bound: u128) -> Option<usize>
     None
 }
 
-// Whether a part has this text and bound. Those that differ do so mostly in their bounds.
+// Whether a part has this text and bound. Bounds are compared first, as most parts that differ do so there.
 #[inline]
 fn is_same(part: EntryPart<'_>, text: &[u8], bound: u128) -> bool
     ensures { result ≡ true → chance_of part.entry ≡ record { text = text.now; bound = bound } }

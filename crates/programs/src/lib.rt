@@ -1,4 +1,4 @@
-//! Programs: circuits kept with their blocks and no list of steps, and a walk over their steps in place.
+//! Programs: circuits kept with their blocks, and a walk over their unrolled steps that makes no list of them.
 #![tactic(auto)]
 
 mod builder;

@@ -6,11 +6,11 @@ use crate::node::Node;
 use crate::step::TextStep;
 use arrayvec::ArrayVec;
 
-/// How deep blocks may stand inside one another.
+/// How deep blocks may be nested.
 pub const LEVELS: usize = 32;
 
-/// A place between two nodes: the number of the nodes before it, and the turn of each block that is open there, the
-/// outermost first, counted from 0.
+/// A place between two nodes: how many nodes are before it, and the turn of each block that is open there, the outermost
+/// first. A turn is one repetition of a block, counted from 0.
 #[derive(Drop)]
 pub struct Place {
     pub index: usize,
@@ -29,7 +29,7 @@ fn node_at(nodes: &[Node], index: usize) -> Option<Node>
     }
 }
 
-// The turn after one of so many.
+// The turn after this one, where it isn't the last.
 fn turn_after(turn: u64, turns: u64) -> Option<u64>
     requires { turn < turns }
     ensures more { IfSome result (λ next. (next ≡ turn + 1) × (next < turns)) }
@@ -42,7 +42,7 @@ fn turn_after(turn: u64, turns: u64) -> Option<u64>
     }
 }
 
-// Goes over the ends of turns.
+// Goes forward over the ends of turns, to a place that isn't before one.
 fn leave_turns(nodes: &[Node], place: &mut Place)
     requires circuit { IsCircuit nodes.now }
     requires place { (k : ℕ) × IsAt nodes.now place.old k }
@@ -62,7 +62,7 @@ fn leave_turns(nodes: &[Node], place: &mut Place)
     }
 }
 
-// Goes into the first turns of blocks.
+// Goes forward into the first turns of the blocks that start here.
 fn enter_turns(nodes: &[Node], place: &mut Place)
     requires circuit { IsCircuit nodes.now }
     requires place { (k : ℕ) × IsAt nodes.now place.old k }
@@ -77,7 +77,7 @@ fn enter_turns(nodes: &[Node], place: &mut Place)
     }
 }
 
-// Goes on to where a step follows, or to the end. Most often a step follows, and nothing else is asked for.
+// Goes forward to a place before a step, or to the end. Most places are before a step, and nothing is to be done there.
 #[inline(always)]
 fn go_to_step(nodes: &[Node], place: &mut Place)
     requires circuit { IsCircuit nodes.now }
@@ -92,7 +92,7 @@ fn go_to_step(nodes: &[Node], place: &mut Place)
     go_past_turns(nodes, place);
 }
 
-// Goes over the ends and starts of turns, which stand at few places.
+// Goes forward over the ends and starts of turns, which few places are at.
 #[inline(never)]
 fn go_past_turns(nodes: &[Node], place: &mut Place)
     requires circuit { IsCircuit nodes.now }
@@ -105,7 +105,7 @@ fn go_past_turns(nodes: &[Node], place: &mut Place)
     enter_turns(nodes, place);
 }
 
-// The step after a place, and goes over it.
+// Answers the step after a place, and goes over it.
 #[inline(always)]
 pub fn next(nodes: &[Node], place: &mut Place) -> Option<TextStep>
     requires circuit { IsCircuit nodes.now }
@@ -122,7 +122,7 @@ pub fn next(nodes: &[Node], place: &mut Place) -> Option<TextStep>
     }
 }
 
-// Goes back over the starts of turns.
+// Goes back over the starts of turns, to a place that isn't after one.
 fn leave_turns_back(nodes: &[Node], place: &mut Place)
     requires circuit { IsCircuit nodes.now }
     requires place { (k : ℕ) × IsAt nodes.now place.old k }
@@ -140,7 +140,7 @@ fn leave_turns_back(nodes: &[Node], place: &mut Place)
     }
 }
 
-// Goes back into the last turns of blocks.
+// Goes back into the last turns of the blocks that end here.
 fn enter_turns_back(nodes: &[Node], place: &mut Place)
     requires circuit { IsCircuit nodes.now }
     requires place { (k : ℕ) × IsAt nodes.now place.old k }
@@ -155,7 +155,7 @@ fn enter_turns_back(nodes: &[Node], place: &mut Place)
     }
 }
 
-// Goes back to where a step stands before, or to the start. Most often one stands there, and nothing else is asked for.
+// Goes back to a place after a step, or to the start. Most places are after a step, and nothing is to be done there.
 #[inline(always)]
 fn go_back_to_step(nodes: &[Node], place: &mut Place)
     requires circuit { IsCircuit nodes.now }
@@ -170,7 +170,7 @@ fn go_back_to_step(nodes: &[Node], place: &mut Place)
     go_back_past_turns(nodes, place);
 }
 
-// Goes back over the starts and ends of turns, which stand at few places.
+// Goes back over the starts and ends of turns, which few places are at.
 #[inline(never)]
 fn go_back_past_turns(nodes: &[Node], place: &mut Place)
     requires circuit { IsCircuit nodes.now }
@@ -183,7 +183,7 @@ fn go_back_past_turns(nodes: &[Node], place: &mut Place)
     enter_turns_back(nodes, place);
 }
 
-// The step before a place, and goes back over it.
+// Answers the step before a place, and goes back over it.
 #[inline(always)]
 pub fn previous(nodes: &[Node], place: &mut Place) -> Option<TextStep>
     requires circuit { IsCircuit nodes.now }

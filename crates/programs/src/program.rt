@@ -15,8 +15,9 @@ use std::alloc::Allocator;
 use std::marker::Model;
 use step_model::Term;
 
-/// What a program is made of: its circuit with its blocks, how many steps that has once unrolled and what these make,
-/// and what is kept of its faults and of the products that it measures.
+/// What a program is made of: its circuit with its blocks, how many steps that has once unrolled, how many records,
+/// collapses and faults these make, its detectors and observables, and what is kept of its faults and of the Pauli
+/// products that it measures.
 #[derive(Drop)]
 pub struct Parts<'a, A: Allocator + Copy> {
     pub qubits: u32,
@@ -30,7 +31,7 @@ pub struct Parts<'a, A: Allocator + Copy> {
     pub products: FlatLists<Term, A>,
 }
 
-/// A circuit with its blocks, how many steps it has once unrolled, and what they make.
+/// A circuit with its blocks, how many steps it has once unrolled, and how many records, collapses and faults they make.
 #[derive(Clone, Copy, Drop)]
 pub struct Text<'a> {
     pub nodes: &'a [Node],
@@ -38,7 +39,8 @@ pub struct Text<'a> {
     pub counts: Counts,
 }
 
-/// A circuit with its blocks, seen as its unrolled steps.
+/// A circuit that is kept with its blocks. Contracts see it as the list of its unrolled steps. A collapse is the
+/// projective measurement inside a measurement or a reset.
 #[derive(Drop)]
 pub struct Program<'a, A: Allocator + Copy> {
     parts: Parts<'a, A>,
@@ -120,7 +122,7 @@ impl<'a, A: Allocator + Copy> Program<'a, A> {
         self.parts.observables.len()
     }
 
-    /// The records of a detector, each as often as it is listed.
+    /// The records of a detector. One that the circuit lists twice stands here twice.
     pub fn detector(&self, d: usize) -> &[u32]
         requires { d < length self.now.detectors }
         ensures { result.now ≡ slice_index_or self.now.detectors d [] }
@@ -128,7 +130,7 @@ impl<'a, A: Allocator + Copy> Program<'a, A> {
         self.parts.detectors.get(d)
     }
 
-    /// The records of an observable, each as often as it is listed.
+    /// The records of an observable. One that the circuit lists twice stands here twice.
     pub fn observable(&self, k: usize) -> &[u32]
         requires { k < length self.now.observables }
         ensures { result.now ≡ slice_index_or self.now.observables k [] }
@@ -144,7 +146,7 @@ impl<'a, A: Allocator + Copy> Program<'a, A> {
         self.detector_count() + self.observable_count()
     }
 
-    /// The records of a target, each as often as it is listed: the detectors come first, and then the observables.
+    /// The records of a target, which is a detector or an observable: detectors are numbered first, then observables.
     pub fn target(&self, number: usize) -> &[u32]
         requires { number < length self.now.detectors + length self.now.observables }
         ensures value { result.now ≡ target_at self.now number }
@@ -167,7 +169,7 @@ impl<'a, A: Allocator + Copy> Program<'a, A> {
         self.parts.coordinates.get(d)
     }
 
-    /// The text of the probability that is kept at a number.
+    /// The text of the probability of an entry, byte for byte as the circuit has it.
     pub fn entry_text(&self, e: u32) -> &'a [u8]
         requires { e < length self.now.kept }
         ensures { result.now ≡ (kept_at self.now e).text }
@@ -175,7 +177,7 @@ impl<'a, A: Allocator + Copy> Program<'a, A> {
         self.parts.entries.text(e as usize)
     }
 
-    /// Floor of that probability times 2^64.
+    /// The floor of that probability times 2^64.
     pub fn entry_bound(&self, e: u32) -> u128
         requires { e < length self.now.kept }
         ensures { result ≡ (kept_at self.now e).bound }
@@ -191,15 +193,15 @@ impl<'a, A: Allocator + Copy> Program<'a, A> {
         self.parts.entries.terms(e as usize)
     }
 
-    /// The number of each entry's text and bound, and those which the numbers name: so a caller can keep something for each
-    /// of these in place of each entry.
+    /// The number of each entry's text and bound, and the texts and bounds that these numbers index: a caller that keeps
+    /// something for each probability needs it once for each of these, and not for each entry.
     pub fn chances(&self) -> ChanceTable<'_, 'a>
         ensures { TellsChances self.now.kept result }
     {
         self.parts.entries.chances()
     }
 
-    /// A product of letters at qubits that collapses measure.
+    /// A Pauli product that collapses measure, as its letters at qubits.
     pub fn product(&self, p: u32) -> &[Term]
         requires { p < length self.now.products }
         ensures { result.now ≡ slice_index_or self.now.products p [] }

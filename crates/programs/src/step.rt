@@ -7,15 +7,16 @@ ghost use Rattle.step_model.specs.declared.step.Term.{Term};
 use gate_table::Gate;
 use pauli_word::Letter;
 
-/// What a collapse records: whether its outcome is inverted, and the kept fault that flips it.
+/// How a collapse, the projective measurement inside a measurement or a reset, is recorded: whether its outcome is
+/// inverted, and the entry of the fault that flips the record.
 #[derive(Clone, Copy, Debug, PartialEq, Eq)]
 pub struct Recording {
     pub inverted: bool,
     pub flip: Option<u32>,
 }
 
-/// A step as a circuit's text has it, at each turn of its blocks the same: faults and products are named by what is
-/// kept of them, and a record by how many records back it is, the last being 1.
+/// A step as the circuit's text has it, the same in each repetition of a block: faults and products are named by the
+/// number of what is kept of them, and a record by how many records back it is, 1 for the last.
 #[derive(Clone, Copy, Debug, PartialEq, Eq)]
 pub enum TextStep {
     One {
@@ -27,14 +28,14 @@ pub enum TextStep {
         a: u32,
         b: u32,
     },
-    /// Measures a letter at a qubit, and resets the qubit or leaves it.
+    /// Measures a letter at a qubit, and then resets the qubit where `reset`.
     Collapse {
         letter: Letter,
         qubit: u32,
         reset: bool,
         recording: Option<Recording>,
     },
-    /// Measures a kept product of letters at qubits.
+    /// Measures a Pauli product that is kept.
     CollapseWord {
         product: u32,
         recording: Option<Recording>,
@@ -67,7 +68,7 @@ pub enum Step {
         a: u32,
         b: u32,
     },
-    /// Measures a letter at a qubit, and resets the qubit or leaves it; `rec` is none where nothing is recorded.
+    /// Measures a letter at a qubit, and then resets the qubit where `reset`; `rec` is none where nothing is recorded.
     Collapse {
         letter: Letter,
         qubit: u32,
@@ -76,7 +77,7 @@ pub enum Step {
         inverted: bool,
         flip: Option<FaultName>,
     },
-    /// Measures the kept product of this number.
+    /// Measures the Pauli product that is kept under this number.
     CollapseWord {
         product: u32,
         rec: Option<u32>,
@@ -93,7 +94,7 @@ pub enum Step {
 }
 
 impl Step {
-    /// Whether it measures a letter or a product, and so takes a coin.
+    /// Whether it measures a letter or a product: then it takes a coin, which is the outcome where that is random.
     #[inline(always)]
     pub fn is_collapse(self) -> bool
         ensures { (n : ℕ) (products : List (List Term)) → result ≡ is_collapse (listed n products self) }
@@ -102,7 +103,7 @@ impl Step {
     }
 }
 
-/// How many records, collapses and faults stand before a place.
+/// How many records, collapses and faults come before a place.
 #[derive(Clone, Copy, Debug, PartialEq, Eq)]
 pub struct Counts {
     pub records: u32,
@@ -131,7 +132,7 @@ fn is_inverted(recording: Option<Recording>) -> bool
     }
 }
 
-// The next fault, of an entry.
+// The next fault's number, with its entry.
 #[inline(always)]
 fn fault_name(counts: Counts, entry: u32) -> FaultName
     ensures { result ≡ named counts.faults entry }
@@ -158,7 +159,7 @@ fn flip_name(counts: Counts, recording: Option<Recording>) -> Option<FaultName>
     }
 }
 
-/// A step of the text with the numbers that it has at a place.
+/// A step of the text with the numbers that it has after these counts.
 #[inline(always)]
 pub fn number(counts: Counts, step: TextStep) -> Step
     requires { feeds_back counts step }
@@ -219,7 +220,7 @@ fn made_in_collapse(recording: Option<Recording>) -> Counts
     }
 }
 
-// How many a step makes.
+// How many records, collapses and faults a step makes.
 #[inline(always)]
 fn made(step: TextStep) -> Counts
     ensures { result ≡ made_by step }
@@ -240,7 +241,7 @@ fn made(step: TextStep) -> Counts
     }
 }
 
-/// The counts behind a step.
+/// The counts after a step, from those before it.
 #[inline(always)]
 pub fn after(counts: Counts, step: TextStep) -> Counts
     requires records { counts.records + 1 < 2 ^ 32 }
@@ -256,7 +257,7 @@ pub fn after(counts: Counts, step: TextStep) -> Counts
     }
 }
 
-/// The counts before a step.
+/// The counts before a step, from those after it.
 #[inline(always)]
 pub fn before(counts: Counts, step: TextStep) -> Counts
     requires records { (made_by step).records ≤ counts.records }

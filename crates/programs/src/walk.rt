@@ -9,7 +9,7 @@ use arrayvec::ArrayVec;
 use std::alloc::Allocator;
 use std::marker::Model;
 
-/// A walk over the steps of a program, block by block, in place.
+/// A walk over the unrolled steps of a program, forward and back, over its blocks as they are kept.
 #[derive(Drop)]
 pub struct Walk<'a, 'p, A: Allocator + Copy> {
     program: &'a Program<'p, A>,
@@ -53,7 +53,7 @@ impl<'a, 'p, A: Allocator + Copy> Walk<'a, 'p, A> {
         }
     }
 
-    /// Behind the last step.
+    /// After the last step.
     pub fn end(program: &'a Program<'p, A>) -> Self
         ensures program { result.program ≡ program.now }
         ensures place { result.place ≡ length program.now.steps }
@@ -71,7 +71,7 @@ impl<'a, 'p, A: Allocator + Copy> Walk<'a, 'p, A> {
         }
     }
 
-    /// The step after this place, over which it goes; none at the end, where nothing changes.
+    /// Answers the step after this place and goes over it. None at the end, where nothing changes.
     #[inline(always)]
     pub fn next_step(&mut self) -> Option<Step>
         ensures step { option_map (listed self.old.program.qubits self.old.program.products) result ≡ slice_get self.old.program.steps self.old.place }
@@ -89,7 +89,7 @@ impl<'a, 'p, A: Allocator + Copy> Walk<'a, 'p, A> {
         Some(numbered)
     }
 
-    /// The step before this place, over which it goes back; none at the start, where nothing changes.
+    /// Answers the step before this place and goes back over it. None at the start, where nothing changes.
     #[inline(always)]
     pub fn previous_step(&mut self) -> Option<Step>
         ensures step { option_map (listed self.old.program.qubits self.old.program.products) result ≡ (if self.old.place == 0 then None else slice_get self.old.program.steps (self.old.place - 1)) }

@@ -1,8 +1,8 @@
 -- Targets that have no place. Along every run the sensitivity of such a target, as a word with a sign, is in the state
--- after each step. The sign is what the records so far, by the sensitivity's record list, and the steps so far bring:
--- their gates, their products with collapsed words, their inversions and the faults that happen. In the end the word is
--- the identity, whose sign is plus, so the parity is what the steps bring, whatever the coins. (Gottesman,
--- arXiv:quant-ph/9807006: words carried through a circuit.)
+-- after each step. Its sign is the exclusive or of the records so far that the sensitivity lists and of what the steps
+-- so far bring: their gates, their products with collapsed words, their inversions and the faults that happen. In the
+-- end the word is the identity, whose sign is plus, so the parity is what the steps bring, whatever the coins.
+-- (Gottesman, arXiv:quant-ph/9807006: words carried through a circuit.)
 use Rattle.std.specs.Prelude.{◌≡◌, ℕ, Bool, true, false, ◌&&◌, List, [], ◌∷◌, ◌++◌, None}
 use Rattle.pauli_word.specs.Letters.{is_minus}
 use Rattle.pauli_word.specs.Parity.{exclusive_or}
@@ -20,8 +20,8 @@ IsConstant program d =
     (faults first second : List Bool)
     → parity (target_at program d) (records_of program faults first) ≡ parity (target_at program d) (records_of program faults second)
 
--- what a step brings to the sign of a sensitivity, where s is the sensitivity after it: feedback brings nothing but the
--- record that it adds to the sensitivity
+-- what a step brings to the sign of a sensitivity, where s is the sensitivity after it. Feedback brings nothing: the
+-- record that it adds to the sensitivity stands for it
 abbrev pub sign_brought : Listing → List Bool → ListedStep → Sensitivity → Bool
 sign_brought program faults (One gate q) s = (preimage_at gate q (signed s.word false)).negative
 sign_brought program faults (Two gate a b) s = (preimage_at_two gate a b (signed s.word false)).negative
@@ -31,7 +31,7 @@ sign_brought program faults (Collapse c r) s =
 sign_brought program faults (Fault f) s = happens faults f && anticommute s.word (fault_word program f)
 sign_brought program faults (Feedback w r) s = false
 
--- what the first of two parts of the steps brings, where the records are those of a target
+-- what the earlier of two parts of the steps brings, for the target with these records
 abbrev pub signs_brought : Listing → List Bool → List ℕ → List ListedStep → List ListedStep → Bool
 signs_brought program faults named [] later = false
 signs_brought program faults named (step ∷ earlier) later =
@@ -39,7 +39,8 @@ signs_brought program faults named (step ∷ earlier) later =
     (sign_brought program faults step (sensitivity program.qubits named (earlier ++ later)))
     (signs_brought program faults named earlier later)
 
--- the state of a run between two parts of the steps has the sensitivity of these records there, with its sign
+-- between two parts of the steps, the sensitivity there of the target with these records is in the run's state, with its
+-- sign
 abbrev pub HasSensitivity : Listing → List Bool → List Bool → List ℕ → List ListedStep → List ListedStep → Type 0
 HasSensitivity program faults coins named earlier later =
     let s : Sensitivity = sensitivity program.qubits named later in
@@ -47,6 +48,7 @@ HasSensitivity program faults coins named earlier later =
     m.state (signed s.word (exclusive_or (parity s.records m.records) (signs_brought program faults named earlier later)))
     ≡ true
 
+-- that is so along every run, of every target without a place
 abbrev pub SensitivityStays : Type 0
 SensitivityStays =
     (program : Listing) (d : ℕ) (faults coins : List Bool) (earlier later : List ListedStep)

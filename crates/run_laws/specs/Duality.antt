@@ -1,5 +1,5 @@
--- What faults change in a target that has no place, whatever the coins: a set of faults changes it where an odd number
--- of them hit it, and so one fault more or less changes it exactly where that fault hits it. (Gottesman,
+-- What faults change in a target that has no place, whatever the coins: a set of faults changes it exactly where an odd
+-- number of them hit it, so one fault more or less changes it exactly where that fault hits it. (Gottesman,
 -- arXiv:quant-ph/9807006: words carried through a circuit.)
 use Rattle.std.specs.Prelude.{◌≡◌, ◌<◌, ◌==◌, ℕ, Bool, List, [], length, None}
 use Rattle.pauli_word.specs.Parity.{exclusive_or}
@@ -17,7 +17,7 @@ AddsUp program d =
     → exclusive_or (parity (target_at program d) (records_of program faults first)) (parity (target_at program d) (records_of program [] second))
     ≡ has_odd_hits program d faults
 
--- two sets of faults are the same, but for one fault that happens in one of them alone
+-- two sets of faults are the same but for one fault, which happens in one of them alone
 abbrev pub DifferInFault : ℕ → List Bool → List Bool → Type 0
 DifferInFault f faults others = (g : ℕ) → happens others g ≡ exclusive_or (g == f) (happens faults g)
 

@@ -1,7 +1,7 @@
--- Frames that a state gives by itself. A word that is in a run's state, with either sign, is a frame by which the state
--- differs from itself. So from there on the run with the coins changed by that frame's flips has each outcome changed
--- exactly by its flip; and any frame by which two runs differ may be multiplied by such a word of the first. (Knill,
--- Quantum computing with realistically noisy devices, Nature 434, 39 (2005): Pauli frames.)
+-- Frames that are words of the state. A word that is in a run's state, with either sign, is a frame by which the state
+-- differs from itself. So if the coins from there on are changed by that frame's flips, each outcome is changed exactly
+-- by its flip. And any frame by which two runs differ may be multiplied by such a word of the first. (Knill, Quantum
+-- computing with realistically noisy devices, Nature 434, 39 (2005): Pauli frames.)
 use Rattle.std.specs.Prelude.{◌≡◌, ◌<◌, ℕ, Bool, true, false, List, [], ◌++◌, length, replicate, slice_index_or}
 use Rattle.pauli_word.specs.declared.letter.Letter.{Letter}
 use Rattle.pauli_word.specs.Words.{letters_product, signed}
@@ -23,7 +23,7 @@ abbrev pub FlipsOutcomes : Listing → List Bool → List Bool → List Bool →
 FlipsOutcomes program faults coins flips =
     outcomes_of program faults (flipped_by flips coins) ≡ flipped_by flips (outcomes_of program faults coins)
 
--- a word is in the state of a run after these steps, which are the first, with this sign
+-- a word is, with this sign, in the state of a run after these steps, which are the program's first
 abbrev pub IsInRun : Listing → List Bool → List Bool → List ListedStep → List Letter → Bool → Type 0
 IsInRun program faults coins earlier v negative = (run_from program faults earlier (start coins)).state (signed v negative) ≡ true
 
@@ -32,7 +32,7 @@ abbrev pub flips_between : ℕ → List Letter → List ListedStep → List List
 flips_between n v earlier later =
     replicate (collapse_count earlier) false ++ flips_from n (begun v (length (records_made earlier))) later
 
--- so it is with a word of the state between any two parts of the steps
+-- the law for a word of the state between any two parts of the steps
 abbrev pub WordShift : Type 0
 WordShift =
     (program : Listing) (faults coins : List Bool) (v : List Letter) (negative : Bool) (earlier later : List ListedStep)
@@ -50,7 +50,7 @@ abbrev pub IsThere : Listing → Place → Type 0
 IsThere program (Start q) = q < program.qubits
 IsThere program (After k) = k < program.collapses
 
--- and with a word of the state at a place
+-- the law for a word of the state at a place
 abbrev pub PlaceShift : Type 0
 PlaceShift =
     (program : Listing) (faults coins : List Bool) (place : Place) (v : List Letter) (negative : Bool) (earlier : List ListedStep)

@@ -1,8 +1,9 @@
 -- Two runs that differ by a frame. Between two steps they differ by the frame v where a word is in the second state
--- exactly where the word, its sign changed if it anticommutes with v, is in the first. Let the coins of the second run be those
--- of the first, changed where a collapse has a flip. Then the runs differ by the frame carried forward: each outcome is
--- changed exactly by its flip. The runs may have different faults: a word applied in one run and not in the other
--- multiplies the frame, and a record that is flipped in one run and not in the other is changed besides.
+-- exactly where the word, its sign changed if it anticommutes with v, is in the first. Let the coins of the second run be
+-- those of the first, changed where a collapse has a flip. Then the runs differ by the frame carried forward, and each
+-- outcome is changed exactly by its flip. The runs may have different faults: a word applied in one run and not in the
+-- other multiplies the frame, and a record that is flipped in one run and not in the other is changed by that too. (A
+-- collapse is the projective measurement inside a measurement or a reset; its coin is the outcome where that is random.)
 -- (Knill, Quantum computing with realistically noisy devices, Nature 434, 39 (2005): Pauli frames.)
 use Rattle.std.specs.Prelude.{◌≡◌, ℕ, Bool, if◌then◌else◌, List, [], ◌∷◌, ◌++◌, length, drop, Option, None, Some}
 use Rattle.std.specs.List.{AllPass}
@@ -16,7 +17,7 @@ use Rattle.step_model.specs.Runs.{RunState, next_coin, happens, flip_happens, ne
 use Rattle.step_model.specs.Sensitivities.{cleared, multiplied, is_collapse, collapse_word}
 use Rattle.step_model.specs.WellFormed.{step_fits}
 
--- truth values, changed where there is a flip: those past the flips stay, and one that isn't there is 0
+-- truth values, each changed where its flip is 1: those past the flips stay, and those missing count as 0
 abbrev pub flipped_by : List Bool → List Bool → List Bool
 flipped_by [] values = values
 flipped_by (flip ∷ flips) values = exclusive_or flip (next_coin values) ∷ flipped_by flips (drop 1 values)
@@ -28,7 +29,7 @@ outcomes_from program faults (step ∷ steps) m =
     (if is_collapse step then outcome m.state (collapse_word program.qubits step) (next_coin m.coins) ∷ [] else [])
     ++ outcomes_from program faults steps (next program faults step m)
 
--- whether a frame makes the records of a collapse of w differ, as a list of one where it makes a record
+-- whether the records of a collapse of w differ, as a list of one where it makes a record
 abbrev pub record_flip_with : List Bool → List Bool → Option Recorded → List Letter → List Letter → List Bool
 record_flip_with first second None w v = []
 record_flip_with first second (Some r) w v =
@@ -75,7 +76,8 @@ pub record DifferByFrame (n : ℕ) (v : Frame) (flips : List Bool) (m m' : RunSt
   pub records_size : length v.records ≡ length m.records
   pub records : m'.records ≡ flipped_by v.records m.records
 
--- what follows over steps that fit
+-- how the runs end after these steps: each outcome changed by its flip, and the runs different by the frame carried over
+-- the steps
 pub record IsShift (program : Listing) (first second : List Bool) (steps : List ListedStep) (v : Frame) (m m' : RunState) : Type 0 where
   pub outcomes :
       outcomes_from program second steps m' ≡ flipped_by (flips_with program first second v steps) (outcomes_from program first steps m)
@@ -83,6 +85,7 @@ pub record IsShift (program : Listing) (first second : List Bool) (steps : List 
       DifferByFrame program.qubits (carried_over program first second steps v) []
       (run_from program first steps m) (run_from program second steps m')
 
+-- so do any two runs that differ by a frame, over steps that fit the program
 abbrev pub ShiftLaw : Type 0
 ShiftLaw =
     (program : Listing) (first second : List Bool) (steps : List ListedStep) (v : Frame) (m m' : RunState)
@@ -95,5 +98,6 @@ pub record SameFaults (program : Listing) (faults : List Bool) (v : Frame) : Typ
   pub carried : (step : ListedStep) → carried_with program faults faults step v ≡ carried program.qubits step v
   pub flips : (steps : List ListedStep) → flips_with program faults faults v steps ≡ flips_from program.qubits v steps
 
+-- so it is for all faults and frames
 abbrev pub SameFaultsLaw : Type 0
 SameFaultsLaw = (program : Listing) (faults : List Bool) (v : Frame) → SameFaults program faults v

@@ -1,5 +1,5 @@
--- At most one error model fits a program and is exact: the sets of one fault each give the targets of every fault, and
--- fitting gives the order of the lines and their texts. (Stim's detector error model format.)
+-- At most one error model fits a program and is exact: that it is exact for the sets of one fault gives the targets of
+-- each fault, and that it fits gives the order of the lines and their texts. (Stim's detector error model format.)
 use Rattle.std.specs.Prelude.{◌≡◌, ℕ, List}
 use Rattle.step_model.specs.ErrorModels.{ErrorModel, Fits, IsExact}
 use Rattle.step_model.specs.Listing.{Listing}
@@ -9,6 +9,7 @@ pub record AreSame (first second : List ℕ) (model other : ErrorModel) : Type 0
   pub numbers : first ≡ second
   pub models : model ≡ other
 
+-- any two models that fit a program and are exact are the same
 abbrev pub OneModelLaw : Type 0
 OneModelLaw =
     (program : Listing) (numbers numbers' : List ℕ) (model model' : ErrorModel)

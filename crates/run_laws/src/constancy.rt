@@ -1,5 +1,6 @@
-//! What holds of every target without a place, in every well-formed program. Each function does nothing: its contract
-//! is the law, proved.
+//! What holds of every target (detector or observable) without a place, in every well-formed program. Each function
+//! does nothing: its contract is the law, proved. A collapse is the projective measurement inside a measurement or a
+//! reset; its coin is the outcome where that is random.
 ghost use Rattle.std.specs.Prelude.{◌≡◌, ◌<◌, ℕ, None, length};
 ghost use Rattle.step_model.specs.ErrorModels.{Fits, IsExact};
 ghost use Rattle.step_model.specs.HitModels.{hitting_faults, model_of};
@@ -12,15 +13,16 @@ ghost use Rattle.step_model.specs.Targets.{targets_of};
 ghost use Rattle.step_model.specs.WellFormed.{IsWellFormed};
 
 /// Along every run, whatever faults happen and whatever the coins are, the sensitivity of a target without a place is in
-/// the state after each step. Its sign is the exclusive or of the records so far that the sensitivity lists there and
-/// of what the steps so far bring: the signs of their gates' preimages and of their products with collapsed words, the
+/// the state after each step. Its sign is the exclusive or of the records so far that the sensitivity lists there and of
+/// what the steps so far bring: the signs of their gates' preimages and of the products with collapsed words, the
 /// inversions of listed records, and the faults that happen.
 pub fn sensitivities_stay()
     ensures { SensitivityStays }
 {}
 
-/// A target for which going back from the end finds no collapse, and no letter X or Y at the start, that its
-/// sensitivity anticommutes with has the same parity in any two runs with the same faults, whatever the coins.
+/// A target without a place has the same parity in any two runs with the same faults, whatever the coins. A target has
+/// no place where its sensitivity just after each collapse commutes with the collapse's word, and has no X or Y at the
+/// start.
 pub fn parity_is_constant()
     ensures { (program : Listing) (d : ℕ) → IsWellFormed program → place_of program d ≡ None → IsConstant program d }
 {}
@@ -33,7 +35,7 @@ pub fn faults_add_up()
 {}
 
 /// So one fault more or less changes such a target exactly where that fault hits it: two runs, under any coins, whose
-/// sets of faults are the same but for one fault differ in the target where the fault's word anticommutes with the
+/// sets of faults differ in one fault alone differ in the target exactly where the fault's word anticommutes with the
 /// sensitivity after it, or where it flips a record that the sensitivity there lists an odd number of times.
 pub fn one_fault_flips_what_it_hits()
     ensures { OneFaultLaw }
@@ -48,8 +50,7 @@ pub fn hits_make_exact_model()
     ensures exact { (program : Listing) → IsWellFormed program → ((d : ℕ) → d < length (targets_of program) → place_of program d ≡ None) → IsExact program (hitting_faults program) (model_of program) }
 {}
 
-/// And no other model does that: two models that fit a program, by whatever lists of faults, and are exact are equal, and
-/// their lines stand for the same faults.
+/// No other model does: two models that fit a program and are exact are equal, and their lines stand for the same faults.
 pub fn at_most_one_model_is_exact()
     ensures { OneModelLaw }
 {}

@@ -1,8 +1,8 @@
 //! The counts of an allocator's calls.
 use std::cell::Cell;
 
-/// How many blocks were asked for, which of these calls is refused (counted from 1, none where it is 0), how many were
-/// refused, and how many blocks have not come back.
+/// How many calls asked for a block, which of them is refused (counted from 1, none where it is 0), how many were
+/// refused, and how many blocks were handed out and not freed.
 #[derive(Clone, Copy)]
 pub(crate) struct Counts {
     pub calls: u64,
@@ -25,7 +25,7 @@ pub(crate) fn refuses(counts: &Cell<Counts>) -> bool {
     refused
 }
 
-/// Counts a block that comes back.
+/// Counts a block that is freed.
 pub(crate) fn takes_back(counts: &Cell<Counts>) {
     let mut now = counts.get();
     now.held = now.held.wrapping_sub(1);

@@ -2,7 +2,7 @@ use crate::counts::{Counts, refuses, takes_back};
 use std::alloc::{AllocError, Allocator};
 use std::cell::Cell;
 
-/// Passes each call on to another allocator but one, which it refuses. It is handed to what allocates by a `&`.
+/// Passes each call on to another allocator, except one, which it refuses. Whoever allocates is given a `&` to it.
 pub struct Scarce<B: Allocator> {
     inner: B,
     counts: Cell<Counts>,
@@ -22,8 +22,8 @@ impl<B: Allocator> Scarce<B> {
         }
     }
 
-    /// Counts the calls from here on anew, and refuses this one of them, counted from 1: none where that is 0. All others
-    /// are passed on, those after it too.
+    /// Counts calls from 1 again, and refuses the one with this number: none where that is 0. All others are passed on,
+    /// those after it too.
     pub fn refuse(&self, call: u64) {
         let mut counts = self.counts.get();
         counts.calls = 0;
@@ -32,12 +32,12 @@ impl<B: Allocator> Scarce<B> {
         self.counts.set(counts);
     }
 
-    /// How many calls were refused since it was last told which.
+    /// How many calls were refused since `refuse` was last called.
     pub fn refusals(&self) -> u64 {
         self.counts.get().refusals
     }
 
-    /// How many blocks it has handed out that have not come back.
+    /// How many blocks it has handed out that are not freed yet.
     pub fn held(&self) -> u64 {
         self.counts.get().held
     }

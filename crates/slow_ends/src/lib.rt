@@ -1,5 +1,4 @@
-//! Ends of bytes for tests: a source and a sink over memory that move one byte a call, count their calls, and fail at one
-//! of them.
+//! A source and a sink for tests. Both are in memory, move one byte a call, count their calls, and fail at one of them.
 #![tactic(auto)]
 
 mod slow_sink;

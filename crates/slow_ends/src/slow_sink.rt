@@ -3,8 +3,8 @@ ghost use Rattle.std.specs.Prelude.{◌≡◌, [], Some};
 use std::alloc::Allocator;
 use step_model::{Fault, Sink};
 
-/// Takes one byte a call, and fails at one of its calls, counted from 1: at none where that is 0. After the failure it
-/// goes on. It fails too where no room can be had.
+/// Takes one byte a call, and fails at the call with the number `fails_at`, counted from 1: at none where that is 0. It
+/// takes bytes again after that call. It also fails where no memory can be had.
 #[derive(Drop)]
 pub struct SlowSink<A: Allocator + Copy> {
     bytes: Vec<u8, A>,
@@ -14,7 +14,7 @@ pub struct SlowSink<A: Allocator + Copy> {
 }
 
 impl<A: Allocator + Copy> SlowSink<A> {
-    /// A sink that has taken no byte and fails at this call.
+    /// A sink that has taken no byte.
     pub fn new(alloc: A, fails_at: u64) -> Self
         ensures bytes { result.bytes.items ≡ [] }
         ensures fails_at { result.fails_at ≡ fails_at }

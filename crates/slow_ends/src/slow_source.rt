@@ -2,8 +2,8 @@ ghost use Rattle.std.specs.Prelude.{◌≡◌, Some};
 
 use step_model::{Fault, Source};
 
-/// Hands out one byte a call, and fails at one of its calls, counted from 1: at none where that is 0. After the failure
-/// it goes on.
+/// Hands out one byte a call, and fails at the call with the number `fails_at`, counted from 1: at none where that is 0.
+/// It hands out bytes again after that call.
 #[derive(Drop)]
 pub struct SlowSource<'a> {
     left: &'a [u8],
@@ -13,7 +13,7 @@ pub struct SlowSource<'a> {
 }
 
 impl<'a> SlowSource<'a> {
-    /// A source of these bytes that fails at this call.
+    /// A source of these bytes.
     pub fn new(bytes: &'a [u8], fails_at: u64) -> Self
         ensures left { result.left.now ≡ bytes.now }
         ensures fails_at { result.fails_at ≡ fails_at }

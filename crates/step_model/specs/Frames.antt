@@ -1,8 +1,10 @@
--- A frame is an unsigned word begun at a place, after a collapse's whole step, and carried forward by the gates;
--- a reset clears it at its qubit. A collapse's flip is 1 where the frame anticommutes with its word; up to and
--- with the collapse at which the frame begins the flips are 0. The coin pair of a target is the list of zeros and
--- the flips of the frame begun at its place, as the word collapsed there or as Z at a qubit of the start. (Knill, Quantum
--- computing with realistically noisy devices, Nature 434, 39 (2005): Pauli frames.)
+-- A Pauli frame is an unsigned word that begins at a place, the start or just after the whole step of a collapse, and
+-- is carried forward by the gates; a reset clears it at its qubit. Each collapse has a flip: it is 1 where the frame
+-- anticommutes with the collapse's word, and 0 for the collapses up to that at which the frame begins, itself included.
+-- The coin pair of a target is two lists of coins: all zeros, and the flips of the frame that begins at the target's
+-- place, as the word collapsed there or as Z at a qubit of the start. (A collapse is the projective measurement inside a
+-- measurement or a reset; its coin is the outcome where that is random.) (Knill, Quantum computing with realistically
+-- noisy devices, Nature 434, 39 (2005): Pauli frames.)
 use Rattle.std.specs.Prelude.{ℕ, ◌+◌, suc, Option, None, Some, length, Bool, false, if◌then◌else◌, List, [], ◌∷◌, ◌++◌, replicate, slice_index_or}
 use Rattle.pauli_word.specs.declared.letter.Letter.{Letter}
 use Rattle.pauli_word.specs.declared.letter.Letter.TheVariants.{Z}
@@ -24,7 +26,7 @@ abbrev pub record_flip : Option Recorded → List Letter → List Letter → Lis
 record_flip None w v = []
 record_flip (Some r) w v = anticommute v w ∷ []
 
--- a frame after a step; n qubits
+-- a frame after a step, on n qubits
 abbrev pub carried : ℕ → ListedStep → Frame → Frame
 carried n (One gate q) v = record v { word = (image_at gate q (signed v.word false)).letters }
 carried n (Two gate a b) v = record v { word = (image_at_two gate a b (signed v.word false)).letters }
@@ -39,22 +41,23 @@ flips_from n v [] = []
 flips_from n v (step ∷ steps) =
     (if is_collapse step then anticommute v.word (collapse_word n step) ∷ [] else []) ++ flips_from n (carried n step v) steps
 
--- for each collapse among these steps, how many records there are after it, so many being made before them
+-- for each collapse among these steps, how many records there are after it, where `made` were made before these steps
 abbrev pub records_by_each : ℕ → List ListedStep → List ℕ
 records_by_each made [] = []
 records_by_each made (step ∷ steps) =
     (if is_collapse step then (made + length (step_records step)) ∷ [] else [])
     ++ records_by_each (made + length (step_records step)) steps
 
--- a frame that begins as a word, and flips none of so many records before
+-- a frame that begins as a word, and flips none of the records made before
 abbrev pub begun : List Letter → ℕ → Frame
 begun v made = record { word = v; records = replicate made false }
 
--- for each collapse among these steps, the steps after it; and the words that they collapse
+-- for each collapse among these steps, the steps after it
 abbrev pub steps_after_each : List ListedStep → List (List ListedStep)
 steps_after_each [] = []
 steps_after_each (step ∷ steps) = (if is_collapse step then steps ∷ [] else []) ++ steps_after_each steps
 
+-- the words that these steps collapse
 abbrev pub words_collapsed : ℕ → List ListedStep → List (List Letter)
 words_collapsed n [] = []
 words_collapsed n (step ∷ steps) = (if is_collapse step then collapse_word n step ∷ [] else []) ++ words_collapsed n steps
@@ -71,9 +74,10 @@ abbrev pub first_word : Listing → Place → List Letter
 first_word program (Start q) = lone_letter program.qubits q Z
 first_word program (After k) = slice_index_or (words_collapsed program.qubits program.steps) k (no_letters program.qubits)
 
--- the coin lists of a pair: no coin is 1; the flips of the frame begun at the place
+-- the first list of a coin pair: no coin is 1
 abbrev pub zero_coins : Listing → List Bool
 zero_coins program = replicate program.collapses false
 
+-- the second: the flips of the frame begun at the place
 abbrev pub pair_coins : Listing → Place → List Bool
 pair_coins program place = flips_of program place (first_word program place)

@@ -10,11 +10,12 @@ use Rattle.step_model.specs.Runs.{happens}
 use Rattle.step_model.specs.Targets.{target_at}
 use Rattle.step_model.specs.Sensitivities.{Sensitivity, sensitivity, record_counts}
 
--- whether a recorded flip is this fault
+-- whether the fault that flips a record, where there is one, is this fault
 abbrev pub is_flip_of : ℕ → Option ℕ → Bool
 is_flip_of f None = false
 is_flip_of f (Some g) = g == f
 
+-- the same of what becomes of an outcome, where it is recorded
 abbrev pub is_recorded_flip : ℕ → Option Recorded → Bool
 is_recorded_flip f None = false
 is_recorded_flip f (Some r) = is_flip_of f r.flip
@@ -27,7 +28,7 @@ hits_at program f (Collapse c r) s = is_recorded_flip f r && record_counts s.rec
 hits_at program f (Fault g) s = g == f && anticommute s.word (fault_word program f)
 hits_at program f (Feedback w r) s = false
 
--- whether it hits the target at an odd number of these steps, which are the last
+-- whether a fault hits the target with these records at an odd number of these steps, which are the program's last
 abbrev pub hits_among : Listing → List ℕ → ℕ → List ListedStep → Bool
 hits_among program named f [] = false
 hits_among program named f (step ∷ steps) =
@@ -37,7 +38,7 @@ hits_among program named f (step ∷ steps) =
 abbrev pub is_hit : Listing → ℕ → ℕ → Bool
 is_hit program d f = hits_among program (target_at program d) f program.steps
 
--- whether an odd number of the faults with these numbers happen and hit a target
+-- whether an odd number of the faults with these numbers both happen and hit a target
 abbrev pub odd_hits_among : Listing → ℕ → List Bool → List ℕ → Bool
 odd_hits_among program d faults [] = false
 odd_hits_among program d faults (f ∷ numbers) =

@@ -1,4 +1,5 @@
--- A program, as a list of steps with what they name: the unrolled circuit. Faults, collapses and records are
+-- A program: the unrolled circuit, as a list of steps with what they name. A collapse is the projective measurement
+-- inside a measurement or a reset; its coin is the outcome where that is random. Faults, collapses and records are
 -- numbered from 0 in the order of the steps. (Stim's circuit format.)
 use Rattle.std.specs.Prelude.{ℕ, ℤ, List, [], ◌∷◌, Option, None, Some, Bool, slice_index_or}
 use Rattle.gate_table.specs.declared.gate.Gate.{Gate}
@@ -6,19 +7,19 @@ use Rattle.step_model.specs.declared.step.Term.{Term}
 use Rattle.pauli_word.specs.declared.letter.Letter.{Letter}
 use Rattle.pauli_word.specs.Words.{letters_product, no_letters, lone_letter}
 
--- what a fault does where it happens: it applies the product of letters at qubits, or it flips a record
+-- what a fault does where it happens: it applies a product of letters at qubits, or it flips a record
 pub data Effect : Type 0 where
   Applies : List Term → Effect
   Flips : ℕ → Effect
 
--- what is kept of a fault, once for each place of the text: the text of its probability, floor of probability times
--- 2^64, and the letters at qubits that it applies, none where it flips a record
+-- what is kept of a fault, once for each place of the text: the text of its probability, the floor of that probability
+-- times 2^64, and the letters at qubits that it applies, none where it flips a record
 pub record Kept : Type 0 where
   pub text : List ℕ
   pub bound : ℕ
   pub terms : List Term
 
--- a fault: its text and bound, what it does, and the number of what is kept of it
+-- a fault: the text of its probability, its bound, what it does, and the number of what is kept of it
 pub record ListedFault : Type 0 where
   pub text : List ℕ
   pub bound : ℕ
@@ -45,12 +46,13 @@ pub data ListedStep : Type 0 where
   Fault : ℕ → ListedStep
   Feedback : List Letter → ℕ → ListedStep
 
+-- a program: how many qubits, records and collapses it has, its steps, and what they name
 pub record Listing : Type 0 where
   pub qubits : ℕ
   pub records : ℕ
   pub collapses : ℕ
   pub steps : List ListedStep
-  -- the records of each detector and of each observable, each as often as it is listed
+  -- the records of each detector and of each observable; one that is listed twice stands here twice
   pub detectors : List (List ℕ)
   pub observables : List (List ℕ)
   -- the coordinates of each detector
@@ -65,7 +67,7 @@ abbrev pub measured_word : ℕ → Measured → List Letter
 measured_word n (Word w) = w
 measured_word n (Reset letter q) = lone_letter n q letter
 
--- the word on n qubits that these letters at qubits make, their signs left out
+-- the word on n qubits that these letters at qubits multiply to, its power of i left out
 abbrev pub word_of_terms : ℕ → List Term → List Letter
 word_of_terms n [] = no_letters n
 word_of_terms n (term ∷ terms) = letters_product (lone_letter n term.qubit term.letter) (word_of_terms n terms)
@@ -75,21 +77,27 @@ abbrev pub effect_word : ℕ → Effect → List Letter
 effect_word n (Applies terms) = word_of_terms n terms
 effect_word n (Flips r) = no_letters n
 
+-- a fault that does nothing, which a number stands for that no fault has
 abbrev pub no_effect : ListedFault
 no_effect = record { text = []; bound = 0; effect = Applies []; entry = 0 }
 
+-- what is kept of such a fault
 abbrev pub none_kept : Kept
 none_kept = record { text = []; bound = 0; terms = [] }
 
+-- what is kept under a number
 abbrev pub kept_at : Listing → ℕ → Kept
 kept_at program e = slice_index_or program.kept e none_kept
 
+-- the fault with a number
 abbrev pub fault_at : Listing → ℕ → ListedFault
 fault_at program f = slice_index_or program.faults f no_effect
 
+-- what it does
 abbrev pub effect_at : Listing → ℕ → Effect
 effect_at program f = (fault_at program f).effect
 
+-- the word that it applies
 abbrev pub fault_word : Listing → ℕ → List Letter
 fault_word program f = effect_word program.qubits (effect_at program f)
 

@@ -1,9 +1,10 @@
 -- What a run of a program does, step by step, to the state of its qubits, its coins and its records. A gate U turns the
--- state into the words whose preimage under U was in it. A fault that happens applies its word. A collapse takes the
--- next coin; its record is the outcome, inverted where the step says so, and inverted where its flip happens. A reset
--- applies a correcting letter where the true outcome was 1. Feedback applies a word where an earlier record, as it was
--- recorded, is 1. (Aaronson and Gottesman, Phys. Rev. A 70, 052328 (2004), sections II and III;
--- Stim's circuit format.)
+-- state into the words whose preimage under U was in it. A fault that happens applies its word. A collapse, the
+-- projective measurement inside a measurement or a reset, takes the next coin, which is its outcome where that is random;
+-- its record is the outcome, inverted where the step says so, and inverted where its flip happens. A reset applies a
+-- correcting letter where the outcome, before any inversion, was 1. Feedback applies a word where an earlier record, as
+-- it was recorded, is 1. (Aaronson and Gottesman, Phys. Rev. A 70, 052328 (2004), sections II and III; Stim's circuit
+-- format.)
 use Rattle.std.specs.Prelude.{ℕ, Bool, false, if◌then◌else◌, List, [], ◌∷◌, ◌++◌, Option, None, Some, is_some, drop, take, slice_index_or}
 use Rattle.pauli_word.specs.declared.letter.Letter.{Letter}
 use Rattle.pauli_word.specs.Parity.{exclusive_or}
@@ -18,7 +19,7 @@ pub record RunState : Type 0 where
   pub coins : List Bool
   pub records : List Bool
 
--- a coin that isn't there is 0
+-- the next coin: 0 where none is left
 abbrev pub next_coin : List Bool → Bool
 next_coin coins = slice_index_or coins 0 false
 
@@ -27,8 +28,8 @@ abbrev pub corrected : Option (List Letter) → Bool → State → State
 corrected None seen s = s
 corrected (Some c) seen s = applied seen c s
 
--- the run after a collapse of w, which takes the next coin. Where there is a correction it is applied if the
--- outcome was 1; where there is a record it is the outcome, changed if `changes`
+-- the run after a collapse of w, which takes the next coin. A correction, where there is one, is applied if the
+-- outcome was 1. The record, where one is made, is the outcome, inverted if `changes`
 abbrev pub after_collapse : List Letter → Option (List Letter) → Bool → Bool → RunState → RunState
 after_collapse w correction recorded changes m =
     let coin = next_coin m.coins in
@@ -39,15 +40,16 @@ after_collapse w correction recorded changes m =
       records = if recorded then m.records ++ exclusive_or seen changes ∷ [] else m.records;
     }
 
--- whether a fault happens: a truth value a fault, and one that isn't there is false
+-- whether a fault happens: the list has a truth value for each fault, and where it is too short the fault doesn't happen
 abbrev pub happens : List Bool → ℕ → Bool
 happens faults f = slice_index_or faults f false
 
+-- whether the fault that flips a record happens, where there is one
 abbrev pub flip_happens : List Bool → Option ℕ → Bool
 flip_happens faults None = false
 flip_happens faults (Some f) = happens faults f
 
--- what changes a record beside the outcome: that it is inverted, and that its flip happens
+-- whether a record differs from its outcome: it does where it is inverted or its flip happens, but not where both are so
 abbrev pub record_changes : List Bool → Option Recorded → Bool
 record_changes faults None = false
 record_changes faults (Some r) = exclusive_or r.inverted (flip_happens faults r.flip)
@@ -71,6 +73,7 @@ abbrev pub run_from : Listing → List Bool → List ListedStep → RunState →
 run_from program faults [] m = m
 run_from program faults (step ∷ steps) m = run_from program faults steps (next program faults step m)
 
+-- a run before its first step
 abbrev pub start : List Bool → RunState
 start coins = record { state = start_state; coins = coins; records = [] }
 

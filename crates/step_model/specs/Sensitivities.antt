@@ -1,11 +1,12 @@
--- The sensitivity of a target at a place of a program: the unsigned word such that a Pauli fault there flips the
+-- The sensitivity of a target between two steps of a program: the unsigned word such that a Pauli fault there flips the
 -- target exactly where it anticommutes with that word, and the records so far whose flips flip the target. After the last
 -- step it is the identity, with the target's records. Going back over a gate the word becomes its preimage; over a
 -- collapse it is cleared at the qubit of a reset, and then multiplied by the collapsed word where its record is listed an
 -- odd number of times; over feedback, whose word is applied where a record is 1, that record is added where the
 -- feedback's word anticommutes with the sensitivity's; over a fault it stays.
--- The place of a target is the latest collapse whose word anticommutes with the sensitivity just after it; else
--- the start, at the lowest qubit at which the sensitivity there has X or Y; else there is none.
+-- The place of a target is the latest collapse whose word anticommutes with the sensitivity just after it. Where there
+-- is no such collapse it is the start, at the lowest qubit at which the sensitivity there has X or Y; where there is no
+-- such qubit the target has no place. (A collapse is the projective measurement inside a measurement or a reset.)
 -- (Gottesman, arXiv:quant-ph/9807006: words carried through a circuit.)
 use Rattle.std.specs.Prelude.{◌+◌, ℕ, Bool, true, false, if◌then◌else◌, List, [], ◌∷◌, Option, None, Some, option_map, slice_set}
 use Rattle.pauli_word.specs.declared.letter.Letter.{Letter}
@@ -18,13 +19,12 @@ use Rattle.gate_table.specs.WordImages.{preimage_at, preimage_at_two}
 use Rattle.step_model.specs.Listing.{Listing, ListedStep, One, Two, Collapse, Fault, Feedback, Measured, Word, Reset, Recorded, measured_word}
 use Rattle.step_model.specs.Targets.{is_listed, target_at}
 
--- the sensitivity of a target at a place: a word, and the records so far whose flips flip the target, each as often
--- as it is listed
+-- a sensitivity: its word, and its records. A record that is listed an even number of times doesn't count
 pub record Sensitivity : Type 0 where
   pub word : List Letter
   pub records : List ℕ
 
--- a word after a collapse's reset, where it resets: with I at that qubit
+-- a word with I at the qubit of the reset, where a collapse is that of a reset
 abbrev pub cleared : Measured → List Letter → List Letter
 cleared (Word w) v = v
 cleared (Reset letter q) v = slice_set v q I
@@ -34,11 +34,11 @@ abbrev pub record_counts : List ℕ → Option Recorded → Bool
 record_counts named None = false
 record_counts named (Some r) = is_listed named r.number
 
--- the word, times another where b
+-- the word w, multiplied by v where b
 abbrev pub multiplied : Bool → List Letter → List Letter → List Letter
 multiplied b v w = if b then letters_product v w else w
 
--- the sensitivity before a step, from that after it; n qubits
+-- the sensitivity before a step, from that after it, on n qubits
 abbrev pub sensitivity_before : ℕ → ListedStep → Sensitivity → Sensitivity
 sensitivity_before n (One gate q) s = record s { word = (preimage_at gate q (signed s.word false)).letters }
 sensitivity_before n (Two gate a b) s = record s { word = (preimage_at_two gate a b (signed s.word false)).letters }
@@ -47,7 +47,7 @@ sensitivity_before n (Collapse c r) s =
 sensitivity_before n (Fault f) s = s
 sensitivity_before n (Feedback w r) s = record s { records = if anticommute s.word w then r ∷ s.records else s.records }
 
--- the sensitivity before these steps, which are the last
+-- the sensitivity, of the target with these records, before these steps, which are the program's last
 abbrev pub sensitivity : ℕ → List ℕ → List ListedStep → Sensitivity
 sensitivity n named [] = record { word = no_letters n; records = named }
 sensitivity n named (step ∷ steps) = sensitivity_before n step (sensitivity n named steps)
@@ -73,8 +73,8 @@ abbrev pub collapse_count : List ListedStep → ℕ
 collapse_count [] = 0
 collapse_count (step ∷ steps) = (if is_collapse step then 1 else 0) + collapse_count steps
 
--- the latest collapse from a step on: one later, or else the step itself where its word
--- anticommutes with the sensitivity after it
+-- the latest collapse from a step on whose word anticommutes with the sensitivity after it: one after the step where
+-- there is one, otherwise the step itself where it is such a collapse
 abbrev pub later_or_here : ListedStep → Option ℕ → Bool → Option ℕ
 later_or_here step (Some k) anticommutes = Some ((if is_collapse step then 1 else 0) + k)
 later_or_here step None true = Some 0
@@ -86,7 +86,7 @@ latest_place n named [] = None
 latest_place n named (step ∷ steps) =
     later_or_here step (latest_place n named steps) (anticommute (collapse_word n step) (sensitivity n named steps).word)
 
--- a collapse's place, or else that in the start, of a word there
+-- the place after a collapse, where there is one; otherwise at the start, by the sensitivity's word there
 abbrev pub after_or_start : Option ℕ → List Letter → Option Place
 after_or_start (Some k) w = Some (After k)
 after_or_start None w = option_map Start (lowest_X_or_Y w)

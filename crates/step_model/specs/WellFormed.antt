@@ -1,6 +1,7 @@
--- What a program's type keeps: all that its steps name is there, gates have the step's number of qubits, the two
--- qubits of a gate differ, no collapse is of I; collapses, records and faults are numbered from 0 in the order of the
--- steps, each once; each probability text is accepted and has its bound; and the targets are within the limits.
+-- What holds of every program: all that its steps name exists, each gate acts on as many qubits as its step names, the
+-- two qubits of a gate differ, no collapse measures the identity; collapses, records and faults are numbered from 0 in
+-- the order of the steps, each once; each probability text is accepted and has its bound; and the targets are within the
+-- limits.
 -- (Stim's circuit format: what an instruction may name.)
 use Rattle.std.specs.Prelude.{⊤, ◌≡◌, ◌≤◌, ◌<◌, ◌==◌, ◌^◌, nat_lt, ℕ, ℤ, nat_abs, Bool, true, false, not, ◌&&◌, List, [], ◌∷◌, ◌++◌, ◌+◌, length, All, Option, None, Some}
 use Rattle.std.specs.List.{range_with_len, AllPass, list_any}
@@ -13,39 +14,43 @@ use Rattle.step_model.specs.declared.step.Term.{Term}
 use Rattle.step_model.specs.Probabilities.{probability_bound}
 use Rattle.step_model.specs.Sensitivities.{collapse_count}
 
+-- whether a letter is I
 abbrev pub is_I : Letter → Bool
 is_I I = true
 is_I X = false
 is_I Y = false
 is_I Z = false
 
--- whether a fault applies a word, and whether it flips this record
+-- whether a fault applies a word
 abbrev pub applies_word : Effect → Bool
 applies_word (Applies terms) = true
 applies_word (Flips r) = false
 
+-- whether a fault flips this record
 abbrev pub flips_record : ℕ → Effect → Bool
 flips_record r (Applies terms) = false
 flips_record r (Flips s) = r == s
 
--- a record's flip is a fault that flips that record
+-- whether a record's flip, where there is one, is a fault that flips that record
 abbrev pub flip_fits : Listing → ℕ → Option ℕ → Bool
 flip_fits program r None = true
 flip_fits program r (Some f) = nat_lt f (length program.faults) && flips_record r (effect_at program f)
 
+-- the same of what becomes of an outcome
 abbrev pub record_fits : Listing → Option Recorded → Bool
 record_fits program None = true
 record_fits program (Some r) = flip_fits program r.number r.flip
 
--- a word on n qubits that isn't the identity
+-- whether a word is on n qubits and not the identity
 abbrev pub word_fits : ℕ → List Letter → Bool
 word_fits n w = length w == n && list_any (λ a. not (is_I a)) w
 
+-- whether a collapse on n qubits measures something other than the identity
 abbrev pub measured_fits : ℕ → Measured → Bool
 measured_fits n (Word w) = word_fits n w
 measured_fits n (Reset letter q) = not (is_I letter) && nat_lt q n
 
--- whether all that a step names is there
+-- whether all that a step names exists, in the number and form that the step needs
 abbrev pub step_fits : Listing → ListedStep → Bool
 step_fits program (One gate q) = arity_of gate == 1 && nat_lt q program.qubits
 step_fits program (Two gate a b) =
@@ -54,7 +59,7 @@ step_fits program (Collapse c r) = measured_fits program.qubits c && record_fits
 step_fits program (Fault f) = nat_lt f (length program.faults) && applies_word (effect_at program f)
 step_fits program (Feedback w r) = word_fits program.qubits w
 
--- the records that steps make, in their order
+-- the records that a step makes
 abbrev pub step_records : ListedStep → List ℕ
 step_records (One gate q) = []
 step_records (Two gate a b) = []
@@ -63,20 +68,22 @@ step_records (Collapse c (Some r)) = r.number ∷ []
 step_records (Fault f) = []
 step_records (Feedback w r) = []
 
+-- the records that steps make, in their order
 abbrev pub records_made : List ListedStep → List ℕ
 records_made [] = []
 records_made (step ∷ steps) = step_records step ++ records_made steps
 
--- whether feedback is by earlier records alone, so many being made before these steps
+-- whether a step, if it is feedback, depends on an earlier record, where `made` records were made before it
 abbrev pub is_earlier : ℕ → ListedStep → Bool
 is_earlier made (Feedback w r) = nat_lt r made
 is_earlier made step = true
 
+-- the same of all these steps
 abbrev pub feeds_earlier : ℕ → List ListedStep → Bool
 feeds_earlier made [] = true
 feeds_earlier made (step ∷ steps) = is_earlier made step && feeds_earlier (made + length (step_records step)) steps
 
--- the faults that steps name, in their order
+-- the faults that a step names
 abbrev pub step_faults : ListedStep → List ℕ
 step_faults (One gate q) = []
 step_faults (Two gate a b) = []
@@ -85,6 +92,7 @@ step_faults (Collapse c (Some r)) = option_to_list r.flip
 step_faults (Fault f) = f ∷ []
 step_faults (Feedback w r) = []
 
+-- the faults that steps name, in their order
 abbrev pub faults_named : List ListedStep → List ℕ
 faults_named [] = []
 faults_named (step ∷ steps) = step_faults step ++ faults_named steps
@@ -93,11 +101,12 @@ faults_named (step ∷ steps) = step_faults step ++ faults_named steps
 abbrev pub TermsFit : ℕ → List Term → Type 0
 TermsFit qubits terms = All (λ term. term.qubit < qubits) terms
 
--- of a fault's terms too
+-- and those of the terms that a fault applies
 abbrev pub EffectFits : ℕ → Effect → Type 0
 EffectFits qubits (Applies terms) = TermsFit qubits terms
 EffectFits qubits (Flips r) = ⊤
 
+-- a fault's bound is that of its text, and its terms are at the program's qubits
 pub record FaultFits (qubits : ℕ) (fault : ListedFault) : Type 0 where
   pub bound : probability_bound fault.text ≡ Some fault.bound
   pub effect : EffectFits qubits fault.effect
@@ -119,6 +128,7 @@ pub record IsKept (program : Listing) (fault : ListedFault) : Type 0 where
   pub bound : fault.bound ≡ (kept_at program fault.entry).bound
   pub terms : (kept_at program fault.entry).terms ≡ effect_terms fault.effect
 
+-- all of this holds of a program
 pub record IsWellFormed (program : Listing) : Type 0 where
   pub steps_fit : AllPass (step_fits program) program.steps
   pub collapses_counted : collapse_count program.steps ≡ program.collapses

@@ -1,5 +1,5 @@
-//! What a circuit does, as definitions: programs of steps, their runs, and what a fault changes in them. Beside
-//! these the causes for which a text is refused, and the byte ends that texts are read from and written to.
+//! What a circuit does, as definitions: programs of steps, their runs, and what a fault changes in them. Also the
+//! causes for which a text is refused, and the sources and sinks that texts are read from and written to.
 #![tactic(auto)]
 
 mod ends;

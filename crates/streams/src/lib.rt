@@ -1,6 +1,6 @@
-//! Readers and writers of std, such as standard input and output, as ends of bytes. What a reader hands out is passed on
-//! byte for byte, and so is what a writer takes; of the devices of a process nobody knows the bytes, so no more is said
-//! of these. A call that a signal interrupts is made again, as std does.
+//! Readers and writers of std, such as standard input and output, as sources and sinks. A source passes on what its
+//! reader hands out, byte for byte, and a sink what its writer takes. What the devices of a process hand out or take isn't
+//! known, so of them contracts say no more. A call that a signal interrupts is made again, as std does.
 #![tactic(auto)]
 
 mod reader_source;

@@ -6,7 +6,7 @@ ghost use Rattle.step_model.specs.Faults.{read_fault};
 use std::io::{ErrorKind, Read};
 use step_model::{Fault, Source};
 
-/// How many bytes a reader is asked for at most in a call.
+/// How many bytes a reader is asked for in one call, at most.
 const PIECE: usize = 4096;
 
 /// The bytes of a reader. It reads into an array of its own, so that a failed call leaves the caller's buffer alone.
@@ -17,7 +17,7 @@ pub struct ReaderSource<R: Read + Drop> {
 }
 
 impl<R: Read + Drop> ReaderSource<R> {
-    /// The bytes that a reader hands out.
+    /// A source of the bytes that this reader hands out.
     pub fn new(reader: R) -> Self
         ensures { result ≡ record { reader = reader; failures = 0 } }
     {
@@ -27,7 +27,7 @@ impl<R: Read + Drop> ReaderSource<R> {
         }
     }
 
-    /// How many calls failed; the count stands still at 2^64 - 1.
+    /// How many calls failed; the count stays at 2^64 - 1 once it is there.
     pub fn failures(&self) -> u64
         ensures { result ≡ self.now.failures }
     {

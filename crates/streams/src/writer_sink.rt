@@ -6,7 +6,7 @@ ghost use Rattle.step_model.specs.Faults.{write_fault};
 use std::io::{ErrorKind, Write};
 use step_model::{Fault, Sink};
 
-/// The bytes that a writer takes. One that takes none of some bytes has failed.
+/// A sink whose bytes a writer takes. A call in which the writer takes none of at least one byte has failed.
 #[derive(Drop)]
 pub struct WriterSink<W: Write + Drop> {
     writer: W,
@@ -14,7 +14,7 @@ pub struct WriterSink<W: Write + Drop> {
 }
 
 impl<W: Write + Drop> WriterSink<W> {
-    /// The bytes that a writer takes.
+    /// A sink whose bytes this writer takes.
     pub fn new(writer: W) -> Self
         ensures { result ≡ record { writer = writer; failures = 0 } }
     {
@@ -24,7 +24,7 @@ impl<W: Write + Drop> WriterSink<W> {
         }
     }
 
-    /// How many calls failed; the count stands still at 2^64 - 1.
+    /// How many calls failed; the count stays at 2^64 - 1 once it is there.
     pub fn failures(&self) -> u64
         ensures { result ≡ self.now.failures }
     {

@@ -1,7 +1,8 @@
 -- What a controlled gate does to the rows kept. It has a letter A on its first qubit and B on its second, and it undoes
 -- itself: the preimage of a letter on the first qubit is that letter, with the factor B on the second where the letter
--- clashes with A, and the other way round. So the words of X and Z at a qubit that clash with its own letter are
--- multiplied by the word of the other's. (Stim's gate reference: the stabilizer generators of CX, CY, CZ, XCX, XCY, XCZ.)
+-- clashes with A; that of a letter on the second is that letter, with the factor A on the first where it clashes with B.
+-- So where X or Z at a qubit clashes with the gate's letter there, its word is multiplied by the word of the gate's
+-- letter on the other qubit. (Stim's gate reference: the stabilizer generators of CX, CY, CZ, XCX, XCY, XCZ.)
 use Rattle.std.specs.Prelude.{◌≡◌, ◌≢◌, ℕ, false, List, length, slice_set}
 use Rattle.gate_table.specs.declared.gate.Gate.{Gate}
 use Rattle.gate_table.specs.Images.{factor, image2, inverse_of}

@@ -1,8 +1,8 @@
--- The rows of a stabilizer tableau: for each qubit a stabilizer row and a destabilizer row, signed words. Every two rows
--- commute but the stabilizer row and the destabilizer row of one number. The state is the set of the products of
--- stabilizer rows. Such a product commutes with all stabilizer rows and anticommutes with the destabilizer rows of its
--- factors alone, so the set is computed here: a word is in it where it commutes with all stabilizer rows, and has the
--- sign of the product of those whose destabilizer rows it anticommutes with. A destabilizer row's sign says nothing.
+-- The rows of a stabilizer tableau: for each qubit a stabilizer row and a destabilizer row, signed words. Any two rows
+-- commute, except the stabilizer row and the destabilizer row of the same number. The state is the set of the products of
+-- stabilizer rows. Such a product commutes with all stabilizer rows, and of the destabilizer rows it anticommutes with
+-- those of its factors alone. So a word is in the state where it commutes with all stabilizer rows, and has the sign of
+-- the product of those whose destabilizer rows it anticommutes with. A destabilizer row's sign has no meaning.
 -- (Aaronson and Gottesman, Phys. Rev. A 70, 052328 (2004), section III.)
 use Rattle.std.specs.Prelude.{◌≡◌, ◌<◌, ℕ, Bool, true, not, ◌&&◌, if◌then◌else◌, List, ◌∷◌, length, map, slice_index_or}
 use Rattle.std.specs.List.{list_all}
@@ -11,6 +11,7 @@ use Rattle.pauli_word.specs.Parity.{exclusive_or}
 use Rattle.pauli_word.specs.States.{State}
 use Rattle.pauli_word.specs.Words.{Signed, anticommute, product, identity_word}
 
+-- the rows of both kinds, one a qubit
 pub record Rows : Type 0 where
   pub stabilizers : List Signed
   pub destabilizers : List Signed
@@ -19,20 +20,23 @@ pub record Rows : Type 0 where
 abbrev pub row_count : Rows → ℕ
 row_count rows = length rows.stabilizers
 
+-- the stabilizer row of a number
 abbrev pub stabilizer_at : Rows → ℕ → Signed
 stabilizer_at rows i = slice_index_or rows.stabilizers i (identity_word (row_count rows))
 
+-- the destabilizer row of a number
 abbrev pub destabilizer_at : Rows → ℕ → Signed
 destabilizer_at rows i = slice_index_or rows.destabilizers i (identity_word (row_count rows))
 
--- of each word whether it anticommutes with a word w
+-- for each of these words, whether it anticommutes with w
 abbrev pub clashes_with : List Letter → List Signed → List Bool
 clashes_with w words = map (λ v. anticommute w v.letters) words
 
+-- whether w commutes with all of these words
 abbrev pub commutes_with_all : List Letter → List Signed → Bool
 commutes_with_all w words = list_all (λ v. not (anticommute w v.letters)) words
 
--- the product of the words that are chosen, in their order; n letters
+-- the product, in their order, of the words of n letters that are chosen
 abbrev pub chosen_product : ℕ → List Signed → List Bool → Signed
 chosen_product n (v ∷ words) (c ∷ choice) = product (if c then v else identity_word n) (chosen_product n words choice)
 chosen_product n words choice = identity_word n
@@ -45,16 +49,17 @@ stabilizer_product rows w = chosen_product (row_count rows) rows.stabilizers (cl
 abbrev pub destabilizer_product : Rows → List Letter → Signed
 destabilizer_product rows w = chosen_product (row_count rows) rows.destabilizers (clashes_with w rows.stabilizers)
 
+-- the state of the rows
 abbrev pub state_of : Rows → State
 state_of rows p =
     commutes_with_all p.letters rows.stabilizers && not (exclusive_or p.negative (stabilizer_product rows p.letters).negative)
 
--- the state of the rows, as a test of the words of their length
+-- the state of the rows is s, for all words of their length
 abbrev pub HasState : Rows → State → Type 0
 HasState rows s = (p : Signed) → length p.letters ≡ row_count rows → state_of rows p ≡ s p
 
--- what a collapse of w, that isn't decided, makes of the row that it names: the row's stabilizer was in the state and
--- anticommuted with w; its letters become the row's destabilizer
+-- what a collapse of w with a random outcome does to the row that it names: the row's stabilizer was in the state and
+-- anticommuted with w; its letters become those of the row's destabilizer
 pub record IsReplaced (old new : Rows) (w : List Letter) (row : ℕ) : Type 0 where
   pub inside : row < row_count old
   pub was_in_state : state_of old (stabilizer_at old row) ≡ true

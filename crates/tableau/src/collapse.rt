@@ -1,4 +1,5 @@
-//! The collapse of a word: its code tells the outcome, or the turn that all rows take.
+//! The collapse of a word, which is the projective measurement inside a measurement or a reset. Where the word's code has
+//! only I and Z the outcome is its sign; otherwise the outcome is the coin, and all rows are turned.
 ghost use Rattle.std.specs.Prelude.{◌≡◌, ◌≢◌, ◌<◌, ℕ, length, true, false, All, IfSome, IsTrue, slice_set};
 ghost use Rattle.gate_table.specs.Images.{arity_of};
 ghost use Rattle.gate_table.specs.WordImages.{image_at};
@@ -32,7 +33,7 @@ pub(crate) fn encode<A: Allocator + Copy>(
     }
 }
 
-/// The sign of a letter's word, where that is one of the pair and has only I and Z. None says nothing.
+/// The sign of the word of X or of Z, where it has only I and Z. None doesn't mean that the outcome is random.
 pub(crate) fn sign_seen<A: Allocator + Copy>(pair: &Pair<A>, letter: Letter) -> Option<bool>
     ensures { IfSome result (λ minus. (n : ℕ) → IsDiagonal (word_of n pair.now letter) minus) }
 {
@@ -52,8 +53,8 @@ fn diagonal_sign<A: Allocator + Copy>(word: &Word<A>) -> Option<bool>
     }
 }
 
-/// Collapses the word whose code is `code.0`: the outcome, and the row that was replaced where it was random. The word may
-/// have its one letter at the qubit `only`.
+/// Collapses the word whose code is `code.0`. Answers the outcome, and the row that was replaced where it was random.
+/// Where `only` names a qubit, the word has no letter at any other.
 pub(crate) fn collapse_code<A: Allocator + Copy>(
     rows: &mut Vec<Pair<A>, A>,
     word: &Word<A>,
@@ -107,7 +108,7 @@ fn set_pivot<A: Allocator + Copy>(code: &mut Pair<A>, qubit: usize, coin: bool)
     change_sign(&mut code.1, true);
 }
 
-// Whether a row commutes with the code is told by the letter measured at the row's qubit, and the row isn't read for it.
+// Whether a row commutes with the code follows from the letter measured at the row's qubit, so the row isn't read for it.
 fn turn_rows<A: Allocator + Copy>(
     rows: &mut Vec<Pair<A>, A>,
     word: &Word<A>,
@@ -129,7 +130,7 @@ fn turn_rows<A: Allocator + Copy>(
     }
 }
 
-// The letter of the word at a qubit, which is I where the word has its one letter elsewhere.
+// The letter of the word at a qubit: I where `only` names another qubit.
 #[inline(always)]
 fn measured_at<A: Allocator + Copy>(word: &Word<A>, only: Option<usize>, qubit: usize) -> Letter
     requires inside { qubit < length word.now.letters }
@@ -173,7 +174,7 @@ fn turn_pair<A: Allocator + Copy>(
     );
 }
 
-// Most rows stay as they are, and are told by their letter at the qubit alone.
+// Most rows stay as they are: their letter at the qubit is all that is read of them.
 #[inline(always)]
 fn turn_row<A: Allocator + Copy>(
     row: &mut Word<A>,
@@ -194,7 +195,7 @@ fn turn_row<A: Allocator + Copy>(
     change_row(row, code, letter, qubit, here, clashes);
 }
 
-// Whether a turn leaves a row with this letter at the qubit as it is.
+// Whether a turn leaves a row as it is that has this letter at the qubit.
 #[inline(always)]
 fn stays(here: Letter, clashes: bool) -> bool
     ensures { IsTrue result → (here ≡ I) × (clashes ≡ false) }
@@ -221,8 +222,8 @@ fn change_row<A: Allocator + Copy>(
     put_image(row, turning_gate(letter), qubit, twisted);
 }
 
-// Only rows with X or Y at the qubit are multiplied; others change no more than their letter there. Answers the letter
-// there, which is left to be put.
+// Only rows with X or Y at the qubit are multiplied; of others only the letter there changes. Answers the new letter
+// there, which isn't put yet.
 #[inline(always)]
 fn twist<A: Allocator + Copy>(
     row: &mut Word<A>,
@@ -260,7 +261,7 @@ fn twist<A: Allocator + Copy>(
     }
 }
 
-// Puts at a qubit what a gate makes of a letter there.
+// Puts the image of a letter under a gate at a qubit.
 #[inline(always)]
 fn put_image<A: Allocator + Copy>(word: &mut Word<A>, gate: Gate, qubit: usize, here: Letter)
     requires arity { arity_of gate ≡ 1 }

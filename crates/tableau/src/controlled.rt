@@ -1,5 +1,5 @@
-//! Controlled gates, in place: such a gate has a letter on each of its qubits, and the words of a qubit that clash with
-//! its own letter are multiplied by the word of the letter on the other. No word is copied.
+//! Controlled gates, in place: such a gate has a letter on each of its qubits. Where X or Z at a qubit clashes with the
+//! letter there, its word is multiplied by the word of the letter on the other qubit. No word is copied.
 ghost use Rattle.std.specs.Prelude.{◌≡◌, ◌≢◌, ◌<◌, length, false, IfSome};
 ghost use Rattle.gate_table.specs.Images.{factor};
 ghost use Rattle.pauli_word.specs.declared.letter.Letter.{Letter};
@@ -13,7 +13,7 @@ use gate_table::Gate;
 use pauli_word::Letter;
 use std::alloc::Allocator;
 
-/// The letters of a controlled gate on its first and its second qubit, where the first isn't Y.
+/// The letters of a controlled gate on its first and its second qubit. None for other gates, and where the first is Y.
 #[inline(always)]
 pub(crate) fn controlled_letters(gate: Gate) -> Option<(Letter, Letter)>
     ensures { IfSome result (λ letters. IsControlled gate letters.0 letters.1) }
@@ -87,7 +87,7 @@ fn multiply_behind<A: Allocator + Copy>(
     multiply_both(&mut back[0], &mut front[b], own, other);
 }
 
-// The words by which those of the second pair are multiplied are as they were: their letter doesn't clash with itself.
+// The word of `own`, by which the second pair is multiplied, is not changed before: `own` doesn't clash with itself.
 fn multiply_both<A: Allocator + Copy>(
     first: &mut Pair<A>,
     second: &mut Pair<A>,
@@ -105,7 +105,7 @@ fn multiply_both<A: Allocator + Copy>(
     multiply_clashing(second, other, first, own);
 }
 
-// Multiplies the words of a pair that clash with a letter by the word of another letter.
+// Multiplies the words of X and of Z, each where its letter clashes with `own`, by the word of `other` in another pair.
 #[inline(always)]
 fn multiply_clashing<A: Allocator + Copy>(
     pair: &mut Pair<A>,
@@ -122,7 +122,7 @@ fn multiply_clashing<A: Allocator + Copy>(
     multiply(&mut pair.1, others, factor(Letter::Z.clashes(own), other));
 }
 
-// A letter where it is a factor, else I.
+// A letter where it is a factor, otherwise I.
 #[inline(always)]
 fn factor(taken: bool, letter: Letter) -> Letter
     ensures { result ≡ factor taken letter }

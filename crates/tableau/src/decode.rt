@@ -1,4 +1,4 @@
-//! Reads the rows of the circuit off those of its inverse.
+//! The rows of the circuit's map, read from those of its inverse.
 ghost use Rattle.std.specs.Prelude.{◌≡◌, ◌<◌, length, false};
 ghost use Rattle.pauli_word.specs.Bits.{letter_of};
 ghost use Rattle.pauli_word.specs.declared.letter.Letter.TheVariants.{X};
@@ -11,7 +11,7 @@ use crate::pairs::Pair;
 use pauli_word::{Letter, Word};
 use std::alloc::Allocator;
 
-/// Makes a word that whose code is X at `row`, with sign plus.
+/// Sets a word to the one whose code is X at `row`, with sign plus.
 pub(crate) fn decode<A: Allocator + Copy>(rows: &Vec<Pair<A>, A>, row: usize, word: &mut Word<A>)
     requires tableau { IsTableau (length rows.now.items) rows.now.items }
     requires inside { row < length rows.now.items }
@@ -24,7 +24,7 @@ pub(crate) fn decode<A: Allocator + Copy>(rows: &Vec<Pair<A>, A>, row: usize, wo
     word.set_sign(false);
 }
 
-// The letter at a pair's qubit of the word whose code is X at `row`.
+// The letter, at the qubit of this pair, of the word whose code is X at `row`.
 fn decoded_letter<A: Allocator + Copy>(pair: &Pair<A>, row: usize) -> Letter
     requires x { row < length pair.now.0.letters }
     requires z { row < length pair.now.1.letters }

@@ -1,4 +1,4 @@
-//! Gates and Pauli words: they change the pairs of their qubits alone.
+//! Gates and Pauli words: they change only the pairs of their qubits.
 ghost use Rattle.std.specs.Prelude.{◌≡◌, ◌≢◌, ◌<◌, length, true, false, IfSome};
 ghost use Rattle.gate_table.specs.Images.{arity_of};
 ghost use Rattle.pauli_word.specs.declared.letter.Letter.{Letter};
@@ -15,7 +15,7 @@ use gate_table::Gate;
 use pauli_word::{Letter, Word};
 use std::alloc::Allocator;
 
-/// Applies a one-qubit gate. What it leaves in `spare` says nothing.
+/// Applies a one-qubit gate. What it leaves in `spare` is of no use.
 pub(crate) fn apply_one<A: Allocator + Copy>(
     rows: &mut Vec<Pair<A>, A>,
     spare: &mut Pair<A>,
@@ -35,7 +35,8 @@ pub(crate) fn apply_one<A: Allocator + Copy>(
     }
 }
 
-// A gate that is no letter. H exchanges the words and S multiplies one by the other; most make both anew.
+// A gate other than a Pauli letter. H exchanges the two words, S and its inverse multiply one by the other, and the rest
+// make both anew.
 fn apply_turn<A: Allocator + Copy>(
     rows: &mut Vec<Pair<A>, A>,
     spare: &mut Pair<A>,
@@ -60,7 +61,7 @@ fn apply_turn<A: Allocator + Copy>(
     }
 }
 
-// The letter that a gate applies, where it is one: it changes signs alone.
+// The letter that a gate applies, where it is one: it changes only signs.
 fn letter_of(gate: Gate) -> Option<Letter>
     ensures { IfSome result (AppliesLetter gate) }
 {
@@ -87,7 +88,7 @@ fn set_preimages<A: Allocator + Copy>(new: &mut Pair<A>, pair: &Pair<A>, gate: G
     set_word(&mut new.1, pair, z, z_minus);
 }
 
-/// Applies a two-qubit gate. What it leaves in `first` and `second` says nothing.
+/// Applies a two-qubit gate. What it leaves in `first` and `second` is of no use.
 pub(crate) fn apply_two<A: Allocator + Copy>(
     rows: &mut Vec<Pair<A>, A>,
     first: &mut Pair<A>,

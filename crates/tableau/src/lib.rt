@@ -1,4 +1,5 @@
-//! The stabilizer tableau: the state of n qubits under gates, Pauli words and measurements.
+//! The stabilizer tableau: the state of n qubits under gates, Pauli words and measurements. (Aaronson and Gottesman,
+//! Phys. Rev. A 70, 052328; the tableau of the inverse circuit: Gidney, Quantum 5, 497 (2021).)
 #![tactic(auto)]
 
 mod collapse;

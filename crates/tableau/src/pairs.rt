@@ -1,4 +1,4 @@
-//! The pair of words that X and Z at one qubit become, and the words of other letters there.
+//! The pair of words that X and Z at one qubit become under the inverse circuit, and the words of other letters there.
 ghost use Rattle.std.specs.Prelude.{◌≡◌, ◌<◌, length, true, false, IfOk};
 ghost use Rattle.pauli_word.specs.declared.letter.Letter.TheVariants.{Y};
 ghost use Rattle.pauli_word.specs.Words.{anticommute, product, identity_word, with_sign_changed};
@@ -33,7 +33,7 @@ pub(crate) fn start_pair<A: Allocator + Copy>(
     Ok((x, z))
 }
 
-/// Multiplies by a word from the right. It is called, and not put where it is used, since its callers choose among words.
+/// Multiplies by a word from the right. It is not inlined, since its callers would hold it once for each letter.
 #[inline(never)]
 fn times<A: Allocator + Copy>(word: &mut Word<A>, other: &Word<A>)
     requires { length word.old.letters ≡ length other.now.letters }
@@ -42,7 +42,7 @@ fn times<A: Allocator + Copy>(word: &mut Word<A>, other: &Word<A>)
     word.times(other);
 }
 
-/// Multiplies by the word of a letter. For Y the word commutes with that of Z.
+/// Multiplies by the word of a letter. For Y, `word` must commute with the word of Z.
 pub(crate) fn multiply<A: Allocator + Copy>(word: &mut Word<A>, pair: &Pair<A>, letter: Letter)
     requires size { HasLength (length word.old.letters) pair.now }
     requires commuting { letter ≡ Y → anticommute word.old.letters pair.now.1.letters ≡ false }
@@ -64,7 +64,7 @@ pub(crate) fn multiply<A: Allocator + Copy>(word: &mut Word<A>, pair: &Pair<A>, 
     }
 }
 
-/// Makes a word that of a letter, with its sign changed where `minus`.
+/// Sets a word to that of a letter, with its sign changed where `minus`.
 pub(crate) fn set_word<A: Allocator + Copy>(
     word: &mut Word<A>,
     pair: &Pair<A>,
@@ -95,8 +95,8 @@ pub(crate) fn change_sign<A: Allocator + Copy>(word: &mut Word<A>, minus: bool)
     word.set_sign(minus ^ word.sign());
 }
 
-/// Makes a pair equal to another, in its own memory. So pairs that follow one another stay so in memory, and a pass over all of
-/// them reads it in order.
+/// Makes a pair equal to another, in its own memory. So pairs keep their order in memory, and a pass over all of them
+/// reads it in order.
 pub(crate) fn replace<A: Allocator + Copy>(pair: &mut Pair<A>, new: &Pair<A>)
     requires x { length pair.old.0.letters ≡ length new.now.0.letters }
     requires z { length pair.old.1.letters ≡ length new.now.1.letters }
@@ -122,7 +122,7 @@ pub(crate) fn multiply_first<A: Allocator + Copy>(pair: &mut Pair<A>, minus: boo
     change_sign(&mut pair.0, minus);
 }
 
-/// Applies a letter to the qubit: the words of the letters that anticommute with it change their signs.
+/// Applies a letter to the qubit: the words of X and Z change their signs where X and Z anticommute with it.
 pub(crate) fn apply_letter<A: Allocator + Copy>(pair: &mut Pair<A>, letter: Letter)
     ensures { pair.new ≡ pair_after letter pair.old }
 {

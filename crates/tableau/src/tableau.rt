@@ -16,10 +16,11 @@ use pauli_word::{Letter, Word};
 use std::alloc::{AllocError, Allocator};
 use std::marker::Model;
 
-/// The state of n qubits, seen as the n stabilizer rows whose products are its words, and n destabilizer rows.
+/// The state of n qubits. Contracts see it as n stabilizer rows, whose products are the words of the state, and n
+/// destabilizer rows.
 ///
-/// It keeps the rows of the inverse circuit, from which those are read: a gate changes the rows of its qubits alone,
-/// and an outcome that isn't random is read off a product. `start` alone takes memory.
+/// It keeps the rows of the inverse circuit, from which those are read: a gate changes only the rows of its qubits, and
+/// an outcome that isn't random is the sign of a product. Only `start` allocates.
 #[derive(Drop)]
 pub struct Tableau<A: Allocator + Copy> {
     rows: Vec<Pair<A>, A>,
@@ -64,7 +65,7 @@ impl<A: Allocator + Copy> Tableau<A> {
         self.rows.len()
     }
 
-    /// Applies a gate, to the qubit `a` or to the qubits `a` and `b`. A one-qubit gate takes no notice of `b`.
+    /// Applies a gate, to qubit `a` or to qubits `a` and `b`. A one-qubit gate ignores `b`.
     pub fn apply(&mut self, gate: Gate, a: usize, b: usize)
         requires first_inside { a < row_count self.old }
         requires second_inside { arity_of gate ≡ 2 → b < row_count self.old }
@@ -107,7 +108,7 @@ impl<A: Allocator + Copy> Tableau<A> {
         );
     }
 
-    /// Applies a Pauli word, whose sign says nothing.
+    /// Applies a Pauli word. Its sign is ignored.
     pub fn apply_word(&mut self, word: &Word<A>)
         requires { length word.now.letters ≡ row_count self.old }
         ensures len { row_count self.new ≡ row_count self.old }
@@ -116,7 +117,8 @@ impl<A: Allocator + Copy> Tableau<A> {
         apply_letters(&mut self.rows, word);
     }
 
-    /// Measures a letter at a qubit: the outcome, and the row that was replaced where it was random.
+    /// Measures a letter at a qubit: a collapse. Answers the outcome, which is the coin where it is random, and the row
+    /// whose stabilizer was then replaced.
     pub fn collapse(&mut self, letter: Letter, qubit: usize, coin: bool) -> (bool, Option<usize>)
         requires { qubit < row_count self.old }
         ensures len { row_count self.new ≡ row_count self.old }
@@ -159,7 +161,8 @@ impl<A: Allocator + Copy> Tableau<A> {
         )
     }
 
-    /// Measures a word, its sign taken for plus: the outcome, and the row that was replaced where it was random.
+    /// Measures a word as if its sign were plus. Answers the outcome, which is the coin where it is random, and the row
+    /// whose stabilizer was then replaced.
     pub fn collapse_word(&mut self, word: &Word<A>, coin: bool) -> (bool, Option<usize>)
         requires { length word.now.letters ≡ row_count self.old }
         ensures len { row_count self.new ≡ row_count self.old }
@@ -189,7 +192,7 @@ impl<A: Allocator + Copy> Tableau<A> {
         }
     }
 
-    /// Makes a word the destabilizer of a row, with sign plus.
+    /// Sets a word to the destabilizer of a row, with sign plus.
     pub fn destabilizer(&self, row: usize, word: &mut Word<A>)
         requires inside { row < row_count self.now }
         requires lengths { length word.old.letters ≡ row_count self.now }

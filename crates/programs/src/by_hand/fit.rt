@@ -18,7 +18,7 @@ use pauli_word::Letter;
 use std::alloc::Allocator;
 use step_model::Term;
 
-// How many steps a circuit has once unrolled, and what they make.
+// How many steps an unrolled circuit has, and how many records, collapses and faults they make.
 #[derive(Clone, Copy)]
 struct Totals {
     steps: usize,
@@ -56,7 +56,7 @@ pub(crate) fn checked<'a, A: Allocator + Copy>(parts: Parts<'a, A>) -> Option<Pr
     }))
 }
 
-// Goes over the unrolled steps, a million at most.
+// Goes over the unrolled steps. None where one doesn't fit, or where there are more than a million.
 fn total_of<A: Allocator + Copy>(parts: &Parts<'_, A>) -> Option<Totals>
     requires { IsCircuit parts.now.nodes.items }
     ensures { IfSome result (AllFit parts.now) }
@@ -150,7 +150,7 @@ fn is_entry<A: Allocator + Copy>(parts: &Parts<'_, A>, e: u32) -> bool
     (e as usize) < parts.entries.len()
 }
 
-// Whether it is one without letters.
+// Whether there is one, and it has no letters.
 fn is_flip<A: Allocator + Copy>(parts: &Parts<'_, A>, e: u32) -> bool
     ensures { result ≡ true → flip_is_kept parts.now.entries (Some e) ≡ true }
 {
@@ -208,7 +208,7 @@ fn products_fit<A: Allocator + Copy>(parts: &Parts<'_, A>) -> bool
     true
 }
 
-// Whether the first of these letters is not I, and no other is at its qubit: then their product is no identity.
+// Whether the first of these letters is not I and no other is at its qubit: then their product isn't the identity.
 fn begins_apart(terms: &[Term]) -> bool
     ensures { result ≡ true → BeginsApart terms.now }
 {
@@ -219,7 +219,7 @@ fn begins_apart(terms: &[Term]) -> bool
     terms[1..].iter().all(|term| term.qubit != first)
 }
 
-// Whether lists name records that are made.
+// Whether all records in these lists are made.
 fn lists_fit<A: Allocator + Copy>(lists: &FlatLists<u32, A>, records: u32) -> bool
     ensures { result ≡ true → All (All (λ r. r < records)) lists.now }
 {

@@ -17,7 +17,7 @@ pub fn rows_have_all_letters<A: Allocator + Copy>(tableau: &Tableau<A>)
     let _ = &tableau.rows;
 }
 
-/// Any two rows commute, but a stabilizer row and the destabilizer row of its number.
+/// Any two rows commute, except a stabilizer row and the destabilizer row of the same number, which anticommute.
 pub fn rows_anticommute_in_pairs<A: Allocator + Copy>(tableau: &Tableau<A>)
     ensures stabilizers { (i j : ℕ) → i < row_count tableau.now → j < row_count tableau.now → anticommute (stabilizer_at tableau.now i).letters (stabilizer_at tableau.now j).letters ≡ false }
     ensures destabilizers { (i j : ℕ) → i < row_count tableau.now → j < row_count tableau.now → anticommute (destabilizer_at tableau.now i).letters (destabilizer_at tableau.now j).letters ≡ false }
@@ -27,7 +27,7 @@ pub fn rows_anticommute_in_pairs<A: Allocator + Copy>(tableau: &Tableau<A>)
     let _ = &tableau.rows;
 }
 
-/// The words of the state form a commutative group without minus the identity, so never both of p and -p are in it.
+/// The words of the state form a commutative group without minus the identity, so p and -p are never both in it.
 pub fn states_are_groups<A: Allocator + Copy>(tableau: &Tableau<A>)
     ensures { IsGroup (row_count tableau.now) (state_of tableau.now) }
 {
@@ -49,7 +49,7 @@ pub fn stabilizers_are_complete<A: Allocator + Copy>(tableau: &Tableau<A>)
     let _ = &tableau.rows;
 }
 
-/// Each word is, up to a power of i, a product of rows of both kinds.
+/// Each word is, up to a power of i, a product of stabilizer and destabilizer rows.
 pub fn rows_span_all_words<A: Allocator + Copy>(tableau: &Tableau<A>)
     ensures { (p : List Letter) → length p ≡ row_count tableau.now → letters_product (destabilizer_product tableau.now p).letters (stabilizer_product tableau.now p).letters ≡ p }
 {
