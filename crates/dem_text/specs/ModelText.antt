@@ -9,7 +9,7 @@ use Rattle.std.specs.Fmt.{signed_decimal}
 use Rattle.std.specs.List.{flat_map, range_with_len}
 use Rattle.step_model.specs.ErrorModels.{ErrorLine, ErrorModel}
 
--- a target after a space, where there are so many detectors
+-- a target after a space, in a model with this many detectors
 abbrev pub target_text : ℕ → ℕ → List ℕ
 target_text detectors target =
     if nat_lt target detectors then codes " D" ++ decimal target else codes " L" ++ decimal (target - detectors)
