@@ -72,7 +72,7 @@ pub(crate) fn toss(coins: &mut [u64], c: usize, lane: u32, coin: bool)
     coins[c] = with_coin(coins[c], lane, coin);
 }
 
-// Coins are as often 1 as not, so no branch is taken on them.
+// A coin is 1 half of the time, so no branch is taken on it.
 #[inline(always)]
 fn with_coin(word: u64, lane: u32, coin: bool) -> u64
     requires { lane < 64 }

@@ -1,8 +1,9 @@
 -- The list of a program's faults as text: a line for each fault in their order, with its number, the text of its
 -- probability as it stands in the circuit and what it does, separated by single spaces; then the line `coins N`, N
--- being the number of collapses. What a fault does is a Pauli word, the letter and qubit of each place that isn't I,
--- qubits ascending, joined by `*`, and `I` where there is none; or the record that it flips, as `rec[0]`. Numbers are
--- in decimal. (Pauli targets joined by `*`: Stim's circuit format. The list is this repository's own.)
+-- being the number of collapses (the projective measurements in measurements and resets). What a fault does is a Pauli
+-- word, the letter and qubit of each place that isn't I, qubits ascending, joined by `*`, and `I` where there is none;
+-- or the record that it flips, as `rec[0]`. Numbers are in decimal. (Pauli targets joined by `*`: Stim's circuit
+-- format. The list is this repository's own.)
 use Rattle.std.specs.Prelude.{ℕ, List, [], ◌∷◌, ◌++◌, length, codes, decimal, if◌then◌else◌}
 use Rattle.std.specs.List.{flat_map, range_with_len}
 use Rattle.pauli_word.specs.declared.letter.Letter.{Letter}
@@ -21,7 +22,7 @@ letter_text Z = codes "Z"
 abbrev pub factor_text : ℕ → Letter → List ℕ
 factor_text q a = letter_text a ++ decimal q
 
--- the texts of the places that aren't I
+-- the text of a qubit's letter as a list, empty where the letter is I
 abbrev pub factor_at : List Letter → ℕ → List (List ℕ)
 factor_at w q = if is_I (letter_at w q) then [] else factor_text q (letter_at w q) ∷ []
 
