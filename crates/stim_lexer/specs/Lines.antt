@@ -1,7 +1,7 @@
 -- A text is cut into lines at each line feed; what follows the last line feed is a line where it isn't empty. A line of
--- blanks, or of blanks and a comment, which is `#` and all that follows, says nothing. A line of `}` and blanks, with a
--- comment at will, closes a block.
--- (Stim's circuit format, github.com/quantumlib/Stim, doc/file_format_stim_circuit.md, "Syntax".)
+-- blanks, or of blanks and a comment, which is `#` and all that follows, says nothing. A line of `}` and blanks, with
+-- or without a comment, closes a block. (Stim's circuit format, github.com/quantumlib/Stim,
+-- doc/file_format_stim_circuit.md, "Syntax".)
 use Rattle.std.specs.Prelude.{ℕ, Bool, ◌&&◌, if◌then◌else◌, List, [], ◌∷◌, drop}
 use Rattle.std.specs.List.{list_all, onto_first, before_first}
 use Rattle.stim_lexer.specs.Bytes.{is_line_feed, is_hash, is_blank, is_close_brace, is_empty, begins_with, after_blanks}

@@ -13,7 +13,7 @@ use Rattle.unroll.specs.Detectors.{records_named}
 use Rattle.unroll.specs.Kept.{first_argument}
 use Rattle.unroll.specs.Totals.{record_count}
 
--- how many observables there are for an operation with these arguments to name its own: one more than its number
+-- how many observables there must be for an operation with these arguments: one more than the number that it names
 abbrev pub observables_to : Operation → List (List ℕ) → ℕ
 observables_to Observes arguments = value_of (first_argument arguments) + 1
 observables_to operation arguments = 0

@@ -13,7 +13,7 @@ use Rattle.unroll.specs.Made.{flip_of, operation_steps}
 abbrev pub instruction_steps : ℕ → ℕ → Instruction → List TextStep
 instruction_steps e p i = operation_steps i.operation e p (flip_of e i.arguments) i.targets
 
--- the steps of what stands behind so many entries and products
+-- the steps of a tree, where so many entries and products are kept before it
 unfoldable pub steps_from : ℕ → ℕ → Tree → List TextStep
 steps_from e p Nothing = []
 steps_from e p (Then i rest) =

@@ -1,6 +1,6 @@
--- A circuit's totals as they are summed up in one pass over its text: a sum that doesn't fit 64 bits stays at the greatest
--- number that does, which is above every limit and beyond every record that a target can name.
--- (Stim's circuit format, github.com/quantumlib/Stim, doc/file_format_stim_circuit.md; the limits are this project's.)
+-- A circuit's totals as they are summed up in one pass over its text. A sum that doesn't fit 64 bits stays at the
+-- greatest number that does, which is above every limit, and beyond every record that a target can name. (Stim's
+-- circuit format, github.com/quantumlib/Stim, doc/file_format_stim_circuit.md; the limits are this project's.)
 use Rattle.std.specs.Prelude.{◌≡◌, ℕ, ◌+◌, ◌-◌, ◌*◌, ◌^◌, min, if◌then◌else◌, Option, None, Some}
 use Rattle.stim_parser.specs.Trees.{Tree}
 use Rattle.stim_parser.specs.Verdicts.{Instruction}
@@ -15,7 +15,7 @@ greatest = 2 ^ 64 - 1
 abbrev pub capped_sum : ℕ → ℕ → ℕ
 capped_sum a b = min (a + b) greatest
 
--- a sum behind all turns of a block, by the sums before it and behind its first turn
+-- the sum after all turns of a block, from the sums before it and after its first turn
 abbrev pub repeated_sum : ℕ → ℕ → ℕ → ℕ
 repeated_sum turns before after = capped_sum after (min ((turns - 1) * (after - before)) greatest)
 

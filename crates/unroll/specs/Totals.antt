@@ -1,7 +1,8 @@
 -- What a circuit takes, counted on its tree without unrolling it. An instruction is a step, and each of its targets is
--- one more, where a record in a pair is a target and a product is one; each turn of a block is a step too. A measurement
--- makes a record and a collapse of each target, MPP of each product, a reset a collapse. The qubits are those up to the
--- greatest that any instruction names. (Which of these have a limit is this project's choice.)
+-- one more (a record in a pair is a target, and a product is one target); each turn of a block is a step too. A
+-- measurement makes a record and a collapse (a projective measurement) for each target, MPP for each product; a reset
+-- makes a collapse. The qubits are those up to the greatest that any instruction names. (Which of these have a limit is
+-- this project's choice.)
 use Rattle.std.specs.Prelude.{ℕ, Bool, is_some, slice_get, ◌+◌, ◌*◌, ◌/◌, ◌==◌, max, if◌then◌else◌, List, [], ◌∷◌, length}
 use Rattle.gate_table.specs.Images.{arity_of}
 use Rattle.stim_parser.specs.declared.operation.Operation.{Operation}

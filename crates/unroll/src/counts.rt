@@ -37,7 +37,7 @@ pub(crate) fn detectors_made(operation: Operation) -> usize
     }
 }
 
-/// How many faults an operation makes of so many targets, where its records may flip or not.
+/// How many faults an operation makes of so many targets; `flips` says whether its records may be flipped.
 #[inline(always)]
 pub(crate) fn faults_made(operation: Operation, flips: bool, targets: usize) -> usize
     ensures { result ≡ faults_made operation flips targets }

@@ -10,7 +10,7 @@ use flat_lists::FlatLists;
 use std::alloc::{AllocError, Allocator};
 use stim_parser::{Circuit, Instruction, Item, Operation};
 
-/// How many observables there are for an instruction to name its own: none where it names none.
+/// One more than the observable that an instruction names, and 0 where it names none.
 pub(crate) fn named_to(instruction: Instruction<'_, '_>) -> u64
     ensures { result ≡ named_to (instruction_in instruction.entry).operation (instruction_in instruction.entry).arguments }
 {
@@ -66,7 +66,7 @@ fn push_place<A: Allocator + Copy>(
     Ok(())
 }
 
-/// The records that are added to each of so many observables, each inclusion looked at once.
+/// The records that are added to each of so many observables. Each inclusion is looked at once.
 fn lists_of<A: Allocator + Copy>(
     alloc: A,
     count: u64,
