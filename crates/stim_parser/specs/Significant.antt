@@ -1,7 +1,7 @@
--- The significant digits of a number, read from the left: how many digits there are from the first that isn't a zero on,
--- how many zeros stand at the end of them, and the number that those before these zeros write. Beyond 18 digits the
--- number is of no use, and is left as it was.
--- (Stim's circuit format, github.com/quantumlib/Stim, doc/file_format_stim_circuit.md; how it is kept is this project's own.)
+-- The significant digits of a number, read from the left: how many digits there are from the first that isn't a zero
+-- on, how many of them are zeros at the end, and the number that those before these zeros write. Beyond 18 digits the
+-- number is of no use, and is left as it was. (Stim's circuit format, github.com/quantumlib/Stim,
+-- doc/file_format_stim_circuit.md; how it is kept is this project's own.)
 use Rattle.std.specs.Prelude.{ℕ, ◌+◌, ◌-◌, ◌*◌, ◌^◌, ◌==◌, ◌<◌, ◌≤◌, nat_lt, if◌then◌else◌, List, fold}
 use Rattle.stim_parser.specs.declared.significant.Significant.{Significant}
 

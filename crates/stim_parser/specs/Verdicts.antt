@@ -1,5 +1,5 @@
--- What a cut line says where so many blocks are open, or why it is refused. A line of `}` alone closes a block. Any other is
--- asked these questions in their order, and the first that applies is its refusal:
+-- What a cut line says where `depth` blocks are open, or why it is refused. A line of `}` alone closes a block. Any other
+-- is asked these questions in their order, and the first that applies is its refusal:
 --     Block: `}` alone with no open block; a line of REPEAT whose one brace isn't a `{` at its end; any other brace.
 --     Name: the name is empty or unknown.
 --     LeftOut: the name is known and left out.
@@ -114,7 +114,7 @@ refusals depth cut =
     (misplaces_brace (keyword_named cut.name) cut.braces, cause.Block)
     ∷ refusals_of_name depth (keyword_named cut.name) cut
 
--- the refusal of a line where so many blocks are open
+-- the refusal of a line where `depth` blocks are open
 unfoldable pub refusal_of : ℕ → Cut → Option Cause
 refusal_of depth cut = option_map (λ asked. asked.1) (find (λ asked. asked.0) (refusals depth cut))
 
@@ -158,7 +158,7 @@ closed_at depth = if depth == 0 then Refuses cause.Block else Closes
 unfoldable pub judged : ℕ → ℕ → Cut → Reading
 judged depth number cut = unless_refused (refusal_of depth cut) (accepted number (keyword_named cut.name) cut)
 
--- what a cut line of a number says where so many blocks are open
+-- what the cut line of this number says where `depth` blocks are open
 abbrev pub said_by : Braces → ℕ → ℕ → Cut → Reading
 said_by ClosingAlone depth number cut = closed_at depth
 said_by braces depth number cut = judged depth number cut

@@ -7,7 +7,7 @@ ghost use Rattle.stim_parser.specs.Numbers.{is_number, number_of, value_of};
 /// The least number that is beyond every limit.
 pub(crate) const BEYOND_ALL: u64 = 1_000_000_000_000_000_000;
 
-/// How many digits write no number that is beyond every limit.
+/// A number of at most this many digits isn't beyond every limit.
 const SHORT_DIGITS: usize = 18;
 
 /// The number that digits write, or the one beyond every limit where it is greater.

@@ -7,7 +7,7 @@ use crate::decimal::{Parts, decimal_of};
 use crate::significant::{Significant, more_digits, nothing_read};
 use std::marker::Model;
 
-/// A probability, seen as floor of its value times 2^64.
+/// A probability, kept as floor of its value times 2^64.
 #[derive(Clone, Copy)]
 pub struct Probability {
     bound: u128,
@@ -26,8 +26,9 @@ impl Model for Probability {
 }
 
 impl Probability {
-    /// The probability that a text writes: digits, with a point and an exponent at will. There is none where the text
-    /// isn't a number, its value is above 1, or it has more than 18 significant digits or 38 places after the point.
+    /// The probability that a text writes: digits, with or without a point and an exponent. There is none where the
+    /// text isn't a number, its value is above 1, or it has more than 18 significant digits or 38 places after the
+    /// point.
     pub fn read(text: &[u8]) -> Option<Probability>
         ensures { result ≡ probability_bound text.now }
     {
