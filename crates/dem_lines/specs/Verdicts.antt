@@ -1,5 +1,5 @@
--- What a cut line of an error model says where so many blocks are open, or why it is refused. A line of `}` alone closes
--- a block. Any other is asked these questions in their order, and the first that applies is its refusal:
+-- What a cut line of an error model says where `depth` blocks are open, or why it is refused. A line of `}` alone
+-- closes a block. Any other is asked these questions in their order, and the first that applies is its refusal:
 --     DemBlock: `}` alone with no open block; a line of `repeat` whose one brace isn't a `{` at its end; any other brace.
 --     DemName: the name is empty or unknown.
 --     DemArguments: a tag or parentheses stay open; a wrong number of arguments; an empty one; one of another form, or a
@@ -104,7 +104,7 @@ refusals depth cut =
 abbrev pub first_of : List (Bool × Cause) → Option Cause
 first_of asked = option_map (λ question. question.1) (find (λ question. question.0) asked)
 
--- the refusal of a line where so many blocks are open
+-- the refusal of a line where `depth` blocks are open
 unfoldable pub refusal_of : ℕ → Cut → Option Cause
 refusal_of depth cut = first_of (refusals depth cut)
 
@@ -148,7 +148,7 @@ closed_at depth = if depth == 0 then Refuses cause.DemBlock else Closes
 unfoldable pub judged : ℕ → ℕ → Cut → Reading
 judged depth number cut = unless_refused (refusal_of depth cut) (accepted number (keyword_named cut.name) cut)
 
--- what a cut line of a number says where so many blocks are open
+-- what the cut line of this number says where `depth` blocks are open
 abbrev pub said_by : Braces → ℕ → ℕ → Cut → Reading
 said_by ClosingAlone depth number cut = closed_at depth
 said_by braces depth number cut = judged depth number cut

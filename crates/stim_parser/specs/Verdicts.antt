@@ -1,5 +1,5 @@
--- What a cut line says where `depth` blocks are open, or why it is refused. A line of `}` alone closes a block. Any other
--- is asked these questions in their order, and the first that applies is its refusal:
+-- What a cut line says where `depth` blocks are open, or why it is refused. A line of `}` alone closes a block. Any
+-- other is asked these questions in their order, and the first that applies is its refusal:
 --     Block: `}` alone with no open block; a line of REPEAT whose one brace isn't a `{` at its end; any other brace.
 --     Name: the name is empty or unknown.
 --     LeftOut: the name is known and left out.
