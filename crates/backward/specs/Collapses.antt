@@ -1,7 +1,7 @@
--- What going back over a collapse, a fault or feedback does to the words, to the sets of records and to the places
--- noted, however the words are kept. A collapse is the projective measurement inside a measurement or a reset.
--- (Sensitivities taken back over a circuit: Gidney, Quantum 5, 497 (2021). How they are kept here is this project's
--- own.)
+-- What going back over a collapse, a fault or feedback does to the words, to the targets that list each record and to
+-- the places noted, however the words are kept. A collapse is the projective measurement inside a measurement or a
+-- reset. (Sensitivities taken back over a circuit: Gidney, Quantum 5, 497 (2021). How they are kept here is this
+-- project's own.)
 use Rattle.std.specs.Prelude.{◌≡◌, ℕ, Bool, true, false, not, All, length, List, [], ◌∷◌, Option, None, Some, slice_index_or, slice_set}
 use Rattle.step_model.specs.declared.step.Term.{Term}
 use Rattle.step_model.specs.Listing.{Listing}

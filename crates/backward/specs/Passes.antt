@@ -33,20 +33,21 @@ listing_set program steps r =
 abbrev pub listing_sets : Listing → List ListedStep → List (List Bool)
 listing_sets program steps = map (listing_set program steps) (range_with_len 0 program.records)
 
--- the error line of a fault that hits these targets; none where there are none
+-- the error line of a fault that flips these targets; none where there are none
 abbrev pub line_for : List ℕ → List ℕ → List ErrorLine
 line_for text [] = []
 line_for text (t ∷ ts) = record { text = text; targets = t ∷ ts } ∷ []
 
+-- the lines, and behind them that of a fault that flips these targets
 abbrev pub with_line : List ℕ → List ℕ → List ErrorLine → List ErrorLine
 with_line text targets lines = lines ++ line_for text targets
 
--- the line of a recorded flip, where there is one, for these targets
+-- the lines, and behind them that of the fault that flips a record, where there is one, for these targets
 abbrev pub with_flip : Listing → Option FaultName → List ℕ → List ErrorLine → List ErrorLine
 with_flip program None targets lines = lines
 with_flip program (Some name) targets lines = with_line (kept_at program name.entry).text targets lines
 
--- the targets that a fault hits at a step, and its line; the steps are those after it
+-- the targets that a fault at a step flips, and its line; the steps are those after it
 abbrev pub hit_at : Listing → ListedStep → List ListedStep → ℕ → List ℕ
 hit_at program step steps f =
     filter (λ d. hits_at program f step (sensitivity_before program steps d)) (range_with_len 0 (length (targets_of program)))

@@ -12,6 +12,7 @@ use Rattle.gate_table.specs.WordImages.{preimage_at, preimage_at_two}
 use Rattle.step_model.specs.Listing.{word_of_terms}
 use Rattle.step_model.specs.Sensitivities.{multiplied}
 
+-- the number of qubits, and the word of each target
 pub record Tracked : Type 0 where
   pub qubits : ℕ
   pub words : List (List Letter)

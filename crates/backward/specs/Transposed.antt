@@ -21,6 +21,7 @@ word_at columns t = map (λ column. letter_at column t) columns
 abbrev pub transposed : ℕ → List (List Letter) → List (List Letter)
 transposed m columns = map (word_at columns) (range_with_len 0 m)
 
+-- what is tracked, from the columns of m targets
 abbrev pub tracked_of : ℕ → List (List Letter) → Tracked
 tracked_of m columns = record { qubits = length columns; words = transposed m columns }
 

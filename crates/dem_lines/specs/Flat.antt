@@ -38,6 +38,7 @@ abbrev pub first_tree : List Tree → Tree
 first_tree [] = Nothing
 first_tree (t ∷ ts) = t
 
+-- the tree of items
 abbrev pub tree_of : List Item → Tree
 tree_of items = first_tree (trees_of items)
 

@@ -85,6 +85,7 @@ refusals_of_amounts depth keyword cut =
     ∷ (opens_too_deep depth keyword, cause.DemDepth)
     ∷ []
 
+-- the questions of a line with this keyword, of one with a keyword or none, and of any line
 abbrev pub refusals_of_keyword : ℕ → Keyword → Cut → List (Bool × Cause)
 refusals_of_keyword depth keyword cut =
     (refuses_arguments keyword cut, cause.DemArguments)
@@ -153,5 +154,6 @@ abbrev pub said_by : Braces → ℕ → ℕ → Cut → Reading
 said_by ClosingAlone depth number cut = closed_at depth
 said_by braces depth number cut = judged depth number cut
 
+-- what a cut line says
 unfoldable pub reading_of : ℕ → ℕ → Cut → Reading
 reading_of depth number cut = said_by cut.braces depth number cut

@@ -59,6 +59,7 @@ placed_with i coordinates targets =
       targets = targets;
     }
 
+-- the line of a heading, and those of all headings
 abbrev pub line_kept : List Item → List (List ℤ) → List (List Target) → Heading → Placed
 line_kept items coordinates targets h =
     placed_with (instruction_at items h.place) (list_numbered [] coordinates h.coordinates)

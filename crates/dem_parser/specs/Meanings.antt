@@ -36,6 +36,7 @@ unfoldable pub greatest_over : (Target → ℕ) → List Placed → ℕ
 greatest_over count [] = 0
 greatest_over count (placed ∷ rest) = max (greatest_of count placed.targets) (greatest_over count rest)
 
+-- one more than the greatest detector that lines name, or 0; and so for observables
 abbrev pub detector_count : List Placed → ℕ
 detector_count lines = greatest_over detectors_to lines
 
@@ -76,6 +77,7 @@ abbrev pub is_error : Operation → Bool
 is_error Errs = true
 is_error operation = false
 
+-- an error line as a line of the model, and the error lines among lines
 abbrev pub error_line : ℕ → ℕ → Placed → ErrorLine
 error_line detectors observables placed =
     record { text = placed.text; targets = flipped detectors observables placed.targets }
@@ -96,11 +98,13 @@ last_coordinates d found [] = found
 last_coordinates d found (placed ∷ rest) =
     last_coordinates d (if gives_coordinates d placed then placed.coordinates else found) rest
 
+-- the coordinates of each detector
 abbrev pub coordinates_in : List Placed → List (List ℤ)
 coordinates_in lines = map (λ d. last_coordinates d [] lines) (range_with_len 0 (detector_count lines))
 
 -- ---- the model
 
+-- the error model of lines
 abbrev pub meaning_of : List Placed → ErrorModel
 meaning_of lines =
     record {

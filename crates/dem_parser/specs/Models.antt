@@ -49,6 +49,7 @@ unless_refused_by (Some fault) model = Err fault
 abbrev pub model_of_tree : Tree → Result ErrorModel Fault
 model_of_tree tree = unless_refused_by (refusal_of_tree tree) (meaning_of (placed_lines tree))
 
+-- the model of the items of a text, or the refusal of its lines
 abbrev pub model_of_items : Result (List Item) Fault → Result ErrorModel Fault
 model_of_items (Ok items) = model_of_tree (tree_of items)
 model_of_items (Err fault) = Err fault

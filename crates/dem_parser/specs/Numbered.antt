@@ -14,6 +14,7 @@ numbered detectors (Detector d) = d ∷ []
 numbered detectors (Observable k) = (detectors + k) ∷ []
 numbered detectors target = []
 
+-- the numbers of targets, in their order
 abbrev pub numbers_of : ℕ → List Target → List ℕ
 numbers_of detectors [] = []
 numbers_of detectors (target ∷ targets) = numbered detectors target ++ numbers_of detectors targets

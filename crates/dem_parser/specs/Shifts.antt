@@ -50,6 +50,7 @@ abbrev pub coordinates_given : Operation → List (List ℕ) → List ℤ → Li
 coordinates_given Detects arguments offset = moved offset (map whole_value arguments)
 coordinates_given operation arguments offset = []
 
+-- a target, its detector shifted
 abbrev pub target_at : ℕ → Target → Target
 target_at shift (Detector d) = Detector (d + shift)
 target_at shift target = target
@@ -63,6 +64,7 @@ pub record Placed : Type 0 where
   pub coordinates : List ℤ
   pub targets : List Target
 
+-- an instruction as it is reached with this shift
 abbrev pub placed_at : Shift → Instruction → Placed
 placed_at s i =
     record {

@@ -16,6 +16,7 @@ abbrev pub is_in_symptom : List Bool → List ErrorLine → ℕ → Bool
 is_in_symptom (named ∷ rest) (line ∷ lines) t = exclusive_or (named && is_flipped t line.targets) (is_in_symptom rest lines t)
 is_in_symptom named lines t = false
 
+-- the symptom of the lines of a model that are named
 abbrev pub symptom_of : ErrorModel → List Bool → List Bool
 symptom_of model named = map (is_in_symptom named model.lines) (range_with_len 0 (model.detectors + model.observables))
 

@@ -23,6 +23,7 @@ pub record IsNumbered (texts : List (List ℕ)) (numbers : List ℕ) (targets : 
   pub counted : length numbers ≡ length targets
   pub named : All (λ n. n < length texts) numbers
 
+-- an empty line, for one that isn't there
 abbrev pub no_line : ErrorLine
 no_line = record { text = []; targets = [] }
 

@@ -11,6 +11,7 @@ pub record Filled : Type 0 where
   pub text : List ℕ
   pub room : ℕ
 
+-- a block without text
 abbrev pub no_text : ℕ → Filled
 no_text room = record { text = []; room = room }
 

@@ -18,6 +18,7 @@ target_text detectors target =
 abbrev pub targets_text : ℕ → List ℕ → List ℕ
 targets_text detectors targets = flat_map (target_text detectors) targets
 
+-- an error line
 abbrev pub line_text : ℕ → ErrorLine → List ℕ
 line_text detectors line = codes "error(" ++ line.text ++ codes ")" ++ targets_text detectors line.targets ++ codes "\n"
 
@@ -38,6 +39,7 @@ detector_text detector coordinates = codes "detector" ++ coordinates_text coordi
 abbrev pub observable_text : ℕ → List ℕ
 observable_text observable = codes "logical_observable L" ++ decimal observable ++ codes "\n"
 
+-- the error lines of a model, the lines of its detectors, and those of its observables
 abbrev pub lines_text : ErrorModel → List ℕ
 lines_text model = flat_map (line_text model.detectors) model.lines
 
@@ -48,5 +50,6 @@ detectors_text model =
 abbrev pub observables_text : ErrorModel → List ℕ
 observables_text model = flat_map observable_text (range_with_len 0 model.observables)
 
+-- the text of a model
 abbrev pub model_text : ErrorModel → List ℕ
 model_text model = lines_text model ++ detectors_text model ++ observables_text model

@@ -108,6 +108,7 @@ impl<'a, A: Allocator + Copy> Model<'a, A> {
         }
     }
 
+    /// How many detectors there are.
     pub fn detector_count(&self) -> usize
         ensures count { result ≡ self.now.detectors }
         ensures coordinates { result ≡ length self.now.coordinates }
@@ -123,6 +124,7 @@ impl<'a, A: Allocator + Copy> Model<'a, A> {
         self.coordinates.get(detector)
     }
 
+    /// How many observables there are.
     pub fn observable_count(&self) -> usize
         ensures { result ≡ self.now.observables }
     {

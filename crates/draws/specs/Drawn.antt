@@ -15,6 +15,7 @@ pub record ShotLists : Type 0 where
   pub faults : List Bool
   pub coins : List Bool
 
+-- the bounds of a program's faults
 abbrev pub bounds_of : Listing → List ℕ
 bounds_of program = map (λ fault. fault.bound) program.faults
 

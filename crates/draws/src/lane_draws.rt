@@ -39,7 +39,7 @@ fn draw_run(faults: &mut [u64], start: usize, end: usize, bound: u128, lane: u32
     }
 }
 
-// Hits are rare, so a word is written only where there is one.
+// Most faults do not happen, so a word is written only where one does.
 #[inline(always)]
 pub(crate) fn strike(faults: &mut [u64], f: usize, lane: u32, hit: bool)
     requires within { f < length faults.old }

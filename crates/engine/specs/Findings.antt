@@ -17,5 +17,6 @@ abbrev pub first_placed : Listing → List ℕ → Option (ℕ × Place)
 first_placed program [] = None
 first_placed program (d ∷ targets) = placed_or (place_of program d) d (first_placed program targets)
 
+-- the lowest target of a program that has a place, with its place
 abbrev pub lowest_placed : Listing → Option (ℕ × Place)
 lowest_placed program = first_placed program (range_with_len 0 (length (targets_of program)))

@@ -40,6 +40,7 @@ pub record Output : Type 0 where
   pub bytes : List ℕ
   pub status : Status
 
+-- an order that was served as asked
 abbrev pub done : List ℕ → Output
 done bytes = record { bytes = bytes; status = Done }
 

@@ -10,6 +10,7 @@ use Rattle.step_model.specs.WellFormed.{is_I}
 use Rattle.step_model.specs.declared.step.Term.{Term}
 use Rattle.fault_list.specs.FaultLines.{factor_text}
 
+-- the letter of one term at a qubit, and the product of those of several terms
 abbrev pub letter_here : Term → ℕ → Letter
 letter_here term q = if term.qubit == q then term.letter else I
 

@@ -47,6 +47,7 @@ pub record IsNotThere (program : Listing) (k : ℕ) : Type 0 where
   pub made : made_at program k ≡ 0
   pub word : word_at program k ≡ no_letters program.qubits
 
+-- what is known of the collapse k, where there is one and where there is none
 abbrev pub Passes : Listing → ℕ → Option Passed → Type 0
 Passes program k None = IsNotThere program k
 Passes program k (Some passed) = IsPassed program k passed

@@ -5,6 +5,7 @@ use Rattle.std.specs.Prelude.{[], map, Result, Ok, Err}
 use Rattle.step_model.specs.declared.fault.Fault.{Fault}
 use Rattle.step_model.specs.ErrorModels.{ErrorLine, ErrorModel}
 
+-- a line and a model, stripped
 abbrev pub stripped_line : ErrorLine → ErrorLine
 stripped_line line = record { text = []; targets = line.targets }
 

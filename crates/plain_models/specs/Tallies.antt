@@ -53,6 +53,7 @@ targets_kept texts = map (λ text. read_targets text.now) texts
 abbrev pub line_tallied : ℕ → ℕ → List Target → ErrorLine
 line_tallied detectors observables targets = record { text = []; targets = flipped detectors observables targets }
 
+-- the model of a tally, stripped
 abbrev pub model_tallied : Tally → ErrorModel
 model_tallied t =
     record {

@@ -24,6 +24,7 @@ shot_faults program generator = drawn_faults (bounds_of program) generator
 abbrev pub shot_coins : Listing → Lcg → List Bool
 shot_coins program generator = drawn_coins program.collapses (after_words (length program.faults) generator)
 
+-- the records of that shot
 abbrev pub shot_records : Listing → Lcg → List Bool
 shot_records program generator = records_of program (shot_faults program generator) (shot_coins program generator)
 

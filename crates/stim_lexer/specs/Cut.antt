@@ -31,6 +31,7 @@ in_brackets opening closing text = if has_opening opening text then before_first
 abbrev pub after_brackets : (ℕ → Bool) → (ℕ → Bool) → List ℕ → List ℕ
 after_brackets opening closing text = if has_opening opening text then after_first closing (after_opening text) else text
 
+-- whether there is an opening byte and no closing one
 abbrev pub leaves_open : (ℕ → Bool) → (ℕ → Bool) → List ℕ → Bool
 leaves_open opening closing text = has_opening opening text && not (list_any closing (after_opening text))
 
@@ -76,6 +77,7 @@ pub record Cut : Type 0 where
   pub targets : List ℕ
   pub braces : Braces
 
+-- a line, cut
 unfoldable pub cut_of : List ℕ → Cut
 cut_of line =
     let body = body_of line in

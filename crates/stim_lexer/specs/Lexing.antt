@@ -42,12 +42,14 @@ abbrev pub next_found : Unread → Result (Option Numbered) Fault
 next_found unread =
     let left = after_silent unread.read unread.lines in first_found left.read left.lines
 
+-- the lines that are left after that one
 abbrev pub after_next : Unread → Unread
 after_next unread =
     let left = after_silent unread.read unread.lines in after_first_found left.read left.lines
 
 -- ---- what a reader answers
 
+-- what a `Line` says, and what a reader's answer says
 abbrev pub cut_in : Line → Cut
 cut_in line =
     record {

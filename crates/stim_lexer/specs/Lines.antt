@@ -15,6 +15,7 @@ lines_of (b ∷ text) = if is_line_feed b then [] ∷ lines_of text else onto_fi
 abbrev pub content_of : List ℕ → List ℕ
 content_of line = after_blanks (before_first is_hash line)
 
+-- whether a line has nothing but blanks before its comment or its end
 unfoldable pub says_nothing : List ℕ → Bool
 says_nothing line = is_empty (content_of line)
 

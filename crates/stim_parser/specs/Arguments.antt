@@ -16,6 +16,7 @@ before_blanks text = take (length text - suffix_len is_blank text) text
 abbrev pub trimmed : List ℕ → List ℕ
 trimmed text = before_blanks (after_blanks text)
 
+-- the arguments in the text of some parentheses
 unfoldable pub arguments_in : List ℕ → List (List ℕ)
 arguments_in text = if is_empty (after_blanks text) then [] else map trimmed (slice_split is_comma text)
 

@@ -45,11 +45,13 @@ depth Nothing = 0
 depth (Then instruction rest) = depth rest
 depth (Block line turns body rest) = max (suc (depth body)) (depth rest)
 
+-- in a tree each instruction fits, and each block has a turn
 abbrev pub AllFit : Tree → Type 0
 AllFit Nothing = ⊤
 AllFit (Then instruction rest) = Fits instruction × AllFit rest
 AllFit (Block line turns body rest) = (0 < turns) × AllFit body × AllFit rest
 
+-- a tree that is a circuit
 pub record IsCircuit (tree : Tree) : Type 0 where
   pub fit : AllFit tree
   pub shallow : depth tree ≤ deepest

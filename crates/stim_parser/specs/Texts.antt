@@ -16,6 +16,7 @@ pub data Item : Type 0 where
   Begins : ℕ → ℕ → Item
   Ends : Item
 
+-- a refusal for this cause at this line
 abbrev pub refused : Cause → ℕ → Fault
 refused c line = record { cause = c; line = line }
 

@@ -91,6 +91,7 @@ opens_too_deep depth form = opens_block form && nat_le deepest depth
 
 -- ---- the questions in their order
 
+-- the questions of a line with this keyword, of one with a keyword or none, and of any line
 abbrev pub refusals_of_keyword : ℕ → Keyword → Cut → List (Bool × Cause)
 refusals_of_keyword depth keyword cut =
     let arguments = argument_form keyword in
@@ -163,5 +164,6 @@ abbrev pub said_by : Braces → ℕ → ℕ → Cut → Reading
 said_by ClosingAlone depth number cut = closed_at depth
 said_by braces depth number cut = judged depth number cut
 
+-- what a cut line says
 unfoldable pub reading_of : ℕ → ℕ → Cut → Reading
 reading_of depth number cut = said_by cut.braces depth number cut

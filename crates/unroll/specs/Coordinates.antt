@@ -39,5 +39,6 @@ coordinates_from offset (i ∷ instructions) =
     operation_coordinates offset i.operation i.arguments
     ++ coordinates_from (offset_after offset i.operation i.arguments) instructions
 
+-- the coordinates of a tree's detectors
 abbrev pub coordinates_of : Tree → List (List ℤ)
 coordinates_of tree = coordinates_from [] (reached tree)

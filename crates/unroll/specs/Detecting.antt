@@ -18,6 +18,7 @@ records_onward turns before after = after + (turns - 1) * (after - before)
 abbrev pub records_moved : ℕ → List ℕ → List ℕ
 records_moved d records = map (λ r. r + d) records
 
+-- what a pass gathers of detectors
 abbrev pub detecting : Gathering ℕ (List ℕ)
 detecting =
     record {

@@ -1,6 +1,6 @@
--- The detectors of a circuit, in the order in which they are reached: each lists the records that it names, as often and
--- in the order in which it names them. `rec[-k]` is the kth last record at its place.
--- (Stim's gate reference, github.com/quantumlib/Stim, doc/gates.md, "DETECTOR".)
+-- The detectors of a circuit, in the order in which they are reached: each lists the records that it names, as often
+-- and in the order in which it names them. `rec[-k]` is the kth last record at its place. (Stim's gate reference,
+-- github.com/quantumlib/Stim, doc/gates.md, "DETECTOR".)
 use Rattle.std.specs.Prelude.{ℕ, ◌+◌, ◌-◌, List, [], ◌∷◌, ◌++◌, map}
 use Rattle.stim_parser.specs.declared.operation.Operation.{Operation}
 use Rattle.stim_parser.specs.declared.operation.Operation.TheVariants.{Detects}
@@ -30,5 +30,6 @@ detectors_from r [] = []
 detectors_from r (i ∷ instructions) =
     operation_detectors r i.operation i.targets ++ detectors_from (r + record_count i) instructions
 
+-- the detectors of a tree
 abbrev pub detectors_of : Tree → List (List ℕ)
 detectors_of tree = detectors_from 0 (reached tree)

@@ -23,6 +23,7 @@ pub record Draft : Type 0 where
   pub entries : List Kept
   pub products : List (List Term)
 
+-- the draft that a writer holds
 abbrev pub draft_of : {A : Type 0} → Writing A → Draft
 draft_of w =
     record {

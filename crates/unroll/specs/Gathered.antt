@@ -12,11 +12,12 @@ pub record Gathered (P X : Type 0) : Type 0 where
   pub place : P
   pub found : List X
 
+-- how a pass gathers: where instructions and the turns of blocks take it, and what they give
 pub record Gathering (P X : Type 0) : Type 0 where
   -- the place after an instruction, and what the instruction gives
   pub next : P → Instruction → P
   pub gives : P → Instruction → List X
-  -- the place after so many more turns, from the places before and after the first
+  -- the place after all of so many turns, from the places before and after the first
   pub onward : ℕ → P → P → P
   -- what a later turn gives in place of what the first turn gave
   pub moved : ℕ → P → P → X → X
@@ -29,6 +30,7 @@ later move (suc n) xs = later move n xs ++ map (move (suc n)) xs
 abbrev pub mark_of : {P X : Type 0} → Gathered P X → Mark P
 mark_of s = record { place = s.place; found = length s.found }
 
+-- the state of a gathering pass after an instruction, and after all turns of a block
 abbrev pub stepped : {P X : Type 0} → Gathering P X → Instruction → Gathered P X → Gathered P X
 stepped g i s = record { place = g.next s.place i; found = s.found ++ g.gives s.place i }
 

@@ -30,6 +30,7 @@ operation_inclusions r operation arguments targets = []
 abbrev pub inclusion_moved : ℕ → Inclusion → Inclusion
 inclusion_moved d x = record { observable = x.observable; place = x.place + d }
 
+-- what a pass gathers of observables
 abbrev pub including : Gathering ℕ Inclusion
 including =
     record {

@@ -34,5 +34,6 @@ unfoldable pub added_from : ℕ → ℕ → List Instruction → List ℕ
 added_from k r [] = []
 added_from k r (i ∷ instructions) = instruction_adds k r i ++ added_from k (r + record_count i) instructions
 
+-- the observables of a tree
 abbrev pub observables_of : Tree → List (List ℕ)
 observables_of tree = map (λ k. added_from k 0 (reached tree)) (range_with_len 0 (observable_total tree))

@@ -62,6 +62,7 @@ pub record IsStated (xs : List ℤ) : Type 0 where
 
 -- ---- the pass
 
+-- the numbers by which an operation shifts coordinates
 abbrev pub numbers_of : Operation → List (List ℕ) → List ℤ
 numbers_of ShiftsCoordinates arguments = map whole_value arguments
 numbers_of operation arguments = []
@@ -84,6 +85,7 @@ abbrev pub turned_on : ℕ → Offset → Offset → Offset
 turned_on turns before after =
     record { up = turned_by turns before.up after.up; down = turned_by turns before.down after.down }
 
+-- what a pass gathers of coordinates
 abbrev pub placing : Gathering Offset (List ℤ)
 placing =
     record {

@@ -22,5 +22,6 @@ steps_from e p (Block line turns body rest) =
     repeated turns (steps_from e p body)
     ++ steps_from (e + length (kept_entries body)) (p + length (kept_products body)) rest
 
+-- the steps of a whole tree
 abbrev pub steps_of : Tree → List TextStep
 steps_of tree = steps_from 0 0 tree

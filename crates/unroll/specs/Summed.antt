@@ -12,6 +12,7 @@ use Rattle.unroll.specs.Totals.{collapse_count, collapse_total, detector_count, 
 abbrev pub greatest : ℕ
 greatest = 2 ^ 64 - 1
 
+-- a sum, or the greatest number of 64 bits where it is greater
 abbrev pub capped_sum : ℕ → ℕ → ℕ
 capped_sum a b = min (a + b) greatest
 
@@ -28,6 +29,7 @@ abbrev pub nothing_summed : Totals
 nothing_summed =
     record { records = 0; collapses = 0; detectors = 0; faults = 0; steps = 0; made = 0; far_line = None }
 
+-- the totals after one more instruction
 abbrev pub totals_after : Instruction → Totals → Totals
 totals_after i t =
     record {

@@ -44,6 +44,7 @@ abbrev pub detectors_made : Operation → ℕ
 detectors_made Detects = 1
 detectors_made operation = 0
 
+-- what an instruction counts towards the limits: steps, records, collapses and detectors
 abbrev pub step_count : Instruction → ℕ
 step_count i = 1 + target_count i.operation i.targets
 
@@ -76,11 +77,14 @@ steps_made (Errs l) targets = targets
 steps_made ErrsTogether targets = 1
 steps_made operation targets = collapses_made operation targets
 
+-- how many steps of a program an instruction makes
 abbrev pub made_count : Instruction → ℕ
 made_count i = steps_made i.operation (target_count i.operation i.targets)
 
 -- ---- totals of a tree
 
+-- the steps of a tree as its limit counts them, each turn of a block being one more; its other counts; its program's
+-- steps
 abbrev pub step_total : Tree → ℕ
 step_total tree = total 1 step_count tree
 
@@ -109,6 +113,7 @@ qubits_to (Pauli inverted l q) = q + 1
 qubits_to (Back k) = 0
 qubits_to Star = 0
 
+-- one more than the greatest qubit that targets, instructions or a whole tree name, and 0 where they name none
 abbrev pub qubits_named : List Target → ℕ
 qubits_named [] = 0
 qubits_named (target ∷ targets) = max (qubits_to target) (qubits_named targets)

@@ -88,9 +88,8 @@ fn parts_of<'a, A: Allocator + Copy>(
     Ok(assembled(circuit, totals, written, lists))
 }
 
-/// The program of a circuit, or why it has none. Time and memory grow with the text, with the number of detectors and
-/// with the records that detectors and observables name, as the turns of blocks repeat them; otherwise not with the
-/// turns.
+/// The program of a circuit, or why it has none. Time and memory grow with the text and with what detectors and
+/// observables list once blocks are unrolled; otherwise they don't grow with the turns of blocks.
 pub fn unroll<'a, A: Allocator + Copy>(
     alloc: A,
     circuit: &Circuit<'a, A>,
