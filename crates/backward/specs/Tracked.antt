@@ -17,7 +17,7 @@ pub record Tracked : Type 0 where
   pub qubits : ℕ
   pub words : List (List Letter)
 
--- so many identity words on n qubits
+-- this many identity words on n qubits
 abbrev pub fresh : ℕ → ℕ → Tracked
 fresh n count = record { qubits = n; words = replicate count (no_letters n) }
 

@@ -30,7 +30,7 @@ fn note_at(found: &mut Option<u32>, value: u32)
     }
 }
 
-/// Nothing noted for so many targets.
+/// Nothing noted for this many targets.
 pub(crate) fn none_noted<A: Allocator + Copy>(
     alloc: A,
     targets: usize,

@@ -83,7 +83,7 @@ impl<'s, A: Allocator + Copy> RecordLists<'s, A> {
         })
     }
 
-    // Empty sets of so many targets, for so many records.
+    // Empty sets of this many targets, for this many records.
     fn of_none(alloc: &'s A, targets: usize, records: usize) -> Result<Self, AllocError>
         ensures { IfOk result (λ lists. lists ≡ replicate records (replicate targets false)) }
     {

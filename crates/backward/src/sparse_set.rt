@@ -34,7 +34,7 @@ impl<'a, A: Allocator + Copy> Model for SparseSet<'a, A> {
 }
 
 impl<'a, A: Allocator + Copy> SparseSet<'a, A> {
-    /// The empty set of so many targets. Takes no memory.
+    /// The empty set of this many targets. Takes no memory.
     pub fn none(alloc: &'a A, targets: usize) -> Self
         ensures { result ≡ replicate targets false }
     {

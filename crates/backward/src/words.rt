@@ -54,7 +54,7 @@ impl<S: TargetSet, A: Allocator + Copy> Model for Words<S, A> {
 }
 
 impl<A: Allocator + Copy> Words<BitRow<A>, A> {
-    /// An identity word for each of so many targets, on so many qubits. It fails only where memory runs out.
+    /// An identity word for each of this many targets, on this many qubits. It fails only where memory runs out.
     pub fn dense(alloc: A, qubits: usize, targets: usize) -> Result<Self, AllocError>
         requires { targets ≤ 2 ^ 32 }
         ensures { IfOk result (λ w. w ≡ fresh qubits targets) }
@@ -71,7 +71,7 @@ impl<A: Allocator + Copy> Words<BitRow<A>, A> {
 }
 
 impl<'a, A: Allocator + Copy> Words<SparseSet<'a, A>, A> {
-    /// An identity word for each of so many targets, on so many qubits. It fails only where memory runs out.
+    /// An identity word for each of this many targets, on this many qubits. It fails only where memory runs out.
     pub fn sparse(alloc: &'a A, qubits: usize, targets: usize) -> Result<Self, AllocError>
         requires { targets ≤ 2 ^ 32 }
         ensures { IfOk result (λ w. w ≡ fresh qubits targets) }
@@ -184,7 +184,7 @@ impl<S: TargetSet, A: Allocator + Copy> Words<S, A> {
         }
     }
 
-    // The same of two letters Y.
+    // The same for two letters Y.
     fn list_both_y<B: Allocator + Copy>(
         &self,
         first: &Term,

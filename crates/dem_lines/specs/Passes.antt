@@ -23,7 +23,7 @@ behind pass (Block line turns body rest) s = behind pass rest (pass.close turns 
 abbrev pub opened : {S : Type 0} → ℕ → S → OpenBlock S
 opened turns s = record { turns = turns; before = s }
 
--- an item can stand where so many blocks are open
+-- an item can stand where this many blocks are open
 abbrev pub CanStand : Item → ℕ → Type 0
 CanStand (Does i) depth = Fits i
 CanStand (Begins line turns) depth = (0 < turns) × (depth < 32)

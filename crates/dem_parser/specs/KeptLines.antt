@@ -75,9 +75,9 @@ pub record IsNumbered {X : Type 0} (lists lists' : List (List X)) (list : List X
   pub within : number ≤ length lists'
   pub found : (own : List X) → list_numbered own lists' number ≡ list_or list own
 
--- ---- what is handed out of them
+-- ---- what callers get of them
 
--- a line that is handed out
+-- a line as callers get it
 abbrev pub placed_in : PlacedLine → Placed
 placed_in p =
     record {
@@ -88,7 +88,7 @@ placed_in p =
       targets = p.targets.now;
     }
 
--- ---- how they are stored, for the type that is seen as them
+-- ---- how they are stored, for the type whose values they are
 
 abbrev Fields : Type 0
 Fields = ℕ × (Operation × (List ℕ × (List ℤ × List Target)))

@@ -30,6 +30,6 @@ marked mark marks (target ∷ targets) = marked mark (marked_at mark marks targe
 abbrev pub marked_by : ℕ → List ℕ → Placed → List ℕ
 marked_by mark marks placed = if not (is_empty placed.coordinates) then marked mark marks placed.targets else marks
 
--- the marks of so many detectors stand for the coordinates that these lines give them
+-- the marks of this many detectors stand for the coordinates that these lines give them
 abbrev pub AreMarks : List Placed → ℕ → List Placed → List ℕ → Type 0
 AreMarks lines n before marks = map (coordinates_at lines) marks ≡ map (λ d. last_coordinates d [] before) (range_with_len 0 n)

@@ -32,6 +32,6 @@ abbrev pub drawn_faults : List ℕ → Lcg → List Bool
 drawn_faults bounds generator =
     map (λ f. nat_lt (word_at generator f) (slice_index_or bounds f 0)) (range_with_len 0 (length bounds))
 
--- the coins of so many collapses, by the next words
+-- the coins of this many collapses, by the next words
 abbrev pub drawn_coins : ℕ → Lcg → List Bool
 drawn_coins collapses generator = map (λ c. word_at generator c % 2 == 1) (range_with_len 0 collapses)

@@ -13,7 +13,7 @@ pub record ShotWords : Type 0 where
   pub faults : List ℕ
   pub coins : List ℕ
 
--- a generator after so many shots of this many faults and collapses
+-- a generator after this many shots of this many faults and collapses
 abbrev pub after_shots : ℕ → ℕ → ℕ → Lcg → Lcg
 after_shots faults collapses shots generator = after_words (shots * (faults + collapses)) generator
 

@@ -25,7 +25,7 @@ pub(crate) fn draw_faults(faults: &mut [u64], runs: &[BoundRun], lane: u32, rng:
     }
 }
 
-// The same of faults of one bound.
+// The same for faults of one bound.
 fn draw_run(faults: &mut [u64], start: usize, end: usize, bound: u128, lane: u32, rng: &mut Pcg64)
     requires order { start ≤ end }
     requires within { end ≤ length faults.old }

@@ -62,7 +62,7 @@ fn draw_faults(
     }
 }
 
-// The same of the faults of one run. Not inlined, so that the loop has the registers to itself.
+// The same for the faults of one run. Not inlined, so that the loop has the registers to itself.
 #[inline(never)]
 fn draw_run(
     faults: &mut [u64],

@@ -38,7 +38,7 @@ pub record IsRandomIn (program : Listing) (bytes : List ℕ) : Type 0 where
   pub disagree : noiseless_parity program first target ≢ noiseless_parity program second target
   pub lowest : (d : ℕ) → d < target → IsRandom program d → ⊥
 
--- the same of the program for which a text stands
+-- the same for the program for which a text stands
 pub record IsExactFor (text bytes : List ℕ) : Type 0 where
   pub program : Listing
   pub stands_for : program_in text ≡ Ok program

@@ -125,7 +125,7 @@ abbrev pub program_shots : (Listing → Lcg → List ℕ) → ℕ → ℕ → Li
 program_shots line shots seed program =
     if nat_lt most_shots shots then Err (without_line Shots) else Ok (done (shots_text line shots seed program))
 
--- the same of the program for which a text stands
+-- the same for the program for which a text stands
 abbrev pub shots_output : (Listing → Lcg → List ℕ) → ℕ → ℕ → List ℕ → Result Output Fault
 shots_output line shots seed text = program_in text >>= program_shots line shots seed
 

@@ -8,7 +8,7 @@ use Rattle.step_model.specs.ErrorModels.{ErrorLine, ErrorModel}
 use Rattle.step_model.specs.WellFormed.{CoordinatesFit}
 use Rattle.stim_parser.specs.Limits.{is_probability}
 
--- a line, in a model with so many detectors and observables together
+-- a line, in a model with this many detectors and observables together
 pub record IsWritableLine (targets : ℕ) (line : ErrorLine) : Type 0 where
   pub accepted : is_probability line.text ≡ true
   pub ascending : IsStrictlyIncreasing line.targets

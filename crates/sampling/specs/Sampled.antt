@@ -44,7 +44,7 @@ detection_line program generator = line_of (shot_detections program generator)
 abbrev pub shot_generator : Listing → Lcg → ℕ → Lcg
 shot_generator program generator k = after_shots (length program.faults) program.collapses k generator
 
--- the lines of so many shots, drawn by a generator's next words
+-- the lines of this many shots, drawn by a generator's next words
 abbrev pub lines_from : (Listing → Lcg → List ℕ) → Listing → ℕ → Lcg → List ℕ
 lines_from line program shots generator =
     flat_map (λ k. line program (shot_generator program generator k)) (range_with_len 0 shots)
@@ -53,6 +53,6 @@ lines_from line program shots generator =
 abbrev pub seeded : ℕ → Lcg
 seeded seed = pcg64_of_seed (pcg32_seed 32 seed)
 
--- the lines of so many shots of a seed
+-- the lines of this many shots of a seed
 abbrev pub shots_text : (Listing → Lcg → List ℕ) → ℕ → ℕ → Listing → List ℕ
 shots_text line shots seed program = lines_from line program shots (seeded seed)

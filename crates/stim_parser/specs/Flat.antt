@@ -81,7 +81,7 @@ item_kept lists node.Ends = Ends
 abbrev pub items_kept : List (List Target) → List Node → List Item
 items_kept lists nodes = map (item_kept lists) nodes
 
--- ---- what is handed out of them
+-- ---- what callers get of them
 
 abbrev pub instruction_in : instruction.Instruction → Instruction
 instruction_in i =
@@ -92,7 +92,7 @@ item_in (item.Does i) = Does (instruction_in i)
 item_in (item.Begins line turns) = Begins line turns
 item_in item.Ends = Ends
 
--- ---- how items and trees are stored, for the types that are seen as them
+-- ---- how items and trees are stored, for the types whose values they are
 
 abbrev Fields : Type 0
 Fields = ℕ × (Operation × (List (List ℕ) × List Target))

@@ -24,7 +24,7 @@ next_digit s digit =
 abbrev pub more_digits : Significant → List ℕ → Significant
 more_digits s digits = fold next_digit s digits
 
--- the zeros are among the digits, and up to 18 digits make a number of so many digits
+-- the zeros are among the digits, and up to 18 digits make a number of that many digits
 pub record IsWithin (s : Significant) : Type 0 where
   pub zeros : s.zeros ≤ s.length
   pub number : s.length ≤ 18 → s.number * 10 ^ s.zeros < 10 ^ s.length

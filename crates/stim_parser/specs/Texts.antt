@@ -48,7 +48,7 @@ abbrev pub line_reading : List ℕ → ℕ → List ℕ → Reading
 line_reading opened number line =
     if has_bad_byte line then Refuses cause.Byte else reading_of (length opened) number (cut_of line)
 
--- the items of lines, of which so many came before, in these open blocks
+-- the items of lines, of which this many came before, in these open blocks
 unfoldable pub items_from : List ℕ → ℕ → List (List ℕ) → Result (List Item) Fault
 items_from opened read [] = at_end opened
 items_from opened read (line ∷ lines) =

@@ -128,7 +128,7 @@ pub record Instruction : Type 0 where
   pub arguments : List (List ℕ)
   pub targets : List Target
 
--- an instruction; the start of a block of so many turns; the end of a block; or a refusal
+-- an instruction; the start of a block of this many turns; the end of a block; or a refusal
 pub data Reading : Type 0 where
   Takes : Instruction → Reading
   Opens : ℕ → Reading

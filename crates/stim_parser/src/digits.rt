@@ -52,7 +52,7 @@ pub fn number_of(text: &[u8]) -> Option<u64>
     }
 }
 
-/// The same of a text that is too short for a number beyond every limit.
+/// The same for a text that is too short for a number beyond every limit.
 #[inline(always)]
 fn short_number_of(text: &[u8]) -> Option<u64>
     requires some { 0 < length text.now }
@@ -69,7 +69,7 @@ fn short_number_of(text: &[u8]) -> Option<u64>
     Some(value)
 }
 
-/// The same of any text.
+/// The same for any text.
 fn long_number_of(text: &[u8]) -> Option<u64>
     ensures { result ≡ number_of text.now }
 {

@@ -31,7 +31,7 @@ pub(crate) enum Said<'a> {
         operation: Operation,
         arguments: &'a [u8],
     },
-    /// The start of a block of so many turns.
+    /// The start of a block of this many turns.
     Opens(u64),
     /// The end of a block.
     Closes,

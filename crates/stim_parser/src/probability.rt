@@ -70,7 +70,7 @@ fn scaled_bound(digits: usize, number: u64, up: u128, down: u128) -> Option<u128
     Some(number as u128 * (1 << 64) / power)
 }
 
-/// The bound of a number text of so many bytes, taken apart.
+/// The bound of a number text of this many bytes, taken apart.
 fn decimal_bound(bytes: usize, parts: Parts) -> Option<u128>
     requires { IsOfText bytes parts }
     ensures value { result ≡ decimal_bound (decimal_in parts.entry) }

@@ -7,7 +7,7 @@ use Rattle.unroll.specs.Detectors.{operation_detectors}
 use Rattle.unroll.specs.Gathered.{Gathering}
 use Rattle.unroll.specs.Totals.{record_count}
 
--- how many records there are after an instruction, and after so many turns of a block
+-- how many records there are after an instruction, and after this many turns of a block
 abbrev pub records_after : ℕ → Instruction → ℕ
 records_after r i = r + record_count i
 

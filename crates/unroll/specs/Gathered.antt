@@ -17,12 +17,12 @@ pub record Gathering (P X : Type 0) : Type 0 where
   -- the place after an instruction, and what the instruction gives
   pub next : P → Instruction → P
   pub gives : P → Instruction → List X
-  -- the place after all of so many turns, from the places before and after the first
+  -- the place after all of this many turns, from the places before and after the first
   pub onward : ℕ → P → P → P
   -- what a later turn gives in place of what the first turn gave
   pub moved : ℕ → P → P → X → X
 
--- what so many later turns give
+-- what this many later turns give
 abbrev pub later : {X : Type 0} → (ℕ → X → X) → ℕ → List X → List X
 later move zero xs = []
 later move (suc n) xs = later move n xs ++ map (move (suc n)) xs

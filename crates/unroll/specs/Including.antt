@@ -14,7 +14,7 @@ use Rattle.unroll.specs.Detecting.{records_after, records_onward}
 use Rattle.unroll.specs.Detectors.{record_named}
 use Rattle.unroll.specs.Gathered.{Gathering}
 
--- the record that a target names after so many records, as it is added to an observable
+-- the record that a target names after this many records, as it is added to an observable
 abbrev pub inclusion_of : ℕ → ℕ → Target → Inclusion
 inclusion_of k r target = record { observable = k; place = record_named r target }
 
@@ -57,7 +57,7 @@ item_observables item = 0
 
 -- ---- sorted by observable
 
--- the records that are added to each of so many observables
+-- the records that are added to each of this many observables
 abbrev pub told_apart : ℕ → List Inclusion → List (List ℕ)
 told_apart count inclusions = map (λ k. places_of k inclusions) (range_with_len 0 count)
 

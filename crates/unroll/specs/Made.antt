@@ -65,7 +65,7 @@ fed_letter gate.CX = letter.X
 fed_letter gate.CY = letter.Y
 fed_letter g = letter.Z
 
--- a pair of which either one may be a record, so many back
+-- a pair of which either one may be a record, this many back
 abbrev pub paired : Gate → Target → Target → Option ℕ → Option ℕ → TextStep
 paired g a b (Some k) back = step.Feedback (fed_letter g) (qubit_of b) k
 paired g a b None (Some k) = step.Feedback (fed_letter g) (qubit_of a) k

@@ -25,11 +25,11 @@ observables_over (i ∷ instructions) = max (observables_to i.operation i.argume
 abbrev pub observable_total : Tree → ℕ
 observable_total tree = observables_over (written tree)
 
--- what an instruction adds to the observable k after so many records
+-- what an instruction adds to the observable k after this many records
 abbrev pub instruction_adds : ℕ → ℕ → Instruction → List ℕ
 instruction_adds k r i = if observables_to i.operation i.arguments == k + 1 then records_named r i.targets else []
 
--- what instructions after so many records add to it
+-- what instructions after this many records add to it
 unfoldable pub added_from : ℕ → ℕ → List Instruction → List ℕ
 added_from k r [] = []
 added_from k r (i ∷ instructions) = instruction_adds k r i ++ added_from k (r + record_count i) instructions

@@ -27,13 +27,13 @@ raised_by [] more = []
 raised_by counts [] = counts
 raised_by (n ∷ counts) (m ∷ more) = (n + m) ∷ raised_by counts more
 
--- the counts after so many more turns, from those before and after one turn
+-- the counts after this many more turns, from those before and after one turn
 abbrev pub turned_by : ℕ → List ℕ → List ℕ → List ℕ
 turned_by turns [] after = []
 turned_by turns before [] = []
 turned_by turns (p ∷ before) (q ∷ after) = (q + turns * (q - p)) ∷ turned_by turns before after
 
--- how much so many turns add
+-- how much this many turns add
 abbrev pub added_by : ℕ → List ℕ → List ℕ → List ℕ
 added_by turns [] after = []
 added_by turns before [] = []
@@ -80,7 +80,7 @@ abbrev pub operation_places : Offset → Operation → List (List ℕ) → List 
 operation_places p Detects arguments = moved_to p.up p.down (map whole_value arguments) ∷ []
 operation_places p operation arguments = []
 
--- the offset after so many more turns, from those before and after one turn
+-- the offset after this many more turns, from those before and after one turn
 abbrev pub turned_on : ℕ → Offset → Offset → Offset
 turned_on turns before after =
     record { up = turned_by turns before.up after.up; down = turned_by turns before.down after.down }

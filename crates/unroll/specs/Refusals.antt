@@ -39,7 +39,7 @@ most_steps = 64_000_000
 
 -- ---- lines
 
--- a record target that reaches back further than so many records
+-- a record target that reaches back further than this many records
 abbrev pub is_far : ℕ → Target → Bool
 is_far r (Back k) = nat_lt r k
 is_far r target = false
@@ -47,7 +47,7 @@ is_far r target = false
 abbrev pub reaches_far : ℕ → List Target → Bool
 reaches_far r targets = list_any (is_far r) targets
 
--- the first line of a tree that reaches back before the first record, where so many records come before the tree
+-- the first line of a tree that reaches back before the first record, where this many records come before the tree
 unfoldable pub first_far_line : ℕ → Tree → Option ℕ
 first_far_line r Nothing = None
 first_far_line r (Then i rest) =

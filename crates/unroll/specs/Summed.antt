@@ -20,7 +20,7 @@ capped_sum a b = min (a + b) greatest
 abbrev pub repeated_sum : ℕ → ℕ → ℕ → ℕ
 repeated_sum turns before after = capped_sum after (min ((turns - 1) * (after - before)) greatest)
 
--- the first line that reaches too far back, where an instruction comes after so many records
+-- the first line that reaches too far back, where an instruction comes after this many records
 abbrev pub far_line_after : ℕ → Instruction → Option ℕ → Option ℕ
 far_line_after r i None = if reaches_far r i.targets then Some i.line else None
 far_line_after r i (Some line) = Some line

@@ -16,7 +16,7 @@ use Rattle.unroll.specs.Made.{products_of}
 
 -- ---- sums
 
--- the sum of a count over the instructions that are reached, with so many more for each turn of a block
+-- the sum of a count over the instructions that are reached, with this many more for each turn of a block
 unfoldable pub total : ℕ → (Instruction → ℕ) → Tree → ℕ
 total turn count Nothing = 0
 total turn count (Then instruction rest) = count instruction + total turn count rest
@@ -29,7 +29,7 @@ abbrev pub target_count : Operation → List Target → ℕ
 target_count MeasuresProducts targets = length (products_of targets)
 target_count operation targets = length targets
 
--- of so many targets, how many records, collapses and detectors an operation makes
+-- of this many targets, how many records, collapses and detectors an operation makes
 abbrev pub records_made : Operation → ℕ → ℕ
 records_made (Measures l) targets = targets
 records_made (MeasuresAndResets l) targets = targets
@@ -57,7 +57,7 @@ collapse_count i = collapses_made i.operation (target_count i.operation i.target
 abbrev pub detector_count : Instruction → ℕ
 detector_count i = detectors_made i.operation
 
--- how many faults an operation makes of so many targets: a measurement one of each record, where it has a probability
+-- how many faults an operation makes of this many targets: a measurement one of each record, where it has a probability
 abbrev pub faults_made : Operation → Bool → ℕ → ℕ
 faults_made (Errs l) flips targets = targets
 faults_made ErrsTogether flips targets = 1
@@ -70,7 +70,7 @@ has_argument i = is_some (slice_get i.arguments 0)
 abbrev pub fault_count : Instruction → ℕ
 fault_count i = faults_made i.operation (has_argument i) (target_count i.operation i.targets)
 
--- how many steps of a program an operation makes of so many targets
+-- how many steps of a program an operation makes of this many targets
 abbrev pub steps_made : Operation → ℕ → ℕ
 steps_made (Applies g) targets = if arity_of g == 1 then targets else targets / 2
 steps_made (Errs l) targets = targets

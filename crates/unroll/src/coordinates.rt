@@ -15,7 +15,7 @@ use flat_lists::FlatLists;
 use std::alloc::{AllocError, Allocator};
 use stim_parser::{Circuit, Instruction, Item, Operation};
 
-/// Puts these coordinates into `moved`, in place of what it held, moved on by so many turns. The offsets are those
+/// Puts these coordinates into `moved`, in place of what it held, moved on by this many turns. The offsets are those
 /// before and after one turn.
 fn copy_moved<A: Allocator + Copy>(
     moved: &mut Vec<i64, A>,
@@ -42,7 +42,7 @@ fn copy_moved<A: Allocator + Copy>(
     Ok(())
 }
 
-/// Appends copies of the coordinates from place `first` up to `end`, moved on by so many turns. The offsets are those
+/// Appends copies of the coordinates from place `first` up to `end`, moved on by this many turns. The offsets are those
 /// before and after one turn.
 fn push_moved<A: Allocator + Copy>(
     moved: &mut Vec<i64, A>,
@@ -88,7 +88,7 @@ fn push_coordinates<A: Allocator + Copy>(
     }
 }
 
-/// Appends what so many later turns of a block give. `before` is where the pass stood before the first turn, and
+/// Appends what this many later turns of a block give. `before` is where the pass stood before the first turn, and
 /// `after` the offset after it. No turn is gone over where the first gave nothing.
 fn push_later_turns<A: Allocator + Copy>(
     alloc: A,

@@ -14,7 +14,7 @@ use flat_lists::FlatLists;
 use std::alloc::{AllocError, Allocator};
 use stim_parser::{Circuit, Item, Operation, Target};
 
-/// The record that a target names after so many records; the first record where it reaches back before that.
+/// The record that a target names after this many records; the first record where it reaches back before that.
 pub(crate) fn record_named(records: u64, target: Target) -> u32
     requires { records < 2 ^ 32 }
     ensures { result ≡ record_named records target }
@@ -25,7 +25,7 @@ pub(crate) fn record_named(records: u64, target: Target) -> u32
     }
 }
 
-/// The records that targets name after so many records.
+/// The records that targets name after this many records.
 fn records_named<A: Allocator + Copy>(
     alloc: A,
     records: u64,
@@ -41,7 +41,7 @@ fn records_named<A: Allocator + Copy>(
     Ok(named)
 }
 
-/// Appends the detector of an instruction after so many records, where it is one.
+/// Appends the detector of an instruction after this many records, where it is one.
 fn push_detector<A: Allocator + Copy>(
     alloc: A,
     detectors: &mut FlatLists<u32, A>,
@@ -97,7 +97,7 @@ fn push_moved<A: Allocator + Copy>(
     Ok(())
 }
 
-/// Appends what so many later turns of a block give. The lists from `first` on are those of its first turn, and each
+/// Appends what this many later turns of a block give. The lists from `first` on are those of its first turn, and each
 /// turn makes `by` records. No turn is gone over where the first gave nothing.
 fn push_later_turns<A: Allocator + Copy>(
     alloc: A,

@@ -22,7 +22,7 @@ pub(crate) struct Inclusion {
     pub place: u32,
 }
 
-/// Appends the records that targets name after so many records, each added to this observable.
+/// Appends the records that targets name after this many records, each added to this observable.
 fn include_records<A: Allocator + Copy>(
     inclusions: &mut Vec<Inclusion, A>,
     observable: u64,
@@ -41,7 +41,7 @@ fn include_records<A: Allocator + Copy>(
     Ok(())
 }
 
-/// Appends what an instruction adds to observables after so many records.
+/// Appends what an instruction adds to observables after this many records.
 fn push_inclusions<A: Allocator + Copy>(
     inclusions: &mut Vec<Inclusion, A>,
     records: u64,
@@ -81,7 +81,7 @@ fn push_moved<A: Allocator + Copy>(
     Ok(())
 }
 
-/// Appends what so many later turns of a block give. The inclusions from `first` on are those of its first turn, and
+/// Appends what this many later turns of a block give. The inclusions from `first` on are those of its first turn, and
 /// each turn makes `by` records. No turn is gone over where the first gave nothing.
 fn push_later_turns<A: Allocator + Copy>(
     inclusions: &mut Vec<Inclusion, A>,

@@ -215,7 +215,7 @@ fn push_products<A: Allocator + Copy>(
     Ok(())
 }
 
-/// Appends the steps of an operation with these targets, where so many entries and products are kept before it.
+/// Appends the steps of an operation with these targets, where this many entries and products are kept before it.
 pub(crate) fn push_steps<A: Allocator + Copy>(
     builder: &mut CircuitBuilder<A>,
     operation: Operation,

@@ -44,7 +44,7 @@ pub(crate) fn qubits_named(targets: &[Target]) -> u32
     qubits
 }
 
-/// Whether a target is a record that reaches back further than so many records.
+/// Whether a target is a record that reaches back further than this many records.
 #[inline(always)]
 fn is_far(records: u64, target: Target) -> bool
     ensures { result ≡ is_far records target }
@@ -55,7 +55,7 @@ fn is_far(records: u64, target: Target) -> bool
     }
 }
 
-/// Whether one of these targets is a record that reaches back further than so many records.
+/// Whether one of these targets is a record that reaches back further than this many records.
 pub(crate) fn reaches_far(records: u64, targets: &[Target]) -> bool
     ensures { result ≡ reaches_far records targets.now }
 {

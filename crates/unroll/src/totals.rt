@@ -52,7 +52,7 @@ fn repeated_sum(turns: u64, before: u64, after: u64) -> u64
 }
 
 /// The first line that reaches back before the first record: that found before, or the line of an instruction that
-/// comes after so many records.
+/// comes after this many records.
 fn far_line_after(records: u64, instruction: Instruction<'_, '_>, found: Option<u64>) -> Option<u64>
     ensures { result ≡ far_line_after records (instruction_in instruction.entry) found }
 {
