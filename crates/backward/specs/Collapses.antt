@@ -1,5 +1,7 @@
--- What going back over a collapse, a fault or feedback does to what is kept, whatever that is.
--- (Sensitivities taken back over a circuit are told of by Gidney, Quantum 5, 497 (2021); how they are kept is this project's own.)
+-- What going back over a collapse, a fault or feedback does to the words, to the targets that list each record and to
+-- the places noted, however the words are kept. A collapse is the projective measurement inside a measurement or a
+-- reset. (Sensitivities taken back over a circuit: Gidney, Quantum 5, 497 (2021). How they are kept here is this
+-- project's own.)
 use Rattle.std.specs.Prelude.{◌≡◌, ℕ, Bool, true, false, not, All, length, List, [], ◌∷◌, Option, None, Some, slice_index_or, slice_set}
 use Rattle.step_model.specs.declared.step.Term.{Term}
 use Rattle.step_model.specs.Listing.{Listing}
@@ -12,7 +14,7 @@ abbrev pub times_terms : List ℕ → List Term → Tracked → Tracked
 times_terms targets [] t = t
 times_terms targets (term ∷ terms) t = times_terms targets terms (added targets term.letter term.qubit t)
 
--- the words, with I at a qubit that is reset
+-- the words, with I at the qubit that is reset, where one is
 abbrev pub reset_at : Option ℕ → Tracked → Tracked
 reset_at None t = t
 reset_at (Some q) t = each_word (with_I_at q) t
@@ -34,7 +36,7 @@ abbrev pub toggled_each : List ℕ → List Bool → List Bool
 toggled_each [] set = set
 toggled_each (t ∷ ts) set = toggled_each ts (toggled t set)
 
--- what is there, or else the value where b
+-- what is there; where nothing is, the value if b
 abbrev pub or_where : ℕ → Bool → Option ℕ → Option ℕ
 or_where value b (Some k) = Some k
 or_where value true None = Some value

@@ -1,5 +1,5 @@
--- Lists of targets as links of one list of links. A place is a number of links, and tells of the list that begins with
--- the last of them; at place 0 the list is empty. (This project's own.)
+-- Lists of targets, linked in one list of links. A place is a number of links: its list begins with the last of that
+-- many links, and at place 0 the list is empty. (This project's own.)
 use Rattle.std.specs.Prelude.{⊤, ◌≡◌, ◌<◌, ◌≤◌, ℕ, zero, suc, Bool, List, [], ◌∷◌, length, map, slice_index_or, All}
 use Rattle.backward.specs.declared.record_lists.Link.{Link}
 use Rattle.backward.specs.Sets.{DescendsBelow, row_of_set}
@@ -7,7 +7,7 @@ use Rattle.backward.specs.Sets.{DescendsBelow, row_of_set}
 abbrev pub no_link : Link
 no_link = record { target = 0; next = 0 }
 
--- the targets of the list at a place, as far as they are among the first n
+-- the targets of the list at a place, at most n of them
 abbrev pub chain : List Link → ℕ → ℕ → List ℕ
 chain links zero place = []
 chain links (suc n) zero = []
@@ -36,7 +36,7 @@ abbrev pub put_before : List ℕ → List ℕ → List ℕ
 put_before [] list = list
 put_before (t ∷ ts) list = put_before ts (t ∷ list)
 
--- more links, behind which the lists at all places that there were stay
+-- links with more put behind them: the lists at all earlier places stay
 pub record IsGrown (links new_links : List Link) : Type 0 where
   pub back : LeadBack new_links
   pub longer : length links ≤ length new_links

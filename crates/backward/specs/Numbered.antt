@@ -1,5 +1,5 @@
--- The probability texts of a program's entries, by the numbers that they have among those that are kept beside the text of
--- its error lines. (How they are kept is this project's own.)
+-- The probability texts of a program's faults, by their numbers among the texts that are kept beside the text of its
+-- error lines. (How they are kept is this project's own.)
 use Rattle.std.specs.Prelude.{◌≡◌, ◌<◌, ℕ, List, length, slice_index_or}
 use Rattle.programs.specs.declared.entries.ChanceTable.{ChanceTable}
 use Rattle.programs.specs.declared.entries.EntryPart.{EntryPart}

@@ -1,5 +1,6 @@
 -- Which target of a program is reported as random: the lowest that has a place, detectors before observables.
--- (Sensitivities taken back over a circuit are told of by Gidney, Quantum 5, 497 (2021); how they are kept is this project's own.)
+-- (Sensitivities taken back over a circuit: Gidney, Quantum 5, 497 (2021). How they are kept here is this project's
+-- own.)
 use Rattle.std.specs.Prelude.{◌≡◌, ◌<◌, ◌++◌, ℕ, length, Option, None, Some, option_map}
 use Rattle.step_model.specs.declared.step.Place.{Place}
 use Rattle.step_model.specs.declared.step.Place.TheVariants.{Start, After}
@@ -28,12 +29,12 @@ pub record IsLowestRandom (program : Listing) (which : ℕ) (place : Place) : Ty
   pub has_place : place_of program which ≡ Some place
   pub lowest : (d : ℕ) → d < which → place_of program d ≡ None
 
--- what is answered of a program: its error model where no target is random, else the lowest that is
+-- the answer for a program: its error model where no target is random, otherwise the lowest target that is
 abbrev pub IsAnalysed : {A : Type 0} → Listing → Analysed A → Type 0
 IsAnalysed program (Model model) = NoneIsRandom program × (model ≡ model_of program)
 IsAnalysed program (Random which place) = IsLowestRandom program which place
 
--- the same, of the text of that model: that of the lines, and then that of the rest
+-- the same for the text of that model: the text of its lines, and then that of the rest
 abbrev pub IsAnalysedText : {A : Type 0} → Listing → AnalysedText A → Type 0
 IsAnalysedText program (text.Text lines rest) = NoneIsRandom program × (lines.text ++ model_text rest ≡ model_text (model_of program))
 IsAnalysedText program (text.Random which place) = IsLowestRandom program which place

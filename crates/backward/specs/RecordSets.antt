@@ -1,6 +1,6 @@
 -- The targets that list each record, from the lists of the targets: each target is toggled at each record that it
--- lists, and so is in the sets of those that it lists an odd number of times.
--- (Sensitivities taken back over a circuit are told of by Gidney, Quantum 5, 497 (2021); how they are kept is this project's own.)
+-- lists, and so is in the sets of those that it lists an odd number of times. (Sensitivities taken back over a circuit:
+-- Gidney, Quantum 5, 497 (2021). How they are kept here is this project's own.)
 use Rattle.std.specs.Prelude.{ℕ, Bool, List, [], ◌∷◌, slice_index_or, slice_set}
 use Rattle.backward.specs.Collapses.{toggled}
 

@@ -1,5 +1,5 @@
--- A set of some of the numbers below a bound, as one truth value a number.
--- (Sensitivities taken back over a circuit are told of by Gidney, Quantum 5, 497 (2021); how they are kept is this project's own.)
+-- A set of some of the numbers below a bound, as one truth value a number. (Sensitivities taken back over a circuit:
+-- Gidney, Quantum 5, 497 (2021). How they are kept here is this project's own.)
 use Rattle.std.specs.Prelude.{ℕ, Bool, false, List, length, filter, slice_index_or}
 use Rattle.std.specs.List.{range_with_len}
 

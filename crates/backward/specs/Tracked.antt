@@ -1,5 +1,6 @@
 -- What a tracker keeps: one unsigned word a target, on some number of qubits; and what each call makes of the words.
--- (Sensitivities taken back over a circuit are told of by Gidney, Quantum 5, 497 (2021); how they are kept is this project's own.)
+-- (Sensitivities taken back over a circuit: Gidney, Quantum 5, 497 (2021). How they are kept here is this project's
+-- own.)
 use Rattle.std.specs.Prelude.{ℕ, ◌==◌, Bool, false, List, [], map, filter, length, replicate, slice_index_or, slice_set}
 use Rattle.std.specs.List.{range_with_len, list_any}
 use Rattle.gate_table.specs.declared.gate.Gate.{Gate}
@@ -11,19 +12,20 @@ use Rattle.gate_table.specs.WordImages.{preimage_at, preimage_at_two}
 use Rattle.step_model.specs.Listing.{word_of_terms}
 use Rattle.step_model.specs.Sensitivities.{multiplied}
 
+-- the number of qubits, and the word of each target
 pub record Tracked : Type 0 where
   pub qubits : ℕ
   pub words : List (List Letter)
 
--- n qubits, and so many identity words
+-- this many identity words on n qubits
 abbrev pub fresh : ℕ → ℕ → Tracked
 fresh n count = record { qubits = n; words = replicate count (no_letters n) }
 
--- the same of each word
+-- each word, changed by f
 abbrev pub each_word : (List Letter → List Letter) → Tracked → Tracked
 each_word f t = record { qubits = t.qubits; words = map f t.words }
 
--- the word whose image under a gate a word is, the sign left out
+-- the preimage of a word under a gate, its sign left out
 abbrev pub undone_one : Gate → ℕ → List Letter → List Letter
 undone_one gate q w = (preimage_at gate q (signed w false)).letters
 

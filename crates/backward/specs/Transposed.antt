@@ -1,6 +1,6 @@
 -- Words kept by qubit: for each qubit a column, the letters that all words have there. The words are the columns
--- transposed. A column is kept as two rows of bits, one bit a word: X in the letter, and Z in it.
--- (Sensitivities taken back over a circuit are told of by Gidney, Quantum 5, 497 (2021); how they are kept is this project's own.)
+-- transposed. A column is kept as two rows of bits, one bit a word: X in the letter, and Z in it. (Sensitivities taken
+-- back over a circuit: Gidney, Quantum 5, 497 (2021). How they are kept here is this project's own.)
 use Rattle.std.specs.Prelude.{◌≡◌, ◌≤◌, ◌^◌, ℕ, Bool, ◌&&◌, List, [], ◌∷◌, false, map, length, All, slice_index_or, slice_set}
 use Rattle.std.specs.List.{range_with_len}
 use Rattle.gate_table.specs.declared.gate.Gate.{Gate}
@@ -21,6 +21,7 @@ word_at columns t = map (λ column. letter_at column t) columns
 abbrev pub transposed : ℕ → List (List Letter) → List (List Letter)
 transposed m columns = map (word_at columns) (range_with_len 0 m)
 
+-- what is tracked, from the columns of m targets
 abbrev pub tracked_of : ℕ → List (List Letter) → Tracked
 tracked_of m columns = record { qubits = length columns; words = transposed m columns }
 
@@ -48,14 +49,14 @@ abbrev pub times_each : Letter → List ℕ → List Letter → List Letter
 times_each letter [] column = column
 times_each letter (t ∷ ts) column = times_each letter ts (times_at letter t column)
 
--- a row of bits that, added to the rows of a column where a letter has an X and where it has a Z, multiplies the letter in at
--- each place of a list
+-- adding this row of bits to a column's X bits where a letter has X in it, and to its Z bits where the letter has Z,
+-- multiplies the column by the letter at each place of a list
 abbrev pub Multiplies : List ℕ → List Bool → Type 0
 Multiplies targets row =
     (letter : Letter) (x z : List Bool) → length x ≡ length row → length z ≡ length row
     → letters_of (xor_where (x_bit letter) x row) (xor_where (z_bit letter) z row) ≡ times_each letter targets (letters_of x z)
 
--- the letters at the first and at the second of two qubits before a gate, from those behind it
+-- the letters at the first and at the second of two qubits before a gate, from those after it
 abbrev pub first_before : Gate → List Letter → List Letter → List Letter
 first_before gate first second =
     letters_product (map (combined (image2 (inverse_of gate) X I).0 (image2 (inverse_of gate) Z I).0) first) (map (combined (image2 (inverse_of gate) I X).0 (image2 (inverse_of gate) I Z).0) second)

@@ -42,7 +42,7 @@ pub enum AnalysedText<'a, A: Allocator + Copy> {
     },
 }
 
-/// The lowest random target, where there is one; else what was given all lines.
+/// The lowest random target, where there is one; where there is none, `lines` was given all lines.
 #[derive(Drop)]
 struct Judged<L> {
     lines: L,
@@ -54,7 +54,8 @@ const NO_MEMORY: Fault = Fault {
     line: 0,
 };
 
-/// The error model of a program, or the lowest target that is random. The tracker is spent, also where memory runs out.
+/// The error model of a program, or the lowest target that is random. It fails only where memory runs out, or
+/// where the lines list too many targets for 32 bits.
 pub fn analyse<'a, A: Allocator + Copy, T: Tracker + Drop>(
     alloc: A,
     program: &Program<'a, A>,
@@ -70,8 +71,8 @@ pub fn analyse<'a, A: Allocator + Copy, T: Tracker + Drop>(
     }
 }
 
-/// The text of the error model of a program, or the lowest target that is random. The lines are written when they are found,
-/// and not kept otherwise. The tracker is spent, also where memory runs out.
+/// The text of the error model of a program, or the lowest target that is random. The lines are kept as text alone,
+/// written when they are found. It fails only where memory runs out.
 pub fn analyse_to_text<'a, A: Allocator + Copy, T: Tracker + Drop>(
     alloc: A,
     program: &Program<'a, A>,
@@ -125,8 +126,8 @@ fn find_text<'a, A: Allocator + Copy, T: Tracker>(
     }
 }
 
-// Goes back over all steps, with the lines given to what was given none, and then asks for the lowest random target. Where
-// there is one, some lines may not be given.
+// Goes back over all steps, gives the lines to a store that holds none, and then looks for the lowest random target.
+// Where there is one, some lines may not be given.
 fn go_back_and_judge<'s, 'a, A: Allocator + Copy, T: Tracker, L: LineStore + Drop>(
     alloc: &'s A,
     program: &Program<'a, A>,
@@ -151,7 +152,7 @@ fn go_back_and_judge<'s, 'a, A: Allocator + Copy, T: Tracker, L: LineStore + Dro
     })
 }
 
-// What is found before the first step back. What may fail comes first, so that little is let go where it does.
+// What is found before the first step back. What may fail comes first, so that little is dropped where it does.
 fn nothing_found<'s, 'a, A: Allocator + Copy, L: LineStore + Drop>(
     alloc: &'s A,
     program: &Program<'a, A>,
@@ -173,7 +174,7 @@ fn nothing_found<'s, 'a, A: Allocator + Copy, L: LineStore + Drop>(
     })
 }
 
-// The lowest target that is random, by what was found over all steps.
+// The lowest target that is random, by what was found going back over all steps.
 fn judge<'s, 'a, A: Allocator + Copy, T: Tracker, L: LineStore>(
     alloc: &'s A,
     program: &Program<'a, A>,
@@ -188,7 +189,7 @@ fn judge<'s, 'a, A: Allocator + Copy, T: Tracker, L: LineStore>(
 {
     program.well_formed();
     let _few = target_count(program);
-    // No step is left, so that what comes may have the room of the sets.
+    // No step is left, so the memory of the sets is free for what follows.
     found.sets = RecordLists::none(alloc);
     let lowest = lowest_at_start(*alloc, program, tracker, &mut found.hit)?;
     match lowest_random(found.latest.as_slice(), lowest.as_slice()) {

@@ -12,7 +12,7 @@ use pauli_word::Letter;
 use std::alloc::{AllocError, Allocator};
 use std::marker::Model;
 
-/// From how many targets on a set is made of them, and added: to toggle one takes longer where a set has many.
+/// From this many targets on, a set of them is made and added: to toggle one takes longer in a set of many.
 const MANY: usize = 16;
 
 /// The letters that all words have at one qubit: the targets whose letter has an X in it, and those whose letter has
@@ -177,7 +177,7 @@ impl<S: TargetSet> Column<S> {
     pub(crate) fn kept_clashing(&self, letter: Letter) -> Option<&S>
         ensures { IfSome result (λ set. S.bits set.now ≡ map (letters_clash letter) self.now) }
     {
-        // Two questions, and no table of jumps.
+        // Two comparisons, and no jump table.
         if is_x(letter) {
             Some(&self.z)
         } else if is_z(letter) {
@@ -187,8 +187,8 @@ impl<S: TargetSet> Column<S> {
         }
     }
 
-    /// Lists the targets of two columns of which one of the two letters alone clashes with Y, and answers whether it did: it
-    /// need not.
+    /// Lists the targets for which just one of their letters in two columns clashes with Y, and answers whether it did:
+    /// it need not.
     pub(crate) fn list_clashing_y<B: Allocator + Copy>(
         &self,
         other: &Column<S>,
@@ -228,7 +228,7 @@ impl<S: TargetSet> Column<S> {
         ensures ok { OnOk result (self.new ≡ times_each letter targets.now self.old) }
         ensures len { length self.new ≡ length self.old }
     {
-        // from the greatest down, so that each is appended where a set is empty
+        // From the greatest down, so that each is appended where a set is empty.
         let mut left = targets.len();
         while left > 0 {
             left -= 1;
@@ -237,7 +237,7 @@ impl<S: TargetSet> Column<S> {
         Ok(())
     }
 
-    // The same by a set of the targets, which takes no longer for many.
+    // The same by a set of the targets, which is faster for many.
     fn times_all(
         &mut self,
         targets: &[u32],
@@ -268,8 +268,8 @@ impl<S: TargetSet> Column<S> {
     }
 }
 
-/// Multiplies the letters of each of two columns by an image of those of the other: the second's image of what the first
-/// is multiplied by is I, so that it doesn't matter which goes first.
+/// Multiplies the letters of each of two columns by an image of those of the other. What the first is multiplied by has
+/// the image I at the second, so the order doesn't matter.
 pub(crate) fn multiply_both<S: TargetSet>(
     first: &mut Column<S>,
     second: &mut Column<S>,
@@ -367,14 +367,14 @@ fn add_where<S: TargetSet>(
     if add { set.add(other, spare) } else { Ok(()) }
 }
 
-// Makes a set of these targets, each toggled, which multiplies their letters where it is added.
+// Empties a set and toggles each of these targets in it; adding the set then multiplies their letters.
 fn make_set<S: TargetSet>(set: &mut S, targets: &[u32]) -> Result<(), AllocError>
     requires { All (λ t. t < length (S.bits set.old)) targets.now }
     ensures ok { OnOk result (Multiplies targets.now (S.bits set.new)) }
     ensures len { length (S.bits set.new) ≡ length (S.bits set.old) }
 {
     set.clear();
-    // from the last on, so that each is appended where they ascend
+    // From the last on, so that each is appended where they ascend.
     let mut left = targets.len();
     while left > 0 {
         left -= 1;

@@ -1,5 +1,5 @@
-//! Going back over the steps of a program with one unsigned Pauli word a target: which targets each fault hits, and
-//! which target is random.
+//! Going back over the steps of a program with one unsigned Pauli word for each target: which targets each fault flips,
+//! and which target is random.
 #![tactic(auto)]
 
 mod analysis;

@@ -1,4 +1,4 @@
-//! What the error lines are given to that a pass finds, the last fault's first: a model, or its text.
+//! Where a pass puts the error lines that it finds, the last fault's first: into a model, or into its text.
 ghost use Rattle.std.specs.Prelude.{◌≡◌, ◌<◌, ◌++◌, ◌∷◌, [], List, length, All, IfOk, OnOk};
 ghost use Rattle.step_model.specs.ErrorModels.{ErrorLine};
 ghost use Rattle.step_model.specs.Listing.{Listing, kept_at};
@@ -11,7 +11,7 @@ use dem_text::{LinesText, Model};
 use programs::{ChanceTable, EntryPart, Program};
 use std::alloc::{AllocError, Allocator};
 
-/// What lines are given to, one after another. After an error nothing is said of what it holds.
+/// A store that lines are given to, one after another. After an error nothing is promised about what it holds.
 pub(crate) trait LineStore {
     // The program whose faults the lines are of.
     ghost program: { Self → Listing };
@@ -19,7 +19,7 @@ pub(crate) trait LineStore {
     // These lines were given to it, in this order.
     ghost holds: { Self → List ErrorLine → Type 0 };
 
-    /// Takes the line of a fault of this entry, which flips these targets.
+    /// Takes the line of a fault with this entry, which flips these targets.
     fn give(&mut self, entry: u32, targets: &[u32]) -> Result<(), AllocError>
         requires entry { entry < length (program self.old).kept }
         requires named { All (λ t. t < length (targets_of (program self.old))) targets.now }

@@ -10,8 +10,8 @@ use gate_table::Gate;
 use pauli_word::Letter;
 use std::alloc::AllocError;
 
-/// Multiplies the letters of each of the columns at two places by an image of those of the other: the second's image of what
-/// the first is multiplied by is I.
+/// Multiplies the letters of each of the columns at two places by an image of those of the other. What the first is
+/// multiplied by has the image I at the second.
 #[inline(always)]
 pub(crate) fn multiply_pair<S: TargetSet>(
     columns: &mut [Column<S>],

@@ -18,10 +18,11 @@ use programs::{FaultName, Program, Step, Walk};
 use std::alloc::{AllocError, Allocator};
 use step_model::Term;
 
-/// What is found going back: the targets that list each record, what the error lines were given to, the last fault's first, the
-/// latest collapse that each target's word anticommutes with, and how many collapses are left. `hit` is a buffer.
+/// What is found going back: the targets that list each record; the store of the error lines, which is given the last
+/// fault's first; for each target the latest collapse that its word anticommutes with; and how many collapses are left.
+/// A collapse is the projective measurement inside a measurement or a reset. `hit` is a buffer.
 ///
-/// Lines are `wanted` until something is noted in `latest`: that target is random, so that no lines are answered.
+/// Lines are `wanted` until something is noted in `latest`: then a target is random, and the answer has no lines.
 #[derive(Drop)]
 pub(crate) struct Found<'s, A: Allocator + Copy, L> {
     pub(crate) sets: RecordLists<'s, A>,
@@ -100,8 +101,8 @@ fn reset_qubit(reset: bool, qubit: u32) -> Option<u32>
     if reset { Some(qubit) } else { None }
 }
 
-// Goes back over a collapse of a product of letters: notes the targets for which it is the latest place, then the line
-// of its recorded flip, where lines are still wanted, and takes the words back.
+// Goes back over a collapse of a product of letters: notes the targets of which it is the place, then the line of the
+// fault that flips its record, where lines are still wanted, and takes the words back.
 fn collapse<'s, 'a, A: Allocator + Copy, T: Tracker, L: LineStore>(
     program: &Program<'a, A>,
     terms: &[Term],
@@ -161,7 +162,7 @@ fn list_record<'s, 'a, A: Allocator + Copy>(
     }
 }
 
-// Appends the line of a recorded flip, where there is one and lines are wanted.
+// Appends the line of the fault that flips a record, where there is one and lines are wanted.
 fn note_flip<'a, A: Allocator + Copy, L: LineStore>(
     program: &Program<'a, A>,
     wanted: bool,
@@ -181,7 +182,7 @@ fn note_flip<'a, A: Allocator + Copy, L: LineStore>(
     }
 }
 
-// Appends the line of a fault that hits these targets, if there are any.
+// Appends the line of a fault that flips these targets, if there are any.
 fn note_line<'a, A: Allocator + Copy, L: LineStore>(
     program: &Program<'a, A>,
     entry: u32,

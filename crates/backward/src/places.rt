@@ -12,7 +12,7 @@ use programs::Program;
 use std::alloc::{AllocError, Allocator};
 use step_model::{Place, Term};
 
-/// Notes a number for those of these targets that have none yet.
+/// Notes this number for those of these targets that have none yet.
 pub(crate) fn note<A: Allocator + Copy>(found: &mut Vec<Option<u32>, A>, hit: &[u32], value: u32)
     requires { All (λ t. t < length found.old.items) hit.now }
     ensures { found.new.items ≡ noted value hit.now found.old.items }
@@ -30,7 +30,7 @@ fn note_at(found: &mut Option<u32>, value: u32)
     }
 }
 
-/// Nothing noted for so many targets.
+/// Nothing noted for this many targets.
 pub(crate) fn none_noted<A: Allocator + Copy>(
     alloc: A,
     targets: usize,

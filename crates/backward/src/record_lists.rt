@@ -23,9 +23,9 @@ struct Link {
 
 /// For each record the set of the targets that list it an odd number of times. Feedback alone changes them.
 ///
-/// They are kept as lists of links, the last put first, and a target is in a set where it is in the list an odd number of
-/// times: to toggle it, it is put in front. A list's place is how many links there were when its first was pushed, and 0
-/// where it is empty. Where feedback has put many, the lists are made anew, so that links don't grow with steps.
+/// They are kept as linked lists, and a target is in a set where it is in the list an odd number of times: to toggle
+/// it, it is put in front. A list's place is how many links there are up to and with its first, and 0 where it is
+/// empty. Where feedback has put many, the lists are made anew, so the links don't grow with the number of steps.
 #[derive(Drop)]
 pub(crate) struct RecordLists<'s, A: Allocator + Copy> {
     alloc: &'s A,
@@ -61,14 +61,15 @@ impl<'s, A: Allocator + Copy> RecordLists<'s, A> {
         }
     }
 
-    /// Those of a program before its steps are gone over.
+    /// The sets of a program after its last step: each target is in those of the records that it lists an odd number
+    /// of times.
     pub(crate) fn new<'a>(alloc: &'s A, program: &Program<'a, A>) -> Result<Self, AllocError>
         ensures { IfOk result (λ lists. lists ≡ listing_sets program.now []) }
     {
         let targets = target_count(program);
         let mut links = Vec::with_capacity(*alloc, listed_count(program))?;
         let mut places = Vec::from_elem(*alloc, 0, program.record_count() as usize)?;
-        // from the least up, so that lists descend
+        // From the least up, so that lists descend.
         for t in 0..targets {
             put_in_each(&mut links, &mut places, target(program, t), t as u32)?;
         }
@@ -82,7 +83,7 @@ impl<'s, A: Allocator + Copy> RecordLists<'s, A> {
         })
     }
 
-    // Sets of none, of so many targets, for so many records.
+    // Empty sets of this many targets, for this many records.
     fn of_none(alloc: &'s A, targets: usize, records: usize) -> Result<Self, AllocError>
         ensures { IfOk result (λ lists. lists ≡ replicate records (replicate targets false)) }
     {
@@ -107,7 +108,7 @@ impl<'s, A: Allocator + Copy> RecordLists<'s, A> {
         ensures { OnOk result (into.new.items ≡ members (slice_index_or self.now rec [])) }
     {
         list_from(self.links.as_slice(), self.places[rec], into)?;
-        // A list that feedback left alone falls, if no target lists the record twice.
+        // A list that feedback left alone descends, if no target lists the record twice.
         if falls(into.as_slice()) {
             into.reverse();
             return Ok(());
@@ -142,7 +143,7 @@ impl<'s, A: Allocator + Copy> RecordLists<'s, A> {
         Ok(())
     }
 
-    // The same sets, each target put once.
+    // The same sets, with each of their targets listed once.
     fn anew(&self) -> Result<Self, AllocError>
         requires { All (λ set. length set ≤ 2 ^ 32) self.now }
         ensures { IfOk result (λ lists. lists ≡ self.now) }
@@ -169,7 +170,8 @@ impl<'s, A: Allocator + Copy> RecordLists<'s, A> {
     }
 }
 
-// From how many links on lists of so many links and records are made anew: many more, so that it is done seldom.
+// From how many links on the lists are made anew, when there are this many links and records: many more, so that it is
+// done seldom.
 fn many_links(links: usize, records: usize) -> usize
     ensures { links ≤ result }
 {
@@ -209,8 +211,8 @@ fn put_in_each<A: Allocator + Copy>(
     Ok(())
 }
 
-// Puts each of these targets in front of a list, the last in front of all, and answers the place of that list. What was put
-// before an error stays, and no list has it.
+// Puts each of these targets in front of a list, the last in front of all, and answers the place of that list. What was
+// put before an error stays, and no list has it.
 fn put_each<A: Allocator + Copy>(
     links: &mut Vec<Link, A>,
     place: u32,

@@ -7,18 +7,18 @@ use smallvec::SmallVec;
 use std::alloc::{AllocError, Allocator};
 use std::marker::Model;
 
-/// Of how many targets a set has few.
+/// A set of at most this many targets is a set of few.
 const FEW: usize = 8;
 
-/// Of how many targets each of four sets has few.
+/// The same for each of four sets that are added up.
 const FOURTH: usize = 4;
 
-/// A set of targets as the list of those in it, the greatest first: where targets come from the greatest down, adding
-/// one appends it.
+/// A set of targets as the list of those in it, the greatest first: where targets come from the greatest down, each is
+/// appended.
 #[derive(Drop)]
 pub struct SparseSet<'a, A: Allocator + Copy> {
     targets: usize,
-    // On a borrowed allocator: how large a SmallVec is has to be known.
+    // On a borrowed allocator, since the size of a SmallVec has to be known.
     items: SmallVec<u32, 4, &'a A>,
 }
 
@@ -34,7 +34,7 @@ impl<'a, A: Allocator + Copy> Model for SparseSet<'a, A> {
 }
 
 impl<'a, A: Allocator + Copy> SparseSet<'a, A> {
-    /// None of so many targets. Takes no memory.
+    /// The empty set of this many targets. Takes no memory.
     pub fn none(alloc: &'a A, targets: usize) -> Self
         ensures { result ≡ replicate targets false }
     {
@@ -116,7 +116,7 @@ impl<'a, A: Allocator + Copy> TargetSet for SparseSet<'a, A> {
     }
 }
 
-// Puts the exclusive or of two descending lists of few in place of the first.
+// Puts the exclusive or of two short descending lists in place of the first, which is emptied by an error.
 fn add_few<A: Allocator + Copy>(
     items: &mut SmallVec<u32, 4, A>,
     more: &[u32],
@@ -135,8 +135,8 @@ fn add_few<A: Allocator + Copy>(
     put
 }
 
-// Puts the first `len` of these in place of what a list holds: over what is there, since to take one out or put one in waits
-// for the length that the one before left.
+// Puts the first `len` of these in place of what a list holds. They are written over what is there, since each removal
+// or push would wait for the length that the one before it left.
 #[inline]
 fn put_few<A: Allocator + Copy>(
     items: &mut SmallVec<u32, 4, A>,
@@ -151,8 +151,8 @@ fn put_few<A: Allocator + Copy>(
     push_few(items, &sum[kept..len])
 }
 
-// Writes of the first `len` of these as many as there are places for, and answers how many. A remainder at each keeps the loop
-// from being made a call that copies.
+// Writes the first `len` of these, as far as there are places, and answers how many. A remainder taken at each keeps
+// the loop from being made a call that copies.
 #[inline(always)]
 fn write_over(places: &mut [u32], sum: &[u32; 16], len: usize) -> usize
     requires { len ≤ 16 }
@@ -276,7 +276,7 @@ fn merge<A: Allocator + Copy>(
             j += 1;
         }
     }
-    // one of them is used up
+    // One of them is used up.
     if i < first.len() {
         into.extend_from_slice(&first[i..])
     } else {
@@ -284,8 +284,8 @@ fn merge<A: Allocator + Copy>(
     }
 }
 
-// Puts the exclusive or of two descending lists of few at the start of `sum`, and answers how long it is. Which of two is
-// the greater is hard to foresee, so that nothing jumps by it.
+// Puts the exclusive or of two short descending lists at the start of `sum`, and answers how long it is. Which of two
+// is the greater is hard to predict, so no branch is taken on it.
 fn merge_few(first: &[u32], second: &[u32], sum: &mut [u32; 16]) -> usize
     requires first { length first.now ≤ 8 }
     requires second { length second.now ≤ 8 }
@@ -303,13 +303,13 @@ fn merge_few(first: &[u32], second: &[u32], sum: &mut [u32; 16]) -> usize
         i += (y <= x) as usize;
         j += (x <= y) as usize;
     }
-    // one of them is used up
+    // One of them is used up.
     let len = append_few(sum, len, &first[i..]);
     append_few(sum, len, &second[j..])
 }
 
-// Puts these behind the first `len`, and answers how many there are then. A remainder at each place keeps the loop from
-// being made a call that copies, which takes longer than copying few.
+// Puts these behind the first `len`, and answers how many there are then. A remainder taken at each keeps the loop from
+// being made a call that copies, which takes longer for few.
 #[inline(always)]
 fn append_few(sum: &mut [u32; 16], len: usize, rest: &[u32]) -> usize
     requires { len + length rest.now ≤ 16 }
@@ -324,8 +324,8 @@ fn append_few(sum: &mut [u32; 16], len: usize, rest: &[u32]) -> usize
     end
 }
 
-// Lists the exclusive or of two descending lists ascending, and answers whether it did: where one is empty, or both are
-// of few.
+// Lists the exclusive or of two descending lists in ascending order, and answers whether it did: it does where one is
+// empty, or both are short.
 fn list_sum<B: Allocator + Copy>(
     first: &[u32],
     second: &[u32],
@@ -350,7 +350,7 @@ fn list_sum<B: Allocator + Copy>(
     Ok(true)
 }
 
-// The same of four descending lists, of fewer each.
+// The same for four descending lists, each still shorter.
 fn list_sum_of_four<B: Allocator + Copy>(
     first: &[u32],
     second: &[u32],

@@ -1,4 +1,4 @@
-//! Sets of targets, which tracked words are kept in.
+//! Sets of targets, in which tracked words are kept.
 ghost use Rattle.std.specs.Prelude.{◌≡◌, ◌<◌, ◌≤◌, ◌^◌, false, true, not, length, filter, replicate, All, IfOk, OnOk, List, Bool, slice_index_or, slice_set};
 ghost use Rattle.std.specs.List.{range_with_len};
 ghost use Rattle.bit_rows.specs.Rows.{xor_rows};
@@ -8,7 +8,8 @@ ghost use Rattle.backward.specs.TargetSets.{members};
 use bit_rows::BitRow;
 use std::alloc::{AllocError, Allocator};
 
-/// A set of targets, of a number of targets that stays. An error leaves the set as it was.
+/// A set of some of a fixed number of targets. After an error in `toggle` or `add` that number stays, and nothing more
+/// is promised of the set. (`add` of a `SparseSet` may leave it empty.)
 pub trait TargetSet: Drop {
     // For each target whether it is in the set.
     ghost bits: { Self → List Bool };
@@ -21,13 +22,13 @@ pub trait TargetSet: Drop {
     fn clear(&mut self)
         ensures { bits self.new ≡ replicate (length (bits self.old)) false };
 
-    /// Puts a target in that isn't there, or takes it out.
+    /// Puts a target in where it isn't there, and takes it out where it is.
     fn toggle(&mut self, target: u32) -> Result<(), AllocError>
         requires { target < length (bits self.old) }
         ensures ok { OnOk result (bits self.new ≡ slice_set (bits self.old) target (not (slice_index_or (bits self.old) target false))) }
         ensures len { length (bits self.new) ≡ length (bits self.old) };
 
-    /// Toggles each target of another set. What the spare one held is lost.
+    /// Toggles each target of another set. What the spare set held is lost.
     fn add(&mut self, other: &Self, spare: &mut Self) -> Result<(), AllocError>
         requires other { length (bits self.old) ≡ length (bits other.now) }
         requires spare { length (bits spare.old) ≡ length (bits self.old) }
@@ -40,8 +41,8 @@ pub trait TargetSet: Drop {
         requires { length (bits self.now) ≤ 2 ^ 32 }
         ensures { OnOk result (into.new.items ≡ members (bits self.now)) };
 
-    /// Puts the targets that are in one of two sets alone into `into`, ascending, in place of what it held, and answers
-    /// whether it did. It need not, but does so at once where both have few.
+    /// Puts the targets that are in just one of two sets into `into`, ascending, in place of what it held, and answers
+    /// whether it did. A set need not do it; it is for sets of few targets.
     fn list_sum<B: Allocator + Copy>(
         &self,
         other: &Self,
@@ -50,7 +51,7 @@ pub trait TargetSet: Drop {
         requires { length (bits self.now) ≡ length (bits other.now) }
         ensures { IfOk result (λ done. done ≡ true → into.new.items ≡ members (xor_rows (bits self.now) (bits other.now))) };
 
-    /// The same of the targets that are in an odd number of four sets.
+    /// The same for the targets that are in an odd number of four sets.
     fn list_sum_of_four<B: Allocator + Copy>(
         &self,
         second: &Self,

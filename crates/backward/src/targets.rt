@@ -1,4 +1,4 @@
-//! Reading off a program its targets and what names them.
+//! The targets of a program: how many there are, and the records that each lists.
 ghost use Rattle.std.specs.Prelude.{◌≡◌, ◌<◌, ◌≤◌, length, All};
 ghost use Rattle.step_model.specs.Targets.{targets_of, target_at};
 

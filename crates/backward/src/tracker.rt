@@ -8,21 +8,21 @@ use pauli_word::Letter;
 use std::alloc::{AllocError, Allocator};
 use step_model::Term;
 
-/// One unsigned word a target, taken back over the steps of a program: the words of the detectors, then those of the
-/// observables. Lists of targets ascend.
+/// An unsigned Pauli word for each target, taken back over the steps of a program: the words of the detectors, then
+/// those of the observables. Lists of targets ascend.
 ///
-/// After an error nothing is said of the words, and the tracker is not used again.
+/// After an error nothing is promised about the words, and the tracker is not used again.
 pub trait Tracker {
     // The words, in the order of their targets, and how many qubits they have.
     ghost tracked: { Self → Tracked };
 
-    /// Makes each word the one whose image it was under a one-qubit gate.
+    /// Takes each word to its preimage under a one-qubit gate, the sign left out.
     fn undo1(&mut self, gate: Gate, q: usize) -> Result<(), AllocError>
         requires arity { arity_of gate ≡ 1 }
         requires in_range { q < (tracked self.old).qubits }
         ensures { OnOk result (tracked self.new ≡ each_word (undone_one gate q) (tracked self.old)) };
 
-    /// Makes each word the one whose image it was under a two-qubit gate.
+    /// Takes each word to its preimage under a two-qubit gate, the sign left out.
     fn undo2(&mut self, gate: Gate, a: usize, b: usize) -> Result<(), AllocError>
         requires arity { arity_of gate ≡ 2 }
         requires first_in_range { a < (tracked self.old).qubits }

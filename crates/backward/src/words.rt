@@ -35,11 +35,11 @@ pub struct Words<S: TargetSet, A: Allocator + Copy> {
     spare: S,
 }
 
-/// Words kept by qubit, whose sets are rows of bits: `Words::dense` makes them.
+/// Words kept by qubit, whose sets are rows of bits. `Words::dense` makes them.
 pub type DenseWords<A> = Words<BitRow<A>, A>;
 
-/// Words kept by qubit, whose sets are lists of the targets in them, so that few of many targets take little memory:
-/// `Words::sparse` makes them.
+/// Words kept by qubit, whose sets are lists of the targets in them, so that sets of few among many targets take little
+/// memory. `Words::sparse` makes them.
 pub type QubitSets<'a, A> = Words<SparseSet<'a, A>, A>;
 
 impl<S: TargetSet, A: Allocator + Copy> Model for Words<S, A> {
@@ -54,7 +54,7 @@ impl<S: TargetSet, A: Allocator + Copy> Model for Words<S, A> {
 }
 
 impl<A: Allocator + Copy> Words<BitRow<A>, A> {
-    /// An identity word a target.
+    /// An identity word for each of this many targets, on this many qubits. It fails only where memory runs out.
     pub fn dense(alloc: A, qubits: usize, targets: usize) -> Result<Self, AllocError>
         requires { targets ≤ 2 ^ 32 }
         ensures { IfOk result (λ w. w ≡ fresh qubits targets) }
@@ -62,7 +62,7 @@ impl<A: Allocator + Copy> Words<BitRow<A>, A> {
         Words::of_sets(alloc, qubits, targets, BitRow::zeros(alloc, targets)?)
     }
 
-    /// An identity word for each target of a program.
+    /// An identity word for each target of a program, on its qubits. It fails only where memory runs out.
     pub fn dense_for(alloc: A, program: &Program<'_, A>) -> Result<Self, AllocError>
         ensures { IfOk result (λ w. w ≡ fresh program.now.qubits (length (targets_of program.now))) }
     {
@@ -71,7 +71,7 @@ impl<A: Allocator + Copy> Words<BitRow<A>, A> {
 }
 
 impl<'a, A: Allocator + Copy> Words<SparseSet<'a, A>, A> {
-    /// An identity word a target.
+    /// An identity word for each of this many targets, on this many qubits. It fails only where memory runs out.
     pub fn sparse(alloc: &'a A, qubits: usize, targets: usize) -> Result<Self, AllocError>
         requires { targets ≤ 2 ^ 32 }
         ensures { IfOk result (λ w. w ≡ fresh qubits targets) }
@@ -79,7 +79,7 @@ impl<'a, A: Allocator + Copy> Words<SparseSet<'a, A>, A> {
         Words::of_sets(*alloc, qubits, targets, SparseSet::none(alloc, targets))
     }
 
-    /// An identity word for each target of a program.
+    /// An identity word for each target of a program, on its qubits. It fails only where memory runs out.
     pub fn sparse_for(alloc: &'a A, program: &Program<'_, A>) -> Result<Self, AllocError>
         ensures { IfOk result (λ w. w ≡ fresh program.now.qubits (length (targets_of program.now))) }
     {
@@ -88,7 +88,7 @@ impl<'a, A: Allocator + Copy> Words<SparseSet<'a, A>, A> {
 }
 
 impl<S: TargetSet, A: Allocator + Copy> Words<S, A> {
-    // An identity word a target, from a set of none.
+    // An identity word for each target, from an empty set.
     fn of_sets(alloc: A, qubits: usize, targets: usize, none: S) -> Result<Self, AllocError>
         requires few { targets ≤ 2 ^ 32 }
         requires none { S.bits none ≡ replicate targets false }
@@ -160,7 +160,8 @@ impl<S: TargetSet, A: Allocator + Copy> Words<S, A> {
         )
     }
 
-    // Lists the targets whose words anticommute with the product of two letters, and answers whether it did: it need not.
+    // Lists the targets whose words anticommute with the product of two letters, and answers whether it did: it need
+    // not.
     #[inline(never)]
     fn list_both<B: Allocator + Copy>(
         &self,
@@ -183,7 +184,7 @@ impl<S: TargetSet, A: Allocator + Copy> Words<S, A> {
         }
     }
 
-    // The same of two letters Y.
+    // The same for two letters Y.
     fn list_both_y<B: Allocator + Copy>(
         &self,
         first: &Term,

@@ -1,5 +1,5 @@
--- What the tree of an error model keeps: each instruction fits what its name takes, each block has a turn, and no more
--- blocks stand inside one another than may. (Stim's detector error model format,
+-- What holds of an error model's tree: each instruction has the arguments and targets that its name takes, each block
+-- has at least one turn, and blocks are nested no deeper than the limit. (Stim's detector error model format,
 -- github.com/quantumlib/Stim, doc/file_format_dem_detector_error_model.md; the limits are this project's.)
 use Rattle.std.specs.Prelude.{⊤, ◌≡◌, ◌<◌, ◌≤◌, ℕ, suc, max, false, true}
 use Rattle.stim_parser.specs.Limits.{has_wrong_arguments, has_wrong_probability}
@@ -17,17 +17,19 @@ pub record Fits (i : Instruction) : Type 0 where
   pub targets : are_of_form (target_form (Does i.operation)) i.targets ≡ true
   pub targets_within : has_target_beyond i.targets ≡ false
 
--- how deep blocks stand inside one another
+-- how deep blocks are nested
 abbrev pub depth : Tree → ℕ
 depth Nothing = 0
 depth (Then instruction rest) = depth rest
 depth (Block line turns body rest) = max (suc (depth body)) (depth rest)
 
+-- in a tree each instruction fits, and each block has a turn
 abbrev pub AllFit : Tree → Type 0
 AllFit Nothing = ⊤
 AllFit (Then instruction rest) = Fits instruction × AllFit rest
 AllFit (Block line turns body rest) = (0 < turns) × AllFit body × AllFit rest
 
+-- a tree that is an error model
 pub record IsAccepted (tree : Tree) : Type 0 where
   pub fit : AllFit tree
   pub shallow : depth tree ≤ deepest

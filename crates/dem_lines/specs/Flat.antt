@@ -1,7 +1,6 @@
--- An error model kept flat, as its text writes it: a list of items. Items give back their tree: read from the last item
--- on, the end of a block starts a body, and the start of a block takes the body that is found.
--- (Stim's detector error model format, github.com/quantumlib/Stim, doc/file_format_dem_detector_error_model.md,
--- "repeat".)
+-- An error model kept flat, as its text writes it: a list of items. The tree is found again by reading them from the
+-- last to the first: the end of a block starts a body, and the start of a block takes the body that was found. (Stim's
+-- detector error model format, github.com/quantumlib/Stim, doc/file_format_dem_detector_error_model.md, "repeat".)
 use Rattle.std.specs.Prelude.{⊤, ◌≡◌, ◌<◌, ℕ, ◌⊎◌, List, [], ◌∷◌, ◌++◌, map, slice_index_or, refl}
 use Rattle.std.specs.Coded.{Coded, code_by, coded×, coded⊎, coded_ℕ, coded_list}
 use Rattle.std.proofs.Common.{sym, ap, ◌∙◌, append_assoc, append-nil, inl, inr}
@@ -22,7 +21,7 @@ use Rattle.dem_lines.specs.Verdicts.{Instruction}
 
 -- ---- the tree of items
 
--- an item before the trees that were read behind it: the innermost one, and those that follow the ends of blocks
+-- an item put before the trees that were read after it: the innermost one, and those that follow the ends of blocks
 abbrev pub onto : Item → List Tree → List Tree
 onto (Does i) [] = []
 onto (Does i) (t ∷ ts) = Then i t ∷ ts
@@ -39,6 +38,7 @@ abbrev pub first_tree : List Tree → Tree
 first_tree [] = Nothing
 first_tree (t ∷ ts) = t
 
+-- the tree of items
 abbrev pub tree_of : List Item → Tree
 tree_of items = first_tree (trees_of items)
 
@@ -61,7 +61,7 @@ pub record IsWritten (items : List Item) : Type 0 where
 
 -- ---- what is kept of items
 
--- an instruction's heading names a list that is there
+-- an instruction names a list of targets that is there
 abbrev pub HasTargets : ℕ → Node → Type 0
 HasTargets count (node.Does line operation list arguments) = list < count
 HasTargets count kept = ⊤
@@ -81,7 +81,7 @@ item_kept lists node.Ends = Ends
 abbrev pub items_kept : List (List Target) → List Node → List Item
 items_kept lists nodes = map (item_kept lists) nodes
 
--- ---- what is handed out of them
+-- ---- what callers get of them
 
 abbrev pub instruction_in : instruction.Instruction → Instruction
 instruction_in i =
@@ -92,7 +92,7 @@ item_in (item.Does i) = Does (instruction_in i)
 item_in (item.Begins line turns) = Begins line turns
 item_in item.Ends = Ends
 
--- ---- how items and trees are stored, for the types that are seen as them
+-- ---- how items and trees are stored, for the types whose values they are
 
 abbrev Fields : Type 0
 Fields = ℕ × (Operation × (List (List ℕ) × List Target))

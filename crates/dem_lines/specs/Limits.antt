@@ -1,8 +1,8 @@
--- What a line of an error model asks of its arguments and of its targets. How many arguments there are and of which form
--- each is, is asked as of a circuit's instruction. The limits: a detector's number is at most 999,999, an observable's at
--- most 1,023; all other numbers and the magnitudes of coordinates are below 10^18.
--- (Stim's detector error model format, github.com/quantumlib/Stim, doc/file_format_dem_detector_error_model.md; the limits
--- are this project's.)
+-- What is asked of the arguments and of the targets of a line of an error model. The number and the form of its
+-- arguments are judged as those of a circuit's instruction. The limits: a detector's number is at most 999,999, an
+-- observable's at most 1,023; all other numbers and the magnitudes of coordinates are below 10^18. (Stim's detector
+-- error model format, github.com/quantumlib/Stim, doc/file_format_dem_detector_error_model.md; the limits are this
+-- project's.)
 use Rattle.std.specs.Prelude.{ℕ, nat_lt, Bool, true, false, ◌&&◌, List, [], ◌∷◌}
 use Rattle.std.specs.List.{list_any, list_all}
 use Rattle.stim_parser.specs.declared.forms.ArgumentForm.{ArgumentForm}

@@ -1,7 +1,7 @@
--- The lines that the blocks of an error model unroll to, as they are counted in one pass over its text: those of all
--- instructions and blocks as if they stood in one block, and the instructions that stand in none. A count that doesn't fit
--- 128 bits stays at the greatest number that does, which is above every limit.
--- (What is counted is this project's choice.)
+-- The lines that the blocks of an error model unroll to, as they are counted in one pass over its text. One count is of
+-- all lines, as if they stood in one block, and one of the instructions that stand in no block. A count that doesn't
+-- fit 128 bits stays at the greatest number that does, which is above every limit. (What is counted is this project's
+-- choice.)
 use Rattle.std.specs.Prelude.{ℕ, ◌+◌, ◌-◌, ◌*◌, ◌^◌, min}
 use Rattle.dem_lines.specs.declared.line_counts.LineCounts.{LineCounts}
 use Rattle.dem_lines.specs.Passes.{Pass}
@@ -13,7 +13,7 @@ greatest = 2 ^ 128 - 1
 abbrev pub capped_sum : ℕ → ℕ → ℕ
 capped_sum a b = min (a + b) greatest
 
--- a count behind all turns of a block, by the counts before it and behind its first turn
+-- the count after all turns of a block, from the counts before it and after its first turn
 abbrev pub repeated_sum : ℕ → ℕ → ℕ → ℕ
 repeated_sum turns before after = capped_sum after (min ((turns - 1) * (after - before)) greatest)
 
@@ -23,7 +23,7 @@ nothing_counted = record { inside = 0; outside = 0 }
 abbrev pub counts_after : Instruction → LineCounts → LineCounts
 counts_after i c = record { inside = capped_sum c.inside 1; outside = capped_sum c.outside 1 }
 
--- each turn is a line of its own
+-- each turn counts as one more line
 abbrev pub counts_repeated : ℕ → LineCounts → LineCounts → LineCounts
 counts_repeated turns before after =
     record { inside = repeated_sum turns before.inside (capped_sum after.inside 1); outside = before.outside }

@@ -1,4 +1,4 @@
--- The instruction at a place of an error model, where its items are counted as its text writes them.
+-- The instruction at a place of an error model, its items being counted as its text writes them.
 -- (Stim's detector error model format, github.com/quantumlib/Stim, doc/file_format_dem_detector_error_model.md.)
 use Rattle.std.specs.Prelude.{ℕ, List, [], Option, None, Some, slice_get}
 use Rattle.stim_parser.specs.Arguments.{arguments_in}

@@ -1,5 +1,5 @@
 -- The targets of a line of an error model, as they are written. A detector is `D` and a number, an observable `L` and a
--- number, both letters in upper case; `^` alone is a separator, which says nothing of what an error flips; a number
+-- number, both letters in upper case; `^` alone is a separator, which doesn't change what an error flips; a number
 -- alone says by how much detectors shift, or how often a block is repeated. Targets are cut as those of a circuit.
 -- (Stim's detector error model format, github.com/quantumlib/Stim, doc/file_format_dem_detector_error_model.md, "Target
 -- Types".)
@@ -12,7 +12,7 @@ use Rattle.stim_parser.specs.Targets.{each_of}
 use Rattle.dem_lines.specs.declared.target.Target.{Target}
 use Rattle.dem_lines.specs.declared.target.Target.TheVariants.{Plain, Detector, Observable, Separator}
 
--- a target that is told by its first byte: `D`, `L` or `^`
+-- a target that is known by its first byte: `D`, `L` or `^`
 abbrev pub marked_of : List ℕ → Option Target
 marked_of [] = None
 marked_of (b ∷ text) =

@@ -1,8 +1,7 @@
--- What a whole text says: the items of its lines in their order, or its refusal. Lines that say nothing are passed over.
--- The first line that is refused refuses the text; where none is, a block that is left open does, and then by the line
--- of the innermost open `repeat`. Lines are numbered from 1.
--- (Stim's detector error model format, github.com/quantumlib/Stim, doc/file_format_dem_detector_error_model.md; the
--- order of refusals is this project's.)
+-- What a whole text says: the items of its lines in their order, or its refusal. Lines that say nothing are passed
+-- over. The first line that is refused is the text's refusal. Where there is none but a block is left open, the text is
+-- refused by the line of the innermost open `repeat`. Lines are numbered from 1. (Stim's detector error model format,
+-- github.com/quantumlib/Stim, doc/file_format_dem_detector_error_model.md; the order of refusals is this project's.)
 use Rattle.std.specs.Prelude.{ℕ, ◌+◌, if◌then◌else◌, List, [], ◌∷◌, length, drop, Result, Ok, Err}
 use Rattle.step_model.specs.declared.fault.Fault.{Fault}
 use Rattle.step_model.specs.declared.fault.Cause.{Cause}
@@ -17,6 +16,7 @@ pub data Item : Type 0 where
   Begins : ℕ → ℕ → Item
   Ends : Item
 
+-- a refusal for this cause at this line
 abbrev pub refused : Cause → ℕ → Fault
 refused c line = record { cause = c; line = line }
 
@@ -43,12 +43,12 @@ abbrev pub at_end : List ℕ → Result (List Item) Fault
 at_end [] = Ok []
 at_end (line ∷ opened) = Err (refused cause.DemBlock line)
 
--- a line of a number as it stands, in these open blocks: bytes are judged before all else
+-- what the line of this number says where these blocks are open; its bytes are judged before everything else
 abbrev pub line_reading : List ℕ → ℕ → List ℕ → Reading
 line_reading opened number line =
     if has_bad_byte line then Refuses cause.Byte else reading_of (length opened) number (cut_of line)
 
--- the items of lines, of which so many came before, in these open blocks
+-- the items of lines, of which this many came before, in these open blocks
 unfoldable pub items_from : List ℕ → ℕ → List (List ℕ) → Result (List Item) Fault
 items_from opened read [] = at_end opened
 items_from opened read (line ∷ lines) =

@@ -1,7 +1,6 @@
--- The error model that a text writes, as a tree: instructions, and blocks with their turns and what stands in them. A tree
--- and its text say the same items in the same order, and so no two trees have one text.
--- (Stim's detector error model format, github.com/quantumlib/Stim, doc/file_format_dem_detector_error_model.md,
--- "repeat".)
+-- The error model that a text writes, as a tree: instructions, and blocks with the number of their turns and what
+-- stands in them. A tree and its text say the same items in the same order, and so no two trees have one text. (Stim's
+-- detector error model format, github.com/quantumlib/Stim, doc/file_format_dem_detector_error_model.md, "repeat".)
 use Rattle.std.specs.Prelude.{◌≡◌, ℕ, List, [], ◌∷◌, ◌++◌, Ok, Err}
 use Rattle.step_model.specs.declared.fault.Fault.{Fault}
 use Rattle.dem_lines.specs.Verdicts.{Instruction}

@@ -1,5 +1,5 @@
 -- An error model that is read line by line: the items so far, and the lines of the open blocks. A line that isn't
--- refused puts its item behind them. (Stim's detector error model format, github.com/quantumlib/Stim,
+-- refused appends its item. (Stim's detector error model format, github.com/quantumlib/Stim,
 -- doc/file_format_dem_detector_error_model.md.)
 use Rattle.std.specs.Prelude.{ℕ, List, [], ◌∷◌, ◌++◌, length, Option, None, Some, refl}
 use Rattle.std.specs.Coded.{Coded, code_by, coded×, coded_ℕ, coded_list}
@@ -20,7 +20,7 @@ coded_unfinished =
     (λ p. record { items = p.0; opened = p.1 })
     (λ _. refl)
 
--- what a line says behind these
+-- what a line says after these
 abbrev pub reading_at : Unfinished → ℕ → Cut → Reading
 reading_at u number cut = reading_of (length u.opened) number cut
 

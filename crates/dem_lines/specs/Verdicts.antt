@@ -1,5 +1,5 @@
--- What a cut line of an error model says where so many blocks are open, or why it is refused. A line of `}` alone closes
--- a block. Any other is asked these questions in their order, and the first that applies is its refusal:
+-- What a cut line of an error model says where `depth` blocks are open, or why it is refused. A line of `}` alone
+-- closes a block. Any other is asked these questions in their order, and the first that applies is its refusal:
 --     DemBlock: `}` alone with no open block; a line of `repeat` whose one brace isn't a `{` at its end; any other brace.
 --     DemName: the name is empty or unknown.
 --     DemArguments: a tag or parentheses stay open; a wrong number of arguments; an empty one; one of another form, or a
@@ -85,6 +85,7 @@ refusals_of_amounts depth keyword cut =
     ∷ (opens_too_deep depth keyword, cause.DemDepth)
     ∷ []
 
+-- the questions of a line with this keyword, of one with a keyword or none, and of any line
 abbrev pub refusals_of_keyword : ℕ → Keyword → Cut → List (Bool × Cause)
 refusals_of_keyword depth keyword cut =
     (refuses_arguments keyword cut, cause.DemArguments)
@@ -104,7 +105,7 @@ refusals depth cut =
 abbrev pub first_of : List (Bool × Cause) → Option Cause
 first_of asked = option_map (λ question. question.1) (find (λ question. question.0) asked)
 
--- the refusal of a line where so many blocks are open
+-- the refusal of a line where `depth` blocks are open
 unfoldable pub refusal_of : ℕ → Cut → Option Cause
 refusal_of depth cut = first_of (refusals depth cut)
 
@@ -117,7 +118,7 @@ pub record Instruction : Type 0 where
   pub arguments : List (List ℕ)
   pub targets : List Target
 
--- an instruction; the start of a block of so many turns; the end of a block; or a refusal
+-- an instruction; the start of a block of this many turns; the end of a block; or a refusal
 pub data Reading : Type 0 where
   Takes : Instruction → Reading
   Opens : ℕ → Reading
@@ -148,10 +149,11 @@ closed_at depth = if depth == 0 then Refuses cause.DemBlock else Closes
 unfoldable pub judged : ℕ → ℕ → Cut → Reading
 judged depth number cut = unless_refused (refusal_of depth cut) (accepted number (keyword_named cut.name) cut)
 
--- what a cut line of a number says where so many blocks are open
+-- what the cut line of this number says where `depth` blocks are open
 abbrev pub said_by : Braces → ℕ → ℕ → Cut → Reading
 said_by ClosingAlone depth number cut = closed_at depth
 said_by braces depth number cut = judged depth number cut
 
+-- what a cut line says
 unfoldable pub reading_of : ℕ → ℕ → Cut → Reading
 reading_of depth number cut = said_by cut.braces depth number cut

@@ -39,7 +39,7 @@ impl<'a, A: Allocator + Copy> Model for Builder<'a, A> {
 }
 
 impl<'a, A: Allocator + Copy> Builder<'a, A> {
-    /// Nothing was read. Takes no memory.
+    /// An error model of which no line was read. Takes no memory.
     pub(crate) fn new(alloc: A) -> Self
         ensures { result ≡ record { items = []; opened = [] } }
     {
@@ -51,8 +51,8 @@ impl<'a, A: Allocator + Copy> Builder<'a, A> {
         }
     }
 
-    /// Reads a line. Answers why it is refused, where it is. It may fail only where memory runs out; what was read
-    /// before isn't used then.
+    /// Reads a line, and answers why it is refused, where it is. It fails only where memory runs out or a number of
+    /// lines or targets outgrows 32 bits. Nothing is promised then of what was read before.
     pub(crate) fn read(&mut self, line: Line<'a>) -> Result<Option<Cause>, AllocError>
         ensures refused { IfOk result (λ refused. refused ≡ cause_in (reading_at self.old line.entry.number (cut_in line.entry))) }
         ensures after { IfOk result (λ refused. self.new ≡ after_line line.entry.number (reading_at self.old line.entry.number (cut_in line.entry)) self.old) }
@@ -81,7 +81,7 @@ impl<'a, A: Allocator + Copy> Builder<'a, A> {
         Ok(None)
     }
 
-    /// The error model that was read. A block that is left open is refused by the line of the innermost.
+    /// The error model that was read. Where a block is left open, it is refused by the line of the innermost one.
     pub(crate) fn finish(mut self) -> Result<ModelLines<'a, A>, Fault>
         requires { self.opened ≡ [] → IsWritten self.items }
         ensures ok { IfOk result (λ model. (self.entry.opened ≡ []) × (items_of model ≡ self.entry.items)) }

@@ -40,7 +40,7 @@ fn are_beyond(arguments: &[&[u8]]) -> bool
         .any(|argument| is_number_beyond(magnitude_of(*argument)))
 }
 
-/// Whether one of the arguments is to be a coordinate and is beyond its limit.
+/// Whether one of the arguments is a coordinate beyond its limit.
 pub(crate) fn has_coordinate_beyond(form: ArgumentForm, arguments: &[&[u8]]) -> bool
     ensures { result ≡ has_coordinate_beyond form (texts_of arguments.now) }
 {
@@ -90,7 +90,7 @@ fn is_one_number(targets: &[Target]) -> bool
     matches!(targets, [Target::Plain(_)])
 }
 
-/// Whether targets are of a form, and as many as it has.
+/// Whether targets are of this form, and as many as it takes.
 #[tactic(auto, unfolding(crate::specs::Limits::are_of_form))]
 pub(crate) fn are_of_form(form: TargetForm, targets: &[Target]) -> bool
     ensures { result ≡ are_of_form form targets.now }

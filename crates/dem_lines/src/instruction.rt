@@ -7,7 +7,7 @@ use crate::target::Target;
 pub struct Instruction<'c, 'a> {
     pub line: u64,
     pub operation: Operation,
-    /// Empty where there are no parentheses, too.
+    /// Empty where there are no parentheses.
     pub arguments: &'a [u8],
     pub targets: &'c [Target],
 }

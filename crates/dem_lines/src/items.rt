@@ -11,7 +11,7 @@ use flat_lists::FlatLists;
 use std::alloc::{AllocError, Allocator};
 use std::marker::Model;
 
-/// What is kept of an item: all but the targets of an instruction, of which it has the number of their list.
+/// What is kept of an item: everything but the targets of an instruction, for which it has the number of their list.
 #[derive(Clone, Copy)]
 pub(crate) enum Node<'a> {
     Does {
@@ -27,7 +27,7 @@ pub(crate) enum Node<'a> {
     Ends,
 }
 
-/// Items in the order of the text. Blocks are kept flat, so nothing that goes over items calls itself.
+/// Items in the order of the text. Blocks are kept flat, so no recursion is needed to go over them.
 #[derive(Drop)]
 pub(crate) struct Items<'a, A: Allocator + Copy> {
     nodes: Vec<Node<'a>, A>,
@@ -66,7 +66,8 @@ impl<'a, A: Allocator + Copy> Items<'a, A> {
         self.nodes.len()
     }
 
-    /// Appends an instruction with a copy of its targets. It may fail only where memory runs out.
+    /// Appends an instruction with a copy of its targets. It fails only where memory runs out, or where the line's
+    /// number, or that of instructions or targets, doesn't fit 32 bits.
     pub(crate) fn push(&mut self, instruction: Instruction<'_, 'a>) -> Result<(), AllocError>
         ensures ok { OnOk result (self.new ≡ self.old ++ Does (instruction_in instruction.entry) ∷ []) }
         ensures err { OnErr result (self.new ≡ self.old) }
@@ -85,7 +86,7 @@ impl<'a, A: Allocator + Copy> Items<'a, A> {
         Ok(())
     }
 
-    /// Appends the start of a block. It may fail only where memory runs out.
+    /// Appends the start of a block. It fails only where memory runs out.
     pub(crate) fn begin(&mut self, line: u64, turns: u64) -> Result<(), AllocError>
         ensures ok { OnOk result (self.new ≡ self.old ++ Begins line turns ∷ []) }
         ensures err { OnErr result (self.new ≡ self.old) }
@@ -94,7 +95,7 @@ impl<'a, A: Allocator + Copy> Items<'a, A> {
         Ok(())
     }
 
-    /// Appends the end of a block. It may fail only where memory runs out.
+    /// Appends the end of a block. It fails only where memory runs out.
     pub(crate) fn end(&mut self) -> Result<(), AllocError>
         ensures ok { OnOk result (self.new ≡ self.old ++ Ends ∷ []) }
         ensures err { OnErr result (self.new ≡ self.old) }

@@ -21,7 +21,7 @@ use stim_parser::{
 /// How many blocks may stand inside one another.
 pub(crate) const DEEPEST: usize = 32;
 
-/// What a line says; the targets of what it takes stand apart.
+/// What a line says; the targets of an instruction are kept apart.
 #[derive(Clone, Copy)]
 pub enum Said<'a> {
     /// An instruction, and what stands in its parentheses.
@@ -29,7 +29,7 @@ pub enum Said<'a> {
         operation: Operation,
         arguments: &'a [u8],
     },
-    /// The start of a block of so many turns.
+    /// The start of a block of this many turns.
     Opens(u64),
     /// The end of a block.
     Closes,
@@ -53,7 +53,7 @@ impl<'a> Last<'a> {
     }
 }
 
-/// Whether the braces of a line stand otherwise than its keyword asks.
+/// Whether the braces of a line aren't those that its keyword asks for.
 fn misplaces_brace(keyword: Option<Keyword>, braces: Braces) -> bool
     ensures { result ≡ misplaces_brace keyword braces }
 {
@@ -63,7 +63,7 @@ fn misplaces_brace(keyword: Option<Keyword>, braces: Braces) -> bool
     }
 }
 
-/// The keyword of a line that doesn't close a block, where its braces stand as that asks.
+/// The keyword of a line that doesn't close a block, where its braces are those that the keyword asks for.
 fn keyword_of(line: Line) -> Result<Keyword, Cause>
     ensures { MatchResult result
         (λ keyword. (keyword_named line.entry.name.now ≡ Some keyword) × (misplaces_brace (Some keyword) line.entry.braces ≡ false))
@@ -95,7 +95,7 @@ fn arguments_of<'a>(last: &mut Last<'a>, keyword: Keyword, line: Line<'a>) -> Op
     closed_arguments_of(last, keyword, line)
 }
 
-/// The same of a line on which no tag and no parentheses stay open.
+/// The same for a line on which no tag and no parentheses stay open.
 #[inline(never)]
 fn closed_arguments_of<'a>(last: &mut Last<'a>, keyword: Keyword, line: Line<'a>) -> Option<bool>
     requires { line.stays_open ≡ false }
@@ -115,8 +115,8 @@ fn closed_arguments_of<'a>(last: &mut Last<'a>, keyword: Keyword, line: Line<'a>
     Some(has_coordinate_beyond(form, arguments.as_slice()))
 }
 
-/// Puts the targets of a line in place of those that were there. Answers whether each can be read and they are of the
-/// form asked.
+/// Puts the targets of a line into `targets`, in place of what it held, and answers whether each can be read and they
+/// are of this form.
 fn read_line_targets<A: Allocator + Copy>(
     targets: &mut Vec<Target, A>,
     form: TargetForm,
@@ -147,7 +147,8 @@ pub fn number_in(targets: &[Target]) -> u64
     }
 }
 
-/// The refusal of a line whose arguments and targets are of their forms, where a coordinate is beyond its limit or none.
+/// The refusal of a line whose arguments and targets are of their forms. `beyond` says whether a coordinate is beyond
+/// its limit.
 fn refusal_of_amounts(
     depth: usize,
     keyword: Keyword,
@@ -171,8 +172,8 @@ fn refusal_of_amounts(
     None
 }
 
-/// The refusal of a line with a keyword, where so many blocks are open. Where there is none its targets are in place of
-/// those that were there.
+/// The refusal of a line with this keyword, where `depth` blocks are open. Where there is none, `targets` has the
+/// line's targets then.
 fn refusal_of<'a, A: Allocator + Copy>(
     last: &mut Last<'a>,
     targets: &mut Vec<Target, A>,
@@ -206,7 +207,7 @@ fn accepted<'a>(keyword: Keyword, line: Line<'a>, targets: &[Target]) -> Said<'a
     }
 }
 
-/// What a line says that closes a block, where so many are open.
+/// What a line of `}` alone says, where `depth` blocks are open.
 fn closed_at<'a>(depth: usize) -> Said<'a>
     ensures { (number : ℕ) (targets : List Target) → reading_in number result targets ≡ closed_at depth }
 {
@@ -236,8 +237,8 @@ fn judged<'a, A: Allocator + Copy>(
     }
 }
 
-/// Reads a cut line where so many blocks are open, and puts its targets in place of those that were there. Where it is
-/// no instruction that is taken, what stands in their place is not said.
+/// Reads a cut line where `depth` blocks are open, and puts its targets into `targets`, in place of what it held. Where
+/// the line is no accepted instruction, nothing is promised of `targets`.
 #[tactic(auto, unfolding(crate::specs::Verdicts::reading_of))]
 pub fn read_line<'a, A: Allocator + Copy>(
     last: &mut Last<'a>,

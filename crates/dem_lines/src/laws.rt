@@ -13,7 +13,8 @@ pub fn texts_are_judged_once()
     ensures not_both { (text : List ℕ) (t : Tree) (f : Fault) → Writes text t → IsRefusedBy text f → ⊥ }
 {}
 
-/// The instructions of a tree that a text writes fit, and its blocks have turns and do not stand too deep.
+/// In a tree that a text writes, each instruction has the arguments and targets that its name takes, each block has a
+/// turn, and blocks are not nested too deep.
 pub fn texts_write_accepted_trees()
     ensures { (text : List ℕ) (tree : Tree) → Writes text tree → IsAccepted tree }
 {}

@@ -10,15 +10,15 @@ use crate::lines::{Item, ModelLines};
 use arrayvec::ArrayVec;
 use std::alloc::Allocator;
 
-/// To how many lines blocks may unroll.
+/// How many lines blocks may unroll to.
 const MOST_LINES: u128 = 4_000_000;
 
 /// How many lines there are up to a place of a model's text, at the first turn of the blocks that are open there.
 #[derive(Clone, Copy, Default)]
 pub(crate) struct LineCounts {
-    /// All lines, blocks unrolled.
+    /// All lines, blocks unrolled, as if everything stood in a block.
     pub inside: u128,
-    /// The instructions that stand in no block, once the blocks are closed.
+    /// The instructions that stand in no block, and so far those of the blocks that are still open.
     pub outside: u128,
 }
 
@@ -29,7 +29,7 @@ struct Counting {
     blocks: ArrayVec<OpenBlock<LineCounts>, LEVELS>,
 }
 
-/// A count behind all turns of a block, by the counts before it and behind its first turn.
+/// The count after all turns of a block, from the counts before it and after its first turn.
 fn repeated_sum(turns: u64, before: u128, after: u128) -> u128
     ensures { result ≡ repeated_sum turns before after }
 {
@@ -38,7 +38,7 @@ fn repeated_sum(turns: u64, before: u128, after: u128) -> u128
 }
 
 impl LineCounts {
-    /// The counts behind all turns of a block, from those before it and these, behind its first turn.
+    /// The counts after all turns of a block, from those before it and these, which are those after its first turn.
     fn repeated(self, turns: u64, before: LineCounts) -> LineCounts
         ensures { result ≡ counts_repeated turns before self }
     {

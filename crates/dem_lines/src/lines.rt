@@ -10,8 +10,8 @@ use crate::operation::Operation;
 use std::alloc::Allocator;
 use std::marker::Model;
 
-/// What stands at a place of an error model: an instruction, the start of a block by its line and its turns, or the end of
-/// the innermost block.
+/// What stands at a place of an error model: an instruction, the start of a block by its line and its turns, or the end
+/// of the innermost block.
 #[derive(Clone, Copy)]
 pub enum Item<'c, 'a> {
     Does(Instruction<'c, 'a>),
@@ -38,7 +38,7 @@ impl<'a, A: Allocator + Copy> Model for ModelLines<'a, A> {
     ghost invariant = { λ c. IsWritten c.items };
 }
 
-/// The instruction that is found, where one is, or one that says nothing.
+/// The instruction that is found; an empty one where none is.
 #[inline(always)]
 fn instruction_of<'c, 'a>(found: Option<Item<'c, 'a>>) -> Instruction<'c, 'a>
     ensures { instruction_in result ≡ instruction_of (option_map item_in found.entry) }
@@ -99,7 +99,7 @@ impl<'a, A: Allocator + Copy> ModelLines<'a, A> {
         }
     }
 
-    /// The instruction at a place. Where none stands there it is one that says nothing.
+    /// The instruction at a place; an empty one where no instruction stands there.
     #[inline(always)]
     pub fn instruction_at(&self, place: usize) -> Instruction<'_, 'a>
         ensures { instruction_in result ≡ instruction_at (items_of self.now) place }
@@ -107,7 +107,8 @@ impl<'a, A: Allocator + Copy> ModelLines<'a, A> {
         instruction_of(self.get(place))
     }
 
-    /// Does nothing: each instruction of an error model fits, and its blocks have turns and do not stand too deep.
+    /// Does nothing. Its contract says that each instruction of an error model has the arguments and targets that its
+    /// name takes, that each block has a turn, and that blocks are not nested too deep.
     #[inline(always)]
     pub fn fits(&self)
         ensures { IsAccepted self.now }

@@ -3,7 +3,7 @@ ghost use Rattle.dem_lines.specs.Instructions.{keyword_named, named_in_rows};
 
 use crate::operation::{Keyword, Operation};
 
-/// Each name, in the letters in which it is written mostly, and what it says.
+/// Each name, in the case in which it is mostly written, and its keyword.
 static NAMES: [(&'static [u8], Keyword); 5] = [
     (b"error", Keyword::Does(Operation::Errs)),
     (b"detector", Keyword::Does(Operation::Detects)),

@@ -1,9 +1,9 @@
-/// What a line of an error model says that opens no block.
+/// What a line of an error model says, where it opens no block.
 #[derive(Clone, Copy, Debug, PartialEq, Eq)]
 pub enum Operation {
-    /// Is an error, with what it flips.
+    /// States an error, with what it flips.
     Errs,
-    /// Declares detectors, with coordinates at will.
+    /// Declares detectors, with or without coordinates.
     Detects,
     /// Declares observables.
     Observes,

@@ -4,7 +4,7 @@ ghost use Rattle.dem_lines.specs.Targets.{marked_of, target_of, targets_in};
 use std::alloc::{AllocError, Allocator};
 use stim_parser::{next_piece, number_of};
 
-/// A target as it is written. All numbers from 10^18 on are one, which is beyond every limit.
+/// A target as it is written. All numbers from 10^18 on are taken as one, which is beyond every limit.
 #[derive(Clone, Copy, Debug, PartialEq, Eq)]
 pub enum Target {
     /// A number alone: by how much detectors shift, or how often a block is repeated.
@@ -13,11 +13,11 @@ pub enum Target {
     Detector(u64),
     /// `L` and the number of an observable.
     Observable(u64),
-    /// A `^` between parts of an error, which says nothing of what it flips.
+    /// A `^` between parts of an error, which doesn't change what the error flips.
     Separator,
 }
 
-/// A target that is told by its first byte.
+/// A target that is known by its first byte.
 fn marked_of(piece: &[u8]) -> Option<Target>
     ensures { result ≡ marked_of piece.now }
 {
@@ -40,7 +40,8 @@ fn target_of(piece: &[u8]) -> Option<Target>
     }
 }
 
-/// Puts the targets of a text in place of those that were there. Answers whether each of its pieces is a target.
+/// Puts the targets of a text into `targets`, in place of what it held, and answers whether each of its pieces is a
+/// target.
 pub fn read_targets<A: Allocator + Copy>(
     targets: &mut Vec<Target, A>,
     text: &[u8],

@@ -1,6 +1,7 @@
--- Lines of an error model where they are reached, as they are kept: a heading for each, with the place of its instruction
--- and the numbers of the lists of its coordinates and, where these were moved, of its targets; and as they are handed out.
--- (Stim's detector error model format, github.com/quantumlib/Stim, doc/file_format_dem_detector_error_model.md.)
+-- Lines of an error model as they are reached, and how they are kept: a heading for each, with the place of its
+-- instruction and the numbers of the lists of its coordinates and, where these were shifted, of its targets. And how
+-- callers see them. (Stim's detector error model format, github.com/quantumlib/Stim,
+-- doc/file_format_dem_detector_error_model.md.)
 use Rattle.std.specs.Prelude.{◌≡◌, ℕ, zero, suc, ◌≤◌, ℤ, ◌+ℤ◌, List, [], ◌∷◌, ◌++◌, length, map, slice_index_or, refl}
 use Rattle.std.specs.Coded.{Coded, code_by, coded×, coded_ℕ, coded_ℤ, coded_list}
 use Rattle.stim_parser.specs.Arguments.{arguments_in}
@@ -16,17 +17,17 @@ use Rattle.dem_parser.specs.Shifts.{Placed, Shift}
 use Rattle.dem_lines.specs.Texts.{Item}
 use Rattle.dem_lines.specs.Verdicts.{Instruction}
 
--- a shift by so much, with this offset
+-- a shift of detectors by this number and of coordinates by this offset
 abbrev pub shift_of : ℕ → List ℤ → Shift
 shift_of detectors offset = record { detectors = detectors; offset = offset }
 
--- an offset with a number added at a place, or put behind it where it ends before
+-- an offset with a number added at a place; where the offset ends before the place, the number is appended
 abbrev pub added_at : List ℤ → ℕ → ℤ → List ℤ
 added_at [] place m = m ∷ []
 added_at (o ∷ offset) zero m = (o +ℤ m) ∷ offset
 added_at (o ∷ offset) (suc place) m = o ∷ added_at offset place m
 
--- the items of a model, and its lines where they are reached
+-- the items of a model, and its lines as they are reached
 pub record Placement : Type 0 where
   pub items : List Item
   pub placed : List Placed
@@ -38,7 +39,7 @@ abbrev pub list_numbered : {X : Type 0} → List X → List (List X) → ℕ →
 list_numbered own lists zero = own
 list_numbered own lists (suc n) = slice_index_or lists n []
 
--- a list, and where it is empty this one
+-- a list; where it is empty, this one instead
 abbrev pub list_or : {X : Type 0} → List X → List X → List X
 list_or [] own = own
 list_or (x ∷ xs) own = x ∷ xs
@@ -58,6 +59,7 @@ placed_with i coordinates targets =
       targets = targets;
     }
 
+-- the line of a heading, and those of all headings
 abbrev pub line_kept : List Item → List (List ℤ) → List (List Target) → Heading → Placed
 line_kept items coordinates targets h =
     placed_with (instruction_at items h.place) (list_numbered [] coordinates h.coordinates)
@@ -66,16 +68,16 @@ line_kept items coordinates targets h =
 abbrev pub lines_kept : List Item → List (List ℤ) → List (List Target) → List Heading → List Placed
 lines_kept items coordinates targets headings = map (line_kept items coordinates targets) headings
 
--- a list is numbered behind the lists that were there, which stay
+-- a list has a number among lists, which are the old ones and perhaps more behind them
 pub record IsNumbered {X : Type 0} (lists lists' : List (List X)) (list : List X) (number : ℕ) : Type 0 where
   pub more : List (List X)
   pub lists_are : lists' ≡ lists ++ more
   pub within : number ≤ length lists'
   pub found : (own : List X) → list_numbered own lists' number ≡ list_or list own
 
--- ---- what is handed out of them
+-- ---- what callers get of them
 
--- a line that is handed out
+-- a line as callers get it
 abbrev pub placed_in : PlacedLine → Placed
 placed_in p =
     record {
@@ -86,7 +88,7 @@ placed_in p =
       targets = p.targets.now;
     }
 
--- ---- how they are stored, for the type that is seen as them
+-- ---- how they are stored, for the type whose values they are
 
 abbrev Fields : Type 0
 Fields = ℕ × (Operation × (List ℕ × (List ℤ × List Target)))

@@ -1,5 +1,5 @@
--- Detectors marked by the number, from 1, of the last line that gives them coordinates; 0 where none does.
--- (Stim's detector error model format, github.com/quantumlib/Stim, doc/file_format_dem_detector_error_model.md; which of
+-- Detectors marked by the number, from 1, of the last line that gives them coordinates; 0 where none does. (Stim's
+-- detector error model format, github.com/quantumlib/Stim, doc/file_format_dem_detector_error_model.md; which of
 -- several coordinates count is this project's choice.)
 use Rattle.std.specs.Prelude.{◌≡◌, ℕ, zero, suc, not, if◌then◌else◌, ℤ, List, [], ◌∷◌, map, slice_index_or, slice_set}
 use Rattle.std.specs.List.{range_with_len}
@@ -26,10 +26,10 @@ abbrev pub marked : ℕ → List ℕ → List Target → List ℕ
 marked mark marks [] = marks
 marked mark marks (target ∷ targets) = marked mark (marked_at mark marks target) targets
 
--- marks behind a line
+-- marks after a line
 abbrev pub marked_by : ℕ → List ℕ → Placed → List ℕ
 marked_by mark marks placed = if not (is_empty placed.coordinates) then marked mark marks placed.targets else marks
 
--- the marks of so many detectors stand for the coordinates that these lines give them
+-- the marks of this many detectors stand for the coordinates that these lines give them
 abbrev pub AreMarks : List Placed → ℕ → List Placed → List ℕ → Type 0
 AreMarks lines n before marks = map (coordinates_at lines) marks ≡ map (λ d. last_coordinates d [] before) (range_with_len 0 n)

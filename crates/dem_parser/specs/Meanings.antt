@@ -1,10 +1,10 @@
--- The error model that lines say where they are reached. Each `error` line is one of its lines, in their order: the text of
--- its probability as it stood, and what it flips, which are the detectors and observables that it names an odd number of
--- times; separators say nothing. The number of detectors is one more than the greatest that any line names, whether it
--- cancels or not, or 0; and that of observables likewise. The coordinates of a detector are those of the last `detector`
--- line that names it and gives any.
--- (Stim's detector error model format, github.com/quantumlib/Stim, doc/file_format_dem_detector_error_model.md; which of
--- several coordinates count is this project's choice.)
+-- The error model that lines make as they are reached. Each `error` line is one of its lines, in their order: the text
+-- of its probability as it stood, and what it flips, which are the detectors and observables that it names an odd
+-- number of times; separators change nothing. The number of detectors is one more than the greatest that any line
+-- names, even where it cancels, or 0 where none is named; the number of observables likewise. The coordinates of a
+-- detector are those of the last `detector` line that names it and gives any. (Stim's detector error model format,
+-- github.com/quantumlib/Stim, doc/file_format_dem_detector_error_model.md; which of several coordinates count is this
+-- project's choice.)
 use Rattle.std.specs.Prelude.{ℕ, ◌+◌, ◌==◌, max, Bool, true, false, not, ◌&&◌, if◌then◌else◌, ℤ, List, [], ◌∷◌, ◌++◌, map}
 use Rattle.std.specs.List.{filter, list_any, range_with_len}
 use Rattle.stim_lexer.specs.Bytes.{is_empty}
@@ -36,6 +36,7 @@ unfoldable pub greatest_over : (Target → ℕ) → List Placed → ℕ
 greatest_over count [] = 0
 greatest_over count (placed ∷ rest) = max (greatest_of count placed.targets) (greatest_over count rest)
 
+-- one more than the greatest detector that lines name, or 0; and so for observables
 abbrev pub detector_count : List Placed → ℕ
 detector_count lines = greatest_over detectors_to lines
 
@@ -76,6 +77,7 @@ abbrev pub is_error : Operation → Bool
 is_error Errs = true
 is_error operation = false
 
+-- an error line as a line of the model, and the error lines among lines
 abbrev pub error_line : ℕ → ℕ → Placed → ErrorLine
 error_line detectors observables placed =
     record { text = placed.text; targets = flipped detectors observables placed.targets }
@@ -90,17 +92,19 @@ error_lines detectors observables lines =
 abbrev pub gives_coordinates : ℕ → Placed → Bool
 gives_coordinates d placed = not (is_empty placed.coordinates) && list_any (is_detector_of d) placed.targets
 
--- those that the last line gives that gives any, or these
+-- the coordinates of the last line that gives any to detector d; `found` where no line does
 unfoldable pub last_coordinates : ℕ → List ℤ → List Placed → List ℤ
 last_coordinates d found [] = found
 last_coordinates d found (placed ∷ rest) =
     last_coordinates d (if gives_coordinates d placed then placed.coordinates else found) rest
 
+-- the coordinates of each detector
 abbrev pub coordinates_in : List Placed → List (List ℤ)
 coordinates_in lines = map (λ d. last_coordinates d [] lines) (range_with_len 0 (detector_count lines))
 
 -- ---- the model
 
+-- the error model of lines
 abbrev pub meaning_of : List Placed → ErrorModel
 meaning_of lines =
     record {

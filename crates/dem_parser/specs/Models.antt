@@ -1,8 +1,8 @@
--- The error model that a text writes, or why it writes none. Beyond the refusals of its lines, and after them, a text is
--- refused where its blocks unroll to more than 4,000,000 lines; and then by the first line that is reached where it names
--- a detector above 999,999 once shifted, or gives a coordinate of 10^18 or more in magnitude.
--- (Stim's detector error model format, github.com/quantumlib/Stim, doc/file_format_dem_detector_error_model.md; the limits
--- and the order of refusals are this project's.)
+-- The error model that a text writes, or why it writes none. Besides the refusals of its lines, and after them, a text
+-- is refused where its blocks unroll to more than 4,000,000 lines; and then by the first line, in the order in which
+-- lines are reached, that names a detector above 999,999 once shifted, or gives a coordinate of 10^18 or more in
+-- magnitude. (Stim's detector error model format, github.com/quantumlib/Stim,
+-- doc/file_format_dem_detector_error_model.md; the limits and the order of refusals are this project's.)
 use Rattle.std.specs.Prelude.{ℕ, nat_abs, Bool, ◌||◌, if◌then◌else◌, ℤ, List, Option, None, Some, option_map, find, Result, Ok, Err}
 use Rattle.std.specs.List.{list_any}
 use Rattle.std.specs.Option.{option_or}
@@ -19,7 +19,7 @@ use Rattle.dem_parser.specs.Shifts.{Placed, no_shift, placed_from}
 use Rattle.dem_lines.specs.Texts.{Item, items_in, refused}
 use Rattle.dem_lines.specs.Trees.{Tree}
 
--- the lines of a tree where they are reached
+-- the lines of a tree as they are reached
 abbrev pub placed_lines : Tree → List Placed
 placed_lines tree = placed_from no_shift (reached tree)
 
@@ -31,7 +31,7 @@ is_far c = is_number_beyond (nat_abs c)
 abbrev pub is_beyond : Placed → Bool
 is_beyond placed = has_target_beyond placed.targets || list_any is_far placed.coordinates
 
--- the first line that has one
+-- the first line that has such a number
 abbrev pub first_beyond : List Placed → Option ℕ
 first_beyond lines = option_map (λ placed. placed.line) (find is_beyond lines)
 
@@ -49,6 +49,7 @@ unless_refused_by (Some fault) model = Err fault
 abbrev pub model_of_tree : Tree → Result ErrorModel Fault
 model_of_tree tree = unless_refused_by (refusal_of_tree tree) (meaning_of (placed_lines tree))
 
+-- the model of the items of a text, or the refusal of its lines
 abbrev pub model_of_items : Result (List Item) Fault → Result ErrorModel Fault
 model_of_items (Ok items) = model_of_tree (tree_of items)
 model_of_items (Err fault) = Err fault

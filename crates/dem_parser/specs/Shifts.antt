@@ -1,8 +1,8 @@
--- What the lines of an error model say where they are reached. `shift_detectors` adds its number to the number of each
--- detector that a later line names, and its arguments to the coordinates that a later `detector` line states, place by
--- place: a place that no shift names is not moved, and one that a line doesn't state stays left out. Each turn of a block
--- goes on from the shift that the one before it left. All is in whole numbers, of any size.
--- (Stim's detector error model format, github.com/quantumlib/Stim, doc/file_format_dem_detector_error_model.md,
+-- What the lines of an error model say as they are reached. `shift_detectors` adds its number to the number of each
+-- detector that a later line names, and its arguments to the coordinates that a later `detector` line states, axis by
+-- axis: an axis that no shift names is not moved, and one that a line doesn't state stays left out. Each turn of a
+-- block goes on from the shift that the one before it left. All numbers are whole, and may be of any size. (Stim's
+-- detector error model format, github.com/quantumlib/Stim, doc/file_format_dem_detector_error_model.md,
 -- "shift_detectors".)
 use Rattle.std.specs.Prelude.{ℕ, ◌+◌, ℤ, ◌+ℤ◌, List, [], ◌∷◌, map, slice_index_or}
 use Rattle.stim_parser.specs.Numbers.{whole_value}
@@ -37,7 +37,7 @@ shifted_by operation arguments targets s = s
 abbrev pub shift_after : Instruction → Shift → Shift
 shift_after i s = shifted_by i.operation i.arguments i.targets s
 
--- ---- lines where they are reached
+-- ---- lines as they are reached
 
 -- coordinates that are stated, with the offset added
 abbrev pub moved : List ℤ → List ℤ → List ℤ
@@ -50,12 +50,13 @@ abbrev pub coordinates_given : Operation → List (List ℕ) → List ℤ → Li
 coordinates_given Detects arguments offset = moved offset (map whole_value arguments)
 coordinates_given operation arguments offset = []
 
+-- a target, its detector shifted
 abbrev pub target_at : ℕ → Target → Target
 target_at shift (Detector d) = Detector (d + shift)
 target_at shift target = target
 
--- a line where it is reached: its number, what it says, the text of its first argument as it stood, its coordinates and its
--- targets
+-- a line as it is reached: its number, what it says, the text of its first argument as it stood, its coordinates and
+-- its targets
 pub record Placed : Type 0 where
   pub line : ℕ
   pub operation : Operation
@@ -63,6 +64,7 @@ pub record Placed : Type 0 where
   pub coordinates : List ℤ
   pub targets : List Target
 
+-- an instruction as it is reached with this shift
 abbrev pub placed_at : Shift → Instruction → Placed
 placed_at s i =
     record {
@@ -73,7 +75,7 @@ placed_at s i =
       targets = map (target_at s.detectors) i.targets;
     }
 
--- instructions where they are reached, from this shift on
+-- instructions as they are reached, from this shift on
 unfoldable pub placed_from : Shift → List Instruction → List Placed
 placed_from s [] = []
 placed_from s (i ∷ instructions) = placed_at s i ∷ placed_from (shift_after i s) instructions

@@ -1,4 +1,4 @@
--- The sum of error lines over lines that stay as they were read: what each turns round, and how many there are.
+-- The symptom of error lines, from lines that stay as they were read: what each of them flips, and how many there are.
 -- (Stim's detector error model format, github.com/quantumlib/Stim, doc/file_format_dem_detector_error_model.md.)
 use Rattle.std.specs.Prelude.{◌≡◌, ℕ, ◌+◌, Bool, false, ◌&&◌, if◌then◌else◌, List, length, filter, slice_index_or}
 use Rattle.dem_parser.specs.Meanings.{detector_count, is_error, observable_count}
@@ -10,11 +10,11 @@ use Rattle.dem_parser.specs.Sums.{turned}
 abbrev pub error_count : List Placed → ℕ
 error_count lines = length (filter (λ placed. is_error placed.operation) lines)
 
--- how many error lines there are behind one more line
+-- how many error lines there are after one more line
 abbrev pub passed_after : ℕ → Placed → ℕ
 passed_after passed line = if is_error line.operation then passed + 1 else passed
 
--- truth values turned round by a line, where it is an error line that is named
+-- truth values after a line: an error line that is named flips those of its targets
 abbrev pub turned_past : ℕ → List Bool → ℕ → Placed → List Bool → List Bool
 turned_past detectors named passed line bits =
     if is_error line.operation && slice_index_or named passed false then turned bits (numbers_of detectors line.targets) else bits

@@ -1,6 +1,6 @@
--- The exclusive sum of error lines that are named: a truth value for each target, detectors first, which says whether an odd
--- number of the targets of the lines named are this one.
--- (Stim's detector error model format, github.com/quantumlib/Stim, doc/file_format_dem_detector_error_model.md.)
+-- The symptom of the error lines that are named: a truth value for each target, detectors first, which says whether
+-- these lines list the target an odd number of times in all. (Stim's detector error model format,
+-- github.com/quantumlib/Stim, doc/file_format_dem_detector_error_model.md.)
 use Rattle.std.specs.Prelude.{ℕ, zero, suc, ◌+◌, ◌==◌, Bool, false, not, ◌&&◌, if◌then◌else◌, List, [], ◌∷◌, map}
 use Rattle.std.specs.List.{range_with_len}
 use Rattle.pauli_word.specs.Parity.{exclusive_or}
@@ -16,23 +16,24 @@ abbrev pub is_in_symptom : List Bool → List ErrorLine → ℕ → Bool
 is_in_symptom (named ∷ rest) (line ∷ lines) t = exclusive_or (named && is_flipped t line.targets) (is_in_symptom rest lines t)
 is_in_symptom named lines t = false
 
+-- the symptom of the lines of a model that are named
 abbrev pub symptom_of : ErrorModel → List Bool → List Bool
 symptom_of model named = map (is_in_symptom named model.lines) (range_with_len 0 (model.detectors + model.observables))
 
--- ---- truth values turned round one after another
+-- ---- truth values flipped one after another
 
--- the one at this place turned round; past the end all stay
+-- the one at this place flipped; none past the end
 abbrev pub turned_at : List Bool → ℕ → List Bool
 turned_at [] t = []
 turned_at (b ∷ bits) zero = not b ∷ bits
 turned_at (b ∷ bits) (suc t) = b ∷ turned_at bits t
 
--- those at these places, each as often as its place stands there
+-- those at these places flipped, each as often as its place is listed
 abbrev pub turned : List Bool → List ℕ → List Bool
 turned bits [] = bits
 turned bits (t ∷ targets) = turned (turned_at bits t) targets
 
--- by the targets of the lines named
+-- those of the targets of the named lines flipped
 abbrev pub turned_by : List Bool → List Bool → List ErrorLine → List Bool
 turned_by bits (named ∷ rest) (line ∷ lines) = turned_by (if named then turned bits line.targets else bits) rest lines
 turned_by bits named lines = bits

@@ -18,7 +18,7 @@ struct Room<A: Allocator + Copy> {
     kept: Vec<u32, A>,
 }
 
-/// Appends the error line that a line says, where it says one.
+/// Appends a line, where it is an error line.
 fn push_error<'a, A: Allocator + Copy>(
     model: &mut Model<'a, A>,
     room: &mut Room<A>,
@@ -39,7 +39,7 @@ fn push_error<'a, A: Allocator + Copy>(
     }
 }
 
-/// Appends the error lines that lines say.
+/// Appends the error lines among these lines.
 fn push_errors<'a, A: Allocator + Copy>(
     alloc: A,
     model: &mut Model<'a, A>,
@@ -59,7 +59,7 @@ fn push_errors<'a, A: Allocator + Copy>(
     Ok(())
 }
 
-/// The error model that lines say where they are reached.
+/// The error model of lines as they are reached.
 pub(crate) fn model_of<'a, A: Allocator + Copy>(
     alloc: A,
     lines: &PlacedLines<'_, 'a, A>,

@@ -7,14 +7,14 @@ use crate::placed::{PlacedLine, PlacedLines};
 use dem_lines::{Operation, Target};
 use std::alloc::Allocator;
 
-/// How many detectors and how many observables targets name.
+/// One more than the greatest detector and the greatest observable that targets name, or 0.
 #[derive(Clone, Copy)]
 pub struct TargetCounts {
     pub detectors: u128,
     pub observables: u128,
 }
 
-/// The same of lines, and how many of these are error lines.
+/// The same for lines, and how many of these are error lines.
 #[derive(Clone, Copy)]
 pub(crate) struct Counts {
     pub targets: TargetCounts,
@@ -75,7 +75,7 @@ pub fn is_error(operation: Operation) -> bool
     matches!(operation, Operation::Errs)
 }
 
-/// How many error lines there are behind one more line.
+/// How many error lines there are after one more line.
 fn errors_past(errors: usize, line: PlacedLine<'_, '_>) -> usize
     requires { errors + 1 < 2 ^ 64 }
     ensures { result ≡ passed_after errors (placed_in line.entry) }
@@ -87,7 +87,7 @@ fn errors_past(errors: usize, line: PlacedLine<'_, '_>) -> usize
     }
 }
 
-/// How many detectors and observables lines name, and how many are error lines.
+/// How many detectors and observables the model of these lines has, and how many error lines.
 pub(crate) fn counts_of<A: Allocator + Copy>(lines: &PlacedLines<'_, '_, A>) -> Counts
     ensures detectors { result.targets.detectors ≡ detector_count lines.now.placed }
     ensures observables { result.targets.observables ≡ observable_count lines.now.placed }

@@ -6,7 +6,8 @@ ghost use Rattle.dem_parser.specs.Numbered.{numbered, numbers_of, odd_below};
 use dem_lines::Target;
 use std::alloc::{AllocError, Allocator};
 
-/// A number of a target. One that does not fit would take more targets than memory holds.
+/// The number of a target, `number` after `first`. One that doesn't fit 32 bits fails as if memory had run out; the
+/// limits of detectors and observables are far below.
 pub(crate) fn number_at(first: u32, number: u64) -> Result<u32, AllocError>
     ensures { IfOk result (λ found. found ≡ first + number) }
 {
@@ -19,7 +20,7 @@ pub(crate) fn number_at(first: u32, number: u64) -> Result<u32, AllocError>
     Ok(sum as u32)
 }
 
-/// Appends the number of a target, where there are so many detectors. A separator has none.
+/// Appends the number of a target, in a model with this many detectors. A separator has none.
 fn push_number<A: Allocator + Copy>(
     numbers: &mut Vec<u32, A>,
     detectors: u32,
@@ -35,7 +36,7 @@ fn push_number<A: Allocator + Copy>(
     Ok(())
 }
 
-/// Puts the numbers of targets in place of those that were there.
+/// Puts the numbers of targets into `numbers`, in place of what it held.
 fn read_numbers<A: Allocator + Copy>(
     numbers: &mut Vec<u32, A>,
     detectors: u32,
@@ -65,7 +66,7 @@ fn toggle<A: Allocator + Copy>(kept: &mut Vec<u32, A>, number: u32) -> Result<()
     Ok(())
 }
 
-/// Puts the numbers that stand an odd number of times among ascending ones in place of those that were there.
+/// Puts into `kept`, in place of what it held, the numbers that these ascending ones have an odd number of times.
 fn keep_odd<A: Allocator + Copy>(kept: &mut Vec<u32, A>, numbers: &[u32]) -> Result<(), AllocError>
     requires { IsNonDecreasing numbers.now }
     ensures { IfOk result (λ _. (n : ℕ) → All (λ m. m < n) numbers.now → kept.new.items ≡ odd_below n numbers.now) }
@@ -77,7 +78,7 @@ fn keep_odd<A: Allocator + Copy>(kept: &mut Vec<u32, A>, numbers: &[u32]) -> Res
     Ok(())
 }
 
-/// Puts numbers in ascending order. Most stand in it already, and only others take memory.
+/// Puts numbers in ascending order. Most are in order already, and take no memory.
 fn put_in_order<A: Allocator + Copy>(numbers: &mut Vec<u32, A>) -> Result<(), AllocError>
     ensures ascending { IfOk result (λ _. IsNonDecreasing numbers.new.items) }
     ensures same { IfOk result (λ _. IsPermutation numbers.old.items numbers.new.items) }
@@ -89,7 +90,7 @@ fn put_in_order<A: Allocator + Copy>(numbers: &mut Vec<u32, A>) -> Result<(), Al
     Ok(())
 }
 
-/// Puts the numbers of what targets flip in place of those that were there.
+/// Puts into `kept`, in place of what it held, the numbers of the detectors and observables that targets flip.
 pub(crate) fn read_flipped<A: Allocator + Copy>(
     numbers: &mut Vec<u32, A>,
     kept: &mut Vec<u32, A>,

@@ -88,7 +88,7 @@ fn stood_for<A: Allocator + Copy>(
     Ok(found)
 }
 
-/// The coordinates of each detector, where there are so many: those of the last line that gives it any.
+/// The coordinates of each of this many detectors: those of the last line that gives it any.
 pub(crate) fn coordinates_of<A: Allocator + Copy>(
     alloc: A,
     lines: &PlacedLines<'_, '_, A>,

@@ -8,7 +8,7 @@ use flat_lists::FlatLists;
 use std::alloc::{AllocError, Allocator};
 use std::marker::Model;
 
-/// A line where it is reached: its number, what it says, the text between its parentheses, its coordinates, and its
+/// A line as it is reached: its number, what it says, the text between its parentheses, its coordinates, and its
 /// targets.
 #[derive(Clone, Copy)]
 pub(crate) struct PlacedLine<'p, 'a> {
@@ -19,8 +19,8 @@ pub(crate) struct PlacedLine<'p, 'a> {
     pub targets: &'p [Target],
 }
 
-/// What is kept of a line: the place of its instruction, and the numbers from 1 of the lists of its coordinates and of its
-/// targets. 0 says that it has no coordinates, and that its targets are those of the instruction.
+/// What is kept of a line: the place of its instruction, and the numbers from 1 of the lists of its coordinates and of
+/// its targets. 0 says that it has no coordinates, and that its targets are those of the instruction.
 #[derive(Clone, Copy)]
 pub(crate) struct Heading {
     place: u32,
@@ -28,7 +28,7 @@ pub(crate) struct Heading {
     targets: u32,
 }
 
-/// Lines where they are reached, in their order. Targets are copied only where they were moved.
+/// Lines in the order in which they are reached. Targets are copied only where they were shifted.
 #[derive(Drop)]
 pub(crate) struct PlacedLines<'c, 'a, A: Allocator + Copy> {
     lines: &'c ModelLines<'a, A>,
@@ -106,8 +106,8 @@ impl<'c, 'a, A: Allocator + Copy> PlacedLines<'c, 'a, A> {
         self.headings.len()
     }
 
-    /// Appends the instruction at a place with these coordinates, and with these targets in place of its own where there
-    /// are any. It may fail only where memory runs out.
+    /// Appends the instruction at a place with these coordinates, and with these targets in place of its own where
+    /// there are any. It fails only where memory runs out or a count outgrows 32 bits.
     pub(crate) fn push(
         &mut self,
         place: u32,

@@ -13,8 +13,8 @@ use dem_lines::{Target, narrowed};
 use std::alloc::{AllocError, Allocator};
 use std::marker::Model;
 
-/// An error model whose lines stay as they were read. What they flip is not put in order: it is summed where a line is
-/// named, and most are not.
+/// An error model whose lines stay as they were read. What a line flips is worked out only where the line is named, and
+/// most are not.
 #[derive(Drop)]
 pub struct PlacedModel<'c, 'a, A: Allocator + Copy> {
     lines: PlacedLines<'c, 'a, A>,
@@ -35,7 +35,7 @@ impl<'c, 'a, A: Allocator + Copy> Model for PlacedModel<'c, 'a, A> {
     ghost invariant = { λ m. AreCounts m.lines.placed m.detectors m.observables m.errors };
 }
 
-/// The number behind the last line that is named, or 0 where none is.
+/// One more than the number of the last line that is named, or 0 where none is.
 pub fn named_end(named: &[bool]) -> usize
     ensures within { result ≤ length named.now }
     ensures last { (k : ℕ) → result ≡ 1 + k → slice_index_or named.now k false ≡ true }
@@ -48,14 +48,14 @@ pub fn named_end(named: &[bool]) -> usize
     end
 }
 
-/// Whether the line of a number is named.
+/// Whether the line of this number is named.
 fn is_named(named: &[bool], line: usize) -> bool
     ensures { result ≡ slice_index_or named.now line false }
 {
     line < named.len() && named[line]
 }
 
-/// Turns the truth value of a target round, where there are so many detectors. A separator has none.
+/// Flips the truth value of a target, in a model with this many detectors. A separator has none.
 fn turn_target(bits: &mut [bool], detectors: u32, target: Target) -> Result<(), AllocError>
     ensures { IfOk result (λ _. bits.new ≡ turned bits.old (numbered detectors target)) }
 {
@@ -67,7 +67,7 @@ fn turn_target(bits: &mut [bool], detectors: u32, target: Target) -> Result<(), 
     Ok(())
 }
 
-/// The same of targets, one after another.
+/// The same for targets, one after another.
 pub fn turn_targets(bits: &mut [bool], detectors: u32, targets: &[Target]) -> Result<(), AllocError>
     ensures { IfOk result (λ _. bits.new ≡ turned bits.old (numbers_of detectors targets.now)) }
 {
@@ -77,7 +77,8 @@ pub fn turn_targets(bits: &mut [bool], detectors: u32, targets: &[Target]) -> Re
     Ok(())
 }
 
-/// Goes past a line behind so many error lines, and answers how many there are then.
+/// Goes past a line that comes after `passed` error lines, and answers how many there are after it. An error line that
+/// is named flips the truth values of its targets.
 fn pass_line(
     bits: &mut [bool],
     named: &[bool],
@@ -99,7 +100,7 @@ fn pass_line(
 }
 
 impl<'c, 'a, A: Allocator + Copy> PlacedModel<'c, 'a, A> {
-    /// The model that lines say. It may fail only where memory runs out.
+    /// The model of these lines.
     pub(crate) fn new(lines: PlacedLines<'c, 'a, A>) -> Result<Self, AllocError>
         ensures { IfOk result (λ model. model ≡ meaning_of lines.entry.placed) }
     {
@@ -119,8 +120,9 @@ impl<'c, 'a, A: Allocator + Copy> PlacedModel<'c, 'a, A> {
         self.errors
     }
 
-    /// What the error lines flip that are named, all together: a truth value for each detector, then one for each
-    /// observable. Two lines that flip the same cancel there. A line is named by the truth value at its number, from 0.
+    /// The symptom of the error lines that are named: a truth value for each detector, then one for each observable,
+    /// which says whether these lines flip it an odd number of times in all. `named` has a truth value for each error
+    /// line, by its number from 0.
     pub fn symptom(&self, alloc: A, named: &[bool]) -> Result<Vec<bool, A>, AllocError>
         ensures { IfOk result (λ bits. bits.items ≡ symptom_of self.now named.now) }
     {

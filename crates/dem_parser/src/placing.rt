@@ -59,8 +59,8 @@ fn target_at(shift: u128, target: Target) -> Option<Target>
     }
 }
 
-/// Puts targets where detectors are shifted in place of those that were there. Answers whether the number of none is then
-/// beyond its limit.
+/// Puts targets, with detectors shifted, into `found`, in place of what it held, and answers whether all their numbers
+/// are within their limits then.
 fn place_targets<A: Allocator + Copy>(
     found: &mut Vec<Target, A>,
     shift: u128,
@@ -80,8 +80,7 @@ fn place_targets<A: Allocator + Copy>(
     Ok(true)
 }
 
-/// Puts targets where detectors are shifted in place of those that were there, and none where nothing is shifted. Answers
-/// whether the number of none is then beyond its limit.
+/// The same, but where nothing is shifted `found` is left empty.
 fn move_targets<A: Allocator + Copy>(
     found: &mut Vec<Target, A>,
     shift: u128,
@@ -120,8 +119,8 @@ fn coordinate_at(offset: &[i128], stated: &[i64], place: usize) -> Result<Option
     Ok(near(sum_at(offset, stated, place)?))
 }
 
-/// Puts coordinates that are stated, moved, in place of those that were there. Answers whether none is then beyond its
-/// limit.
+/// Puts coordinates that are stated, with the offset added, into `found`, in place of what it held, and answers whether
+/// all are within their limit then.
 fn move_all<A: Allocator + Copy>(
     found: &mut Vec<i64, A>,
     offset: &[i128],
@@ -141,8 +140,8 @@ fn move_all<A: Allocator + Copy>(
     Ok(true)
 }
 
-/// Puts the coordinates that an instruction gives in place of those that were there. Answers whether none is beyond its
-/// limit.
+/// Puts the coordinates that an instruction gives into `found`, in place of what it held, and answers whether all are
+/// within their limit.
 fn place_coordinates<A: Allocator + Copy>(
     found: &mut Vec<i64, A>,
     offset: &[i128],
@@ -170,7 +169,8 @@ struct Room<A: Allocator + Copy> {
     targets: Vec<Target, A>,
 }
 
-/// Appends the instruction at a place where it is reached. Answers whether no number of it is beyond its limit there.
+/// Appends the instruction at a place as it is reached, and answers whether all its numbers are within their limits
+/// then.
 fn place<A: Allocator + Copy>(
     placed: &mut PlacedLines<'_, '_, A>,
     room: &mut Room<A>,
@@ -201,7 +201,7 @@ fn place<A: Allocator + Copy>(
     Ok(true)
 }
 
-/// Lines where they are reached, and where that goes on.
+/// The lines reached so far, and the shift from which it goes on.
 #[derive(Drop)]
 struct Placing<'c, 'a, A: Allocator + Copy> {
     placed: PlacedLines<'c, 'a, A>,
@@ -210,7 +210,7 @@ struct Placing<'c, 'a, A: Allocator + Copy> {
 }
 
 impl<'c, 'a, A: Allocator + Copy> Placing<'c, 'a, A> {
-    /// Goes past the instruction at a place. Answers whether no number of it is beyond its limit there.
+    /// Goes past the instruction at a place, and answers whether all its numbers are within their limits then.
     fn pass(&mut self, at: u32, instruction: Instruction<'_, '_>) -> Result<bool, AllocError>
         requires fits { Fits (instruction_in instruction) }
         requires there { instruction_in instruction ≡ instruction_at self.old.placed.items at }
@@ -232,8 +232,8 @@ impl<'c, 'a, A: Allocator + Copy> Placing<'c, 'a, A> {
     }
 }
 
-/// The lines of instructions at places where these are reached one after another, or the refusal of the first line with a
-/// number that is beyond its limit there.
+/// The lines of the instructions at these places, reached one after another, or the refusal of the first line with a
+/// number that is then beyond its limit.
 pub(crate) fn placed_lines<'c, 'a, A: Allocator + Copy>(
     alloc: A,
     lines: &'c ModelLines<'a, A>,

@@ -17,7 +17,7 @@ struct Gathering<A: Allocator + Copy> {
     blocks: ArrayVec<OpenBlock<usize>, LEVELS>,
 }
 
-/// Appends so many copies of what stands from a place on.
+/// Appends this many copies of what is found from a place on.
 fn append_copies<T: Copy, A: Allocator + Copy>(
     found: &mut Vec<T, A>,
     start: usize,

@@ -15,7 +15,8 @@ use dem_text::Model;
 use std::alloc::Allocator;
 use step_model::{Cause, Fault};
 
-/// The lines of a model where they are reached, or the refusal of the first with a number that is beyond its limit there.
+/// The lines of a model as they are reached, or the refusal of the first one with a number that is then beyond its
+/// limit.
 fn reached_lines<'c, 'a, A: Allocator + Copy>(
     alloc: A,
     lines: &'c ModelLines<'a, A>,
@@ -48,8 +49,8 @@ fn placed_of<'c, 'a, A: Allocator + Copy>(
     reached_lines(alloc, lines)
 }
 
-/// The lines and blocks of an error model that a text writes, or its refusal before blocks are unrolled. Memory is refused
-/// only where it runs out.
+/// The lines and blocks of an error model that a text writes, or its refusal before blocks are unrolled. The cause is
+/// `Memory` only where memory runs out or a number of lines or targets outgrows 32 bits.
 pub fn read_lines<'a, A: Allocator + Copy>(
     alloc: A,
     text: &'a [u8],
@@ -63,8 +64,8 @@ pub fn read_lines<'a, A: Allocator + Copy>(
     }
 }
 
-/// The error model of lines and blocks, whose lines stay as they were read, or its refusal. Memory is refused only where it
-/// runs out.
+/// The error model of lines and blocks, or its refusal. The model's lines stay as they were read. The cause is `Memory`
+/// only where memory runs out or a number of lines or targets outgrows 32 bits.
 pub fn place<'c, 'a, A: Allocator + Copy>(
     alloc: A,
     lines: &'c ModelLines<'a, A>,
@@ -100,7 +101,8 @@ fn model_of_lines<'a, A: Allocator + Copy>(
     }
 }
 
-/// The error model that a text writes, or its one refusal. Memory is refused only where it runs out.
+/// The error model that a text writes, or its one refusal. The cause is `Memory` only where memory runs out or a number
+/// of lines or targets outgrows 32 bits.
 pub fn read<'a, A: Allocator + Copy>(alloc: A, text: &'a [u8]) -> Result<Model<'a, A>, Fault>
     ensures ok { IfOk result (λ model. model_in text.now ≡ Ok model) }
     ensures err { IfErr result (λ fault. (fault ≡ memory_fault) ⊎ (model_in text.now ≡ Err fault)) }

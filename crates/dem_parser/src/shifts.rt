@@ -11,7 +11,7 @@ use dem_lines::{Instruction, Operation, number_in};
 use std::alloc::{AllocError, Allocator};
 use stim_parser::{MOST_ARGUMENTS, first_argument, read_arguments, whole_values};
 
-/// By how much detectors are shifted where a line is reached, and each coordinate.
+/// By how much the detectors of a line are shifted as it is reached, and its coordinates, axis by axis.
 #[derive(Drop)]
 pub(crate) struct Shift<A: Allocator + Copy> {
     pub detectors: u128,
@@ -68,7 +68,7 @@ pub(crate) fn sum_at(offset: &[i128], more: &[i64], place: usize) -> Result<i128
     sum_of(number_at(offset, place), more[place])
 }
 
-/// Adds the number at a place to that of an offset there, or puts it behind where the offset ends before.
+/// Adds the number at a place to that of an offset there; where the offset ends before the place, appends it.
 fn add_at<A: Allocator + Copy>(
     offset: &mut Vec<i128, A>,
     more: &[i64],
@@ -86,7 +86,7 @@ fn add_at<A: Allocator + Copy>(
     Ok(())
 }
 
-/// Adds numbers to an offset, place by place. Where it ends they go on by themselves.
+/// Adds numbers to an offset, place by place. Those past its end are appended.
 fn add<A: Allocator + Copy>(offset: &mut Vec<i128, A>, more: &[i64]) -> Result<(), AllocError>
     ensures { IfOk result (λ _. offset.new.items ≡ both_offsets offset.old.items more.now) }
 {

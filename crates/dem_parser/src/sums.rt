@@ -4,7 +4,7 @@ ghost use Rattle.dem_parser.specs.Sums.{symptom_of, turned, turned_at};
 use dem_text::Model;
 use std::alloc::{AllocError, Allocator};
 
-/// Turns a truth value round, where there is one at this place.
+/// Flips the truth value at this place, where there is one.
 pub(crate) fn turn_at(bits: &mut [bool], target: u32)
     ensures { bits.new ≡ turned_at bits.old target }
 {
@@ -14,7 +14,7 @@ pub(crate) fn turn_at(bits: &mut [bool], target: u32)
     }
 }
 
-/// Turns the truth values at these places round, each as often as its place stands there.
+/// Flips the truth values at these places, each as often as its place is listed.
 fn turn(bits: &mut [bool], targets: &[u32])
     ensures { bits.new ≡ turned bits.old targets.now }
 {
@@ -23,7 +23,7 @@ fn turn(bits: &mut [bool], targets: &[u32])
     }
 }
 
-/// The same where they are named, and nothing where they are not.
+/// The same if `named`; otherwise nothing.
 fn turn_if(named: bool, bits: &mut [bool], targets: &[u32])
     ensures { bits.new ≡ (if named then turned bits.old targets.now else bits.old) }
 {
@@ -46,8 +46,9 @@ pub fn no_bits<A: Allocator + Copy>(
     }
 }
 
-/// What the error lines of a model flip that are named, all together: a truth value for each detector, then one for each
-/// observable. Two lines that flip the same cancel there. A line is named by the truth value at its number, from 0.
+/// The symptom of the error lines of a model that are named: a truth value for each detector, then one for each
+/// observable, which says whether these lines flip it an odd number of times in all. `named` has a truth value for each
+/// error line, by its number from 0. It fails only where memory runs out.
 pub fn symptom<A: Allocator + Copy>(
     alloc: A,
     model: &Model<'_, A>,

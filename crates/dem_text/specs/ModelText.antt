@@ -9,7 +9,7 @@ use Rattle.std.specs.Fmt.{signed_decimal}
 use Rattle.std.specs.List.{flat_map, range_with_len}
 use Rattle.step_model.specs.ErrorModels.{ErrorLine, ErrorModel}
 
--- a target after a space, where there are so many detectors
+-- a target after a space, in a model with this many detectors
 abbrev pub target_text : ℕ → ℕ → List ℕ
 target_text detectors target =
     if nat_lt target detectors then codes " D" ++ decimal target else codes " L" ++ decimal (target - detectors)
@@ -18,6 +18,7 @@ target_text detectors target =
 abbrev pub targets_text : ℕ → List ℕ → List ℕ
 targets_text detectors targets = flat_map (target_text detectors) targets
 
+-- an error line
 abbrev pub line_text : ℕ → ErrorLine → List ℕ
 line_text detectors line = codes "error(" ++ line.text ++ codes ")" ++ targets_text detectors line.targets ++ codes "\n"
 
@@ -38,6 +39,7 @@ detector_text detector coordinates = codes "detector" ++ coordinates_text coordi
 abbrev pub observable_text : ℕ → List ℕ
 observable_text observable = codes "logical_observable L" ++ decimal observable ++ codes "\n"
 
+-- the error lines of a model, the lines of its detectors, and those of its observables
 abbrev pub lines_text : ErrorModel → List ℕ
 lines_text model = flat_map (line_text model.detectors) model.lines
 
@@ -48,5 +50,6 @@ detectors_text model =
 abbrev pub observables_text : ErrorModel → List ℕ
 observables_text model = flat_map observable_text (range_with_len 0 model.observables)
 
+-- the text of a model
 abbrev pub model_text : ErrorModel → List ℕ
 model_text model = lines_text model ++ detectors_text model ++ observables_text model

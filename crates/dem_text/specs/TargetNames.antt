@@ -3,7 +3,7 @@ use Rattle.std.specs.Prelude.{◌≡◌, ◌<◌, ℕ, List, length}
 use Rattle.dem_text.specs.ErrorLines.{text_at}
 use Rattle.dem_text.specs.ModelText.{target_text}
 
--- how many targets have a name, and of how many detectors they are told apart
+-- how many targets have a name, and how many of them are detectors
 pub record Named : Type 0 where
   pub detectors : ℕ
   pub targets : ℕ

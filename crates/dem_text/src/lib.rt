@@ -1,4 +1,4 @@
-//! Error models: for each fault that flips something, what it flips; and their text.
+//! Error models, with a line for each fault that flips some detector or observable; and their text.
 #![tactic(auto)]
 
 mod line_runs;

@@ -1,4 +1,4 @@
-//! Runs of short lines, which go out together.
+//! Runs of short lines, which are written together.
 ghost use Rattle.std.specs.Prelude.{◌≡◌, ◌<◌, ◌≤◌, ◌+◌, ◌-◌, ℕ, length, take, drop, true};
 ghost use Rattle.std.specs.List.{flat_map};
 ghost use Rattle.dem_text.specs.ErrorLines.{line_at};
@@ -9,7 +9,7 @@ use crate::Model;
 use crate::short_lines::{ROOM, SHORT_LINES, SHORT_TARGETS, SHORT_TEXT, line_before};
 use std::alloc::Allocator;
 
-/// The first line from one on that isn't short, or how many lines there are, among as many as go out together.
+/// The end of the run of short lines from `line` on, which has at most as many as are written together.
 pub(crate) fn end_of_short<'a, A: Allocator + Copy>(model: &Model<'a, A>, line: usize) -> usize
     requires { line ≤ length model.now.lines }
     ensures from { line ≤ result }

@@ -1,4 +1,4 @@
-//! The text of an error line's probability, and how a line with it begins.
+//! The text of an error line's probability, and the beginning of a line with it.
 ghost use Rattle.std.specs.Prelude.{◌≡◌, ◌≤◌, ◌+◌, ◌++◌, codes, drop, length};
 ghost use Rattle.dem_text.specs.LineHeads.{HasHead};
 
@@ -8,8 +8,8 @@ use std::marker::Model;
 /// How long the beginning of a short line is at most: `error(`, a probability and `)`.
 const HEAD: usize = 40;
 
-/// The text of an error line's probability, a slice of the text that it was read from. The beginning of a short line with
-/// it is kept, at the end of a fixed number of bytes, so that all of them are copied at once.
+/// The text of an error line's probability, a slice of the text that it was read from. The beginning of a short line
+/// with it is kept, at the end of a fixed number of bytes, so that all of them are copied at once.
 #[derive(Drop)]
 pub(crate) struct LineText<'a> {
     text: &'a [u8],
@@ -54,7 +54,7 @@ impl<'a> LineText<'a> {
         ensures least { end ≤ result + 40 }
         ensures written { drop result buffer.new ≡ codes "error(" ++ self.now ++ codes ")" ++ drop end buffer.old }
     {
-        // In a place of its own, so that nothing asks at run time whether it overlaps the buffer.
+        // A local copy cannot overlap the buffer, so no check is made at run time.
         let head = self.head;
         buffer[end - HEAD..end].copy_from_slice(&head);
         end - (self.text.len() + 7)

@@ -8,8 +8,8 @@ use flat_lists::FlatLists;
 use std::alloc::{AllocError, Allocator};
 use std::marker::Model;
 
-/// Error lines, in the order in which they were pushed. A circuit has few texts of probabilities, so that a line keeps the
-/// number of its text.
+/// Error lines, in the order in which they were pushed. A circuit has few different texts of probabilities, so a line
+/// keeps the number of its text.
 #[derive(Drop)]
 pub(crate) struct Lines<'a, A: Allocator + Copy> {
     texts: Vec<LineText<'a>, A>,
@@ -41,7 +41,8 @@ impl<'a, A: Allocator + Copy> Lines<'a, A> {
         }
     }
 
-    /// Appends a line. It may fail only where memory runs out.
+    /// Appends a line. It fails only where memory runs out, or where the texts, or the targets of all lines, are too
+    /// many for 32 bits.
     pub(crate) fn push(&mut self, text: &'a [u8], targets: &[u32]) -> Result<(), AllocError>
         ensures ok { OnOk result (self.new ≡ self.old ++ record { text = text.now; targets = targets.now } ∷ []) }
         ensures err { OnErr result (self.new ≡ self.old) }

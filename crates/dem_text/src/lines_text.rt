@@ -16,18 +16,18 @@ use std::marker::Model;
 use std::mem;
 use step_model::Sink;
 
-/// How much room a short line takes at most, and how long a part is of what is longer.
+/// How much room a short line takes at most. What is longer is put in parts of at most this length.
 const PART: usize = 240;
 
-/// The text of error lines, each put before those that were there: so the lines of a pass that finds the last first are
-/// written when they are found. The text grows by blocks of 64 KiB, and what was written isn't moved. The texts of targets
-/// are made once, and those of probabilities once each, so that a line is put together of copies.
+/// The text of error lines, each put before those that were there. So a pass that finds the last line first can write
+/// each when it finds it. The text grows by blocks of 64 KiB, and what was written isn't moved. The texts of targets
+/// are made once, and that of a probability when it is kept, so a line is made of copies.
 #[derive(Drop)]
 pub struct LinesText<'a, A: Allocator + Copy> {
     alloc: A,
     names: Names<A>,
     texts: Vec<LineText<'a>, A>,
-    // The blocks that were filled, the last of the text first.
+    // The blocks that are full, in the order in which they were filled: the last part of the text first.
     full: Vec<TextBlock<A>, A>,
     block: TextBlock<A>,
 }
@@ -45,7 +45,7 @@ impl<'a, A: Allocator + Copy> Model for LinesText<'a, A> {
     } };
 }
 
-// Makes room for a part, where there is less.
+// Makes room for a part, where there isn't any.
 #[inline(always)]
 fn make_room<A: Allocator + Copy>(
     alloc: A,
@@ -77,8 +77,8 @@ fn next_block<A: Allocator + Copy>(
 }
 
 impl<'a, A: Allocator + Copy> LinesText<'a, A> {
-    /// No text, where there are so many detectors, and so many targets with the observables. (So the number of each has at
-    /// most six digits.)
+    /// No text yet, of lines whose targets are this many, the first of them detectors. (With these bounds the number of
+    /// a detector or an observable has at most six digits.)
     pub fn new(alloc: A, detectors: usize, targets: usize) -> Result<Self, AllocError>
         requires few_detectors { detectors ≤ 1000000 }
         requires few { targets ≤ detectors + 1000000 }
@@ -93,12 +93,12 @@ impl<'a, A: Allocator + Copy> LinesText<'a, A> {
         })
     }
 
-    /// The number of a probability's text, which is kept. It may fail only where memory runs out.
+    /// Keeps a probability's text, and answers its number. It fails only where memory runs out, or 2^32 texts are kept.
     pub fn keep_text(&mut self, text: &'a [u8]) -> Result<u32, AllocError>
         ensures within { IfOk result (λ number. number < length self.new.texts) }
         ensures named { IfOk result (λ number. text_at self.new.texts number ≡ text.now) }
 
-        // Also where memory runs out.
+        // After an error too.
         ensures kept { KeepsTexts self.old.texts self.new.texts }
         ensures detectors { self.new.detectors ≡ self.old.detectors }
         ensures targets { self.new.targets ≡ self.old.targets }
@@ -107,8 +107,8 @@ impl<'a, A: Allocator + Copy> LinesText<'a, A> {
         number_of(&mut self.texts, text)
     }
 
-    /// Puts a line before those that were there, with the kept text of this number. Where memory runs out they are still
-    /// there, behind a part of the line or none.
+    /// Puts a line, with the kept probability text of this number, before those that were there. It fails only where
+    /// memory runs out. Those lines are then still there, and before them the end of the line, or none of it.
     pub fn put_line(&mut self, number: u32, targets: &[u32]) -> Result<(), AllocError>
         requires number { number < length self.old.texts }
         requires targets { All (λ target. target < self.old.targets) targets.now }
@@ -190,7 +190,7 @@ impl<'a, A: Allocator + Copy> LinesText<'a, A> {
     }
 }
 
-// Pushes the texts of blocks, that of the last first.
+// Pushes the texts of blocks, that of the last block first.
 fn push_blocks<W: Sink, A: Allocator + Copy>(out: &mut Pieces, sink: &mut W, full: &[TextBlock<A>])
     ensures { Pushes W.taken W.failures sink.old sink.new out.old out.new (texts_of full.now) }
 {

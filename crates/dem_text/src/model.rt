@@ -58,7 +58,8 @@ impl<'a, A: Allocator + Copy> Model<'a, A> {
         }
     }
 
-    /// Appends a line. It may fail only where memory runs out.
+    /// Appends a line. It fails only where memory runs out, or where the texts, or the targets of all lines, are too
+    /// many for 32 bits.
     pub fn push_line(&mut self, text: &'a [u8], targets: &[u32]) -> Result<(), AllocError>
         ensures ok { OnOk result (self.new ≡ record self.old { lines = self.old.lines ++ record { text = text.now; targets = targets.now } ∷ [] }) }
         ensures err { OnErr result (self.new ≡ self.old) }
@@ -81,7 +82,7 @@ impl<'a, A: Allocator + Copy> Model<'a, A> {
         self.line_text(line).text()
     }
 
-    /// The same with how a line with it begins.
+    /// The same, with the beginning of a line that has it.
     pub(crate) fn line_text(&self, line: usize) -> &LineText<'a>
         requires { line < length self.now.lines }
         ensures { result.now ≡ (line_at self.now line).text }
@@ -107,6 +108,7 @@ impl<'a, A: Allocator + Copy> Model<'a, A> {
         }
     }
 
+    /// How many detectors there are.
     pub fn detector_count(&self) -> usize
         ensures count { result ≡ self.now.detectors }
         ensures coordinates { result ≡ length self.now.coordinates }
@@ -122,6 +124,7 @@ impl<'a, A: Allocator + Copy> Model<'a, A> {
         self.coordinates.get(detector)
     }
 
+    /// How many observables there are.
     pub fn observable_count(&self) -> usize
         ensures { result ≡ self.now.observables }
     {

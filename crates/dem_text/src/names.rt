@@ -6,10 +6,10 @@ use crate::short_lines::target_before;
 use std::alloc::{AllocError, Allocator};
 use std::marker::Model;
 
-/// How long the text of a target is at most here: a space, a letter and six digits.
+/// How long the text of a target is at most here, in bytes: a space, a letter and six digits.
 const NAME: usize = 8;
 
-/// How long that of any target is at most.
+/// How long the text of any target of 32 bits is at most.
 const ANY_NAME: usize = 12;
 
 /// The text of a target, at the end of a fixed number of bytes, so that all of them are copied at once.
@@ -30,7 +30,7 @@ impl Model for Name {
 }
 
 impl Name {
-    // The name of a target, where there are so many detectors.
+    // The name of a target, in a model with this many detectors.
     fn new(detectors: usize, target: usize) -> Self
         requires few_detectors { detectors ≤ 1000000 }
         requires few { target < detectors + 1000000 }
@@ -55,14 +55,14 @@ impl Name {
         ensures least { end ≤ result + 8 }
         ensures written { drop result buffer.new ≡ self.now ++ drop end buffer.old }
     {
-        // In a place of its own, so that nothing asks at run time whether it overlaps the buffer.
+        // A local copy cannot overlap the buffer, so no check is made at run time.
         let bytes = self.bytes;
         buffer[end - NAME..end].copy_from_slice(&bytes);
         end - self.len as usize
     }
 }
 
-/// The texts of so many targets, of which the first are detectors.
+/// The texts of targets, of which the first are detectors.
 #[derive(Drop)]
 pub(crate) struct Names<A: Allocator + Copy> {
     detectors: usize,
@@ -81,7 +81,7 @@ impl<A: Allocator + Copy> Model for Names<A> {
 }
 
 impl<A: Allocator + Copy> Names<A> {
-    /// The texts of so many targets, where there are so many detectors.
+    /// The texts of this many targets, of which the first `detectors` are detectors.
     pub(crate) fn new(alloc: A, detectors: usize, targets: usize) -> Result<Self, AllocError>
         requires few_detectors { detectors ≤ 1000000 }
         requires few { targets ≤ detectors + 1000000 }

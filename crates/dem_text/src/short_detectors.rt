@@ -6,7 +6,7 @@ ghost use Rattle.dem_text.specs.ModelText.{more_coordinates_text, coordinates_te
 use crate::short_lines::{ROOM, number_before, text_before};
 use itoa::write_digits;
 
-/// How many coordinates a detector has at most for its line to be written so.
+/// How many coordinates a detector may have for its line to be written here.
 pub(crate) const SHORT_COORDINATES: usize = 16;
 
 /// Writes the line of a detector so that it ends where the buffer does, and answers where it starts.

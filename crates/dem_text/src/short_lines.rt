@@ -1,5 +1,5 @@
-//! The text of targets and of short lines, written into a buffer from its end on towards its start: so the digits of
-//! each number, which come last digit first, go to their place at once.
+//! The text of targets and of short lines, written into a buffer from its end towards its start: so the digits of each
+//! number, which are found last digit first, go to their place at once.
 ghost use Rattle.std.specs.Prelude.{◌≡◌, ◌≤◌, ◌+◌, ◌*◌, ◌∷◌, ◌++◌, decimal, length, drop};
 ghost use Rattle.dem_text.specs.ModelText.{target_text, targets_text, line_text};
 
@@ -40,8 +40,8 @@ pub(crate) fn line_before<'a>(
     text.head_before(buffer, at)
 }
 
-/// Writes some targets so that they end at `end`, and answers where they start. The text of each is at most 12 long: a space,
-/// a letter and ten digits.
+/// Writes some targets so that they end at `end`, and answers where they start. The text of each is at most 12 long: a
+/// space, a letter and ten digits.
 #[inline]
 pub(crate) fn targets_before(
     buffer: &mut [u8],

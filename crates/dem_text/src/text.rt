@@ -27,7 +27,7 @@ pub fn write<'a, A: Allocator + Copy, W: Sink>(
     ensures fault { IfErr result (λ e. e ≡ write_fault) }
     ensures beginning { OnErr result (TakesBeginning (W.taken sink.old) (W.taken sink.new) (model_text model.now)) }
 
-    // One more where the sink failed, else as it was.
+    // One more where the sink failed, otherwise as before.
     ensures count { W.failures sink.new ≡ write_failures result (W.failures sink.old) }
 {
     let mut out = Pieces::new();
@@ -35,8 +35,8 @@ pub fn write<'a, A: Allocator + Copy, W: Sink>(
     out.finish(sink)
 }
 
-/// Writes the text of error lines that is held, and then that of a model. It takes no memory, and fails only where the sink
-/// fails; a beginning of the text has then gone out, and the sink is not called again.
+/// Writes the text of error lines that is held, and then that of a model. It takes no memory, and fails only where the
+/// sink fails; a beginning of the text has then gone out, and the sink is not called again.
 pub fn write_behind<'t, 'a, A: Allocator + Copy, W: Sink>(
     lines: &LinesText<'t, A>,
     model: &Model<'a, A>,
@@ -47,7 +47,7 @@ pub fn write_behind<'t, 'a, A: Allocator + Copy, W: Sink>(
     ensures fault { IfErr result (λ e. e ≡ write_fault) }
     ensures beginning { OnErr result (TakesBeginning (W.taken sink.old) (W.taken sink.new) (lines.now.text ++ model_text model.now)) }
 
-    // One more where the sink failed, else as it was.
+    // One more where the sink failed, otherwise as before.
     ensures count { W.failures sink.new ≡ write_failures result (W.failures sink.old) }
 {
     let mut out = Pieces::new();

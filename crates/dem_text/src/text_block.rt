@@ -1,4 +1,4 @@
-//! A block of text that is filled from its end on.
+//! A block of text that is filled from its end.
 ghost use Rattle.std.specs.Prelude.{◌≡◌, ◌<◌, ◌≤◌, ◌*◌, ◌++◌, [], All, length, IfOk};
 ghost use Rattle.dem_text.specs.HeldText.{no_text};
 ghost use Rattle.dem_text.specs.ModelText.{line_text, targets_text};
@@ -9,10 +9,10 @@ use crate::short_lines::text_before;
 use std::alloc::{AllocError, Allocator};
 use std::marker::Model;
 
-/// How long a block is.
+/// How long a block is, in bytes.
 const BLOCK: usize = 65536;
 
-/// Bytes that are filled from their end on: those from `start` on are text.
+/// Bytes that are filled from their end: those from `start` on are text.
 #[derive(Drop)]
 pub(crate) struct TextBlock<A: Allocator + Copy> {
     bytes: Vec<u8, A>,

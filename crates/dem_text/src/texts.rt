@@ -5,7 +5,7 @@ ghost use Rattle.dem_text.specs.ErrorLines.{text_at, KeepsTexts};
 use crate::line_text::LineText;
 use std::alloc::{AllocError, Allocator};
 
-/// Among how many of the latest texts that of a new line is looked for.
+/// The text of a new line is looked for among this many of the latest.
 const LATEST: usize = 8;
 
 /// The number of a text, which is appended where it isn't among the latest.
@@ -44,7 +44,7 @@ fn latest<'a>(texts: &[LineText<'a>], text: &[u8]) -> Option<usize>
     None
 }
 
-// Whether two texts are the same. Those of one length differ most often at their ends.
+// Whether two texts are the same. Texts of the same length most often differ at their ends.
 #[inline]
 fn is_same(first: &[u8], second: &[u8]) -> bool
     ensures { result ≡ true → first.now ≡ second.now }

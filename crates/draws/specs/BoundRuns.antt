@@ -4,6 +4,7 @@ use Rattle.std.specs.Prelude.{ℕ, List, replicate}
 use Rattle.std.specs.List.{flat_map}
 use Rattle.draws.specs.declared.runs.BoundRun.{BoundRun}
 
+-- the bounds of the faults of one run, and of several runs one after another
 abbrev pub bounds_of_run : BoundRun → List ℕ
 bounds_of_run run = replicate run.count run.bound
 

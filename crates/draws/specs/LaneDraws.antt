@@ -1,6 +1,5 @@
 -- Drawing into one lane of a list of words: within a span of the words the lane becomes 1 where a truth value is true,
--- and all else stays.
--- (This project's own.)
+-- and everything else stays. (This project's own.)
 use Rattle.std.specs.Prelude.{◌≡◌, ◌≢◌, ◌<◌, ◌≤◌, ℕ, ◌%◌, ◌==◌, nat_lt, Bool, ◌||◌, List, length, slice_index, slice_index_or}
 use Rattle.rand_pcg.specs.Lcg.{Lcg}
 use Rattle.lanes.specs.Lanes.{lane_bit}

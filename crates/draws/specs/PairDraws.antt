@@ -1,6 +1,5 @@
--- Drawing into two lanes of a list of words at once: within a span of the words each of the lanes becomes 1 where a truth
--- value of its own is true, and all else stays.
--- (This project's own.)
+-- Drawing into two lanes of a list of words at once: within a span of the words each of the lanes becomes 1 where a
+-- truth value of its own is true, and everything else stays. (This project's own.)
 use Rattle.std.specs.Prelude.{◌≡◌, ◌≢◌, ◌<◌, ◌≤◌, ℕ, Bool, ◌||◌, List, length, slice_index}
 use Rattle.lanes.specs.Lanes.{lane_bit}
 

@@ -1,22 +1,23 @@
--- Up to 64 drawn shots in the lanes of words, a word for each fault and one for each collapse. They are drawn shot after
--- shot, each from where the generator is left by the one before it; lane 0 has the first. In the lanes without a shot no
--- fault happens and all coins are 0. (The order is this repository's own.)
+-- Up to 64 drawn shots in the lanes of words: one word for each fault, and one for each collapse (the projective
+-- measurement inside a measurement or a reset). They are drawn shot after shot, each from where the generator is left
+-- by the one before it; lane 0 has the first. In the lanes without a shot no fault happens and all coins are 0. (The
+-- order is this repository's own.)
 use Rattle.std.specs.Prelude.{◌≡◌, ℕ, ◌+◌, ◌*◌, ◌<◌, ◌≤◌, false, List, length, replicate}
 use Rattle.rand_pcg.specs.Lcg.{Lcg}
 use Rattle.lanes.specs.Lanes.{lane}
 use Rattle.draws.specs.Drawn.{after_words, drawn_coins, drawn_faults}
 
--- what is seen of them: the bounds of the faults, and the words
+-- the shots: the bounds of the faults, and the words
 pub record ShotWords : Type 0 where
   pub bounds : List ℕ
   pub faults : List ℕ
   pub coins : List ℕ
 
--- a generator after so many shots of this many faults and collapses
+-- a generator after this many shots of this many faults and collapses
 abbrev pub after_shots : ℕ → ℕ → ℕ → Lcg → Lcg
 after_shots faults collapses shots generator = after_words (shots * (faults + collapses)) generator
 
--- these words have as many shots as this in their first lanes, drawn from this generator on
+-- these words have this many shots in their first lanes, drawn by the next words of this generator
 pub record AreDrawn (bounds : List ℕ) (collapses shots : ℕ) (generator : Lcg) (fault_words coin_words : List ℕ) : Type 0 where
   pub fault_count : length fault_words ≡ length bounds
   pub coin_count : length coin_words ≡ collapses

@@ -25,7 +25,7 @@ pub(crate) fn draw_faults(faults: &mut [u64], runs: &[BoundRun], lane: u32, rng:
     }
 }
 
-// The same of faults of one bound.
+// The same for faults of one bound.
 fn draw_run(faults: &mut [u64], start: usize, end: usize, bound: u128, lane: u32, rng: &mut Pcg64)
     requires order { start ≤ end }
     requires within { end ≤ length faults.old }
@@ -39,7 +39,7 @@ fn draw_run(faults: &mut [u64], start: usize, end: usize, bound: u128, lane: u32
     }
 }
 
-// Hits are rare, so a word is written only where there is one.
+// Most faults do not happen, so a word is written only where one does.
 #[inline(always)]
 pub(crate) fn strike(faults: &mut [u64], f: usize, lane: u32, hit: bool)
     requires within { f < length faults.old }
@@ -72,7 +72,7 @@ pub(crate) fn toss(coins: &mut [u64], c: usize, lane: u32, coin: bool)
     coins[c] = with_coin(coins[c], lane, coin);
 }
 
-// Coins are as often 1 as not, so no branch is taken on them.
+// A coin is 1 half of the time, so no branch is taken on it.
 #[inline(always)]
 fn with_coin(word: u64, lane: u32, coin: bool) -> u64
     requires { lane < 64 }

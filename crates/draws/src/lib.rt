@@ -1,4 +1,5 @@
-//! Drawn shots of a program: which of its faults happen, and which coins its collapses take.
+//! Drawn shots of a program: which of its faults happen, and the coins of its collapses. A collapse is the projective
+//! measurement inside a measurement or a reset; its coin is the outcome where that is random.
 #![tactic(auto)]
 
 mod copies;

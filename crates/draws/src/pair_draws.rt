@@ -62,7 +62,7 @@ fn draw_faults(
     }
 }
 
-// The same of the faults of one run. Not inlined, so that the loop has the registers to itself.
+// The same for the faults of one run. Not inlined, so that the loop has the registers to itself.
 #[inline(never)]
 fn draw_run(
     faults: &mut [u64],
@@ -96,7 +96,8 @@ fn draw_run(
     *second = two;
 }
 
-// The greatest word that is below a bound: one word is compared with another sooner than with a bound of two.
+// The greatest word that is below a bound: comparing two words is faster than comparing a word with a bound of 128
+// bits.
 fn word_below(bound: u128) -> u64
     requires { 0 < bound }
     ensures { (word : ℕ) → word < 2 ^ 64 → nat_le word result ≡ nat_lt word bound }

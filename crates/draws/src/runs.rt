@@ -1,4 +1,4 @@
-// The bounds of a program's faults, as runs of equal ones: an instruction of noise makes many faults of one bound.
+// The bounds of a program's faults, as runs of equal ones: a noise instruction makes many faults of one bound.
 ghost use Rattle.std.specs.Prelude.{◌≡◌, ◌+◌, ◌^◌, ◌<◌, [], ◌∷◌, ◌++◌, IfOk, OnOk};
 ghost use Rattle.draws.specs.BoundRuns.{bounds_in, bounds_of_run};
 ghost use Rattle.draws.specs.Drawn.{bounds_of};
@@ -26,7 +26,7 @@ pub(crate) fn bound_runs<A: Allocator + Copy>(
     let mut walk = Walk::start(program);
     for _number in 0..program.fault_count() {
         let Some(fault) = next_fault(&mut walk) else {
-            // As many are left as are still to come.
+            // Never: the walk meets as many faults as are counted.
             return Ok(runs);
         };
         count_fault(&mut runs, &mut last, program.entry_bound(fault.entry))?;

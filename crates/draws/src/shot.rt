@@ -10,8 +10,8 @@ use std::alloc::{AllocError, Allocator};
 use std::marker::Model;
 use step_model::Fault;
 
-/// A shot of a program: a truth value for each fault, whether it happens, and one for each collapse, its coin. It is
-/// drawn anew as often as it is asked, in the memory that it was made with.
+/// A shot of a program: for each fault whether it happens, and for each collapse its coin. Each call of `draw` draws it
+/// anew, in the memory that `new` took.
 #[derive(Drop)]
 pub struct Shot<A: Allocator + Copy> {
     bounds: Vec<u128, A>,
@@ -57,7 +57,8 @@ impl<A: Allocator + Copy> Shot<A> {
         })
     }
 
-    /// Draws the next shot by the generator's next words: one a fault, and then one a collapse.
+    /// Draws the next shot by the generator's next words: one for each fault, and then one for each collapse. Takes no
+    /// memory.
     pub fn draw(&mut self, rng: &mut Pcg64)
         ensures bounds { self.new.bounds ≡ self.old.bounds }
         ensures faults { self.new.faults ≡ drawn_faults self.old.bounds rng.old }

@@ -11,8 +11,8 @@ use std::alloc::{AllocError, Allocator};
 use std::marker::Model;
 use step_model::Fault;
 
-/// Up to 64 shots of a program, side by side: a word for each fault, whose lanes say in which shots it happens, and one for
-/// each collapse, its coins. They are drawn anew as often as it is asked, in the memory that they were made with.
+/// Up to 64 shots of a program, side by side: a word for each fault, whose bit j says whether it happens in shot j, and
+/// one for each collapse, with its coins. Each call of `draw` draws them anew, in the memory that `new` took.
 #[derive(Drop)]
 pub struct Shots<A: Allocator + Copy> {
     runs: Vec<BoundRun, A>,
@@ -59,8 +59,8 @@ impl<A: Allocator + Copy> Shots<A> {
         })
     }
 
-    /// Draws the next shots, as many as `count`, by the generator's next words: for each shot one a fault, and then one a
-    /// collapse.
+    /// Draws the next `count` shots by the generator's next words: for each shot one word for each fault, and then one
+    /// for each collapse. Takes no memory.
     pub fn draw(&mut self, count: u32, rng: &mut Pcg64)
         requires { count ≤ 64 }
         ensures bounds { self.new.bounds ≡ self.old.bounds }
@@ -76,14 +76,14 @@ impl<A: Allocator + Copy> Shots<A> {
         );
     }
 
-    /// The lanes of each fault: in which shots it happens.
+    /// For each fault a word, whose bit j says whether it happens in shot j.
     pub fn faults(&self) -> &[u64]
         ensures { result.now ≡ self.now.faults }
     {
         self.faults.as_slice()
     }
 
-    /// The lanes of each collapse: its coins.
+    /// For each collapse a word, whose bit j is its coin in shot j.
     pub fn coins(&self) -> &[u64]
         ensures { result.now ≡ self.now.coins }
     {

@@ -28,8 +28,8 @@ pub(crate) fn draw_lanes(
     }
 }
 
-// Draws twice as many shots as `half`: those of the first half in step with those of the second, which a second generator
-// draws, so that neither waits for the other's words.
+// Draws twice as many shots as `half`. A second generator draws those of the second half in step with those of the
+// first, so that neither waits for the other's words.
 fn draw_halves(faults: &mut [u64], coins: &mut [u64], runs: &[BoundRun], half: u32, rng: &mut Pcg64)
     requires faults { length faults.old ≡ length (bounds_in runs.now) }
     requires half { half ≤ 32 }

@@ -1,10 +1,12 @@
--- What an analysis promises of the bytes that it writes for a text. Where it is done, they are the text of an error model
--- and read as that model. It fits the program for which the text stands, and is exact: for every set of its faults and
--- any two coin lists, the detectors and observables that differ between the faulty run under the first and the noiseless
--- run under the second are the exclusive sum of those faults' targets in the model. So no target is random.
--- Where it names a random target, it gives two coin lists under which the noiseless runs differ in that target, and no
--- lower target is random, detectors being lower than observables.
--- (Detectors, observables and their error models are Stim's, github.com/quantumlib/Stim; the promise is this project's own.)
+-- What an analysis promises of the bytes that it writes for a text. Where its status is Done, they are the text of an
+-- error model and read as that model. The model fits the program for which the text stands, and is exact: for every set
+-- of the program's faults and any two coin lists, the detectors and observables that differ between the run with these
+-- faults under the first list and the run without faults under the second are the exclusive or of those faults' targets
+-- in the model. So no target is random. Where its status is Random, the bytes name a random target and two coin lists
+-- under which the runs without faults differ in that target; no lower target is random, detectors being lower than
+-- observables. (A coin is the outcome of a collapse, the projective measurement inside a measurement or a reset, where
+-- that outcome is random.) (Detectors, observables and their error models are Stim's, github.com/quantumlib/Stim; the
+-- promise is this project's own.)
 use Rattle.std.specs.Prelude.{◌≡◌, ◌≢◌, ◌<◌, ◌∷◌, ◌++◌, ℕ, Bool, List, length, codes, Ok}
 use Rattle.step_model.specs.ErrorModels.{ErrorModel, Fits, IsExact}
 use Rattle.step_model.specs.Listing.{Listing}
@@ -36,7 +38,7 @@ pub record IsRandomIn (program : Listing) (bytes : List ℕ) : Type 0 where
   pub disagree : noiseless_parity program first target ≢ noiseless_parity program second target
   pub lowest : (d : ℕ) → d < target → IsRandom program d → ⊥
 
--- the same of the program for which a text stands
+-- the same for the program for which a text stands
 pub record IsExactFor (text bytes : List ℕ) : Type 0 where
   pub program : Listing
   pub stands_for : program_in text ≡ Ok program

@@ -1,11 +1,13 @@
--- What is written for an order and a text, and how that ends, as a function of the two. A refused order writes one line
--- that says why. A run writes the line of its records and the line of how its targets differ from those of the run without
--- faults whose coins are all 0; of drawn shots each writes one of these two lines. An analysis writes the program's error
--- model; or, where a target is random, three lines: the lowest random target, and two coin lists that give it different
--- parities in runs without faults. Of these and of the list of a program's faults the text is a circuit's. A prediction has
--- the text of an error model, and writes the line of the targets that an odd number of the error lines named flip.
--- (Stim's result format 01 and detector error model format; the lines of a random target and the list of faults are this
--- project's own.)
+-- What is written for an order and a text, and with which status, as a function of the two. A refused order writes one
+-- line that says why. A run writes the line of its records and the line of its detections: for each target whether it
+-- differs from that of the run without faults whose coins are all 0. Of drawn shots each writes one of these two lines.
+-- An analysis writes the program's error model; or, where a target is random, three lines: the lowest random target,
+-- and two coin lists that give it different parities in runs without faults. (A coin is the outcome of a collapse, the
+-- projective measurement inside a measurement or a reset, where that outcome is random.) For these and for the list of
+-- a program's faults the text is that of a circuit. A prediction takes the text of an error model, and writes the
+-- symptom of the error lines that are named: the line of the targets that an odd number of them flip. (Stim's result
+-- format 01 and detector error model format; the lines of a random target and the list of faults are this project's
+-- own.)
 use Rattle.std.specs.Prelude.{ℕ, nat_lt, Bool, if◌then◌else◌, List, [], ◌∷◌, ◌++◌, length, codes, decimal, Option, None, Some, ok_or, Result, Ok, Err}
 use Rattle.std.specs.Option.{option_copied}
 use Rattle.rand_pcg.specs.Lcg.{Lcg}
@@ -33,11 +35,12 @@ use Rattle.engine.specs.declared.order.Order.TheVariants.{Run, Analyze, Faults, 
 use Rattle.engine.specs.declared.order.Status.{Status}
 use Rattle.engine.specs.declared.order.Status.TheVariants.{Done, Refused, Random}
 
--- what is written, and how that ends
+-- what is written, and with which status
 pub record Output : Type 0 where
   pub bytes : List ℕ
   pub status : Status
 
+-- an order that was served as asked
 abbrev pub done : List ℕ → Output
 done bytes = record { bytes = bytes; status = Done }
 
@@ -74,7 +77,7 @@ program_output coin_text fault_text program = do
   faults ← ok_or (numbers_of (length program.faults) fault_text) (without_line FaultNumber)
   Ok (done (run_lines program faults coins))
 
--- the same of the program for which a text stands, where it stands for one
+-- the same for the program for which a text stands; where it stands for none, the text's refusal
 abbrev pub run_output : Option (List ℕ) → List ℕ → List ℕ → Result Output Fault
 run_output coin_text fault_text text = program_in text >>= program_output coin_text fault_text
 
@@ -103,13 +106,13 @@ faults_output text = do
   program ← program_in text
   Ok (done (list_text program))
 
--- what a prediction writes for a model, or why it is refused: a list names some of its error lines
+-- what a prediction writes for a model and a list of numbers of its error lines, or why it is refused
 abbrev pub model_prediction : List ℕ → ErrorModel → Result Output Fault
 model_prediction line_text model = do
   named ← ok_or (numbers_of (length model.lines) line_text) (without_line FaultNumber)
   Ok (done (line_of (symptom_of model named)))
 
--- the same of the model that a text writes, where it writes one
+-- the same for the model that a text writes; where it writes none, the text's refusal
 abbrev pub prediction_output : List ℕ → List ℕ → Result Output Fault
 prediction_output line_text text = model_in text >>= model_prediction line_text
 
@@ -117,12 +120,12 @@ prediction_output line_text text = model_in text >>= model_prediction line_text
 abbrev pub most_shots : ℕ
 most_shots = 1_000_000
 
--- what shots of a program write, a line of this kind each, or that they are too many
+-- what shots of a program write, a line of this kind each; or the refusal of too many shots
 abbrev pub program_shots : (Listing → Lcg → List ℕ) → ℕ → ℕ → Listing → Result Output Fault
 program_shots line shots seed program =
     if nat_lt most_shots shots then Err (without_line Shots) else Ok (done (shots_text line shots seed program))
 
--- the same of the program for which a text stands
+-- the same for the program for which a text stands
 abbrev pub shots_output : (Listing → Lcg → List ℕ) → ℕ → ℕ → List ℕ → Result Output Fault
 shots_output line shots seed text = program_in text >>= program_shots line shots seed
 
@@ -135,11 +138,11 @@ order_output (Predict lines) text = prediction_output lines.now text
 order_output (Sample shots seed) text = shots_output record_line shots seed text
 order_output (Detect shots seed) text = shots_output detection_line shots seed text
 
--- where an order is refused, the line that says why is written and nothing else
+-- where an order is refused, only the line that says why is written
 abbrev pub refused_or : Result Output Fault → Output
 refused_or (Ok output) = output
 refused_or (Err fault) = refusal fault
 
--- what is written for an order and a text, and how that ends
+-- what is written for an order and a text, and with which status
 abbrev pub output_of : Order → List ℕ → Output
 output_of order text = refused_or (order_output order text)

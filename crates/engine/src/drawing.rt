@@ -20,7 +20,7 @@ const TOO_MANY: Fault = Fault {
     line: 0,
 };
 
-/// Writes the records of so many shots of a text's circuit, or why they are refused.
+/// Writes the records of this many shots of a text's circuit, or why they are refused.
 pub(crate) fn answer_samples<W: Sink, A: Allocator + Copy>(
     alloc: A,
     shots: u64,
@@ -43,7 +43,7 @@ pub(crate) fn answer_samples<W: Sink, A: Allocator + Copy>(
     }
 }
 
-/// Writes the detections of so many shots of a text's circuit, or why they are refused.
+/// Writes the detections of this many shots of a text's circuit, or why they are refused.
 pub(crate) fn answer_detections<W: Sink, A: Allocator + Copy>(
     alloc: A,
     shots: u64,
@@ -66,7 +66,7 @@ pub(crate) fn answer_detections<W: Sink, A: Allocator + Copy>(
     }
 }
 
-/// Writes the records of so many shots of a program, or that they are too many.
+/// Writes the records of this many shots of a program, or the refusal of too many shots.
 fn write_samples<W: Sink, A: Allocator + Copy>(
     alloc: A,
     program: &Program<'_, A>,
@@ -90,7 +90,7 @@ fn write_samples<W: Sink, A: Allocator + Copy>(
     Ok(Status::Done)
 }
 
-/// The same of detections.
+/// The same for detections.
 fn write_detections<W: Sink, A: Allocator + Copy>(
     alloc: A,
     program: &Program<'_, A>,

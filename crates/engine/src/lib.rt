@@ -1,4 +1,4 @@
-//! What is asked of a circuit or of an error model, served from the bytes of its text to the bytes of the answer.
+//! Orders on a circuit or an error model, served from the bytes of its text to the bytes of the answer.
 #![tactic(auto)]
 
 mod analysis;

@@ -27,7 +27,7 @@ pub(crate) fn run_lines<A: Allocator + Copy>(
     Ok(text)
 }
 
-/// The line of what error lines flip.
+/// The symptom of error lines as a line: a digit for each detector and observable.
 pub(crate) fn symptom_line<A: Allocator + Copy>(
     alloc: A,
     flipped: &[bool],

@@ -1,4 +1,4 @@
-//! What error lines flip together.
+//! The symptom of error lines: what they flip together.
 ghost use Rattle.std.specs.Prelude.{◌≡◌, ◌⊎◌, Ok, Err, IfOk, IfErr, OnOk, OnErr};
 ghost use Rattle.step_model.specs.Ends.{Takes, TakesSome, write_failures};
 ghost use Rattle.step_model.specs.Faults.{memory_fault, write_fault};
@@ -13,7 +13,7 @@ use plain_models::{PlainModel, read_plain};
 use std::alloc::Allocator;
 use step_model::{Fault, Sink, write_all};
 
-/// Writes what the error lines of a text's model flip that are named, or why that is refused.
+/// Writes the symptom of the error lines that are named, of the model that a text writes, or why that is refused.
 pub(crate) fn answer_prediction<W: Sink, A: Allocator + Copy>(
     alloc: A,
     lines: &[u8],
@@ -37,8 +37,8 @@ pub(crate) fn answer_prediction<W: Sink, A: Allocator + Copy>(
     }
 }
 
-/// The line that a prediction writes for a text's model, or why it is refused. Most texts have no block and no shift, and
-/// are read by a reader that keeps less.
+/// The line that a prediction writes for the model of a text, or why it is refused. Most texts have no block and no
+/// shift; these are read by a reader that keeps less.
 fn prediction_text<A: Allocator + Copy>(
     alloc: A,
     lines: &[u8],
@@ -83,7 +83,7 @@ fn predict<A: Allocator + Copy>(
     }
 }
 
-/// The same for a model whose lines stay texts.
+/// The same for a model whose lines are kept as texts.
 fn predict_plain<A: Allocator + Copy>(
     alloc: A,
     model: &PlainModel<'_, A>,

@@ -11,7 +11,8 @@ use crate::order::Status;
 use std::alloc::Allocator;
 use step_model::{Cause, Fault, Sink, write_all};
 
-/// Writes the line that says why an order is refused. A want of memory is no refusal.
+/// Writes the line that says why an order is refused. Where memory ran out, nothing is written: that is an error, and
+/// no refusal.
 pub(crate) fn refuse<W: Sink, A: Allocator + Copy>(
     alloc: A,
     fault: Fault,

@@ -101,8 +101,8 @@ fn all_false<A: Allocator + Copy>(alloc: A, count: usize) -> Result<Vec<bool, A>
     vec![in alloc; false; count].map_err(|_| Fault::MEMORY)
 }
 
-/// The lines of a run with these faults and coins. Where no fault happens and each coin is 0, it is the run that it is
-/// compared with, and is made once.
+/// The lines of a run with these faults and coins. Where no fault happens and each coin is 0, it is also the run that
+/// it is compared with, and is made once.
 fn lines_of_run<A: Allocator + Copy>(
     alloc: A,
     program: &Program<'_, A>,
@@ -126,7 +126,8 @@ fn has_true(values: &[bool]) -> bool
     values.iter().any(|value| *value)
 }
 
-/// The line of a run's records, and the line of how its targets differ from those of a reference run.
+/// The line of a run's records, and the line of its detections: for each target whether it differs from that of a
+/// reference run.
 fn lines_beside<A: Allocator + Copy>(
     alloc: A,
     program: &Program<'_, A>,

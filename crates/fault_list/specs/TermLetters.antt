@@ -1,5 +1,6 @@
--- The letter that letters at qubits make at one qubit: the product of those there, its sign left out; and whether they
--- stand at ascending qubits, as most do, so that their factors are those of their word. (Products of Pauli matrices.)
+-- The letter that a list of letters at qubits makes at one qubit: the product of those there, its sign left out; and
+-- whether the list is at ascending qubits, as most are, so that its factors are those of its word. (Products of Pauli
+-- matrices.)
 use Rattle.std.specs.Prelude.{ℕ, ◌+◌, ◌==◌, nat_lt, Bool, true, false, if◌then◌else◌, List, [], ◌∷◌, ◌++◌, codes}
 use Rattle.std.specs.List.{flat_map}
 use Rattle.pauli_word.specs.declared.letter.Letter.{Letter}
@@ -9,6 +10,7 @@ use Rattle.step_model.specs.WellFormed.{is_I}
 use Rattle.step_model.specs.declared.step.Term.{Term}
 use Rattle.fault_list.specs.FaultLines.{factor_text}
 
+-- the letter of one term at a qubit, and the product of those of several terms
 abbrev pub letter_here : Term → ℕ → Letter
 letter_here term q = if term.qubit == q then term.letter else I
 
@@ -16,7 +18,7 @@ abbrev pub letter_in : List Term → ℕ → Letter
 letter_in [] q = I
 letter_in (term ∷ terms) q = letter_product (letter_here term q) (letter_in terms q)
 
--- whether letters stand at ascending qubits from one on, and none is I
+-- whether letters stand at ascending qubits, the first of them not below `from`, and none is I
 abbrev pub is_ordered : ℕ → List Term → Bool
 is_ordered from [] = true
 is_ordered from (term ∷ terms) =

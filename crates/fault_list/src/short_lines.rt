@@ -1,5 +1,5 @@
-//! Short lines, written into a buffer from its end on towards its start: so the digits of each number, which come last
-//! digit first, go to their place at once.
+//! Short lines, written into a buffer from its end towards its start: so the digits of each number, which are found
+//! last digit first, go to their place at once.
 ghost use Rattle.std.specs.Prelude.{◌≡◌, ◌≤◌, ◌+◌, ◌*◌, ◌∷◌, ◌++◌, [], codes, decimal, length, drop, IfSome};
 ghost use Rattle.fault_walk.specs.Found.{IsFaultOf};
 ghost use Rattle.step_model.specs.Listing.{effect_at, word_of_terms};
@@ -24,8 +24,8 @@ const SHORT_TEXT: usize = 32;
 /// How many terms a short line has at most.
 const SHORT_TERMS: usize = 16;
 
-/// Writes the line of a fault so that it ends where the buffer does, and answers where it starts. Most lines are short
-/// enough; none is answered where one isn't.
+/// Writes the line of a fault so that it ends where the buffer does, and answers where it starts; none where the line
+/// is too long for that, as few are.
 #[inline]
 pub(crate) fn line_before<'a, A: Allocator + Copy>(
     buffer: &mut [u8],
@@ -103,7 +103,7 @@ fn record_before(buffer: &mut [u8], end: usize, r: u32) -> usize
     text_before(buffer, at, b"rec[")
 }
 
-// Writes the word of some terms. Two that stand at descending qubits, as those of a gate often do, are exchanged.
+// Writes the word of some terms. Two at descending qubits are exchanged first.
 #[inline(always)]
 fn word_before(buffer: &mut [u8], end: usize, qubits: u32, terms: &[Term]) -> Option<usize>
     requires within { end ≤ length buffer.old }
@@ -121,8 +121,8 @@ fn word_before(buffer: &mut [u8], end: usize, qubits: u32, terms: &[Term]) -> Op
     }
 }
 
-// Writes the word of terms at ascending qubits. None is answered where they are none or many, or where they don't stand at
-// such, or one is I.
+// Writes the word of terms at ascending qubits. It answers none where there are no terms or many, where their qubits
+// don't ascend, or where one of them is I.
 #[inline(always)]
 fn ordered_before(buffer: &mut [u8], end: usize, qubits: u32, terms: &[Term]) -> Option<usize>
     requires within { end ≤ length buffer.old }

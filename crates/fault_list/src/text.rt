@@ -26,7 +26,7 @@ pub fn write<'a, A: Allocator + Copy, W: Sink>(
     ensures fault { IfErr result (λ e. e ≡ write_fault) }
     ensures beginning { OnErr result (TakesBeginning (W.taken sink.old) (W.taken sink.new) (list_text program.now)) }
 
-    // One more where the sink failed, else as it was.
+    // One more where the sink failed, otherwise as before.
     ensures count { W.failures sink.new ≡ write_failures result (W.failures sink.old) }
 {
     let mut out = Pieces::new();

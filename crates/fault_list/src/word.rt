@@ -34,7 +34,7 @@ pub(crate) fn write_word<W: Sink>(out: &mut Pieces, sink: &mut W, qubits: u32, t
     }
 }
 
-// The lowest qubit from this one on at which there is a letter, or how many qubits there are where there is none.
+// The lowest qubit from this one on at which there is a letter; the number of qubits where there is none.
 fn lowest_from(terms: &[Term], from: u32, qubits: u32) -> u32
     requires { from ≤ qubits }
     ensures from { from ≤ result }

@@ -12,7 +12,7 @@ use Rattle.fault_walk.specs.declared.FoundFault.{FoundFault}
 abbrev pub found : FaultName → Option ℕ → FoundFault
 found name r = record { number = name.number; entry = name.entry; flips = r }
 
--- the fault that flips a record
+-- the fault that flips the record of a collapse (the projective measurement inside a measurement or a reset)
 abbrev pub flip_in : Option ℕ → Option FaultName → Option FoundFault
 flip_in None flip = None
 flip_in (Some r) None = None
@@ -27,12 +27,12 @@ fault_in (CollapseWord p rec inverted flip) = flip_in rec flip
 fault_in (Fault name) = Some (found name None)
 fault_in (Feedback letter q r) = None
 
--- the numbers of the faults behind a walk's place
+-- the numbers of the faults that a walk has still to meet
 abbrev pub faults_left : Walked → List ℕ
 faults_left walk = faults_named (drop walk.place walk.program.steps)
 
--- a fault of the program: its number and its entry are there, at the entry stands what is kept of it, and it flips this
--- record
+-- a fault of the program: it has this number; the entry of this number has its text, its bound and its letters; and it
+-- flips this record, if any
 pub record IsFaultOf (program : Listing) (fault : FoundFault) : Type 0 where
   pub there : fault.number < length program.faults
   pub entry : fault.entry < length program.kept

@@ -1,4 +1,4 @@
-//! The faults of a program in their order, met on a walk over its steps.
+//! The faults of a program in their order, as a walk over its steps meets them.
 #![tactic(auto)]
 
 ghost use Rattle.std.specs.Prelude.{◌≡◌, ◌∷◌, [], None, IfSome};
@@ -8,8 +8,8 @@ ghost use Rattle.fault_walk.specs.Found.{found, fault_in, faults_left, IsFaultOf
 use programs::{FaultName, Step, Walk};
 use std::alloc::Allocator;
 
-/// A fault of a program: its number and that of what is kept of it, and the record that it flips, none where it
-/// applies letters at qubits.
+/// A fault of a program: its number, the number of its entry (its probability and letters, which are kept once for each
+/// place of the text), and the record that it flips: none where it applies letters at qubits.
 #[derive(Clone, Copy, Debug, PartialEq, Eq)]
 pub struct FoundFault {
     pub number: u32,
@@ -17,15 +17,15 @@ pub struct FoundFault {
     pub flips: Option<u32>,
 }
 
-/// Goes on over the next fault, and answers it; none where there is none any more.
+/// Goes forward over the next fault, and answers it; none where there is no further one.
 pub fn next_fault<'a, 'p, A: Allocator + Copy>(walk: &mut Walk<'a, 'p, A>) -> Option<FoundFault>
-    // As `Program::well_formed` says of each program.
+    // `Program::well_formed` gives this for each program.
     requires { IsWellFormed walk.old.program }
     ensures program { walk.new.program ≡ walk.old.program }
     ensures next { IfSome result (λ fault. faults_left walk.old ≡ fault.number ∷ faults_left walk.new) }
     ensures found { IfSome result (IsFaultOf walk.old.program) }
     ensures end { result ≡ None → faults_left walk.old ≡ [] }
-    // Nor is one left behind the place where the walk then stands.
+    // No fault is left then after the place where the walk stands.
     ensures stays { result ≡ None → faults_left walk.new ≡ [] }
 {
     while let Some(step) = walk.next_step() {

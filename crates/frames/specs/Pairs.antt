@@ -1,5 +1,6 @@
--- Two coin lists under which runs without faults give a target different parities. (Stim's circuit format: detectors
--- that are not deterministic.)
+-- Two coin lists under which runs without faults give a target different parities. A coin is the outcome of a collapse
+-- (the projective measurement inside a measurement or a reset) where that outcome is random. (Stim's circuit format:
+-- detectors that are not deterministic.)
 use Rattle.std.specs.Prelude.{◌≢◌, ℕ, Bool, List}
 use Rattle.step_model.specs.Listing.{Listing}
 use Rattle.step_model.specs.Targets.{AreCoins, noiseless_parity}

@@ -1,6 +1,7 @@
--- What is known once a collapse was gone over: the step, and how many records there are then. Where the program has no
--- collapse of that number there is neither, and the word that is measured there is taken for the identity. (Stim's
--- circuit format: records are numbered in the order of measurements.)
+-- What is known once a walk has gone over a collapse (the projective measurement inside a measurement or a reset): the
+-- step, and how many records there are then. Where the program has no collapse of that number there is no step, the
+-- records are taken to be none, and the word that is measured is taken to be the identity. (Stim's circuit format:
+-- records are numbered in the order of measurements.)
 use Rattle.std.specs.Prelude.{◌≡◌, ℕ, ◌+◌, List, Option, None, Some, slice_index_or}
 use Rattle.pauli_word.specs.declared.letter.Letter.{Letter}
 use Rattle.pauli_word.specs.Words.{no_letters}
@@ -13,12 +14,13 @@ use Rattle.step_model.specs.Listing.{Listing}
 use Rattle.step_model.specs.Sensitivities.{collapse_word}
 use Rattle.frames.specs.declared.collapses.Passed.{Passed}
 
--- how many records there are after one with this number, or as many as before
+-- how many records there are after a collapse that makes the record of this number; as many as before where it makes
+-- none
 abbrev pub made_with : ℕ → Option ℕ → ℕ
 made_with made None = made
 made_with made (Some r) = r + 1
 
--- how many records there are after a step, where there were so many before
+-- how many records there are after a step, where there were `made` before
 abbrev pub made_after : ℕ → Step → ℕ
 made_after made (One gate q) = made
 made_after made (Two gate a b) = made
@@ -34,7 +36,7 @@ made_at program k = slice_index_or (records_by_each 0 program.steps) k 0
 abbrev pub word_at : Listing → ℕ → List Letter
 word_at program k = slice_index_or (words_collapsed program.qubits program.steps) k (no_letters program.qubits)
 
--- the collapse k of a program was gone over
+-- the walk has gone over the collapse k of a program
 pub record IsPassed (program : Listing) (k : ℕ) (passed : Passed) : Type 0 where
   pub named : IsStepOf program passed.step
   pub made : passed.made ≡ made_at program k
@@ -45,6 +47,7 @@ pub record IsNotThere (program : Listing) (k : ℕ) : Type 0 where
   pub made : made_at program k ≡ 0
   pub word : word_at program k ≡ no_letters program.qubits
 
+-- what is known of the collapse k, where there is one and where there is none
 abbrev pub Passes : Listing → ℕ → Option Passed → Type 0
 Passes program k None = IsNotThere program k
 Passes program k (Some passed) = IsPassed program k passed

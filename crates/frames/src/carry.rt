@@ -10,9 +10,9 @@ use programs::{Program, Walk};
 use std::alloc::{AllocError, Allocator};
 use step_model::{Cause, Fault, Place};
 
-/// Which collapses a frame flips, one truth value a collapse, that begins as this word at a place: those up to and with
-/// the collapse behind which it begins are not flipped. The word's sign is left out, and no fault happens. A refusal is
-/// for want of memory.
+/// The flips of a Pauli frame, which begins as this word at this place: for each collapse whether the frame flips its
+/// outcome. A collapse is the projective measurement inside a measurement or a reset; those up to and with the place's
+/// own are not flipped. The word's sign plays no part, and no fault happens. It fails only where memory runs out.
 pub fn flips<A: Allocator + Copy>(
     alloc: A,
     program: &Program<'_, A>,
@@ -49,7 +49,7 @@ pub(crate) fn flips_at<A: Allocator + Copy>(
     Ok(flips)
 }
 
-// Goes to a place, over collapses that aren't flipped, and answers how many records there are then.
+// Goes to a place, over collapses that aren't flipped, and answers how many records there are at it.
 fn go_to<A: Allocator + Copy>(
     program: &Program<'_, A>,
     place: Place,

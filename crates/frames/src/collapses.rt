@@ -1,4 +1,5 @@
-//! The way from the start of a program to a collapse.
+//! The way from the start of a program to a collapse, which is the projective measurement inside a measurement or a
+//! reset.
 ghost use Rattle.std.specs.Prelude.{◌≡◌, [], drop, slice_index_or};
 ghost use Rattle.step_model.specs.Frames.{steps_after_each};
 ghost use Rattle.frames.specs.Passes.{made_after, Passes};
@@ -6,14 +7,14 @@ ghost use Rattle.frames.specs.Passes.{made_after, Passes};
 use programs::{Program, Step, Walk};
 use std::alloc::Allocator;
 
-/// A collapse that was gone over, and how many records there are then.
+/// A collapse that was gone over, and how many records there are after it.
 #[derive(Clone, Copy, Drop)]
 pub(crate) struct Passed {
     pub(crate) step: Step,
     pub(crate) made: usize,
 }
 
-/// Goes forward from the start over the collapse of a number; to the end, where there is none of it.
+/// Goes forward from the start over the collapse of this number, or to the end where there is no such collapse.
 pub(crate) fn go_past<A: Allocator + Copy>(
     program: &Program<'_, A>,
     walk: &mut Walk<'_, '_, A>,
@@ -40,7 +41,7 @@ pub(crate) fn go_past<A: Allocator + Copy>(
     None
 }
 
-// How many records there are after a step, by the number of its own where it makes one.
+// How many records there are after a step, by the number of the record that it makes.
 fn records_after(made: usize, step: Step) -> usize
     ensures { result ≡ made_after made step }
 {

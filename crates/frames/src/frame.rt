@@ -18,7 +18,7 @@ use programs::{Program, Step};
 use std::alloc::{AllocError, Allocator};
 use std::marker::Model;
 
-/// A frame on its way: its word, and whether it flips each record so far.
+/// A Pauli frame on its way through a program: its word, and for each record so far whether the frame flips it.
 #[derive(Drop)]
 pub(crate) struct Frame<A: Allocator + Copy> {
     word: Word<A>,
@@ -34,7 +34,7 @@ impl<A: Allocator + Copy> Model for Frame<A> {
 }
 
 impl<A: Allocator + Copy> Frame<A> {
-    /// A frame that begins as a word, and flips none of so many records before.
+    /// A frame that begins as a word after `made` records, none of which it flips.
     pub(crate) fn begin(alloc: A, word: Word<A>, made: usize) -> Result<Self, AllocError>
         ensures { IfOk result (λ frame. frame ≡ begun word.letters made) }
     {
@@ -42,7 +42,7 @@ impl<A: Allocator + Copy> Frame<A> {
         Ok(Frame { word, records })
     }
 
-    /// Carries the frame over a step, and answers its flip where the step is a collapse.
+    /// Carries the frame over a step. Where the step is a collapse, it answers whether the frame flips its outcome.
     pub(crate) fn carry(
         &mut self,
         program: &Program<'_, A>,
@@ -111,7 +111,7 @@ impl<A: Allocator + Copy> Frame<A> {
         anticommutes(&self.word, program.product(product))
     }
 
-    // Notes whether a collapse's record is flipped, where it makes one.
+    // Notes whether a collapse's record is flipped, where the collapse makes one.
     fn record(&mut self, rec: Option<u32>, flip: bool) -> Result<(), AllocError>
         ensures { OnOk result (self.new ≡ record self.old { records = self.old.records ++ recorded_flips rec flip }) }
     {
@@ -121,7 +121,7 @@ impl<A: Allocator + Copy> Frame<A> {
         Ok(())
     }
 
-    // Takes in a letter that is applied where an earlier record is 1, if the frame flips that record.
+    // Feedback applies a letter where an earlier record is 1: the frame takes it in where it flips that record.
     fn feed_back(&mut self, rec: u32, q: usize, letter: Letter)
         requires { q < length self.old.word }
         ensures { self.new ≡ record self.old { word = multiplied (slice_index_or self.old.records rec false) (lone_letter (length self.old.word) q letter) self.old.word } }

@@ -1,5 +1,6 @@
-//! Pauli frames carried through a program: which collapses a word begun at a place flips, and so two coin lists under
-//! which a random target differs.
+//! Pauli frames carried through a program: which collapses a frame flips, and two coin lists under which a random
+//! target has different parities. A collapse is the projective measurement inside a measurement or a reset; its coin is
+//! the outcome where that is random.
 #![tactic(auto)]
 
 mod carry;

@@ -15,9 +15,10 @@ use run_laws::shift::pair_disagrees;
 use std::alloc::{AllocError, Allocator};
 use step_model::{Cause, Fault, Place, Term};
 
-/// The two coin lists of a place, one coin a collapse: zeros, and the flips of the frame that begins there, as the word
-/// that the place's collapse measures, or as Z at a qubit of the start. The runs under the two differ in each target
-/// that has this place. A refusal is for want of memory.
+/// The two coin lists of a place, a coin for each collapse. The first is all zeros. The second is the flips of the
+/// frame that begins at the place: as the word that the place's collapse measures, or as Z at the place's qubit of the
+/// start. Runs without faults under the two lists give different parities to each target that has this place. It fails
+/// only where memory runs out.
 pub fn coin_pair<A: Allocator + Copy>(
     alloc: A,
     program: &Program<'_, A>,
@@ -54,7 +55,7 @@ fn pair_at<A: Allocator + Copy>(
     Ok((zeros, flips))
 }
 
-// The word as which the frame of a place begins: the identity, where there is no such place.
+// The word as which the frame of a place begins; the identity where there is no such place.
 fn word_at<A: Allocator + Copy>(
     alloc: A,
     program: &Program<'_, A>,
@@ -89,7 +90,7 @@ fn word_at<A: Allocator + Copy>(
     }
 }
 
-// The word that a step measures: the identity, where it is no collapse.
+// The word that a step measures; the identity where the step is no collapse.
 fn word_measured<A: Allocator + Copy>(
     alloc: A,
     program: &Program<'_, A>,

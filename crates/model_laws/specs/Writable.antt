@@ -1,14 +1,14 @@
--- An error model that can be written, so that its text reads as that model: the text of each probability is accepted; the
--- targets of each line ascend strictly, and are among the detectors and observables; each detector has its coordinates,
--- at most 16, each of a magnitude below 10^18; and there are at most 1,000,000 detectors and 1,024 observables. (Stim's
--- detector error model format; the limits are this project's.)
+-- An error model that can be written, so that its text reads as that model: the text of each probability is accepted;
+-- the targets of each line ascend strictly, and are among the detectors and observables; each detector has its
+-- coordinates, at most 16, each of a magnitude below 10^18; and there are at most 1,000,000 detectors and 1,024
+-- observables. (Stim's detector error model format; the limits are this project's.)
 use Rattle.std.specs.Prelude.{◌≡◌, ◌<◌, ◌≤◌, ◌+◌, ℕ, true, length, All}
 use Rattle.std.specs.List.Sorted.{IsStrictlyIncreasing}
 use Rattle.step_model.specs.ErrorModels.{ErrorLine, ErrorModel}
 use Rattle.step_model.specs.WellFormed.{CoordinatesFit}
 use Rattle.stim_parser.specs.Limits.{is_probability}
 
--- a line, where there are so many detectors and observables together
+-- a line, in a model with this many detectors and observables together
 pub record IsWritableLine (targets : ℕ) (line : ErrorLine) : Type 0 where
   pub accepted : is_probability line.text ≡ true
   pub ascending : IsStrictlyIncreasing line.targets

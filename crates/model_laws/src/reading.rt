@@ -15,7 +15,7 @@ pub fn texts_read_back()
 {}
 
 /// Each error model that fits a well-formed program can be written, and so its text reads as that model; among these is
-/// the model with one line for each fault that hits a target.
+/// the model with one line for each fault that flips a target.
 pub fn models_of_programs_read_back()
     ensures writable { (program : Listing) (faults : List ℕ) (model : ErrorModel) → IsWellFormed program → Fits program faults model → IsWritable model }
     ensures same { (program : Listing) (faults : List ℕ) (model : ErrorModel) → IsWellFormed program → Fits program faults model → model_in (model_text model) ≡ Ok model }

@@ -1,5 +1,5 @@
--- The targets of an error line as nearly all are written: before each a single space, and each `D` or `L` and a few digits.
--- They are told from the bytes at once; how all others are read is said elsewhere, and these mean the same there.
+-- The targets of an error line as nearly all are written: before each a single space, and each `D` or `L` and a few
+-- digits. They are read straight from the bytes; the general reader, which reads all others, reads the same of these.
 -- (Stim's detector error model format, github.com/quantumlib/Stim, doc/file_format_dem_detector_error_model.md, "Target
 -- Types".)
 use Rattle.std.specs.Prelude.{◌≡◌, ℕ, ◌==◌, ◌||◌, max, Bool, true, false, List, ◌∷◌, ◌++◌, Some}
@@ -15,7 +15,7 @@ use Rattle.dem_lines.specs.Limits.{has_target_beyond, is_effect}
 use Rattle.dem_parser.specs.Meanings.{detectors_to, greatest_of, observables_to}
 use Rattle.dem_lines.specs.Targets.{target_of, targets_in}
 
--- printable bytes before the braces, of which none ends a word of targets, ends arguments or begins a comment
+-- the bytes from `+` to `z`: none of them ends a word of targets, ends arguments or begins a comment
 abbrev pub is_word_byte : ℕ → Bool
 is_word_byte b = is_in_range 43 122 b
 
@@ -39,7 +39,7 @@ pub record IsTargetFront (text : List ℕ) (target : Target) (rest : List ℕ) :
   pub target_is : target_of word ≡ Some target
   pub effect : is_effect target ≡ true
 
--- a text writes targets that an error may have, none beyond its limit, and these raise counts so
+-- a text writes targets that an error may have, none beyond its limit, and by these `counts` become `found`
 pub record AreCounted (text : List ℕ) (counts found : TargetCounts) : Type 0 where
   pub apart : ends_here text ≡ true
   pub quiet : list_all is_quiet text ≡ true

@@ -1,6 +1,6 @@
--- What a reader of texts without blocks and shifts does at a line: it goes on with the line tallied, or past a line that says
--- nothing; it refuses the line; or it leaves the text, of which nothing is said then.
--- (Stim's detector error model format, github.com/quantumlib/Stim, doc/file_format_dem_detector_error_model.md.)
+-- What a reader of texts without blocks and shifts does at a line: it goes on with the line tallied, or past a line
+-- that says nothing; it refuses the line; or it leaves the text to another reader, and then nothing is said of the
+-- text. (Stim's detector error model format, github.com/quantumlib/Stim, doc/file_format_dem_detector_error_model.md.)
 use Rattle.std.specs.Prelude.{⊤, ◌≡◌, ◌⊎◌, ℕ, List, [], true, false}
 use Rattle.stim_lexer.specs.Lines.{says_nothing}
 use Rattle.plain_models.specs.declared.plain_reader.Step.{Step}

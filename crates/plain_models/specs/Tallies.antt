@@ -1,6 +1,6 @@
--- A tally of the lines of an error model in which no line opens a block and none shifts: the targets of each error line in
--- their order, and one more than the greatest detector and the greatest observable that any line names, or 0. A line that
--- shifts is not tallied. (Stim's detector error model format, github.com/quantumlib/Stim,
+-- A tally of the lines of an error model in which no line opens a block and none shifts: the targets of each error line
+-- in their order, and one more than the greatest detector and the greatest observable that any line names, or 0. A line
+-- that shifts is not tallied. (Stim's detector error model format, github.com/quantumlib/Stim,
 -- doc/file_format_dem_detector_error_model.md.)
 use Rattle.std.specs.Prelude.{◌≡◌, ℕ, max, ◌≤◌, Bool, true, false, if◌then◌else◌, List, [], ◌∷◌, ◌++◌, map, All, refl}
 use Rattle.std.specs.Borrow.{Bor}
@@ -49,10 +49,11 @@ targets_kept texts = map (λ text. read_targets text.now) texts
 
 -- ---- the model of a tally
 
--- a line with these targets, where there are so many detectors and observables
+-- a line with these targets, in a model with this many detectors and observables
 abbrev pub line_tallied : ℕ → ℕ → List Target → ErrorLine
 line_tallied detectors observables targets = record { text = []; targets = flipped detectors observables targets }
 
+-- the model of a tally, stripped
 abbrev pub model_tallied : Tally → ErrorModel
 model_tallied t =
     record {
@@ -66,7 +67,7 @@ model_tallied t =
 abbrev pub IsWhole : Tally → Type 0
 IsWhole t = All (λ targets. greatest_of detectors_to targets ≤ t.detectors) t.errors
 
--- these are the numbers of a tally that is whole
+-- these are the numbers of detectors and observables of a tally that is whole
 pub record AreCountsOf (t : Tally) (detectors observables : ℕ) : Type 0 where
   pub detectors_are : detectors ≡ t.detectors
   pub observables_are : observables ≡ t.observables

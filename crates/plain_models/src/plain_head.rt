@@ -11,7 +11,7 @@ use stim_parser::{
     ArgumentForm, LastProbability, has_wrong_arguments, has_wrong_probability, read_arguments,
 };
 
-/// What stood in the parentheses of an error line, where that is right: most that follow have the same.
+/// What stood in the parentheses of an error line, where it is accepted: most lines that follow have the same.
 #[derive(Clone, Copy)]
 pub(crate) struct Head<'a> {
     pub arguments: &'a [u8],
@@ -19,7 +19,7 @@ pub(crate) struct Head<'a> {
     ghost right: { AreProbabilities OneProbability (arguments_in arguments.now) },
 }
 
-/// Whether no byte of a text ends arguments or a line, or may not stand there.
+/// Whether each byte of a text may stand in arguments, and none ends them or the line.
 fn is_quiet(text: &[u8]) -> bool
     ensures { result ≡ list_all is_quiet text.now }
 {
@@ -27,7 +27,7 @@ fn is_quiet(text: &[u8]) -> bool
         .all(|byte| *byte == b' ' || (43..=122).contains(byte))
 }
 
-/// What follows a text at the front of another.
+/// What follows `front` in a text that begins with it.
 #[inline(always)]
 fn behind<'t>(front: &[u8], text: &'t [u8]) -> Option<&'t [u8]>
     ensures { IfSome result (λ rest. text.now ≡ front.now ++ rest.now) }
@@ -35,7 +35,7 @@ fn behind<'t>(front: &[u8], text: &'t [u8]) -> Option<&'t [u8]>
     text.strip_prefix(front)
 }
 
-/// What follows `error`, a parenthesis, arguments and a parenthesis, where a text begins so.
+/// What follows `error(`, these arguments and `)` in a text that begins with them.
 #[inline(always)]
 pub(crate) fn behind_head<'t>(arguments: &[u8], text: &'t [u8]) -> Option<&'t [u8]>
     ensures { IfSome result (λ rest. text.now ≡ codes "error(" ++ (arguments.now ++ 41 ∷ rest.now)) }
@@ -58,7 +58,8 @@ fn are_right<'a>(last: &mut LastProbability<'a>, arguments: &'a [u8]) -> bool
         && !has_wrong_probability(last, form, read.as_slice())
 }
 
-/// The arguments that the error line has which a text begins as, where later lines may be told by them.
+/// The arguments of the error line that a text begins with, where they are accepted and later lines may be compared
+/// with them.
 pub(crate) fn head_in<'a>(last: &mut LastProbability<'a>, text: &'a [u8]) -> Option<Head<'a>> {
     let inside = behind(b"error(", text)?;
     let (arguments, _) = cut_at(inside, b')');

@@ -10,8 +10,8 @@ use dem_parser::{named_end, no_bits, turn_targets};
 use std::alloc::{AllocError, Allocator};
 use std::marker::Model;
 
-/// An error model whose error lines stay texts: the targets of a line are read again where it is named, and most are not. It
-/// is seen as the model that is left without the texts of probabilities and without coordinates.
+/// An error model whose error lines are kept as texts: the targets of a line are read again where it is named, and most
+/// are not. Its value is the model without the texts of probabilities and without coordinates.
 #[derive(Drop)]
 pub struct PlainModel<'a, A: Allocator + Copy> {
     lines: TalliedLines<'a, A>,
@@ -30,7 +30,7 @@ impl<'a, A: Allocator + Copy> Model for PlainModel<'a, A> {
     ghost invariant = { λ m. AreCountsOf m.lines m.detectors m.observables };
 }
 
-/// Turns the truth values of the targets that a text writes round, where there are so many detectors.
+/// Flips the truth values of the targets that a text writes, in a model with this many detectors.
 fn turn_text<A: Allocator + Copy>(
     bits: &mut [bool],
     targets: &mut Vec<Target, A>,
@@ -45,7 +45,7 @@ fn turn_text<A: Allocator + Copy>(
     Ok(())
 }
 
-/// The same where the line is named, and nothing where it is not.
+/// The same if `named`; otherwise nothing.
 fn turn_named<A: Allocator + Copy>(
     named: bool,
     bits: &mut [bool],
@@ -62,7 +62,7 @@ fn turn_named<A: Allocator + Copy>(
 }
 
 impl<'a, A: Allocator + Copy> PlainModel<'a, A> {
-    /// The model of lines that were tallied. It may fail only where memory runs out.
+    /// The model of lines that were tallied.
     pub(crate) fn new(lines: TalliedLines<'a, A>) -> Result<Self, AllocError>
         requires { IsWhole lines }
         ensures { IfOk result (λ model. model ≡ model_tallied lines.entry) }
@@ -82,8 +82,9 @@ impl<'a, A: Allocator + Copy> PlainModel<'a, A> {
         self.lines.len()
     }
 
-    /// What the error lines flip that are named, all together: a truth value for each detector, then one for each
-    /// observable. Two lines that flip the same cancel there. A line is named by the truth value at its number, from 0.
+    /// The symptom of the error lines that are named: a truth value for each detector, then one for each observable,
+    /// which says whether these lines flip it an odd number of times in all. `named` has a truth value for each error
+    /// line, by its number from 0.
     pub fn symptom(&self, alloc: A, named: &[bool]) -> Result<Vec<bool, A>, AllocError>
         ensures { IfOk result (λ bits. bits.items ≡ symptom_of self.now named.now) }
     {

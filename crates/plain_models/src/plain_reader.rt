@@ -21,9 +21,9 @@ use stim_lexer::{Lexer, Line};
 /// What a reader does at a line.
 #[derive(Clone, Copy)]
 pub(crate) enum Step {
-    /// Goes on behind it.
+    /// Goes on after it.
     Goes,
-    /// Leaves a text that it isn't for: one with a block or a shift.
+    /// Leaves the text, which has a block or a shift, to another reader.
     Leaves,
     Refuses(Cause),
 }
@@ -38,7 +38,7 @@ pub(crate) struct PlainReader<'a, A: Allocator + Copy> {
     head: Option<Head<'a>>,
 }
 
-/// A line of a number, cut; none where it says nothing.
+/// The line of this number, cut; none where it says nothing.
 fn line_in(number: u64, text: &[u8]) -> Result<Option<Line<'_>>, Cause>
     requires { list_any is_line_feed text.now ≡ false }
     ensures { MatchResult result
@@ -55,7 +55,7 @@ fn line_in(number: u64, text: &[u8]) -> Result<Option<Line<'_>>, Cause>
 }
 
 impl<'a, A: Allocator + Copy> PlainReader<'a, A> {
-    /// Nothing was read. Takes no memory.
+    /// A reader that has read nothing. Takes no memory.
     pub(crate) fn new(alloc: A) -> Self
         ensures { result.lines ≡ no_tally }
     {
@@ -86,7 +86,7 @@ impl<'a, A: Allocator + Copy> PlainReader<'a, A> {
         }
     }
 
-    /// Reads a line as it stands, where it is an error line that begins as one before it. Answers whether it is.
+    /// Reads a line as it stands, where it is an error line that begins as one before it, and answers whether it did.
     #[inline(always)]
     fn pass_alike(&mut self, text: &'a [u8]) -> Result<bool, AllocError>
         ensures passed { IfOk result (λ passed. passed ≡ true → (number : ℕ) → Passes Goes number text.now self.old.lines self.new.lines) }
@@ -105,8 +105,8 @@ impl<'a, A: Allocator + Copy> PlainReader<'a, A> {
         Ok(true)
     }
 
-    /// The same where it is an error line whose head is read anew. It is never inlined, so that it takes no registers from
-    /// the lines that begin as one before them.
+    /// The same for an error line whose beginning is read anew. It is never inlined, so that it takes no registers from
+    /// the reading of lines that begin as one before them.
     #[inline(never)]
     fn pass_anew(&mut self, text: &'a [u8]) -> Result<bool, AllocError>
         ensures passed { IfOk result (λ passed. passed ≡ true → (number : ℕ) → Passes Goes number text.now self.old.lines self.new.lines) }
@@ -119,7 +119,7 @@ impl<'a, A: Allocator + Copy> PlainReader<'a, A> {
         self.pass_alike(text)
     }
 
-    /// Reads any line of a number as it stands.
+    /// Reads any line, of this number, as it stands.
     fn pass_any(&mut self, number: u64, text: &'a [u8]) -> Result<Step, AllocError>
         requires { list_any is_line_feed text.now ≡ false }
         ensures { IfOk result (λ step. Passes step number text.now self.old.lines self.new.lines) }
@@ -131,7 +131,7 @@ impl<'a, A: Allocator + Copy> PlainReader<'a, A> {
         }
     }
 
-    /// Reads a line of a number as it stands. It may fail only where memory runs out.
+    /// Reads the line of this number as it stands. It fails only where memory runs out.
     #[inline(always)]
     pub(crate) fn pass(&mut self, number: u64, text: &'a [u8]) -> Result<Step, AllocError>
         requires { list_any is_line_feed text.now ≡ false }

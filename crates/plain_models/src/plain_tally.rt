@@ -61,7 +61,7 @@ impl<'a, A: Allocator + Copy> TalliedLines<'a, A> {
         self.texts[line]
     }
 
-    /// Tallies a line by what it says and its targets, which the text writes. It may fail only where memory runs out.
+    /// Tallies a line by what it says and its targets, which the text writes. It fails only where memory runs out.
     pub(crate) fn add(
         &mut self,
         operation: Operation,
@@ -78,8 +78,8 @@ impl<'a, A: Allocator + Copy> TalliedLines<'a, A> {
         Ok(())
     }
 
-    /// Tallies an error line by the text of its targets, and by the counts that these raise. It may fail only where memory
-    /// runs out.
+    /// Tallies an error line by the text of its targets, and by what the counts become by these. It fails only where
+    /// memory runs out.
     pub(crate) fn add_error(
         &mut self,
         text: &'a [u8],

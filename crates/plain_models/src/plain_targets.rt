@@ -5,7 +5,7 @@ ghost use Rattle.plain_models.specs.ErrorTexts.{AreCounted, IsNumberFront, IsTar
 use dem_lines::{Target, is_target_beyond};
 use dem_parser::{TargetCounts, raised_to};
 
-/// The greatest number behind which one digit more is read.
+/// The greatest number after which one more digit is read.
 const MOST_READ: u64 = 99_999_999;
 
 /// The digit that a text begins with, and what follows it.
@@ -54,7 +54,7 @@ pub(crate) fn behind_byte(byte: u8, text: &[u8]) -> Option<&[u8]>
     }
 }
 
-/// The target behind the space that a text begins with, and what follows it.
+/// The target after the space that a text begins with, and what follows it.
 #[inline(always)]
 fn front_target(text: &[u8]) -> Option<(Target, &[u8])>
     ensures front { IfSome result (λ front. IsTargetFront text.now front.0 front.1.now) }
@@ -70,8 +70,8 @@ fn front_target(text: &[u8]) -> Option<(Target, &[u8])>
     Some((Target::Observable(number), rest))
 }
 
-/// Counts raised to what the targets of an error line name. There are none where one is written in a way that is rare, or is
-/// refused.
+/// Counts raised to what the targets of an error line name. There are none where a target is written in a rare way, or
+/// is refused.
 #[inline(always)]
 pub(crate) fn counted(text: &[u8], counts: TargetCounts) -> Option<TargetCounts>
     ensures { IfSome result (λ found. AreCounted text.now counts found) }

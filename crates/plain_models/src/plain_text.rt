@@ -26,9 +26,9 @@ fn first_line(text: &[u8]) -> (&[u8], &[u8])
     }
 }
 
-/// The error model that a text without blocks and shifts writes, or its one refusal. Where a line opens a block or shifts
-/// there is none, and nothing is said of the text. Memory is refused only where it runs out; of a line that is read there
-/// stays but the place of its targets in the text.
+/// The error model that a text without blocks and shifts writes, or its one refusal. Where a line opens a block or
+/// shifts, the answer is none, and nothing is said of the text. The cause is `Memory` only where memory runs out. Of
+/// each error line only the place of its targets in the text is kept.
 pub fn read_plain<'a, A: Allocator + Copy>(
     alloc: A,
     text: &'a [u8],

@@ -5,6 +5,7 @@ use Rattle.std.specs.List.{flat_map, range_with_len}
 use Rattle.lanes.specs.Lanes.{lane}
 use Rattle.sampling.specs.Lines.{line_of}
 
+-- the line of one shot, and the lines of the first `count` shots
 abbrev pub lane_line : List ℕ → ℕ → List ℕ
 lane_line words shot = line_of (lane shot words)
 

@@ -1,8 +1,9 @@
--- What is written for drawn shots of a program: a line for each shot, with its records, or with how its targets differ
--- from those of the run without faults whose coins are all 0. A shot's faults and coins are drawn by the next words of one
--- generator, which is made from a seed and goes on from shot to shot. (Stim's result format 01, and its commands sample and
--- detect; the order of the words is this repository's own. The generator is Pcg64 of Rust's rand_pcg, made from a seed as
--- rand_core's seed_from_u64 does.)
+-- What is written for drawn shots of a program: a line for each shot, with its records, or with whether each detector
+-- and each observable differs from that of the run without faults whose coins are all 0. (A coin is the outcome of a
+-- collapse, the projective measurement inside a measurement or a reset, where that outcome is random.) A shot's faults
+-- and coins are drawn by the next words of one generator, which is made from a seed and goes on from shot to shot.
+-- (Stim's result format 01, and its commands sample and detect; the order of the words is this repository's own. The
+-- generator is Pcg64 of Rust's rand_pcg, made from a seed as rand_core's seed_from_u64 does.)
 use Rattle.std.specs.Prelude.{ℕ, Bool, List, [], length}
 use Rattle.std.specs.List.{flat_map, range_with_len}
 use Rattle.rand_core.specs.Pcg32Seed.{pcg32_seed}
@@ -23,10 +24,11 @@ shot_faults program generator = drawn_faults (bounds_of program) generator
 abbrev pub shot_coins : Listing → Lcg → List Bool
 shot_coins program generator = drawn_coins program.collapses (after_words (length program.faults) generator)
 
+-- the records of that shot
 abbrev pub shot_records : Listing → Lcg → List Bool
 shot_records program generator = records_of program (shot_faults program generator) (shot_coins program generator)
 
--- how the targets of the shot differ from those of the run without faults whose coins are all 0
+-- for each target of the shot whether it differs from that of the run without faults whose coins are all 0
 abbrev pub shot_detections : Listing → Lcg → List Bool
 shot_detections program generator =
     difference program (shot_records program generator) (records_of program [] (zero_coins program))
@@ -42,7 +44,7 @@ detection_line program generator = line_of (shot_detections program generator)
 abbrev pub shot_generator : Listing → Lcg → ℕ → Lcg
 shot_generator program generator k = after_shots (length program.faults) program.collapses k generator
 
--- the lines of so many shots from a generator on
+-- the lines of this many shots, drawn by a generator's next words
 abbrev pub lines_from : (Listing → Lcg → List ℕ) → Listing → ℕ → Lcg → List ℕ
 lines_from line program shots generator =
     flat_map (λ k. line program (shot_generator program generator k)) (range_with_len 0 shots)
@@ -51,6 +53,6 @@ lines_from line program shots generator =
 abbrev pub seeded : ℕ → Lcg
 seeded seed = pcg64_of_seed (pcg32_seed 32 seed)
 
--- the lines of so many shots of a seed
+-- the lines of this many shots of a seed
 abbrev pub shots_text : (Listing → Lcg → List ℕ) → ℕ → ℕ → Listing → List ℕ
 shots_text line shots seed program = lines_from line program shots (seeded seed)

@@ -10,5 +10,6 @@ use Rattle.sampling.specs.Sampled.{shot_coins, shot_faults}
 abbrev pub ShownOf : Type 0
 ShownOf = Listing → List Bool → List Bool → List Bool
 
+-- the line of the shot that a generator's next words draw
 abbrev pub shown_line : ShownOf → Listing → Lcg → List ℕ
 shown_line shown program generator = line_of (shown program (shot_faults program generator) (shot_coins program generator))

@@ -11,7 +11,8 @@ pub record ShownRuns : Type 0 where
   pub program : Listing
   pub words : List ℕ
 
--- how the targets of a run with these faults and coins differ from those of the run without faults whose coins are all 0
+-- for each target of a run with these faults and coins whether it differs from that of the run without faults whose
+-- coins are all 0
 abbrev pub detections_of : Listing → List Bool → List Bool → List Bool
 detections_of program faults coins =
     difference program (records_of program faults coins) (records_of program [] (zero_coins program))

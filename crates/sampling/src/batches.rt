@@ -16,8 +16,8 @@ use rand_pcg::Pcg64;
 use std::alloc::Allocator;
 use step_model::{Fault, Sink};
 
-/// Writes the lines of so many shots of a seed. `line` has room for one. It takes no memory, and fails only where the sink
-/// fails; a beginning of the text has then gone out, and the sink is not called again.
+/// Writes the lines of the first `shots` shots of a seed. `line` has room for one line. It takes no memory, and fails
+/// only where the sink fails; a beginning of the text has then gone out, and the sink is not called again.
 pub fn write_shots<S: SideRuns, W: Sink, A: Allocator + Copy>(
     drawn: &mut Shots<A>,
     runs: &mut S,

@@ -1,4 +1,5 @@
-//! Drawn shots of a program, run and written: their records, or how their targets differ from those of the reference run.
+//! Drawn shots of a program, run and written: their records, or their detections, which say for each detector and
+//! observable whether it differs from that of the reference run.
 #![tactic(auto)]
 
 mod batches;

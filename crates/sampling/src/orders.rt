@@ -13,8 +13,8 @@ use programs::Program;
 use std::alloc::Allocator;
 use step_model::{Fault, Sink};
 
-/// Writes a line for each of so many shots of a seed: a digit for each record. All memory is taken before the first line
-/// goes out, and it doesn't grow with the shots.
+/// Writes a line for each of the first `shots` shots of a seed: a digit for each record. All memory is taken before the
+/// first line goes out, and it doesn't grow with the number of shots. It fails where memory runs out or the sink fails.
 pub fn sample<W: Sink, A: Allocator + Copy>(
     alloc: A,
     program: &Program<'_, A>,
@@ -33,9 +33,11 @@ pub fn sample<W: Sink, A: Allocator + Copy>(
     write_shots(&mut drawn, &mut runs, &mut line, shots, seed, sink)
 }
 
-/// Writes a line for each of so many shots of a seed: a digit for each detector and then for each observable, whether its
-/// parity differs from that in the run without faults whose coins are all 0. All memory is taken before the first line
-/// goes out, and it doesn't grow with the shots.
+/// Writes a line for each of the first `shots` shots of a seed: a digit for each detector and then for each observable,
+/// 1 where its parity differs from that in the run without faults whose coins are all 0. (A coin is the outcome of a
+/// collapse, the projective measurement inside a measurement or a reset, where that is random.) All memory is taken
+/// before the first line goes out, and it doesn't grow with the number of shots. It fails where memory runs out or the
+/// sink fails.
 pub fn detect<W: Sink, A: Allocator + Copy>(
     alloc: A,
     program: &Program<'_, A>,

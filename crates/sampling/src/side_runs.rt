@@ -2,8 +2,8 @@ ghost use Rattle.std.specs.Prelude.{◌≡◌, ◌<◌, ℕ, List, Bool, length}
 ghost use Rattle.step_model.specs.Listing.{Listing};
 ghost use Rattle.lanes.specs.Lanes.{lane};
 
-/// Runs of a program, 64 side by side, and truth values that are shown of each, as its records. They are made anew as often
-/// as it is asked.
+/// Runs of a program, 64 side by side, and what is shown of each: truth values, such as its records. Each call of `run`
+/// runs them anew.
 pub trait SideRuns {
     // The program.
     ghost program: { Self → Listing };
@@ -11,7 +11,7 @@ pub trait SideRuns {
     // What is shown of a program's run with these faults and coins.
     ghost shown: { Listing → List Bool → List Bool → List Bool };
 
-    // The words in whose lanes it stands.
+    // What is shown of the runs made last: a word for each truth value, whose bit j belongs to run j.
     ghost lane_words: { Self → List ℕ };
 
     /// Runs the program with the faults and the coins of each lane.
@@ -22,7 +22,7 @@ pub trait SideRuns {
         ensures size { length (lane_words self.new) ≡ length (lane_words self.old) }
         ensures shown { (j : ℕ) → j < 64 → lane j (lane_words self.new) ≡ shown (program self.old) (lane j faults.now) (lane j coins.now) };
 
-    /// What is shown of the runs made last, a word for each truth value.
+    /// What is shown of the runs made last: a word for each truth value, whose bit j belongs to run j.
     fn words(&self) -> &[u64]
         ensures { result.now ≡ lane_words self.now };
 }

@@ -1,6 +1,6 @@
--- The bytes that cut a circuit's text, and words on texts. The space, the tab and the carriage return are blanks; only
--- the line feed ends a line. Outside tags and comments each byte is a blank or printable.
--- (Stim's circuit format, github.com/quantumlib/Stim, doc/file_format_stim_circuit.md, "Syntax".)
+-- The bytes that cut a circuit's text, and ways to cut a text. The space, the tab and the carriage return are blanks;
+-- only the line feed ends a line. Outside tags and comments each byte has to be a blank or printable. (Stim's circuit
+-- format, github.com/quantumlib/Stim, doc/file_format_stim_circuit.md, "Syntax".)
 use Rattle.std.specs.Prelude.{ℕ, ◌==◌, Bool, true, false, not, ◌||◌, List, [], ◌∷◌, drop}
 use Rattle.std.specs.List.{position_or_len}
 use Rattle.std.specs.Int.{is_in_range}

@@ -1,12 +1,11 @@
--- How a line is cut into its parts. A line says, from left to right and with blanks at will between its parts: a name; a
--- tag in brackets; arguments in parentheses; targets; a brace that opens a block; a comment, which is `#` and all that
+-- How a line is cut into its parts. These are, from left to right and with any blanks between them: a name; a tag in
+-- brackets; arguments in parentheses; targets; a brace that opens a block; a comment, which is `#` and all that
 -- follows.
 --
--- The name ends at a blank, at `[`, `(`, `{`, `}` or `#`. A tag stands right after the name and ends at the first `]`; any
--- byte may stand in it, `#` and braces too, and it says nothing. Outside a tag each `#` begins a comment. The arguments
--- end at the first `)` before a comment. A tag or parentheses that don't end stay open: the tag then takes the rest of
--- its line.
--- (Stim's circuit format, github.com/quantumlib/Stim, doc/file_format_stim_circuit.md, "Syntax".)
+-- The name ends at a blank, at `[`, `(`, `{`, `}` or `#`. The tag comes next and ends at the first `]`; any byte may
+-- stand in it, `#` and braces too, and it means nothing. Outside a tag each `#` begins a comment. The arguments end at
+-- the first `)` before a comment. A tag or parentheses that don't end stay open: an open tag takes the rest of its
+-- line. (Stim's circuit format, github.com/quantumlib/Stim, doc/file_format_stim_circuit.md, "Syntax".)
 use Rattle.std.specs.Prelude.{ℕ, Bool, not, ◌&&◌, ◌||◌, if◌then◌else◌, List, [], drop}
 use Rattle.std.specs.List.{list_any, list_all, before_first, after_first}
 use Rattle.stim_lexer.specs.declared.line.Braces.{Braces}
@@ -16,7 +15,7 @@ use Rattle.stim_lexer.specs.Lines.{is_closing}
 
 -- ---- what stands in brackets or parentheses
 
--- whether a text has an opening byte, after blanks at will
+-- whether a text begins with an opening byte, after any blanks
 abbrev pub has_opening : (ℕ → Bool) → List ℕ → Bool
 has_opening opening text = begins_with opening (after_blanks text)
 
@@ -32,6 +31,7 @@ in_brackets opening closing text = if has_opening opening text then before_first
 abbrev pub after_brackets : (ℕ → Bool) → (ℕ → Bool) → List ℕ → List ℕ
 after_brackets opening closing text = if has_opening opening text then after_first closing (after_opening text) else text
 
+-- whether there is an opening byte and no closing one
 abbrev pub leaves_open : (ℕ → Bool) → (ℕ → Bool) → List ℕ → Bool
 leaves_open opening closing text = has_opening opening text && not (list_any closing (after_opening text))
 
@@ -77,6 +77,7 @@ pub record Cut : Type 0 where
   pub targets : List ℕ
   pub braces : Braces
 
+-- a line, cut
 unfoldable pub cut_of : List ℕ → Cut
 cut_of line =
     let body = body_of line in

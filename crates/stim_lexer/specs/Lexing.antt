@@ -1,6 +1,6 @@
--- Lines read one after another, of which those that say nothing are passed over. A line with a bad byte stops the
--- reading: it stays the next one, and so is refused again.
--- (Stim's circuit format, github.com/quantumlib/Stim, doc/file_format_stim_circuit.md; the refusal is this project's.)
+-- Lines read one after another; those that say nothing are passed over. A line with a bad byte stops the reading: it
+-- stays the next one, and so is refused again. (Stim's circuit format, github.com/quantumlib/Stim,
+-- doc/file_format_stim_circuit.md; the refusal is this project's.)
 use Rattle.std.specs.Prelude.{ℕ, ◌+◌, if◌then◌else◌, List, [], ◌∷◌, Option, None, Some, Result, Ok, Err}
 use Rattle.step_model.specs.declared.fault.Fault.{Fault}
 use Rattle.step_model.specs.declared.fault.Cause.TheVariants as cause
@@ -24,14 +24,14 @@ pub record Numbered : Type 0 where
   pub number : ℕ
   pub cut : Cut
 
--- the first of lines, cut, or its refusal
+-- the first of these lines, cut, or its refusal; none where there are no lines
 abbrev pub first_found : ℕ → List (List ℕ) → Result (Option Numbered) Fault
 first_found read [] = Ok None
 first_found read (line ∷ lines) =
     if has_bad_byte line then Err (record { cause = cause.Byte; line = read + 1 })
     else Ok (Some (record { number = read + 1; cut = cut_of line }))
 
--- what is left after the first of lines, which stays where it is refused
+-- the lines after the first one, which is still there where it is refused
 abbrev pub after_first_found : ℕ → List (List ℕ) → Unread
 after_first_found read [] = record { read = read; lines = [] }
 after_first_found read (line ∷ lines) =
@@ -42,12 +42,14 @@ abbrev pub next_found : Unread → Result (Option Numbered) Fault
 next_found unread =
     let left = after_silent unread.read unread.lines in first_found left.read left.lines
 
+-- the lines that are left after that one
 abbrev pub after_next : Unread → Unread
 after_next unread =
     let left = after_silent unread.read unread.lines in after_first_found left.read left.lines
 
 -- ---- what a reader answers
 
+-- what a `Line` says, and what a reader's answer says
 abbrev pub cut_in : Line → Cut
 cut_in line =
     record {

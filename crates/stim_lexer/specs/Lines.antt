@@ -1,7 +1,7 @@
 -- A text is cut into lines at each line feed; what follows the last line feed is a line where it isn't empty. A line of
--- blanks, or of blanks and a comment, which is `#` and all that follows, says nothing. A line of `}` and blanks, with a
--- comment at will, closes a block.
--- (Stim's circuit format, github.com/quantumlib/Stim, doc/file_format_stim_circuit.md, "Syntax".)
+-- blanks, or of blanks and a comment, which is `#` and all that follows, says nothing. A line of `}` and blanks, with
+-- or without a comment, closes a block. (Stim's circuit format, github.com/quantumlib/Stim,
+-- doc/file_format_stim_circuit.md, "Syntax".)
 use Rattle.std.specs.Prelude.{ℕ, Bool, ◌&&◌, if◌then◌else◌, List, [], ◌∷◌, drop}
 use Rattle.std.specs.List.{list_all, onto_first, before_first}
 use Rattle.stim_lexer.specs.Bytes.{is_line_feed, is_hash, is_blank, is_close_brace, is_empty, begins_with, after_blanks}
@@ -15,6 +15,7 @@ lines_of (b ∷ text) = if is_line_feed b then [] ∷ lines_of text else onto_fi
 abbrev pub content_of : List ℕ → List ℕ
 content_of line = after_blanks (before_first is_hash line)
 
+-- whether a line has nothing but blanks before its comment or its end
 unfoldable pub says_nothing : List ℕ → Bool
 says_nothing line = is_empty (content_of line)
 

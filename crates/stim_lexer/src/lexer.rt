@@ -9,14 +9,14 @@ use crate::scan::{any_special, first_line};
 use std::marker::Model;
 use step_model::{Cause, Fault};
 
-/// Reads a text line by line. It is seen as the lines that are left, and how many came before them.
+/// Reads a text line by line. Its value is the lines that are left, and how many came before them.
 #[derive(Drop)]
 pub struct Lexer<'a> {
     rest: &'a [u8],
     read: u64,
 }
 
-/// A line that says something: the whole line, what it says up to a comment, whether it has a special byte, and what
+/// A line that says something: the whole line, its content up to a comment, whether it has a special byte, and what
 /// follows it in the text.
 #[derive(Clone, Copy)]
 struct Found<'a> {

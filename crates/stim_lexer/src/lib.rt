@@ -1,5 +1,5 @@
 //! The lines of a circuit's text, one after another and cut into slices of it: name, arguments, targets and braces.
-//! Nothing is judged but bytes that may not stand in a text, and no memory is taken.
+//! Only bytes that may not stand in a text are refused here, and no memory is taken.
 #![tactic(auto)]
 
 mod lexer;

@@ -33,11 +33,11 @@ pub struct Line<'a> {
     pub name: &'a [u8],
     /// Whether a tag isn't closed before the line's end, or parentheses before a comment.
     pub stays_open: bool,
-    /// What stands in the parentheses; it is empty where there are none, too.
+    /// What stands in the parentheses. It is empty where there are none.
     pub arguments: &'a [u8],
-    /// What follows, up to a brace or a comment, with the blanks round it.
+    /// What follows, up to a brace or a comment, with the blanks around it.
     pub targets: &'a [u8],
-    /// Which braces stand where.
+    /// The line's braces.
     pub braces: Braces,
 }
 
@@ -60,7 +60,7 @@ pub(crate) fn content_of(line: &[u8], special: bool) -> &[u8]
     after_blanks(before_byte(line, b'#', !special))
 }
 
-/// Whether a line that says this closes a block.
+/// Whether a line with this content closes a block.
 pub(crate) fn is_closing(content: &[u8]) -> bool
     ensures { result ≡ (begins_with is_close_brace content.now && list_all is_blank (drop 1 content.now)) }
 {
@@ -99,7 +99,7 @@ fn is_opening(text: &[u8]) -> bool
     }
 }
 
-/// The braces of a line that closes a block or has this body, in which braces may be known to be nowhere.
+/// The braces of a line that closes a block, or that has this body. `nowhere` says that the body is known to have none.
 #[inline(always)]
 fn braces_in(closes: bool, body: &[u8], nowhere: bool) -> Braces
     requires { nowhere ≡ true → list_any is_brace body.now ≡ false }

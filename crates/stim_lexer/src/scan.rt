@@ -38,7 +38,7 @@ pub(crate) fn any_bad_byte(text: &[u8]) -> bool
         .any(|byte| !is_blank(*byte) && !(32..=126).contains(byte))
 }
 
-/// Whether a byte is none of those that most lines have.
+/// Whether a byte is one that most lines don't have.
 #[inline(always)]
 fn is_special(byte: u8) -> bool
     ensures { result ≡ is_special byte }
@@ -46,7 +46,7 @@ fn is_special(byte: u8) -> bool
     !(32..=122).contains(&byte) || byte == b'#'
 }
 
-/// Whether a line has a byte that most have none of. It is asked of each line, and looks at many bytes at once.
+/// Whether a line has a special byte. Each line is tested, many bytes at once.
 #[inline(always)]
 pub(crate) fn any_special(line: &[u8]) -> bool
     ensures { result ≡ list_any is_special line.now }
@@ -98,7 +98,7 @@ pub fn after_blanks(text: &[u8]) -> &[u8]
     text.split_at(place).1
 }
 
-/// A text up to the byte that ends a name, and from there on.
+/// The parts of a text before the byte that ends a name, and from there on.
 #[tactic(auto, using(crate::proofs::ScanLemmas::places))]
 pub(crate) fn cut_name(text: &[u8]) -> (&[u8], &[u8])
     ensures name { result.0.now ≡ before_first ends_name text.now }
@@ -108,7 +108,7 @@ pub(crate) fn cut_name(text: &[u8]) -> (&[u8], &[u8])
     text.split_at(place)
 }
 
-/// A text from its first brace on, which may be known to be nowhere in it.
+/// A text from its first brace on. `nowhere` says that it is known to have none.
 #[inline(always)]
 #[tactic(auto, using(crate::proofs::ScanLemmas::places))]
 pub(crate) fn from_brace(text: &[u8], nowhere: bool) -> &[u8]
@@ -122,7 +122,8 @@ pub(crate) fn from_brace(text: &[u8], nowhere: bool) -> &[u8]
     text.split_at(place).1
 }
 
-/// A text up to the first of a byte, and from there on. Where the byte is nowhere, all stands before it.
+/// The parts of a text before the first of this byte, and from there on. Where the byte isn't there, the first part is
+/// all.
 #[inline(always)]
 pub fn cut_at(text: &[u8], byte: u8) -> (&[u8], &[u8])
     ensures before { result.0.now ≡ before_first (λ b. b == byte) text.now }
@@ -132,7 +133,7 @@ pub fn cut_at(text: &[u8], byte: u8) -> (&[u8], &[u8])
     text.split_at(place_of(text, byte))
 }
 
-/// A text up to the first of a byte, which may be known to be nowhere in it.
+/// A text up to the first of this byte. `nowhere` says that it is known to have none.
 #[inline(always)]
 pub(crate) fn before_byte(text: &[u8], byte: u8, nowhere: bool) -> &[u8]
     requires { nowhere ≡ true → list_any (λ b. b == byte) text.now ≡ false }
@@ -144,8 +145,8 @@ pub(crate) fn before_byte(text: &[u8], byte: u8, nowhere: bool) -> &[u8]
     cut_at(text, byte).0
 }
 
-/// What stands before the first of a byte and what follows it, or all and nothing where the byte is nowhere; and whether it
-/// stands somewhere.
+/// What stands before the first of this byte, what follows it, and whether it is there. Where it isn't, everything
+/// stands before it.
 #[inline(always)]
 fn cut_round(text: &[u8], byte: u8) -> (&[u8], &[u8], bool)
     ensures before { result.0.now ≡ before_first (λ b. b == byte) text.now }
@@ -167,7 +168,7 @@ pub(crate) struct Bracketed<'a> {
     pub stays_open: bool,
 }
 
-/// Cuts a text that may begin with an opening byte, after blanks, at the first closing one.
+/// Cuts a text at the first closing byte, where it begins with an opening one after any blanks.
 pub(crate) fn cut_brackets(text: &[u8], opening: u8, closing: u8) -> Bracketed<'_>
     ensures inside { result.inside.now ≡ in_brackets (λ b. b == opening) (λ b. b == closing) text.now }
     ensures after { result.after.now ≡ after_brackets (λ b. b == opening) (λ b. b == closing) text.now }

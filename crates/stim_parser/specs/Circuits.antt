@@ -1,5 +1,6 @@
--- What a circuit's tree keeps: each instruction fits what its operation takes, each block has a turn, and no more blocks stand
--- inside one another than may. (Stim's circuit format; the limits are this project's.)
+-- What holds of a circuit's tree: each instruction has the arguments and targets that its operation takes, each block
+-- has at least one turn, and blocks are nested no deeper than the limit. (Stim's circuit format; the limits are this
+-- project's.)
 use Rattle.std.specs.Prelude.{⊤, ◌≡◌, ◌<◌, ◌≤◌, nat_le, ℕ, suc, max, Bool, false, true, not}
 use Rattle.std.specs.List.{list_all}
 use Rattle.step_model.specs.WellFormed.{is_I}
@@ -38,17 +39,19 @@ pub record Fits (i : Instruction) : Type 0 where
   pub operation_written : operation_is_written i.operation ≡ true
   pub targets_written : list_all target_is_written i.targets ≡ true
 
--- how deep blocks stand inside one another
+-- how deep blocks are nested
 abbrev pub depth : Tree → ℕ
 depth Nothing = 0
 depth (Then instruction rest) = depth rest
 depth (Block line turns body rest) = max (suc (depth body)) (depth rest)
 
+-- in a tree each instruction fits, and each block has a turn
 abbrev pub AllFit : Tree → Type 0
 AllFit Nothing = ⊤
 AllFit (Then instruction rest) = Fits instruction × AllFit rest
 AllFit (Block line turns body rest) = (0 < turns) × AllFit body × AllFit rest
 
+-- a tree that is a circuit
 pub record IsCircuit (tree : Tree) : Type 0 where
   pub fit : AllFit tree
   pub shallow : depth tree ≤ deepest

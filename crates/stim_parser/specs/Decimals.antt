@@ -1,5 +1,5 @@
--- A number text taken apart, in slices of it.
--- (Stim's circuit format, github.com/quantumlib/Stim, doc/file_format_stim_circuit.md; how it is kept is this project's own.)
+-- A number text taken apart, in slices of it. (Stim's circuit format, github.com/quantumlib/Stim,
+-- doc/file_format_stim_circuit.md; how it is kept is this project's own.)
 use Rattle.std.specs.Prelude.{◌≡◌, ℕ, ◌+◌, ◌<◌, ◌≤◌, true, ◌++◌, length}
 use Rattle.std.specs.Char.{is_ascii_digit}
 use Rattle.std.specs.List.{list_all}
@@ -15,7 +15,7 @@ decimal_in parts =
       exponent = parts.exponent;
     }
 
--- the parts of a text of so many bytes: digits, of which there are no more than bytes, and a small exponent
+-- the parts of a text of this many bytes: digits, of which there are no more than bytes, and a small exponent
 pub record IsOfText (bytes : ℕ) (parts : Parts) : Type 0 where
   pub whole : list_all is_ascii_digit parts.whole.now ≡ true
   pub fraction : list_all is_ascii_digit parts.fraction.now ≡ true

@@ -1,7 +1,7 @@
 -- The instructions of a circuit: their names, and for each which arguments and which targets it takes. Names are
--- compared without regard to case. Some names of the format are known and left out of this profile.
--- (Stim's gate reference, github.com/quantumlib/Stim, doc/gates.md: the titles, "Alternate name", "Parens Arguments" and
--- "Targets"; which names are left out is this project's choice.)
+-- compared without regard to case. Some names of the format are known and left out of this profile. (Stim's gate
+-- reference, github.com/quantumlib/Stim, doc/gates.md: the titles, "Alternate name", "Parens Arguments" and "Targets";
+-- which names are left out is this project's choice.)
 use Rattle.std.specs.Prelude.{ℕ, ◌==◌, Bool, if◌then◌else◌, List, [], ◌∷◌, Option, codes, find, option_map}
 use Rattle.std.specs.Borrow.{Bor}
 use Rattle.std.specs.Str.{str_eq_ignore_ascii_case}
@@ -105,8 +105,8 @@ other_named name = named_in other_names name
 unfoldable pub keyword_named : List ℕ → Option Keyword
 keyword_named name = option_or (option_map (λ g. Does (Applies g)) (gate_named name)) (other_named name)
 
--- the names that are known and left out: several exclusive errors in one instruction, errors that depend on others, and
--- further gates and measurements
+-- the names of Stim's format that this profile leaves out: instructions of several exclusive errors, errors that depend
+-- on others, and further gates and measurements
 abbrev pub left_out_names : List (List ℕ)
 left_out_names =
     codes "DEPOLARIZE1"

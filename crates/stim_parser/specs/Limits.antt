@@ -1,6 +1,6 @@
--- What an instruction or the start of a block asks of its arguments and of its targets. Each question has an answer by
--- itself; in which order they are asked is said apart. An instruction fits where no question finds anything wrong.
--- (Stim's circuit format, github.com/quantumlib/Stim, doc/file_format_stim_circuit.md, "Instruction Types", and doc/gates.md;
+-- What is asked of the arguments and of the targets of an instruction or of the start of a block. Each question has an
+-- answer by itself; their order is said elsewhere. An instruction fits where no question finds anything wrong. (Stim's
+-- circuit format, github.com/quantumlib/Stim, doc/file_format_stim_circuit.md, "Instruction Types", and doc/gates.md;
 -- the limits are this project's.)
 use Rattle.std.specs.Prelude.{ℕ, ◌==◌, ◌%◌, nat_lt, Bool, true, false, not, ◌&&◌, ◌||◌, List, [], ◌∷◌, length, is_some}
 use Rattle.std.specs.List.{list_any, list_all}
@@ -28,7 +28,7 @@ is_wrong_count OneNumber n = not (n == 1)
 abbrev pub is_decimal : List ℕ → Bool
 is_decimal text = is_some (decimal_of (without_minus text))
 
--- an argument of the form asked; a probability's form is asked later, and here only that it isn't empty
+-- an argument of the form that is asked; of a probability it is asked here only that it isn't empty, and its form later
 abbrev pub is_argument : ArgumentForm → List ℕ → Bool
 is_argument WholeNumbers text = is_whole_number text
 is_argument Decimals text = is_decimal text
@@ -83,8 +83,8 @@ abbrev pub is_pauli : Target → Bool
 is_pauli (Pauli inverted l q) = not inverted
 is_pauli target = false
 
--- pairs from the left, of which the first of each may be a record; where a second one isn't there, the first is asked
--- alone
+-- pairs from the left, of which the first of each may be a record; a last target without a second is judged as the
+-- first of a pair
 abbrev pub are_pairs_record_first : List Target → Bool
 are_pairs_record_first [] = true
 are_pairs_record_first (a ∷ []) = is_plain_or_back a
@@ -155,7 +155,7 @@ has_target_beyond form targets = list_any (is_target_beyond form) targets
 abbrev pub is_odd : ℕ → Bool
 is_odd n = n % 2 == 1
 
--- a number of targets that an instruction doesn't take; one that takes none is asked apart
+-- a number of targets that an instruction doesn't take; those that take none are judged elsewhere
 unfoldable pub has_wrong_count : TargetForm → List Target → Bool
 has_wrong_count QubitPairs targets = is_odd (length targets)
 has_wrong_count PairsRecordFirst targets = is_odd (length targets)
@@ -179,7 +179,7 @@ abbrev pub is_factor_at : ℕ → Target → Bool
 is_factor_at q (Pauli inverted l p) = q == p
 is_factor_at q target = false
 
--- a product that goes on behind a factor, by a star and a factor each time, names this qubit
+-- what follows a factor in its product, a star and a factor each time, names this qubit
 abbrev pub goes_on_with : ℕ → List Target → Bool
 goes_on_with q [] = false
 goes_on_with q (a ∷ []) = false

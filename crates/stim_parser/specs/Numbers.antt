@@ -1,7 +1,7 @@
--- Numbers in a circuit's text. A number is digits, with zeros in front at will; a whole number is digits with an
--- optional `-` before them. Each number has a limit: numbers of qubits a smaller one than others, and so have the
--- coordinates of detectors. All numbers from 10^18 on are taken as one, which is beyond every limit.
--- (Stim's circuit format, github.com/quantumlib/Stim, doc/file_format_stim_circuit.md; the limits are this project's.)
+-- Numbers in a circuit's text. A number is digits, and may have zeros in front; a whole number is digits with an
+-- optional `-` before them. Each number has a limit; that of qubits is smaller than most, and so is that of
+-- coordinates. All numbers from 10^18 on are taken as one, which is beyond every limit. (Stim's circuit format,
+-- github.com/quantumlib/Stim, doc/file_format_stim_circuit.md; the limits are this project's.)
 use Rattle.std.specs.Prelude.{ℕ, ◌==◌, nat_lt, Bool, false, not, ◌&&◌, if◌then◌else◌, ℤ, pos, neg_ℤ, List, [], ◌∷◌, Option, None, Some, min}
 use Rattle.std.specs.Char.{is_ascii_digit}
 use Rattle.std.specs.List.{list_all}
@@ -16,7 +16,7 @@ is_number text = not (is_empty text) && list_all is_ascii_digit text
 abbrev pub beyond_all : ℕ
 beyond_all = 1_000_000_000_000_000_000
 
--- the number that digits write, as far as limits tell numbers apart
+-- the number that digits write; all from 10^18 on are taken as one
 abbrev pub value_of : List ℕ → ℕ
 value_of digits = min (digits_value digits) beyond_all
 
@@ -35,7 +35,7 @@ has_minus (b ∷ text) = b == 45
 abbrev pub is_whole_number : List ℕ → Bool
 is_whole_number text = is_number (without_minus text)
 
--- what a whole number counts, without its sign and with it
+-- the value of a whole number, without its sign and with it
 abbrev pub magnitude_of : List ℕ → ℕ
 magnitude_of text = value_of (without_minus text)
 

@@ -12,10 +12,12 @@ is_star b = b == 42
 abbrev pub ends_piece : ℕ → Bool
 ends_piece b = is_blank b || is_star b
 
+-- whether a piece ends before this text
 abbrev pub ends_here : List ℕ → Bool
 ends_here [] = true
 ends_here (b ∷ text) = ends_piece b
 
+-- the pieces of a text
 unfoldable pub pieces_of : List ℕ → List (List ℕ)
 pieces_of [] = []
 pieces_of (b ∷ text) =

@@ -1,7 +1,6 @@
--- Products whose qubits are told from a set: what is said of one qubit, that a product names it again, is said here of
--- any qubit of a set.
--- (Stim's circuit format, github.com/quantumlib/Stim, doc/file_format_stim_circuit.md, "Target Types"; a set is this
--- project's own way of asking.)
+-- Products beside a set of qubits: whether a product names some qubit of the set, as for one qubit whether a product
+-- names it again. (Stim's circuit format, github.com/quantumlib/Stim, doc/file_format_stim_circuit.md, "Target Types";
+-- a set is this project's own way of asking.)
 use Rattle.std.specs.Prelude.{ℕ, Bool, false, ◌&&◌, ◌||◌, List, [], ◌∷◌}
 use Rattle.stim_parser.specs.declared.target.Target.{Target}
 use Rattle.stim_parser.specs.declared.target.Target.TheVariants.{Pauli}
@@ -12,7 +11,7 @@ abbrev pub is_factor_within : (ℕ → Bool) → Target → Bool
 is_factor_within has (Pauli inverted l q) = has q
 is_factor_within has target = false
 
--- a product that goes on behind a factor, by a star and a factor each time, names a qubit of the set
+-- what follows a factor in its product, a star and a factor each time, names a qubit of the set
 abbrev pub goes_on_within : (ℕ → Bool) → List Target → Bool
 goes_on_within has [] = false
 goes_on_within has (a ∷ []) = false

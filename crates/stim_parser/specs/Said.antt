@@ -1,5 +1,5 @@
--- What a reader hands out of a cut line: the targets of an instruction stand apart from the rest, and its arguments are still
--- the text in its parentheses. The questions that refuse a line are told apart here by what they are asked of.
+-- What a reader answers for a cut line: the targets of an instruction are apart from the rest, and its arguments are
+-- still the text in its parentheses. The questions that refuse a line are grouped here by what they are asked of.
 -- (Stim's circuit format, github.com/quantumlib/Stim, doc/file_format_stim_circuit.md; the causes and their order are
 -- this project's.)
 use Rattle.std.specs.Prelude.{◌≡◌, ℕ, Bool, true, false, ◌||◌, List, [], ◌∷◌, map, find, Option, option_map}
@@ -17,7 +17,7 @@ use Rattle.stim_parser.specs.Instructions.{argument_form, target_form}
 use Rattle.stim_parser.specs.Limits.{takes_probability, has_wrong_arguments, has_wrong_probability, has_argument_beyond, has_target_beyond, has_same_qubit}
 use Rattle.stim_parser.specs.Verdicts.{Reading, Takes, Opens, Closes, Refuses, read_targets, has_wrong_number, repeats_zero_times, opens_too_deep}
 
--- what a line of a number says, with the targets that were read of it
+-- what the line of this number says, with the targets that were read from it
 abbrev pub reading_in : ℕ → Said → List Target → Reading
 reading_in line (said.Takes operation arguments) targets =
     Takes
@@ -31,7 +31,7 @@ reading_in line (said.Opens turns) targets = Opens turns
 reading_in line said.Closes targets = Closes
 reading_in line (said.Refuses c) targets = Refuses c
 
--- texts that are lent
+-- borrowed texts
 abbrev pub texts_of : List (Bor (List ℕ)) → List (List ℕ)
 texts_of lent = map (λ text. text.now) lent
 
@@ -48,12 +48,12 @@ refusals_of_arguments form cut =
     ∷ (has_wrong_probability form (arguments_in cut.arguments), cause.Probability)
     ∷ []
 
--- of these arguments probabilities are asked, and nothing is wrong with them
+-- these arguments have to be probabilities, and nothing is wrong with them
 abbrev pub AreProbabilities : ArgumentForm → List (List ℕ) → Type 0
 AreProbabilities form arguments =
     (takes_probability form ≡ true) × (has_wrong_arguments form arguments ≡ false) × (has_wrong_probability form arguments ≡ false)
 
--- the questions of numbers, and of how many targets there are, where each target is of its form
+-- the questions of numbers, and of how many targets there are, which are asked where each target is of its form
 abbrev pub refusals_of_amounts : ℕ → Keyword → Cut → List (Bool × Cause)
 refusals_of_amounts depth keyword cut =
     let arguments = argument_form keyword in

@@ -1,7 +1,7 @@
 -- The targets of an instruction, as they are written. A qubit is a number (`5`, `005`); an inverted one is `!` and a
 -- number; a record is `rec[-k]`, k a number and at least 1: the kth last record; a Pauli target is one of `X Y Z x y z`
 -- and a number, and may have a `!` before it. A `*` joins the Pauli targets beside it into one product. Targets stand
--- between blanks, and blanks round a `*` are left out at will.
+-- between blanks; those around a `*` may be left out.
 -- (Stim's circuit format, github.com/quantumlib/Stim, doc/file_format_stim_circuit.md, "Target Types".)
 use Rattle.std.specs.Prelude.{ℕ, ◌==◌, ◌-◌, nat_le, Bool, true, false, ◌&&◌, ◌||◌, if◌then◌else◌, List, [], ◌∷◌, length, take, drop, Option, None, Some, option_map, option_and_then, codes, bytes_eq, slice_index, slice_range}
 use Rattle.std.specs.Option.{option_or}
@@ -13,7 +13,7 @@ use Rattle.stim_parser.specs.declared.target.Target.TheVariants.{Plain, Inverted
 use Rattle.stim_parser.specs.Numbers.{number_of}
 use Rattle.stim_parser.specs.Pieces.{is_star, pieces_of}
 
--- what a function gives of each element, where it gives something of all
+-- what a function gives for each element, where it gives something for all
 abbrev pub each_of : {X Y : Type 0} → (X → Option Y) → List X → Option (List Y)
 each_of f [] = Some []
 each_of f (x ∷ xs) = option_and_then (λ y. option_map (λ ys. y ∷ ys) (each_of f xs)) (f x)
@@ -55,7 +55,7 @@ pauli_of inverted (b ∷ digits) = option_and_then (λ l. option_map (Pauli inve
 abbrev pub inverted_of : List ℕ → Option Target
 inverted_of text = option_or (option_map Inverted (number_of text)) (pauli_of true text)
 
--- a target that is told by its first byte
+-- a target that is known by its first byte
 abbrev pub marked_of : List ℕ → Option Target
 marked_of [] = None
 marked_of (b ∷ text) =

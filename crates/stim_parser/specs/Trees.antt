@@ -1,6 +1,6 @@
--- The circuit that a text writes, as a tree: instructions, and blocks with their turns and what stands in them. A tree
--- and its text say the same items in the same order, and so no two trees have one text.
--- (Stim's circuit format, github.com/quantumlib/Stim, doc/file_format_stim_circuit.md, "REPEAT blocks".)
+-- The circuit that a text writes, as a tree: instructions, and blocks with the number of their turns and what stands in
+-- them. A tree and its text say the same items in the same order, and so no two trees have one text. (Stim's circuit
+-- format, github.com/quantumlib/Stim, doc/file_format_stim_circuit.md, "REPEAT blocks".)
 use Rattle.std.specs.Prelude.{◌≡◌, ℕ, List, [], ◌∷◌, ◌++◌, Ok, Err}
 use Rattle.step_model.specs.declared.fault.Fault.{Fault}
 use Rattle.stim_parser.specs.Verdicts.{Instruction}

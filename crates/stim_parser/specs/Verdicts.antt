@@ -1,5 +1,5 @@
--- What a cut line says where so many blocks are open, or why it is refused. A line of `}` alone closes a block. Any other is
--- asked these questions in their order, and the first that applies is its refusal:
+-- What a cut line says where `depth` blocks are open, or why it is refused. A line of `}` alone closes a block. Any
+-- other is asked these questions in their order, and the first that applies is its refusal:
 --     Block: `}` alone with no open block; a line of REPEAT whose one brace isn't a `{` at its end; any other brace.
 --     Name: the name is empty or unknown.
 --     LeftOut: the name is known and left out.
@@ -91,6 +91,7 @@ opens_too_deep depth form = opens_block form && nat_le deepest depth
 
 -- ---- the questions in their order
 
+-- the questions of a line with this keyword, of one with a keyword or none, and of any line
 abbrev pub refusals_of_keyword : ℕ → Keyword → Cut → List (Bool × Cause)
 refusals_of_keyword depth keyword cut =
     let arguments = argument_form keyword in
@@ -114,7 +115,7 @@ refusals depth cut =
     (misplaces_brace (keyword_named cut.name) cut.braces, cause.Block)
     ∷ refusals_of_name depth (keyword_named cut.name) cut
 
--- the refusal of a line where so many blocks are open
+-- the refusal of a line where `depth` blocks are open
 unfoldable pub refusal_of : ℕ → Cut → Option Cause
 refusal_of depth cut = option_map (λ asked. asked.1) (find (λ asked. asked.0) (refusals depth cut))
 
@@ -127,7 +128,7 @@ pub record Instruction : Type 0 where
   pub arguments : List (List ℕ)
   pub targets : List Target
 
--- an instruction; the start of a block of so many turns; the end of a block; or a refusal
+-- an instruction; the start of a block of this many turns; the end of a block; or a refusal
 pub data Reading : Type 0 where
   Takes : Instruction → Reading
   Opens : ℕ → Reading
@@ -158,10 +159,11 @@ closed_at depth = if depth == 0 then Refuses cause.Block else Closes
 unfoldable pub judged : ℕ → ℕ → Cut → Reading
 judged depth number cut = unless_refused (refusal_of depth cut) (accepted number (keyword_named cut.name) cut)
 
--- what a cut line of a number says where so many blocks are open
+-- what the cut line of this number says where `depth` blocks are open
 abbrev pub said_by : Braces → ℕ → ℕ → Cut → Reading
 said_by ClosingAlone depth number cut = closed_at depth
 said_by braces depth number cut = judged depth number cut
 
+-- what a cut line says
 unfoldable pub reading_of : ℕ → ℕ → Cut → Reading
 reading_of depth number cut = said_by cut.braces depth number cut

@@ -9,7 +9,7 @@ use crate::forms::ArgumentForm;
 use crate::last::LastProbability;
 use crate::numbers::{is_coordinate_beyond, is_decimal, is_number_beyond, is_whole_number};
 
-/// Whether a form has another number of arguments.
+/// Whether this is a number of arguments that the form doesn't take.
 fn is_wrong_count(form: ArgumentForm, count: usize) -> bool
     ensures { result ≡ is_wrong_count form count }
 {
@@ -21,7 +21,7 @@ fn is_wrong_count(form: ArgumentForm, count: usize) -> bool
     }
 }
 
-/// Whether an argument is of a form. Of a probability no more is asked here than that it isn't empty.
+/// Whether an argument is of a form. Of a probability it is only asked here that it isn't empty.
 fn is_argument(form: ArgumentForm, text: &[u8]) -> bool
     ensures { result ≡ is_argument form text.now }
 {
@@ -42,7 +42,7 @@ fn are_arguments(form: ArgumentForm, arguments: &[&[u8]]) -> bool
         .all(|argument| is_argument(form, *argument))
 }
 
-/// Whether arguments are of another number or another form.
+/// Whether the arguments are of a wrong number or of a wrong form.
 pub fn has_wrong_arguments(form: ArgumentForm, arguments: &[&[u8]]) -> bool
     ensures { result ≡ has_wrong_arguments form (texts_of arguments.now) }
 {
@@ -71,7 +71,7 @@ fn are_probabilities<'a>(last: &mut LastProbability<'a>, arguments: &[&'a [u8]])
     true
 }
 
-/// Whether an argument is to be a probability and isn't one that is accepted.
+/// Whether an argument has to be a probability and isn't an accepted one.
 pub fn has_wrong_probability<'a>(
     last: &mut LastProbability<'a>,
     form: ArgumentForm,

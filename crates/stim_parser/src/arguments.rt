@@ -9,7 +9,7 @@ use stim_lexer::{after_blanks, cut_at, is_blank};
 /// How many arguments an instruction takes at most.
 pub const MOST_ARGUMENTS: usize = 16;
 
-/// A text without the blanks behind.
+/// A text without the blanks at its end.
 fn before_blanks(text: &[u8]) -> &[u8]
     ensures { result.now ≡ before_blanks text.now }
 {
@@ -43,7 +43,7 @@ fn cut_at_comma(text: &[u8]) -> (&[u8], Option<&[u8]>)
     }
 }
 
-/// The arguments that stand in parentheses, where there are no more than an instruction takes.
+/// The arguments in the text of some parentheses, where there are no more than an instruction takes at most.
 #[inline(always)]
 pub fn read_arguments(text: &[u8]) -> Option<ArrayVec<&[u8], MOST_ARGUMENTS>>
     ensures { MatchOption result (MOST_ARGUMENTS < length (arguments_in text.now))
@@ -65,7 +65,7 @@ pub fn read_arguments(text: &[u8]) -> Option<ArrayVec<&[u8], MOST_ARGUMENTS>>
     Some(found)
 }
 
-/// The first argument that stands in parentheses. Others are not cut.
+/// The first argument in the text of some parentheses. Others are not cut.
 pub fn first_argument(text: &[u8]) -> Option<&[u8]>
     ensures { option_map (λ argument. argument.now) result ≡ slice_get (arguments_in text.now) 0 }
 {
@@ -75,7 +75,7 @@ pub fn first_argument(text: &[u8]) -> Option<&[u8]>
     Some(trimmed(cut_at_comma(text).0))
 }
 
-/// Whether an argument stands in parentheses.
+/// Whether there is an argument in the text of some parentheses.
 #[inline(always)]
 pub(crate) fn has_argument(text: &[u8]) -> bool
     ensures { result ≡ is_some (slice_get (arguments_in text.now) 0) }

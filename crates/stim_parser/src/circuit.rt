@@ -69,7 +69,8 @@ impl<'a, A: Allocator + Copy> Circuit<'a, A> {
         self.items.get(i)
     }
 
-    /// Does nothing: each instruction of a circuit fits, and its blocks have turns and do not stand too deep.
+    /// Does nothing. Its contract says that each instruction of a circuit has the arguments and targets that its
+    /// operation takes, that each block has a turn, and that blocks are not nested too deep.
     #[inline(always)]
     pub fn fits(&self)
         ensures { IsCircuit self.now }

@@ -14,7 +14,7 @@ fn has_minus(text: &[u8]) -> bool
     matches!(text, [b'-', ..])
 }
 
-/// What a whole number counts, with its sign.
+/// The value of a whole number, with its sign.
 fn whole_value(text: &[u8]) -> i64
     ensures { result ≡ whole_value text.now }
 {
@@ -40,7 +40,7 @@ pub(crate) fn are_coordinates(texts: &[&[u8]]) -> bool
     texts.iter().all(|text| is_coordinate(*text))
 }
 
-/// What each whole number counts, in their order.
+/// The value of each whole number, in their order.
 pub fn whole_values(texts: &[&[u8]]) -> ArrayVec<i64, MOST_ARGUMENTS>
     requires { length texts.now ≤ MOST_ARGUMENTS }
     ensures { result.items ≡ map (λ text. whole_value text.now) texts.now }

@@ -7,7 +7,7 @@ ghost use Rattle.stim_parser.specs.Numbers.{is_number, number_of, value_of};
 /// The least number that is beyond every limit.
 pub(crate) const BEYOND_ALL: u64 = 1_000_000_000_000_000_000;
 
-/// How many digits write no number that is beyond every limit.
+/// A number of at most this many digits isn't beyond every limit.
 const SHORT_DIGITS: usize = 18;
 
 /// The number that digits write, or the one beyond every limit where it is greater.
@@ -52,7 +52,7 @@ pub fn number_of(text: &[u8]) -> Option<u64>
     }
 }
 
-/// The same of a text that is too short for a number beyond every limit.
+/// The same for a text that is too short for a number beyond every limit.
 #[inline(always)]
 fn short_number_of(text: &[u8]) -> Option<u64>
     requires some { 0 < length text.now }
@@ -69,7 +69,7 @@ fn short_number_of(text: &[u8]) -> Option<u64>
     Some(value)
 }
 
-/// The same of any text.
+/// The same for any text.
 fn long_number_of(text: &[u8]) -> Option<u64>
     ensures { result ≡ number_of text.now }
 {

@@ -13,7 +13,7 @@ pub enum ArgumentForm {
     OneProbability,
     /// Up to 16 of them.
     WholeNumbers,
-    /// Up to 16 of them, with points and exponents at will.
+    /// Up to 16 of them, with or without points and exponents.
     Decimals,
     /// One number in digits.
     OneNumber,

@@ -5,8 +5,7 @@ use std::marker::Model;
 /// One more than the greatest half.
 const HALF: u64 = 0x1_0000_0000;
 
-/// A number of 64 bits in two halves. What keeps one needs the alignment of a half alone, so fewer bytes lie unused
-/// between it and what stands beside it.
+/// A number of 64 bits in two halves. It needs only the alignment of a half, so types that have one need less padding.
 #[derive(Clone, Copy, Debug, PartialEq, Eq)]
 pub struct Number {
     high: u32,

@@ -15,14 +15,13 @@ use arrayvec::ArrayVec;
 pub struct Instruction<'c, 'a> {
     pub line: u64,
     pub operation: Operation,
-    /// Empty where there are no parentheses, too.
+    /// Empty where there are no parentheses.
     pub arguments: &'a [u8],
     pub targets: &'c [Target],
 }
 
 impl<'c, 'a> Instruction<'c, 'a> {
-    /// The text of the first argument, as it stands between the blanks round it. There is none where there are no
-    /// arguments.
+    /// The text of the first argument, without the blanks around it. There is none where there are no arguments.
     pub fn first_argument(&self) -> Option<&'a [u8]>
         ensures { option_map (λ argument. argument.now) result ≡ slice_get (arguments_in self.now.arguments.now) 0 }
     {
@@ -37,14 +36,14 @@ impl<'c, 'a> Instruction<'c, 'a> {
         has_argument(self.arguments)
     }
 
-    /// The number that the first argument writes, where it is digits. All numbers from 10^18 on are one.
+    /// The number that the first argument writes, where it is digits. All numbers from 10^18 on are taken as one.
     pub fn number(&self) -> Option<u64>
         ensures { result ≡ first_number (arguments_in self.now.arguments.now) }
     {
         number_of(self.first_argument()?)
     }
 
-    /// All arguments as coordinates, where they are: at most 16 whole numbers within the limit.
+    /// All arguments as coordinates, where they are at most 16 whole numbers within the limit.
     pub fn coordinates(&self) -> Option<ArrayVec<i64, MOST_ARGUMENTS>>
         ensures { option_map (λ found. found.items) result ≡ coordinates_in (arguments_in self.now.arguments.now) }
     {

@@ -23,7 +23,7 @@ use stim_lexer::{Braces, Line, after_blanks};
 /// How many blocks may stand inside one another.
 pub(crate) const DEEPEST: usize = 32;
 
-/// What a line says; the targets of what it takes stand apart.
+/// What a line says; the targets of an instruction are kept apart.
 #[derive(Clone, Copy)]
 pub(crate) enum Said<'a> {
     /// An instruction, and what stands in its parentheses.
@@ -31,14 +31,14 @@ pub(crate) enum Said<'a> {
         operation: Operation,
         arguments: &'a [u8],
     },
-    /// The start of a block of so many turns.
+    /// The start of a block of this many turns.
     Opens(u64),
     /// The end of a block.
     Closes,
     Refuses(Cause),
 }
 
-/// Whether the braces of a line stand otherwise than its keyword asks.
+/// Whether the braces of a line aren't those that its keyword asks for.
 fn misplaces_brace(keyword: Option<Keyword>, braces: Braces) -> bool
     ensures { result ≡ misplaces_brace keyword braces }
 {
@@ -67,7 +67,7 @@ impl<'a> Last<'a> {
     }
 }
 
-/// The keyword of a line that doesn't close a block, where its braces stand as that asks.
+/// The keyword of a line that doesn't close a block, where its braces are those that the keyword asks for.
 fn keyword_of<'a>(last: &mut LastName<'a>, line: Line<'a>) -> Result<Keyword, Cause>
     ensures { MatchResult result
         (λ keyword. (keyword_named line.entry.name.now ≡ Some keyword) × (misplaces_brace (Some keyword) line.entry.braces ≡ false))
@@ -96,7 +96,8 @@ fn takes_no_arguments(form: ArgumentForm) -> bool
     matches!(form, ArgumentForm::NoArguments)
 }
 
-/// Whether an argument of a line is beyond its limit, where they are of the number and the form that its keyword takes.
+/// Whether an argument of a line is beyond its limit, where they are of the number and the form that its keyword takes;
+/// otherwise the refusal.
 #[inline(always)]
 fn arguments_of<'a>(last: &mut Last<'a>, form: ArgumentForm, line: Line<'a>) -> Result<bool, Cause>
     ensures { MatchResult result
@@ -115,7 +116,7 @@ fn arguments_of<'a>(last: &mut Last<'a>, form: ArgumentForm, line: Line<'a>) -> 
     closed_arguments_of(last, form, line)
 }
 
-/// The same of a line on which no tag and no parentheses stay open.
+/// The same for a line on which no tag and no parentheses stay open.
 #[inline(never)]
 fn closed_arguments_of<'a>(
     last: &mut Last<'a>,
@@ -146,8 +147,8 @@ fn takes_none(form: TargetForm) -> bool
     matches!(form, TargetForm::NoTargets)
 }
 
-/// Puts the targets of a line in place of those that were there. Answers whether each can be read and is of the form
-/// asked. Where none is taken none is read.
+/// Puts the targets of a line into `targets`, in place of what it held, and answers whether each can be read and is of
+/// this form. For a form without targets none is read.
 fn read_line_targets<A: Allocator + Copy>(
     targets: &mut Vec<Target, A>,
     form: TargetForm,
@@ -190,7 +191,8 @@ fn turns_of(targets: &[Target]) -> u64
     }
 }
 
-/// The refusal of a line whose arguments and targets are of their forms, where an argument is beyond its limit or none.
+/// The refusal of a line whose arguments and targets are of their forms. `beyond` says whether an argument is beyond
+/// its limit.
 fn refusal_of_amounts(
     depth: usize,
     keyword: Keyword,
@@ -221,8 +223,8 @@ fn refusal_of_amounts(
     None
 }
 
-/// The refusal of a line with a keyword, where so many blocks are open. Where there is none its targets are in place of
-/// those that were there.
+/// The refusal of a line with this keyword, where `depth` blocks are open. Where there is none, `targets` has the
+/// line's targets then.
 fn refusal_of<'a, A: Allocator + Copy>(
     last: &mut Last<'a>,
     targets: &mut Vec<Target, A>,
@@ -257,7 +259,7 @@ fn accepted<'a>(keyword: Keyword, line: Line<'a>, targets: &[Target]) -> Said<'a
     }
 }
 
-/// What a line says that closes a block, where so many are open.
+/// What a line of `}` alone says, where `depth` blocks are open.
 fn closed_at<'a>(depth: usize) -> Said<'a>
     ensures { (number : ℕ) (targets : List Target) → reading_in number result targets ≡ closed_at depth }
 {
@@ -287,8 +289,8 @@ fn judged<'a, A: Allocator + Copy>(
     }
 }
 
-/// Reads a cut line where so many blocks are open, and puts its targets in place of those that were there. Where it is
-/// no instruction that is taken, what stands in their place is not said.
+/// Reads a cut line where `depth` blocks are open, and puts its targets into `targets`, in place of what it held. Where
+/// the line is no accepted instruction, nothing is promised of `targets`.
 #[tactic(auto, unfolding(crate::specs::Verdicts::reading_of))]
 pub(crate) fn read_line<'a, A: Allocator + Copy>(
     last: &mut Last<'a>,

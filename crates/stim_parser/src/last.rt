@@ -82,7 +82,7 @@ impl<'a> LastProbability<'a> {
     }
 }
 
-/// What stood between the parentheses of the last line with probabilities that are right, and the form that was asked of it.
+/// What stood between the parentheses of the last line with accepted probabilities, and the form that was asked of it.
 #[derive(Clone, Copy)]
 pub struct LastParentheses<'a> {
     form: ArgumentForm,
@@ -99,7 +99,7 @@ impl<'a> LastParentheses<'a> {
         }
     }
 
-    /// Whether a text is the one of the last line, with the same form asked. If it is another, nothing is said.
+    /// Whether a text is that of the last line, and the same form is asked of it. False says nothing about the text.
     #[inline(always)]
     pub fn are(&self, form: ArgumentForm, text: &[u8]) -> bool
         ensures { result ≡ true → AreProbabilities form (arguments_in text.now) }
@@ -107,7 +107,7 @@ impl<'a> LastParentheses<'a> {
         self.form == form && self.text == text
     }
 
-    /// Keeps those of a line of which nothing is wrong, where they are probabilities.
+    /// Keeps the arguments of a line with which nothing is wrong, where they are probabilities.
     pub fn keep(&mut self, form: ArgumentForm, text: &'a [u8])
         requires arguments { has_wrong_arguments form (arguments_in text.now) ≡ false }
         requires probability { has_wrong_probability form (arguments_in text.now) ≡ false }

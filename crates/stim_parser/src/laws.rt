@@ -13,12 +13,13 @@ pub fn texts_are_judged_once()
     ensures not_both { (text : List ℕ) (t : Tree) (f : Fault) → Writes text t → IsRefusedBy text f → ⊥ }
 {}
 
-/// The instructions of a tree that a text writes fit, and its blocks have turns and do not stand too deep.
+/// In a tree that a text writes, each instruction has the arguments and targets that its operation takes, each block
+/// has a turn, and blocks are not nested too deep.
 pub fn texts_write_circuits()
     ensures { (text : List ℕ) (tree : Tree) → Writes text tree → IsCircuit tree }
 {}
 
-/// Two trees say the same items only where they are one tree.
+/// Two trees with the same items are the same.
 pub fn trees_are_told_apart()
     ensures { (t u : Tree) → items_of t ≡ items_of u → t ≡ u }
 {}

@@ -5,7 +5,7 @@ use crate::operation::{Keyword, Operation};
 use gate_table::Gate;
 use pauli_word::Letter;
 
-/// Each name that is no gate's, in capitals, and what it says.
+/// Each name that is no gate's, in capitals, and its keyword.
 static OTHER_NAMES: [(&'static [u8], Keyword); 24] = [
     (b"M", Keyword::Does(Operation::Measures(Letter::Z))),
     (b"MZ", Keyword::Does(Operation::Measures(Letter::Z))),

@@ -24,21 +24,21 @@ fn without_minus(text: &[u8]) -> &[u8]
     }
 }
 
-/// Whether a text is digits, with a `-` in front at will.
+/// Whether a text is digits, with or without a `-` in front.
 pub(crate) fn is_whole_number(text: &[u8]) -> bool
     ensures { result ≡ is_whole_number text.now }
 {
     is_number(without_minus(text))
 }
 
-/// Whether a text is a number text, with a `-` in front at will.
+/// Whether a text is a number, perhaps with a point and an exponent, and with or without a `-` in front.
 pub(crate) fn is_decimal(text: &[u8]) -> bool
     ensures { result ≡ is_decimal text.now }
 {
     decimal_of(without_minus(text)).is_some()
 }
 
-/// What a whole number counts without its sign.
+/// The value of a whole number without its sign.
 pub fn magnitude_of(text: &[u8]) -> u64
     ensures { result ≡ magnitude_of text.now }
 {

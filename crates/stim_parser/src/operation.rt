@@ -6,25 +6,25 @@ use pauli_word::Letter;
 pub enum Operation {
     /// Applies a gate.
     Applies(Gate),
-    /// Measures a letter of each target.
+    /// Measures this letter at each target.
     Measures(Letter),
-    /// Resets each target, as the collapse of a letter leaves it.
+    /// Resets each target to the +1 eigenstate of this letter.
     Resets(Letter),
-    /// Measures a letter of each target and resets the target.
+    /// Measures this letter at each target and then resets the target to the letter's +1 eigenstate.
     MeasuresAndResets(Letter),
     /// Measures products of letters.
     MeasuresProducts,
-    /// Is one fault a target, of this letter.
+    /// Makes one fault for each target, of this letter.
     Errs(Letter),
-    /// Is one fault, the product of its targets.
+    /// Makes one fault, which applies the product of its targets.
     ErrsTogether,
     /// Declares a detector.
     Detects,
     /// Adds records to an observable.
     Observes,
-    /// Says nothing of what is done.
+    /// Marks the time, and does nothing.
     Ticks,
-    /// Places qubits in space.
+    /// States the coordinates of qubits, and does nothing.
     PlacesQubits,
     /// Shifts the coordinates of later detectors.
     ShiftsCoordinates,

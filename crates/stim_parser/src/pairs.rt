@@ -24,8 +24,8 @@ fn is_plain_or_back(target: Target) -> bool
     matches!(target, Target::Plain(_) | Target::Back(_))
 }
 
-/// Whether targets are pairs from the left, of which the first of each may be a record. A last one without a second is
-/// asked alone.
+/// Whether targets are pairs from the left, of which the first of each may be a record. A last target without a second
+/// is judged as the first of a pair.
 pub(crate) fn are_pairs_record_first(targets: &[Target]) -> bool
     ensures { result ≡ are_pairs_record_first targets.now }
 {
@@ -49,8 +49,8 @@ fn is_pair_of_one_record(first: Target, second: Target) -> bool
     is_plain_or_back(first) && is_plain_or_back(second) && !(is_back(first) && is_back(second))
 }
 
-/// Whether targets are pairs from the left, of which either one may be a record, and not both. A last one without a
-/// second is asked alone.
+/// Whether targets are pairs from the left, of which either one may be a record, and not both. A last target without a
+/// second is judged as the first of a pair.
 pub(crate) fn are_pairs_one_record(targets: &[Target]) -> bool
     ensures { result ≡ are_pairs_one_record targets.now }
 {
@@ -77,7 +77,7 @@ fn is_plain_at(qubit: u64, target: Target) -> bool
     }
 }
 
-/// Whether two targets are one qubit.
+/// Whether two targets are the same qubit.
 fn is_same_qubit(first: Target, second: Target) -> bool
     ensures { result ≡ is_same_qubit first second }
 {

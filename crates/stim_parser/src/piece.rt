@@ -12,7 +12,7 @@ fn place_of_end(text: &[u8]) -> Option<usize>
         .position(|byte| is_blank(*byte) || *byte == b'*')
 }
 
-/// The first piece of a text, and what follows it. There is none where all is blank.
+/// The first piece of a text, and what follows it. There is none where the text has nothing but blanks.
 pub fn next_piece(text: &[u8]) -> Option<(&[u8], &[u8])>
     ensures pieces { MatchOption result (pieces_of text.now ≡ [])
         (λ cut. pieces_of text.now ≡ cut.0.now ∷ pieces_of cut.1.now) }
@@ -22,7 +22,7 @@ pub fn next_piece(text: &[u8]) -> Option<(&[u8], &[u8])>
     if text.is_empty() {
         return None;
     }
-    // A star is a piece of its own, so a piece has one byte at least.
+    // A star is a piece of its own, so a piece has at least one byte.
     let end = place_of_end(text).unwrap_or(text.len()).max(1);
     Some(text.split_at(end))
 }

@@ -7,7 +7,7 @@ use crate::decimal::{Parts, decimal_of};
 use crate::significant::{Significant, more_digits, nothing_read};
 use std::marker::Model;
 
-/// A probability, seen as floor of its value times 2^64.
+/// A probability, kept as floor of its value times 2^64.
 #[derive(Clone, Copy)]
 pub struct Probability {
     bound: u128,
@@ -26,8 +26,9 @@ impl Model for Probability {
 }
 
 impl Probability {
-    /// The probability that a text writes: digits, with a point and an exponent at will. There is none where the text
-    /// isn't a number, its value is above 1, or it has more than 18 significant digits or 38 places after the point.
+    /// The probability that a text writes: digits, with or without a point and an exponent. There is none where the
+    /// text isn't a number, its value is above 1, or it has more than 18 significant digits or 38 places after the
+    /// point.
     pub fn read(text: &[u8]) -> Option<Probability>
         ensures { result ≡ probability_bound text.now }
     {
@@ -69,7 +70,7 @@ fn scaled_bound(digits: usize, number: u64, up: u128, down: u128) -> Option<u128
     Some(number as u128 * (1 << 64) / power)
 }
 
-/// The bound of a number text of so many bytes, taken apart.
+/// The bound of a number text of this many bytes, taken apart.
 fn decimal_bound(bytes: usize, parts: Parts) -> Option<u128>
     requires { IsOfText bytes parts }
     ensures value { result ≡ decimal_bound (decimal_in parts.entry) }

@@ -97,8 +97,8 @@ fn take_out(named: &mut QubitSet, target: Target)
     }
 }
 
-/// Goes over a product behind its first factor and puts its qubits into a set. What follows the product is the answer,
-/// or nothing where the product names a qubit of the set or one qubit twice.
+/// Goes over a product after its first factor and puts its qubits into a set. It answers what follows the product, or
+/// none where the product names a qubit of the set or one qubit twice.
 fn go_over<'a>(named: &mut QubitSet, targets: &'a [Target]) -> Option<&'a [Target]>
     requires { has_target_beyond Products targets.now ≡ false }
     ensures again { MatchOption result
@@ -122,7 +122,7 @@ fn go_over<'a>(named: &mut QubitSet, targets: &'a [Target]) -> Option<&'a [Targe
     Some(left)
 }
 
-/// Goes over a product behind its first factor and takes its qubits out of a set.
+/// Goes over a product after its first factor and takes its qubits out of a set.
 fn go_back(named: &mut QubitSet, targets: &[Target])
     requires { has_target_beyond Products targets.now ≡ false }
     ensures { (q : ℕ) → is_named named.new.words q ≡ (not (goes_on_with q targets.now) && is_named named.old.words q) }
@@ -137,9 +137,8 @@ fn go_back(named: &mut QubitSet, targets: &[Target])
     }
 }
 
-/// Whether a product names one qubit twice. Each target is gone over twice at most: one set serves all products, and
-/// what a product put in is taken out behind it, since a new set for each would cost a short one more than its factors
-/// do.
+/// Whether a product names one qubit twice. Each target is gone over at most twice: one set serves all products, and
+/// what a product put in is taken out after it. A new set for each would cost more, since most products are short.
 pub(crate) fn has_product_of_one(targets: &[Target]) -> bool
     requires { has_target_beyond Products targets.now ≡ false }
     ensures { result ≡ has_product_of_one targets.now }

@@ -1,8 +1,7 @@
 ghost use Rattle.std.specs.Prelude.{◌≡◌, ◌==◌, ◌<◌, ◌&&◌, ◌||◌, ℕ, false, not};
 ghost use Rattle.stim_parser.specs.QubitSets.{is_named};
 
-/// A set of qubits below 4,096, by a bit for each. It stands where it is declared and takes no memory from an
-/// allocator.
+/// A set of qubits below 4,096, by a bit for each. It takes no memory from an allocator.
 #[derive(Drop)]
 pub(crate) struct QubitSet {
     words: [u64; 64],

@@ -3,7 +3,7 @@ ghost use Rattle.std.specs.Char.{is_ascii_digit};
 ghost use Rattle.std.specs.List.{list_all};
 ghost use Rattle.stim_parser.specs.Significant.{next_digit, more_digits, nothing_read, IsWithin};
 
-/// What digits say from the first that isn't a zero on.
+/// What is known of digits, from the first that isn't a zero on.
 #[derive(Clone, Copy)]
 pub(crate) struct Significant {
     /// How many digits there are.

@@ -7,7 +7,7 @@ use crate::piece::next_piece;
 use pauli_word::Letter;
 use std::alloc::{AllocError, Allocator};
 
-/// A target as it is written. All numbers from 10^18 on are one, which is beyond every limit.
+/// A target as it is written. All numbers from 10^18 on are taken as one, which is beyond every limit.
 #[derive(Clone, Copy, Debug, PartialEq, Eq)]
 pub enum Target {
     /// A number alone: a qubit, or how often a block is repeated.
@@ -16,7 +16,7 @@ pub enum Target {
     Inverted(Number),
     /// A record, by how far back it lies, from 1.
     Back(Number),
-    /// Whether `!` stands before it, a letter and its qubit.
+    /// A letter at a qubit, and whether `!` stands before it.
     Pauli(bool, Letter, Number),
     /// A `*`, which joins the Pauli targets beside it.
     Star,
@@ -77,7 +77,7 @@ fn pauli_of(inverted: bool, text: &[u8]) -> Option<Target>
     }
 }
 
-/// The target whose `!` stands before the text.
+/// The target whose text follows a `!`.
 fn inverted_of(text: &[u8]) -> Option<Target>
     ensures { result ≡ inverted_of text.now }
 {
@@ -87,7 +87,7 @@ fn inverted_of(text: &[u8]) -> Option<Target>
     }
 }
 
-/// A target that is told by its first byte.
+/// A target that is known by its first byte.
 fn marked_of(piece: &[u8]) -> Option<Target>
     ensures { result ≡ marked_of piece.now }
 {
@@ -113,7 +113,8 @@ fn target_of(piece: &[u8]) -> Option<Target>
     marked_of(piece)
 }
 
-/// Puts the targets of a text in place of those that were there. Answers whether each of its pieces is a target.
+/// Puts the targets of a text into `targets`, in place of what it held, and answers whether each of its pieces is a
+/// target.
 pub(crate) fn read_targets<A: Allocator + Copy>(
     targets: &mut Vec<Target, A>,
     text: &[u8],

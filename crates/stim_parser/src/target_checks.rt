@@ -96,7 +96,7 @@ pub(crate) fn has_target_beyond(form: TargetForm, targets: &[Target]) -> bool
     targets.iter().any(|target| is_target_beyond(form, *target))
 }
 
-/// Whether a form has another number of targets. One that has none is not asked here.
+/// Whether this is a number of targets that the form doesn't take. A form without targets is judged elsewhere.
 #[tactic(auto, unfolding(crate::specs::Limits::has_wrong_count))]
 pub(crate) fn has_wrong_count(form: TargetForm, targets: &[Target]) -> bool
     ensures { result ≡ has_wrong_count form targets.now }

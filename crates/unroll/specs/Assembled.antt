@@ -16,6 +16,7 @@ use Rattle.unroll.specs.Observables.{observables_of}
 use Rattle.unroll.specs.Steps.{steps_of}
 use Rattle.unroll.specs.Totals.{collapse_total, fault_total, made_total, qubit_total, record_total}
 
+-- the counts of a tree: its records, its collapses and its faults
 abbrev pub counts_in : Tree → Counts
 counts_in tree = record { records = record_total tree; collapses = collapse_total tree; faults = fault_total tree }
 

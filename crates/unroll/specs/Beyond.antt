@@ -1,4 +1,4 @@
--- The line of an item that names an observable beyond the limit, as a pass over a circuit's items asks for it.
+-- The line of an item that names an observable beyond the limit, as a pass over a circuit's items looks for it.
 -- (Stim's gate reference, github.com/quantumlib/Stim, doc/gates.md, "OBSERVABLE_INCLUDE"; the limit is this project's.)
 use Rattle.std.specs.Prelude.{ℕ, nat_lt, if◌then◌else◌, Option, None, Some}
 use Rattle.stim_parser.specs.Texts.{Item, Does}

@@ -1,7 +1,7 @@
--- A circuit's steps, and what is kept beside them, as they are written down one item of the text after another. What stands
--- in a block is written once; where the block ends, its steps stand there as often as it has turns, and what is kept of
--- them stays as it is.
--- (Stim's circuit format, github.com/quantumlib/Stim, doc/file_format_stim_circuit.md, "REPEAT blocks".)
+-- A circuit's steps, and what is kept beside them, as they are written down one item of the text after another. What
+-- stands in a block is written once. At the end of the block its steps are repeated as often as it has turns, and what
+-- is kept of them stays as it is. (Stim's circuit format, github.com/quantumlib/Stim, doc/file_format_stim_circuit.md,
+-- "REPEAT blocks".)
 use Rattle.std.specs.Prelude.{◌≡◌, ◌+◌, ◌<◌, ◌^◌, ℕ, List, [], ◌∷◌, ◌++◌, length, All}
 use Rattle.programs.specs.declared.step.TextStep.{TextStep}
 use Rattle.programs.specs.Builders.{OpenBlock}
@@ -23,6 +23,7 @@ pub record Draft : Type 0 where
   pub entries : List Kept
   pub products : List (List Term)
 
+-- the draft that a writer holds
 abbrev pub draft_of : {A : Type 0} → Writing A → Draft
 draft_of w =
     record {
@@ -44,7 +45,7 @@ CanWrite (Does i) d = HasRoom i d
 CanWrite (Begins line turns) d = (0 < turns) × (length d.outer < 32)
 CanWrite Ends d = 0 < length d.outer
 
--- with an instruction more
+-- a draft with one more instruction
 abbrev pub with_instruction : Instruction → Draft → Draft
 with_instruction i d =
     record {
@@ -54,7 +55,7 @@ with_instruction i d =
       products = d.products ++ products_in i;
     }
 
--- with a block more that is open
+-- a draft with one more open block
 abbrev pub with_block : ℕ → Draft → Draft
 with_block turns d =
     record {
@@ -64,7 +65,7 @@ with_block turns d =
       products = d.products;
     }
 
--- with the innermost block closed
+-- a draft with its innermost block closed
 pub record HasEnded (old new : Draft) : Type 0 where
   pub last : OpenBlock
   pub outer : old.outer ≡ new.outer ++ last ∷ []

@@ -5,7 +5,7 @@ use Rattle.std.specs.Prelude.{ℕ, zero, suc, List, [], ◌∷◌, ◌++◌}
 use Rattle.stim_parser.specs.Trees.{Tree, Nothing, Then, Block}
 use Rattle.stim_parser.specs.Verdicts.{Instruction}
 
--- so many copies of a list, one after another
+-- this many copies of a list, one after another
 abbrev pub copies : {X : Type 0} → ℕ → List X → List X
 copies zero xs = []
 copies (suc n) xs = xs ++ copies n xs

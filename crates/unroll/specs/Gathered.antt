@@ -1,7 +1,7 @@
--- What a pass over a circuit gathers, in the order in which instructions are reached. It stands at a place, as the number of
--- records so far, which tells what an instruction gives. A block's later turns give what its first turn gave, each moved by
--- the number of the turn and by the places before and behind the first turn; so no turn is gone over again.
--- (Stim's circuit format, github.com/quantumlib/Stim, doc/file_format_stim_circuit.md, "REPEAT blocks".)
+-- What a pass over a circuit gathers, in the order in which instructions are reached. The pass stands at a place, such
+-- as the number of records so far; what an instruction gives depends on it. A block's later turns give what its first
+-- turn gave, moved on by the number of the turn and by the places before and after the first turn; so no turn is gone
+-- over again. (Stim's circuit format, github.com/quantumlib/Stim, doc/file_format_stim_circuit.md, "REPEAT blocks".)
 use Rattle.std.specs.Prelude.{ℕ, zero, suc, ◌-◌, List, [], ◌∷◌, ◌++◌, drop, length, map}
 use Rattle.stim_parser.specs.Verdicts.{Instruction}
 use Rattle.unroll.specs.declared.marks.Mark.{Mark}
@@ -12,16 +12,17 @@ pub record Gathered (P X : Type 0) : Type 0 where
   pub place : P
   pub found : List X
 
+-- how a pass gathers: where instructions and the turns of blocks take it, and what they give
 pub record Gathering (P X : Type 0) : Type 0 where
-  -- the place behind an instruction, and what the instruction gives
+  -- the place after an instruction, and what the instruction gives
   pub next : P → Instruction → P
   pub gives : P → Instruction → List X
-  -- the place behind so many turns, from the places before and behind the first
+  -- the place after all of this many turns, from the places before and after the first
   pub onward : ℕ → P → P → P
-  -- what stands in a later turn for what the first turn gave
+  -- what a later turn gives in place of what the first turn gave
   pub moved : ℕ → P → P → X → X
 
--- what so many later turns give
+-- what this many later turns give
 abbrev pub later : {X : Type 0} → (ℕ → X → X) → ℕ → List X → List X
 later move zero xs = []
 later move (suc n) xs = later move n xs ++ map (move (suc n)) xs
@@ -29,6 +30,7 @@ later move (suc n) xs = later move n xs ++ map (move (suc n)) xs
 abbrev pub mark_of : {P X : Type 0} → Gathered P X → Mark P
 mark_of s = record { place = s.place; found = length s.found }
 
+-- the state of a gathering pass after an instruction, and after all turns of a block
 abbrev pub stepped : {P X : Type 0} → Gathering P X → Instruction → Gathered P X → Gathered P X
 stepped g i s = record { place = g.next s.place i; found = s.found ++ g.gives s.place i }
 
@@ -44,7 +46,7 @@ gathering g = record { step = stepped g; close = λ turns before s. closed g tur
 
 -- ---- instructions as they are reached
 
--- the place behind them, and what they give
+-- the place after them, and what they give
 abbrev pub place_behind : {P X : Type 0} → Gathering P X → P → List Instruction → P
 place_behind g p [] = p
 place_behind g p (i ∷ is) = place_behind g (g.next p i) is

@@ -1,7 +1,7 @@
 -- What is added to a circuit's observables as one pass gathers it: an instruction adds each record that it names to one
--- observable, and the records of a later turn of a block stand as many further on as the turns before it make. What is added
--- to an observable is told apart at the end.
--- (Stim's gate reference, github.com/quantumlib/Stim, doc/gates.md, "OBSERVABLE_INCLUDE".)
+-- observable, and in a later turn of a block the number of each record is greater by as many as the turns before it
+-- make. What is added is sorted by observable at the end. (Stim's gate reference, github.com/quantumlib/Stim,
+-- doc/gates.md, "OBSERVABLE_INCLUDE".)
 use Rattle.std.specs.Prelude.{ℕ, ◌+◌, ◌-◌, ◌*◌, ◌==◌, nat_lt, if◌then◌else◌, List, [], ◌∷◌, ◌++◌, length, map, slice_index_or, slice_set, unwrap_or}
 use Rattle.std.specs.List.{filter, range_with_len}
 use Rattle.stim_parser.specs.declared.operation.Operation.{Operation}
@@ -14,7 +14,7 @@ use Rattle.unroll.specs.Detecting.{records_after, records_onward}
 use Rattle.unroll.specs.Detectors.{record_named}
 use Rattle.unroll.specs.Gathered.{Gathering}
 
--- the record that a target names after so many, as it is added to an observable
+-- the record that a target names after this many records, as it is added to an observable
 abbrev pub inclusion_of : ℕ → ℕ → Target → Inclusion
 inclusion_of k r target = record { observable = k; place = record_named r target }
 
@@ -26,10 +26,11 @@ abbrev pub operation_inclusions : ℕ → Operation → List (List ℕ) → List
 operation_inclusions r Observes arguments targets = map (inclusion_of (observable_named arguments) r) targets
 operation_inclusions r operation arguments targets = []
 
--- an inclusion of a record so many further on
+-- an inclusion, with the number of its record greater by d
 abbrev pub inclusion_moved : ℕ → Inclusion → Inclusion
 inclusion_moved d x = record { observable = x.observable; place = x.place + d }
 
+-- what a pass gathers of observables
 abbrev pub including : Gathering ℕ Inclusion
 including =
     record {
@@ -54,9 +55,9 @@ abbrev pub item_observables : Item → ℕ
 item_observables (Does i) = named_to i.operation i.arguments
 item_observables item = 0
 
--- ---- observables told apart
+-- ---- sorted by observable
 
--- the records that are added to each of so many observables
+-- the records that are added to each of this many observables
 abbrev pub told_apart : ℕ → List Inclusion → List (List ℕ)
 told_apart count inclusions = map (λ k. places_of k inclusions) (range_with_len 0 count)
 

@@ -1,8 +1,8 @@
--- What is kept of a circuit's faults and products, once for each place of the text. A measurement with a probability keeps
--- it once for all its records; an error of one letter keeps an entry for each target, CORRELATED_ERROR one entry for its
--- line. An entry is the text of the probability as it stands, without the blanks round it, its bound, and the letters at
--- qubits that the fault applies: none where it flips a record. MPP keeps each of its products.
--- (Stim's gate reference, github.com/quantumlib/Stim, doc/gates.md.)
+-- What is kept of a circuit's faults and products, once for each place of the text. A measurement with a probability
+-- keeps one entry for all its records; an error of one letter keeps an entry for each target, CORRELATED_ERROR one
+-- entry for its line. An entry has the text of the probability as it stands, without the blanks around it, its bound,
+-- which is floor of the probability times 2^64, and the letters at qubits that the fault applies: none where it flips a
+-- record. MPP keeps each of its products. (Stim's gate reference, github.com/quantumlib/Stim, doc/gates.md.)
 use Rattle.std.specs.Prelude.{ℕ, List, [], ◌∷◌, map, unwrap_or}
 use Rattle.std.specs.List.{flat_map, slice_index_or}
 use Rattle.pauli_word.specs.declared.letter.Letter.{Letter}

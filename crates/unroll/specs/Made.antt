@@ -1,10 +1,11 @@
--- The steps that one instruction makes, of its targets from left to right. A gate of one qubit is a step of each target,
--- a gate of two of each pair. In a pair of CX, CY or CZ a record in place of a qubit makes feedback: X, Y or Z is applied
--- to the other one where that record is 1. A measurement is a collapse of each target with a record, which is inverted
--- where the target has a `!`, and which a fault may flip where a probability is given; a reset is a collapse without a
--- record. Of MPP each product is one collapse, and its record is inverted where an odd number of its factors has a `!`. An
--- error of one letter is a fault of each target; CORRELATED_ERROR is one fault a line. Other instructions make no step.
--- (Stim's gate reference, github.com/quantumlib/Stim, doc/gates.md.)
+-- The steps that one instruction makes, of its targets from left to right. A gate of one qubit makes a step for each
+-- target, a gate of two for each pair. In a pair of CX, CY or CZ a record in place of a qubit makes feedback: X, Y or Z
+-- is applied to the other qubit where that record is 1. A measurement makes a collapse (a projective measurement) of
+-- each target, with a record, which is inverted where the target has a `!`, and which a fault may flip where a
+-- probability is given; a reset makes a collapse without a record. In MPP each product makes one collapse, and its
+-- record is inverted where an odd number of its factors has a `!`. An error of one letter makes a fault for each
+-- target; CORRELATED_ERROR makes one fault. Other instructions make no step. (Stim's gate reference,
+-- github.com/quantumlib/Stim, doc/gates.md.)
 use Rattle.std.specs.Prelude.{ℕ, ◌+◌, ◌==◌, Bool, true, false, if◌then◌else◌, List, [], ◌∷◌, map, Option, None, Some}
 use Rattle.std.specs.List.{onto_first}
 use Rattle.gate_table.specs.declared.gate.Gate.{Gate}
@@ -58,13 +59,13 @@ is_product_inverted (factor ∷ factors) = exclusive_or (is_inverted factor) (is
 abbrev pub one_step : Gate → Target → TextStep
 one_step g target = step.One g (qubit_of target)
 
--- the letter that a record in a pair of this gate applies to the other one
+-- the letter that a record in a pair of this gate applies to the other qubit
 abbrev pub fed_letter : Gate → Letter
 fed_letter gate.CX = letter.X
 fed_letter gate.CY = letter.Y
 fed_letter g = letter.Z
 
--- a pair of which either one may be a record, so many back
+-- a pair of which either one may be a record, this many back
 abbrev pub paired : Gate → Target → Target → Option ℕ → Option ℕ → TextStep
 paired g a b (Some k) back = step.Feedback (fed_letter g) (qubit_of b) k
 paired g a b None (Some k) = step.Feedback (fed_letter g) (qubit_of a) k
@@ -84,7 +85,7 @@ gate_steps g targets = if arity_of g == 1 then map (one_step g) targets else pai
 
 -- ---- collapses
 
--- what flips the records of an instruction, where it has an argument: what is kept at this number
+-- the entry of the fault that flips an instruction's records, where the instruction has an argument
 abbrev pub flip_of : ℕ → List (List ℕ) → Option ℕ
 flip_of entry [] = None
 flip_of entry (probability ∷ arguments) = Some entry
@@ -99,7 +100,7 @@ measure_step l reset flip target =
 abbrev pub reset_step : Letter → Target → TextStep
 reset_step l target = step.Collapse l (qubit_of target) true None
 
--- a collapse of each product, of which the first is kept at this number
+-- a collapse of each product; the first is kept as product p
 abbrev pub product_steps : Option ℕ → ℕ → List (List Target) → List TextStep
 product_steps flip p [] = []
 product_steps flip p (product ∷ products) =
@@ -107,15 +108,15 @@ product_steps flip p (product ∷ products) =
 
 -- ---- faults
 
--- a fault of each target, of which the first is kept at this number
+-- a fault of each target; the first has entry e
 abbrev pub fault_steps : ℕ → List Target → List TextStep
 fault_steps e [] = []
 fault_steps e (target ∷ targets) = step.Fault e ∷ fault_steps (e + 1) targets
 
 -- ---- instructions
 
--- the steps of an operation with these targets, where so many entries and products are kept before it, and where its
--- records may flip by what is kept there
+-- the steps of an operation with these targets, where e entries and p products are kept before it, and where `flip` is
+-- the entry of the fault that may flip its records
 abbrev pub operation_steps : Operation → ℕ → ℕ → Option ℕ → List Target → List TextStep
 operation_steps (Applies g) e p flip targets = gate_steps g targets
 operation_steps (Measures l) e p flip targets = map (measure_step l false flip) targets

@@ -13,7 +13,7 @@ use Rattle.unroll.specs.Detectors.{records_named}
 use Rattle.unroll.specs.Kept.{first_argument}
 use Rattle.unroll.specs.Totals.{record_count}
 
--- how many observables there are for an operation with these arguments to name its own: one more than its number
+-- how many observables there must be for an operation with these arguments: one more than the number that it names
 abbrev pub observables_to : Operation → List (List ℕ) → ℕ
 observables_to Observes arguments = value_of (first_argument arguments) + 1
 observables_to operation arguments = 0
@@ -25,14 +25,15 @@ observables_over (i ∷ instructions) = max (observables_to i.operation i.argume
 abbrev pub observable_total : Tree → ℕ
 observable_total tree = observables_over (written tree)
 
--- what an instruction adds to the observable k after so many records
+-- what an instruction adds to the observable k after this many records
 abbrev pub instruction_adds : ℕ → ℕ → Instruction → List ℕ
 instruction_adds k r i = if observables_to i.operation i.arguments == k + 1 then records_named r i.targets else []
 
--- what instructions after so many records add to it
+-- what instructions after this many records add to it
 unfoldable pub added_from : ℕ → ℕ → List Instruction → List ℕ
 added_from k r [] = []
 added_from k r (i ∷ instructions) = instruction_adds k r i ++ added_from k (r + record_count i) instructions
 
+-- the observables of a tree
 abbrev pub observables_of : Tree → List (List ℕ)
 observables_of tree = map (λ k. added_from k 0 (reached tree)) (range_with_len 0 (observable_total tree))

@@ -1,7 +1,7 @@
--- The coordinates of a circuit's detectors as one pass gathers them. How far shifts have moved each place up and how far
--- down is counted apart, so that neither count ever falls. In a later turn of a block each place stands as much further on as
--- the turns before it shift it.
--- (Stim's gate reference, github.com/quantumlib/Stim, doc/gates.md, "DETECTOR" and "SHIFT_COORDS".)
+-- The coordinates of a circuit's detectors as one pass gathers them. For each axis it is counted how far shifts have
+-- moved up, and apart from that how far down, so that neither count ever falls. In a later turn of a block each
+-- coordinate is moved on by what the turns before it shift its axis. (Stim's gate reference,
+-- github.com/quantumlib/Stim, doc/gates.md, "DETECTOR" and "SHIFT_COORDS".)
 use Rattle.std.specs.Prelude.{ℕ, suc, ◌+◌, ◌-◌, ◌*◌, ◌^◌, ◌≤ℤ◌, ℤ, pos, negsuc, neg_ℤ, ◌+ℤ◌, List, [], ◌∷◌, map, replicate, ◌≤◌, length, All}
 use Rattle.stim_parser.specs.declared.operation.Operation.{Operation}
 use Rattle.stim_parser.specs.declared.operation.Operation.TheVariants.{Detects, ShiftsCoordinates}
@@ -27,13 +27,13 @@ raised_by [] more = []
 raised_by counts [] = counts
 raised_by (n ∷ counts) (m ∷ more) = (n + m) ∷ raised_by counts more
 
--- counts so many turns further on, by those before and behind a turn
+-- the counts after this many more turns, from those before and after one turn
 abbrev pub turned_by : ℕ → List ℕ → List ℕ → List ℕ
 turned_by turns [] after = []
 turned_by turns before [] = []
 turned_by turns (p ∷ before) (q ∷ after) = (q + turns * (q - p)) ∷ turned_by turns before after
 
--- how much so many turns add
+-- how much this many turns add
 abbrev pub added_by : ℕ → List ℕ → List ℕ → List ℕ
 added_by turns [] after = []
 added_by turns before [] = []
@@ -62,6 +62,7 @@ pub record IsStated (xs : List ℤ) : Type 0 where
 
 -- ---- the pass
 
+-- the numbers by which an operation shifts coordinates
 abbrev pub numbers_of : Operation → List (List ℕ) → List ℤ
 numbers_of ShiftsCoordinates arguments = map whole_value arguments
 numbers_of operation arguments = []
@@ -79,11 +80,12 @@ abbrev pub operation_places : Offset → Operation → List (List ℕ) → List 
 operation_places p Detects arguments = moved_to p.up p.down (map whole_value arguments) ∷ []
 operation_places p operation arguments = []
 
--- an offset behind a turn, so many turns further on
+-- the offset after this many more turns, from those before and after one turn
 abbrev pub turned_on : ℕ → Offset → Offset → Offset
 turned_on turns before after =
     record { up = turned_by turns before.up after.up; down = turned_by turns before.down after.down }
 
+-- what a pass gathers of coordinates
 abbrev pub placing : Gathering Offset (List ℤ)
 placing =
     record {

@@ -1,5 +1,5 @@
--- The steps of an instruction as they are appended to a circuit that is written down from its start on, one target, one
--- pair or one product at a time.
+-- The steps of an instruction as they are appended to a circuit that is being written down, one target, one pair or one
+-- product at a time.
 -- (Stim's gate reference, github.com/quantumlib/Stim, doc/gates.md.)
 use Rattle.std.specs.Prelude.{◌≡◌, ◌+◌, ◌<◌, ◌≤◌, ◌^◌, ℕ, Bool, true, if◌then◌else◌, List, [], ◌∷◌, ◌++◌, length, All, Option, Some}
 use Rattle.std.specs.List.{onto_first}
@@ -14,7 +14,7 @@ use Rattle.unroll.specs.declared.steps.Single.TheVariants.{Applies, Measures, Re
 use Rattle.unroll.specs.Made.{is_product_inverted, measure_step, one_step, product_steps, products_of, recording, reset_step}
 use Rattle.unroll.specs.Totals.{qubits_to}
 
--- the innermost open block, or the circuit, has these steps more
+-- the innermost open block, or the circuit where none is open, has these steps more
 pub record Adds (steps : List TextStep) (old new : Building) : Type 0 where
   pub outer : new.outer ≡ old.outer
   pub here : new.here ≡ old.here ++ steps
@@ -34,14 +34,14 @@ single_step (Applies g) target = one_step g target
 single_step (Measures l reset flip) target = measure_step l reset flip target
 single_step (Resets l) target = reset_step l target
 
--- what stands behind a factor: a product that a star joins to it, or nothing of it
+-- what follows a factor: the rest of its product, where a star joins it, or other products
 pub record FollowsFactor (after : List Target) (joined : Bool) (behind : List Target) : Type 0 where
   pub products : (factor : Target) → products_of (factor ∷ after) ≡ (if joined then onto_first factor (products_of behind) else (factor ∷ []) ∷ products_of behind)
   pub some : joined ≡ true → 0 < length behind
   pub fewer : length behind ≤ length after
   pub small : All IsSmall after → All IsSmall behind
 
--- the steps of products, of which the first begins with what is inverted so far
+-- the steps of products; of the first some factors are gone over, and `inverted` is the parity of their `!`
 abbrev pub carried_steps : Bool → Option ℕ → ℕ → List (List Target) → List TextStep
 carried_steps inverted flip p [] = []
 carried_steps inverted flip p (product ∷ products) =

@@ -1,8 +1,9 @@
--- Which circuits have no program. First a record target that reaches back before the first record refuses the circuit, by
--- the first such line: it is asked of detectors, observables and feedback at the first turn of all blocks round them, and a
--- block before it counts with all its turns. Then, of the whole circuit: more than 8,000,000 records or collapses; the
--- first line that names an observable above 1,023; more than 1,000,000 detectors; more than 64,000,000 steps.
--- (`rec[-k]` is Stim's, github.com/quantumlib/Stim, doc/file_format_stim_circuit.md; the limits are this project's.)
+-- Which circuits have no program. First, those with a record target that reaches back before the first record; the
+-- refusal names the first line that has one. Record targets of detectors, observables and feedback are judged at the
+-- first turn of all blocks around them, and the blocks before them count with all their turns. Then, for the whole
+-- circuit: more than 8,000,000 records or collapses (the projective measurements in measurements and resets); the first
+-- line that names an observable above 1,023; more than 1,000,000 detectors; more than 64,000,000 steps. (`rec[-k]` is
+-- Stim's, github.com/quantumlib/Stim, doc/file_format_stim_circuit.md; the limits are this project's.)
 use Rattle.std.specs.Prelude.{ℕ, ◌+◌, ◌*◌, nat_lt, Bool, false, ◌||◌, if◌then◌else◌, List, [], ◌∷◌, Option, None, Some, option_map}
 use Rattle.std.specs.List.{list_any}
 use Rattle.std.specs.Option.{option_or}
@@ -38,7 +39,7 @@ most_steps = 64_000_000
 
 -- ---- lines
 
--- a record target that reaches back further than so many records
+-- a record target that reaches back further than this many records
 abbrev pub is_far : ℕ → Target → Bool
 is_far r (Back k) = nat_lt r k
 is_far r target = false
@@ -46,7 +47,7 @@ is_far r target = false
 abbrev pub reaches_far : ℕ → List Target → Bool
 reaches_far r targets = list_any (is_far r) targets
 
--- the first line that reaches back before the first record, after so many records
+-- the first line of a tree that reaches back before the first record, where this many records come before the tree
 unfoldable pub first_far_line : ℕ → Tree → Option ℕ
 first_far_line r Nothing = None
 first_far_line r (Then i rest) =
@@ -71,7 +72,7 @@ has_many_detectors tree = nat_lt most_detectors (detector_total tree)
 abbrev pub has_many_steps : Tree → Bool
 has_many_steps tree = nat_lt most_steps (step_total tree)
 
--- a refusal of the whole circuit, where something holds of it
+-- a refusal of the whole circuit for this cause, where `holds`
 abbrev pub of_circuit : Bool → Cause → Option Fault
 of_circuit holds c = if holds then Some (without_line c) else None
 

@@ -9,11 +9,11 @@ use Rattle.stim_parser.specs.Verdicts.{Instruction}
 use Rattle.unroll.specs.Kept.{entries_of, products_in, kept_entries, kept_products}
 use Rattle.unroll.specs.Made.{flip_of, operation_steps}
 
--- the steps of an instruction, where so many entries and products are kept before it
+-- the steps of an instruction, where this many entries and products are kept before it
 abbrev pub instruction_steps : ℕ → ℕ → Instruction → List TextStep
 instruction_steps e p i = operation_steps i.operation e p (flip_of e i.arguments) i.targets
 
--- the steps of what stands behind so many entries and products
+-- the steps of a tree, where this many entries and products are kept before it
 unfoldable pub steps_from : ℕ → ℕ → Tree → List TextStep
 steps_from e p Nothing = []
 steps_from e p (Then i rest) =
@@ -22,5 +22,6 @@ steps_from e p (Block line turns body rest) =
     repeated turns (steps_from e p body)
     ++ steps_from (e + length (kept_entries body)) (p + length (kept_products body)) rest
 
+-- the steps of a whole tree
 abbrev pub steps_of : Tree → List TextStep
 steps_of tree = steps_from 0 0 tree

@@ -1,6 +1,6 @@
--- A circuit's totals as they are summed up in one pass over its text: a sum that doesn't fit 64 bits stays at the greatest
--- number that does, which is above every limit and beyond every record that a target can name.
--- (Stim's circuit format, github.com/quantumlib/Stim, doc/file_format_stim_circuit.md; the limits are this project's.)
+-- A circuit's totals as they are summed up in one pass over its text. A sum that doesn't fit 64 bits stays at the
+-- greatest number that does, which is above every limit, and beyond every record that a target can name. (Stim's
+-- circuit format, github.com/quantumlib/Stim, doc/file_format_stim_circuit.md; the limits are this project's.)
 use Rattle.std.specs.Prelude.{◌≡◌, ℕ, ◌+◌, ◌-◌, ◌*◌, ◌^◌, min, if◌then◌else◌, Option, None, Some}
 use Rattle.stim_parser.specs.Trees.{Tree}
 use Rattle.stim_parser.specs.Verdicts.{Instruction}
@@ -12,14 +12,15 @@ use Rattle.unroll.specs.Totals.{collapse_count, collapse_total, detector_count, 
 abbrev pub greatest : ℕ
 greatest = 2 ^ 64 - 1
 
+-- a sum, or the greatest number of 64 bits where it is greater
 abbrev pub capped_sum : ℕ → ℕ → ℕ
 capped_sum a b = min (a + b) greatest
 
--- a sum behind all turns of a block, by the sums before it and behind its first turn
+-- the sum after all turns of a block, from the sums before it and after its first turn
 abbrev pub repeated_sum : ℕ → ℕ → ℕ → ℕ
 repeated_sum turns before after = capped_sum after (min ((turns - 1) * (after - before)) greatest)
 
--- the first line that reaches too far back, where an instruction comes after so many records
+-- the first line that reaches too far back, where an instruction comes after this many records
 abbrev pub far_line_after : ℕ → Instruction → Option ℕ → Option ℕ
 far_line_after r i None = if reaches_far r i.targets then Some i.line else None
 far_line_after r i (Some line) = Some line
@@ -28,6 +29,7 @@ abbrev pub nothing_summed : Totals
 nothing_summed =
     record { records = 0; collapses = 0; detectors = 0; faults = 0; steps = 0; made = 0; far_line = None }
 
+-- the totals after one more instruction
 abbrev pub totals_after : Instruction → Totals → Totals
 totals_after i t =
     record {

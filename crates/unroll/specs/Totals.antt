@@ -1,7 +1,8 @@
 -- What a circuit takes, counted on its tree without unrolling it. An instruction is a step, and each of its targets is
--- one more, where a record in a pair is a target and a product is one; each turn of a block is a step too. A measurement
--- makes a record and a collapse of each target, MPP of each product, a reset a collapse. The qubits are those up to the
--- greatest that any instruction names. (Which of these have a limit is this project's choice.)
+-- one more (a record in a pair is a target, and a product is one target); each turn of a block is a step too. A
+-- measurement makes a record and a collapse (a projective measurement) for each target, MPP for each product; a reset
+-- makes a collapse. The qubits are those up to the greatest that any instruction names. (Which of these have a limit is
+-- this project's choice.)
 use Rattle.std.specs.Prelude.{ℕ, Bool, is_some, slice_get, ◌+◌, ◌*◌, ◌/◌, ◌==◌, max, if◌then◌else◌, List, [], ◌∷◌, length}
 use Rattle.gate_table.specs.Images.{arity_of}
 use Rattle.stim_parser.specs.declared.operation.Operation.{Operation}
@@ -15,7 +16,7 @@ use Rattle.unroll.specs.Made.{products_of}
 
 -- ---- sums
 
--- the sum of a count over the instructions that are reached, with so many more for each turn of a block
+-- the sum of a count over the instructions that are reached, with this many more for each turn of a block
 unfoldable pub total : ℕ → (Instruction → ℕ) → Tree → ℕ
 total turn count Nothing = 0
 total turn count (Then instruction rest) = count instruction + total turn count rest
@@ -28,7 +29,7 @@ abbrev pub target_count : Operation → List Target → ℕ
 target_count MeasuresProducts targets = length (products_of targets)
 target_count operation targets = length targets
 
--- of so many targets, how many records, collapses and detectors an operation makes
+-- of this many targets, how many records, collapses and detectors an operation makes
 abbrev pub records_made : Operation → ℕ → ℕ
 records_made (Measures l) targets = targets
 records_made (MeasuresAndResets l) targets = targets
@@ -43,6 +44,7 @@ abbrev pub detectors_made : Operation → ℕ
 detectors_made Detects = 1
 detectors_made operation = 0
 
+-- what an instruction counts towards the limits: steps, records, collapses and detectors
 abbrev pub step_count : Instruction → ℕ
 step_count i = 1 + target_count i.operation i.targets
 
@@ -55,7 +57,7 @@ collapse_count i = collapses_made i.operation (target_count i.operation i.target
 abbrev pub detector_count : Instruction → ℕ
 detector_count i = detectors_made i.operation
 
--- how many faults an operation makes of so many targets: a measurement one of each record, where it has a probability
+-- how many faults an operation makes of this many targets: a measurement one of each record, where it has a probability
 abbrev pub faults_made : Operation → Bool → ℕ → ℕ
 faults_made (Errs l) flips targets = targets
 faults_made ErrsTogether flips targets = 1
@@ -68,18 +70,21 @@ has_argument i = is_some (slice_get i.arguments 0)
 abbrev pub fault_count : Instruction → ℕ
 fault_count i = faults_made i.operation (has_argument i) (target_count i.operation i.targets)
 
--- how many steps of a program an operation makes of so many targets
+-- how many steps of a program an operation makes of this many targets
 abbrev pub steps_made : Operation → ℕ → ℕ
 steps_made (Applies g) targets = if arity_of g == 1 then targets else targets / 2
 steps_made (Errs l) targets = targets
 steps_made ErrsTogether targets = 1
 steps_made operation targets = collapses_made operation targets
 
+-- how many steps of a program an instruction makes
 abbrev pub made_count : Instruction → ℕ
 made_count i = steps_made i.operation (target_count i.operation i.targets)
 
 -- ---- totals of a tree
 
+-- the steps of a tree as its limit counts them, each turn of a block being one more; its other counts; its program's
+-- steps
 abbrev pub step_total : Tree → ℕ
 step_total tree = total 1 step_count tree
 
@@ -108,6 +113,7 @@ qubits_to (Pauli inverted l q) = q + 1
 qubits_to (Back k) = 0
 qubits_to Star = 0
 
+-- one more than the greatest qubit that targets, instructions or a whole tree name, and 0 where they name none
 abbrev pub qubits_named : List Target → ℕ
 qubits_named [] = 0
 qubits_named (target ∷ targets) = max (qubits_to target) (qubits_named targets)

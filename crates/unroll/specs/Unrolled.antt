@@ -1,6 +1,6 @@
--- The program of a circuit's tree, or why it has none. Records, collapses and faults are numbered from 0 in the order of
--- the unrolled steps, whatever blocks they stand in.
--- (Stim's circuit format, github.com/quantumlib/Stim, doc/file_format_stim_circuit.md.)
+-- The program of a circuit's tree, or why it has none. Records, collapses and faults are numbered from 0 in the order
+-- of the unrolled steps, whatever blocks they stand in. (Stim's circuit format, github.com/quantumlib/Stim,
+-- doc/file_format_stim_circuit.md.)
 use Rattle.std.specs.Prelude.{Option, None, Some, Result, Ok, Err}
 use Rattle.programs.specs.Listed.{listed_steps, made_faults}
 use Rattle.programs.specs.Numbering.{no_counts}
@@ -31,6 +31,7 @@ listing_of tree =
       products = kept_products tree;
     }
 
+-- the program, where there is no refusal
 abbrev pub unless_refused : Option Fault → Listing → Result Listing Fault
 unless_refused None program = Ok program
 unless_refused (Some fault) program = Err fault

@@ -27,7 +27,7 @@ struct Lists<A: Allocator + Copy> {
     coordinates: FlatLists<i64, A>,
 }
 
-/// The targets of a circuit's program, and their coordinates.
+/// The targets of a circuit's program, and the coordinates of its detectors, from a circuit that isn't refused.
 fn lists_of<A: Allocator + Copy>(alloc: A, circuit: &Circuit<'_, A>) -> Result<Lists<A>, AllocError>
     requires { refusal_of circuit.now ≡ None }
     ensures { IfOk result (HasLists circuit.now) }
@@ -88,8 +88,8 @@ fn parts_of<'a, A: Allocator + Copy>(
     Ok(assembled(circuit, totals, written, lists))
 }
 
-/// The program of a circuit, or why it has none. Time and memory grow with the text and with the records that detectors
-/// and observables name, and not with the turns of blocks.
+/// The program of a circuit, or why it has none. Time and memory grow with the text and with what detectors and
+/// observables list once blocks are unrolled; otherwise they don't grow with the turns of blocks.
 pub fn unroll<'a, A: Allocator + Copy>(
     alloc: A,
     circuit: &Circuit<'a, A>,

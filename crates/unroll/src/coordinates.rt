@@ -15,8 +15,8 @@ use flat_lists::FlatLists;
 use std::alloc::{AllocError, Allocator};
 use stim_parser::{Circuit, Instruction, Item, Operation};
 
-/// Puts these coordinates, moved on by so many turns with these offsets before and behind one, in place of those that were
-/// there.
+/// Puts these coordinates into `moved`, in place of what it held, moved on by this many turns. The offsets are those
+/// before and after one turn.
 fn copy_moved<A: Allocator + Copy>(
     moved: &mut Vec<i64, A>,
     stated: &[i64],
@@ -42,8 +42,8 @@ fn copy_moved<A: Allocator + Copy>(
     Ok(())
 }
 
-/// Appends copies of the coordinates from one place to another, each moved on by so many turns with these offsets before
-/// and behind one.
+/// Appends copies of the coordinates from place `first` up to `end`, moved on by this many turns. The offsets are those
+/// before and after one turn.
 fn push_moved<A: Allocator + Copy>(
     moved: &mut Vec<i64, A>,
     lists: &mut FlatLists<i64, A>,
@@ -67,7 +67,7 @@ fn push_moved<A: Allocator + Copy>(
     Ok(())
 }
 
-/// Appends the coordinates that an instruction gives at an offset, where it is a detector.
+/// Appends the coordinates that an instruction gives at this offset, where it is a detector.
 fn push_coordinates<A: Allocator + Copy>(
     lists: &mut FlatLists<i64, A>,
     offset: &Offset,
@@ -88,8 +88,8 @@ fn push_coordinates<A: Allocator + Copy>(
     }
 }
 
-/// Appends what so many later turns of a block give, where this is where the pass stood before its first turn, and this the
-/// offset behind it. No turn is gone over where the first gave nothing.
+/// Appends what this many later turns of a block give. `before` is where the pass stood before the first turn, and
+/// `after` the offset after it. No turn is gone over where the first gave nothing.
 fn push_later_turns<A: Allocator + Copy>(
     alloc: A,
     lists: &mut FlatLists<i64, A>,
@@ -122,8 +122,8 @@ fn push_later_turns<A: Allocator + Copy>(
     Ok(())
 }
 
-/// The coordinates of each detector of a circuit, in the order in which the detectors are reached. A block is gone over
-/// once, whatever its turns.
+/// The coordinates of each detector of a circuit, in the order in which the detectors are reached. Each instruction is
+/// gone over once.
 pub(crate) fn coordinates_of<A: Allocator + Copy>(
     alloc: A,
     circuit: &Circuit<'_, A>,

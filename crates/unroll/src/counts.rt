@@ -3,7 +3,7 @@ ghost use Rattle.unroll.specs.Totals.{records_made, collapses_made, detectors_ma
 
 use stim_parser::Operation;
 
-/// How many records an operation makes of so many targets, a product being one.
+/// How many records an operation makes of this many targets, a product being one.
 #[inline(always)]
 pub(crate) fn records_made(operation: Operation, targets: usize) -> usize
     ensures { result ≡ records_made operation targets }
@@ -15,7 +15,7 @@ pub(crate) fn records_made(operation: Operation, targets: usize) -> usize
     }
 }
 
-/// How many collapses an operation makes of so many targets.
+/// How many collapses an operation makes of this many targets.
 #[inline(always)]
 pub(crate) fn collapses_made(operation: Operation, targets: usize) -> usize
     ensures { result ≡ collapses_made operation targets }
@@ -37,7 +37,7 @@ pub(crate) fn detectors_made(operation: Operation) -> usize
     }
 }
 
-/// How many faults an operation makes of so many targets, where its records may flip or not.
+/// How many faults an operation makes of this many targets; `flips` says whether its records may be flipped.
 #[inline(always)]
 pub(crate) fn faults_made(operation: Operation, flips: bool, targets: usize) -> usize
     ensures { result ≡ faults_made operation flips targets }
@@ -55,7 +55,7 @@ pub(crate) fn faults_made(operation: Operation, flips: bool, targets: usize) -> 
     }
 }
 
-/// How many steps of a program an operation makes of so many targets.
+/// How many steps of a program an operation makes of this many targets.
 #[inline(always)]
 pub(crate) fn steps_made(operation: Operation, targets: usize) -> usize
     ensures { result ≡ steps_made operation targets }

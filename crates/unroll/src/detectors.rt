@@ -14,7 +14,7 @@ use flat_lists::FlatLists;
 use std::alloc::{AllocError, Allocator};
 use stim_parser::{Circuit, Item, Operation, Target};
 
-/// The record that a target names after so many, or the first where it reaches further back.
+/// The record that a target names after this many records; the first record where it reaches back before that.
 pub(crate) fn record_named(records: u64, target: Target) -> u32
     requires { records < 2 ^ 32 }
     ensures { result ≡ record_named records target }
@@ -25,7 +25,7 @@ pub(crate) fn record_named(records: u64, target: Target) -> u32
     }
 }
 
-/// The records that targets name after so many.
+/// The records that targets name after this many records.
 fn records_named<A: Allocator + Copy>(
     alloc: A,
     records: u64,
@@ -41,7 +41,7 @@ fn records_named<A: Allocator + Copy>(
     Ok(named)
 }
 
-/// Appends the detector of an instruction after so many records, where it is one.
+/// Appends the detector of an instruction after this many records, where it is one.
 fn push_detector<A: Allocator + Copy>(
     alloc: A,
     detectors: &mut FlatLists<u32, A>,
@@ -61,7 +61,7 @@ fn push_detector<A: Allocator + Copy>(
     }
 }
 
-/// Puts these records, each so many further on, in place of those that were there.
+/// Puts the numbers of these records into `moved`, each greater by `by`, in place of what it held.
 fn copy_moved<A: Allocator + Copy>(
     moved: &mut Vec<u32, A>,
     records: &[u32],
@@ -77,7 +77,7 @@ fn copy_moved<A: Allocator + Copy>(
     Ok(())
 }
 
-/// Appends copies of the lists from one place to another, each record so many further on.
+/// Appends copies of the lists from place `first` up to `end`, with the number of each record greater by `by`.
 fn push_moved<A: Allocator + Copy>(
     moved: &mut Vec<u32, A>,
     lists: &mut FlatLists<u32, A>,
@@ -97,8 +97,8 @@ fn push_moved<A: Allocator + Copy>(
     Ok(())
 }
 
-/// Appends what so many later turns of a block give, where the lists from a place on are those of its first turn and each
-/// turn makes so many records. No turn is gone over where the first gave nothing.
+/// Appends what this many later turns of a block give. The lists from `first` on are those of its first turn, and each
+/// turn makes `by` records. No turn is gone over where the first gave nothing.
 fn push_later_turns<A: Allocator + Copy>(
     alloc: A,
     lists: &mut FlatLists<u32, A>,
@@ -121,8 +121,8 @@ fn push_later_turns<A: Allocator + Copy>(
     Ok(())
 }
 
-/// The records of each detector of a circuit, in the order in which the detectors are reached. A block is gone over once,
-/// whatever its turns.
+/// The records of each detector of a circuit, in the order in which the detectors are reached. Each instruction is gone
+/// over once.
 pub(crate) fn detectors_of<A: Allocator + Copy>(
     alloc: A,
     circuit: &Circuit<'_, A>,

@@ -12,7 +12,7 @@ use std::alloc::{AllocError, Allocator};
 use step_model::Term;
 use stim_parser::{Instruction, LastProbability, Operation, Target};
 
-/// Floor of a probability times 2^64, and 0 where the text is none.
+/// Floor of a probability times 2^64; 0 where the text is no probability.
 fn bound_of<'a>(last: &mut LastProbability<'a>, text: &'a [u8]) -> u128
     ensures { result ≡ unwrap_or (probability_bound text.now) 0 }
 {
@@ -43,7 +43,7 @@ pub(crate) fn term_at(letter: Letter, target: Target) -> Term
     }
 }
 
-/// Puts the letters of targets in place of those that were there.
+/// Puts the letters of targets, at their qubits, into `terms`, in place of what it held.
 fn name_terms<A: Allocator + Copy>(
     terms: &mut Vec<Term, A>,
     targets: &[Target],
@@ -58,7 +58,7 @@ fn name_terms<A: Allocator + Copy>(
     Ok(())
 }
 
-/// An entry of one letter at each target.
+/// Appends an entry of one letter for each target.
 fn push_entries<'a, A: Allocator + Copy>(
     entries: &mut Entries<'a, A>,
     last: &mut LastProbability<'a>,
@@ -86,7 +86,7 @@ fn first_argument<'a>(instruction: Instruction<'_, 'a>) -> &'a [u8]
     }
 }
 
-/// The entry of a measurement, where it has a probability.
+/// Appends the entry of a measurement, where it has a probability.
 fn push_flip<'a, A: Allocator + Copy>(
     entries: &mut Entries<'a, A>,
     last: &mut LastProbability<'a>,
@@ -100,7 +100,7 @@ fn push_flip<'a, A: Allocator + Copy>(
     }
 }
 
-/// The entries of an instruction.
+/// Appends the entries of an instruction.
 pub(crate) fn push_instruction<'a, A: Allocator + Copy>(
     entries: &mut Entries<'a, A>,
     terms: &mut Vec<Term, A>,

@@ -22,7 +22,7 @@ pub(crate) struct Inclusion {
     pub place: u32,
 }
 
-/// Appends the records that targets name after so many, each added to this observable.
+/// Appends the records that targets name after this many records, each added to this observable.
 fn include_records<A: Allocator + Copy>(
     inclusions: &mut Vec<Inclusion, A>,
     observable: u64,
@@ -41,7 +41,7 @@ fn include_records<A: Allocator + Copy>(
     Ok(())
 }
 
-/// Appends what an instruction adds to observables after so many records.
+/// Appends what an instruction adds to observables after this many records.
 fn push_inclusions<A: Allocator + Copy>(
     inclusions: &mut Vec<Inclusion, A>,
     records: u64,
@@ -59,7 +59,7 @@ fn push_inclusions<A: Allocator + Copy>(
     }
 }
 
-/// Appends copies of the inclusions from one place to another, each of a record so many further on.
+/// Appends copies of the inclusions from place `first` up to `end`, with the number of each record greater by `by`.
 fn push_moved<A: Allocator + Copy>(
     inclusions: &mut Vec<Inclusion, A>,
     first: usize,
@@ -81,8 +81,8 @@ fn push_moved<A: Allocator + Copy>(
     Ok(())
 }
 
-/// Appends what so many later turns of a block give, where the inclusions from a place on are those of its first turn and
-/// each turn makes so many records. No turn is gone over where the first gave nothing.
+/// Appends what this many later turns of a block give. The inclusions from `first` on are those of its first turn, and
+/// each turn makes `by` records. No turn is gone over where the first gave nothing.
 fn push_later_turns<A: Allocator + Copy>(
     inclusions: &mut Vec<Inclusion, A>,
     first: usize,
@@ -103,8 +103,8 @@ fn push_later_turns<A: Allocator + Copy>(
     Ok(())
 }
 
-/// Each record that a circuit adds to an observable, in the order in which the instructions are reached. A block is gone
-/// over once, whatever its turns.
+/// Each record that a circuit adds to an observable, in the order in which the instructions are reached. Each
+/// instruction is gone over once.
 pub(crate) fn inclusions_of<A: Allocator + Copy>(
     alloc: A,
     circuit: &Circuit<'_, A>,

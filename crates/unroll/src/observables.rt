@@ -10,7 +10,7 @@ use flat_lists::FlatLists;
 use std::alloc::{AllocError, Allocator};
 use stim_parser::{Circuit, Instruction, Item, Operation};
 
-/// How many observables there are for an instruction to name its own: none where it names none.
+/// One more than the observable that an instruction names, and 0 where it names none.
 pub(crate) fn named_to(instruction: Instruction<'_, '_>) -> u64
     ensures { result ≡ named_to (instruction_in instruction.entry).operation (instruction_in instruction.entry).arguments }
 {
@@ -20,7 +20,7 @@ pub(crate) fn named_to(instruction: Instruction<'_, '_>) -> u64
     }
 }
 
-/// The same of an item.
+/// The same for an item.
 fn item_observables(item: Item<'_, '_>) -> u64
     ensures { result ≡ item_observables (item_in item.entry) }
 {
@@ -42,7 +42,7 @@ fn observable_total<A: Allocator + Copy>(circuit: &Circuit<'_, A>) -> u64
     count
 }
 
-/// A list without records for each of so many observables.
+/// A list without records for each of this many observables.
 fn empty_lists<A: Allocator + Copy>(alloc: A, count: u64) -> Result<Vec<Vec<u32, A>, A>, AllocError>
     ensures { IfOk result (λ lists. map (λ list. list.items) lists.items ≡ told_apart count []) }
 {
@@ -66,7 +66,7 @@ fn push_place<A: Allocator + Copy>(
     Ok(())
 }
 
-/// The records that are added to each of so many observables, each inclusion looked at once.
+/// The records that are added to each of this many observables. Each inclusion is looked at once.
 fn lists_of<A: Allocator + Copy>(
     alloc: A,
     count: u64,

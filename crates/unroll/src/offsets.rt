@@ -61,7 +61,7 @@ pub(crate) fn raise(counts: &mut [u64], more: &[u64])
     }
 }
 
-/// Takes counts behind a turn on by so many more turns, where these were the counts before it.
+/// Takes counts from those after one turn on to those after this many more turns. `before` has those before that turn.
 pub(crate) fn turn(counts: &mut [u64], before: &[u64], turns: u64)
     requires same { length before.now ≡ length counts.old }
     requires small { All (λ n. n < 2 ^ 62) (turned_by turns before.now counts.old) }

@@ -8,7 +8,7 @@ use crate::offsets::{AXES, Offset, downs, raise, turn, ups};
 use arrayvec::ArrayVec;
 use stim_parser::{Instruction, Operation};
 
-/// An instruction's arguments as coordinates, and none where they aren't coordinates.
+/// An instruction's arguments as coordinates; no coordinates where the arguments aren't any.
 pub(crate) fn coordinates_read(instruction: Instruction<'_, '_>) -> ArrayVec<i64, AXES>
     ensures { result.items ≡ unwrap_or (coordinates_in (instruction_in instruction.entry).arguments) [] }
 {
@@ -37,7 +37,8 @@ pub(crate) fn shift(offset: &mut Offset, instruction: Instruction<'_, '_>)
     }
 }
 
-/// Takes an offset behind the first turn of a block on by so many more turns, where this is the offset before the block.
+/// Makes the offset after a block's first turn that after this many more turns. `before` is the offset before the
+/// block.
 pub(crate) fn turn_on(offset: &mut Offset, before: &Offset, turns: u64)
     requires small_up { All (λ n. n < 2 ^ 62) (turned_by turns before.now.up offset.old.up) }
     requires small_down { All (λ n. n < 2 ^ 62) (turned_by turns before.now.down offset.old.down) }

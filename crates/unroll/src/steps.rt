@@ -34,7 +34,7 @@ fn is_inverted(target: Target) -> bool
     }
 }
 
-/// Whether one of the two holds, and not both.
+/// Whether just one of the two holds.
 fn exclusive_or(a: bool, b: bool) -> bool
     ensures { result ≡ exclusive_or a b }
 {
@@ -167,7 +167,7 @@ fn push_pairs<A: Allocator + Copy>(
     Ok(())
 }
 
-/// A fault of each target; what is kept of the first has this number.
+/// Appends a fault of each target; the entry of the first has this number.
 fn push_faults<A: Allocator + Copy>(
     builder: &mut CircuitBuilder<A>,
     first: u32,
@@ -184,7 +184,8 @@ fn push_faults<A: Allocator + Copy>(
     Ok(())
 }
 
-/// A collapse of each product; the first is kept at this number.
+/// Appends a collapse of each product; the first product has this number. A collapse is the projective measurement
+/// inside a measurement or a reset.
 fn push_products<A: Allocator + Copy>(
     builder: &mut CircuitBuilder<A>,
     flip: Option<u32>,
@@ -214,7 +215,7 @@ fn push_products<A: Allocator + Copy>(
     Ok(())
 }
 
-/// Appends the steps of an operation with these targets, where so many entries and products are kept before it.
+/// Appends the steps of an operation with these targets, where this many entries and products are kept before it.
 pub(crate) fn push_steps<A: Allocator + Copy>(
     builder: &mut CircuitBuilder<A>,
     operation: Operation,

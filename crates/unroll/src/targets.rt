@@ -44,7 +44,7 @@ pub(crate) fn qubits_named(targets: &[Target]) -> u32
     qubits
 }
 
-/// Whether a target is a record further back than so many.
+/// Whether a target is a record that reaches back further than this many records.
 #[inline(always)]
 fn is_far(records: u64, target: Target) -> bool
     ensures { result ≡ is_far records target }
@@ -55,7 +55,7 @@ fn is_far(records: u64, target: Target) -> bool
     }
 }
 
-/// Whether one of these targets is a record further back than so many.
+/// Whether one of these targets is a record that reaches back further than this many records.
 pub(crate) fn reaches_far(records: u64, targets: &[Target]) -> bool
     ensures { result ≡ reaches_far records targets.now }
 {
@@ -76,7 +76,7 @@ fn is_star(target: Target) -> bool
     }
 }
 
-/// Whether a star joins a factor to what stands behind it, and what follows the factor and the star.
+/// Whether a star joins a factor to the next one, and what follows the factor and the star.
 pub(crate) fn end_of_factor(after: &[Target]) -> (bool, &[Target])
     ensures { FollowsFactor after.now result.0 result.1.now }
 {

@@ -41,7 +41,7 @@ fn capped_sum(sum: u64, more: usize) -> u64
     sum.saturating_add(more as u64)
 }
 
-/// A sum behind all turns of a block, by the sums before it and behind its first turn.
+/// The sum after all turns of a block, from the sums before it and after its first turn.
 fn repeated_sum(turns: u64, before: u64, after: u64) -> u64
     ensures { result ≡ repeated_sum turns before after }
 {
@@ -51,7 +51,8 @@ fn repeated_sum(turns: u64, before: u64, after: u64) -> u64
     after.saturating_add(more)
 }
 
-/// The first line that reaches back before the first record, where an instruction follows so many records.
+/// The first line that reaches back before the first record: that found before, or the line of an instruction that
+/// comes after this many records.
 fn far_line_after(records: u64, instruction: Instruction<'_, '_>, found: Option<u64>) -> Option<u64>
     ensures { result ≡ far_line_after records (instruction_in instruction.entry) found }
 {
@@ -84,7 +85,7 @@ fn fault_count(instruction: Instruction<'_, '_>) -> usize
 }
 
 impl Totals {
-    /// What nothing takes.
+    /// The totals of no instruction.
     fn none() -> Totals
         ensures { result ≡ nothing_summed }
     {
@@ -99,7 +100,7 @@ impl Totals {
         }
     }
 
-    /// The totals behind one more instruction.
+    /// The totals after one more instruction.
     fn after(self, instruction: Instruction<'_, '_>) -> Totals
         ensures { result ≡ totals_after (instruction_in instruction.entry) self }
     {
@@ -116,7 +117,7 @@ impl Totals {
         }
     }
 
-    /// The totals behind all turns of a block, from those before it and these, behind its first turn.
+    /// The totals after all turns of a block, from those before it and these, which are those after its first turn.
     fn repeated(self, turns: u64, before: Totals) -> Totals
         ensures { result ≡ totals_repeated turns before self }
     {

@@ -36,7 +36,7 @@ struct Writing<'a, A: Allocator + Copy> {
     last: LastProbability<'a>,
 }
 
-/// What flips the records of an instruction, where it has an argument: the entry of this number.
+/// The entry of the fault that flips an instruction's records, where the instruction has an argument.
 fn flip_of(entry: u32, instruction: Instruction<'_, '_>) -> Option<u32>
     ensures { result ≡ flip_of entry (instruction_in instruction.entry).arguments }
 {
@@ -116,7 +116,7 @@ impl<'a, A: Allocator + Copy> Writing<'a, A> {
     }
 }
 
-/// A circuit's steps with its blocks, and what is kept beside them. A block is gone over once, whatever its turns.
+/// A circuit's steps with its blocks, and what is kept beside them. Each instruction is gone over once.
 pub(crate) fn written_of<'a, A: Allocator + Copy>(
     alloc: A,
     circuit: &Circuit<'a, A>,
