@@ -10,7 +10,9 @@ use std::alloc::{AllocError, Global};
 /// The subcommand and options that these words name, the first being the program's own name.
 pub(crate) fn read_words<'a>(alloc: Global, words: &'a [String]) -> Result<ArgMatches<'a>, Error> {
     Command::new(alloc, "stabsim")
-        .about("Simulates or analyses the circuit on standard input")
+        .about(
+            "Simulates stabilizer circuits in Stim's format, and writes their detector error models",
+        )
         .after_help(ABOUT_ENDS)
         .subcommand_required(true)
         .subcommand(run_command(alloc)?)?
@@ -24,7 +26,7 @@ pub(crate) fn read_words<'a>(alloc: Global, words: &'a [String]) -> Result<ArgMa
 
 fn run_command<'a>(alloc: Global) -> Result<Command<'a>, AllocError> {
     let command = Command::new(alloc, "run")
-        .about("Writes the records and the detections of a run")
+        .about("Runs a circuit once, with the faults and the random outcomes that you choose")
         .after_help(ABOUT_RUNS);
     with_faults(alloc, with_coins(alloc, command)?)
 }
@@ -33,7 +35,7 @@ fn with_coins<'a>(alloc: Global, command: Command<'a>) -> Result<Command<'a>, Al
     command.arg(option(
         alloc,
         "coins",
-        "One digit 0 or 1 for each collapse [default: all 0]",
+        "A digit 0 or 1 for each measured or reset qubit or product, in\ncircuit order, as --coins 0101 [default: all 0]",
     ))
 }
 
@@ -41,20 +43,20 @@ fn with_faults<'a>(alloc: Global, command: Command<'a>) -> Result<Command<'a>, A
     command.arg(option(
         alloc,
         "faults",
-        "The numbers of the faults that happen, joined by commas [default: none]",
+        "Numbers of the faults that happen, as --faults 3,17, from the list\nof 'stabsim faults' [default: none]",
     ))
 }
 
 fn sample_command<'a>(alloc: Global) -> Result<Command<'a>, AllocError> {
     let command = Command::new(alloc, "sample")
-        .about("Draws shots and writes the records of each")
+        .about("Draws shots and writes the measurement records of each")
         .after_help(ABOUT_SAMPLES);
     with_draws(alloc, command)
 }
 
 fn detect_command<'a>(alloc: Global) -> Result<Command<'a>, AllocError> {
     let command = Command::new(alloc, "detect")
-        .about("Draws shots and writes the detections of each")
+        .about("Draws shots and writes the detection events and observables of each")
         .after_help(ABOUT_DETECTIONS);
     with_draws(alloc, command)
 }
@@ -65,28 +67,31 @@ fn with_draws<'a>(alloc: Global, command: Command<'a>) -> Result<Command<'a>, Al
 }
 
 fn with_shots<'a>(alloc: Global, command: Command<'a>) -> Result<Command<'a>, AllocError> {
-    command.arg(option(alloc, "shots", "How many shots, at most 1000000").required(true))
+    command.arg(option(
+        alloc,
+        "shots",
+        "How many shots, at most 1000000, as --shots 1000",
+    )
+    .required(true))
 }
 
 fn with_seed<'a>(alloc: Global, command: Command<'a>) -> Result<Command<'a>, AllocError> {
     command.arg(option(
         alloc,
         "seed",
-        "The seed of the generator, below 2^64 [default: 0]",
+        "Seed of the random numbers, below 2^64, as --seed 7 [default: 0]",
     ))
 }
 
 fn analyze_command<'a>(alloc: Global) -> Command<'a> {
     Command::new(alloc, "analyze")
-        .about(
-            "Writes the detector error model, or a random detector with two coin lists that show it",
-        )
+        .about("Writes the detector error model of a circuit, or shows that a detector is random")
         .after_help(ABOUT_ANALYSES)
 }
 
 fn faults_command<'a>(alloc: Global) -> Command<'a> {
     Command::new(alloc, "faults")
-        .about("Writes the list of the faults, by their numbers")
+        .about("Lists the faults of a circuit with their numbers and probabilities")
         .after_help(ABOUT_FAULTS)
 }
 
@@ -94,10 +99,10 @@ fn predict_command<'a>(alloc: Global) -> Result<Command<'a>, AllocError> {
     let lines = option(
         alloc,
         "lines",
-        "The numbers of error lines, joined by commas [default: none]",
+        "Numbers of the error lines, as --lines 6,16 [default: none]",
     );
     Command::new(alloc, "predict")
-        .about("Writes what error lines of a detector error model flip together")
+        .about("Predicts what the chosen error lines of a detector error model flip together")
         .after_help(ABOUT_PREDICTIONS)
         .arg(lines)
 }

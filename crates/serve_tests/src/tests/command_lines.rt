@@ -42,23 +42,61 @@ fn check_taken(
 
 /// Words, and a text in the help that they ask for.
 const HELP: &[(&[&str], &str)] = &[
-    (&["--help"], "Simulates or analyses"),
-    (&["--help"], "Exit status: 0 done; 1 memory ran out"),
-    (&["run", "--help"], "One digit 0 or 1 for each collapse"),
-    (&["run", "--help"], "Example: stabsim run --faults 0 < "),
-    (&["analyze", "--help"], "Writes the detector error model"),
-    (&["analyze", "--help"], "Example: stabsim analyze < "),
-    (&["sample", "--help"], "How many shots, at most 1000000"),
-    (&["sample", "--help"], "Example: stabsim sample --shots 10 "),
-    (&["detect", "--help"], "The seed of the generator"),
-    (&["detect", "--help"], "Example: stabsim detect --shots 10 "),
-    (&["faults", "--help"], "Writes the list of the faults"),
-    (&["faults", "--help"], "Example: stabsim faults < "),
-    (&["predict", "--help"], "The numbers of error lines"),
+    (&["--help"], "Simulates stabilizer circuits"),
+    (&["--help"], "  analyze  Writes the detector error model"),
+    (&["--help"], "\nExit status:\n   0  Done.\n   1  Failed: "),
+    (&["--help"], "\n   2  Refused: "),
+    (&["--help"], "\n   3  Random: "),
     (
-        &["predict", "--help"],
-        "Example: stabsim predict --lines 6,16 < ",
+        &["--help"],
+        "stabsim analyze < examples/repetition_code.stim",
     ),
+    (&["run", "--help"], "Runs a circuit once"),
+    (&["run", "--help"], "as --coins 0101 "),
+    (&["run", "--help"], "as --faults 3,17, "),
+    (&["run", "--help"], "stabsim run --faults 6,16 < "),
+    (&["analyze", "--help"], "Writes the detector error model"),
+    (&["analyze", "--help"], "refused; 3 random."),
+    (&["analyze", "--help"], "stabsim analyze < "),
+    (&["sample", "--help"], "How many shots, at most 1000000"),
+    (&["sample", "--help"], "stabsim sample --shots 10 "),
+    (&["detect", "--help"], "as --seed 7 [default: 0]"),
+    (&["detect", "--help"], "stabsim detect --shots 10 "),
+    (&["faults", "--help"], "Lists the faults of a circuit"),
+    (&["faults", "--help"], "stabsim faults < "),
+    (&["predict", "--help"], "as --lines 6,16 [default: none]"),
+    (&["predict", "--help"], "stabsim predict --lines 6,16 < "),
+];
+
+/// How the line of each refusal begins in the program's help.
+const REFUSALS: &[&str] = &[
+    "10  Byte ",
+    "11  Name ",
+    "12  LeftOut            docs/FROM_STIM.md ",
+    "13  Arguments ",
+    "14  Probability ",
+    "15  Target ",
+    "16  Count ",
+    "17  SameQubit ",
+    "18  Block ",
+    "19  RepeatZero ",
+    "20  Number ",
+    "21  Depth ",
+    "22  RecordBeforeStart ",
+    "23  Steps ",
+    "24  Records ",
+    "25  Detectors ",
+    "40  DemName ",
+    "41  DemArguments ",
+    "42  DemTarget ",
+    "43  DemBlock ",
+    "44  DemNumber ",
+    "45  DemRepeatZero ",
+    "46  DemDepth ",
+    "47  DemSteps ",
+    "50  CoinCount ",
+    "51  FaultNumber ",
+    "52  Shots ",
 ];
 
 /// Help goes to the output, and its status is 0: of the program, and of each subcommand.
@@ -66,6 +104,15 @@ const HELP: &[(&[&str], &str)] = &[
 fn help_is_written(rt: HostRuntime) -> Result<(), Fail> {
     for (words, text) in HELP {
         check_help(&rt, rt.alloc(), words, text)?;
+    }
+    Ok(())
+}
+
+/// The program's help says what to do about each refusal.
+#[test]
+fn help_lists_the_refusals(rt: HostRuntime) -> Result<(), Fail> {
+    for text in REFUSALS {
+        check_help(&rt, rt.alloc(), &["--help"], text)?;
     }
     Ok(())
 }
