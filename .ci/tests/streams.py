@@ -63,7 +63,9 @@ def run_with_slow_reader(words, content, length):
 def run_with_output_in_file(words, content):
     """The same where the output is a file."""
     with file_of(content) as source, file_of("") as output:
-        ended = subprocess.run([PROGRAM, *words], stdin=source, stdout=output, stderr=subprocess.STDOUT, timeout=SECONDS)
+        ended = subprocess.run(
+            [PROGRAM, *words], stdin=source, stdout=output, stderr=subprocess.STDOUT, timeout=SECONDS
+        )
         output.seek(0)
         return output.read(), ended.returncode
 

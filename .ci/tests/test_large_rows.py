@@ -1,7 +1,24 @@
 """Large inputs, one and more for each subcommand: what is written and how the program ends.
 
-A program that answers `memory ran out`, with status 1, beyond some size fails here. Each test says which sizes it passes.
-All expected bytes follow from the formulas beside them.
+A program that answers that memory ran out, with status 1, where some size passes a bound fails here. All expected bytes
+follow from the formulas beside them. The sizes, and a test that passes each:
+
+    predict     50 lines named                  LargePredictions, lines of 3000, written out and in a block
+                500 error lines                 the same
+                a text of 20,000 bytes          LargePredictions, written out; LargeRuns, a refusal in the last line
+                300 targets of a line           LargePredictions, an error line of 1000 targets
+    analyze     2,000 faults                    LargeAnalyses, a block of 3000 turns, and 3000 detectors written out
+                100 qubits and ten faults       LargeAnalyses, 200 qubits with 2400 faults
+                100 targets of a line           LargeAnalyses, a fault that flips 500 detectors
+                sets of 300 merged              LargeAnalyses, sets that overlap, equal sets, and sets by feedback
+                300 coins of a random target    LargeRandomAnalyses
+                a text of 20,000 bytes          LargeAnalyses, 3000 detectors written out
+    sample,     500 records, 300 detectors      LargeShots, on 201 qubits and in a block
+    detect      64 qubits                       the same, and 300 qubits at once
+                1,000 faults                    LargeShots, all three
+    run         500 coins or faults named       LargeRuns, 2000 coins and 667 faults
+                100 qubits                      LargeRuns, 1000 qubits in one state
+    faults      2,000 faults                    LargeFaultLists
 """
 from program import ProgramTest, bits, listed, named
 
@@ -134,7 +151,7 @@ class LargeRandomAnalyses(ProgramTest):
         self.check(["analyze"], circuit, output, 3)
 
     def test_299_resets_on_300_qubits(self):
-        """300 qubits and 1,000 coins. A reset of a qubit that a CX joined to qubit 0 meets the frame, and clears it there."""
+        """300 qubits and 1,000 coins. A frame reaches the qubits that a CX joins to qubit 0; their resets clear it there."""
         joined = [q for q in range(1, 300) if is_marked(q)]
         circuit = "H 0\n" + "".join(f"CX 0 {q}\n" * is_marked(q) + f"R {q}\n" for q in range(1, 300))
         circuit += "".join(f"M {0 if is_marked(k) else 1}\n" for k in range(700)) + "M 0\nDETECTOR\nDETECTOR rec[-1]\n"
@@ -212,7 +229,7 @@ class LargeShots(ProgramTest):
         self.check_alike(circuit, bits(records), bits(compared))
 
     def test_3000_records_and_detectors_in_a_block(self):
-        """3,000 turns on qubit 200, three records and three detectors in a turn of which one flips, and an observable."""
+        """1,000 turns on 201 qubits, with three records and three detectors each, of which the middle one flips."""
         circuit = "REPEAT 1000 {\nX_ERROR(1) 200\nX_ERROR(0) 199\nMR 198 200 199\n"
         circuit += "DETECTOR rec[-1]\nDETECTOR rec[-2]\nDETECTOR rec[-3]\n}\nOBSERVABLE_INCLUDE(1) rec[-2]\n"
         self.check_alike(circuit, "010" * 1000, "010" * 1000 + "01")

@@ -39,11 +39,12 @@ class ShotsBySeed(ProgramTest):
             drawn = list(draw_shots(seed, 130, probabilities, collapses))
             for command, told in ("sample", records_of), ("detect", detections_of):
                 output = lines(told(faults, coins) for faults, coins in drawn)
+                first = "".join(output.splitlines(True)[:65])
                 with self.subTest(seed=seed, command=command):
                     self.check([command, "--shots", "130", "--seed", str(seed)], circuit, output)
                     if seed == 0:
                         self.check([command, "--shots", "130"], circuit, output)
-                    self.check([command, f"--seed={seed}", "--shots=65"], circuit, "".join(output.splitlines(True)[:65]))
+                    self.check([command, f"--seed={seed}", "--shots=65"], circuit, first)
                 written.add((command, output))
         self.assertEqual(len(written), 2 * len(SEEDS))
 
@@ -51,7 +52,10 @@ class ShotsBySeed(ProgramTest):
         """Faults alone: six probabilities in turn, each of which flips its record; 400 faults and detectors."""
         kinds = ["0.5", "0.25", "0.001", "1", "0", "9e-1"]
         probabilities = [kinds[k % 6] for k in range(400)]
-        circuit = "".join(f"X_ERROR({p}) {k % 70}\nMR {k % 70}\nDETECTOR rec[-1]\n" for k, p in enumerate(probabilities))
+        circuit = "".join(
+            f"X_ERROR({probability}) {k % 70}\nMR {k % 70}\nDETECTOR rec[-1]\n"
+            for k, probability in enumerate(probabilities)
+        )
 
         def flipped(faults, coins):
             return faults

@@ -57,7 +57,7 @@ class Input(ProgramTest):
                 self.check(["run"], content, f"{records}\n\n")
 
     def test_a_number_at_4096_and_8192(self):
-        """A number of four digits that lies across the place: without one of its digits, or with one twice, X misses."""
+        """A number of four digits lies across the place: where one of them is lost or doubled, X names another qubit."""
         for place in PIECE, 2 * PIECE, 3 * PIECE:
             for before in range(5):
                 content = "#" + "." * (place - before - 4) + "\nX 1234\n"
@@ -167,6 +167,11 @@ class FailingStreams(ProgramTest):
         for words, _ in ORDERS:
             with self.subTest(words=words):
                 self.compare(streams.run_with_input_named(words, "/"), "", 1)
+
+    def test_the_command_line_is_judged_before_the_input(self):
+        for words in [["walk"], ["sample"], ["run", "--seed", "1"]]:
+            with self.subTest(words=words):
+                self.compare(streams.run_with_input_named(words, "/"), "usage\n", 2)
 
     def test_an_input_that_fails_behind_its_last_byte(self):
         for words, content in ORDERS:
