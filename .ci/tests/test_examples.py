@@ -119,7 +119,7 @@ COMMAND = re.compile(r"stabsim ([^<>|`\n]*)< *examples/([\w.]+)")
 
 # A command whose input stands behind it, and what is written: the next lines that are set in.
 WITH_INPUT = re.compile(
-    r"^    \./stabsim ([^<>|\n]*)<<'END'\n((?:    .*\n)*?)    END\n(?:[^ ].*\n|\n)+((?:    .*\n)+)", re.MULTILINE
+    r"^    \./stabsim ([^<>|\n]*)<<'END'\n((?:    .*\n)*?)    END\n(?:[^ \n].*\n|\n)+((?:    .*\n)+)", re.MULTILINE
 )
 
 

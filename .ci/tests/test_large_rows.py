@@ -151,7 +151,7 @@ class LargeRandomAnalyses(ProgramTest):
         self.check(["analyze"], circuit, output, 3)
 
     def test_299_resets_on_300_qubits(self):
-        """300 qubits and 1,000 coins. A frame reaches the qubits that a CX joins to qubit 0; their resets clear it there."""
+        """300 qubits and 1,000 coins. A frame reaches the qubits that a CX joins to qubit 0; resets clear it there."""
         joined = [q for q in range(1, 300) if is_marked(q)]
         circuit = "H 0\n" + "".join(f"CX 0 {q}\n" * is_marked(q) + f"R {q}\n" for q in range(1, 300))
         circuit += "".join(f"M {0 if is_marked(k) else 1}\n" for k in range(700)) + "M 0\nDETECTOR\nDETECTOR rec[-1]\n"

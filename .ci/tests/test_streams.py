@@ -57,7 +57,7 @@ class Input(ProgramTest):
                 self.check(["run"], content, f"{records}\n\n")
 
     def test_a_number_at_4096_and_8192(self):
-        """A number of four digits lies across the place: where one of them is lost or doubled, X names another qubit."""
+        """A number of four digits lies across the place: with one of them lost or doubled, X names another qubit."""
         for place in PIECE, 2 * PIECE, 3 * PIECE:
             for before in range(5):
                 content = "#" + "." * (place - before - 4) + "\nX 1234\n"
