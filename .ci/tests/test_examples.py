@@ -1,0 +1,184 @@
+"""The files of examples/: each is the text that the proved tests have, and the commands on them write what is said."""
+import pathlib
+import re
+import shlex
+import unittest
+
+from example_models import repetition_code, repetition_records, surface_code
+from pcg64 import draw_shots
+from program import ProgramTest, run_program
+
+TOP = pathlib.Path(__file__).resolve().parents[2]
+
+EXAMPLES = TOP / "examples"
+
+CONSTANTS = TOP / "crates/serve_tests/src/tests/worked/examples/texts.rt"
+
+# The name of each constant of the proved tests, and the file with its text.
+FILES = {
+    "FIRST": "first.stim",
+    "RESET": "reset.stim",
+    "BELL_PAIR": "bell_pair.stim",
+    "TELEPORTATION": "teleportation.stim",
+    "REPETITION_CODE": "repetition_code.stim",
+    "REPETITION_BLOCKS": "repetition_code.dem",
+    "SURFACE_CODE": "surface_code.stim",
+}
+
+CONSTANT = re.compile(r'^pub\(crate\) const (\w+): &str =\s*"([^"]*)";$', re.MULTILINE)
+
+
+def constants():
+    """The texts of the proved tests, by name."""
+    return dict(CONSTANT.findall(CONSTANTS.read_text()))
+
+
+class TextsOfExamples(unittest.TestCase):
+    """Each file is a constant, byte for byte, comments too."""
+
+    maxDiff = None
+
+    def test_each_constant_is_read(self):
+        text = CONSTANTS.read_text()
+        self.assertEqual(len(constants()), text.count("const "))
+        # Then a constant is the bytes that stand between its quotes.
+        self.assertNotIn("\\", text)
+
+    def test_each_constant_has_its_file_and_each_file_its_constant(self):
+        files = {path.name for pattern in ("*.stim", "*.dem") for path in EXAMPLES.glob(pattern)}
+        self.assertEqual(set(FILES), set(constants()))
+        self.assertEqual(set(FILES.values()), files)
+
+    def test_each_file_is_its_constant(self):
+        for name, text in constants().items():
+            with self.subTest(name=name):
+                self.assertEqual((EXAMPLES / FILES[name]).read_bytes().decode(), text)
+
+
+def of_shots(code, shots, seed, told=None):
+    """What `detect` writes of a code in which nothing is random, or what else is told of the faults of a shot."""
+    probabilities = [probability for probability, _, _ in code.faults]
+    told = told or code.detections
+    return "".join(told(faults) for faults, _ in draw_shots(seed, shots, probabilities, code.collapses))
+
+
+TELEPORTATION_MODEL = "error(0.01) D0\nerror(0.03) D0\nerror(0.03) D0\ndetector(2, 0) D0\n"
+
+BELL_MODEL = "error(0.01) D1 D2\nerror(0.02) D1\nerror(0.001) D1\ndetector D0\ndetector D1\ndetector D2\n"
+
+REPETITION_FAULTS = """\
+0 0.01 X0
+1 0.01 X2
+2 0.01 X4
+3 0.02 rec[0]
+4 0.02 rec[1]
+5 0.01 X0
+6 0.01 X2
+7 0.01 X4
+8 0.02 rec[2]
+9 0.02 rec[3]
+10 0.01 X0
+11 0.01 X2
+12 0.01 X4
+13 0.02 rec[4]
+14 0.02 rec[5]
+15 0.03 rec[6]
+16 0.03 rec[7]
+17 0.03 rec[8]
+coins 14
+"""
+
+# X on the qubit in the middle in the second round: 13 and 16 read 1 from then on, and so does that qubit.
+SURFACE_RUN = "0" * 12 + "1001" + "0000" + "1001" + "0000" + "1" + "0000\n" + "0" * 8 + "1001" + "0" * 13 + "\n"
+
+# The words of commands, the file that they read, and what they write. Worked by hand; numbers of shots are cut to ten.
+COMMANDS = {
+    "run --faults 0 < first.stim": "11\n\n",
+    "run < first.stim": "00\n\n",
+    "analyze < first.stim": "",
+    "faults < first.stim": "0 0.1 X0\ncoins 2\n",
+    "run < reset.stim": "010\n\n",
+    "run --coins 10010 < bell_pair.stim": "10011\n000\n",
+    "analyze < bell_pair.stim": BELL_MODEL,
+    "run --coins 110 < teleportation.stim": "110\n0\n",
+    "analyze < teleportation.stim": TELEPORTATION_MODEL,
+    "analyze < repetition_code.stim": repetition_code().model(),
+    "run --faults 6,16 < repetition_code.stim": "001111000\n001100110\n",
+    "faults < repetition_code.stim": REPETITION_FAULTS,
+    "sample --shots 10 --seed 7 < repetition_code.stim": of_shots(repetition_code(), 10, 7, repetition_records),
+    "detect --shots 10 < repetition_code.stim": of_shots(repetition_code(), 10, 0),
+    "detect --shots 10 --seed 7 < repetition_code.stim": of_shots(repetition_code(), 10, 7),
+    "detect --shots 10 --seed 1 < repetition_code.stim": of_shots(repetition_code(), 10, 1),
+    "predict --lines 6,16 < repetition_code.dem": "001100110\n",
+    "analyze < surface_code.stim": surface_code().model(),
+    "run --faults 30 < surface_code.stim": SURFACE_RUN,
+    "detect --shots 10 --seed 1 < surface_code.stim": of_shots(surface_code(), 10, 1),
+}
+
+COMMAND = re.compile(r"stabsim ([^<>|`\n]*)< *examples/([\w.]+)")
+
+# A command whose input stands behind it, and what is written: the next lines that are set in.
+WITH_INPUT = re.compile(
+    r"^    \./stabsim ([^<>|\n]*)<<'END'\n((?:    .*\n)*?)    END\n(?:[^ \n].*\n|\n)+((?:    .*\n)+)", re.MULTILINE
+)
+
+
+def commands_in(text):
+    """The commands on an example that a text shows, with their shots cut to ten."""
+    for words, file in COMMAND.findall(text):
+        yield f"{re.sub(r'--shots [0-9]+', '--shots 10', words)}< {file}"
+
+
+class CommandsOnExamples(ProgramTest):
+    def written(self, command):
+        words, file = command.split("< ")
+        return shlex.split(words), (EXAMPLES / file).read_bytes()
+
+    def test_what_they_write(self):
+        for command, output in COMMANDS.items():
+            with self.subTest(command=command):
+                words, content = self.written(command)
+                self.check(words, content, output)
+
+    def test_the_model_of_the_code_predicts_as_the_model_with_blocks(self):
+        """Lines 6 and 16 of the model that `analyze` writes: the faults 6 and 16, as each fault has its line."""
+        self.check(["predict", "--lines", "6,16"], repetition_code().model(), "001100110\n")
+
+    def test_shots_of_seven_seeds(self):
+        """200 shots, which are three batches of 64 and more: each detection line is the sum of its faults' lines."""
+        code = repetition_code()
+        for seed in range(7):
+            for command, told in ("detect", code.detections), ("sample", repetition_records):
+                with self.subTest(command=command, seed=seed):
+                    words, content = self.written(f"{command} --shots 200 --seed {seed} < repetition_code.stim")
+                    self.check(words, content, of_shots(code, 200, seed, told))
+
+    def test_commands_that_help_shows(self):
+        """A command on an example that help shows is one of those above."""
+        for words in [], ["run"], ["sample"], ["detect"], ["analyze"], ["faults"], ["predict"]:
+            with self.subTest(words=words):
+                shown = set(commands_in(run_program([*words, "--help"], "")[0].decode()))
+                self.assertNotEqual(shown, set())
+                self.assertEqual(shown - set(COMMANDS), set())
+
+    def test_inputs_that_readme_shows(self):
+        shown = WITH_INPUT.findall((TOP / "README.md").read_text())
+        if not shown:
+            self.skipTest("README shows no input beside the examples")
+        for words, content, output in shown:
+            with self.subTest(words=words):
+                self.check(shlex.split(words), re.sub("(?m)^    ", "", content), re.sub("(?m)^    ", "", output))
+
+
+class CommandsOfPages(unittest.TestCase):
+    """A command on an example that a comment of an example, or README, shows is one of those above."""
+
+    def test_comments_of_examples(self):
+        shown = {command for file in FILES.values() for command in commands_in((EXAMPLES / file).read_text())}
+        self.assertGreaterEqual(len(shown), 10)
+        self.assertEqual(shown - set(COMMANDS), set())
+
+    def test_readme(self):
+        shown = set(commands_in((TOP / "README.md").read_text()))
+        self.assertGreaterEqual(len(shown), 3)
+        self.assertEqual(shown - set(COMMANDS), set())
