@@ -1,5 +1,6 @@
 """A repository with stand-ins for the toolchain's command `rt` and for the program that it builds, for tests of the launcher."""
 
+import contextlib
 import os
 import shutil
 import signal
@@ -133,6 +134,15 @@ class Case(unittest.TestCase):
         while not condition():
             self.assertLess(time.monotonic(), until, "waited too long")
             time.sleep(0.01)
+
+    def is_gone(self, group):
+        """Returns whether no process of the group runs. Those that ended may still wait for init to take note."""
+        for name in filter(str.isdigit, os.listdir("/proc")):
+            with contextlib.suppress(OSError, ValueError):
+                state, _, of = self.read(f"/proc/{name}/stat").rpartition(")")[2].split()[:3]
+                if int(of) == group and state != "Z":
+                    return False
+        return True
 
     def expected(self, *words, code="first code", tunables="glibc.malloc.hugetlb=1", cwd=None, stdin=b""):
         fields = [code, tunables, os.path.realpath(cwd or os.getcwd()), str(len(words)), *words]

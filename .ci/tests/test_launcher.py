@@ -262,13 +262,6 @@ class Interrupted(Case):
         self.wait_for(lambda: os.path.exists(f"{self.rt}/pid") and self.read(f"{self.rt}/pid"))
         return started
 
-    def is_gone(self, group):
-        try:
-            os.killpg(group, 0)
-        except ProcessLookupError:
-            return True
-        return False
-
     def builder(self):
         """Returns the process group of the build, which isn't the launcher's."""
         return os.getpgid(int(self.read(f"{self.rt}/pid")))
