@@ -1,5 +1,6 @@
 """Tests of the launcher, with stand-ins for the toolchain's command `rt` and for the program that it builds."""
 
+import glob
 import os
 import shutil
 import signal
@@ -7,7 +8,7 @@ import subprocess
 import time
 import unittest
 
-from stand_in import ENDS, Case
+from stand_in import ENDS, REPOSITORY, Case
 
 WORDS = ["", "two words", " ", "'", '"', "*", "?", "$HOME", "`id`", "\\", "a\\nb", "--", "-n", "é", "=", "a\nb", ";", ""]
 
@@ -122,6 +123,12 @@ class Builds(Case):
                 self.assert_runs("word")
                 self.assertEqual(self.calls(), [])
                 self.assert_is_quick()
+
+    def test_all_code_is_looked_at(self):
+        """Asserts that in this repository only tests lie deeper than the launcher looks."""
+        deep = glob.glob(f"{REPOSITORY}/crates/*/src/*/*/**/*.rt", recursive=True)
+        crates = {os.path.relpath(it, f"{REPOSITORY}/crates").split("/")[0] for it in deep}
+        self.assertEqual([it for it in crates if not it.endswith("_tests")], [])
 
     def test_not_behind_what_is_no_code(self):
         self.write(f"{self.top}/crates/low/src/lib.rt~", "an editor's copy\n")
