@@ -1,0 +1,187 @@
+"""A repository with stand-ins for the toolchain's command `rt` and for the program that it builds, for tests of the launcher."""
+
+import contextlib
+import os
+import shutil
+import signal
+import subprocess
+import tempfile
+import time
+import unittest
+
+REPOSITORY = os.path.dirname(os.path.dirname(os.path.dirname(os.path.abspath(__file__))))
+
+# All that the launcher and its scripts call. The tests' PATH has these, and no real rt.
+TOOLS = """awk basename bash cat chmod cksum cp dirname env find flock mkdir mv nproc readlink rm sed sh sha256sum sleep sort
+touch xargs""".split()
+
+# Notes its words, and builds by a copy of the stand-in program that names the code in which it was built. A file beside it
+# asks for something else: `sleeps` for a build that doesn't end, `fails` for one that fails, `fails-behind` for one that fails when
+# the program is written, `builds-nothing` for one that writes none, and `edits` for code that changes meanwhile.
+RT = """#!/bin/sh
+here=${0%/*}
+echo "$*" >>"$here/calls"
+echo "${GLIBC_TUNABLES-unset}" >>"$here/tunables"
+cat >>"$here/stdin"
+[ "$1" = run ] || exit 0
+[ -e "$here/sleeps" ] && { echo $$ >"$here/pid"; sleep 1000; }
+[ -e "$here/slow" ] && sleep 1
+[ -e "$here/fails" ] && { echo 'goal 7 is open'; echo 'not proved' >&2; exit 1; }
+[ -e "$here/builds-nothing" ] && exit 0
+sed "s|CODE|$(cat src/main.rt)|" "$here/program" >out/stabsim
+chmod +x out/stabsim
+[ -e "$here/edits" ] && { rm "$here/edits"; echo 'edited meanwhile' >src/main.rt; }
+[ -e "$here/fails-behind" ] && exit 1
+exit 0
+"""
+
+# Writes the code that it was built from, GLIBC_TUNABLES, the folder where it runs, its words and its input.
+PROGRAM = """#!/bin/sh
+printf '%s|' 'CODE' "${GLIBC_TUNABLES-unset}" "$(pwd -P)" "$#" "$@"
+cat
+exit "${STAND_IN_STATUS-0}"
+"""
+
+# The signals that interrupt a build.
+ENDS = (signal.SIGINT, signal.SIGTERM, signal.SIGHUP)
+
+
+class Case(unittest.TestCase):
+    """A temporary repository whose program is built and newer than all of its files."""
+
+    def setUp(self):
+        room = tempfile.TemporaryDirectory(prefix="launcher-")
+        self.addCleanup(room.cleanup)
+        self.room = os.path.realpath(room.name)
+        self.tools = f"{self.room}/tools"
+        os.mkdir(self.tools)
+        for name in TOOLS:
+            os.symlink(shutil.which(name), f"{self.tools}/{name}")
+        self.rt = f"{self.room}/rt"
+        self.write(f"{self.rt}/rt", RT, mode=0o755)
+        self.write(f"{self.rt}/program", PROGRAM)
+        self.top = f"{self.room}/repository"
+        for name in ("build", "lanes", "sums"):
+            self.copy(f".ci/{name}")
+        self.copy("stabsim")
+        for name, text in (
+            ("crates.txt", "low:\nstabsim: low\n"),
+            ("HANDLES", "Handles allowed: none.\n"),
+            ("README.md", "Read me.\n"),
+            ("crates/low/src/lib.rt", "low\n"),
+            ("crates/low/src/part.rt", "part\n"),
+            ("crates/low/src/deep/inner.rt", "inner\n"),
+            ("crates/low/specs/Lib.antt", "spec\n"),
+            ("crates/low/proofs/call/Answers.antt", "proof\n"),
+            ("crates/stabsim/src/main.rt", "first code"),
+        ):
+            self.write(f"{self.top}/{name}", text)
+        self.call()
+        self.age_all()
+        os.remove(f"{self.rt}/calls")
+
+    def write(self, path, text, mode=0o644):
+        os.makedirs(os.path.dirname(path), exist_ok=True)
+        with open(path, "w") as file:
+            file.write(text)
+        os.chmod(path, mode)
+
+    def read(self, path):
+        with open(path) as file:
+            return file.read()
+
+    def copy(self, name):
+        os.makedirs(os.path.dirname(f"{self.top}/{name}"), exist_ok=True)
+        shutil.copy(f"{REPOSITORY}/{name}", f"{self.top}/{name}")
+
+    @property
+    def program(self):
+        return f"{self.top}/crates/stabsim/out/stabsim"
+
+    def set_age(self, path, seconds):
+        then = time.time() - seconds
+        os.utime(path, (then, then))
+
+    def age_all(self):
+        """Makes each file and folder an hour old, and the program half an hour."""
+        for at, _, names in os.walk(self.top, topdown=False):
+            for name in names:
+                self.set_age(f"{at}/{name}", 3600)
+            self.set_age(at, 3600)
+        self.set_age(self.program, 1800)
+
+    def environment(self, with_rt=True, **more):
+        found = {name: text for name, text in os.environ.items() if name != "GLIBC_TUNABLES"}
+        found["PATH"] = f"{self.rt}:{self.tools}" if with_rt else self.tools
+        return {**found, **more}
+
+    def call(self, *words, launcher=None, stdin=b"", cwd=None, with_rt=True, **more):
+        command = launcher if isinstance(launcher, list) else [launcher or f"{self.top}/stabsim"]
+        environment = self.environment(with_rt, **more)
+        return subprocess.run([*command, *words], input=stdin, cwd=cwd, env=environment, capture_output=True, timeout=60)
+
+    def start_call(self, *words):
+        """Starts a call in a process group of its own, which heeds signals that the tests' own process may ignore."""
+        how = {"stdin": subprocess.DEVNULL, "stdout": subprocess.PIPE, "stderr": subprocess.PIPE, "start_new_session": True}
+        heed = lambda: [signal.signal(it, signal.SIG_DFL) for it in ENDS]
+        started = subprocess.Popen([f"{self.top}/stabsim", *words], env=self.environment(), preexec_fn=heed, **how)
+        self.addCleanup(started.communicate)
+        self.addCleanup(started.kill)
+        return started
+
+    def wait_for(self, condition):
+        until = time.monotonic() + 20
+        while not condition():
+            self.assertLess(time.monotonic(), until, "waited too long")
+            time.sleep(0.01)
+
+    def is_gone(self, group):
+        """Returns whether no process of the group runs. Those that ended may still wait for init to take note."""
+        for name in filter(str.isdigit, os.listdir("/proc")):
+            with contextlib.suppress(OSError, ValueError):
+                state, _, of = self.read(f"/proc/{name}/stat").rpartition(")")[2].split()[:3]
+                if int(of) == group and state != "Z":
+                    return False
+        return True
+
+    def expected(self, *words, code="first code", tunables="glibc.malloc.hugetlb=1", cwd=None, stdin=b""):
+        fields = [code, tunables, os.path.realpath(cwd or os.getcwd()), str(len(words)), *words]
+        return "".join(f"{it}|" for it in fields).encode() + stdin
+
+    def assert_runs(self, *words, told=b"", stdin=b"", code="first code", cwd=None, **how):
+        """Calls the launcher, and asserts that the program had exactly these words and this input, and that nothing else was said."""
+        ended = self.call(*words, stdin=stdin, cwd=cwd, **how)
+        self.assertEqual(ended.stderr, told)
+        self.assertEqual(ended.stdout, self.expected(*words, code=code, cwd=cwd, stdin=stdin))
+        self.assertEqual(ended.returncode, 0)
+
+    def calls(self):
+        """Returns what rt was asked for, and forgets it."""
+        path = f"{self.rt}/calls"
+        if not os.path.exists(path):
+            return []
+        found = self.read(path).splitlines()
+        os.remove(path)
+        return found
+
+    def assert_builds(self, code="first code"):
+        """Asserts that a call builds the program from this code and runs it, and that the next call builds nothing."""
+        ended = self.call("word")
+        self.assertEqual(ended.stdout, self.expected("word", code=code))
+        self.assertEqual(ended.returncode, 0)
+        self.assertIn(b"proving and building the program", ended.stderr)
+        lanes, run = self.calls()
+        self.assertRegex(lanes, r"^all check --jobs [1-9][0-9]*$")
+        self.assertEqual(run, "run -- --help")
+        self.assert_is_quick(code=code)
+
+    def assert_is_quick(self, code="first code"):
+        """Asserts that a call looks at times alone and runs the program."""
+        shutil.move(f"{self.top}/.ci", f"{self.room}/away")
+        self.assert_runs("word", code=code)
+        shutil.move(f"{self.room}/away", f"{self.top}/.ci")
+        self.assertEqual(self.calls(), [])
+
+    def make_missing(self):
+        if os.path.exists(self.program):
+            os.remove(self.program)
