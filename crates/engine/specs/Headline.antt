@@ -1,7 +1,7 @@
 -- What an analysis promises of the bytes that it writes for a text. Where its status is Done, they are the text of an
--- error model and read as that model. The model fits the program for which the text stands, and is exact: take any set
--- of the program's faults and any two coin lists, and compare the run with these faults under the first list with the
--- run without faults under the second: the detectors and observables that differ are the exclusive or of those faults'
+-- error model and read as that model. The model fits the program for which the text stands, and is exact. For any set
+-- of the program's faults and any two coin lists, compare the run with these faults under the first list with the run
+-- without faults under the second: the detectors and observables that differ are the exclusive or of those faults'
 -- targets in the model. So no target is random. Where its status is Random, the bytes name a random target and two coin
 -- lists under which the runs without faults differ in that target; no lower target is random, detectors being lower
 -- than observables. (A coin is the outcome of a collapse, the projective measurement inside a measurement or a reset,
