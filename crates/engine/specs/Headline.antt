@@ -1,12 +1,12 @@
 -- What an analysis promises of the bytes that it writes for a text. Where its status is Done, they are the text of an
--- error model and read as that model. The model fits the program for which the text stands, and is exact: for every set
--- of the program's faults and any two coin lists, the detectors and observables that differ between the run with these
--- faults under the first list and the run without faults under the second are the exclusive or of those faults' targets
--- in the model. So no target is random. Where its status is Random, the bytes name a random target and two coin lists
--- under which the runs without faults differ in that target; no lower target is random, detectors being lower than
--- observables. (A coin is the outcome of a collapse, the projective measurement inside a measurement or a reset, where
--- that outcome is random.) (Detectors, observables and their error models are Stim's, github.com/quantumlib/Stim; the
--- promise is this project's own.)
+-- error model and read as that model. The model fits the program for which the text stands, and is exact. For any set
+-- of the program's faults and any two coin lists, compare the run with these faults under the first list with the run
+-- without faults under the second: the detectors and observables that differ are the exclusive or of those faults'
+-- targets in the model. So no target is random. Where its status is Random, the bytes name a random target and two coin
+-- lists under which the runs without faults differ in that target; no lower target is random, detectors being lower
+-- than observables. (A coin is the outcome of a collapse, the projective measurement inside a measurement or a reset,
+-- where that outcome is random.) (Detectors, observables and their error models are Stim's, github.com/quantumlib/Stim;
+-- the promise is this project's own.)
 use Rattle.std.specs.Prelude.{◌≡◌, ◌≢◌, ◌<◌, ◌∷◌, ◌++◌, ℕ, Bool, List, length, codes, Ok}
 use Rattle.step_model.specs.ErrorModels.{ErrorModel, Fits, IsExact}
 use Rattle.step_model.specs.Listing.{Listing}

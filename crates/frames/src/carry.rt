@@ -12,7 +12,10 @@ use step_model::{Cause, Fault, Place};
 
 /// The flips of a Pauli frame, which begins as this word at this place: for each collapse whether the frame flips its
 /// outcome. A collapse is the projective measurement inside a measurement or a reset; those up to and with the place's
-/// own are not flipped. The word's sign plays no part, and no fault happens. It fails only where memory runs out.
+/// own are not flipped. The word's sign plays no part, and no fault happens.
+///
+/// A place after collapse k gives k + 1 flips or more, even where the program has fewer collapses. It fails only where
+/// memory runs out.
 pub fn flips<A: Allocator + Copy>(
     alloc: A,
     program: &Program<'_, A>,

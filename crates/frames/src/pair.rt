@@ -15,10 +15,10 @@ use run_laws::shift::pair_disagrees;
 use std::alloc::{AllocError, Allocator};
 use step_model::{Cause, Fault, Place, Term};
 
-/// The two coin lists of a place, a coin for each collapse. The first is all zeros. The second is the flips of the
-/// frame that begins at the place: as the word that the place's collapse measures, or as Z at the place's qubit of the
-/// start. Runs without faults under the two lists give different parities to each target that has this place. It fails
-/// only where memory runs out.
+/// The two coin lists of a place of the program, a coin for each collapse. The first is all zeros. The second is the
+/// flips of the frame that begins at the place: as the word that the place's collapse measures, or as Z at the place's
+/// qubit of the start. Runs without faults under the two lists give different parities to each target that has this
+/// place. It fails only where memory runs out.
 pub fn coin_pair<A: Allocator + Copy>(
     alloc: A,
     program: &Program<'_, A>,

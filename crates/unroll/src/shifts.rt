@@ -37,8 +37,8 @@ pub(crate) fn shift(offset: &mut Offset, instruction: Instruction<'_, '_>)
     }
 }
 
-/// Makes the offset after a block's first turn that after this many more turns. `before` is the offset before the
-/// block.
+/// Takes an offset from that after a block's first turn on to that after this many more turns. `before` is the offset
+/// before the block.
 pub(crate) fn turn_on(offset: &mut Offset, before: &Offset, turns: u64)
     requires small_up { All (λ n. n < 2 ^ 62) (turned_by turns before.now.up offset.old.up) }
     requires small_down { All (λ n. n < 2 ^ 62) (turned_by turns before.now.down offset.old.down) }
