@@ -17,15 +17,14 @@ use std::alloc::Allocator;
 use step_model::{Fault, Sink, Source, read_all};
 
 /// Reads a text to the end of its source, and writes to the sink what the order asks of it, or the one line that
-/// says why it is refused. All memory is had before the first byte is written. A source or a sink that failed isn't
-/// called again.
+/// says why it is refused. A source or a sink that failed isn't called again.
 pub fn serve<R: Source, W: Sink, A: Allocator + Copy>(
     alloc: A,
     order: &Order<'_>,
     source: &mut R,
     sink: &mut W,
 ) -> Result<Status, Fault>
-    // Of a source that tells its bytes, all are read, and what is written is the output for them and nothing else.
+    // All the bytes of the source are read, where they are known, and the output for them is written, and nothing else.
     ensures read { OnOk result (OnSome (R.left source.old) (R.left source.new ≡ Some [])) }
     ensures written { OnOk result (IfSome (R.left source.old) (λ text.
         Takes (W.taken sink.old) (W.taken sink.new) (output_of order.now text).bytes)) }
@@ -40,7 +39,7 @@ pub fn serve<R: Source, W: Sink, A: Allocator + Copy>(
     ensures random { IfOk result (λ status. order.now ≡ Analyze → status ≡ Random → IfSome (R.left source.old) (λ text.
         (bytes : List ℕ) × Takes (W.taken sink.old) (W.taken sink.new) bytes × IsRandomFor text bytes)) }
 
-    // The source failed, the sink failed, or there was no memory: each count has one more exactly where its end failed.
+    // The source failed, the sink failed, or there was no memory: a count goes up exactly where its source or sink failed.
     ensures fault { IfErr result (λ e. (e ≡ memory_fault) ⊎ (e ≡ read_fault) ⊎ (e ≡ write_fault)) }
     ensures reads { R.failures source.new ≡ read_failures result (R.failures source.old) }
     ensures writes { W.failures sink.new ≡ write_failures result (W.failures sink.old) }
