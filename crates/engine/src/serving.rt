@@ -47,7 +47,7 @@ pub fn serve<R: Source, W: Sink, A: Allocator + Copy>(
     // Where the source failed nothing is written, though it had handed out all of its bytes.
     ensures silent { IfErr result (λ e. e ≡ read_fault → W.taken sink.new ≡ W.taken sink.old) }
 
-    // After another error a beginning of the output is written, and none of it unless all was read.
+    // After an error a beginning of the output is written, and none of it unless all was read.
     ensures rest { OnErr result (HandsOutSome (R.left source.old) (R.left source.new)) }
     ensures unread { OnErr result ((W.taken sink.new ≡ W.taken sink.old) ⊎ IsAtEnd (R.left source.new)) }
     ensures beginning { OnErr result (IfSome (R.left source.old) (λ text.
