@@ -5,7 +5,7 @@ follow from the formulas beside them. The sizes, and a test that passes each:
 
     predict     50 lines named                  LargePredictions, lines of 3000, written out and in a block
                 500 error lines                 the same
-                a text of 20,000 bytes          LargePredictions, written out; LargeRuns, a refusal in the last line
+                a text of 20,000 bytes          LargePredictions, written out and with shifts; LargeRuns, a refusal
                 300 targets of a line           LargePredictions, an error line of 1000 targets
     analyze     2,000 faults                    LargeAnalyses, a block of 3000 turns, and 3000 detectors written out
                 100 qubits and ten faults       LargeAnalyses, 200 qubits with 2400 faults
@@ -45,6 +45,15 @@ class LargePredictions(ProgramTest):
         model = "repeat 3000 {\n    error(0.001) D0\n    shift_detectors 1\n}\nlogical_observable L2\n"
         output = bits(k % 2 == 0 for k in range(MANY)) + "000\n"
         self.check(["predict", "--lines", listed(EVEN)], model, output)
+
+    def test_each_third_of_1500_lines_with_shifts(self):
+        """500 lines named; 1,500 error lines with a shift behind each: a text of 55,000 bytes.
+
+        Line k flips the detectors k and k + 1.
+        """
+        model = "error(0.001) D0 D1\nshift_detectors 1\n" * 1500
+        output = bits(k % 3 != 2 for k in range(1500)) + "0\n"
+        self.check(["predict", "--lines", listed(range(0, 1500, 3))], model, output)
 
     def test_an_error_line_of_1000_targets(self):
         """Error lines of more than 300 targets, which cancel where both name a detector, and 1,024 observables."""
