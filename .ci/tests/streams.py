@@ -15,7 +15,7 @@ from program import PROGRAM, SECONDS, as_bytes, file_of
 
 @contextlib.contextmanager
 def started(words, **files):
-    """The program while it runs. It is ended where a test gives up."""
+    """The running program. It is killed where a test gives up."""
     with subprocess.Popen([PROGRAM, *words], bufsize=0, **files) as running:
         try:
             yield running
@@ -25,7 +25,7 @@ def started(words, **files):
 
 
 def bytes_waiting(pipe):
-    """How many bytes stand in a pipe that its reader hasn't taken yet."""
+    """How many bytes of a pipe its reader hasn't taken yet."""
     return struct.unpack("i", fcntl.ioctl(pipe, termios.FIONREAD, b"\0" * 4))[0]
 
 
@@ -80,7 +80,7 @@ def run_with_output_in_file(words, content):
 
 
 def run_with_input_named(words, path):
-    """The same where the input is what stands at a path, such as a folder."""
+    """The same where the input is the file or folder at a path."""
     source = os.open(path, os.O_RDONLY)
     try:
         ended = subprocess.run(

@@ -147,14 +147,14 @@ class LargeRandomAnalyses(ProgramTest):
     """`analyze` of random targets: two coin lists, and status 3."""
 
     def test_2000_coins_from_the_start(self):
-        """2,001 coins. A frame from the start flips qubit 0 and not qubit 1; the records of both are in a pattern."""
+        """2,001 coins. A frame from the start flips qubit 0 and not qubit 1, which are measured in a pattern."""
         targets = [0 if is_marked(k) else 1 for k in range(2000)] + [0]
         circuit = "H 0\n" + "".join(f"M {target}\n" for target in targets) + "DETECTOR rec[-1]\n"
         output = f"random D0\n{'0' * 2001}\n{bits(target == 0 for target in targets)}\n"
         self.check(["analyze"], circuit, output, 3)
 
     def test_2000_coins_from_a_collapse(self):
-        """2,001 coins in blocks: a frame that begins at the coin in the middle."""
+        """2,001 coins in blocks. The frame begins after the collapse in the middle."""
         circuit = "REPEAT 250 {\nM 0 1 1 0\n}\nMX 0\nREPEAT 250 {\nM 0 1 1 0\n}\nOBSERVABLE_INCLUDE(7) rec[-1]\n"
         output = f"random L7\n{'0' * 2001}\n{'0' * 1001}{'1001' * 250}\n"
         self.check(["analyze"], circuit, output, 3)
@@ -180,7 +180,7 @@ class LargeRuns(ProgramTest):
         self.check(words, circuit, f"{bits(records)}\n{bits(compared)}\n")
 
     def test_1000_qubits_in_one_state(self):
-        """1,000 qubits that read alike: the first coin decides."""
+        """1,000 qubits whose outcomes are all the first coin."""
         circuit = "H 0\nCX" + "".join(f" {q} {q + 1}" for q in range(999)) + "\nM"
         circuit += "".join(f" {q}" for q in range(1000)) + "\n"
         self.check(["run", "--coins", "1" + "0" * 999], circuit, "1" * 1000 + "\n\n")
@@ -217,9 +217,9 @@ class LargeFaultLists(ProgramTest):
 
 
 class LargeShots(ProgramTest):
-    """`sample` and `detect`, of faults that always or never happen: 130 shots that are alike."""
+    """`sample` and `detect` with faults that always or never happen: 130 equal shots."""
 
-    def check_alike(self, circuit, records, detections):
+    def check_equal_shots(self, circuit, records, detections):
         for words, line in (["sample"], records), (["detect"], detections):
             with self.subTest(words=words):
                 self.check([*words, "--shots", "130"], circuit, f"{line}\n" * 130)
@@ -235,13 +235,13 @@ class LargeShots(ProgramTest):
             circuit += f"X_ERROR({'1' if is_marked(k) else '0'}) {qubit}\nMR {qubit}\nDETECTOR rec[-1] rec[-2]\n"
         records = [False] + [is_marked(k) for k in range(MANY)]
         compared = [records[k] != records[k + 1] for k in range(MANY)]
-        self.check_alike(circuit, bits(records), bits(compared))
+        self.check_equal_shots(circuit, bits(records), bits(compared))
 
     def test_3000_records_and_detectors_in_a_block(self):
         """1,000 turns on 201 qubits, with three records and three detectors each, of which the middle one flips."""
         circuit = "REPEAT 1000 {\nX_ERROR(1) 200\nX_ERROR(0) 199\nMR 198 200 199\n"
         circuit += "DETECTOR rec[-1]\nDETECTOR rec[-2]\nDETECTOR rec[-3]\n}\nOBSERVABLE_INCLUDE(1) rec[-2]\n"
-        self.check_alike(circuit, "010" * 1000, "010" * 1000 + "01")
+        self.check_equal_shots(circuit, "010" * 1000, "010" * 1000 + "01")
 
     def test_200_qubits_and_1100_faults_at_once(self):
         """1,100 faults on one line, and one of 300 letters; 300 qubits."""
@@ -253,4 +253,4 @@ class LargeShots(ProgramTest):
         # Qubits below 200 are named four times and the others three times, and the last fault turns all of them.
         line = bits((targets.count(q) + 1) % 2 for q in range(300))
         self.assertEqual(line, "1" * 200 + "0" * 100)
-        self.check_alike(circuit, line, line)
+        self.check_equal_shots(circuit, line, line)
