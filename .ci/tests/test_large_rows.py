@@ -31,7 +31,7 @@ class LargePredictions(ProgramTest):
     """`predict`"""
 
     def test_even_lines_of_3000_written_out(self):
-        """1,500 lines named; 3,000 error lines; a text of 77,000 bytes; 3,007 detectors.
+        """1,500 lines named; 3,000 error lines; a text of 73,000 bytes; 3,007 detectors.
 
         Line k flips detector k and one of seven more.
         """
@@ -74,7 +74,7 @@ class LargeAnalyses(ProgramTest):
         self.check(["analyze"], circuit, output)
 
     def test_3000_detectors_written_out(self):
-        """9,000 lines: a text of 150,000 bytes; 3,000 faults; 1,024 observables."""
+        """12,000 lines: a text of 229,000 bytes; 3,000 faults; 1,024 observables."""
         circuit = "".join(
             f"X_ERROR(0.00{1 + k % 9}) {k % 7}\nMR {k % 7}\nDETECTOR({k}) rec[-1]\n"
             f"OBSERVABLE_INCLUDE({k % 1024}) rec[-1]\n"
@@ -98,13 +98,13 @@ class LargeAnalyses(ProgramTest):
         self.check(["analyze"], circuit, output)
 
     def test_a_fault_that_flips_500_detectors(self):
-        """An error line of 500 targets: a record a turn of a qubit that is never reset."""
+        """An error line of 500 targets: a qubit that is measured 500 times and never reset."""
         circuit = "X_ERROR(0.1) 0\nREPEAT 500 {\n    M 0\n    DETECTOR rec[-1]\n}\n"
         output = f"error(0.1){named('D', range(500))}\n" + "".join(f"detector D{k}\n" for k in range(500))
         self.check(["analyze"], circuit, output)
 
     def test_sets_of_more_than_300_that_overlap(self):
-        """Sets of 650 and of 434 targets, merged by a CX and by a fault on two qubits; their lines have 867.
+        """Sets of 650 and of 434 targets, of which 217 are in both, merged by a CX and by a fault on two qubits.
 
         The record of qubit 0 is in each detector of an even number, that of qubit 1 in each third.
         """
@@ -114,14 +114,14 @@ class LargeAnalyses(ProgramTest):
             circuit += "DETECTOR" + " rec[-2]" * (k % 2 == 0) + " rec[-1]" * (k % 3 == 0) + "\n"
         first, second = range(0, count, 2), range(0, count, 3)
         either = [k for k in range(count) if (k % 2 == 0) != (k % 3 == 0)]
-        self.assertEqual((len(first), len(second), len(either)), (650, 434, 650))
+        self.assertEqual((len(first), len(second), len(either)), (650, 434, 650 + 434 - 2 * 217))
         output = f"error(0.1){named('D', either)}\nerror(0.2){named('D', second)}\n"
         output += f"error(0.3){named('D', first)}\nerror(0.4){named('D', either)}\n"
         output += "".join(f"detector D{k}\n" for k in range(count))
         self.check(["analyze"], circuit, output)
 
     def test_equal_sets_of_400_cancel(self):
-        """Sets of 400 merged with themselves: by S and S_DAG, between which X turns the state of X."""
+        """Sets of 400 merged with themselves, by S and S_DAG: X flips the outcome of MX only between these."""
         circuit = "RX 0\nZ_ERROR(0.1) 0\nX_ERROR(0.2) 0\nS 0\nX_ERROR(0.3) 0\nS_DAG 0\nMX 0\n"
         circuit += "DETECTOR rec[-1]\n" * 400
         flipped = named("D", range(400))
@@ -172,7 +172,7 @@ class LargeRuns(ProgramTest):
     """`run`"""
 
     def test_2000_coins_and_667_faults(self):
-        """Options of 2,000 and of 3,000 bytes; 2,000 records, coins, faults and detectors."""
+        """Options of 2,000 and of 3,000 bytes; 2,000 records, coins, faults, and detectors of two records each."""
         circuit = "M 1\nREPEAT 2000 {\n    H 0\n    MR(0.1) 0\n    DETECTOR rec[-1] rec[-2]\n}\n"
         records = [False] + [is_marked(k) != (k % 3 == 0) for k in range(2000)]
         compared = [records[k] != records[k + 1] for k in range(2000)]
@@ -187,7 +187,7 @@ class LargeRuns(ProgramTest):
         self.check(["run", "--coins", "0" + "1" * 999], circuit, "0" * 1000 + "\n\n")
 
     def test_a_refusal_in_the_last_of_4000_lines(self):
-        """A text of 40,000 bytes whose last line is refused."""
+        """Texts of 20,005 and of 68,014 bytes whose last line is refused."""
         for words in ["run"], ["analyze"], ["faults"], ["sample", "--shots", "1"], ["detect", "--shots", "1"]:
             with self.subTest(words=words):
                 self.check(words, "X 0\nM 1 2\n" * 2000 + "CX 0\n", "refused 16 line 4001\n", 2)
@@ -199,7 +199,7 @@ class LargeFaultLists(ProgramTest):
     """`faults`"""
 
     def test_3000_faults(self):
-        """3,000 faults of three kinds on 201 qubits, written out: a text of 60,000 bytes and an output of 49,000."""
+        """3,000 faults of three kinds on 201 qubits, written out: a text of 45,000 bytes and an output of 50,000."""
         circuit = "".join(f"X_ERROR(0.1) {k % 201}\nM(0.02) 200\nE(1e-3) Z{k % 201} Y200\n" for k in range(1000))
         output = ""
         for k in range(1000):
@@ -225,7 +225,7 @@ class LargeShots(ProgramTest):
                 self.check([*words, "--shots", "130"], circuit, f"{line}\n" * 130)
 
     def test_3000_records_and_detectors_on_201_qubits(self):
-        """3,001 records, 3,000 detectors and faults, 201 qubits; a text of 150,000 bytes, an output of 390,000.
+        """3,001 records, 3,000 detectors and faults, 201 qubits; a text of 139,000 bytes, an output of 390,000.
 
         A detector compares a record with the one before.
         """
