@@ -1,4 +1,5 @@
 """Ways to give the program its input and to take its output."""
+import contextlib
 import fcntl
 import os
 import pty
@@ -12,12 +13,23 @@ import tty
 from program import PROGRAM, SECONDS, as_bytes, file_of
 
 
+@contextlib.contextmanager
+def started(words, **files):
+    """The running program. It is killed where a test gives up."""
+    with subprocess.Popen([PROGRAM, *words], bufsize=0, **files) as running:
+        try:
+            yield running
+        finally:
+            if running.poll() is None:
+                running.kill()
+
+
 def bytes_waiting(pipe):
-    """How many bytes stand in a pipe that its reader hasn't taken yet."""
+    """How many bytes of a pipe its reader hasn't taken yet."""
     return struct.unpack("i", fcntl.ioctl(pipe, termios.FIONREAD, b"\0" * 4))[0]
 
 
-def feed(pipe, content, lengths):
+def feed(running, pipe, content, lengths):
     """Writes pieces of these lengths in turn, each after the one before was taken, and closes the pipe."""
     begin = turn = 0
     with os.fdopen(pipe, "wb", buffering=0) as writer:
@@ -28,19 +40,16 @@ def feed(pipe, content, lengths):
             except BrokenPipeError:
                 return
             begin, turn = end, turn + 1
-            waited = time.monotonic() + SECONDS
-            while bytes_waiting(pipe) and time.monotonic() < waited:
+            while bytes_waiting(pipe) and running.poll() is None:
                 time.sleep(0.0002)
 
 
 def run_with_input_in_pieces(words, content, lengths):
     """What the program writes and its exit status, where the input comes through a pipe in pieces of these lengths."""
     reading, writing = os.pipe()
-    feeder = threading.Thread(target=feed, args=(writing, as_bytes(content), lengths))
-    with subprocess.Popen(
-        [PROGRAM, *words], stdin=reading, stdout=subprocess.PIPE, stderr=subprocess.STDOUT
-    ) as running:
+    with started(words, stdin=reading, stdout=subprocess.PIPE, stderr=subprocess.STDOUT) as running:
         os.close(reading)
+        feeder = threading.Thread(target=feed, args=(running, writing, as_bytes(content), lengths))
         feeder.start()
         written, _ = running.communicate(timeout=SECONDS)
         feeder.join()
@@ -50,8 +59,8 @@ def run_with_input_in_pieces(words, content, lengths):
 def run_with_slow_reader(words, content, length):
     """The same where the output is taken in pieces of at most this length, with pauses in which the pipe is full."""
     written = b""
-    with file_of(content) as source, subprocess.Popen(
-        [PROGRAM, *words], stdin=source, stdout=subprocess.PIPE, stderr=subprocess.STDOUT, bufsize=0
+    with file_of(content) as source, started(
+        words, stdin=source, stdout=subprocess.PIPE, stderr=subprocess.STDOUT
     ) as running:
         while piece := running.stdout.read(length):
             written += piece
@@ -71,7 +80,7 @@ def run_with_output_in_file(words, content):
 
 
 def run_with_input_named(words, path):
-    """The same where the input is what stands at a path, such as a folder."""
+    """The same where the input is the file or folder at a path."""
     source = os.open(path, os.O_RDONLY)
     try:
         ended = subprocess.run(
@@ -108,9 +117,7 @@ def status_with_output(words, content, output):
 
 def run_with_reader_that_stops(words, content, length):
     """The first bytes of the output, and the exit status, where the reader takes these and closes the pipe."""
-    with file_of(content) as source, subprocess.Popen(
-        [PROGRAM, *words], stdin=source, stdout=subprocess.PIPE, bufsize=0
-    ) as running:
+    with file_of(content) as source, started(words, stdin=source, stdout=subprocess.PIPE) as running:
         written = running.stdout.read(length)
         running.stdout.close()
         running.wait(timeout=SECONDS)

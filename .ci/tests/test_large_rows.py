@@ -5,7 +5,7 @@ follow from the formulas beside them. The sizes, and a test that passes each:
 
     predict     50 lines named                  LargePredictions, lines of 3000, written out and in a block
                 500 error lines                 the same
-                a text of 20,000 bytes          LargePredictions, written out; LargeRuns, a refusal in the last line
+                a text of 20,000 bytes          LargePredictions, written out and with shifts; LargeRuns, a refusal
                 300 targets of a line           LargePredictions, an error line of 1000 targets
     analyze     2,000 faults                    LargeAnalyses, a block of 3000 turns, and 3000 detectors written out
                 100 qubits and ten faults       LargeAnalyses, 200 qubits with 2400 faults
@@ -31,7 +31,7 @@ class LargePredictions(ProgramTest):
     """`predict`"""
 
     def test_even_lines_of_3000_written_out(self):
-        """1,500 lines named; 3,000 error lines; a text of 77,000 bytes; 3,007 detectors.
+        """1,500 lines named; 3,000 error lines; a text of 73,000 bytes; 3,007 detectors.
 
         Line k flips detector k and one of seven more.
         """
@@ -45,6 +45,15 @@ class LargePredictions(ProgramTest):
         model = "repeat 3000 {\n    error(0.001) D0\n    shift_detectors 1\n}\nlogical_observable L2\n"
         output = bits(k % 2 == 0 for k in range(MANY)) + "000\n"
         self.check(["predict", "--lines", listed(EVEN)], model, output)
+
+    def test_each_third_of_1500_lines_with_shifts(self):
+        """500 lines named; 1,500 error lines with a shift behind each: a text of 55,000 bytes.
+
+        Line k flips the detectors k and k + 1.
+        """
+        model = "error(0.001) D0 D1\nshift_detectors 1\n" * 1500
+        output = bits(k % 3 != 2 for k in range(1500)) + "0\n"
+        self.check(["predict", "--lines", listed(range(0, 1500, 3))], model, output)
 
     def test_an_error_line_of_1000_targets(self):
         """Error lines of more than 300 targets, which cancel where both name a detector, and 1,024 observables."""
@@ -65,7 +74,7 @@ class LargeAnalyses(ProgramTest):
         self.check(["analyze"], circuit, output)
 
     def test_3000_detectors_written_out(self):
-        """9,000 lines: a text of 150,000 bytes; 3,000 faults; 1,024 observables."""
+        """12,000 lines: a text of 229,000 bytes; 3,000 faults; 1,024 observables."""
         circuit = "".join(
             f"X_ERROR(0.00{1 + k % 9}) {k % 7}\nMR {k % 7}\nDETECTOR({k}) rec[-1]\n"
             f"OBSERVABLE_INCLUDE({k % 1024}) rec[-1]\n"
@@ -89,13 +98,13 @@ class LargeAnalyses(ProgramTest):
         self.check(["analyze"], circuit, output)
 
     def test_a_fault_that_flips_500_detectors(self):
-        """An error line of 500 targets: a record a turn of a qubit that is never reset."""
+        """An error line of 500 targets: a qubit that is measured 500 times and never reset."""
         circuit = "X_ERROR(0.1) 0\nREPEAT 500 {\n    M 0\n    DETECTOR rec[-1]\n}\n"
         output = f"error(0.1){named('D', range(500))}\n" + "".join(f"detector D{k}\n" for k in range(500))
         self.check(["analyze"], circuit, output)
 
     def test_sets_of_more_than_300_that_overlap(self):
-        """Sets of 650 and of 434 targets, merged by a CX and by a fault on two qubits; their lines have 867.
+        """Sets of 650 and of 434 targets, of which 217 are in both, merged by a CX and by a fault on two qubits.
 
         The record of qubit 0 is in each detector of an even number, that of qubit 1 in each third.
         """
@@ -105,14 +114,14 @@ class LargeAnalyses(ProgramTest):
             circuit += "DETECTOR" + " rec[-2]" * (k % 2 == 0) + " rec[-1]" * (k % 3 == 0) + "\n"
         first, second = range(0, count, 2), range(0, count, 3)
         either = [k for k in range(count) if (k % 2 == 0) != (k % 3 == 0)]
-        self.assertEqual((len(first), len(second), len(either)), (650, 434, 650))
+        self.assertEqual((len(first), len(second), len(either)), (650, 434, 650 + 434 - 2 * 217))
         output = f"error(0.1){named('D', either)}\nerror(0.2){named('D', second)}\n"
         output += f"error(0.3){named('D', first)}\nerror(0.4){named('D', either)}\n"
         output += "".join(f"detector D{k}\n" for k in range(count))
         self.check(["analyze"], circuit, output)
 
     def test_equal_sets_of_400_cancel(self):
-        """Sets of 400 merged with themselves: by S and S_DAG, between which X turns the state of X."""
+        """Sets of 400 merged with themselves, by S and S_DAG: X flips the outcome of MX only between these."""
         circuit = "RX 0\nZ_ERROR(0.1) 0\nX_ERROR(0.2) 0\nS 0\nX_ERROR(0.3) 0\nS_DAG 0\nMX 0\n"
         circuit += "DETECTOR rec[-1]\n" * 400
         flipped = named("D", range(400))
@@ -138,14 +147,14 @@ class LargeRandomAnalyses(ProgramTest):
     """`analyze` of random targets: two coin lists, and status 3."""
 
     def test_2000_coins_from_the_start(self):
-        """2,001 coins. A frame from the start flips qubit 0 and not qubit 1; the records of both are in a pattern."""
+        """2,001 coins. A frame from the start flips qubit 0 and not qubit 1, which are measured in a pattern."""
         targets = [0 if is_marked(k) else 1 for k in range(2000)] + [0]
         circuit = "H 0\n" + "".join(f"M {target}\n" for target in targets) + "DETECTOR rec[-1]\n"
         output = f"random D0\n{'0' * 2001}\n{bits(target == 0 for target in targets)}\n"
         self.check(["analyze"], circuit, output, 3)
 
     def test_2000_coins_from_a_collapse(self):
-        """2,001 coins in blocks: a frame that begins at the coin in the middle."""
+        """2,001 coins in blocks. The frame begins after the collapse in the middle."""
         circuit = "REPEAT 250 {\nM 0 1 1 0\n}\nMX 0\nREPEAT 250 {\nM 0 1 1 0\n}\nOBSERVABLE_INCLUDE(7) rec[-1]\n"
         output = f"random L7\n{'0' * 2001}\n{'0' * 1001}{'1001' * 250}\n"
         self.check(["analyze"], circuit, output, 3)
@@ -163,7 +172,7 @@ class LargeRuns(ProgramTest):
     """`run`"""
 
     def test_2000_coins_and_667_faults(self):
-        """Options of 2,000 and of 3,000 bytes; 2,000 records, coins, faults and detectors."""
+        """Options of 2,000 and of 3,000 bytes; 2,000 records, coins, faults, and detectors of two records each."""
         circuit = "M 1\nREPEAT 2000 {\n    H 0\n    MR(0.1) 0\n    DETECTOR rec[-1] rec[-2]\n}\n"
         records = [False] + [is_marked(k) != (k % 3 == 0) for k in range(2000)]
         compared = [records[k] != records[k + 1] for k in range(2000)]
@@ -171,14 +180,14 @@ class LargeRuns(ProgramTest):
         self.check(words, circuit, f"{bits(records)}\n{bits(compared)}\n")
 
     def test_1000_qubits_in_one_state(self):
-        """1,000 qubits that read alike: the first coin decides."""
+        """1,000 qubits whose outcomes are all the first coin."""
         circuit = "H 0\nCX" + "".join(f" {q} {q + 1}" for q in range(999)) + "\nM"
         circuit += "".join(f" {q}" for q in range(1000)) + "\n"
         self.check(["run", "--coins", "1" + "0" * 999], circuit, "1" * 1000 + "\n\n")
         self.check(["run", "--coins", "0" + "1" * 999], circuit, "0" * 1000 + "\n\n")
 
     def test_a_refusal_in_the_last_of_4000_lines(self):
-        """A text of 40,000 bytes whose last line is refused."""
+        """Texts of 20,005 and of 68,014 bytes whose last line is refused."""
         for words in ["run"], ["analyze"], ["faults"], ["sample", "--shots", "1"], ["detect", "--shots", "1"]:
             with self.subTest(words=words):
                 self.check(words, "X 0\nM 1 2\n" * 2000 + "CX 0\n", "refused 16 line 4001\n", 2)
@@ -190,7 +199,7 @@ class LargeFaultLists(ProgramTest):
     """`faults`"""
 
     def test_3000_faults(self):
-        """3,000 faults of three kinds on 201 qubits, written out: a text of 60,000 bytes and an output of 49,000."""
+        """3,000 faults of three kinds on 201 qubits, written out: a text of 45,000 bytes and an output of 50,000."""
         circuit = "".join(f"X_ERROR(0.1) {k % 201}\nM(0.02) 200\nE(1e-3) Z{k % 201} Y200\n" for k in range(1000))
         output = ""
         for k in range(1000):
@@ -208,15 +217,15 @@ class LargeFaultLists(ProgramTest):
 
 
 class LargeShots(ProgramTest):
-    """`sample` and `detect`, of faults that always or never happen: 130 shots that are alike."""
+    """`sample` and `detect` with faults that always or never happen: 130 equal shots."""
 
-    def check_alike(self, circuit, records, detections):
+    def check_equal_shots(self, circuit, records, detections):
         for words, line in (["sample"], records), (["detect"], detections):
             with self.subTest(words=words):
                 self.check([*words, "--shots", "130"], circuit, f"{line}\n" * 130)
 
     def test_3000_records_and_detectors_on_201_qubits(self):
-        """3,001 records, 3,000 detectors and faults, 201 qubits; a text of 150,000 bytes, an output of 390,000.
+        """3,001 records, 3,000 detectors and faults, 201 qubits; a text of 139,000 bytes, an output of 390,000.
 
         A detector compares a record with the one before.
         """
@@ -226,13 +235,13 @@ class LargeShots(ProgramTest):
             circuit += f"X_ERROR({'1' if is_marked(k) else '0'}) {qubit}\nMR {qubit}\nDETECTOR rec[-1] rec[-2]\n"
         records = [False] + [is_marked(k) for k in range(MANY)]
         compared = [records[k] != records[k + 1] for k in range(MANY)]
-        self.check_alike(circuit, bits(records), bits(compared))
+        self.check_equal_shots(circuit, bits(records), bits(compared))
 
     def test_3000_records_and_detectors_in_a_block(self):
         """1,000 turns on 201 qubits, with three records and three detectors each, of which the middle one flips."""
         circuit = "REPEAT 1000 {\nX_ERROR(1) 200\nX_ERROR(0) 199\nMR 198 200 199\n"
         circuit += "DETECTOR rec[-1]\nDETECTOR rec[-2]\nDETECTOR rec[-3]\n}\nOBSERVABLE_INCLUDE(1) rec[-2]\n"
-        self.check_alike(circuit, "010" * 1000, "010" * 1000 + "01")
+        self.check_equal_shots(circuit, "010" * 1000, "010" * 1000 + "01")
 
     def test_200_qubits_and_1100_faults_at_once(self):
         """1,100 faults on one line, and one of 300 letters; 300 qubits."""
@@ -244,4 +253,4 @@ class LargeShots(ProgramTest):
         # Qubits below 200 are named four times and the others three times, and the last fault turns all of them.
         line = bits((targets.count(q) + 1) % 2 for q in range(300))
         self.assertEqual(line, "1" * 200 + "0" * 100)
-        self.check_alike(circuit, line, line)
+        self.check_equal_shots(circuit, line, line)

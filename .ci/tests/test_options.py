@@ -128,11 +128,11 @@ class Options(ProgramTest):
             "faults --help": ["faults"],
             "predict --help": ["--lines"],
         }
-        for words, told in names.items():
+        for words, shown in names.items():
             with self.subTest(words=words):
                 written, status = run_program(words.split(), "")
                 self.assertEqual(status, 0)
-                for name in told:
+                for name in shown:
                     self.assertIn(name, written.decode())
 
 
@@ -149,7 +149,7 @@ class LongLists(ProgramTest):
         self.check(["run", "--coins", coins + "0"], circuit, REFUSED.format(50), 2)
 
     def test_faults(self):
-        """67 numbers in 256 bytes, in an order that goes down; the last of them is refused where it stands twice."""
+        """67 numbers in more than 200 bytes, descending. One that is named twice, or is too large, is refused."""
         numbers = list(range(198, -1, -3))
         circuit = "REPEAT 200 {\nX_ERROR(0.1) 0\nMR 0\nDETECTOR rec[-1]\n}\n"
         flipped = bits(k % 3 == 0 for k in range(200))
@@ -171,11 +171,11 @@ class LongLists(ProgramTest):
             self.check(["run", *words], circuit, f"{records}\n{records}\n")
 
     def test_lines(self):
-        """60 numbers in 229 bytes."""
+        """60 numbers in more than 200 bytes."""
         numbers = list(range(0, 180, 3))
         model = "".join(f"error(0.1) D{k} L{k % 2}\n" for k in range(180))
         self.assertGreater(len(listed(numbers)), 200)
-        # Thirty of them are even, and thirty are odd.
+        # Thirty of them are even and thirty are odd, so the observables cancel.
         flipped = bits(k % 3 == 0 for k in range(180)) + "00"
         self.check(["predict", "--lines", listed(numbers)], model, flipped + "\n")
         self.check(["predict", "--lines", listed(numbers[:-1])], model, flipped[:177] + "00001\n")

@@ -1,4 +1,4 @@
-"""Drawn shots, by a generator that is written here a second time: `sample` and `detect` by their seeds."""
+"""The shots that `sample` and `detect` draw for a seed, computed here by a generator of the tests' own."""
 import unittest
 
 from pcg64 import Pcg64, bound_of, draw_shots
@@ -37,8 +37,8 @@ class ShotsBySeed(ProgramTest):
         written = set()
         for seed in SEEDS:
             drawn = list(draw_shots(seed, 130, probabilities, collapses))
-            for command, told in ("sample", records_of), ("detect", detections_of):
-                output = lines(told(faults, coins) for faults, coins in drawn)
+            for command, line_of in ("sample", records_of), ("detect", detections_of):
+                output = lines(line_of(faults, coins) for faults, coins in drawn)
                 first = "".join(output.splitlines(True)[:65])
                 with self.subTest(seed=seed, command=command):
                     self.check([command, "--shots", "130", "--seed", str(seed)], circuit, output)
@@ -82,7 +82,7 @@ class ShotsBySeed(ProgramTest):
         self.check_shots(circuit, ["0.3"] * 50, 200, records, detections)
 
     def test_one_state_of_201_qubits(self):
-        """201 qubits that read alike, by the first coin; then X on the last one, which its own record alone shows."""
+        """201 qubits whose outcomes are all the first coin. X on the last qubit flips its record alone."""
         qubits = " ".join(str(q) for q in range(201))
         circuit = "H 0\nCX" + "".join(f" {q} {q + 1}" for q in range(200))
         circuit += f"\nX_ERROR(0.125) 200\nM {qubits}\n" + "DETECTOR rec[-1] rec[-2]\nDETECTOR rec[-201]\n" * 30
@@ -104,10 +104,10 @@ class ShotsBySeed(ProgramTest):
 
         def records(faults, coins):
             state = [sum(faults[q:540:80]) % 2 == 1 for q in range(80)]
-            told = []
+            measured = []
             for turn in range(7):
                 state = [a != b for a, b in zip(state, faults[540 + 80 * turn:])]
-                told += state
-            return told
+                measured += state
+            return measured
 
         self.check_shots(circuit, ["0.02"] * 540 + ["0.4"] * 560, 560, records, records)

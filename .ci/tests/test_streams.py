@@ -1,4 +1,4 @@
-"""The streams of the process: not a byte is lost or doubled on the way in or out, and a stream that fails is told."""
+"""The streams of the process: no byte is lost or doubled on the way in or out, and a failed stream gives status 1."""
 import os
 
 import streams
@@ -46,7 +46,7 @@ def measured_counter(count):
 
 
 class Input(ProgramTest):
-    """Texts of 24,000 and of 20,000 bytes, and an output that tells each of them."""
+    """Texts of 20,000 bytes and more, in which each byte changes the output."""
 
     def test_each_byte_at_4096_and_8192_counts(self):
         """A comment before the text moves each of its bytes to each place about the ends of pieces of 4,096."""
@@ -102,7 +102,7 @@ class Input(ProgramTest):
 
 
 class Output(ProgramTest):
-    """Outputs of 20,000 bytes and more, in which no place is like another."""
+    """Outputs of 20,000 bytes and more, in which a lost byte changes what follows."""
 
     def test_20000_records_through_a_pipe_and_into_a_file(self):
         circuit, records = measured_counter(1250), counter(1250)
@@ -124,14 +124,14 @@ class Output(ProgramTest):
         """Records in lines of 4,090 to 4,100 bytes, and of 8,186 to 8,196."""
         records = counter(600)
         for length in [*range(PIECE - 6, PIECE + 5), *range(2 * PIECE - 6, 2 * PIECE + 5)]:
-            told = records[:length - 1]
-            circuit = "X 1\nM " + " ".join(told) + "\n"
+            line = records[:length - 1]
+            circuit = "X 1\nM " + " ".join(line) + "\n"
             with self.subTest(length=length):
-                self.check(["run"], circuit, f"{told}\n\n")
-                self.check(["sample", "--shots", "2"], circuit, f"{told}\n{told}\n")
+                self.check(["run"], circuit, f"{line}\n\n")
+                self.check(["sample", "--shots", "2"], circuit, f"{line}\n{line}\n")
 
     def test_lists_of_faults_about_a_piece(self):
-        """Outputs whose lengths go through all places about the end of a piece, in lines of 10 and more bytes."""
+        """Lists of 405 to 419 faults: the end of a piece of 4,096 falls at different places of a line."""
         for count in range(405, 420):
             output = "".join(f"{number} 0.1 X{number % 10}\n" for number in range(count)) + f"coins {count}\n"
             circuit = "".join(f"X_ERROR(0.1) {number % 10}\nM 0\n" for number in range(count))
@@ -173,7 +173,7 @@ class FailingStreams(ProgramTest):
             with self.subTest(words=words):
                 self.compare(streams.run_with_input_named(words, "/"), "usage\n", 2)
 
-    def test_an_input_that_fails_behind_its_last_byte(self):
+    def test_an_input_that_fails_after_its_last_byte(self):
         for words, content in ORDERS:
             with self.subTest(words=words, content=content):
                 self.compare(streams.run_with_input_that_fails_at_its_end(words, content), "", 1)
@@ -205,7 +205,7 @@ class FailingStreams(ProgramTest):
             self.check_output(output)
 
     def test_a_reader_that_stops(self):
-        """Some 1,000,000 bytes are to go out, and the reader takes some and leaves."""
+        """The reader takes a part of 1,000,000 bytes and closes the pipe."""
         circuit, records = measured_counter(1250), counter(1250)
         output = f"{records}\n".encode() * 50
         for length in 1, PIECE, 30_000:
