@@ -59,7 +59,6 @@ class PassesOn(Case):
         self.assertEqual(self.call().stdout, self.expected())
 
     def test_the_build_has_the_caller_s_tunables(self):
-        os.remove(f"{self.rt}/tunables")
         self.make_missing()
         self.call(GLIBC_TUNABLES="glibc.malloc.hugetlb=0")
         self.assertEqual(self.read(f"{self.rt}/tunables"), "glibc.malloc.hugetlb=0\n" * 2)
@@ -326,10 +325,13 @@ class Interrupted(Case):
 
     def test_a_call_that_waits_can_be_interrupted(self):
         self.start()
-        second = self.start_call()
-        self.assertIn(b"waiting", second.stderr.readline())
-        os.killpg(second.pid, signal.SIGINT)
-        self.assertEqual(second.wait(timeout=20), 130)
+        # By Ctrl-C, and by one signal to the launcher.
+        for end in (os.killpg, os.kill):
+            with self.subTest(end):
+                second = self.start_call()
+                self.assertIn(b"waiting", second.stderr.readline())
+                end(second.pid, signal.SIGINT)
+                self.assertEqual(second.wait(timeout=20), 130)
         self.assertFalse(self.is_gone(self.builder()))
 
 
