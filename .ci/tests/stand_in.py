@@ -42,6 +42,18 @@ cat
 exit "${STAND_IN_STATUS-0}"
 """
 
+FILES = {
+    "crates.txt": "low:\nstabsim: low\n",
+    "HANDLES": "Handles allowed: none.\n",
+    "README.md": "Read me.\n",
+    "crates/low/src/lib.rt": "low\n",
+    "crates/low/src/part.rt": "part\n",
+    "crates/low/src/deep/inner.rt": "inner\n",
+    "crates/low/specs/Lib.antt": "spec\n",
+    "crates/low/proofs/call/Answers.antt": "proof\n",
+    "crates/stabsim/src/main.rt": "first code",
+}
+
 # The signals that interrupt a build.
 ENDS = (signal.SIGINT, signal.SIGTERM, signal.SIGHUP)
 
@@ -49,36 +61,38 @@ ENDS = (signal.SIGINT, signal.SIGTERM, signal.SIGHUP)
 class Case(unittest.TestCase):
     """A temporary repository whose program is built and newer than all of its files."""
 
+    @classmethod
+    def setUpClass(cls):
+        made = tempfile.TemporaryDirectory(prefix="launcher-")
+        cls.addClassCleanup(made.cleanup)
+        cls.made = cls()
+        cls.made.stand_in(made.name)
+        cls.made.make()
+
     def setUp(self):
         room = tempfile.TemporaryDirectory(prefix="launcher-")
         self.addCleanup(room.cleanup)
-        self.room = os.path.realpath(room.name)
-        self.tools = f"{self.room}/tools"
+        self.stand_in(room.name)
+        shutil.copytree(self.made.room, self.room, symlinks=True, dirs_exist_ok=True)
+
+    def stand_in(self, room):
+        self.room = os.path.realpath(room)
+        self.tools, self.rt, self.top = (f"{self.room}/{it}" for it in ("tools", "rt", "repository"))
+
+    def make(self):
         os.mkdir(self.tools)
         for name in TOOLS:
             os.symlink(shutil.which(name), f"{self.tools}/{name}")
-        self.rt = f"{self.room}/rt"
         self.write(f"{self.rt}/rt", RT, mode=0o755)
         self.write(f"{self.rt}/program", PROGRAM)
-        self.top = f"{self.room}/repository"
-        for name in ("build", "lanes", "sums"):
-            self.copy(f".ci/{name}")
-        self.copy("stabsim")
-        for name, text in (
-            ("crates.txt", "low:\nstabsim: low\n"),
-            ("HANDLES", "Handles allowed: none.\n"),
-            ("README.md", "Read me.\n"),
-            ("crates/low/src/lib.rt", "low\n"),
-            ("crates/low/src/part.rt", "part\n"),
-            ("crates/low/src/deep/inner.rt", "inner\n"),
-            ("crates/low/specs/Lib.antt", "spec\n"),
-            ("crates/low/proofs/call/Answers.antt", "proof\n"),
-            ("crates/stabsim/src/main.rt", "first code"),
-        ):
+        for name in ("stabsim", ".ci/build", ".ci/lanes", ".ci/sums"):
+            self.copy(name)
+        for name, text in FILES.items():
             self.write(f"{self.top}/{name}", text)
         self.call()
         self.age_all()
-        os.remove(f"{self.rt}/calls")
+        for name in ("calls", "tunables", "stdin"):
+            os.remove(f"{self.rt}/{name}")
 
     def write(self, path, text, mode=0o644):
         os.makedirs(os.path.dirname(path), exist_ok=True)

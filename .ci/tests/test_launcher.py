@@ -59,7 +59,6 @@ class PassesOn(Case):
         self.assertEqual(self.call().stdout, self.expected())
 
     def test_the_build_has_the_caller_s_tunables(self):
-        os.remove(f"{self.rt}/tunables")
         self.make_missing()
         self.call(GLIBC_TUNABLES="glibc.malloc.hugetlb=0")
         self.assertEqual(self.read(f"{self.rt}/tunables"), "glibc.malloc.hugetlb=0\n" * 2)
@@ -129,6 +128,12 @@ class Builds(Case):
         deep = glob.glob(f"{REPOSITORY}/crates/*/src/*/*/**/*.rt", recursive=True)
         crates = {os.path.relpath(it, f"{REPOSITORY}/crates").split("/")[0] for it in deep}
         self.assertEqual([it for it in crates if not it.endswith("_tests")], [])
+
+    def test_not_where_a_time_is_to_come(self):
+        self.set_age(f"{self.top}/crates.txt", -3600)
+        for _ in range(2):
+            self.assert_runs("word")
+        self.assertEqual(self.calls(), [])
 
     def test_not_behind_what_is_no_code(self):
         self.write(f"{self.top}/crates/low/src/lib.rt~", "an editor's copy\n")
@@ -326,71 +331,14 @@ class Interrupted(Case):
 
     def test_a_call_that_waits_can_be_interrupted(self):
         self.start()
-        second = self.start_call()
-        self.assertIn(b"waiting", second.stderr.readline())
-        os.killpg(second.pid, signal.SIGINT)
-        self.assertEqual(second.wait(timeout=20), 130)
+        # By Ctrl-C, and by one signal to the launcher.
+        for end in (os.killpg, os.kill):
+            with self.subTest(end):
+                second = self.start_call()
+                self.assertIn(b"waiting", second.stderr.readline())
+                end(second.pid, signal.SIGINT)
+                self.assertEqual(second.wait(timeout=20), 130)
         self.assertFalse(self.is_gone(self.builder()))
-
-
-class Places(Case):
-    """From where the launcher is called, and by which name."""
-
-    def assert_runs_and_builds(self, launcher, cwd=None, **how):
-        self.assert_runs("a word", launcher=launcher, cwd=cwd, **how)
-        self.make_missing()
-        ended = self.call("a word", launcher=launcher, cwd=cwd, **how)
-        self.assertEqual(ended.stdout, self.expected("a word", cwd=cwd))
-        self.assertEqual(len(self.calls()), 2)
-
-    def link(self, target, name):
-        os.makedirs(os.path.dirname(f"{self.room}/{name}"), exist_ok=True)
-        os.symlink(target, f"{self.room}/{name}")
-        return f"{self.room}/{name}"
-
-    def test_a_link(self):
-        self.assert_runs_and_builds(self.link(f"{self.top}/stabsim", "bin/stab"))
-
-    def test_a_relative_link(self):
-        self.assert_runs_and_builds(self.link("../../repository/stabsim", "home/bin/stab"), cwd=self.tools)
-
-    def test_a_link_to_a_link(self):
-        self.link("../repository/stabsim", "one/stab")
-        self.assert_runs_and_builds(self.link("../one/stab", "two/stab"))
-
-    def test_a_link_to_the_folder(self):
-        self.assert_runs_and_builds(self.link("repository", "linked") + "/stabsim")
-
-    def test_a_link_by_path(self):
-        self.link(f"{self.top}/stabsim", "bin/stab")
-        self.assert_runs_and_builds(["sh", "-c", f'PATH="{self.room}/bin:$PATH"; exec stab "$@"', "sh"], cwd=self.tools)
-
-    def test_its_own_folder(self):
-        self.assert_runs_and_builds("./stabsim", cwd=self.top)
-
-    def test_another_folder(self):
-        self.assert_runs_and_builds("../../repository/stabsim", cwd=self.make_folder("some/where"))
-
-    def test_path(self):
-        self.assert_runs_and_builds(["sh", "-c", f'PATH="{self.top}:$PATH"; exec stabsim "$@"', "sh"], cwd=self.tools)
-
-    def test_a_shell_that_reads_it(self):
-        self.assert_runs_and_builds(["sh", "stabsim"], cwd=self.top)
-
-    def test_folders_with_odd_names(self):
-        for name in ("with a blank", "it's", 'a "quote"', "a=b", "[ab]*", "$HOME", "-minus", "two\nlines"):
-            with self.subTest(name):
-                os.rename(self.top, f"{self.room}/{name}")
-                self.top = f"{self.room}/{name}"
-                self.assert_runs_and_builds(f"{self.top}/stabsim")
-                self.assert_runs_and_builds("./stabsim", cwd=self.top)
-
-    def test_a_link_in_a_folder_with_a_blank(self):
-        self.assert_runs_and_builds(self.link(f"{self.top}/stabsim", "a blank/s t a b"))
-
-    def make_folder(self, name):
-        os.makedirs(f"{self.room}/{name}")
-        return f"{self.room}/{name}"
 
 
 if __name__ == "__main__":
