@@ -16,21 +16,23 @@ TOOLS = """awk basename bash cat chmod cksum cp dirname env find flock mkdir mv 
 touch xargs""".split()
 
 # Notes its words, and builds by a copy of the stand-in program that names the code in which it was built. A file beside it
-# asks for something else: `sleeps` for a build that doesn't end, `fails` for one that fails, `fails-behind` for one that fails when
-# the program is written, `builds-nothing` for one that writes none, and `edits` for code that changes meanwhile.
+# asks for something else: `sleeps` for a build that doesn't end, `slow` for one of a second, `fails` for one that fails, `fails-to-check`
+# for one that fails at its first command, `fails-behind` for one that fails when the program is written, `builds-nothing` for one that
+# writes none, and `edits` for code that changes after it was read.
 RT = """#!/bin/sh
 here=${0%/*}
 echo "$*" >>"$here/calls"
 echo "${GLIBC_TUNABLES-unset}" >>"$here/tunables"
 cat >>"$here/stdin"
-[ "$1" = run ] || exit 0
+[ "$1" = run ] || { [ ! -e "$here/fails-to-check" ]; exit; }
 [ -e "$here/sleeps" ] && { touch "$here/sleeping"; sleep 100; }
 [ -e "$here/slow" ] && sleep 1
 [ -e "$here/fails" ] && { echo 'goal 7 is open'; echo 'not proved' >&2; exit 1; }
 [ -e "$here/builds-nothing" ] && exit 0
-sed "s|CODE|$(cat src/main.rt)|" "$here/program" >out/stabsim
+code=$(cat src/main.rt)
+[ -e "$here/edits" ] && { rm "$here/edits"; echo 'edited meanwhile' >src/main.rt; sleep 0.1; }
+sed "s|CODE|$code|" "$here/program" >out/stabsim
 chmod +x out/stabsim
-[ -e "$here/edits" ] && { rm "$here/edits"; echo 'edited meanwhile' >src/main.rt; }
 [ -e "$here/fails-behind" ] && exit 1
 exit 0
 """

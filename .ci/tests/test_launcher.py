@@ -207,6 +207,11 @@ class Fails(Case):
         self.assertIn(b"goal 7 is open\nnot proved\n", ended.stderr)
         self.assertEqual(self.read(f"{self.top}/crates/stabsim/out/launcher.log"), "goal 7 is open\nnot proved\n")
 
+    def test_a_failed_check_is_125_and_builds_nothing(self):
+        self.write(f"{self.rt}/fails-to-check", "")
+        self.assertEqual(self.call("word").returncode, 125)
+        self.assertEqual(len(self.calls()), 1)
+
     def test_the_next_call_builds_again(self):
         self.write(f"{self.rt}/fails", "")
         self.call()
