@@ -257,7 +257,7 @@ class Fails(Case):
         self.assertEqual(ended.returncode, 125)
         self.assertEqual(ended.stdout, b"")
         self.assertIn(b"Rattle toolchain", ended.stderr)
-        self.assertIn(b"rt isn't in PATH", ended.stderr)
+        self.assertIn(b"rt has to be in PATH", ended.stderr)
         self.assertNotIn(b"half an hour", ended.stderr)
         self.assert_builds(code="second code")
 
