@@ -16,21 +16,23 @@ TOOLS = """awk basename bash cat chmod cksum cp dirname env find flock mkdir mv 
 touch xargs""".split()
 
 # Notes its words, and builds by a copy of the stand-in program that names the code in which it was built. A file beside it
-# asks for something else: `sleeps` for a build that doesn't end, `fails` for one that fails, `fails-behind` for one that fails when
-# the program is written, `builds-nothing` for one that writes none, and `edits` for code that changes meanwhile.
+# asks for something else: `sleeps` for a build that doesn't end, `slow` for one of a second, `fails` for one that fails, `fails-to-check`
+# for one that fails at its first command, `fails-behind` for one that fails when the program is written, `builds-nothing` for one that
+# writes none, and `edits` for code that changes after it was read.
 RT = """#!/bin/sh
 here=${0%/*}
 echo "$*" >>"$here/calls"
 echo "${GLIBC_TUNABLES-unset}" >>"$here/tunables"
 cat >>"$here/stdin"
-[ "$1" = run ] || exit 0
-[ -e "$here/sleeps" ] && { echo $$ >"$here/pid"; sleep 1000; }
+[ "$1" = run ] || { [ ! -e "$here/fails-to-check" ]; exit; }
+[ -e "$here/sleeps" ] && { touch "$here/sleeping"; sleep 100; }
 [ -e "$here/slow" ] && sleep 1
 [ -e "$here/fails" ] && { echo 'goal 7 is open'; echo 'not proved' >&2; exit 1; }
 [ -e "$here/builds-nothing" ] && exit 0
-sed "s|CODE|$(cat src/main.rt)|" "$here/program" >out/stabsim
+code=$(cat src/main.rt)
+[ -e "$here/edits" ] && { rm "$here/edits"; echo 'edited meanwhile' >src/main.rt; sleep 0.1; }
+sed "s|CODE|$code|" "$here/program" >out/stabsim
 chmod +x out/stabsim
-[ -e "$here/edits" ] && { rm "$here/edits"; echo 'edited meanwhile' >src/main.rt; }
 [ -e "$here/fails-behind" ] && exit 1
 exit 0
 """
@@ -139,24 +141,35 @@ class Case(unittest.TestCase):
         how = {"stdin": subprocess.DEVNULL, "stdout": subprocess.PIPE, "stderr": subprocess.PIPE, "start_new_session": True}
         heed = lambda: [signal.signal(it, signal.SIG_DFL) for it in ENDS]
         started = subprocess.Popen([f"{self.top}/stabsim", *words], env=self.environment(), preexec_fn=heed, **how)
-        self.addCleanup(started.communicate)
-        self.addCleanup(started.kill)
+        self.addCleanup(self.end, started)
         return started
+
+    def end(self, started):
+        """Ends a call and what it builds, whatever the launcher makes of it."""
+        started.kill()
+        if self.builder():
+            os.killpg(self.builder(), signal.SIGKILL)
+        started.wait()
+        started.stdout.close()
+        started.stderr.close()
+
+    def processes(self):
+        """Yields the group and the command of each process that hasn't ended."""
+        for name in filter(str.isdigit, os.listdir("/proc")):
+            with contextlib.suppress(OSError, ValueError):
+                state, _, group = self.read(f"/proc/{name}/stat").rpartition(")")[2].split()[:3]
+                if state != "Z":
+                    yield int(group), self.read(f"/proc/{name}/cmdline")
+
+    def builder(self):
+        """Returns the process group of the build, if there is one."""
+        return next((group for group, command in self.processes() if f"{self.rt}/rt" in command), None)
 
     def wait_for(self, condition):
         until = time.monotonic() + 20
         while not condition():
             self.assertLess(time.monotonic(), until, "waited too long")
             time.sleep(0.01)
-
-    def is_gone(self, group):
-        """Returns whether no process of the group runs. Those that ended may still wait for init to take note."""
-        for name in filter(str.isdigit, os.listdir("/proc")):
-            with contextlib.suppress(OSError, ValueError):
-                state, _, of = self.read(f"/proc/{name}/stat").rpartition(")")[2].split()[:3]
-                if int(of) == group and state != "Z":
-                    return False
-        return True
 
     def expected(self, *words, code="first code", tunables="glibc.malloc.hugetlb=1", cwd=None, stdin=b""):
         fields = [code, tunables, os.path.realpath(cwd or os.getcwd()), str(len(words)), *words]

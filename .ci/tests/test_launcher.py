@@ -207,6 +207,11 @@ class Fails(Case):
         self.assertIn(b"goal 7 is open\nnot proved\n", ended.stderr)
         self.assertEqual(self.read(f"{self.top}/crates/stabsim/out/launcher.log"), "goal 7 is open\nnot proved\n")
 
+    def test_a_failed_check_is_125_and_builds_nothing(self):
+        self.write(f"{self.rt}/fails-to-check", "")
+        self.assertEqual(self.call("word").returncode, 125)
+        self.assertEqual(len(self.calls()), 1)
+
     def test_the_next_call_builds_again(self):
         self.write(f"{self.rt}/fails", "")
         self.call()
@@ -252,7 +257,7 @@ class Fails(Case):
         self.assertEqual(ended.returncode, 125)
         self.assertEqual(ended.stdout, b"")
         self.assertIn(b"Rattle toolchain", ended.stderr)
-        self.assertIn(b"rt isn't in PATH", ended.stderr)
+        self.assertIn(b"rt has to be in PATH", ended.stderr)
         self.assertNotIn(b"half an hour", ended.stderr)
         self.assert_builds(code="second code")
 
@@ -271,12 +276,9 @@ class Interrupted(Case):
         self.make_missing()
         self.write(f"{self.rt}/sleeps", "")
         started = self.start_call(*words)
-        self.wait_for(lambda: os.path.exists(f"{self.rt}/pid") and self.read(f"{self.rt}/pid"))
+        self.wait_for(lambda: os.path.exists(f"{self.rt}/sleeping"))
+        os.remove(f"{self.rt}/sleeping")
         return started
-
-    def builder(self):
-        """Returns the process group of the build, which isn't the launcher's."""
-        return os.getpgid(int(self.read(f"{self.rt}/pid")))
 
     def test_an_interrupt_is_130_and_ends_the_build(self):
         for number in ENDS:
@@ -289,8 +291,7 @@ class Interrupted(Case):
                 self.assertEqual(started.returncode, 130)
                 self.assertEqual(said, b"")
                 self.assertIn(b"interrupted", told)
-                self.wait_for(lambda: self.is_gone(builder))
-                os.remove(f"{self.rt}/pid")
+                self.wait_for(lambda: builder not in [group for group, _ in self.processes()])
 
     def test_the_call_behind_an_interrupt_builds(self):
         started = self.start()
@@ -302,9 +303,8 @@ class Interrupted(Case):
 
     def test_the_call_behind_a_kill_builds(self):
         started = self.start()
-        builder = self.builder()
         os.kill(started.pid, signal.SIGKILL)
-        os.killpg(builder, signal.SIGKILL)
+        os.killpg(self.builder(), signal.SIGKILL)
         started.wait(timeout=20)
         os.remove(f"{self.rt}/sleeps")
         self.calls()
@@ -338,7 +338,7 @@ class Interrupted(Case):
                 self.assertIn(b"waiting", second.stderr.readline())
                 end(second.pid, signal.SIGINT)
                 self.assertEqual(second.wait(timeout=20), 130)
-        self.assertFalse(self.is_gone(self.builder()))
+        self.assertTrue(self.builder())
 
 
 if __name__ == "__main__":

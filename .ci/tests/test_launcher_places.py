@@ -54,7 +54,7 @@ class Places(Case):
                 os.rename(self.top, f"{self.room}/{name}")
                 self.top = f"{self.room}/{name}"
                 self.assert_runs_and_builds(f"{self.top}/stabsim")
-                self.assert_runs_and_builds("./stabsim", cwd=self.top)
+                self.assert_runs("a word", launcher="./stabsim", cwd=self.top)
 
     def test_a_link_in_a_folder_with_a_blank(self):
         self.assert_runs_and_builds(self.link(f"{self.top}/stabsim", "a blank/s t a b"))

@@ -8,7 +8,7 @@ import sys
 from stand_in import Case
 
 # Says what `rt ci` says, and builds as it does. A file beside it asks for something else: `says` for another last line, `ends` for
-# another status, `builds-nothing` for no program, and `edits` for code that changes meanwhile.
+# another status, `builds-nothing` for no program, and `edits` for code that changes after it was read.
 RT = """#!/bin/sh
 here=${0%/*}
 echo "$* jobs ${RT_JOBS-unset}" >>"$here/calls"
@@ -17,9 +17,12 @@ rm -rf crates/stabsim/out
 mkdir crates/stabsim/out
 echo 'rt: low proved'
 echo 'rt: a note' >&2
-[ -e "$here/builds-nothing" ] || sed "s|CODE|$(cat crates/stabsim/src/main.rt)|" "$here/program" >crates/stabsim/out/stabsim
-[ -e "$here/builds-nothing" ] || chmod +x crates/stabsim/out/stabsim
-[ -e "$here/edits" ] && echo 'edited meanwhile' >crates/stabsim/src/main.rt
+code=$(cat crates/stabsim/src/main.rt)
+[ -e "$here/edits" ] && { echo 'edited meanwhile' >crates/stabsim/src/main.rt; sleep 0.1; }
+if [ ! -e "$here/builds-nothing" ]; then
+    sed "s|CODE|$code|" "$here/program" >crates/stabsim/out/stabsim
+    chmod +x crates/stabsim/out/stabsim
+fi
 if [ -e "$here/says" ]; then cat "$here/says"; else echo '7 passed, 0 failed'; fi
 [ -e "$here/ends" ] && exit "$(cat "$here/ends")"
 exit 0
@@ -88,12 +91,16 @@ class RunsAllTests(Case):
     def test_a_failure_of_the_gate_ends_it(self):
         self.ask("says", text="rt: FAILED: low\n5 passed, 2 failed\n")
         self.ask("ends", text="1")
-        ended = self.assert_ends("5 passed, 2 failed")
-        self.assertEqual(len(re.findall(rb"Ran 3 tests", ended.stderr)), 1)
+        for command in (".ci/test", ".ci/run"):
+            with self.subTest(command):
+                ended = self.assert_ends("5 passed, 2 failed", command=command)
+                self.assertEqual(len(re.findall(rb"Ran 3 tests", ended.stderr)), 1)
 
     def test_a_gate_that_says_nothing_failed(self):
-        self.ask("says", text="rt: the disk is full\n")
-        self.assert_ends("0 passed, 1 failed")
+        for text in ("", "rt: the disk is full\n", "7 passed, 0 failed\nrt: killed\n", "of low 7 passed, 0 failed\n"):
+            with self.subTest(text):
+                self.ask("says", text=text)
+                self.assert_ends("0 passed, 1 failed")
 
     def test_a_gate_of_some_crates_failed(self):
         self.ask("says", text="7 passed, 0 failed (low and the crates below alone: not the gate)\n")
