@@ -250,11 +250,11 @@ def replace_feedback(name, targets):
     return [(kind, "", [target for pair in pairs for target in pair])] if pairs else []
 
 
-def replace(name, arguments, targets, find_unused):
+def replace(name, given, converted, targets, find_unused):
     """The instructions in place of one that stabsim leaves out, as (name, arguments, targets), or None where it stays."""
-    joined, size = ", ".join(arguments), INSTRUCTIONS[name][2]
+    joined, size = ", ".join(converted), INSTRUCTIONS[name][2]
     if name.startswith(("DEPOLARIZE", "PAULI_CHANNEL")):
-        return replace_channel(name, arguments, targets)
+        return replace_channel(name, given, targets)
     if name in TWO_GATES:
         return replace_by_two(name, targets, size)
     if name in ("SPP", "SPP_DAG"):
@@ -333,16 +333,16 @@ class Converter:
         text, indent, tag = parts.string, parts["indent"], parts["tag"] or ""
         targets = re.sub(r"[ \t\r]*\*[ \t\r]*", "*", parts["targets"]).split()
         self.check_targets(name, targets)
-        before = [argument.strip(" \t\r") for argument in (parts["arguments"] or "").split(",")]
-        before = [] if before == [""] else before
-        after = self.convert_arguments(name, before)
-        steps = None if self.is_model else replace(name, after, targets, lambda: self.unused)
+        given = [argument.strip(" \t\r") for argument in (parts["arguments"] or "").split(",")]
+        given = [] if given == [""] else given
+        converted = self.convert_arguments(name, given)
+        steps = None if self.is_model else replace(name, given, converted, targets, lambda: self.unused)
         if steps is not None:
             return [f"{indent}# {text[len(indent):]}"] + [
                 f"{indent}{gate}{tag}{f'({joined})' * bool(joined)} {' '.join(kept)}".rstrip() for gate, joined, kept in steps]
-        if after == before:
+        if converted == given:
             return [text]
-        return [text[:parts.start("arguments")] + ", ".join(after) + text[parts.end("arguments"):]]
+        return [text[:parts.start("arguments")] + ", ".join(converted) + text[parts.end("arguments"):]]
 
     def convert_arguments(self, name, arguments):
         least, most, kind = self.instructions[name][0]
