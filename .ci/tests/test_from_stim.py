@@ -1,23 +1,14 @@
-"""Tests of examples/from_stim.py that need no other program: channels, gates, texts and refusals."""
-import importlib.util
+"""What examples/from_stim.py writes is the same as what it read: channels, gates, and whole circuits, run exactly."""
 import random
 import re
-import subprocess
-import sys
 import unittest
 from decimal import Decimal, localcontext
 from fractions import Fraction
 from itertools import product
-from pathlib import Path
 
 import pauli_words
 from exact_states import LETTERS_1, LETTERS_2, read_instructions, run_circuit
-
-TOP = Path(__file__).resolve().parents[2]
-SCRIPT = TOP / "examples" / "from_stim.py"
-spec = importlib.util.spec_from_file_location("from_stim", SCRIPT)
-from_stim = importlib.util.module_from_spec(spec)
-spec.loader.exec_module(from_stim)
+from programs import TOP, convert, from_stim, refusals, without_comments
 
 # Every name of Stim's gate reference, aliases too.
 STIM_NAMES = """
@@ -35,27 +26,6 @@ LEFT_OUT = """
     C_NZYX C_ZNYX C_ZYNX
 """.split()
 NEVER = ("HERALDED_ERASE", "HERALDED_PAULI_CHANNEL_1", "ELSE_CORRELATED_ERROR")
-
-
-def run_script(text, *options):
-    data = text if isinstance(text, bytes) else text.encode()
-    return subprocess.run([sys.executable, str(SCRIPT), *options], input=data, capture_output=True, timeout=60)
-
-
-def convert(text, is_model=False, scale=1):
-    """The converted text; an error where a line is refused."""
-    converted, refused = from_stim.Converter(text.split("\n"), is_model, scale).convert()
-    if refused:
-        raise AssertionError(refused)
-    return "\n".join(converted)
-
-
-def refusals(text, is_model=False, scale=1):
-    return [(at, str(reason)) for at, reason in from_stim.Converter(text.split("\n"), is_model, scale).convert()[1]]
-
-
-def without_comments(text):
-    return [line.strip() for line in text.split("\n") if line.strip() and not line.strip().startswith("#")]
 
 
 def enumerate_sums(faults, words):
