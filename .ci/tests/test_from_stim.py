@@ -182,6 +182,18 @@ class Gates(unittest.TestCase):
                             for qubit in range(3) for letter in "XZ"]
                 self.assertEqual(self.images_of(text, 3), expected, (name, mark, letters))
 
+    def test_letters_on_one_qubit_are_multiplied_in_their_order(self):
+        for letters in [*product("XYZ", repeat=2), *product("XYZ", repeat=3)]:
+            text = "*".join(letter + "5" for letter in letters)
+            word = pauli_words.word_of(letters, [5] * len(letters))
+            plus = bin(word[1] & word[2]).count("1")
+            if (word[0] - plus) % 2:
+                self.assertRaises(from_stim.Refused, from_stim.multiply, text)
+            else:
+                letter = {(0, 0): "I", (1, 0): "X", (1, 1): "Y", (0, 1): "Z"}[word[1] >> 5, word[2] >> 5]
+                expected = ((word[0] - plus) % 4 == 2, {5: letter} if letter != "I" else {})
+                self.assertEqual(from_stim.multiply(text), expected, text)
+
     def test_a_qubit_that_comes_again_keeps_the_order(self):
         self.assertEqual(without_comments(convert("H_NXZ 0 1 0 2")), ["H 0 1", "Y 0 1", "H 0 2", "Y 0 2"])
         self.assertEqual(without_comments(convert("CXSWAP 0 1 2 3 1 4")), ["CX 0 1 2 3", "SWAP 0 1 2 3", "CX 1 4", "SWAP 1 4"])
