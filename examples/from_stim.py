@@ -74,8 +74,7 @@ TWO_GATES = {
     "CXSWAP": ("CX", "SWAP"), "SWAPCX": ("SWAP", "CX"), "CZSWAP": ("CZ", "SWAP"), "SWAPCZ": ("CZ", "SWAP"),
 }
 # The product of two letters: a power of i, and a letter.
-TIMES = {("X", "Y"): (1, "Z"), ("Y", "Z"): (1, "X"), ("Z", "X"): (1, "Y"),
-         ("Y", "X"): (3, "Z"), ("Z", "Y"): (3, "X"), ("X", "Z"): (3, "Y")}
+TIMES = {"XY": (1, "Z"), "YZ": (1, "X"), "ZX": (1, "Y"), "YX": (3, "Z"), "ZY": (3, "X"), "XZ": (3, "Y")}
 CONTROLLED = {"CNOT": "CX", "ZCX": "CX", "ZCY": "CY", "ZCZ": "CZ"}
 
 
@@ -101,6 +100,10 @@ def write_probability(value):
     return format(abs(value.quantize(Decimal(1).scaleb(-places), ROUND_DOWN).normalize()), "f")
 
 
+def to_decimal(fraction):
+    return Decimal(fraction.numerator) / Decimal(fraction.denominator)
+
+
 def convert_argument(kind, text, scale):
     value = read_number(text)
     if kind == "probability":
@@ -122,10 +125,6 @@ def convert_argument(kind, text, scale):
 
 # Noise channels
 
-def divide(fraction):
-    return Decimal(fraction.numerator) / Decimal(fraction.denominator)
-
-
 def anticommute(first, second):
     return sum(a != b and "I" not in (a, b) for a, b in zip(first, second)) % 2 == 1
 
@@ -143,7 +142,7 @@ def find_faults(chances):
     if sum(chances) > 1:
         raise Refused("the probabilities come to more than 1")
     if sum(chance > 0 for chance in chances) < 2:
-        return [(word, write_probability(divide(chance))) for word, chance in zip(words, chances) if chance]
+        return [(word, write_probability(to_decimal(chance))) for word, chance in zip(words, chances) if chance]
     eigenvalues = [1 - 2 * sum(c for other, c in zip(words, chances) if anticommute(word, other)) for word in words]
     if not any(eigenvalues):
         return [(word, "0.5") for word in words]
@@ -156,7 +155,7 @@ def find_faults(chances):
             power *= eigenvalue if anticommute(word, other) else 1 / eigenvalue
         if power > 1:
             raise Refused(f"no independent faults make this channel: that of {word} would need a negative probability")
-        root = divide(power)
+        root = to_decimal(power)
         for _ in range(2 * qubits - 1):
             root = root.sqrt()
         chance = ((1 - root) / 2).quantize(Decimal("1e-150"), ROUND_HALF_EVEN)
@@ -207,7 +206,7 @@ def multiply(text):
         power += 2 * factor.startswith("!")
         letter, qubit = factor.lstrip("!")[0], int(factor.lstrip("!")[1:])
         before = letters.pop(qubit, "I")
-        turn, after = TIMES.get((before, letter), (0, "I" if before == letter else letter))
+        turn, after = TIMES.get(before + letter, (0, "I" if before == letter else letter))
         power += turn
         if after != "I":
             letters[qubit] = after
@@ -303,8 +302,9 @@ class Converter:
         if name == "REPEAT" or parts["brace"] == "{":
             return self.open_block(name, parts, targets, at)
         if not (name or parts["tag"] or targets or parts["arguments"] is not None):
-            if parts["brace"]:
-                self.close_block()
+            if parts["brace"] and not self.blocks:
+                raise Refused("no block is open")
+            self.blocks = self.blocks[:-1] if parts["brace"] else self.blocks
             return [text]
         if parts["brace"]:
             raise Refused("a closing brace stands on a line of its own")
@@ -313,17 +313,12 @@ class Converter:
     def open_block(self, name, parts, targets, at):
         if name != "REPEAT" or parts["brace"] != "{" or parts["arguments"] is not None or len(targets) != 1:
             raise Refused("a block begins with REPEAT, a number and an opening brace")
-        self.blocks.append(at)
+        self.blocks = self.blocks + [at]
         if not re.fullmatch(r"0*[1-9]\d{0,17}", targets[0]):
             raise Refused(f"a block is repeated 1 to {10**18 - 1} times, not {targets[0]}")
         if len(self.blocks) > MOST_BLOCKS:
             raise Refused(f"more than {MOST_BLOCKS} blocks inside one another")
         return [parts.string]
-
-    def close_block(self):
-        if not self.blocks:
-            raise Refused("no block is open")
-        self.blocks.pop()
 
     def convert_instruction(self, name, parts):
         if name in LEFT_OUT and not self.is_model:

@@ -32,7 +32,8 @@ def read_instructions(text):
             turns.append(int(targets))
             levels.append([])
         else:
-            levels[-1].append((name.upper(), [part.strip() for part in (arguments or "").split(",") if part.strip()], targets.split()))
+            arguments = [part.strip() for part in (arguments or "").split(",") if part.strip()]
+            levels[-1].append((name.upper(), arguments, targets.split()))
     return levels[0]
 
 

@@ -10,7 +10,7 @@ from pathlib import Path
 
 import stim_circuits
 from frame_models import write_model
-from programs import DECODE, FROM_STIM, TOP, find_numpy_python, find_program, run
+from programs import DECODE, FROM_STIM, TOP, convert, find_numpy_python, find_program, run
 
 CIRCUIT = TOP / "examples" / "repetition_code.stim"
 
@@ -81,7 +81,8 @@ class Decoding(unittest.TestCase):
         expected = least_error_rate(repetition_model())
         self.assertTrue(0.004 < expected < 0.01)
         for seed in ("0", "7"):
-            self.assert_rates([python, DECODE, "--program", program, "--shots", "200000", "--seed", seed, CIRCUIT], expected, 200000)
+            words = [python, DECODE, "--program", program, "--shots", "200000", "--seed", seed, CIRCUIT]
+            self.assert_rates(words, expected, 200000)
 
     def test_the_page_shows_what_the_script_prints(self):
         python, program = find_numpy_python(), find_program()
@@ -169,7 +170,8 @@ class Recipes(unittest.TestCase):
 
     def check_matrices(self, folder):
         """The page's Python, and then whether its arrays are the files' digits."""
-        code = re.search(r"^```python\n(import sys\n.*?)^```", (TOP / "docs" / "DECODING.md").read_text(), re.MULTILINE | re.DOTALL)[1]
+        page = (TOP / "docs" / "DECODING.md").read_text()
+        code = re.search(r"^```python\n(import sys\n.*?)^```", page, re.MULTILINE | re.DOTALL)[1]
         code += "print(*checks.shape, *flips.shape, chances.sum(), events.shape, observables.shape)\n"
         code += "for row in checks.T: print(*row, sep='')\nfor row in shots: print(*row, sep='')\n"
         done = run(["env", "-C", folder, find_numpy_python(), "-c", code])
@@ -190,7 +192,7 @@ class Recipes(unittest.TestCase):
         self.assertEqual(self.run_recipes("FROM_STIM.md", check), 2)
 
     def test_one_kind_of_detectors_is_enough_for_matching(self):
-        """In the surface codes each fault flips at most two detectors of the kind that the observable needs, and else up to four."""
+        """In the surface codes a fault flips at most two detectors of the kind that the observable needs, of all up to four."""
         layouts = {"rotated": stim_circuits.rotated_layout, "unrotated": stim_circuits.unrotated_layout}
         for name, layout in layouts.items():
             for basis in "XZ":
@@ -200,9 +202,8 @@ class Recipes(unittest.TestCase):
                     place = re.match(r" *DETECTOR\((\d+), (\d+),", line)
                     if not place or layout(3).kinds[int(place[1]), int(place[2])] == basis:
                         lines.append(line)
-                sizes = [max(len(detectors) for _, detectors, _ in read_errors(write_model(run([FROM_STIM], part.encode()).stdout.decode())))
-                         for part in (text, "\n".join(lines))]
-                self.assertEqual(sizes, [4, 2])
+                models = [read_errors(write_model(convert(part))) for part in (text, "\n".join(lines))]
+                self.assertEqual([max(len(detectors) for _, detectors, _ in model) for model in models], [4, 2])
 
 
 if __name__ == "__main__":

@@ -95,7 +95,8 @@ class Numbers(unittest.TestCase):
             self.assertEqual(convert(f"error({before}) D0", is_model=True), f"error({after}) D0")
 
     def test_the_rest_of_a_line_with_a_shorter_number_stays(self):
-        self.assertEqual(convert("\tm[a #]( 0.12345678901234567899 )  !0  1 # flip"), "\tm[a #](0.123456789012345678)  !0  1 # flip")
+        self.assertEqual(convert("\tm[a #]( 0.12345678901234567899 )  !0  1 # flip"),
+                         "\tm[a #](0.123456789012345678)  !0  1 # flip")
 
     def test_coordinates_are_whole_numbers(self):
         for before, after in {"2.0": "2", "1e2": "100", "-3.": "-3", "007": "007", "-0": "-0", "1e9": "1000000000"}.items():
@@ -110,7 +111,8 @@ class Numbers(unittest.TestCase):
                          "QUBIT_COORDS(1, -2) 0\nDETECTOR(1, -3, 4)\nSHIFT_COORDS(0, 1)\nX_ERROR(0.5) 0\nOBSERVABLE_INCLUDE(1)")
         self.assertEqual(convert("QUBIT_COORDS(0.25) 0", scale=2), "QUBIT_COORDS(0.5) 0")
         self.assertEqual(convert("QUBIT_COORDS(0.25, 1e3) 0"), "QUBIT_COORDS(0.25, 1e3) 0")
-        self.assertEqual(convert("detector(0.5) D0\nshift_detectors(0.5, 1) 3", True, 2), "detector(1) D0\nshift_detectors(1, 2) 3")
+        self.assertEqual(convert("detector(0.5) D0\nshift_detectors(0.5, 1) 3", True, 2),
+                         "detector(1) D0\nshift_detectors(1, 2) 3")
 
 
 class Kept(unittest.TestCase):
@@ -126,7 +128,8 @@ class Kept(unittest.TestCase):
         for text in ("", "\n", "H 0", "H 0\n\n", "  \t\r\n# only a comment\r\n", "REPEAT[t] 005 { # turns\n  }  # end\n",
                      "h[a # b] 0 1 # c {}", "mpp X0 * X1\t!z2*y3", "CX rec[-1] 1 0 2", "CZ 0 rec[-1]", "M() 0", "TICK[]"):
             self.assertEqual(convert(text), text)
-        for text in ("error[t](0.1) D0 ^ D1 L0 # c", "repeat 3 {\n error(0.1) D0\n shift_detectors 1\n}", "logical_observable L1"):
+        for text in ("error[t](0.1) D0 ^ D1 L0 # c", "repeat 3 {\n error(0.1) D0\n shift_detectors 1\n}",
+                     "logical_observable L1"):
             self.assertEqual(convert(text, is_model=True), text)
 
     def test_bytes_of_comments_and_tags_stay(self):
@@ -182,7 +185,8 @@ class Program(unittest.TestCase):
         """Each name that is replaced, each form of a number, and a helper qubit, in one circuit that the program runs."""
         program = find_program()
         lines = ["DEPOLARIZE1(0.1000000000000000056) 0", "DEPOLARIZE2(0.01) 0 1", "PAULI_CHANNEL_1(1e-20, 1e-20, 0.9e-20) 0",
-                 f"PAULI_CHANNEL_2({', '.join(['0.0101'] * 15)}) 0 1", "I_ERROR(0.1) 0", "II 0 1", "II_ERROR(0.1) 0 1", "R 0 1 2 3",
+                 f"PAULI_CHANNEL_2({', '.join(['0.0101'] * 15)}) 0 1", "I_ERROR(0.1) 0", "II 0 1", "II_ERROR(0.1) 0 1",
+                 "R 0 1 2 3",
                  "SPP X0*Y1*!Z2 X1", "SPP_DAG Z3", "CXSWAP 0 1 1 2", "SWAPCX 0 1", "CZSWAP 0 1", "SWAPCZ 0 1",
                  *(f"{name} 0 0 1" for name in from_stim.TWO_GATES if name[0] in "HC" and "SWAP" not in name),
                  "MXX(0.1) 0 !1", "MYY 0 1", "MZZ 0 1", "MPAD(0.01) 0 1", "MPP X0*X0*Z1 X2*X2", "XCZ 0 rec[-1]", "YCZ 1 rec[-2]",
@@ -199,7 +203,8 @@ class Program(unittest.TestCase):
 
     def test_a_model_is_accepted_once_it_is_converted(self):
         program = find_program()
-        text = "error(0.1000000000000000056) D0 ^ D1 L0\ndetector(0.5, 1) D0\nrepeat 2 {\n  error(0.01) D1\n  shift_detectors(0.5) 1\n}\n"
+        text = ("error(0.1000000000000000056) D0 ^ D1 L0\ndetector(0.5, 1) D0\n"
+                "repeat 2 {\n  error(0.01) D1\n  shift_detectors(0.5) 1\n}\n")
         self.assertEqual(run([program, "predict"], text.encode()).stdout, b"refused 41 line 1\n")
         done = run([program, "predict", "--lines", "0,2"], convert(text, True, 2).encode())
         self.assertEqual((done.returncode, done.stdout), (0, b"1111\n"))
