@@ -32,7 +32,8 @@ def run(program, words, circuit):
 
 
 def read_model(text):
-    """The detectors that each error line flips, the observables that it flips (a column a line), and the probabilities."""
+    """Of a model that `analyze` wrote: the detectors and the observables that each error line flips, a column a line, and the
+    probabilities."""
     errors = re.findall(r"^error\(([^)]*)\)(.*)", text, re.MULTILINE)
     detectors = len(re.findall(r"^detector", text, re.MULTILINE))
     observables = len(re.findall(r"^logical_observable", text, re.MULTILINE))
