@@ -292,7 +292,7 @@ class Converter:
                 converted += self.convert_line(text, at)
             except Refused as reason:
                 refused.append((at, reason))
-        return converted, refused + [(at, "the block isn't closed") for at in self.blocks]
+        return converted, refused or [(at, "the block isn't closed") for at in self.blocks]
 
     def convert_line(self, text, at):
         parts = LINE.fullmatch(text)
@@ -311,7 +311,7 @@ class Converter:
         return self.convert_instruction(name, parts)
 
     def open_block(self, name, parts, targets, at):
-        if name != "REPEAT" or parts["brace"] != "{" or parts["arguments"] is not None or len(targets) != 1:
+        if name != "REPEAT" or parts["brace"] != "{" or (parts["arguments"] or "").strip(" \t\r") or len(targets) != 1:
             raise Refused("a block begins with REPEAT, a number and an opening brace")
         self.blocks = self.blocks + [at]
         if not re.fullmatch(r"0*[1-9]\d{0,17}", targets[0]):

@@ -1,4 +1,5 @@
 """How examples/from_stim.py treats texts: numbers, coordinates, what it keeps, and what it refuses."""
+import random
 import sys
 import unittest
 
@@ -75,6 +76,22 @@ MODELS_REFUSED = [
     ("repeat 3 {\nerror(0.1) D0", 1, "isn't closed"),
     ("detector(1000000000000000000) D0", 1, "beyond 999999999999999999"),
 ]
+
+# Lines that stabsim reads, of which texts with slips are made.
+LINES = """H 0 1|S_DAG[a #] 2|CX 0 1 rec[-1] 2|CZ 0 rec[-1]|XCZ 0 1|ISWAP_DAG 0 1 2 3|M(1e-3) !0 1|MRY 2|RX 1|MPP(0.1) X0*!Y1 Z2|
+    E(0.1) X0 Y1 X0|X_ERROR(.25) 0 3|DETECTOR(1,-2) rec[-1]|OBSERVABLE_INCLUDE(3) rec[-1]|SHIFT_COORDS(1, 2)|TICK|
+    QUBIT_COORDS(1.5e0,-2) 3|REPEAT 3 {|}|# comment|""".replace("\n    ", "").split("|")
+MODEL_LINES = ["error(0.1) D0 ^ D1 L0", "error[t](1e-3) D2", "detector(1, -2) D0", "shift_detectors(0, 1) 2", "repeat 2 {", "}",
+               "logical_observable L1"]
+
+
+def draw_slip(source, lines):
+    """A few of the lines with up to two bytes changed, added or taken away."""
+    text = list("\n".join(source.choices(lines, k=source.randrange(1, 5))))
+    for _ in range(source.randrange(3)):
+        at = source.randrange(len(text) + 1)
+        text[at:at + source.randrange(2)] = source.choice(["", *"0123456789 .,()[]{}!*#-+eErcXYZDL^\t\r\n_"])
+    return "".join(text)
 
 
 class Numbers(unittest.TestCase):
@@ -208,6 +225,27 @@ class Program(unittest.TestCase):
         self.assertEqual(run([program, "predict"], text.encode()).stdout, b"refused 41 line 1\n")
         done = run([program, "predict", "--lines", "0,2"], convert(text, True, 2).encode())
         self.assertEqual((done.returncode, done.stdout), (0, b"1111\n"))
+
+    def test_texts_with_slips_are_judged_as_by_the_program(self):
+        """What the program reads stays as it is; what the script converts is read; what neither takes is refused by both."""
+        program, source = find_program(), random.Random(4)
+        for order, lines, is_model in (("faults", LINES, False), ("predict", MODEL_LINES, True)):
+            counts = {True: 0, False: 0}
+            for _ in range(250):
+                text = ("" if is_model else "M 0 1 2 3\n") + draw_slip(source, lines)
+                is_read = self.is_read(program, order, text)
+                if is_read:
+                    self.assertEqual(convert(text, is_model), text)
+                elif not refusals(text, is_model):
+                    self.assertTrue(self.is_read(program, order, convert(text, is_model)), text)
+                counts[is_read] += 1
+            self.assertGreater(min(counts.values()), 50)
+
+    def is_read(self, program, order, text):
+        """Whether each line is read: refusals of a whole text are left out."""
+        done = run([program, order], text.encode())
+        number = done.stdout.split()[1] if done.returncode == 2 else b""
+        return number in (b"", b"22", b"23", b"24", b"25", b"47")
 
 
 if __name__ == "__main__":
