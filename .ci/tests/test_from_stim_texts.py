@@ -239,7 +239,7 @@ class Program(unittest.TestCase):
                 elif not refusals(text, is_model):
                     self.assertTrue(self.is_read(program, order, convert(text, is_model)), text)
                 counts[is_read] += 1
-            self.assertGreater(min(counts.values()), 50)
+            self.assertGreater(min(counts.values()), 30)
 
     def is_read(self, program, order, text):
         """Whether each line is read: refusals of a whole text are left out."""
