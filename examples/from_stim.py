@@ -27,11 +27,12 @@ from functools import cached_property, lru_cache
 from itertools import product
 
 setcontext(Context(prec=250, Emax=10**9, Emin=-(10**9)))
+getattr(sys, "set_int_max_str_digits", int)(0)  # any number of zeros may stand in front
 
 LINE = re.compile(
     r"(?P<indent>[ \t\r]*)(?P<name>[^ \t\r\[({}#]*)(?P<tag>[ \t\r]*\[[^\]]*\])?([ \t\r]*\((?P<arguments>[^)#]*)\))?"
     r"(?P<targets>[^#{}]*)(?P<brace>[{}]?)[ \t\r]*(#.*)?", re.DOTALL)
-NUMBER = re.compile(r"[-+]?(\d+\.?\d*|\.\d+)([eE][-+]?\d+)?")
+NUMBER = re.compile(r"[-+]?(\d+\.?\d*|\.\d+)([eE][-+]?\d{1,15})?")
 DECIMAL = r"(\d+\.?\d*|\.\d+)([eE][-+]?\d{1,3})?"
 MOST_QUBITS, MOST_OBSERVABLES, MOST_BLOCKS = 4096, 1024, 32
 
@@ -100,10 +101,6 @@ def write_probability(value):
     return format(abs(value.quantize(Decimal(1).scaleb(-places), ROUND_DOWN).normalize()), "f")
 
 
-def to_decimal(fraction):
-    return Decimal(fraction.numerator) / Decimal(fraction.denominator)
-
-
 def convert_argument(kind, text, scale):
     value = read_number(text)
     if kind == "probability":
@@ -126,6 +123,7 @@ def convert_argument(kind, text, scale):
 # Noise channels
 
 def anticommute(first, second):
+    """Whether two words do, each of which has a letter a qubit."""
     return sum(a != b and "I" not in (a, b) for a, b in zip(first, second)) % 2 == 1
 
 
@@ -142,7 +140,7 @@ def find_faults(chances):
     if sum(chances) > 1:
         raise Refused("the probabilities come to more than 1")
     if sum(chance > 0 for chance in chances) < 2:
-        return [(word, write_probability(to_decimal(chance))) for word, chance in zip(words, chances) if chance]
+        return [(word, write_probability(Decimal(p.numerator) / p.denominator)) for word, p in zip(words, chances) if p]
     eigenvalues = [1 - 2 * sum(c for other, c in zip(words, chances) if anticommute(word, other)) for word in words]
     if not any(eigenvalues):
         return [(word, "0.5") for word in words]
@@ -155,7 +153,7 @@ def find_faults(chances):
             power *= eigenvalue if anticommute(word, other) else 1 / eigenvalue
         if power > 1:
             raise Refused(f"no independent faults make this channel: that of {word} would need a negative probability")
-        root = to_decimal(power)
+        root = Decimal(power.numerator) / power.denominator
         for _ in range(2 * qubits - 1):
             root = root.sqrt()
         chance = ((1 - root) / 2).quantize(Decimal("1e-150"), ROUND_HALF_EVEN)
@@ -178,11 +176,16 @@ def replace_channel(name, arguments, targets):
 
 # Gates and measurements
 
+def split(text):
+    return re.findall(r"[^ \t\r]+", text)
+
+
 def cut_into(targets, size):
     return [targets[at:at + size] for at in range(0, len(targets), size)]
 
 
 def name_qubits(target):
+    """The qubits that a target names, and none where it is a record."""
     return [] if "rec" in target else [int(digits) for digits in re.findall(r"\d+", target)]
 
 
@@ -232,7 +235,7 @@ def replace_generalized_s(name, text):
 
 
 def write_product(text, find_unused):
-    """A product of MPP in which no qubit comes twice; one that cancels is Z of an unused qubit, which is 0."""
+    """A product of MPP multiplied out. Where nothing but a sign is left, it is Z of an unused qubit, which is 0."""
     minus, letters = multiply(text)
     return "!" * minus + ("*".join(letter + str(qubit) for qubit, letter in letters.items()) or f"Z{find_unused()}")
 
@@ -298,22 +301,20 @@ class Converter:
         parts = LINE.fullmatch(text)
         if not parts:
             raise Refused("no line of Stim's format, or more on it behind a brace")
-        name, targets = parts["name"].upper(), parts["targets"].split()
+        name, targets = parts["name"].upper(), split(parts["targets"])
         if name == "REPEAT" or parts["brace"] == "{":
             return self.open_block(name, parts, targets, at)
-        if not (name or parts["tag"] or targets or parts["arguments"] is not None):
-            if parts["brace"] and not self.blocks:
-                raise Refused("no block is open")
-            self.blocks = self.blocks[:-1] if parts["brace"] else self.blocks
-            return [text]
-        if parts["brace"]:
-            raise Refused("a closing brace stands on a line of its own")
-        return self.convert_instruction(name, parts)
+        if name or parts["tag"] or targets or parts["arguments"] is not None:
+            return self.convert_instruction(name, parts)
+        if parts["brace"] and not self.blocks:
+            raise Refused("no block is open")
+        self.blocks = self.blocks[:-1] if parts["brace"] else self.blocks
+        return [text]
 
     def open_block(self, name, parts, targets, at):
         if name != "REPEAT" or parts["brace"] != "{" or (parts["arguments"] or "").strip(" \t\r") or len(targets) != 1:
             raise Refused("a block begins with REPEAT, a number and an opening brace")
-        self.blocks = self.blocks + [at]
+        self.blocks.append(at)
         if not re.fullmatch(r"0*[1-9]\d{0,17}", targets[0]):
             raise Refused(f"a block is repeated 1 to {10**18 - 1} times, not {targets[0]}")
         if len(self.blocks) > MOST_BLOCKS:
@@ -321,12 +322,14 @@ class Converter:
         return [parts.string]
 
     def convert_instruction(self, name, parts):
+        if parts["brace"]:
+            raise Refused("a closing brace stands on a line of its own")
         if name in LEFT_OUT and not self.is_model:
             raise Refused(f"{name} can't be converted: {LEFT_OUT[name]}")
         if name not in self.instructions:
             raise Refused(f"{parts['name']!r} isn't the name of an instruction that can be converted")
         text, indent, tag = parts.string, parts["indent"], parts["tag"] or ""
-        targets = re.sub(r"[ \t\r]*\*[ \t\r]*", "*", parts["targets"]).split()
+        targets = split(re.sub(r"[ \t\r]*\*[ \t\r]*", "*", parts["targets"]))
         self.check_targets(name, targets)
         given = [argument.strip(" \t\r") for argument in (parts["arguments"] or "").split(",")]
         given = [] if given == [""] else given
@@ -369,7 +372,7 @@ class Converter:
         """A qubit that no line of the circuit names."""
         targets = [parts["targets"] for parts in map(LINE.fullmatch, self.lines)
                    if parts and parts["name"].upper() not in ("MPAD", "REPEAT")]
-        unused = max((qubit for text in targets for target in text.split() for qubit in name_qubits(target)), default=-1) + 1
+        unused = max((qubit for text in targets for target in split(text) for qubit in name_qubits(target)), default=-1) + 1
         if unused >= MOST_QUBITS:
             raise Refused("a record of a known bit needs a qubit that is never used, and none is free")
         return unused

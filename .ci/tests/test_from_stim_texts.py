@@ -46,6 +46,9 @@ REFUSED = [
     ("X_ERROR(-0.1) 0", 1, "no probability"),
     ("X_ERROR(x) 0", 1, "no number"),
     ("X_ERROR(nan) 0", 1, "no number"),
+    ("X_ERROR(1e9999999999999999999) 0", 1, "no number"),
+    ("DEPOLARIZE1(0.1) 0\x0b1", 1, "no target"),
+    ("DEPOLARIZE1(0.1) 0\xa01", 1, "no target"),
     ("X_ERROR(0.1,) 0", 1, "takes 1 arguments, not 2"),
     ("X_ERROR 0", 1, "takes 1 arguments, not 0"),
     ("M(0.1, 0.1) 0", 1, "takes 0 to 1 arguments, not 2"),
@@ -143,7 +146,8 @@ class Kept(unittest.TestCase):
 
     def test_texts_of_every_form_stay(self):
         for text in ("", "\n", "H 0", "H 0\n\n", "  \t\r\n# only a comment\r\n", "REPEAT[t] 005 { # turns\n  }  # end\n",
-                     "h[a # b] 0 1 # c {}", "mpp X0 * X1\t!z2*y3", "CX rec[-1] 1 0 2", "CZ 0 rec[-1]", "M() 0", "TICK[]"):
+                     "h[a # b] 0 1 # c {}", "H " + "0" * 9999 + "5",
+                     "mpp X0 * X1\t!z2*y3", "CX rec[-1] 1 0 2", "CZ 0 rec[-1]", "M() 0", "TICK[]"):
             self.assertEqual(convert(text), text)
         for text in ("error[t](0.1) D0 ^ D1 L0 # c", "repeat 3 {\n error(0.1) D0\n shift_detectors 1\n}",
                      "logical_observable L1"):
