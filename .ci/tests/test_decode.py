@@ -50,12 +50,12 @@ def read_errors(model):
 
 
 class StandIn:
-    """A program that writes what it is told: by its first word, a text and a status."""
+    """A program that writes what it is told: by its first word, a text and a status. It keeps the words it was called with."""
 
     def __init__(self, folder, **answers):
         self.path = Path(folder) / "stand-in"
         cases = "".join(f"{word}) printf '{text}'; exit {status};;\n" for word, (text, status) in answers.items())
-        self.path.write_text(f"#!/bin/sh\ncat > /dev/null\ncase $1 in\n{cases}esac\nexit 9\n")
+        self.path.write_text(f"#!/bin/sh\ncat > /dev/null\necho \"$*\" >> {folder}/words\ncase $1 in\n{cases}esac\nexit 9\n")
         self.path.chmod(self.path.stat().st_mode | stat.S_IXUSR)
 
 
@@ -106,7 +106,8 @@ class Decoding(unittest.TestCase):
         model = "error(0.1) D0 L0\\nerror(0.01) D0\\nerror(0.2) D1\\ndetector D0\\ndetector D1\\nlogical_observable L0\\n"
         with tempfile.TemporaryDirectory() as folder:
             program = StandIn(folder, analyze=(model, 0), detect=("000\\n101\\n100\\n011\\n111\\n", 0)).path
-            done = run([python, DECODE, "--program", program, "--shots", "5", CIRCUIT])
+            done = run([python, DECODE, "--program", program, "--shots", "5", "--seed", "9", CIRCUIT])
+            self.assertEqual((Path(folder) / "words").read_text(), "analyze\ndetect --shots 5 --seed 9\n")
         self.assertEqual((done.returncode, done.stderr), (0, b""))
         # 0.1 * 0.01 with both errors on D0, where "no error" is likelier; 0.9 * 0.01 with the second alone.
         self.assertEqual(done.stdout.decode(), "detectors 2, observables 1, error lines 3\nshots 5, decoded wrongly 2: "
