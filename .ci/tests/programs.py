@@ -1,0 +1,70 @@
+"""What the tests run: the script, the built program, and a Python that has numpy."""
+import functools
+import importlib.util
+import os
+import shutil
+import subprocess
+import sys
+import unittest
+from pathlib import Path
+
+sys.dont_write_bytecode = True  # so that loading a script leaves nothing among the examples
+
+TOP = Path(__file__).resolve().parents[2]
+FROM_STIM = TOP / "examples" / "from_stim.py"
+DECODE = TOP / "examples" / "decode.py"
+
+
+def run(words, data=b""):
+    """A command's status, output and messages, by bytes."""
+    return subprocess.run([str(word) for word in words], input=data, capture_output=True, timeout=300)
+
+
+def load(path):
+    """A script as a module."""
+    spec = importlib.util.spec_from_file_location(path.stem, path)
+    module = importlib.util.module_from_spec(spec)
+    spec.loader.exec_module(module)
+    return module
+
+
+from_stim = load(FROM_STIM)
+
+
+def convert(text, is_model=False, scale=1):
+    """The text that from_stim.py makes of this one; an error where it refuses a line."""
+    converted, refused = from_stim.Converter(text.split("\n"), is_model, scale).convert()
+    if refused:
+        raise AssertionError(refused)
+    return "\n".join(converted)
+
+
+def refusals(text, is_model=False, scale=1):
+    """The lines that from_stim.py refuses, each with its reason."""
+    return [(at, str(reason)) for at, reason in from_stim.Converter(text.split("\n"), is_model, scale).convert()[1]]
+
+
+def without_comments(text):
+    return [line.strip() for line in text.split("\n") if line.strip() and not line.strip().startswith("#")]
+
+
+@functools.cache
+def find_program():
+    """The built program that STABSIM names; a test that needs it is skipped where STABSIM isn't set."""
+    name = os.environ.get("STABSIM")
+    if not name:
+        raise unittest.SkipTest("STABSIM names no program")
+    if not os.access(name, os.X_OK):
+        raise AssertionError(f"STABSIM names {name}, which can't be run")
+    return Path(name).resolve()
+
+
+@functools.cache
+def find_numpy_python():
+    """A Python with numpy; a test that needs it is skipped where there is none, unless REQUIRE_NUMPY is set."""
+    for python in (sys.executable, shutil.which("python3"), "/usr/bin/python3"):
+        if python and os.access(python, os.X_OK) and run([python, "-c", "import numpy"]).returncode == 0:
+            return python
+    if os.environ.get("REQUIRE_NUMPY"):
+        raise AssertionError("no Python with numpy, and REQUIRE_NUMPY is set")
+    raise unittest.SkipTest("no Python has numpy")
