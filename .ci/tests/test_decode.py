@@ -151,8 +151,6 @@ class Recipes(unittest.TestCase):
             os.symlink(program, Path(folder) / "crates" / "stabsim" / "out" / "stabsim")
             for recipe in recipes:
                 self.assertTrue(recipe.startswith("set -euo pipefail\n"))
-                if "parallel" in recipe and not shutil.which("parallel"):
-                    continue
                 done = run(["bash", "-c", f"cd {folder} && {recipe}"])
                 self.assertEqual((done.returncode, done.stderr), (0, b""), recipe)
             check(Path(folder))
@@ -165,9 +163,8 @@ class Recipes(unittest.TestCase):
             shots = (folder / "shots.01").read_bytes()
             self.assertEqual(shots, run([folder / "stabsim", "detect", "--shots", "1000", "--seed", "1"],
                                         (TOP / "examples" / "surface_code.stim").read_bytes()).stdout)
-            if shutil.which("parallel"):
-                self.assertEqual((folder / "many.01").read_bytes()[:len(shots)], shots)
-                self.assertEqual((folder / "many.01").read_bytes().count(b"\n"), 4000)
+            self.assertEqual((folder / "many.01").read_bytes()[:len(shots)], shots)
+            self.assertEqual((folder / "many.01").read_bytes().count(b"\n"), 4000)
             errors = read_errors((folder / "z.dem").read_text())
             self.assertEqual(max(len(detectors) for _, detectors, _ in errors), 2)
             self.assertEqual((folder / "z.dem").read_text().count("\ndetector"), 4 * 4)
