@@ -7,7 +7,7 @@ use Rattle.dem_parser.specs.Meanings.{greatest_of, greatest_over}
 use Rattle.dem_parser.specs.Shifts.{Placed}
 use Rattle.dem_lines.proofs.PassLemmas.{drop_got}
 
-max-none : (a : ℕ) → max a 0 ≡ a
+pub max-none : (a : ℕ) → max a 0 ≡ a
 max-none a = omega arith
 
 pub max-more : (a b c : ℕ) → max (max a b) c ≡ max a (max b c)

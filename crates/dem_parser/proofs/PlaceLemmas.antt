@@ -130,7 +130,7 @@ pub record IsPlacing (all rest : List Instruction) (placed : List Placed) (s : S
 pub placing-first : (all : List Instruction) → IsPlacing all all [] no_shift
 placing-first all = record { front = refl; within = refl }
 
-beyond_of : (p : Placed) (ps : List Placed) (b : Bool) → is_beyond p ≡ b → first_beyond (p ∷ ps) ≡ (if b then Some p.line else first_beyond ps)
+pub beyond_of : (p : Placed) (ps : List Placed) (b : Bool) → is_beyond p ≡ b → first_beyond (p ∷ ps) ≡ (if b then Some p.line else first_beyond ps)
 beyond_of p ps true e = ap (λ c. option_map (λ (q : Placed). q.line) (if c then Some p else find is_beyond ps)) e
 beyond_of p ps false e = ap (λ c. option_map (λ (q : Placed). q.line) (if c then Some p else find is_beyond ps)) e
 

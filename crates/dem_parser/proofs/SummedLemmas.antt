@@ -36,7 +36,7 @@ numbers-done d bits rest e = sym (ap (λ ts. turned bits (numbers_of d ts)) e)
 
 -- ---- how many error lines
 
-count-at : (errors : ℕ) (p : Placed) (rest : List Placed) → passed_after errors p + error_count rest ≡ errors + error_count (p ∷ rest)
+pub count-at : (errors : ℕ) (p : Placed) (rest : List Placed) → passed_after errors p + error_count rest ≡ errors + error_count (p ∷ rest)
 count-at errors p rest =
     let found = filter (λ q. is_error q.operation) rest in
     elim (is_error p.operation) as (λ b. (if b then errors + 1 else errors) + length found ≡ errors + length (cond b (p ∷ found) found)) [
@@ -136,7 +136,7 @@ sum-error d o named bits passed p rest long low =
     ∙ ap (λ bs. turned_by (if get_or named passed false then bs else bits) (drop (suc passed) named) (error_lines d o rest)) (turned-flipped d o bits p.targets long low)
     ∙ sym (named-next bits named (error_lines d o rest) passed (error_line d o p))
 
-sum-at : (d o : ℕ) (named bits : List Bool) (passed : ℕ) (p : Placed) (rest : List Placed) → length bits ≡ d + o → greatest_of detectors_to p.targets ≤ d
+pub sum-at : (d o : ℕ) (named bits : List Bool) (passed : ℕ) (p : Placed) (rest : List Placed) → length bits ≡ d + o → greatest_of detectors_to p.targets ≤ d
     → turned_by (turned_past d named passed p bits) (drop (passed_after passed p) named) (error_lines d o rest)
     ≡ turned_by bits (drop passed named) (error_lines d o (p ∷ rest))
 sum-at d o named bits passed p rest long low =

@@ -7,3 +7,4 @@ pub mod KeptLines
 pub mod Numbered
 pub mod Summed
 pub mod Marked
+pub mod Tables

@@ -1,4 +1,4 @@
-ghost use Rattle.std.specs.Prelude.{◌≡◌, ◌+◌, ◌<◌, ◌^◌, max};
+ghost use Rattle.std.specs.Prelude.{◌≡◌, ◌+◌, ◌<◌, ◌^◌, if◌then◌else◌, max};
 ghost use Rattle.dem_parser.specs.KeptLines.{placed_in};
 ghost use Rattle.dem_parser.specs.Meanings.{detector_count, detectors_to, greatest_of, is_error, observable_count, observables_to};
 ghost use Rattle.dem_parser.specs.Summed.{error_count, passed_after};
@@ -18,6 +18,14 @@ pub struct TargetCounts {
 #[derive(Clone, Copy)]
 pub(crate) struct Counts {
     pub targets: TargetCounts,
+    pub errors: usize,
+}
+
+/// How many detectors and observables lines name, up to the greatest, and how many of them are error lines.
+#[derive(Clone, Copy)]
+pub(crate) struct LineCounts {
+    pub detectors: u32,
+    pub observables: u32,
     pub errors: usize,
 }
 
@@ -73,6 +81,29 @@ pub fn is_error(operation: Operation) -> bool
     ensures { result ≡ is_error operation }
 {
     matches!(operation, Operation::Errs)
+}
+
+/// Counts raised by a line with these counts.
+pub(crate) fn counts_past(
+    counts: LineCounts,
+    detectors: u32,
+    observables: u32,
+    operation: Operation,
+) -> LineCounts
+    requires { counts.errors + 1 < 2 ^ 64 }
+    ensures detectors { result.detectors ≡ max counts.detectors detectors }
+    ensures observables { result.observables ≡ max counts.observables observables }
+    ensures errors { result.errors ≡ (if is_error operation then counts.errors + 1 else counts.errors) }
+{
+    let mut errors = counts.errors;
+    if is_error(operation) {
+        errors += 1;
+    }
+    LineCounts {
+        detectors: counts.detectors.max(detectors),
+        observables: counts.observables.max(observables),
+        errors,
+    }
 }
 
 /// How many error lines there are after one more line.

@@ -3,7 +3,7 @@ ghost use Rattle.std.specs.List.Sorted.{IsNonDecreasing};
 ghost use Rattle.dem_parser.specs.Meanings.{detectors_to, flipped, greatest_of, observables_to};
 ghost use Rattle.dem_parser.specs.Numbered.{numbered, numbers_of, odd_below};
 
-use dem_lines::Target;
+use dem_lines::{Target, narrowed};
 use std::alloc::{AllocError, Allocator};
 
 /// The number of a target, `number` after `first`. One that doesn't fit 32 bits fails as if memory had run out; the
@@ -18,6 +18,17 @@ pub(crate) fn number_at(first: u32, number: u64) -> Result<u32, AllocError>
         return Err(AllocError);
     }
     Ok(sum as u32)
+}
+
+/// The number of a detector once shifted. One that doesn't fit 32 bits fails as if memory had run out; the limit of
+/// detectors is far below.
+pub(crate) fn detector_at(shift: u128, detector: u64) -> Result<u32, AllocError>
+    ensures { IfOk result (λ found. found ≡ detector + shift) }
+{
+    match shift.checked_add(detector as u128) {
+        Some(number) => narrowed(number),
+        None => Err(AllocError),
+    }
 }
 
 /// Appends the number of a target, in a model with this many detectors. A separator has none.

@@ -2,8 +2,10 @@
 #![tactic(auto)]
 
 mod build;
+mod coordinates;
 mod counts;
 mod flips;
+mod judging;
 mod marks;
 mod placed;
 mod placed_model;
@@ -12,6 +14,7 @@ mod reached;
 mod reader;
 mod shifts;
 mod sums;
+mod table;
 
 pub use counts::{TargetCounts, is_error, raised, raised_to};
 pub use dem_lines::{Instruction, Item, ModelLines, Operation, Target, laws, parse};

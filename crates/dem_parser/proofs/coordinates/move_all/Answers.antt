@@ -3,7 +3,7 @@ use Rattle.std.proofs.lemmas.Int.{ints}
 use Rattle.dem_parser.specs.Models.{is_far}
 use Rattle.dem_parser.proofs.FrontLemmas.{front-more, matched}
 use Rattle.dem_parser.proofs.ShiftLemmas.{moved-next}
-use Rattle.dem_parser.proofs.placing.move_all.Goals as goal
+use Rattle.dem_parser.proofs.coordinates.move_all.Goals as goal
 
 pub loop-place-preserved : goal.loop-place-preserved
 loop-place-preserved g c =
