@@ -6,14 +6,13 @@ use Rattle.std.proofs.lemmas.List.{length-replicate}
 use Rattle.step_model.specs.ErrorModels.{ErrorModel}
 use Rattle.dem_lines.specs.Verdicts.{Instruction}
 use Rattle.dem_parser.specs.declared.counts.LineCounts.{LineCounts}
-use Rattle.dem_parser.specs.KeptLines.{shift_of}
+use Rattle.dem_parser.specs.Offsets.{shift_of}
 use Rattle.dem_parser.specs.Meanings.{detector_count, detectors_to, error_lines, greatest_of, greatest_over, meaning_of, observable_count, observables_to}
 use Rattle.dem_parser.specs.Models.{first_beyond, is_beyond}
 use Rattle.dem_parser.specs.Shifts.{Placed, Shift, no_shift, placed_at, placed_from, shift_after}
 use Rattle.dem_parser.specs.Summed.{AreCounts, HasCounted, error_count, passed_after, turned_past}
 use Rattle.dem_parser.specs.Sums.{symptom_of, turned_by}
 use Rattle.dem_parser.proofs.CountLemmas.{max-more, max-none}
-use Rattle.dem_parser.proofs.PlaceLemmas.{beyond_of}
 use Rattle.dem_parser.proofs.SummedLemmas.{count-at, length-past, sum-at, sum-first, unnamed-past}
 
 -- one instruction, and those that are left
@@ -27,6 +26,10 @@ unfolding placed_from
 placed-none s rest e = ap (placed_from s) e
 
 -- ---- counts
+
+beyond_of : (p : Placed) (ps : List Placed) (b : Bool) → is_beyond p ≡ b → first_beyond (p ∷ ps) ≡ (if b then Some p.line else first_beyond ps)
+beyond_of p ps true e = ap (λ c. option_map (λ (q : Placed). q.line) (if c then Some p else find is_beyond ps)) e
+beyond_of p ps false e = ap (λ c. option_map (λ (q : Placed). q.line) (if c then Some p else find is_beyond ps)) e
 
 -- the counts so far, and those that are left from this shift on
 pub record IsJudging (all rest : List Instruction) (counts : LineCounts) (s : Shift) : Type 0 where

@@ -4,7 +4,7 @@ ghost use Rattle.step_model.specs.Faults.{memory_fault};
 ghost use Rattle.dem_lines.specs.Flat.{instruction_in};
 ghost use Rattle.dem_lines.specs.Texts.{refused};
 ghost use Rattle.dem_parser.specs.Gathered.{instructions_at};
-ghost use Rattle.dem_parser.specs.KeptLines.{shift_of};
+ghost use Rattle.dem_parser.specs.Offsets.{shift_of};
 ghost use Rattle.dem_parser.specs.Meanings.{detectors_to, greatest_of, is_error};
 ghost use Rattle.dem_parser.specs.Models.{first_beyond, is_beyond};
 ghost use Rattle.dem_parser.specs.Shifts.{no_shift, placed_at, placed_from, shift_after};

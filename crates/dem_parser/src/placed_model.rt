@@ -1,7 +1,7 @@
 ghost use Rattle.std.specs.Prelude.{◌≡◌, ◌≤◌, ◌+◌, ◌<◌, ◌^◌, ℕ, ℤ, List, false, true, length, map, slice_index_or, IfOk};
 ghost use Rattle.dem_lines.specs.Flat.{instruction_in};
 ghost use Rattle.dem_parser.specs.Gathered.{instructions_at};
-ghost use Rattle.dem_parser.specs.KeptLines.{shift_of};
+ghost use Rattle.dem_parser.specs.Offsets.{shift_of};
 ghost use Rattle.dem_parser.specs.Meanings.{meaning_of};
 ghost use Rattle.dem_parser.specs.Numbered.{numbered, numbers_of};
 ghost use Rattle.dem_parser.specs.Shifts.{no_shift, placed_at, placed_from, target_at};
@@ -21,9 +21,9 @@ use std::marker::Model;
 /// reached. What a line flips is worked out only where the line is named, and most are not.
 #[derive(Drop)]
 pub struct PlacedModel<'c, 'a, A: Allocator + Copy> {
-    table: LineTable<'c, 'a, A>,
-    places: Vec<u32, A>,
-    counts: LineCounts,
+    pub(crate) table: LineTable<'c, 'a, A>,
+    pub(crate) places: Vec<u32, A>,
+    pub(crate) counts: LineCounts,
 }
 
 impl<'c, 'a, A: Allocator + Copy> Model for PlacedModel<'c, 'a, A> {

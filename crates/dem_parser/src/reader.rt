@@ -9,49 +9,13 @@ ghost use Rattle.dem_lines.specs.Texts.{refused};
 
 use crate::build::model_of;
 use crate::judging::counts_of;
-use crate::placed::PlacedLines;
 use crate::placed_model::PlacedModel;
-use crate::placing::placed_lines;
 use crate::reached::reached_of;
 use crate::table::LineTable;
 use dem_lines::{ModelLines, has_many_lines, parse};
 use dem_text::Model;
 use std::alloc::{AllocError, Allocator};
 use step_model::{Cause, Fault};
-
-/// The lines of a model as they are reached, or the refusal of the first one with a number that is then beyond its
-/// limit.
-fn reached_lines<'c, 'a, A: Allocator + Copy>(
-    alloc: A,
-    lines: &'c ModelLines<'a, A>,
-) -> Result<PlacedLines<'c, 'a, A>, Fault>
-    ensures placed { IfOk result (λ placed. placed.placed ≡ placed_lines lines.now) }
-    ensures within { IfOk result (λ placed. first_beyond (placed_lines lines.now) ≡ None) }
-    ensures err { IfErr result (λ fault. (fault ≡ memory_fault) ⊎ (option_map (refused cause.DemNumber) (first_beyond (placed_lines lines.now)) ≡ Some fault)) }
-{
-    lines.fits();
-    match reached_of(alloc, lines) {
-        Ok(reached) => placed_lines(alloc, lines, reached.as_slice()),
-        Err(_) => Err(Fault::MEMORY),
-    }
-}
-
-/// The same, or the refusal of blocks that unroll to too many lines.
-fn placed_of<'c, 'a, A: Allocator + Copy>(
-    alloc: A,
-    lines: &'c ModelLines<'a, A>,
-) -> Result<PlacedLines<'c, 'a, A>, Fault>
-    ensures ok { IfOk result (λ placed. model_of_tree lines.now ≡ Ok (meaning_of placed.placed)) }
-    ensures err { IfErr result (λ fault. (fault ≡ memory_fault) ⊎ (model_of_tree lines.now ≡ Err fault)) }
-{
-    if has_many_lines(lines) {
-        return Err(Fault {
-            cause: Cause::DemSteps,
-            line: 0,
-        });
-    }
-    reached_lines(alloc, lines)
-}
 
 /// The lines and blocks of an error model that a text writes, or its refusal before blocks are unrolled. The cause is
 /// `Memory` only where memory runs out or a number of lines or targets outgrows 32 bits.
@@ -125,7 +89,7 @@ fn model_of_lines<'a, A: Allocator + Copy>(
     ensures ok { IfOk result (λ model. model_of_tree lines.now ≡ Ok model) }
     ensures err { IfErr result (λ fault. (fault ≡ memory_fault) ⊎ (model_of_tree lines.now ≡ Err fault)) }
 {
-    let placed = match placed_of(alloc, lines) {
+    let placed = match place(alloc, lines) {
         Ok(placed) => placed,
         Err(fault) => return Err(fault),
     };

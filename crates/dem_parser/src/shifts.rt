@@ -1,9 +1,8 @@
 ghost use Rattle.std.specs.Prelude.{◌≡◌, ◌≤◌, ◌<◌, ◌+ℤ◌, ℤ, List, pos, [], length, map, slice_index_or, IfOk};
 ghost use Rattle.stim_parser.specs.Arguments.{arguments_in};
 ghost use Rattle.stim_parser.specs.Numbers.{whole_value};
-ghost use Rattle.dem_lines.specs.Fitting.{Fits};
 ghost use Rattle.dem_lines.specs.Flat.{instruction_in};
-ghost use Rattle.dem_parser.specs.KeptLines.{added_at, shift_of};
+ghost use Rattle.dem_parser.specs.Offsets.{added_at, shift_of};
 ghost use Rattle.dem_parser.specs.Shifts.{both_offsets, shift_after};
 ghost use Rattle.dem_parser.specs.Tables.{IsKnown};
 
@@ -132,24 +131,5 @@ impl<A: Allocator + Copy> Shift<A> {
             }
             _ => Ok(()),
         }
-    }
-}
-
-/// Takes a shift past an instruction.
-pub(crate) fn pass<A: Allocator + Copy>(
-    shift: &mut Shift<A>,
-    instruction: Instruction<'_, '_>,
-) -> Result<(), AllocError>
-    requires { Fits (instruction_in instruction) }
-    ensures { IfOk result (λ _. shift_of shift.new.detectors shift.new.offset.items ≡ shift_after (instruction_in instruction.entry) (shift_of shift.old.detectors shift.old.offset.items)) }
-{
-    match instruction.operation {
-        Operation::Shifts => {
-            let numbers = coordinates_read(instruction.arguments);
-            add(&mut shift.offset, numbers.as_slice())?;
-            shift.detectors = detectors_past(shift.detectors, instruction)?;
-            Ok(())
-        }
-        _ => Ok(()),
     }
 }

@@ -5,7 +5,7 @@ use Rattle.step_model.specs.declared.fault.Cause.TheVariants as cause
 use Rattle.dem_lines.specs.Flat.{instruction_in}
 use Rattle.dem_lines.specs.Texts.{refused}
 use Rattle.dem_parser.specs.Gathered.{instructions_at}
-use Rattle.dem_parser.specs.KeptLines.{shift_of}
+use Rattle.dem_parser.specs.Offsets.{shift_of}
 use Rattle.dem_parser.specs.Shifts.{placed_at}
 use Rattle.dem_parser.proofs.SummedLemmas.{passed-few}
 use Rattle.dem_parser.proofs.WalkLemmas.{judging-beyond, judging-done, judging-next}

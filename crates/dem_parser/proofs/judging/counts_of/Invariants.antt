@@ -1,6 +1,6 @@
 use Rattle.std.proofs.Common.{◌≤◌, drop}
 use Rattle.dem_parser.specs.Gathered.{instructions_at}
-use Rattle.dem_parser.specs.KeptLines.{shift_of}
+use Rattle.dem_parser.specs.Offsets.{shift_of}
 use Rattle.dem_parser.proofs.WalkLemmas.{IsJudging}
 use Rattle.dem_parser.proofs.judging.counts_of.Given as goal
 

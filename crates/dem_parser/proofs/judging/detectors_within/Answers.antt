@@ -2,7 +2,7 @@ use Rattle.std.proofs.Common.{ap, sym, ◌∙◌}
 use Rattle.std.specs.List.{list_any}
 use Rattle.std.proofs.lemmas.Bool.Decides.{when_true}
 use Rattle.dem_lines.specs.Flat.{instruction_in}
-use Rattle.dem_parser.specs.KeptLines.{shift_of}
+use Rattle.dem_parser.specs.Offsets.{shift_of}
 use Rattle.dem_parser.specs.Models.{is_far}
 use Rattle.dem_parser.specs.Tables.{coordinates_from}
 use Rattle.dem_parser.proofs.TableLemmas.{beyond-targets, detectors-known, within-limits}

@@ -1,7 +1,7 @@
 use Rattle.std.proofs.Common.{◌≡◌, false, ap, ◌∙◌}
 use Rattle.std.specs.Prelude.{max}
 use Rattle.dem_lines.specs.Flat.{instruction_in}
-use Rattle.dem_parser.specs.KeptLines.{shift_of}
+use Rattle.dem_parser.specs.Offsets.{shift_of}
 use Rattle.dem_parser.specs.Meanings.{detectors_to, greatest_of}
 use Rattle.dem_parser.specs.Models.{is_beyond}
 use Rattle.dem_parser.specs.Shifts.{placed_at}

@@ -3,7 +3,7 @@ use Rattle.std.proofs.lemmas.List.{at_drop_more, drop_all, with_items_is}
 use Rattle.dem_lines.specs.Flat.{instruction_in}
 use Rattle.dem_lines.specs.Places.{instruction_at}
 use Rattle.dem_parser.specs.Gathered.{instructions_at}
-use Rattle.dem_parser.specs.KeptLines.{shift_of}
+use Rattle.dem_parser.specs.Offsets.{shift_of}
 use Rattle.dem_parser.specs.Shifts.{placed_at}
 use Rattle.dem_parser.specs.Summed.{turned_past}
 use Rattle.dem_parser.proofs.SummedLemmas.{length-past, passed-few}
