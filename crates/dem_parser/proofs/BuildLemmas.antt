@@ -1,28 +1,18 @@
--- The error lines of placed lines, appended one after another; and that what is reached fits.
-use Rattle.std.proofs.Common.{◌≡◌, ℕ, zero, suc, ◌+◌, ◌≤◌, true, false, List, [], ◌∷◌, ◌++◌, Some, map, take, refl, ap, subst, sym, ◌∙◌, append_assoc, append-nil, arith}
-use Rattle.std.specs.Prelude.{All, cond, filter, slice_get}
-use Rattle.std.proofs.lemmas.List.{map-append, get_or-map, length-map}
-use Rattle.std.proofs.lemmas.List.Elements.{All-append, All-cons}
+-- The error lines of lines as they are reached, appended one after another.
+use Rattle.std.proofs.Common.{◌≡◌, ℕ, ◌≤◌, Bool, true, false, ℤ, List, [], ◌∷◌, ◌++◌, length, map, refl, ap, ap₂, sym, ◌∙◌, append_assoc, append-nil, arith}
+use Rattle.std.specs.Prelude.{cond, filter, max}
+use Rattle.std.specs.List.{range_with_len}
+use Rattle.std.proofs.lemmas.List.{map-append}
+use Rattle.std.proofs.lemmas.List.FromFn.{length-map-range_with_len}
 use Rattle.step_model.specs.ErrorModels.{ErrorLine, ErrorModel}
-use Rattle.dem_lines.specs.declared.target.Target.{Target}
-use Rattle.dem_lines.specs.Fitting.{AllFit, Fits}
-use Rattle.dem_parser.specs.Gathered.{instructions_at}
-use Rattle.dem_lines.specs.Places.{instruction_at}
-use Rattle.dem_parser.specs.Meanings.{error_line, error_lines, greatest_of, greatest_over, is_error}
-use Rattle.dem_lines.specs.Reached.{copies, reached}
-use Rattle.dem_parser.specs.Shifts.{Placed}
-use Rattle.dem_lines.specs.Trees.{Tree, Nothing, Then, Block, items_of}
 use Rattle.dem_lines.specs.Verdicts.{Instruction}
-use Rattle.dem_parser.proofs.MarkLemmas.{take-got}
+use Rattle.dem_parser.specs.Meanings.{detector_count, detectors_to, error_line, error_lines, greatest_of, greatest_over, is_error, last_coordinates, meaning_of, observable_count, observables_to}
+use Rattle.dem_parser.specs.Shifts.{Placed, no_shift, placed_at, placed_from, shift_after, target_at}
+use Rattle.dem_parser.specs.Summed.{AreCounts}
+use Rattle.dem_parser.specs.Offsets.{shift_of}
+use Rattle.dem_parser.proofs.WalkLemmas.{placed-next, placed-none}
 
-pub greatest-got : (f : Target → ℕ) (lines : List Placed) (i : ℕ) (p : Placed) → Some p ≡ slice_get lines i → greatest_of f p.targets ≤ greatest_over f lines
-unfolding greatest_over
-greatest-got f [] i p h = absurd cc
-greatest-got f (q ∷ lines) zero p h =
-    let same : q ≡ p = cc in
-    let e = ap (λ (r : Placed). greatest_of f r.targets) same in
-    omega (arith, e)
-greatest-got f (q ∷ lines) (suc i) p h = let rest = greatest-got f lines i p h in omega (arith, rest)
+-- ---- more error lines
 
 filter-both : (xs ys : List Placed) → filter (λ q. is_error q.operation) (xs ++ ys) ≡ filter (λ q. is_error q.operation) xs ++ filter (λ q. is_error q.operation) ys
 filter-both [] ys = refl
@@ -39,33 +29,83 @@ errors-both d o xs ys =
 abbrev pub with_lines : ErrorModel → List ErrorLine → ErrorModel
 with_lines model more = record model { lines = model.lines ++ more }
 
-pub errors-next : (start now after : ErrorModel) (d o i : ℕ) (lines : List Placed) (p : Placed) → Some p ≡ slice_get lines i
-    → now ≡ with_lines start (error_lines d o (take i lines)) → after ≡ with_lines now (error_lines d o (p ∷ []))
-    → after ≡ with_lines start (error_lines d o (take (i + 1) lines))
-errors-next start now after d o i lines p got e more =
-    more
-    ∙ ap (λ m. with_lines m (error_lines d o (p ∷ []))) e
-    ∙ ap (λ (ls : List ErrorLine). record start { lines = ls })
-    (append_assoc start.lines (error_lines d o (take i lines)) (error_lines d o (p ∷ []))
-    ∙ ap (λ (ls : List ErrorLine). start.lines ++ ls) (sym (errors-both d o (take i lines) (p ∷ [])) ∙ ap (error_lines d o) (sym (take-got lines i p got))))
+lines-both : (model : ErrorModel) (xs ys : List ErrorLine) → with_lines (with_lines model xs) ys ≡ with_lines model (xs ++ ys)
+lines-both model xs ys = ap (λ (ls : List ErrorLine). record model { lines = ls }) (append_assoc model.lines xs ys)
 
-pub errors-first : (start : ErrorModel) → start ≡ with_lines start []
-errors-first start = ap (λ (ls : List ErrorLine). record start { lines = ls }) (sym (append-nil start.lines))
+lines-none : (model : ErrorModel) → with_lines model [] ≡ model
+lines-none model = ap (λ (ls : List ErrorLine). record model { lines = ls }) (append-nil model.lines)
 
--- ---- what is reached fits
+-- ---- instructions one after another
 
-fits-copies : (n : ℕ) (xs : List Instruction) → All Fits xs → All Fits (copies n xs)
-fits-copies zero xs h = λ k d below. absurd (omega (arith, below))
-fits-copies (suc n) xs h = All-append Fits xs (copies n xs) h (fits-copies n xs h)
+-- the model so far, and the lines that are left, with some offset of coordinates
+pub record IsUnrolling (d o : ℕ) (model : ErrorModel) (shift : ℕ) (rest : List Instruction) (whole : ErrorModel) : Type 0 where
+  pub offset : List ℤ
+  pub left : with_lines model (error_lines d o (placed_from (shift_of shift offset) rest)) ≡ whole
+  pub low : detector_count (placed_from (shift_of shift offset) rest) ≤ d
+  pub few : observable_count (placed_from (shift_of shift offset) rest) ≤ o
 
-fits-reached : (t : Tree) → AllFit t → All Fits (reached t)
-fits-reached Nothing fit = λ k d below. absurd (omega (arith, below))
-fits-reached (Then i t) fit = All-cons Fits i (reached t) fit.0 (fits-reached t fit.1)
-fits-reached (Block line turns t u) fit =
-    All-append Fits (copies turns (reached t)) (reached u) (fits-copies turns (reached t) (fits-reached t fit.1)) (fits-reached u fit.2)
+pub unrolling-first : (start : ErrorModel) (all : List Instruction) (d o errors : ℕ) → AreCounts (placed_from no_shift all) d o errors
+    → IsUnrolling d o start 0 all (with_lines start (error_lines d o (placed_from no_shift all)))
+unrolling-first start all d o errors are =
+    record { offset = []; left = refl; low = omega (arith, are.detectors_are); few = omega (arith, are.observables_are) }
 
-pub fits-kept : (t : Tree) (places : List ℕ) → AllFit t → instructions_at (items_of t) places ≡ reached t → All (λ place. Fits (instruction_at (items_of t) place)) places
-fits-kept t places fit e k d below =
-    let at = instruction_at (items_of t) in
-    subst Fits (get_or-map at places k d (at d) below)
-    (subst (λ all. All Fits all) (sym e) (fits-reached t fit) k (at d) (omega (arith, below, length-map places at)))
+-- the instruction that is next names no more than all do
+pub unrolling-here : (d o : ℕ) (model : ErrorModel) (shift : ℕ) (rest rest' : List Instruction) (whole : ErrorModel) (i j : Instruction) → IsUnrolling d o model shift rest whole → rest ≡ j ∷ rest' → i ≡ j
+    → (greatest_of detectors_to (map (target_at shift) i.targets) ≤ d) × (greatest_of observables_to (map (target_at shift) i.targets) ≤ o)
+unfolding greatest_over
+unrolling-here d o model shift rest rest' whole i j h e same =
+    let s = shift_of shift h.offset in
+    let first = placed-next s (shift_after i s) i j rest rest' e same refl in
+    let detectors = ap (λ ps. detector_count ps) first in
+    let observables = ap (λ ps. observable_count ps) first in
+    (omega (arith, detectors, h.low), omega (arith, observables, h.few))
+
+pub unrolling-next : (d o : ℕ) (model model' : ErrorModel) (shift shift' : ℕ) (rest rest' : List Instruction) (whole : ErrorModel) (i j : Instruction)
+    → IsUnrolling d o model shift rest whole → rest ≡ j ∷ rest' → i ≡ j
+    → ((offset : List ℤ) → model' ≡ with_lines model (error_lines d o (placed_at (shift_of shift offset) i ∷ [])))
+    → ((offset : List ℤ) → shift' ≡ (shift_after i (shift_of shift offset)).detectors)
+    → IsUnrolling d o model' shift' rest' whole
+unfolding greatest_over
+unrolling-next d o model model' shift shift' rest rest' whole i j h e same more shifts =
+    let s = shift_of shift h.offset in
+    let p = placed_at s i in
+    let offset = (shift_after i s).offset in
+    let next : shift_of shift' offset ≡ shift_after i s = ap (λ n. shift_of n offset) (shifts h.offset) in
+    let later = placed_from (shift_of shift' offset) rest' in
+    let first : placed_from s rest ≡ p ∷ later = placed-next s (shift_of shift' offset) i j rest rest' e same next in
+    let detectors = ap (λ ps. detector_count ps) first in
+    let observables = ap (λ ps. observable_count ps) first in
+    record {
+      offset = offset;
+      left =
+          ap (λ m. with_lines m (error_lines d o later)) (more h.offset)
+          ∙ lines-both model (error_lines d o (p ∷ [])) (error_lines d o later)
+          ∙ ap (with_lines model) (sym (errors-both d o (p ∷ []) later))
+          ∙ ap (λ ps. with_lines model (error_lines d o ps)) (sym first)
+          ∙ h.left;
+      low = omega (arith, detectors, h.low);
+      few = omega (arith, observables, h.few);
+    }
+
+pub unrolling-done : (d o : ℕ) (model : ErrorModel) (shift : ℕ) (rest : List Instruction) (whole : ErrorModel) → IsUnrolling d o model shift rest whole → rest ≡ [] → model ≡ whole
+unrolling-done d o model shift rest whole h e =
+    sym (ap (λ ps. with_lines model (error_lines d o ps)) (placed-none (shift_of shift h.offset) rest e) ∙ lines-none model) ∙ h.left
+
+-- ---- the model of placed lines
+
+abbrev made : List Placed → ℕ → ℕ → List (List ℤ) → ℕ → ErrorModel
+made lines d o coordinates detectors =
+    record { lines = error_lines d o lines; coordinates = coordinates; detectors = detectors; observables = o }
+
+pub built : (lines : List Placed) (d o errors : ℕ) (cs : List (List ℤ)) (start after model : ErrorModel) → AreCounts lines d o errors
+    → cs ≡ map (λ e. last_coordinates e [] lines) (range_with_len 0 d)
+    → start ≡ record { lines = []; coordinates = cs; detectors = length cs; observables = o }
+    → after ≡ with_lines start (error_lines d o lines) → meaning_of lines ≡ model → after ≡ model
+built lines d o errors cs start after model are ec es h is =
+    let long : length cs ≡ d = ap length ec ∙ length-map-range_with_len (λ e. last_coordinates e [] lines) 0 d in
+    h
+    ∙ ap (λ m. with_lines m (error_lines d o lines)) es
+    ∙ ap (made lines d o cs) long
+    ∙ ap (λ xs. made lines d o xs d) ec
+    ∙ ap₂ (λ n k. made lines n k (map (λ e. last_coordinates e [] lines) (range_with_len 0 n)) n) are.detectors_are are.observables_are
+    ∙ is

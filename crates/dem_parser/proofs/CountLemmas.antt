@@ -7,7 +7,7 @@ use Rattle.dem_parser.specs.Meanings.{greatest_of, greatest_over}
 use Rattle.dem_parser.specs.Shifts.{Placed}
 use Rattle.dem_lines.proofs.PassLemmas.{drop_got}
 
-max-none : (a : ℕ) → max a 0 ≡ a
+pub max-none : (a : ℕ) → max a 0 ≡ a
 max-none a = omega arith
 
 pub max-more : (a b c : ℕ) → max (max a b) c ≡ max a (max b c)
@@ -23,17 +23,3 @@ raised-next count a b t rest rest' e more =
 
 pub raised-done : (count : Target → ℕ) (a : ℕ) (rest : List Target) → rest ≡ [] → a ≡ max a (greatest_of count rest)
 raised-done count a rest e = sym (ap (λ ts. max a (greatest_of count ts)) e ∙ max-none a)
-
--- one line more
-pub counted-next : (count : Target → ℕ) (a b : ℕ) (lines : List Placed) (i j : ℕ) (p : Placed) → Some p ≡ slice_get lines i → j ≡ i + 1
-    → b ≡ max a (greatest_of count p.targets) → max b (greatest_over count (drop j lines)) ≡ max a (greatest_over count (drop i lines))
-unfolding greatest_over
-counted-next count a b lines i j p got e more =
-    let later : j ≡ suc i = omega (arith, e) in
-    ap₂ (λ n k. max n (greatest_over count (drop k lines))) more later
-    ∙ max-more a (greatest_of count p.targets) (greatest_over count (drop (suc i) lines))
-    ∙ ap (λ ps. max a (greatest_over count ps)) (sym (drop_got lines i p got))
-
-pub counted-done : (count : Target → ℕ) (a : ℕ) (lines : List Placed) (i : ℕ) → length lines ≤ i → a ≡ max a (greatest_over count (drop i lines))
-unfolding greatest_over
-counted-done count a lines i h = sym (ap (λ ps. max a (greatest_over count ps)) (drop_all i lines h) ∙ max-none a)

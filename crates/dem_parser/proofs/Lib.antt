@@ -11,3 +11,5 @@ pub mod NumberLemmas
 mod MarkLemmas
 mod BuildLemmas
 mod ReadLemmas
+mod TableLemmas
+mod WalkLemmas

@@ -1,57 +1,21 @@
 -- Detectors marked by the last line that gives them coordinates, one line after another.
-use Rattle.std.proofs.Common.{◌≡◌, ℕ, zero, suc, ◌+◌, ◌==◌, ◌≤◌, Bool, true, false, not, ◌&&◌, ◌||◌, ℤ, List, [], ◌∷◌, ◌++◌, Some, length, map, get_or, set, take, replicate, refl, ap, ap₂, sym, ◌∙◌, arith, length-set}
-use Rattle.std.specs.Prelude.{if◌then◌else◌, slice_get}
+use Rattle.std.proofs.Common.{◌≡◌, ℕ, zero, suc, ◌+◌, ◌==◌, ◌<◌, ◌≤◌, Bool, true, false, not, ◌&&◌, ◌||◌, ℤ, List, [], ◌∷◌, ◌++◌, length, map, get_or, set, replicate, refl, ap, ap₂, subst, sym, ◌∙◌, inl, inr, arith, length-append, length-set}
+use Rattle.std.specs.Prelude.{if◌then◌else◌}
 use Rattle.std.specs.List.{range_with_len, list_any}
-use Rattle.std.proofs.lemmas.Bool.{eq-eqb, ne_eqb}
-use Rattle.std.proofs.lemmas.List.{map-set}
+use Rattle.std.proofs.Math.Seq.{get_or-append_seam}
+use Rattle.std.proofs.lemmas.Bool.{cases_eq, eq-eqb, ne_eqb}
+use Rattle.std.proofs.lemmas.List.{ext_get_or, get_or-map, get_or-set_other, get_or-set_same, get_or_append_left, length-map, length-replicate}
+use Rattle.std.proofs.lemmas.List.FromFn.{get_or-map-range_with_len, length-map-range_with_len}
 use Rattle.stim_lexer.specs.Bytes.{is_empty}
 use Rattle.dem_lines.specs.declared.target.Target.{Target}
 use Rattle.dem_lines.specs.declared.target.Target.TheVariants.{Plain, Detector, Observable, Separator}
-use Rattle.dem_parser.specs.Marked.{AreMarks, coordinates_at, marked, marked_by, no_placed}
+use Rattle.dem_lines.specs.Verdicts.{Instruction}
+use Rattle.dem_parser.specs.Marked.{HasMarked, list_numbered, marked}
 use Rattle.dem_parser.specs.Meanings.{gives_coordinates, is_detector_of, last_coordinates}
-use Rattle.dem_parser.specs.Shifts.{Placed}
+use Rattle.dem_parser.specs.Shifts.{Placed, Shift, no_shift, placed_at, placed_from, shift_after}
+use Rattle.dem_parser.proofs.WalkLemmas.{placed-next, placed-none}
 
--- ---- a list by the numbers of a range
-
-agree : {X : Type 0} (f g : ℕ → X) (a n : ℕ) → ((t : ℕ) → a ≤ t → f t ≡ g t) → map f (range_with_len a n) ≡ map g (range_with_len a n)
-agree f g a zero h = refl
-agree {X = X} f g a (suc n) h =
-    ap₂ (λ (x : X) (xs : List X). x ∷ xs) (h a (omega arith)) (agree f g (a + 1) n (λ t below. h t (omega (arith, below))))
-
-set-range : {X : Type 0} (g : ℕ → X) (a n d : ℕ) (y : X) → set (map g (range_with_len a n)) d y ≡ map (λ e. if e == a + d then y else g e) (range_with_len a n)
-set-range g a zero d y = refl
-set-range {X = X} g a (suc n) zero y =
-    ap₂ (λ (x : X) (xs : List X). x ∷ xs) (sym (ap (λ b. if b then y else g a) (eq-eqb a (a + 0) (omega arith))))
-    (agree g (λ e. if e == a + 0 then y else g e) (a + 1) n
-    (λ t above. sym (ap (λ b. if b then y else g t) (ne_eqb t (a + 0) (λ e. absurd (omega (arith, e, above)))))))
-set-range {X = X} g a (suc n) (suc d) y =
-    let at : a + 1 + d ≡ a + suc d = omega arith in
-    ap₂ (λ (x : X) (xs : List X). x ∷ xs) (sym (ap (λ b. if b then y else g a) (ne_eqb a (a + suc d) (λ e. absurd (omega (arith, e))))))
-    (set-range g (a + 1) n d y ∙ ap (λ m. map (λ e. if e == m then y else g e) (range_with_len (a + 1) n)) at)
-
--- ---- marks and what they stand for
-
-either : {X : Type 0} (b c : Bool) (x y : X) → (if c then x else (if b then x else y)) ≡ (if b || c then x else y)
-either true true x y = refl
-either true false x y = refl
-either false true x y = refl
-either false false x y = refl
-
-marked-map : {X : Type 0} (f g : ℕ → X) (n mark : ℕ) (marks : List ℕ) (ts : List Target) → map f marks ≡ map g (range_with_len 0 n)
-    → map f (marked mark marks ts) ≡ map (λ e. if list_any (is_detector_of e) ts then f mark else g e) (range_with_len 0 n)
-marked-map f g n mark marks [] h = h
-marked-map f g n mark marks (Plain m ∷ ts) h = marked-map f g n mark marks ts h
-marked-map f g n mark marks (Observable k ∷ ts) h = marked-map f g n mark marks ts h
-marked-map f g n mark marks (Separator ∷ ts) h = marked-map f g n mark marks ts h
-marked-map f g n mark marks (Detector d ∷ ts) h =
-    let at : 0 + d ≡ d = omega arith in
-    let one : map f (set marks d mark) ≡ map (λ e. if e == d then f mark else g e) (range_with_len 0 n) =
-    map-set f marks d mark
-    ∙ ap (λ xs. set xs d (f mark)) h
-    ∙ set-range g 0 n d (f mark)
-    ∙ ap (λ m. map (λ e. if e == m then f mark else g e) (range_with_len 0 n)) at in
-    marked-map f (λ e. if e == d then f mark else g e) n mark (set marks d mark) ts one
-    ∙ agree _ _ 0 n (λ e low. either (e == d) (list_any (is_detector_of e) ts) (f mark) (g e))
+-- ---- marks of one line
 
 length-marked : (mark : ℕ) (marks : List ℕ) (ts : List Target) → length (marked mark marks ts) ≡ length marks
 length-marked mark marks [] = refl
@@ -60,66 +24,129 @@ length-marked mark marks (Observable k ∷ ts) = length-marked mark marks ts
 length-marked mark marks (Separator ∷ ts) = length-marked mark marks ts
 length-marked mark marks (Detector d ∷ ts) = length-marked mark (set marks d mark) ts ∙ length-set marks d mark
 
-length-chosen : (b : Bool) (xs ys : List ℕ) → length xs ≡ length ys → length (if b then xs else ys) ≡ length ys
-length-chosen true xs ys h = h
-length-chosen false xs ys h = refl
+set-got : (marks : List ℕ) (e d m : ℕ) → d < length marks → get_or (set marks e m) d 0 ≡ (if d == e then m else get_or marks d 0)
+set-got marks e d m h =
+    elim (cases_eq d e) as (λ _. get_or (set marks e m) d 0 ≡ (if d == e then m else get_or marks d 0)) [
+      | inl same ↦
+          ap (λ k. get_or (set marks e m) k 0) same
+          ∙ get_or-set_same marks e m 0 (omega (arith, h, same))
+          ∙ ap (λ b. if b then m else get_or marks d 0) (sym (eq-eqb d e same))
+      | inr other ↦
+          get_or-set_other marks e d m 0 other
+          ∙ ap (λ b. if b then m else get_or marks d 0) (sym (ne_eqb d e other))
+    ]
 
-pub length-marked_by : (mark : ℕ) (marks : List ℕ) (p : Placed) → length (marked_by mark marks p) ≡ length marks
-length-marked_by mark marks p =
-    length-chosen (not (is_empty p.coordinates)) (marked mark marks p.targets) marks (length-marked mark marks p.targets)
+either : {X : Type 0} (b c : Bool) (x y : X) → (if c then x else (if b then x else y)) ≡ (if b || c then x else y)
+either true true x y = refl
+either true false x y = refl
+either false true x y = refl
+either false false x y = refl
 
--- ---- lines one after another
+marked-got : (mark d : ℕ) (marks : List ℕ) (ts : List Target) → d < length marks → get_or (marked mark marks ts) d 0 ≡ (if list_any (is_detector_of d) ts then mark else get_or marks d 0)
+marked-got mark d marks [] h = refl
+marked-got mark d marks (Plain m ∷ ts) h = marked-got mark d marks ts h
+marked-got mark d marks (Observable k ∷ ts) h = marked-got mark d marks ts h
+marked-got mark d marks (Separator ∷ ts) h = marked-got mark d marks ts h
+marked-got mark d marks (Detector e ∷ ts) h =
+    marked-got mark d (set marks e mark) ts (let same = length-set marks e mark in omega (arith, same, h))
+    ∙ ap (λ m. if list_any (is_detector_of d) ts then mark else m) (set-got marks e d mark h)
+    ∙ either (d == e) (list_any (is_detector_of d) ts) mark (get_or marks d 0)
 
-last-more : (d : ℕ) (found : List ℤ) (lines : List Placed) (p : Placed) → last_coordinates d found (lines ++ p ∷ []) ≡ (if gives_coordinates d p then p.coordinates else last_coordinates d found lines)
-unfolding last_coordinates
-last-more d found [] p = refl
-last-more d found (q ∷ lines) p = last-more d (if gives_coordinates d q then q.coordinates else found) lines p
+-- ---- one line more
 
-marks-by : (lines : List Placed) (n mark : ℕ) (before : List Placed) (marks : List ℕ) (p : Placed) (b : Bool) → not (is_empty p.coordinates) ≡ b
-    → coordinates_at lines mark ≡ p.coordinates → AreMarks lines n before marks
-    → map (coordinates_at lines) (if b then marked mark marks p.targets else marks)
-    ≡ map (λ d. if b && list_any (is_detector_of d) p.targets then p.coordinates else last_coordinates d [] before) (range_with_len 0 n)
-marks-by lines n mark before marks p true e stands h =
-    marked-map (coordinates_at lines) (λ d. last_coordinates d [] before) n mark marks p.targets h
-    ∙ ap (λ cs. map (λ d. if list_any (is_detector_of d) p.targets then cs else last_coordinates d [] before) (range_with_len 0 n)) stands
-marks-by lines n mark before marks p false e stands h = h
+-- lists more change none that was there
+list_stays : (lists more : List (List ℤ)) (n : ℕ) → n ≤ length lists → list_numbered (lists ++ more) n ≡ list_numbered lists n
+list_stays lists more zero h = refl
+list_stays lists more (suc n) h = get_or_append_left lists more [] n h
 
-pub marks-next : (lines : List Placed) (n mark : ℕ) (before : List Placed) (marks : List ℕ) (p : Placed) → coordinates_at lines mark ≡ p.coordinates
-    → AreMarks lines n before marks → AreMarks lines n (before ++ p ∷ []) (marked_by mark marks p)
-marks-next lines n mark before marks p stands h =
-    marks-by lines n mark before marks p (not (is_empty p.coordinates)) refl stands h
-    ∙ agree _ _ 0 n (λ d low. sym (last-more d [] before p))
+last-list : (lists : List (List ℤ)) (list : List ℤ) → list_numbered (lists ++ list ∷ []) (length lists + 1) ≡ list
+last-list lists list =
+    let later : length lists + 1 ≡ suc (length lists) = omega arith in
+    ap (list_numbered (lists ++ list ∷ [])) later ∙ get_or-append_seam lists list [] []
 
-no-marks : (lines : List Placed) (a n : ℕ) → map (coordinates_at lines) (replicate n 0) ≡ map (λ d. last_coordinates d [] []) (range_with_len a n)
-unfolding last_coordinates
-no-marks lines a zero = refl
-no-marks lines a (suc n) = ap (λ (xs : List (List ℤ)). [] ∷ xs) (no-marks lines (a + 1) n)
+-- the lists and marks so far, and the lines that are left from this shift on
+pub record IsMarking (all rest : List Instruction) (s : Shift) (lists : List (List ℤ)) (marks : List ℕ) (n : ℕ) : Type 0 where
+  pub long : length marks ≡ n
+  pub there : (d : ℕ) → d < n → get_or marks d 0 ≤ length lists
+  pub same : (d : ℕ) → d < n → last_coordinates d (list_numbered lists (get_or marks d 0)) (placed_from s rest) ≡ last_coordinates d [] (placed_from no_shift all)
 
-pub marks-first : (lines : List Placed) (n : ℕ) (marks : List ℕ) → marks ≡ replicate n 0 → AreMarks lines n [] marks
-marks-first lines n marks e = ap (map (coordinates_at lines)) e ∙ no-marks lines 0 n
+none-got : (n d : ℕ) → ◌≡◌ {A = ℕ} (get_or (replicate n 0) d 0) 0
+none-got zero d = refl
+none-got (suc n) zero = refl
+none-got (suc n) (suc d) = none-got n d
 
-pub got-item : {X : Type 0} (xs : List X) (i : ℕ) (x d : X) → Some x ≡ slice_get xs i → get_or xs i d ≡ x
-got-item [] i x d h = absurd cc
-got-item (y ∷ xs) zero x d h = sym (some_same x y h)
+pub marking-first : (all : List Instruction) (marks : List ℕ) (n : ℕ) → marks ≡ replicate n 0 → IsMarking all all no_shift [] marks n
+marking-first all marks n e =
+    let at = λ (d : ℕ). ap (λ ms. get_or ms d 0) e ∙ none-got n d in
+    record {
+      long = ap length e ∙ length-replicate n 0;
+      there = λ d h. omega (arith, at d);
+      same = λ d h. ap (λ m. last_coordinates d (list_numbered [] m) (placed_from no_shift all)) (at d);
+    }
+
+-- what stands for a detector's coordinates after a line
+chosen : (b : Bool) (d : ℕ) (p : Placed) (lists : List (List ℤ)) (marks : List ℕ) → not (is_empty p.coordinates) ≡ b → d < length marks → get_or marks d 0 ≤ length lists
+    → list_numbered (if b then lists ++ p.coordinates ∷ [] else lists) (get_or (if b then marked (length lists + 1) marks p.targets else marks) d 0)
+    ≡ (if b && list_any (is_detector_of d) p.targets then p.coordinates else list_numbered lists (get_or marks d 0))
+chosen false d p lists marks e h there = refl
+chosen true d p lists marks e h there =
+    ap (list_numbered (lists ++ p.coordinates ∷ [])) (marked-got (length lists + 1) d marks p.targets h)
+    ∙ picked (list_any (is_detector_of d) p.targets)
   where
-    some_same : {X : Type 0} (x y : X) → Some x ≡ Some y → x ≡ y
-    some_same x y h = cc
-got-item (y ∷ xs) (suc i) x d h = got-item xs i x d h
+    picked : (c : Bool) → list_numbered (lists ++ p.coordinates ∷ []) (if c then length lists + 1 else get_or marks d 0) ≡ (if c then p.coordinates else list_numbered lists (get_or marks d 0))
+    picked true = last-list lists p.coordinates
+    picked false = list_stays lists (p.coordinates ∷ []) (get_or marks d 0) there
 
-taken-got : {X : Type 0} (xs : List X) (i : ℕ) (x : X) → Some x ≡ slice_get xs i → take (suc i) xs ≡ take i xs ++ x ∷ []
-taken-got [] i x h = absurd cc
-taken-got (y ∷ xs) zero x h = ap (λ z. z ∷ []) (got-item (y ∷ xs) zero x y h)
-taken-got {X = X} (y ∷ xs) (suc i) x h = ap (λ (zs : List X). y ∷ zs) (taken-got xs i x h)
+there-more : (b : Bool) (d : ℕ) (p : Placed) (lists : List (List ℤ)) (marks : List ℕ) → d < length marks → get_or marks d 0 ≤ length lists
+    → get_or (if b then marked (length lists + 1) marks p.targets else marks) d 0 ≤ length (if b then lists ++ p.coordinates ∷ [] else lists)
+there-more false d p lists marks h there = there
+there-more true d p lists marks h there =
+    let long = length-append lists (p.coordinates ∷ []) in
+    let got = marked-got (length lists + 1) d marks p.targets h in
+    let one : (if list_any (is_detector_of d) p.targets then length lists + 1 else get_or marks d 0) ≤ length lists + 1 =
+    picked (list_any (is_detector_of d) p.targets) in
+    omega (arith, long, got, one)
+  where
+    picked : (c : Bool) → (if c then length lists + 1 else get_or marks d 0) ≤ length lists + 1
+    picked true = omega arith
+    picked false = omega (arith, there)
 
-pub take-got : {X : Type 0} (xs : List X) (i : ℕ) (x : X) → Some x ≡ slice_get xs i → take (i + 1) xs ≡ take i xs ++ x ∷ []
-take-got xs i x h = let later : i + 1 ≡ suc i = omega arith in ap (λ k. take k xs) later ∙ taken-got xs i x h
+length-chosen : (b : Bool) (mark : ℕ) (marks : List ℕ) (ts : List Target) → length (if b then marked mark marks ts else marks) ≡ length marks
+length-chosen true mark marks ts = length-marked mark marks ts
+length-chosen false mark marks ts = refl
 
-pub marks-got : (lines : List Placed) (n i : ℕ) (marks marks' : List ℕ) (p : Placed) → Some p ≡ slice_get lines i → marks' ≡ marked_by (i + 1) marks p
-    → AreMarks lines n (take i lines) marks → AreMarks lines n (take (i + 1) lines) marks'
-marks-got lines n i marks marks' p got e h =
-    let later : i + 1 ≡ suc i = omega arith in
-    let stands : coordinates_at lines (i + 1) ≡ p.coordinates =
-    ap (coordinates_at lines) later ∙ ap (λ (q : Placed). q.coordinates) (got-item lines i p no_placed got) in
-    ap (map (coordinates_at lines)) e
-    ∙ marks-next lines n (i + 1) (take i lines) marks p stands h
-    ∙ ap (λ before. map (λ d. last_coordinates d [] before) (range_with_len 0 n)) (sym (take-got lines i p got))
+pub marking-next : (all rest rest' : List Instruction) (s s' : Shift) (lists lists' : List (List ℤ)) (marks marks' : List ℕ) (n : ℕ) (i j : Instruction)
+    → IsMarking all rest s lists marks n → rest ≡ j ∷ rest' → i ≡ j → HasMarked (placed_at s i) lists marks lists' marks' → s' ≡ shift_after i s
+    → IsMarking all rest' s' lists' marks' n
+unfolding last_coordinates
+marking-next all rest rest' s s' lists lists' marks marks' n i j h e same has next =
+    let p = placed_at s i in
+    let gives = not (is_empty p.coordinates) in
+    let later = placed_from s' rest' in
+    let first : placed_from s rest ≡ p ∷ later = placed-next s s' i j rest rest' e same next in
+    record {
+      long = ap length has.marks_are ∙ length-chosen gives (length lists + 1) marks p.targets ∙ h.long;
+      there = λ d below.
+          let one = there-more gives d p lists marks (omega (arith, below, h.long)) (h.there d below) in
+          omega (arith, one, ap (λ ms. get_or ms d 0) has.marks_are, ap length has.lists_are);
+      same = λ d below.
+          ap (λ c. last_coordinates d c later)
+          (ap₂ (λ ls ms. list_numbered ls (get_or ms d 0)) has.lists_are has.marks_are
+          ∙ chosen gives d p lists marks refl (omega (arith, below, h.long)) (h.there d below))
+          ∙ ap (last_coordinates d (list_numbered lists (get_or marks d 0))) (sym first)
+          ∙ h.same d below;
+    }
+
+pub marking-done : (all rest : List Instruction) (s : Shift) (lists : List (List ℤ)) (marks : List ℕ) (n : ℕ) → IsMarking all rest s lists marks n → rest ≡ []
+    → map (list_numbered lists) marks ≡ map (λ d. last_coordinates d [] (placed_from no_shift all)) (range_with_len 0 n)
+unfolding last_coordinates
+marking-done all rest s lists marks n h e =
+    let f : ℕ → List ℤ = λ d. last_coordinates d [] (placed_from no_shift all) in
+    let long : length (map (list_numbered lists) marks) ≡ n = length-map marks (list_numbered lists) ∙ h.long in
+    ext_get_or [] _ _ (long ∙ sym (length-map-range_with_len f 0 n))
+    (λ d below.
+    let here : d < n = omega (arith, below, long) in
+    get_or-map (list_numbered lists) marks d 0 [] (omega (arith, here, h.long))
+    ∙ sym (ap (last_coordinates d (list_numbered lists (get_or marks d 0))) (placed-none s rest e))
+    ∙ h.same d here
+    ∙ sym (get_or-map-range_with_len f 0 n d d [] here (omega arith)))

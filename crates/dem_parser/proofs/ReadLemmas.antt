@@ -15,26 +15,6 @@ use Rattle.dem_lines.specs.Reached.{has_many_lines}
 use Rattle.dem_parser.specs.Shifts.{Placed}
 use Rattle.dem_lines.specs.Texts.{refused}
 use Rattle.dem_lines.specs.Trees.{IsRefusedBy, Tree, Writes}
-use Rattle.dem_parser.proofs.BuildLemmas.{with_lines}
-
--- ---- the model of placed lines
-
-abbrev made : List Placed → ℕ → ℕ → List (List ℤ) → ℕ → ErrorModel
-made lines d o coordinates detectors =
-    record { lines = error_lines d o lines; coordinates = coordinates; detectors = detectors; observables = o }
-
-pub built : (lines : List Placed) (d o : ℕ) (cs : List (List ℤ)) (start after : ErrorModel) → d ≡ detector_count lines → o ≡ observable_count lines
-    → cs ≡ map (λ e. last_coordinates e [] lines) (range_with_len 0 d)
-    → start ≡ record { lines = []; coordinates = cs; detectors = length cs; observables = o }
-    → ((observables : ℕ) → detector_count lines ≤ d → observable_count lines ≤ observables → after ≡ with_lines start (error_lines d observables lines))
-    → after ≡ meaning_of lines
-built lines d o cs start after ed eo ec es h =
-    let long : length cs ≡ d = ap length ec ∙ length-map-range_with_len (λ e. last_coordinates e [] lines) 0 d in
-    h o (omega (arith, ed)) (omega (arith, eo))
-    ∙ ap (λ m. with_lines m (error_lines d o lines)) es
-    ∙ ap (made lines d o cs) long
-    ∙ ap (λ xs. made lines d o xs d) ec
-    ∙ ap₂ (λ n k. made lines n k (map (λ e. last_coordinates e [] lines) (range_with_len 0 n)) n) ed eo
 
 -- ---- the model of a tree
 

@@ -9,7 +9,7 @@ use Rattle.stim_parser.specs.Numbers.{whole_value}
 use Rattle.dem_lines.specs.declared.operation.Keyword.TheVariants.{Does}
 use Rattle.dem_lines.specs.Fitting.{Fits}
 use Rattle.dem_lines.specs.Instructions.{argument_form}
-use Rattle.dem_parser.specs.KeptLines.{added_at}
+use Rattle.dem_parser.specs.Offsets.{added_at}
 use Rattle.dem_parser.specs.Shifts.{both_offsets, moved}
 use Rattle.dem_lines.specs.Verdicts.{Instruction}
 

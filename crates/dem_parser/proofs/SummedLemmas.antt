@@ -13,7 +13,6 @@ use Rattle.dem_parser.specs.Numbered.{numbered, numbers_of, odd_below}
 use Rattle.dem_parser.specs.Shifts.{Placed}
 use Rattle.dem_parser.specs.Summed.{error_count, passed_after, turned_past}
 use Rattle.dem_parser.specs.Sums.{is_flipped, symptom_of, turned, turned_at, turned_by}
-use Rattle.dem_parser.proofs.BuildLemmas.{greatest-got}
 use Rattle.dem_parser.proofs.NumberLemmas.{flipped-numbers}
 use Rattle.dem_lines.proofs.PassLemmas.{drop_got}
 use Rattle.dem_parser.proofs.SumLemmas.{length-turned_if, symptom-turned, turned-map}
@@ -36,27 +35,13 @@ numbers-done d bits rest e = sym (ap (λ ts. turned bits (numbers_of d ts)) e)
 
 -- ---- how many error lines
 
-count-at : (errors : ℕ) (p : Placed) (rest : List Placed) → passed_after errors p + error_count rest ≡ errors + error_count (p ∷ rest)
+pub count-at : (errors : ℕ) (p : Placed) (rest : List Placed) → passed_after errors p + error_count rest ≡ errors + error_count (p ∷ rest)
 count-at errors p rest =
     let found = filter (λ q. is_error q.operation) rest in
     elim (is_error p.operation) as (λ b. (if b then errors + 1 else errors) + length found ≡ errors + length (cond b (p ∷ found) found)) [
       | true ↦ omega arith
       | false ↦ refl
     ]
-
-pub count-next : (errors errors' i : ℕ) (lines : List Placed) (p : Placed) → Some p ≡ slice_get lines i → errors' ≡ passed_after errors p
-    → errors' + error_count (drop (i + 1) lines) ≡ errors + error_count (drop i lines)
-count-next errors errors' i lines p got e =
-    let later : i + 1 ≡ suc i = omega arith in
-    ap (λ k. errors' + error_count (drop k lines)) later
-    ∙ ap (λ n. n + error_count (drop (suc i) lines)) e
-    ∙ count-at errors p (drop (suc i) lines)
-    ∙ ap (λ rest. errors + error_count rest) (sym (drop_got lines i p got))
-
-pub count-done : (errors i : ℕ) (lines : List Placed) → length lines ≤ i → errors ≡ errors + error_count (drop i lines)
-count-done errors i lines h =
-    let none : errors + 0 ≡ errors = omega arith in
-    sym (ap (λ rest. errors + error_count rest) (drop_all i lines h) ∙ none)
 
 -- ---- the same turned round
 
@@ -136,7 +121,7 @@ sum-error d o named bits passed p rest long low =
     ∙ ap (λ bs. turned_by (if get_or named passed false then bs else bits) (drop (suc passed) named) (error_lines d o rest)) (turned-flipped d o bits p.targets long low)
     ∙ sym (named-next bits named (error_lines d o rest) passed (error_line d o p))
 
-sum-at : (d o : ℕ) (named bits : List Bool) (passed : ℕ) (p : Placed) (rest : List Placed) → length bits ≡ d + o → greatest_of detectors_to p.targets ≤ d
+pub sum-at : (d o : ℕ) (named bits : List Bool) (passed : ℕ) (p : Placed) (rest : List Placed) → length bits ≡ d + o → greatest_of detectors_to p.targets ≤ d
     → turned_by (turned_past d named passed p bits) (drop (passed_after passed p) named) (error_lines d o rest)
     ≡ turned_by bits (drop passed named) (error_lines d o (p ∷ rest))
 sum-at d o named bits passed p rest long low =
@@ -147,26 +132,6 @@ sum-at d o named bits passed p rest long low =
       | true ↦ here
       | false ↦ refl
     ]
-
-pub sum-next : (d o i : ℕ) (named bits bits' : List Bool) (passed passed' : ℕ) (lines : List Placed) (p : Placed) → Some p ≡ slice_get lines i
-    → length bits ≡ d + o → greatest_of detectors_to p.targets ≤ d → bits' ≡ turned_past d named passed p bits → passed' ≡ passed_after passed p
-    → turned_by bits' (drop passed' named) (error_lines d o (drop (i + 1) lines)) ≡ turned_by bits (drop passed named) (error_lines d o (drop i lines))
-sum-next d o i named bits bits' passed passed' lines p got long low e f =
-    let later : i + 1 ≡ suc i = omega arith in
-    ap (λ k. turned_by bits' (drop passed' named) (error_lines d o (drop k lines))) later
-    ∙ ap (λ bs. turned_by bs (drop passed' named) (error_lines d o (drop (suc i) lines))) e
-    ∙ ap (λ k. turned_by (turned_past d named passed p bits) (drop k named) (error_lines d o (drop (suc i) lines))) f
-    ∙ sum-at d o named bits passed p (drop (suc i) lines) long low
-    ∙ ap (λ rest. turned_by bits (drop passed named) (error_lines d o rest)) (sym (drop_got lines i p got))
-
-pub sum-done : (d o i : ℕ) (named bits : List Bool) (passed : ℕ) (lines : List Placed) → length lines ≤ i
-    → bits ≡ turned_by bits (drop passed named) (error_lines d o (drop i lines))
-sum-done d o i named bits passed lines h =
-    sym (ap (λ rest. turned_by bits (drop passed named) (error_lines d o rest)) (drop_all i lines h) ∙ none (drop passed named))
-  where
-    none : (names : List Bool) → turned_by bits names [] ≡ bits
-    none [] = refl
-    none (n ∷ names) = refl
 
 -- behind the last line that is named
 unnamed : (bits named : List Bool) (lines : List ErrorLine) → ((k : ℕ) → get_or named k false ≡ false) → turned_by bits named lines ≡ bits
@@ -197,22 +162,6 @@ sum-first model lines named bits n m is en em e =
     subst (λ (w : ErrorModel). turned_by bits named (error_lines w.detectors w.observables lines) ≡ symptom_of w named) is
     (ap (λ bs. turned_by bs named (error_lines (detector_count lines) (observable_count lines) lines)) (counts-same model lines bits n m en em e)
     ∙ symptom-turned (meaning_of lines) named)
-
-pub long-first : (model : ErrorModel) (lines : List Placed) (bits : List Bool) (n m : ℕ) → meaning_of lines ≡ model → n ≡ detector_count lines
-    → m ≡ observable_count lines → bits ≡ replicate (n + m) false → length bits ≡ model.detectors + model.observables
-long-first model lines bits n m is en em e =
-    subst (λ (w : ErrorModel). length bits ≡ w.detectors + w.observables) is
-    (ap length (counts-same model lines bits n m en em e) ∙ length-replicate (detector_count lines + observable_count lines) false)
-
-pub detectors-of : (model : ErrorModel) (lines : List Placed) (n : ℕ) → meaning_of lines ≡ model → n ≡ detector_count lines → n ≡ model.detectors
-detectors-of model lines n is e = e ∙ ap (λ (w : ErrorModel). w.detectors) is
-
-pub low-in : (model : ErrorModel) (lines : List Placed) (i : ℕ) (p : Placed) → meaning_of lines ≡ model → Some p ≡ slice_get lines i
-    → greatest_of detectors_to p.targets ≤ model.detectors
-low-in model lines i p is got =
-    let same = ap (λ (w : ErrorModel). w.detectors) is in
-    let low = greatest-got detectors_to lines i p got in
-    omega (arith, same, low)
 
 pub passed-few : (passed : ℕ) (p : Placed) → passed_after passed p ≤ passed + 1
 passed-few passed p =

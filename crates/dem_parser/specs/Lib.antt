@@ -3,7 +3,8 @@ pub mod Meanings
 pub mod Models
 pub mod Sums
 pub mod Gathered
-pub mod KeptLines
+pub mod Offsets
 pub mod Numbered
 pub mod Summed
 pub mod Marked
+pub mod Tables

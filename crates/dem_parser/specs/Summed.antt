@@ -1,7 +1,8 @@
 -- The symptom of error lines, from lines that stay as they were read: what each of them flips, and how many there are.
 -- (Stim's detector error model format, github.com/quantumlib/Stim, doc/file_format_dem_detector_error_model.md.)
-use Rattle.std.specs.Prelude.{◌≡◌, ℕ, ◌+◌, Bool, false, ◌&&◌, if◌then◌else◌, List, length, filter, slice_index_or}
-use Rattle.dem_parser.specs.Meanings.{detector_count, is_error, observable_count}
+use Rattle.std.specs.Prelude.{◌≡◌, ℕ, ◌+◌, max, Bool, false, ◌&&◌, if◌then◌else◌, List, length, filter, slice_index_or}
+use Rattle.dem_parser.specs.declared.counts.LineCounts.{LineCounts}
+use Rattle.dem_parser.specs.Meanings.{detector_count, detectors_to, greatest_of, is_error, observable_count, observables_to}
 use Rattle.dem_parser.specs.Numbered.{numbers_of}
 use Rattle.dem_parser.specs.Shifts.{Placed}
 use Rattle.dem_parser.specs.Sums.{turned}
@@ -24,3 +25,9 @@ pub record AreCounts (lines : List Placed) (detectors observables errors : ℕ) 
   pub detectors_are : detectors ≡ detector_count lines
   pub observables_are : observables ≡ observable_count lines
   pub errors_are : errors ≡ error_count lines
+
+-- counts after one more line
+pub record HasCounted (counts : LineCounts) (line : Placed) (counts' : LineCounts) : Type 0 where
+  pub detectors_are : counts'.detectors ≡ max counts.detectors (greatest_of detectors_to line.targets)
+  pub observables_are : counts'.observables ≡ max counts.observables (greatest_of observables_to line.targets)
+  pub errors_are : counts'.errors ≡ passed_after counts.errors line

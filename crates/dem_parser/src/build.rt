@@ -1,13 +1,18 @@
-ghost use Rattle.std.specs.Prelude.{◌≡◌, ◌≤◌, ◌++◌, [], ◌∷◌, ℕ, IfOk};
-ghost use Rattle.dem_parser.specs.KeptLines.{placed_in};
-ghost use Rattle.dem_parser.specs.Meanings.{detector_count, detectors_to, error_lines, greatest_of, meaning_of, observable_count, observables_to};
+ghost use Rattle.std.specs.Prelude.{◌≡◌, ◌≤◌, ◌++◌, [], ◌∷◌, ℤ, List, map, IfOk};
+ghost use Rattle.dem_lines.specs.Flat.{instruction_in};
+ghost use Rattle.dem_parser.specs.Gathered.{instructions_at};
+ghost use Rattle.dem_parser.specs.Meanings.{detectors_to, error_lines, greatest_of, observables_to};
+ghost use Rattle.dem_parser.specs.Shifts.{no_shift, placed_at, placed_from, target_at};
+ghost use Rattle.dem_parser.specs.Summed.{AreCounts};
+ghost use Rattle.dem_parser.specs.Offsets.{shift_of};
 
-use crate::counts::counts_of;
+use crate::counts::LineCounts;
 use crate::flips::read_flipped;
 use crate::marks::coordinates_of;
-use crate::placed::{PlacedLine, PlacedLines};
-use crate::shifts::first_text;
-use dem_lines::{Operation, narrowed};
+use crate::placed_model::PlacedModel;
+use crate::shifts::{detectors_past, first_text};
+use crate::table::LineTable;
+use dem_lines::{Instruction, Operation};
 use dem_text::Model;
 use std::alloc::{AllocError, Allocator};
 
@@ -18,20 +23,29 @@ struct Room<A: Allocator + Copy> {
     kept: Vec<u32, A>,
 }
 
-/// Appends a line, where it is an error line.
+/// Appends a line where detectors are shifted, if it is an error line.
 fn push_error<'a, A: Allocator + Copy>(
     model: &mut Model<'a, A>,
     room: &mut Room<A>,
-    detectors: u32,
-    line: PlacedLine<'_, 'a>,
+    counts: LineCounts,
+    shift: u128,
+    line: Instruction<'_, 'a>,
 ) -> Result<(), AllocError>
-    ensures { IfOk result (λ _. (observables : ℕ) → greatest_of detectors_to line.entry.targets.now ≤ detectors → greatest_of observables_to line.entry.targets.now ≤ observables
-        → model.new ≡ record model.old { lines = model.old.lines ++ error_lines detectors observables (placed_in line.entry ∷ []) }) }
+    requires detectors { greatest_of detectors_to (map (target_at shift) line.targets.now) ≤ counts.detectors }
+    requires observables { greatest_of observables_to (map (target_at shift) line.targets.now) ≤ counts.observables }
+    ensures { IfOk result (λ _. (offset : List ℤ) → model.new ≡ record model.old { lines = model.old.lines ++ error_lines counts.detectors counts.observables (placed_at (shift_of shift offset) (instruction_in line.entry) ∷ []) }) }
 {
     match line.operation {
         Operation::Errs => {
             let text = first_text(line.arguments);
-            read_flipped(&mut room.numbers, &mut room.kept, detectors, line.targets)?;
+            let detectors = counts.detectors;
+            read_flipped(
+                &mut room.numbers,
+                &mut room.kept,
+                detectors,
+                shift,
+                line.targets,
+            )?;
             model.push_line(text, room.kept.as_slice())?;
             Ok(())
         }
@@ -39,38 +53,41 @@ fn push_error<'a, A: Allocator + Copy>(
     }
 }
 
-/// Appends the error lines among these lines.
+/// Appends the error lines among the lines at these places.
 fn push_errors<'a, A: Allocator + Copy>(
     alloc: A,
     model: &mut Model<'a, A>,
-    detectors: u32,
-    lines: &PlacedLines<'_, 'a, A>,
+    table: &LineTable<'_, 'a, A>,
+    places: &[u32],
+    counts: LineCounts,
 ) -> Result<(), AllocError>
-    ensures { IfOk result (λ _. (observables : ℕ) → detector_count lines.now.placed ≤ detectors → observable_count lines.now.placed ≤ observables
-        → model.new ≡ record model.old { lines = model.old.lines ++ error_lines detectors observables lines.now.placed }) }
+    requires { AreCounts (placed_from no_shift (instructions_at table.now places.now)) counts.detectors counts.observables counts.errors }
+    ensures { IfOk result (λ _. model.new ≡ record model.old { lines = model.old.lines ++ error_lines counts.detectors counts.observables (placed_from no_shift (instructions_at table.now places.now)) }) }
 {
     let mut room = Room {
         numbers: Vec::new(alloc),
         kept: Vec::new(alloc),
     };
-    for i in 0..lines.len() {
-        push_error(model, &mut room, detectors, lines.get(i))?;
+    let mut shift = 0;
+    for place in places {
+        let line = table.instruction_at(*place as usize);
+        push_error(model, &mut room, counts, shift, line)?;
+        shift = detectors_past(shift, line)?;
     }
     Ok(())
 }
 
-/// The error model of lines as they are reached.
+/// A model with its lines unrolled.
 pub(crate) fn model_of<'a, A: Allocator + Copy>(
     alloc: A,
-    lines: &PlacedLines<'_, 'a, A>,
+    placed: &PlacedModel<'_, 'a, A>,
 ) -> Result<Model<'a, A>, AllocError>
-    ensures { IfOk result (λ model. model ≡ meaning_of lines.now.placed) }
+    ensures { IfOk result (λ model. model ≡ placed.now) }
 {
-    let counts = counts_of(lines).targets;
-    let detectors = narrowed(counts.detectors)?;
-    let observables = narrowed(counts.observables)?;
-    let coordinates = coordinates_of(alloc, lines, detectors as usize)?;
-    let mut model = Model::new(alloc, coordinates, observables as usize);
-    push_errors(alloc, &mut model, detectors, lines)?;
+    let counts = placed.counts;
+    let places = placed.places.as_slice();
+    let coordinates = coordinates_of(alloc, &placed.table, places, counts.detectors as usize)?;
+    let mut model = Model::new(alloc, coordinates, counts.observables as usize);
+    push_errors(alloc, &mut model, &placed.table, places, counts)?;
     Ok(model)
 }

@@ -1,11 +1,7 @@
-ghost use Rattle.std.specs.Prelude.{◌≡◌, ◌+◌, ◌<◌, ◌^◌, max};
-ghost use Rattle.dem_parser.specs.KeptLines.{placed_in};
-ghost use Rattle.dem_parser.specs.Meanings.{detector_count, detectors_to, greatest_of, is_error, observable_count, observables_to};
-ghost use Rattle.dem_parser.specs.Summed.{error_count, passed_after};
+ghost use Rattle.std.specs.Prelude.{◌≡◌, ◌+◌, ◌<◌, ◌^◌, if◌then◌else◌, max};
+ghost use Rattle.dem_parser.specs.Meanings.{detectors_to, greatest_of, is_error, observables_to};
 
-use crate::placed::{PlacedLine, PlacedLines};
 use dem_lines::{Operation, Target};
-use std::alloc::Allocator;
 
 /// One more than the greatest detector and the greatest observable that targets name, or 0.
 #[derive(Clone, Copy)]
@@ -14,10 +10,11 @@ pub struct TargetCounts {
     pub observables: u128,
 }
 
-/// The same for lines, and how many of these are error lines.
+/// How many detectors and observables lines name, up to the greatest, and how many of them are error lines.
 #[derive(Clone, Copy)]
-pub(crate) struct Counts {
-    pub targets: TargetCounts,
+pub(crate) struct LineCounts {
+    pub detectors: u32,
+    pub observables: u32,
     pub errors: usize,
 }
 
@@ -75,33 +72,25 @@ pub fn is_error(operation: Operation) -> bool
     matches!(operation, Operation::Errs)
 }
 
-/// How many error lines there are after one more line.
-fn errors_past(errors: usize, line: PlacedLine<'_, '_>) -> usize
-    requires { errors + 1 < 2 ^ 64 }
-    ensures { result ≡ passed_after errors (placed_in line.entry) }
+/// Counts raised by a line with these counts.
+pub(crate) fn counts_past(
+    counts: LineCounts,
+    detectors: u32,
+    observables: u32,
+    operation: Operation,
+) -> LineCounts
+    requires { counts.errors + 1 < 2 ^ 64 }
+    ensures detectors { result.detectors ≡ max counts.detectors detectors }
+    ensures observables { result.observables ≡ max counts.observables observables }
+    ensures errors { result.errors ≡ (if is_error operation then counts.errors + 1 else counts.errors) }
 {
-    if is_error(line.operation) {
-        errors + 1
-    } else {
-        errors
+    let mut errors = counts.errors;
+    if is_error(operation) {
+        errors += 1;
     }
-}
-
-/// How many detectors and observables the model of these lines has, and how many error lines.
-pub(crate) fn counts_of<A: Allocator + Copy>(lines: &PlacedLines<'_, '_, A>) -> Counts
-    ensures detectors { result.targets.detectors ≡ detector_count lines.now.placed }
-    ensures observables { result.targets.observables ≡ observable_count lines.now.placed }
-    ensures errors { result.errors ≡ error_count lines.now.placed }
-{
-    let mut targets = TargetCounts {
-        detectors: 0,
-        observables: 0,
-    };
-    let mut errors = 0;
-    for i in 0..lines.len() {
-        let line = lines.get(i);
-        targets = raised(targets, line.targets);
-        errors = errors_past(errors, line);
+    LineCounts {
+        detectors: counts.detectors.max(detectors),
+        observables: counts.observables.max(observables),
+        errors,
     }
-    Counts { targets, errors }
 }

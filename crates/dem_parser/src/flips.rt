@@ -1,9 +1,10 @@
-ghost use Rattle.std.specs.Prelude.{◌≡◌, ◌+◌, ◌<◌, ◌≤◌, ◌++◌, [], ◌∷◌, ℕ, List, All, IfOk, IsPermutation};
+ghost use Rattle.std.specs.Prelude.{◌≡◌, ◌+◌, ◌<◌, ◌≤◌, ◌++◌, [], ◌∷◌, ℕ, List, map, All, IfOk, IsPermutation};
 ghost use Rattle.std.specs.List.Sorted.{IsNonDecreasing};
 ghost use Rattle.dem_parser.specs.Meanings.{detectors_to, flipped, greatest_of, observables_to};
 ghost use Rattle.dem_parser.specs.Numbered.{numbered, numbers_of, odd_below};
+ghost use Rattle.dem_parser.specs.Shifts.{target_at};
 
-use dem_lines::Target;
+use dem_lines::{Target, narrowed};
 use std::alloc::{AllocError, Allocator};
 
 /// The number of a target, `number` after `first`. One that doesn't fit 32 bits fails as if memory had run out; the
@@ -20,16 +21,29 @@ pub(crate) fn number_at(first: u32, number: u64) -> Result<u32, AllocError>
     Ok(sum as u32)
 }
 
-/// Appends the number of a target, in a model with this many detectors. A separator has none.
+/// The number of a detector once shifted. One that doesn't fit 32 bits fails as if memory had run out; the limit of
+/// detectors is far below.
+pub(crate) fn detector_at(shift: u128, detector: u64) -> Result<u32, AllocError>
+    ensures { IfOk result (λ found. found ≡ detector + shift) }
+{
+    match shift.checked_add(detector as u128) {
+        Some(number) => narrowed(number),
+        None => Err(AllocError),
+    }
+}
+
+/// Appends the number of a target, in a model with this many detectors, where detectors are shifted. A separator has
+/// none.
 fn push_number<A: Allocator + Copy>(
     numbers: &mut Vec<u32, A>,
     detectors: u32,
+    shift: u128,
     target: Target,
 ) -> Result<(), AllocError>
-    ensures { IfOk result (λ _. numbers.new.items ≡ numbers.old.items ++ numbered detectors target) }
+    ensures { IfOk result (λ _. numbers.new.items ≡ numbers.old.items ++ numbered detectors (target_at shift target)) }
 {
     match target {
-        Target::Detector(detector) => numbers.push(number_at(0, detector)?)?,
+        Target::Detector(detector) => numbers.push(detector_at(shift, detector)?)?,
         Target::Observable(observable) => numbers.push(number_at(detectors, observable)?)?,
         _ => {}
     }
@@ -40,13 +54,14 @@ fn push_number<A: Allocator + Copy>(
 fn read_numbers<A: Allocator + Copy>(
     numbers: &mut Vec<u32, A>,
     detectors: u32,
+    shift: u128,
     targets: &[Target],
 ) -> Result<(), AllocError>
-    ensures { IfOk result (λ _. numbers.new.items ≡ numbers_of detectors targets.now) }
+    ensures { IfOk result (λ _. numbers.new.items ≡ numbers_of detectors (map (target_at shift) targets.now)) }
 {
     numbers.clear();
     for target in targets {
-        push_number(numbers, detectors, *target)?;
+        push_number(numbers, detectors, shift, *target)?;
     }
     Ok(())
 }
@@ -90,16 +105,18 @@ fn put_in_order<A: Allocator + Copy>(numbers: &mut Vec<u32, A>) -> Result<(), Al
     Ok(())
 }
 
-/// Puts into `kept`, in place of what it held, the numbers of the detectors and observables that targets flip.
+/// Puts into `kept`, in place of what it held, the numbers of the detectors and observables that targets flip
+/// where detectors are shifted.
 pub(crate) fn read_flipped<A: Allocator + Copy>(
     numbers: &mut Vec<u32, A>,
     kept: &mut Vec<u32, A>,
     detectors: u32,
+    shift: u128,
     targets: &[Target],
 ) -> Result<(), AllocError>
-    ensures { IfOk result (λ _. (observables : ℕ) → greatest_of detectors_to targets.now ≤ detectors → greatest_of observables_to targets.now ≤ observables → kept.new.items ≡ flipped detectors observables targets.now) }
+    ensures { IfOk result (λ _. (observables : ℕ) → greatest_of detectors_to (map (target_at shift) targets.now) ≤ detectors → greatest_of observables_to (map (target_at shift) targets.now) ≤ observables → kept.new.items ≡ flipped detectors observables (map (target_at shift) targets.now)) }
 {
-    read_numbers(numbers, detectors, targets)?;
+    read_numbers(numbers, detectors, shift, targets)?;
     put_in_order(numbers)?;
     keep_odd(kept, numbers.as_slice())?;
     Ok(())

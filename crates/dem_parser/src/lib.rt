@@ -2,16 +2,17 @@
 #![tactic(auto)]
 
 mod build;
+mod coordinates;
 mod counts;
 mod flips;
+mod judging;
 mod marks;
-mod placed;
 mod placed_model;
-mod placing;
 mod reached;
 mod reader;
 mod shifts;
 mod sums;
+mod table;
 
 pub use counts::{TargetCounts, is_error, raised, raised_to};
 pub use dem_lines::{Instruction, Item, ModelLines, Operation, Target, laws, parse};

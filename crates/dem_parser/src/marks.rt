@@ -1,54 +1,86 @@
 ghost use Rattle.std.specs.Prelude.{◌≡◌, [], map, replicate, IfOk};
 ghost use Rattle.std.specs.List.{range_with_len};
-ghost use Rattle.dem_parser.specs.KeptLines.{placed_in};
-ghost use Rattle.dem_parser.specs.Marked.{AreMarks, coordinates_at, marked, marked_at, marked_by};
+ghost use Rattle.dem_lines.specs.Flat.{instruction_in};
+ghost use Rattle.dem_parser.specs.Gathered.{instructions_at};
+ghost use Rattle.dem_parser.specs.Marked.{HasMarked, list_numbered, marked, marked_at};
 ghost use Rattle.dem_parser.specs.Meanings.{last_coordinates};
+ghost use Rattle.dem_parser.specs.Offsets.{shift_of};
+ghost use Rattle.dem_parser.specs.Shifts.{no_shift, placed_at, placed_from, target_at};
+ghost use Rattle.dem_parser.specs.Tables.{IsKnown};
 
-use crate::placed::{PlacedLine, PlacedLines};
+use crate::coordinates::move_stated;
+use crate::shifts::Shift;
+use crate::table::{LineTable, TableLine};
 use dem_lines::Target;
 use flat_lists::FlatLists;
 use std::alloc::{AllocError, Allocator};
 
-/// Marks a detector, where there is one of this number.
-fn mark_at(marks: &mut [usize], mark: usize, target: Target)
-    ensures { marks.new ≡ marked_at mark marks.old target }
+/// Marks a detector where detectors are shifted, if there is one of this number.
+fn mark_at(marks: &mut [usize], mark: usize, shift: u128, target: Target)
+    ensures { marks.new ≡ marked_at mark marks.old (target_at shift target) }
 {
     if let Target::Detector(detector) = target {
-        if detector < marks.len() as u64 {
-            marks[detector as usize] = mark;
+        if let Some(number) = shift.checked_add(detector as u128) {
+            if number < marks.len() as u128 {
+                marks[number as usize] = mark;
+            }
         }
     }
 }
 
 /// Marks the detectors that targets name.
-fn mark_all(marks: &mut [usize], mark: usize, targets: &[Target])
-    ensures { marks.new ≡ marked mark marks.old targets.now }
+fn mark_all(marks: &mut [usize], mark: usize, shift: u128, targets: &[Target])
+    ensures { marks.new ≡ marked mark marks.old (map (target_at shift) targets.now) }
 {
     for target in targets {
-        mark_at(marks, mark, *target);
+        mark_at(marks, mark, shift, *target);
     }
 }
 
-/// Marks the detectors to which a line gives coordinates.
-fn mark_line(marks: &mut [usize], mark: usize, line: PlacedLine<'_, '_>)
-    ensures { marks.new ≡ marked_by mark marks.old (placed_in line.entry) }
+/// The list that a mark numbers from 1, and none at 0.
+fn list_at<A: Allocator + Copy>(lists: &FlatLists<i64, A>, mark: usize) -> &[i64]
+    ensures { result.now ≡ list_numbered lists.now mark }
 {
-    if !line.coordinates.is_empty() {
-        mark_all(marks, mark, line.targets);
-    }
-}
-
-/// The coordinates of the line that a mark numbers from 1, and none at 0.
-fn coordinates_at<'p, A: Allocator + Copy>(
-    lines: &'p PlacedLines<'_, '_, A>,
-    mark: usize,
-) -> &'p [i64]
-    ensures { result.now ≡ coordinates_at lines.now.placed mark }
-{
-    if mark == 0 || mark > lines.len() {
+    if mark == 0 || mark > lists.len() {
         return &[];
     }
-    lines.get(mark - 1).coordinates
+    lists.get(mark - 1)
+}
+
+/// The lists of coordinates given so far, each detector's mark, which is the number from 1 of the last list that it was
+/// given, or 0, the shift from which it goes on, and room for a line's coordinates.
+#[derive(Drop)]
+struct Marking<A: Allocator + Copy> {
+    lists: FlatLists<i64, A>,
+    marks: Vec<usize, A>,
+    shift: Shift<A>,
+    room: Vec<i64, A>,
+}
+
+impl<A: Allocator + Copy> Marking<A> {
+    /// Marks the detectors to which a line gives coordinates. These are within their limit, as those of all lines of a
+    /// model.
+    fn mark(&mut self, line: TableLine<'_, '_>) -> Result<(), AllocError>
+        requires { IsKnown (instruction_in line.instruction) line.extent line.numbers.now }
+        ensures marked { IfOk result (λ _. HasMarked (placed_at (shift_of self.old.shift.detectors self.old.shift.offset.items) (instruction_in line.entry.instruction)) self.old.lists self.old.marks.items self.new.lists self.new.marks.items) }
+        ensures shift { IfOk result (λ _. shift_of self.new.shift.detectors self.new.shift.offset.items ≡ shift_of self.old.shift.detectors self.old.shift.offset.items) }
+    {
+        let offset = self.shift.offset.as_slice();
+        let operation = line.instruction.operation;
+        if !move_stated(&mut self.room, offset, operation, line.numbers)? {
+            return Err(AllocError);
+        }
+        if !self.room.is_empty() {
+            self.lists.push(self.room.as_slice())?;
+            mark_all(
+                &mut self.marks,
+                self.lists.len(),
+                self.shift.detectors,
+                line.instruction.targets,
+            );
+        }
+        Ok(())
+    }
 }
 
 /// No marks.
@@ -58,44 +90,44 @@ fn no_marks<A: Allocator + Copy>(alloc: A, detectors: usize) -> Result<Vec<usize
     vec![in alloc; 0; detectors]
 }
 
-/// Each detector's mark: the number from 1 of the last line that gives it coordinates, or 0.
-fn marks_of<A: Allocator + Copy>(
-    alloc: A,
-    lines: &PlacedLines<'_, '_, A>,
-    detectors: usize,
-) -> Result<Vec<usize, A>, AllocError>
-    ensures { IfOk result (λ marks. AreMarks lines.now.placed detectors lines.now.placed marks.items) }
-{
-    let mut marks = no_marks(alloc, detectors)?;
-    for i in 0..lines.len() {
-        mark_line(&mut marks, i + 1, lines.get(i));
-    }
-    Ok(marks)
-}
-
-/// The coordinates that marks stand for.
+/// The lists that marks stand for.
 fn stood_for<A: Allocator + Copy>(
     alloc: A,
-    lines: &PlacedLines<'_, '_, A>,
+    lists: &FlatLists<i64, A>,
     marks: &[usize],
 ) -> Result<FlatLists<i64, A>, AllocError>
-    ensures { IfOk result (λ found. found ≡ map (coordinates_at lines.now.placed) marks.now) }
+    ensures { IfOk result (λ found. found ≡ map (list_numbered lists.now) marks.now) }
 {
     let mut found = FlatLists::new(alloc);
     for mark in marks {
-        found.push(coordinates_at(lines, *mark))?;
+        found.push(list_at(lists, *mark))?;
     }
     Ok(found)
 }
 
-/// The coordinates of each of this many detectors: those of the last line that gives it any.
+/// The coordinates of each of this many detectors: those of the last of the lines at these places that gives it any.
 pub(crate) fn coordinates_of<A: Allocator + Copy>(
     alloc: A,
-    lines: &PlacedLines<'_, '_, A>,
+    table: &LineTable<'_, '_, A>,
+    places: &[u32],
     detectors: usize,
 ) -> Result<FlatLists<i64, A>, AllocError>
-    ensures { IfOk result (λ found. found ≡ map (λ d. last_coordinates d [] lines.now.placed) (range_with_len 0 detectors)) }
+    ensures { IfOk result (λ found. found ≡ map (λ d. last_coordinates d [] (placed_from no_shift (instructions_at table.now places.now))) (range_with_len 0 detectors)) }
 {
-    let marks = marks_of(alloc, lines, detectors)?;
-    stood_for(alloc, lines, marks.as_slice())
+    let mut marking = Marking {
+        lists: FlatLists::new(alloc),
+        marks: no_marks(alloc, detectors)?,
+        shift: Shift {
+            detectors: 0,
+            offset: Vec::new(alloc),
+        },
+        room: Vec::new(alloc),
+    };
+    for place in places {
+        let line = table.line_at(*place as usize);
+        marking.mark(line)?;
+        marking.shift.pass(line)?;
+    }
+    let found = stood_for(alloc, &marking.lists, marking.marks.as_slice())?;
+    Ok(found)
 }

@@ -1,38 +1,43 @@
-ghost use Rattle.std.specs.Prelude.{◌≡◌, ◌≤◌, ◌+◌, ◌<◌, ◌^◌, ℕ, false, true, length, slice_index_or, IfOk};
-ghost use Rattle.dem_parser.specs.KeptLines.{placed_in};
+ghost use Rattle.std.specs.Prelude.{◌≡◌, ◌≤◌, ◌+◌, ◌<◌, ◌^◌, ℕ, ℤ, List, false, true, length, map, slice_index_or, IfOk};
+ghost use Rattle.dem_lines.specs.Flat.{instruction_in};
+ghost use Rattle.dem_parser.specs.Gathered.{instructions_at};
+ghost use Rattle.dem_parser.specs.Offsets.{shift_of};
 ghost use Rattle.dem_parser.specs.Meanings.{meaning_of};
 ghost use Rattle.dem_parser.specs.Numbered.{numbered, numbers_of};
-ghost use Rattle.dem_parser.specs.Summed.{passed_after, turned_past};
+ghost use Rattle.dem_parser.specs.Shifts.{no_shift, placed_at, placed_from, target_at};
+ghost use Rattle.dem_parser.specs.Summed.{AreCounts, passed_after, turned_past};
 ghost use Rattle.dem_parser.specs.Sums.{symptom_of, turned};
 
-use crate::counts::{counts_of, is_error};
-use crate::flips::number_at;
-use crate::placed::{PlacedLine, PlacedLines};
+use crate::counts::{LineCounts, is_error};
+use crate::flips::{detector_at, number_at};
+use crate::shifts::detectors_past;
 use crate::sums::{no_bits, turn_at};
-use dem_lines::{Target, narrowed};
+use crate::table::LineTable;
+use dem_lines::{Instruction, Target};
 use std::alloc::{AllocError, Allocator};
 use std::marker::Model;
 
-/// An error model whose lines stay as they were read. What a line flips is worked out only where the line is named, and
-/// most are not.
+/// An error model whose lines stay as they were read, with the places of its lines in the order in which they are
+/// reached. What a line flips is worked out only where the line is named, and most are not.
 #[derive(Drop)]
 pub struct PlacedModel<'c, 'a, A: Allocator + Copy> {
-    lines: PlacedLines<'c, 'a, A>,
-    detectors: u32,
-    observables: u32,
-    errors: usize,
+    pub(crate) table: LineTable<'c, 'a, A>,
+    pub(crate) places: Vec<u32, A>,
+    pub(crate) counts: LineCounts,
 }
 
 impl<'c, 'a, A: Allocator + Copy> Model for PlacedModel<'c, 'a, A> {
     ghost use Rattle.step_model.specs.ErrorModels.{ErrorModel};
+    ghost use Rattle.dem_parser.specs.Gathered.{instructions_at};
     ghost use Rattle.dem_parser.specs.Meanings.{meaning_of};
+    ghost use Rattle.dem_parser.specs.Shifts.{no_shift, placed_from};
     ghost use Rattle.dem_parser.specs.Summed.{AreCounts};
 
     ghost Value = { ErrorModel };
 
-    ghost view = { λ m. meaning_of m.lines.placed };
+    ghost view = { λ m. meaning_of (placed_from no_shift (instructions_at m.table m.places.items)) };
 
-    ghost invariant = { λ m. AreCounts m.lines.placed m.detectors m.observables m.errors };
+    ghost invariant = { λ m. AreCounts (placed_from no_shift (instructions_at m.table m.places.items)) m.counts.detectors m.counts.observables m.counts.errors };
 }
 
 /// One more than the number of the last line that is named, or 0 where none is.
@@ -77,6 +82,37 @@ pub fn turn_targets(bits: &mut [bool], detectors: u32, targets: &[Target]) -> Re
     Ok(())
 }
 
+/// Flips the truth value of a target where detectors are shifted.
+fn turn_shifted(
+    bits: &mut [bool],
+    detectors: u32,
+    shift: u128,
+    target: Target,
+) -> Result<(), AllocError>
+    ensures { IfOk result (λ _. bits.new ≡ turned bits.old (numbered detectors (target_at shift target))) }
+{
+    match target {
+        Target::Detector(detector) => turn_at(bits, detector_at(shift, detector)?),
+        _ => turn_target(bits, detectors, target)?,
+    }
+    Ok(())
+}
+
+/// The same for targets, one after another.
+fn turn_all_shifted(
+    bits: &mut [bool],
+    detectors: u32,
+    shift: u128,
+    targets: &[Target],
+) -> Result<(), AllocError>
+    ensures { IfOk result (λ _. bits.new ≡ turned bits.old (numbers_of detectors (map (target_at shift) targets.now))) }
+{
+    for target in targets {
+        turn_shifted(bits, detectors, shift, *target)?;
+    }
+    Ok(())
+}
+
 /// Goes past a line that comes after `passed` error lines, and answers how many there are after it. An error line that
 /// is named flips the truth values of its targets.
 fn pass_line(
@@ -84,40 +120,40 @@ fn pass_line(
     named: &[bool],
     passed: usize,
     detectors: u32,
-    line: PlacedLine<'_, '_>,
+    shift: u128,
+    line: Instruction<'_, '_>,
 ) -> Result<usize, AllocError>
     requires { passed + 1 < 2 ^ 64 }
-    ensures bits { IfOk result (λ _. bits.new ≡ turned_past detectors named.now passed (placed_in line.entry) bits.old) }
-    ensures passed { IfOk result (λ after. after ≡ passed_after passed (placed_in line.entry)) }
+    ensures bits { IfOk result (λ _. (offset : List ℤ) → bits.new ≡ turned_past detectors named.now passed (placed_at (shift_of shift offset) (instruction_in line.entry)) bits.old) }
+    ensures passed { IfOk result (λ after. (offset : List ℤ) → after ≡ passed_after passed (placed_at (shift_of shift offset) (instruction_in line.entry))) }
 {
     if !is_error(line.operation) {
         return Ok(passed);
     }
     if is_named(named, passed) {
-        turn_targets(bits, detectors, line.targets)?;
+        turn_all_shifted(bits, detectors, shift, line.targets)?;
     }
     Ok(passed + 1)
 }
 
 impl<'c, 'a, A: Allocator + Copy> PlacedModel<'c, 'a, A> {
-    /// The model of these lines.
-    pub(crate) fn new(lines: PlacedLines<'c, 'a, A>) -> Result<Self, AllocError>
-        ensures { IfOk result (λ model. model ≡ meaning_of lines.entry.placed) }
+    /// The model of the lines at these places, as they are reached one after another.
+    pub(crate) fn new(table: LineTable<'c, 'a, A>, places: Vec<u32, A>, counts: LineCounts) -> Self
+        requires { AreCounts (placed_from no_shift (instructions_at table places.items)) counts.detectors counts.observables counts.errors }
+        ensures { result ≡ meaning_of (placed_from no_shift (instructions_at table.entry places.items)) }
     {
-        let counts = counts_of(&lines);
-        Ok(PlacedModel {
-            detectors: narrowed(counts.targets.detectors)?,
-            observables: narrowed(counts.targets.observables)?,
-            errors: counts.errors,
-            lines,
-        })
+        PlacedModel {
+            table,
+            places,
+            counts,
+        }
     }
 
     /// How many error lines there are.
     pub fn line_count(&self) -> usize
         ensures { result ≡ length self.now.lines }
     {
-        self.errors
+        self.counts.errors
     }
 
     /// The symptom of the error lines that are named: a truth value for each detector, then one for each observable,
@@ -126,12 +162,17 @@ impl<'c, 'a, A: Allocator + Copy> PlacedModel<'c, 'a, A> {
     pub fn symptom(&self, alloc: A, named: &[bool]) -> Result<Vec<bool, A>, AllocError>
         ensures { IfOk result (λ bits. bits.items ≡ symptom_of self.now named.now) }
     {
-        let mut bits = no_bits(alloc, self.detectors as usize, self.observables as usize)?;
+        let detectors = self.counts.detectors;
+        let observables = self.counts.observables;
+        let mut bits = no_bits(alloc, detectors as usize, observables as usize)?;
         let end = named_end(named);
         let mut passed = 0;
+        let mut shift = 0;
         let mut i = 0;
-        while passed < end && i < self.lines.len() {
-            passed = pass_line(&mut bits, named, passed, self.detectors, self.lines.get(i))?;
+        while passed < end && i < self.places.len() {
+            let line = self.table.instruction_at(self.places[i] as usize);
+            passed = pass_line(&mut bits, named, passed, detectors, shift, line)?;
+            shift = detectors_past(shift, line)?;
             i += 1;
         }
         Ok(bits)

@@ -1,11 +1,12 @@
-ghost use Rattle.std.specs.Prelude.{◌≡◌, ◌≤◌, ◌<◌, ◌+ℤ◌, pos, [], length, map, slice_index_or, IfOk};
+ghost use Rattle.std.specs.Prelude.{◌≡◌, ◌≤◌, ◌<◌, ◌+ℤ◌, ℤ, List, pos, [], length, map, slice_index_or, IfOk};
 ghost use Rattle.stim_parser.specs.Arguments.{arguments_in};
 ghost use Rattle.stim_parser.specs.Numbers.{whole_value};
-ghost use Rattle.dem_lines.specs.Fitting.{Fits};
 ghost use Rattle.dem_lines.specs.Flat.{instruction_in};
-ghost use Rattle.dem_parser.specs.KeptLines.{added_at, shift_of};
+ghost use Rattle.dem_parser.specs.Offsets.{added_at, shift_of};
 ghost use Rattle.dem_parser.specs.Shifts.{both_offsets, shift_after};
+ghost use Rattle.dem_parser.specs.Tables.{IsKnown};
 
+use crate::table::TableLine;
 use arrayvec::ArrayVec;
 use dem_lines::{Instruction, Operation, number_in};
 use std::alloc::{AllocError, Allocator};
@@ -96,25 +97,39 @@ fn add<A: Allocator + Copy>(offset: &mut Vec<i128, A>, more: &[i64]) -> Result<(
     Ok(())
 }
 
-/// Takes a shift past an instruction.
-pub(crate) fn pass<A: Allocator + Copy>(
-    shift: &mut Shift<A>,
+/// By how much detectors are shifted after an instruction. A sum that does not fit would take more lines than memory
+/// holds.
+pub(crate) fn detectors_past(
+    shift: u128,
     instruction: Instruction<'_, '_>,
-) -> Result<(), AllocError>
-    requires { Fits (instruction_in instruction) }
-    ensures { IfOk result (λ _. shift_of shift.new.detectors shift.new.offset.items ≡ shift_after (instruction_in instruction.entry) (shift_of shift.old.detectors shift.old.offset.items)) }
+) -> Result<u128, AllocError>
+    ensures { IfOk result (λ after. (offset : List ℤ) → after ≡ (shift_after (instruction_in instruction.entry) (shift_of shift offset)).detectors) }
 {
     match instruction.operation {
         Operation::Shifts => {
-            let numbers = coordinates_read(instruction.arguments);
-            add(&mut shift.offset, numbers.as_slice())?;
             let number = number_in(instruction.targets) as u128;
-            match shift.detectors.checked_add(number) {
-                Some(detectors) => shift.detectors = detectors,
-                None => return Err(AllocError),
+            match shift.checked_add(number) {
+                Some(detectors) => Ok(detectors),
+                None => Err(AllocError),
             }
-            Ok(())
         }
-        _ => Ok(()),
+        _ => Ok(shift),
+    }
+}
+
+impl<A: Allocator + Copy> Shift<A> {
+    /// Takes the shift past a line.
+    pub(crate) fn pass(&mut self, line: TableLine<'_, '_>) -> Result<(), AllocError>
+        requires { IsKnown (instruction_in line.instruction) line.extent line.numbers.now }
+        ensures { IfOk result (λ _. shift_of self.new.detectors self.new.offset.items ≡ shift_after (instruction_in line.entry.instruction) (shift_of self.old.detectors self.old.offset.items)) }
+    {
+        match line.instruction.operation {
+            Operation::Shifts => {
+                add(&mut self.offset, line.numbers)?;
+                self.detectors = detectors_past(self.detectors, line.instruction)?;
+                Ok(())
+            }
+            _ => Ok(()),
+        }
     }
 }

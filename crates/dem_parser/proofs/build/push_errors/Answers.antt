@@ -1,26 +1,30 @@
-use Rattle.std.proofs.Common.{◌∙◌, ap, arith}
-use Rattle.std.proofs.lemmas.List.{take_all}
-use Rattle.dem_parser.specs.KeptLines.{placed_in}
-use Rattle.dem_parser.specs.Meanings.{detectors_to, error_lines, observables_to}
-use Rattle.dem_parser.proofs.BuildLemmas.{errors-first, errors-next, greatest-got, with_lines}
+use Rattle.std.proofs.Common.{ap, ◌∙◌}
+use Rattle.std.proofs.lemmas.List.{at_drop_more, drop_all}
+use Rattle.dem_parser.specs.Gathered.{instructions_at}
+use Rattle.dem_parser.proofs.BuildLemmas.{unrolling-done, unrolling-first, unrolling-here, unrolling-next}
 use Rattle.dem_parser.proofs.build.push_errors.Goals as goal
 
-pub loop-i-init : goal.loop-i-init
-loop-i-init g c observables h j = errors-first c.args.model.now
+pub loop-place-init : goal.loop-place-init
+loop-place-init g c =
+    unrolling-first c.args.model.now (instructions_at c.args.table.now c.args.places.now) c.args.counts.detectors c.args.counts.observables c.args.counts.errors c.requires
 
-pub loop-i-preserved : goal.loop-i-preserved
-loop-i-preserved g c observables h j =
-    let lines = c.args.lines.now.placed in
-    let i = c.loop-i.i in
-    let p = placed_in c.get.result in
-    let low = greatest-got detectors_to lines i p c.get.ensures in
-    let few = greatest-got observables_to lines i p c.get.ensures in
-    errors-next c.args.model.now c.loop-i.model _ c.args.detectors observables i lines p c.get.ensures (c.loop-i.invariant observables h j)
-    (c.in_ok-push_error.ensures observables (omega (arith, low, h)) (omega (arith, few, j)))
+pub push_error-requires : goal.push_error-requires
+push_error-requires g c =
+    let here =
+    unrolling-here c.args.counts.detectors c.args.counts.observables _ _ _ _ _ _ _ c.loop-place.invariant
+    (at_drop_more (instructions_at c.args.table.now) c.args.places.now c.loop-place.place-index 0 c.loop-place-test.true)
+    c.instruction_at-line.ensures in
+    record { detectors = here.0; observables = here.1 }
+
+pub loop-place-preserved : goal.loop-place-preserved
+loop-place-preserved g c =
+    unrolling-next c.args.counts.detectors c.args.counts.observables _ _ _ _ _ _ _ _ _ c.loop-place.invariant
+    (at_drop_more (instructions_at c.args.table.now) c.args.places.now c.loop-place.place-index 0 c.loop-place-test.true)
+    c.instruction_at-line.ensures
+    c.in_ok-push_error.ensures
+    c.in_ok-shift.ensures
 
 pub returns : goal.returns
-returns g c observables h j =
-    let lines = c.args.lines.now.placed in
-    c.loop-i.invariant observables h j
-    ∙ ap (λ ps. with_lines c.args.model.now (error_lines c.args.detectors observables ps))
-    (take_all c.loop-i.i lines (omega (arith, c.len-i-end.ensures, c.loop-i-test.false)))
+returns g c =
+    unrolling-done c.args.counts.detectors c.args.counts.observables _ _ _ _ c.loop-place.invariant
+    (ap (instructions_at c.args.table.now) (drop_all c.loop-place.place-index c.args.places.now c.loop-place-test.false))

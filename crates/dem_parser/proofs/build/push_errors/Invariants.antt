@@ -1,9 +1,11 @@
-use Rattle.std.proofs.Common.{◌≡◌, ◌≤◌, ℕ, take}
-use Rattle.dem_parser.specs.Meanings.{detector_count, error_lines, observable_count}
-use Rattle.dem_parser.proofs.BuildLemmas.{with_lines}
+use Rattle.std.proofs.Common.{drop}
+use Rattle.dem_parser.specs.Gathered.{instructions_at}
+use Rattle.dem_parser.specs.Meanings.{error_lines}
+use Rattle.dem_parser.specs.Shifts.{no_shift, placed_from}
+use Rattle.dem_parser.proofs.BuildLemmas.{IsUnrolling, with_lines}
 use Rattle.dem_parser.proofs.build.push_errors.Given as goal
 
-abbrev pub invariant-loop-i : goal.invariant-loop-i
-invariant-loop-i g l =
-    (observables : ℕ) → detector_count l.lines.placed ≤ l.detectors → observable_count l.lines.placed ≤ observables
-    → l.model ≡ with_lines l.fn.model (error_lines l.detectors observables (take l.i l.lines.placed))
+abbrev pub invariant-loop-place : goal.invariant-loop-place
+invariant-loop-place g l =
+    IsUnrolling l.counts.detectors l.counts.observables l.model l.shift (instructions_at l.table (drop l.place-index l.places))
+    (with_lines l.fn.model (error_lines l.counts.detectors l.counts.observables (placed_from no_shift (instructions_at l.table l.places))))

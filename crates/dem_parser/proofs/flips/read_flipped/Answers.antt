@@ -1,8 +1,9 @@
-use Rattle.std.proofs.Common.{◌+◌, ◌<◌, List, ℕ, ap, subst, sym, ◌∙◌}
+use Rattle.std.proofs.Common.{◌+◌, ◌<◌, List, ℕ, ap, map, subst, sym, ◌∙◌}
 use Rattle.std.specs.Prelude.{All}
 use Rattle.std.specs.List.Sorted.{IsNonDecreasing}
 use Rattle.std.proofs.lemmas.List.Sorted.{All-permutation}
 use Rattle.dem_parser.specs.Numbered.{odd_below}
+use Rattle.dem_parser.specs.Shifts.{target_at}
 use Rattle.dem_parser.proofs.NumberLemmas.{all-numbers, flipped-numbers, same-odd}
 use Rattle.dem_parser.proofs.flips.read_flipped.Goals as goal
 
@@ -13,7 +14,7 @@ keep_odd-requires g c =
 pub returns : goal.returns
 returns g c observables h j =
     let detectors = c.args.detectors in
-    let targets = c.args.targets.now in
+    let targets = map (target_at c.args.shift) c.args.targets.now in
     let n : ℕ = detectors + observables in
     let read = c.read_numbers.new.numbers.items in
     let sorted = c.put_in_order.new.numbers.items in

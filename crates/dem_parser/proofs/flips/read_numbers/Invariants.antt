@@ -1,7 +1,8 @@
-use Rattle.std.proofs.Common.{◌≡◌, ◌++◌, drop}
+use Rattle.std.proofs.Common.{◌≡◌, ◌++◌, drop, map}
 use Rattle.dem_parser.specs.Numbered.{numbers_of}
+use Rattle.dem_parser.specs.Shifts.{target_at}
 use Rattle.dem_parser.proofs.flips.read_numbers.Given as goal
 
 abbrev pub invariant-loop-target : goal.invariant-loop-target
 invariant-loop-target g l =
-    l.numbers.items ++ numbers_of l.detectors (drop l.target-index l.targets) ≡ numbers_of l.detectors l.targets
+    l.numbers.items ++ numbers_of l.detectors (map (target_at l.shift) (drop l.target-index l.targets)) ≡ numbers_of l.detectors (map (target_at l.shift) l.targets)

@@ -1,5 +1,5 @@
 use Rattle.std.proofs.Common.{◌∙◌, ap, sym, pos, get_or}
-use Rattle.dem_parser.specs.KeptLines.{added_at}
+use Rattle.dem_parser.specs.Offsets.{added_at}
 use Rattle.dem_parser.proofs.ShiftLemmas.{both-none, both-next}
 use Rattle.dem_parser.proofs.shifts.add.Goals as goal
 

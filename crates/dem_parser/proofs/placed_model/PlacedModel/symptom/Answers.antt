@@ -1,65 +1,67 @@
-use Rattle.std.proofs.Common.{◌≡◌, ◌+◌, drop, length, ap, sym, ◌∙◌, arith}
-use Rattle.std.proofs.lemmas.List.{with_items_is}
-use Rattle.dem_parser.specs.KeptLines.{placed_in}
-use Rattle.dem_parser.specs.Meanings.{error_lines}
-use Rattle.dem_parser.specs.Summed.{passed_after, turned_past}
-use Rattle.dem_parser.specs.Sums.{turned_by}
-use Rattle.dem_parser.proofs.SummedLemmas.{detectors-of, length-past, long-first, low-in, passed-few, sum-done, sum-first, sum-next, unnamed-past}
+use Rattle.std.proofs.Common.{◌≡◌, ◌+◌, ℤ, List, [], length, ap, sym, ◌∙◌, arith}
+use Rattle.std.proofs.lemmas.List.{at_drop_more, drop_all, with_items_is}
+use Rattle.dem_lines.specs.Flat.{instruction_in}
+use Rattle.dem_lines.specs.Places.{instruction_at}
+use Rattle.dem_parser.specs.Gathered.{instructions_at}
+use Rattle.dem_parser.specs.Offsets.{shift_of}
+use Rattle.dem_parser.specs.Shifts.{placed_at}
+use Rattle.dem_parser.specs.Summed.{turned_past}
+use Rattle.dem_parser.proofs.SummedLemmas.{length-past, passed-few}
+use Rattle.dem_parser.proofs.WalkLemmas.{summing-done, summing-first, summing-named, summing-next}
 use Rattle.dem_parser.proofs.placed_model.PlacedModel.symptom.Goals as goal
 use Rattle.dem_parser.proofs.placed_model.PlacedModel.symptom.Goals.{then-loop-passed-test+else-i-len, else-loop-passed-test}
 
 pub loop-passed-init : goal.loop-passed-init
 loop-passed-init g c =
-    let model = c.args.self.now in
-    let lines = c.self.inside.lines.placed in
     record {
-      sum = sum-first model lines c.args.named.now c.in_ok-bits.bits.items c.self.inside.detectors c.self.inside.observables c.self.view_is c.self.invariant.detectors_are c.self.invariant.observables_are c.in_ok-bits.ensures;
-      long = long-first model lines c.in_ok-bits.bits.items c.self.inside.detectors c.self.inside.observables c.self.view_is c.self.invariant.detectors_are c.self.invariant.observables_are c.in_ok-bits.ensures;
+      summing = summing-first c.args.self.now (instructions_at c.self.inside.table c.self.inside.places.items) c.args.named.now _ c.self.inside.counts c.self.view_is c.self.invariant c.in_ok-bits.ensures;
       few = omega arith;
       within = omega arith;
     }
 
 pub loop-passed-preserved : goal.loop-passed-preserved
 loop-passed-preserved g c =
-    let model = c.args.self.now in
-    let d = model.detectors in
-    let o = model.observables in
-    let lines = c.self.inside.lines.placed in
+    let h = c.loop-passed.invariant.summing in
+    let d = c.self.inside.counts.detectors in
+    let o = c.self.inside.counts.observables in
+    let table = c.self.inside.table in
     let named = c.args.named.now in
-    let i = c.loop-passed.i in
-    let p = placed_in c.get.result in
+    let i = instruction_in c.instruction_at-line.result in
+    let passed = c.loop-passed.passed in
+    let shift = c.loop-passed.shift in
     let old = c.loop-passed.bits.items in
     let new = c.pass_line.new.bits in
-    let bits : new ≡ turned_past d named c.loop-passed.passed p old =
-    c.in_ok-passed.ensures.bits
-    ∙ ap (λ n. turned_past n named c.loop-passed.passed p c.deref_mut.result.now) (detectors-of model lines c.self.inside.detectors c.self.view_is c.self.invariant.detectors_are)
-    ∙ ap (turned_past d named c.loop-passed.passed p) c.deref_mut.ensures.value in
-    let after : c.in_ok-passed.passed ≡ passed_after c.loop-passed.passed p = c.in_ok-passed.ensures.passed in
-    let long : length new ≡ d + o = ap length bits ∙ length-past d c.loop-passed.passed named old p (d + o) c.loop-passed.invariant.long in
-    let same : length new ≡ c.loop-passed.bits.len = long ∙ sym c.loop-passed.invariant.long ∙ sym c.loop-passed.bits.ok.0 in
+    let turns : (offset : List ℤ) → new ≡ turned_past d named passed (placed_at (shift_of shift offset) i) old =
+    λ offset.
+    c.in_ok-passed.ensures.bits offset
+    ∙ ap (turned_past d named passed (placed_at (shift_of shift offset) i)) c.deref_mut.ensures.value in
+    let long : length new ≡ d + o = ap length (turns []) ∙ length-past d passed named old (placed_at (shift_of shift []) i) (d + o) h.long in
+    let same : length new ≡ c.loop-passed.bits.len = long ∙ sym h.long ∙ sym c.loop-passed.bits.ok.0 in
     let items = with_items_is c.loop-passed.bits new same in
-    let few = passed-few c.loop-passed.passed p in
+    let few = passed-few passed (placed_at (shift_of shift []) i) in
+    let after = c.in_ok-passed.ensures.passed [] in
     record {
-      sum =
-          ap (λ bs. turned_by bs (drop c.in_ok-passed.passed named) (error_lines d o (drop (i + 1) lines))) items
-          ∙ sum-next d o i named old new c.loop-passed.passed c.in_ok-passed.passed lines p c.get.ensures c.loop-passed.invariant.long
-          (low-in model lines i p c.self.view_is c.get.ensures) bits after
-          ∙ c.loop-passed.invariant.sum;
-      long = ap length items ∙ long;
+      summing =
+          summing-next d o named old _ passed _ shift _ _ _ _ i _ h
+          (at_drop_more (instructions_at table) c.self.inside.places.items c.loop-passed.i c.index.result.now (omega (arith, c.if-i-len.true, c.len.ensures)))
+          (c.instruction_at-line.ensures ∙ ap (instruction_at table) c.index.ensures)
+          (λ offset. items ∙ turns offset) c.in_ok-passed.ensures.passed c.in_ok-shift.ensures;
       few = omega (arith, after, few, c.loop-passed.invariant.few);
       within = omega (arith, c.len.ensures, c.if-i-len.true);
     }
 
 pub returns : goal.returns
 returns g c =
-    let model = c.args.self.now in
-    let lines = c.self.inside.lines.placed in
-    let rest = error_lines model.detectors model.observables (drop c.loop-passed.i lines) in
+    let h = c.loop-passed.invariant.summing in
+    let d = c.self.inside.counts.detectors in
+    let o = c.self.inside.counts.observables in
+    let named = c.args.named.now in
+    let bits = c.loop-passed.bits.items in
+    let passed = c.loop-passed.passed in
     elim c.loop-passed-test.branch [
       | then-loop-passed-test+else-i-len w ↦
-          sum-done model.detectors model.observables c.loop-passed.i c.args.named.now c.loop-passed.bits.items c.loop-passed.passed lines
-          (omega (arith, w.len.ensures, w.if-i-len.false))
+          summing-done d o named bits passed c.loop-passed.shift _ _ h
+          (ap (instructions_at c.self.inside.table) (drop_all c.loop-passed.i c.self.inside.places.items (omega (arith, w.len.ensures, w.if-i-len.false))))
       | else-loop-passed-test w ↦
-          unnamed-past c.loop-passed.bits.items c.args.named.now rest c.named_end-end.result c.loop-passed.passed (omega (arith, w.loop-passed-test.false)) c.named_end-end.ensures.none
+          summing-named d o named bits passed c.loop-passed.shift _ _ c.named_end-end.result h (omega (arith, w.loop-passed-test.false)) c.named_end-end.ensures.none
     ]
-    ∙ c.loop-passed.invariant.sum

@@ -1,0 +1,199 @@
+-- What is worked out once of each item of an error model, looked up by its place; and what that gives of a line as it is
+-- reached.
+use Rattle.std.proofs.Common.{◌≡◌, ℕ, zero, suc, ◌+◌, ◌<◌, ◌≤◌, ◌||◌, Bool, true, false, ℤ, List, [], ◌∷◌, ◌++◌, Some, length, get_or, map, take, refl, ap, subst, sym, ◌∙◌, arith}
+use Rattle.std.specs.Prelude.{All, max, nat_lt}
+use Rattle.std.specs.List.{list_any}
+use Rattle.std.proofs.lemmas.Bool.Decides.{nat_tests}
+use Rattle.std.proofs.lemmas.List.Elements.{All-append, All-cons}
+use Rattle.stim_parser.specs.Arguments.{arguments_in}
+use Rattle.dem_lines.specs.declared.operation.Operation.{Operation}
+use Rattle.dem_lines.specs.declared.operation.Operation.TheVariants.{Errs, Detects, Observes, Shifts}
+use Rattle.dem_lines.specs.declared.target.Target.{Target}
+use Rattle.dem_lines.specs.declared.target.Target.TheVariants.{Plain, Detector, Observable, Separator}
+use Rattle.dem_lines.specs.Fitting.{AllFit, Fits}
+use Rattle.dem_lines.specs.Limits.{has_target_beyond, is_target_beyond}
+use Rattle.dem_lines.specs.Places.{instruction_at, instruction_of, no_instruction}
+use Rattle.dem_lines.specs.Texts.{Item, Does, Begins, Ends}
+use Rattle.dem_lines.specs.Trees.{Tree, Nothing, Then, Block, items_of}
+use Rattle.dem_lines.specs.Verdicts.{Instruction}
+use Rattle.dem_parser.specs.declared.table.Extent.{Extent}
+use Rattle.dem_parser.specs.Meanings.{detectors_to, greatest_of, observables_to}
+use Rattle.dem_parser.specs.Models.{is_beyond, is_far}
+use Rattle.dem_parser.specs.Shifts.{Shift, coordinates_given, placed_at, target_at}
+use Rattle.dem_parser.specs.Tables.{AreTables, IsKnown, coordinates_from, count_at, extent_of, most_detectors, numbers_of_line, numbers_stated, tabled}
+use Rattle.dem_parser.proofs.ShiftLemmas.{few_arguments}
+
+-- ---- a table
+
+pub tabled-at : {X : Type 0} (f : Instruction → X) (items : List Item) (k : ℕ) → get_or (tabled f items) k (f no_instruction) ≡ f (instruction_at items k)
+tabled-at f [] k = refl
+tabled-at f (x ∷ xs) zero = refl
+tabled-at f (x ∷ xs) (suc k) = tabled-at f xs k
+
+tabled-suc : {X : Type 0} (f : Instruction → X) (items : List Item) (i : ℕ) → i < length items → tabled f (take (suc i) items) ≡ tabled f (take i items) ++ f (instruction_at items i) ∷ []
+tabled-suc f [] i h = absurd (omega (arith, h))
+tabled-suc f (x ∷ xs) zero h = refl
+tabled-suc {X = X} f (x ∷ xs) (suc i) h = ap (λ (ys : List X). f (instruction_of (Some x)) ∷ ys) (tabled-suc f xs i (omega (arith, h)))
+
+-- one item more
+pub tabled-next : {X : Type 0} (f : Instruction → X) (items : List Item) (i : ℕ) (found found' : List X) (x : X) → i < length items → found ≡ tabled f (take i items)
+    → x ≡ f (instruction_at items i) → found' ≡ found ++ x ∷ [] → found' ≡ tabled f (take (i + 1) items)
+tabled-next f items i found found' x h before one more =
+    let later : suc i ≡ i + 1 = omega arith in
+    more
+    ∙ ap (λ xs. xs ++ x ∷ []) before
+    ∙ ap (λ y. tabled f (take i items) ++ y ∷ []) one
+    ∙ sym (tabled-suc f items i h)
+    ∙ ap (λ k. tabled f (take k items)) later
+
+-- ---- what holds of each instruction that fits, and of the empty one
+
+of-items : (P : Instruction → Type 0) → P no_instruction → ((i : Instruction) → Fits i → P i) → (t : Tree) → AllFit t → All (λ item. P (instruction_of (Some item))) (items_of t)
+of-items P none one Nothing fit = λ k d below. absurd (omega (arith, below))
+of-items P none one (Then i t) fit =
+    All-cons (λ item. P (instruction_of (Some item))) (Does i) (items_of t) (one i fit.0) (of-items P none one t fit.1)
+of-items P none one (Block line turns t u) fit =
+    let Q : Item → Type 0 = λ item. P (instruction_of (Some item)) in
+    All-cons Q (Begins line turns) (items_of t ++ Ends ∷ items_of u) none
+    (All-append Q (items_of t) (Ends ∷ items_of u) (of-items P none one t fit.1)
+    (All-cons Q Ends (items_of u) none (of-items P none one u fit.2)))
+
+at-place : (P : Instruction → Type 0) → P no_instruction → (items : List Item) → All (λ item. P (instruction_of (Some item))) items → (place : ℕ) → P (instruction_at items place)
+at-place P none [] all place = none
+at-place P none (x ∷ xs) all zero = all 0 x (omega arith)
+at-place P none (x ∷ xs) all (suc place) =
+    at-place P none xs (λ k d below. all (suc k) d (omega (arith, below))) place
+
+pub few-at : (t : Tree) → AllFit t → (place : ℕ) → length (instruction_at (items_of t) place).arguments ≤ 16
+unfolding arguments_in
+few-at t fit place =
+    let P : Instruction → Type 0 = λ i. length i.arguments ≤ 16 in
+    at-place P (omega arith) (items_of t) (of-items P (omega arith) few_arguments t fit) place
+
+pub within-at : (t : Tree) → AllFit t → (place : ℕ) → has_target_beyond (instruction_at (items_of t) place).targets ≡ false
+unfolding has_target_beyond
+within-at t fit place =
+    let P : Instruction → Type 0 = λ i. has_target_beyond i.targets ≡ false in
+    at-place P refl (items_of t) (of-items P refl (λ i fits. fits.targets_within) t fit) place
+
+-- ---- targets that are shifted
+
+count-max : (s a b : ℕ) → max (count_at s a) (count_at s b) ≡ count_at s (max a b)
+count-max s zero b = let same : max 0 b ≡ b = omega arith in omega arith ∙ ap (count_at s) (sym same)
+count-max s (suc a) zero = let same : max (suc a) 0 ≡ suc a = omega arith in omega arith ∙ ap (count_at s) (sym same)
+count-max s (suc a) (suc b) =
+    let same : max (suc a) (suc b) ≡ suc (max a b) = omega arith in
+    let sum : max (suc a + s) (suc b + s) ≡ suc (max a b) + s = omega arith in
+    sum ∙ ap (count_at s) (sym same)
+
+pub counted : (s : ℕ) (ts : List Target) → greatest_of detectors_to (map (target_at s) ts) ≡ count_at s (greatest_of detectors_to ts)
+counted s [] = refl
+counted s (Plain n ∷ ts) = ap (max 0) (counted s ts) ∙ count-max s 0 (greatest_of detectors_to ts)
+counted s (Detector d ∷ ts) =
+    let same : suc d ≡ d + 1 = omega arith in
+    let one : d + s + 1 ≡ suc d + s = omega arith in
+    ap (λ n. max n (greatest_of detectors_to (map (target_at s) ts))) (one ∙ ap (count_at s) same)
+    ∙ ap (max (count_at s (d + 1))) (counted s ts)
+    ∙ count-max s (d + 1) (greatest_of detectors_to ts)
+counted s (Observable k ∷ ts) = ap (max 0) (counted s ts) ∙ count-max s 0 (greatest_of detectors_to ts)
+counted s (Separator ∷ ts) = ap (max 0) (counted s ts) ∙ count-max s 0 (greatest_of detectors_to ts)
+
+pub observables-stay : (s : ℕ) (ts : List Target) → greatest_of observables_to (map (target_at s) ts) ≡ greatest_of observables_to ts
+observables-stay s [] = refl
+observables-stay s (Plain n ∷ ts) = ap (max 0) (observables-stay s ts)
+observables-stay s (Detector d ∷ ts) = ap (max 0) (observables-stay s ts)
+observables-stay s (Observable k ∷ ts) = ap (max (k + 1)) (observables-stay s ts)
+observables-stay s (Separator ∷ ts) = ap (max 0) (observables-stay s ts)
+
+either-above : (m : ℕ) (a b : Bool) (x y : ℕ) → a ≡ nat_lt m x → b ≡ nat_lt m y → a || b ≡ nat_lt m (max x y)
+either-above m a b x y e f = grind (arith, nat_tests)
+
+left : (a b : Bool) → a || b ≡ false → a ≡ false
+left false b h = refl
+left true b h = cc
+
+right : (a b : Bool) → a || b ≡ false → b ≡ false
+right false b h = h
+right true b h = cc
+
+one-more : (m d : ℕ) → nat_lt m d ≡ nat_lt (m + 1) (d + 1)
+one-more m d = grind (arith, nat_tests)
+
+far-targets : (s : ℕ) (ts : List Target) → list_any is_target_beyond ts ≡ false
+    → list_any is_target_beyond (map (target_at s) ts) ≡ nat_lt most_detectors (greatest_of detectors_to (map (target_at s) ts))
+far-targets s [] h = refl
+far-targets s (Plain n ∷ ts) h =
+    either-above most_detectors _ _ 0 _ (left (is_target_beyond (Plain n)) _ h) (far-targets s ts (right (is_target_beyond (Plain n)) _ h))
+far-targets s (Detector d ∷ ts) h =
+    either-above most_detectors _ _ (d + s + 1) _ (one-more 999_999 (d + s)) (far-targets s ts (right (is_target_beyond (Detector d)) _ h))
+far-targets s (Observable k ∷ ts) h =
+    either-above most_detectors _ _ 0 _ (left (is_target_beyond (Observable k)) _ h) (far-targets s ts (right (is_target_beyond (Observable k)) _ h))
+far-targets s (Separator ∷ ts) h = either-above most_detectors _ _ 0 _ refl (far-targets s ts h)
+
+-- ---- a line as it is reached
+
+coordinates-same : (operation : Operation) (arguments : List (List ℕ)) (offset : List ℤ) → coordinates_from operation (numbers_stated operation arguments) offset ≡ coordinates_given operation arguments offset
+coordinates-same Errs arguments offset = refl
+coordinates-same Detects arguments offset = refl
+coordinates-same Observes arguments offset = refl
+coordinates-same Shifts arguments offset = refl
+
+targets-beyond : (s : Shift) (i : Instruction) (e : Extent) (ns : List ℤ) → IsKnown i e ns
+    → has_target_beyond (placed_at s i).targets ≡ nat_lt most_detectors (count_at s.detectors e.detectors)
+unfolding has_target_beyond
+targets-beyond s i e ns known =
+    far-targets s.detectors i.targets known.within
+    ∙ ap (nat_lt most_detectors) (counted s.detectors i.targets ∙ ap (λ (x : Extent). count_at s.detectors x.detectors) (sym known.extent_is))
+
+pub coordinates-known : (s : Shift) (i : Instruction) (e : Extent) (ns : List ℤ) → IsKnown i e ns
+    → coordinates_from i.operation ns s.offset ≡ (placed_at s i).coordinates
+coordinates-known s i e ns known =
+    ap (λ stated. coordinates_from i.operation stated s.offset) known.numbers_are ∙ coordinates-same i.operation i.arguments s.offset
+
+pub beyond-targets : (s : Shift) (i : Instruction) (e : Extent) (ns : List ℤ) → IsKnown i e ns
+    → nat_lt most_detectors (count_at s.detectors e.detectors) ≡ true → is_beyond (placed_at s i) ≡ true
+beyond-targets s i e ns known far =
+    ap (λ b. b || list_any is_far (placed_at s i).coordinates) (targets-beyond s i e ns known ∙ far)
+
+either-true : (a b : Bool) → b ≡ true → a || b ≡ true
+either-true true b h = refl
+either-true false b h = h
+
+pub beyond-coordinates : (s : Shift) (i : Instruction) (e : Extent) (ns : List ℤ) → IsKnown i e ns
+    → list_any is_far (coordinates_from i.operation ns s.offset) ≡ true → is_beyond (placed_at s i) ≡ true
+beyond-coordinates s i e ns known far =
+    either-true (has_target_beyond (placed_at s i).targets) _ (ap (list_any is_far) (sym (coordinates-known s i e ns known)) ∙ far)
+
+pub within-limits : (s : Shift) (i : Instruction) (e : Extent) (ns : List ℤ) → IsKnown i e ns
+    → nat_lt most_detectors (count_at s.detectors e.detectors) ≡ false → list_any is_far (coordinates_from i.operation ns s.offset) ≡ false → is_beyond (placed_at s i) ≡ false
+within-limits s i e ns known near close =
+    ap (λ b. b || list_any is_far (placed_at s i).coordinates) (targets-beyond s i e ns known ∙ near)
+    ∙ ap (list_any is_far) (sym (coordinates-known s i e ns known))
+    ∙ close
+
+pub detectors-known : (s : Shift) (i : Instruction) (e : Extent) (ns : List ℤ) → IsKnown i e ns
+    → count_at s.detectors e.detectors ≡ greatest_of detectors_to (placed_at s i).targets
+detectors-known s i e ns known =
+    ap (λ (x : Extent). count_at s.detectors x.detectors) known.extent_is ∙ sym (counted s.detectors i.targets)
+
+pub observables-known : (s : Shift) (i : Instruction) (e : Extent) (ns : List ℤ) → IsKnown i e ns
+    → e.observables ≡ greatest_of observables_to (placed_at s i).targets
+observables-known s i e ns known =
+    ap (λ (x : Extent). x.observables) known.extent_is ∙ sym (observables-stay s.detectors i.targets)
+
+-- a line by its place in a table
+pub known-at : (t : Tree) (place : ℕ) (i : Instruction) (extents : List Extent) (numbers : List (List ℤ)) (e : Extent) (ns : List ℤ) → AllFit t → AreTables (items_of t) extents numbers
+    → i ≡ instruction_at (items_of t) place → e ≡ get_or extents place (extent_of no_instruction) → ns ≡ get_or numbers place [] → IsKnown i e ns
+known-at t place i extents numbers e ns fit tables same extent stated =
+    subst (λ (j : Instruction). IsKnown j e ns) (sym same)
+    (record {
+      extent_is =
+          extent
+          ∙ ap (λ xs. get_or xs place (extent_of no_instruction)) tables.extents_are
+          ∙ tabled-at extent_of (items_of t) place;
+      numbers_are =
+          stated
+          ∙ ap (λ (xs : List (List ℤ)). get_or xs place []) tables.numbers_are
+          ∙ tabled-at numbers_of_line (items_of t) place;
+      within = within-at t fit place;
+    })

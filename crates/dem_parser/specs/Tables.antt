@@ -1,0 +1,62 @@
+-- What is worked out once of each line of an error model, however often the line is reached: the greatest detector and
+-- the greatest observable that its own targets name, and the numbers that it states axis by axis. And what these are
+-- where detectors are shifted. (Stim's detector error model format, github.com/quantumlib/Stim,
+-- doc/file_format_dem_detector_error_model.md.)
+use Rattle.std.specs.Prelude.{◌≡◌, ℕ, zero, suc, ◌+◌, false, ℤ, List, [], map, Some}
+use Rattle.stim_parser.specs.Numbers.{whole_value}
+use Rattle.dem_lines.specs.declared.operation.Operation.{Operation}
+use Rattle.dem_lines.specs.declared.operation.Operation.TheVariants.{Detects, Shifts}
+use Rattle.dem_lines.specs.Limits.{has_target_beyond}
+use Rattle.dem_lines.specs.Places.{instruction_of}
+use Rattle.dem_lines.specs.Texts.{Item}
+use Rattle.dem_lines.specs.Verdicts.{Instruction}
+use Rattle.dem_parser.specs.declared.table.Extent.{Extent}
+use Rattle.dem_parser.specs.Meanings.{detectors_to, greatest_of, observables_to}
+use Rattle.dem_parser.specs.Shifts.{moved}
+
+-- ---- what is worked out of an instruction
+
+abbrev pub extent_of : Instruction → Extent
+extent_of i =
+    record { detectors = greatest_of detectors_to i.targets; observables = greatest_of observables_to i.targets }
+
+-- the numbers of a line of this kind: coordinates, or what is added to those of later lines
+abbrev pub numbers_stated : Operation → List (List ℕ) → List ℤ
+numbers_stated Detects arguments = map whole_value arguments
+numbers_stated Shifts arguments = map whole_value arguments
+numbers_stated operation arguments = []
+
+abbrev pub numbers_of_line : Instruction → List ℤ
+numbers_of_line i = numbers_stated i.operation i.arguments
+
+-- these are an instruction's, whose own targets are within their limits
+pub record IsKnown (i : Instruction) (extent : Extent) (numbers : List ℤ) : Type 0 where
+  pub extent_is : extent ≡ extent_of i
+  pub numbers_are : numbers ≡ numbers_of_line i
+  pub within : has_target_beyond i.targets ≡ false
+
+-- ---- the same of all items
+
+-- what is found of each item
+abbrev pub tabled : {X : Type 0} → (Instruction → X) → List Item → List X
+tabled f items = map (λ item. f (instruction_of (Some item))) items
+
+pub record AreTables (items : List Item) (extents : List Extent) (numbers : List (List ℤ)) : Type 0 where
+  pub extents_are : extents ≡ tabled extent_of items
+  pub numbers_are : numbers ≡ tabled numbers_of_line items
+
+-- ---- where detectors are shifted
+
+-- how many detectors there are up to the greatest that is named, where these are shifted; none where none is named
+abbrev pub count_at : ℕ → ℕ → ℕ
+count_at shift zero = 0
+count_at shift (suc n) = suc n + shift
+
+-- how many detectors there may be
+abbrev pub most_detectors : ℕ
+most_detectors = 1_000_000
+
+-- the coordinates that a line of this kind gives, which states these
+abbrev pub coordinates_from : Operation → List ℤ → List ℤ → List ℤ
+coordinates_from Detects stated offset = moved offset stated
+coordinates_from operation stated offset = []
