@@ -7,6 +7,7 @@ use Rattle.step_model.specs.declared.fault.Cause.{Cause}
 use Rattle.stim_lexer.specs.declared.line.Braces.{Braces}
 use Rattle.stim_lexer.specs.declared.line.Braces.TheVariants.{NoBrace, OpeningLast, ClosingAlone, Misplaced}
 use Rattle.stim_lexer.specs.Cut.{Cut}
+use Rattle.block_text.specs.Fitting as fitting
 use Rattle.dem_lines.specs.declared.operation.Keyword.{Keyword}
 use Rattle.dem_lines.specs.declared.operation.Keyword.TheVariants.{Does, Repeats}
 use Rattle.dem_lines.specs.Fitting.{Fits}
@@ -15,10 +16,7 @@ use Rattle.dem_lines.specs.Verdicts.{Reading, Takes, Opens, Closes, Refuses, fir
 
 -- what a line says that stands inside so many open blocks
 abbrev pub ReadingFits : ℕ → Reading → Type 0
-ReadingFits depth (Takes i) = Fits i
-ReadingFits depth (Opens turns) = (0 < turns) × (depth < 32)
-ReadingFits depth Closes = 0 < depth
-ReadingFits depth (Refuses c) = ⊤
+ReadingFits depth reading = fitting.ReadingFits Fits depth reading
 
 -- ---- tests
 

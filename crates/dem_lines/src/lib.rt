@@ -2,11 +2,9 @@
 #![tactic(auto)]
 
 mod blocks;
-mod builder;
 mod checks;
 mod forms;
 mod instruction;
-mod items;
 mod judge;
 pub mod laws;
 mod line_counts;
@@ -17,11 +15,12 @@ mod operation;
 mod parser;
 mod target;
 
+pub use block_text::Said;
 pub use blocks::{LEVELS, OpenBlock};
 pub use checks::{GREATEST_DETECTOR, GREATEST_NUMBER, is_target_beyond};
 pub use forms::TargetForm;
 pub use instruction::Instruction;
-pub use judge::{Last, Said, number_in, read_line};
+pub use judge::{Last, number_in, read_line};
 pub use line_counts::has_many_lines;
 pub use lines::{Item, ModelLines};
 pub use narrow::narrowed;

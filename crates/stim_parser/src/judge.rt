@@ -4,7 +4,8 @@ ghost use Rattle.stim_lexer.specs.Lexing.{cut_in};
 ghost use Rattle.stim_parser.specs.declared.forms.ArgumentForm.TheVariants.{NoArguments};
 ghost use Rattle.stim_parser.specs.Arguments.{arguments_in};
 ghost use Rattle.stim_parser.specs.Instructions.{argument_form, keyword_named, target_form};
-ghost use Rattle.stim_parser.specs.Said.{first_of, reading_in, refusals_of_amounts, refusals_of_arguments};
+ghost use Rattle.block_text.specs.Said.{reading_in};
+ghost use Rattle.stim_parser.specs.Said.{first_of, refusals_of_amounts, refusals_of_arguments};
 ghost use Rattle.stim_parser.specs.Limits.{has_argument_beyond};
 ghost use Rattle.stim_parser.specs.Verdicts.{accepted, closed_at, has_wrong_number, has_wrong_target, judged, misplaces_brace, opens_block, reading_of, read_targets, refusal_of, refusals_of_keyword, takes_none, turns_of};
 
@@ -16,27 +17,10 @@ use crate::names::is_left_out;
 use crate::operation::{Keyword, Operation};
 use crate::target::{Target, read_targets};
 use crate::target_checks::{are_of_form, has_same_qubit, has_target_beyond, has_wrong_count};
+use block_text::{LEVELS, Said};
 use std::alloc::{AllocError, Allocator};
 use step_model::Cause;
 use stim_lexer::{Braces, Line, after_blanks};
-
-/// How many blocks may stand inside one another.
-pub(crate) const DEEPEST: usize = 32;
-
-/// What a line says; the targets of what it takes stand apart.
-#[derive(Clone, Copy)]
-pub(crate) enum Said<'a> {
-    /// An instruction, and what stands in its parentheses.
-    Takes {
-        operation: Operation,
-        arguments: &'a [u8],
-    },
-    /// The start of a block of so many turns.
-    Opens(u64),
-    /// The end of a block.
-    Closes,
-    Refuses(Cause),
-}
 
 /// Whether the braces of a line stand otherwise than its keyword asks.
 fn misplaces_brace(keyword: Option<Keyword>, braces: Braces) -> bool
@@ -215,7 +199,7 @@ fn refusal_of_amounts(
     if opens_block(form) && turns_of(targets) == 0 {
         return Some(Cause::RepeatZero);
     }
-    if opens_block(form) && depth >= DEEPEST {
+    if opens_block(form) && depth >= LEVELS {
         return Some(Cause::Depth);
     }
     None
@@ -244,7 +228,7 @@ fn refusal_of<'a, A: Allocator + Copy>(
 }
 
 /// What a line says that isn't refused.
-fn accepted<'a>(keyword: Keyword, line: Line<'a>, targets: &[Target]) -> Said<'a>
+fn accepted<'a>(keyword: Keyword, line: Line<'a>, targets: &[Target]) -> Said<'a, Operation>
     requires { targets.now ≡ read_targets (target_form keyword) line.targets.now }
     ensures { reading_in line.entry.number result targets.now ≡ accepted line.entry.number (Some keyword) (cut_in line.entry) }
 {
@@ -258,7 +242,7 @@ fn accepted<'a>(keyword: Keyword, line: Line<'a>, targets: &[Target]) -> Said<'a
 }
 
 /// What a line says that closes a block, where so many are open.
-fn closed_at<'a>(depth: usize) -> Said<'a>
+fn closed_at<'a>(depth: usize) -> Said<'a, Operation>
     ensures { (number : ℕ) (targets : List Target) → reading_in number result targets ≡ closed_at depth }
 {
     if depth == 0 {
@@ -274,7 +258,7 @@ fn judged<'a, A: Allocator + Copy>(
     targets: &mut Vec<Target, A>,
     depth: usize,
     line: Line<'a>,
-) -> Result<Said<'a>, AllocError>
+) -> Result<Said<'a, Operation>, AllocError>
     ensures { IfOk result (λ said. reading_in line.entry.number said targets.new.items ≡ judged depth line.entry.number (cut_in line.entry)) }
 {
     let keyword = match keyword_of(&mut last.name, line) {
@@ -295,7 +279,7 @@ pub(crate) fn read_line<'a, A: Allocator + Copy>(
     targets: &mut Vec<Target, A>,
     depth: usize,
     line: Line<'a>,
-) -> Result<Said<'a>, AllocError>
+) -> Result<Said<'a, Operation>, AllocError>
     ensures { IfOk result (λ said. reading_in line.entry.number said targets.new.items ≡ reading_of depth line.entry.number (cut_in line.entry)) }
 {
     match line.braces {

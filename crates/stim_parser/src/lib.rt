@@ -3,7 +3,6 @@
 
 mod argument_checks;
 mod arguments;
-mod builder;
 mod circuit;
 mod coordinates;
 mod decimal;
@@ -11,7 +10,6 @@ mod digits;
 mod forms;
 mod halved;
 mod instruction;
-mod items;
 mod judge;
 mod last;
 pub mod laws;

@@ -1,0 +1,5 @@
+pub mod TreeLemmas
+pub mod TextLemmas
+pub mod PassLemmas
+mod FlatLemmas
+pub mod SaidLemmas
