@@ -3,3 +3,4 @@ pub mod TextLemmas
 pub mod PassLemmas
 mod FlatLemmas
 pub mod SaidLemmas
+pub mod QuestionLemmas

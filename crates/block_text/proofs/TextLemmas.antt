@@ -144,11 +144,13 @@ open_refused {I} format (line ∷ opened) fault h =
     ap refusal same
 
 pub finished_refused : {I : Type 0} (format : Format I) (text : List ℕ) (u : Unfinished I) (left : Unread) → IsReading format text u left → Ok None ≡ next_found left
-    → (fault : Fault) → left_open format.left_open u.opened ≡ Some fault → IsRefusedBy format text fault
-finished_refused format text u left h e fault open_is =
-    still_open format text u left fault h e (open_refused format u.opened fault open_is)
+    → (made : Result (List (Item I)) Fault) → IfErr made (λ fault. left_open format.left_open u.opened ≡ Some fault) → IfErr made (λ fault. (fault ≡ memory_fault) ⊎ IsRefusedBy format text fault)
+finished_refused format text u left h e (Ok items) open_is = tt
+finished_refused format text u left h e (Err fault) open_is =
+    inr (still_open format text u left fault h e (open_refused format u.opened fault open_is))
 
 pub finished_reads : {I : Type 0} (format : Format I) (text : List ℕ) (u : Unfinished I) (left : Unread) → IsReading format text u left → Ok None ≡ next_found left
-    → (items : List (Item I)) → (u.opened ≡ []) × (items ≡ u.items) → items_in format text ≡ Ok items
-finished_reads {I} format text u left h e items made =
+    → (made : Result (List (Item I)) Fault) → IfOk made (λ items. (u.opened ≡ []) × (items ≡ u.items)) → IfOk made (λ items. items_in format text ≡ Ok items)
+finished_reads {I} format text u left h e (Ok items) made =
     whole format text u left h e made.0 ∙ ap (λ (is : List (Item I)). Ok is) (sym made.1)
+finished_reads format text u left h e (Err fault) made = tt

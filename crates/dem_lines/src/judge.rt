@@ -15,26 +15,7 @@ use block_text::{LEVELS, Said};
 use std::alloc::{AllocError, Allocator};
 use step_model::Cause;
 use stim_lexer::{Braces, Line};
-use stim_parser::{
-    LastParentheses, LastProbability, has_wrong_arguments, has_wrong_probability, read_arguments,
-};
-
-/// What was read last: what stood in parentheses, and a probability.
-#[derive(Drop)]
-pub struct Last<'a> {
-    pub parentheses: LastParentheses<'a>,
-    pub probability: LastProbability<'a>,
-}
-
-impl<'a> Last<'a> {
-    /// Those of an empty text.
-    pub fn new() -> Self {
-        Last {
-            parentheses: LastParentheses::new(),
-            probability: LastProbability::new(),
-        }
-    }
-}
+use stim_parser::{Last, has_wrong_arguments, has_wrong_probability, read_arguments};
 
 /// Whether the braces of a line stand otherwise than its keyword asks.
 fn misplaces_brace(keyword: Option<Keyword>, braces: Braces) -> bool

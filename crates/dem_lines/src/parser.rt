@@ -1,32 +1,36 @@
 ghost use Rattle.std.specs.Prelude.{◌≡◌, ◌⊎◌, IfOk, IfErr};
 ghost use Rattle.step_model.specs.Faults.{memory_fault};
-ghost use Rattle.stim_lexer.specs.Lexing.{cut_in};
-ghost use Rattle.block_text.specs.Unfinished.{after_line, cause_in, reading_at};
 ghost use Rattle.dem_lines.specs.Texts.{models};
 ghost use Rattle.dem_lines.specs.Trees.{Writes, IsRefusedBy};
 
-use crate::judge::{Last, read_line};
+use crate::judge::read_line;
 use crate::lines::ModelLines;
 use crate::operation::Operation;
 use crate::target::Target;
-use block_text::Builder;
+use block_text::Said;
 use std::alloc::{AllocError, Allocator};
 use step_model::{Cause, Fault};
-use stim_lexer::{Lexer, Line};
+use stim_lexer::Line;
+use stim_parser::{Judge, Last, read_items};
 
-/// Reads a line behind those that were read. Answers why it is refused, where it is.
-fn read_next<'a, A: Allocator + Copy>(
-    builder: &mut Builder<'a, Operation, Target, A>,
-    last: &mut Last<'a>,
-    targets: &mut Vec<Target, A>,
-    line: Line<'a>,
-) -> Result<Option<Cause>, AllocError>
-    ensures refused { IfOk result (λ refused. refused ≡ cause_in (reading_at models builder.old line.entry.number (cut_in line.entry))) }
-    ensures after { IfOk result (λ refused. builder.new ≡ after_line line.entry.number (reading_at models builder.old line.entry.number (cut_in line.entry)) builder.old) }
-{
-    let number = line.number;
-    let said = read_line(last, targets, builder.depth(), line)?;
-    builder.take(number, said, targets.as_slice())
+/// The judge of an error model's lines.
+struct ModelJudge;
+
+impl Judge<Operation, Target> for ModelJudge {
+    ghost format = { models };
+
+    fn read_line<'a, A: Allocator + Copy>(
+        last: &mut Last<'a>,
+        targets: &mut Vec<Target, A>,
+        depth: usize,
+        line: Line<'a>,
+    ) -> Result<Said<'a, Operation>, AllocError> {
+        read_line(last, targets, depth, line)
+    }
+
+    fn left_open() -> Cause {
+        Cause::DemBlock
+    }
 }
 
 /// The error model that a text writes, or the first refusal of its lines. Memory is refused only where it runs out.
@@ -34,23 +38,6 @@ pub fn parse<'a, A: Allocator + Copy>(alloc: A, text: &'a [u8]) -> Result<ModelL
     ensures ok { IfOk result (λ model. Writes text.now model) }
     ensures err { IfErr result (λ fault. (fault ≡ memory_fault) ⊎ IsRefusedBy text.now fault) }
 {
-    let mut lexer = Lexer::new(text);
-    let mut builder = Builder::new(alloc);
-    let mut last = Last::new();
-    let mut targets = Vec::new(alloc);
-    while let Some(line) = lexer.next_line()? {
-        let number = line.number;
-        match read_next(&mut builder, &mut last, &mut targets, line) {
-            Ok(None) => {}
-            Ok(Some(cause)) => {
-                return Err(Fault {
-                    cause,
-                    line: number,
-                });
-            }
-            Err(_) => return Err(Fault::MEMORY),
-        }
-    }
-    let items = builder.finish(Cause::DemBlock)?;
+    let items = read_items::<Operation, Target, ModelJudge, A>(alloc, text)?;
     Ok(ModelLines::new(items))
 }

@@ -4,6 +4,7 @@
 mod build;
 mod counts;
 mod flips;
+pub mod laws;
 mod marks;
 mod placed;
 mod placed_model;
@@ -14,7 +15,7 @@ mod shifts;
 mod sums;
 
 pub use counts::{TargetCounts, is_error, raised, raised_to};
-pub use dem_lines::{Instruction, Item, ModelLines, Operation, Target, laws, parse};
+pub use dem_lines::{Instruction, Item, ModelLines, Operation, Target, parse};
 pub use placed_model::{PlacedModel, named_end, turn_targets};
 pub use reader::{place, read, read_lines};
 pub use sums::{no_bits, symptom};

@@ -12,7 +12,7 @@ ghost use Rattle.stim_parser.specs.Verdicts.{accepted, closed_at, has_wrong_numb
 use crate::argument_checks::{has_argument_beyond, has_wrong_arguments, has_wrong_probability};
 use crate::arguments::read_arguments;
 use crate::forms::{ArgumentForm, TargetForm, argument_form, target_form};
-use crate::last::{LastName, LastParentheses, LastProbability};
+use crate::last::{Last, LastName};
 use crate::names::is_left_out;
 use crate::operation::{Keyword, Operation};
 use crate::target::{Target, read_targets};
@@ -29,25 +29,6 @@ fn misplaces_brace(keyword: Option<Keyword>, braces: Braces) -> bool
     match keyword {
         Some(Keyword::Repeats) => !matches!(braces, Braces::OpeningLast),
         _ => !matches!(braces, Braces::NoBrace),
-    }
-}
-
-/// What was read last: a name, what stood in parentheses, and a probability.
-#[derive(Drop)]
-pub(crate) struct Last<'a> {
-    pub name: LastName<'a>,
-    pub parentheses: LastParentheses<'a>,
-    pub probability: LastProbability<'a>,
-}
-
-impl<'a> Last<'a> {
-    /// Those of an empty text.
-    pub(crate) fn new() -> Self {
-        Last {
-            name: LastName::new(),
-            parentheses: LastParentheses::new(),
-            probability: LastProbability::new(),
-        }
     }
 }
 
