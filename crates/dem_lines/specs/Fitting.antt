@@ -1,13 +1,14 @@
 -- What holds of an error model's tree: each instruction has the arguments and targets that its name takes, each block
 -- has at least one turn, and blocks are nested no deeper than the limit. (Stim's detector error model format,
 -- github.com/quantumlib/Stim, doc/file_format_dem_detector_error_model.md; the limits are this project's.)
-use Rattle.std.specs.Prelude.{⊤, ◌≡◌, ◌<◌, ◌≤◌, ℕ, suc, max, false, true}
+use Rattle.std.specs.Prelude.{◌≡◌, ℕ, false, true}
 use Rattle.stim_parser.specs.Limits.{has_wrong_arguments, has_wrong_probability}
+use Rattle.block_text.specs.Fitting as fitting
 use Rattle.dem_lines.specs.declared.operation.Keyword.TheVariants.{Does}
 use Rattle.dem_lines.specs.Instructions.{argument_form, target_form}
 use Rattle.dem_lines.specs.Limits.{has_coordinate_beyond, are_of_form, has_target_beyond}
-use Rattle.dem_lines.specs.Trees.{Tree, Nothing, Then, Block}
-use Rattle.dem_lines.specs.Verdicts.{Instruction, deepest}
+use Rattle.dem_lines.specs.Trees.{Tree}
+use Rattle.dem_lines.specs.Verdicts.{Instruction}
 
 -- an instruction with arguments and targets as it takes them
 pub record Fits (i : Instruction) : Type 0 where
@@ -19,17 +20,12 @@ pub record Fits (i : Instruction) : Type 0 where
 
 -- how deep blocks are nested
 abbrev pub depth : Tree → ℕ
-depth Nothing = 0
-depth (Then instruction rest) = depth rest
-depth (Block line turns body rest) = max (suc (depth body)) (depth rest)
+depth tree = fitting.depth tree
 
 -- in a tree each instruction fits, and each block has a turn
 abbrev pub AllFit : Tree → Type 0
-AllFit Nothing = ⊤
-AllFit (Then instruction rest) = Fits instruction × AllFit rest
-AllFit (Block line turns body rest) = (0 < turns) × AllFit body × AllFit rest
+AllFit tree = fitting.AllFit Fits tree
 
--- a tree that is an error model
-pub record IsAccepted (tree : Tree) : Type 0 where
-  pub fit : AllFit tree
-  pub shallow : depth tree ≤ deepest
+-- each instruction fits, each block has a turn, and no more blocks stand inside one another than may
+abbrev pub IsAccepted : Tree → Type 0
+IsAccepted tree = fitting.IsBuilt Fits tree

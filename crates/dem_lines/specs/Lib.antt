@@ -2,13 +2,11 @@ pub mod Targets
 pub mod Instructions
 pub mod Limits
 pub mod Verdicts
-pub mod Said
 pub mod Texts
 pub mod Trees
 pub mod Fitting
 pub mod Flat
 pub mod Places
-pub mod Unfinished
 pub mod Reached
 pub mod Passes
 pub mod LineCounts

@@ -1,42 +1,18 @@
--- A pass over the text of an error model: a state, which each instruction changes. At the end of a block the state
--- after all its turns is made from the state before the block and the state after its first turn. So a pass goes over
--- each instruction once, however often the blocks around it are repeated. (Stim's detector error model format,
--- github.com/quantumlib/Stim, doc/file_format_dem_detector_error_model.md, "repeat".)
-use Rattle.std.specs.Prelude.{◌≡◌, ◌<◌, ℕ, List, [], ◌∷◌, ◌++◌}
+-- A pass over an error model as its text stands: a state that each instruction changes, and that each end of a block
+-- changes by the block's turns, from the state before the block and the state behind its first turn. So a pass goes over
+-- each instruction once, whatever the turns of the blocks round it.
+-- (Stim's detector error model format, github.com/quantumlib/Stim, doc/file_format_dem_detector_error_model.md,
+-- "repeat".)
+use Rattle.std.specs.Prelude.{ℕ}
+use Rattle.block_text.specs.Passes as passes
+pub use Rattle.block_text.specs.Passes.{HasClosed, Passes, behind, opened}
 use Rattle.dem_lines.specs.Fitting.{Fits}
-use Rattle.dem_lines.specs.Texts.{Item, Does, Begins, Ends}
-use Rattle.dem_lines.specs.Trees.{Tree, Nothing, Then, Block}
+use Rattle.dem_lines.specs.Texts.{Item}
 use Rattle.dem_lines.specs.Verdicts.{Instruction}
-use Rattle.dem_lines.specs.declared.blocks.OpenBlock.{OpenBlock}
 
-pub record Pass (S : Type 0) : Type 0 where
-  pub step : Instruction → S → S
-  -- the number of turns, the state before the block, and the state after its first turn
-  pub close : ℕ → S → S → S
-
--- the state after a tree
-abbrev pub behind : {S : Type 0} → Pass S → Tree → S → S
-behind pass Nothing s = s
-behind pass (Then i rest) s = behind pass rest (pass.step i s)
-behind pass (Block line turns body rest) s = behind pass rest (pass.close turns s (behind pass body s))
-
-abbrev pub opened : {S : Type 0} → ℕ → S → OpenBlock S
-opened turns s = record { turns = turns; before = s }
+abbrev pub Pass : Type 0 → Type 0
+Pass S = passes.Pass Instruction S
 
 -- an item can stand where this many blocks are open
 abbrev pub CanStand : Item → ℕ → Type 0
-CanStand (Does i) depth = Fits i
-CanStand (Begins line turns) depth = (0 < turns) × (depth < 32)
-CanStand Ends depth = 0 < depth
-
--- the innermost block is closed, and its turns are over
-pub record HasClosed {S : Type 0} (pass : Pass S) (s : S) (blocks : List (OpenBlock S)) (s' : S) (blocks' : List (OpenBlock S)) : Type 0 where
-  pub last : OpenBlock S
-  pub open_is : blocks ≡ blocks' ++ last ∷ []
-  pub state_is : s' ≡ pass.close last.turns last.before s
-
--- what an item does to the state and to the open blocks, the outermost first
-abbrev pub Passes : {S : Type 0} → Pass S → Item → S → List (OpenBlock S) → S → List (OpenBlock S) → Type 0
-Passes pass (Does i) s blocks s' blocks' = (s' ≡ pass.step i s) × (blocks' ≡ blocks)
-Passes pass (Begins line turns) s blocks s' blocks' = (s' ≡ s) × (blocks' ≡ blocks ++ opened turns s ∷ [])
-Passes pass Ends s blocks s' blocks' = HasClosed pass s blocks s' blocks'
+CanStand item depth = passes.CanStand Fits item depth

@@ -19,6 +19,10 @@ use Rattle.stim_lexer.specs.Cut.{Cut}
 use Rattle.stim_parser.specs.Arguments.{arguments_in}
 use Rattle.stim_parser.specs.Limits.{has_wrong_arguments, has_wrong_probability}
 use Rattle.stim_parser.specs.Verdicts.{is_no_brace, is_opening_last}
+use Rattle.block_text.specs.Instructions as lines
+use Rattle.block_text.specs.Texts as text
+pub use Rattle.block_text.specs.Fitting.{deepest}
+pub use Rattle.block_text.specs.Texts.{Takes, Opens, Closes, Refuses}
 use Rattle.dem_lines.specs.declared.forms.TargetForm.{TargetForm}
 use Rattle.dem_lines.specs.declared.operation.Keyword.{Keyword}
 use Rattle.dem_lines.specs.declared.operation.Keyword.TheVariants.{Does, Repeats}
@@ -57,10 +61,6 @@ opens_block keyword = false
 
 abbrev pub repeats_zero_times : Keyword → List ℕ → Bool
 repeats_zero_times keyword text = opens_block keyword && number_in (read_targets text) == 0
-
--- how many blocks may be open
-abbrev pub deepest : ℕ
-deepest = 32
 
 abbrev pub opens_too_deep : ℕ → Keyword → Bool
 opens_too_deep depth keyword = opens_block keyword && nat_le deepest depth
@@ -111,19 +111,12 @@ refusal_of depth cut = first_of (refusals depth cut)
 
 -- ---- what a line says
 
--- an instruction: the number of its line, what it says, its arguments as they stood, and its targets
-pub record Instruction : Type 0 where
-  pub line : ℕ
-  pub operation : Operation
-  pub arguments : List (List ℕ)
-  pub targets : List Target
+-- an instruction of a line, and what a line says
+abbrev pub Instruction : Type 0
+Instruction = lines.Instruction Operation Target
 
--- an instruction; the start of a block of this many turns; the end of a block; or a refusal
-pub data Reading : Type 0 where
-  Takes : Instruction → Reading
-  Opens : ℕ → Reading
-  Closes : Reading
-  Refuses : Cause → Reading
+abbrev pub Reading : Type 0
+Reading = text.Reading Instruction
 
 -- what an accepted line says
 abbrev pub accepted : ℕ → Option Keyword → Cut → Reading

@@ -3,7 +3,7 @@ ghost use Rattle.stim_lexer.specs.Lexing.{cut_in};
 ghost use Rattle.stim_parser.specs.Arguments.{arguments_in};
 ghost use Rattle.dem_lines.specs.Instructions.{argument_form, keyword_named, target_form};
 ghost use Rattle.dem_lines.specs.Limits.{has_coordinate_beyond};
-ghost use Rattle.dem_lines.specs.Said.{reading_in};
+ghost use Rattle.block_text.specs.Said.{reading_in};
 ghost use Rattle.dem_lines.specs.Verdicts.{accepted, closed_at, first_of, has_wrong_target, judged, misplaces_brace, number_in, opens_block, reading_of, read_targets, refusal_of, refusals_of_amounts, refusals_of_keyword, refuses_arguments};
 
 use crate::checks::{are_of_form, has_coordinate_beyond, has_target_beyond};
@@ -11,47 +11,11 @@ use crate::forms::{TargetForm, argument_form, target_form};
 use crate::names::keyword_named;
 use crate::operation::{Keyword, Operation};
 use crate::target::{Target, read_targets};
+use block_text::{LEVELS, Said};
 use std::alloc::{AllocError, Allocator};
 use step_model::Cause;
 use stim_lexer::{Braces, Line};
-use stim_parser::{
-    LastParentheses, LastProbability, has_wrong_arguments, has_wrong_probability, read_arguments,
-};
-
-/// How many blocks may stand inside one another.
-pub(crate) const DEEPEST: usize = 32;
-
-/// What a line says; the targets of an instruction are kept apart.
-#[derive(Clone, Copy)]
-pub enum Said<'a> {
-    /// An instruction, and what stands in its parentheses.
-    Takes {
-        operation: Operation,
-        arguments: &'a [u8],
-    },
-    /// The start of a block of this many turns.
-    Opens(u64),
-    /// The end of a block.
-    Closes,
-    Refuses(Cause),
-}
-
-/// What was read last: what stood in parentheses, and a probability.
-#[derive(Drop)]
-pub struct Last<'a> {
-    pub parentheses: LastParentheses<'a>,
-    pub probability: LastProbability<'a>,
-}
-
-impl<'a> Last<'a> {
-    /// Those of an empty text.
-    pub fn new() -> Self {
-        Last {
-            parentheses: LastParentheses::new(),
-            probability: LastProbability::new(),
-        }
-    }
-}
+use stim_parser::{Last, has_wrong_arguments, has_wrong_probability, read_arguments};
 
 /// Whether the braces of a line aren't those that its keyword asks for.
 fn misplaces_brace(keyword: Option<Keyword>, braces: Braces) -> bool
@@ -166,7 +130,7 @@ fn refusal_of_amounts(
     if opens_block(keyword) && number_in(targets) == 0 {
         return Some(Cause::DemRepeatZero);
     }
-    if opens_block(keyword) && depth >= DEEPEST {
+    if opens_block(keyword) && depth >= LEVELS {
         return Some(Cause::DemDepth);
     }
     None
@@ -194,7 +158,7 @@ fn refusal_of<'a, A: Allocator + Copy>(
 }
 
 /// What a line says that isn't refused.
-fn accepted<'a>(keyword: Keyword, line: Line<'a>, targets: &[Target]) -> Said<'a>
+fn accepted<'a>(keyword: Keyword, line: Line<'a>, targets: &[Target]) -> Said<'a, Operation>
     requires { targets.now ≡ read_targets line.targets.now }
     ensures { reading_in line.entry.number result targets.now ≡ accepted line.entry.number (Some keyword) (cut_in line.entry) }
 {
@@ -207,8 +171,8 @@ fn accepted<'a>(keyword: Keyword, line: Line<'a>, targets: &[Target]) -> Said<'a
     }
 }
 
-/// What a line of `}` alone says, where `depth` blocks are open.
-fn closed_at<'a>(depth: usize) -> Said<'a>
+/// What a line says that closes a block, where so many are open.
+fn closed_at<'a>(depth: usize) -> Said<'a, Operation>
     ensures { (number : ℕ) (targets : List Target) → reading_in number result targets ≡ closed_at depth }
 {
     if depth == 0 {
@@ -224,7 +188,7 @@ fn judged<'a, A: Allocator + Copy>(
     targets: &mut Vec<Target, A>,
     depth: usize,
     line: Line<'a>,
-) -> Result<Said<'a>, AllocError>
+) -> Result<Said<'a, Operation>, AllocError>
     ensures { IfOk result (λ said. reading_in line.entry.number said targets.new.items ≡ judged depth line.entry.number (cut_in line.entry)) }
 {
     let keyword = match keyword_of(line) {
@@ -245,7 +209,7 @@ pub fn read_line<'a, A: Allocator + Copy>(
     targets: &mut Vec<Target, A>,
     depth: usize,
     line: Line<'a>,
-) -> Result<Said<'a>, AllocError>
+) -> Result<Said<'a, Operation>, AllocError>
     ensures { IfOk result (λ said. reading_in line.entry.number said targets.new.items ≡ reading_of depth line.entry.number (cut_in line.entry)) }
 {
     match line.braces {

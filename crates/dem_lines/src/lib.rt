@@ -1,12 +1,9 @@
 //! The lines of an error model's text, each judged, with the blocks that they make, or why the text is refused.
 #![tactic(auto)]
 
-mod blocks;
-mod builder;
 mod checks;
 mod forms;
 mod instruction;
-mod items;
 mod judge;
 pub mod laws;
 mod line_counts;
@@ -17,14 +14,15 @@ mod operation;
 mod parser;
 mod target;
 
-pub use blocks::{LEVELS, OpenBlock};
+pub use block_text::{LEVELS, OpenBlock, Said};
 pub use checks::{GREATEST_DETECTOR, GREATEST_NUMBER, is_target_beyond};
 pub use forms::TargetForm;
 pub use instruction::Instruction;
-pub use judge::{Last, Said, number_in, read_line};
+pub use judge::{number_in, read_line};
 pub use line_counts::has_many_lines;
 pub use lines::{Item, ModelLines};
 pub use narrow::narrowed;
 pub use operation::{Keyword, Operation};
 pub use parser::parse;
+pub use stim_parser::Last;
 pub use target::{Target, read_targets};

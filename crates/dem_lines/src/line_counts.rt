@@ -5,9 +5,9 @@ ghost use Rattle.dem_lines.specs.LineCounts.{counting, counts_repeated, repeated
 ghost use Rattle.dem_lines.specs.Reached.{has_many_lines};
 ghost use Rattle.dem_lines.specs.Passes.{CanStand, Passes};
 
-use crate::blocks::{LEVELS, OpenBlock};
 use crate::lines::{Item, ModelLines};
 use arrayvec::ArrayVec;
+use block_text::{LEVELS, OpenBlock};
 use std::alloc::Allocator;
 
 /// How many lines blocks may unroll to.

@@ -5,8 +5,9 @@ ghost use Rattle.dem_lines.specs.Places.{instruction_at, instruction_of};
 ghost use Rattle.dem_lines.specs.Trees.{items_of};
 
 use crate::instruction::Instruction;
-use crate::items::Items;
 use crate::operation::Operation;
+use crate::target::Target;
+use block_text::Items;
 use std::alloc::Allocator;
 use std::marker::Model;
 
@@ -22,7 +23,7 @@ pub enum Item<'c, 'a> {
 /// An error model as its text writes it, its blocks among its instructions.
 #[derive(Drop)]
 pub struct ModelLines<'a, A: Allocator + Copy> {
-    items: Items<'a, A>,
+    items: Items<'a, Operation, Target, A>,
 }
 
 impl<'a, A: Allocator + Copy> Model for ModelLines<'a, A> {
@@ -56,7 +57,7 @@ fn instruction_of<'c, 'a>(found: Option<Item<'c, 'a>>) -> Instruction<'c, 'a>
 
 impl<'a, A: Allocator + Copy> ModelLines<'a, A> {
     /// The model of these items.
-    pub(crate) fn new(items: Items<'a, A>) -> Self
+    pub(crate) fn new(items: Items<'a, Operation, Target, A>) -> Self
         requires { IsWritten items }
         ensures { items_of result ≡ items.entry }
     {
@@ -84,7 +85,16 @@ impl<'a, A: Allocator + Copy> ModelLines<'a, A> {
         requires { i < length (items_of self.now) }
         ensures { Some (item_in result) ≡ slice_get (items_of self.now) i }
     {
-        self.items.get(i)
+        match self.items.get(i) {
+            block_text::Item::Does(instruction) => Item::Does(Instruction {
+                line: instruction.line,
+                operation: instruction.operation,
+                arguments: instruction.arguments,
+                targets: instruction.targets,
+            }),
+            block_text::Item::Begins { line, turns } => Item::Begins { line, turns },
+            block_text::Item::Ends => Item::Ends,
+        }
     }
 
     /// The item at a place, where there is one.

@@ -3,7 +3,7 @@ use Rattle.std.proofs.Common.{◌≡◌, ℕ, zero, suc, ◌+◌, ◌-◌, ◌<�
 use Rattle.std.specs.Prelude.{slice_get, slice_range}
 use Rattle.std.proofs.lemmas.List.{reverse-append, drop_all, drop-append-le, drop-map, length-map, map-append, take-append-le, take_all}
 use Rattle.std.proofs.Math.Seq.{drop-append_seam}
-use Rattle.dem_lines.specs.declared.blocks.OpenBlock.{OpenBlock}
+use Rattle.block_text.specs.declared.blocks.OpenBlock.{OpenBlock}
 use Rattle.dem_lines.specs.Fitting.{AllFit, IsAccepted}
 use Rattle.dem_parser.specs.Gathered.{Finds, HasEnded, Gathers, instructions_at}
 use Rattle.dem_lines.specs.Places.{instruction_at, instruction_of}

@@ -51,6 +51,9 @@ whole-model t lines m e near same is =
 pub written-model : (text : List ℕ) (t : Tree) → Writes text t → model_in text ≡ model_of_tree t
 written-model text t w = ap model_of_items w ∙ ap (λ u. model_of_tree u) (tree_of-items t)
 
+pub refused-text : (text : List ℕ) (f : Fault) → IsRefusedBy text f → model_in text ≡ Err f
+refused-text text f r = ap model_of_items r
+
 pub read-model : (text : List ℕ) (t : Tree) (m : ErrorModel) → Writes text t → model_of_tree t ≡ Ok m → model_in text ≡ Ok m
 read-model text t m w e = written-model text t w ∙ e
 
@@ -60,4 +63,4 @@ refused-model text t f w (inr r) = inr (written-model text t w ∙ r)
 
 pub refused-lines : (text : List ℕ) (f : Fault) → (f ≡ memory_fault) ⊎ IsRefusedBy text f → (f ≡ memory_fault) ⊎ (model_in text ≡ Err f)
 refused-lines text f (inl m) = inl m
-refused-lines text f (inr r) = inr (ap model_of_items r)
+refused-lines text f (inr r) = inr (refused-text text f r)

@@ -13,7 +13,7 @@ use Rattle.dem_parser.specs.Models.{model_in}
 use Rattle.dem_lines.specs.Reached.{lines_inside, block_lines}
 use Rattle.dem_parser.specs.Shifts.{placed_from}
 use Rattle.dem_lines.specs.Targets.{target_of, targets_in}
-use Rattle.dem_lines.specs.Texts.{items_from}
+use Rattle.block_text.specs.Texts.{items_from}
 use Rattle.dem_lines.specs.Verdicts.{refusal_of, judged, reading_of}
 
 nothing : model_in (codes "") ≡ Ok (record { lines = []; coordinates = []; detectors = 0; observables = 0 })

@@ -2,7 +2,7 @@
 -- a block what its first turn gave is appended once for each later turn. (Stim's detector error model format,
 -- github.com/quantumlib/Stim, doc/file_format_dem_detector_error_model.md, "repeat".)
 use Rattle.std.specs.Prelude.{◌≡◌, ◌-◌, ℕ, List, [], ◌∷◌, ◌++◌, Some, drop, length, map}
-use Rattle.dem_lines.specs.declared.blocks.OpenBlock.{OpenBlock}
+use Rattle.block_text.specs.declared.blocks.OpenBlock.{OpenBlock}
 use Rattle.dem_lines.specs.Passes.{opened}
 use Rattle.dem_lines.specs.Places.{instruction_at, instruction_of}
 use Rattle.dem_lines.specs.Reached.{copies}

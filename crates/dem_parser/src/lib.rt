@@ -6,6 +6,7 @@ mod coordinates;
 mod counts;
 mod flips;
 mod judging;
+pub mod laws;
 mod marks;
 mod placed_model;
 mod reached;
@@ -15,7 +16,7 @@ mod sums;
 mod table;
 
 pub use counts::{TargetCounts, is_error, raised, raised_to};
-pub use dem_lines::{Instruction, Item, ModelLines, Operation, Target, laws, parse};
+pub use dem_lines::{Instruction, Item, ModelLines, Operation, Target, parse};
 pub use placed_model::{PlacedModel, named_end, turn_targets};
 pub use reader::{place, read, read_lines};
 pub use sums::{no_bits, symptom};

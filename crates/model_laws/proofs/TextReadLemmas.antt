@@ -6,6 +6,7 @@ use Rattle.std.proofs.lemmas.Bool.{or_from, or_parts}
 use Rattle.stim_lexer.specs.Cut.{cut_of}
 use Rattle.stim_lexer.specs.Lines.{lines_of}
 use Rattle.stim_parser.specs.Numbers.{is_number_beyond, has_minus, magnitude_of, whole_value}
+use Rattle.block_text.specs.Texts as lines
 use Rattle.dem_lines.specs.declared.operation.Operation.{Operation}
 use Rattle.dem_lines.specs.declared.operation.Operation.TheVariants.{Errs, Detects, Observes, Shifts}
 use Rattle.dem_lines.specs.declared.target.Target.{Target}
@@ -78,14 +79,14 @@ line_reads number i h =
 
 next_item : (read : ℕ) (i : Instruction) (lines : List (List ℕ)) → CanStand i
     → items_from [] read (instruction_line i.operation i.arguments i.targets ∷ lines) ≡ before (Does (at_line (read + 1) i)) (items_from [] (read + 1) lines)
-unfolding items_from
+unfolding lines.items_from
 next_item read i lines h =
     let k = targets_are_words i.targets h.fits.targets_within in
     rw (says_something i.operation i.arguments i.targets h.words k, has_no_bad_byte i.operation i.arguments i.targets h.words k, line_reads (read + 1) i h)
     refl
 
 no_items : (read : ℕ) → items_from [] read (lines_of []) ≡ Ok []
-unfolding items_from lines_of
+unfolding lines.items_from lines_of
 no_items read = refl
 
 items_read : (read : ℕ) (instructions : List Instruction) → AllCanStand instructions → items_from [] read (lines_of (text_of instructions)) ≡ Ok (map Does (numbered read instructions))

@@ -14,6 +14,7 @@ use Rattle.stim_lexer.specs.Cut.{Cut, cut_of, has_bad_byte}
 use Rattle.stim_lexer.specs.Lexing.{Numbered, Unread, after_silent, next_found}
 use Rattle.stim_lexer.specs.Lines.{lines_of, says_nothing}
 use Rattle.stim_lexer.proofs.ScanLemmas.{lines_of-cut, lines_of-none, list_any-from_first}
+use Rattle.block_text.specs.Texts as lines
 use Rattle.dem_lines.specs.declared.operation.Keyword.{Keyword}
 use Rattle.dem_lines.specs.declared.operation.Keyword.TheVariants.{Does as keyword_Does, Repeats}
 use Rattle.plain_models.specs.declared.plain_reader.Step.TheVariants as step
@@ -26,7 +27,7 @@ use Rattle.dem_lines.specs.Texts.{Item, Does, before, items_from, items_in, line
 use Rattle.dem_lines.specs.Verdicts.{Instruction, Reading, Takes, Opens, Closes, Refuses, accepted, closed_at, judged, read_targets, reading_of, refusal_of, said_by, unless_refused}
 use Rattle.plain_models.proofs.ChainLemmas.{AllStill, chain_means, items_of-then_all}
 use Rattle.plain_models.proofs.TallyLemmas.{model-tallied, tally-more, tally_from, whole-tallied}
-use Rattle.dem_lines.proofs.TextLemmas.{after, after-append, after-err, after-ok}
+use Rattle.block_text.proofs.TextLemmas.{after, after-append, after-err, after-ok}
 
 -- ---- one line
 
@@ -159,17 +160,17 @@ still-more [] i h k = k
 still-more (j ∷ is) i h k = (h.0, still-more is i h.1 k)
 
 silent_next : (read : ℕ) (line : List ℕ) (lines : List (List ℕ)) → says_nothing line ≡ true → items_from [] read (line ∷ lines) ≡ items_from [] (read + 1) lines
-unfolding items_from
+unfolding lines.items_from
 silent_next read line lines silent = rw silent refl
 
 taken_next : (read : ℕ) (line : List ℕ) (lines : List (List ℕ)) (i : Instruction) → says_nothing line ≡ false → line_reading [] (read + 1) line ≡ Takes i
     → items_from [] read (line ∷ lines) ≡ before (Does i) (items_from [] (read + 1) lines)
-unfolding items_from
+unfolding lines.items_from
 taken_next read line lines i speaks taken = rw (speaks, taken) refl
 
 refused_next : (read : ℕ) (line : List ℕ) (lines : List (List ℕ)) (c : Cause) → says_nothing line ≡ false → line_reading [] (read + 1) line ≡ Refuses c
     → items_from [] read (line ∷ lines) ≡ Err (refused c (read + 1))
-unfolding items_from
+unfolding lines.items_from
 refused_next read line lines c speaks taken = rw (speaks, taken) refl
 
 silent_on : (text : List ℕ) (t t' : Tally) (read : ℕ) (line : List ℕ) (lines : List (List ℕ)) → IsPlain text t read (line ∷ lines)
@@ -222,7 +223,7 @@ plain-refused text t read next all lines line c h e n k =
     ∙ ap (λ (m : ℕ). Err (refused c m)) (sym n)
 
 no_items : (read : ℕ) → items_from [] read [] ≡ Ok []
-unfolding items_from
+unfolding lines.items_from
 no_items read = refl
 
 pub plain-means : (text : List ℕ) (t : Tally) (read : ℕ) (lines : List (List ℕ)) → IsPlain text t read lines → lines ≡ [] → stripped_or (model_in text) ≡ Ok (model_tallied t)

@@ -7,6 +7,8 @@ use Rattle.step_model.specs.declared.fault.Cause.{Cause}
 use Rattle.stim_lexer.specs.declared.line.Braces.{Braces}
 use Rattle.stim_lexer.specs.declared.line.Braces.TheVariants.{NoBrace, OpeningLast, ClosingAlone, Misplaced}
 use Rattle.stim_lexer.specs.Cut.{Cut}
+use Rattle.block_text.specs.Fitting as fitting
+use Rattle.block_text.proofs.QuestionLemmas.{NoneApplies, neither, none_applies, not_deep, not_not, not_zero}
 use Rattle.stim_parser.specs.declared.operation.Keyword.{Keyword}
 use Rattle.stim_parser.specs.declared.operation.Keyword.TheVariants.{Does, Repeats}
 use Rattle.stim_parser.specs.Circuits.{Fits}
@@ -16,37 +18,7 @@ use Rattle.stim_parser.proofs.WrittenLemmas.{keyword_is_written, keyword_written
 
 -- what a line says that stands inside so many open blocks
 abbrev pub ReadingFits : ℕ → Reading → Type 0
-ReadingFits depth (Takes i) = Fits i
-ReadingFits depth (Opens turns) = (0 < turns) × (depth < 32)
-ReadingFits depth Closes = 0 < depth
-ReadingFits depth (Refuses c) = ⊤
-
--- ---- tests
-
-neither : (a b : Bool) → (a || b) ≡ false → (a ≡ false) × (b ≡ false)
-neither true b h = absurd (true≢false h)
-neither false b h = (refl, h)
-
-not_not : (b : Bool) → not b ≡ false → b ≡ true
-not_not true h = refl
-not_not false h = absurd (true≢false h)
-
--- ---- questions
-
-abbrev NoneApplies : List (Bool × Cause) → Type 0
-NoneApplies [] = ⊤
-NoneApplies (asked ∷ rest) = (asked.0 ≡ false) × NoneApplies rest
-
-none_applies : (asked : List (Bool × Cause)) → option_map (λ (a : Bool × Cause). a.1) (find (λ a. a.0) asked) ≡ None → NoneApplies asked
-none_applies [] h = tt
-none_applies ((true, c) ∷ rest) h = absurd (cc)
-none_applies ((false, c) ∷ rest) h = (refl, none_applies rest h)
-
-not_zero : (n : ℕ) → (n == 0) ≡ false → 0 < n
-not_zero n h = grind arith
-
-not_deep : (n : ℕ) → nat_le 32 n ≡ false → n < 32
-not_deep n h = grind arith
+ReadingFits depth reading = fitting.ReadingFits Fits depth reading
 
 keyword_fits : (depth number : ℕ) (keyword : Keyword) (cut : Cut) → keyword_is_written keyword ≡ true → NoneApplies (refusals_of_keyword depth keyword cut) → ReadingFits depth (accepted number (Some keyword) cut)
 keyword_fits depth number Repeats cut w h = (not_zero _ h.1.1.1.1.1.1.0, not_deep _ h.1.1.1.1.1.1.1.0)

@@ -6,10 +6,8 @@ mod NameLemmas
 mod PieceLemmas
 mod TargetLemmas
 mod SignificantLemmas
-mod FlatLemmas
 mod FitLemmas
 mod TreeLemmas
-mod TextLemmas
 mod CoordinateLemmas
 mod WrittenLemmas
 pub mod TargetNumbers

@@ -1,9 +1,9 @@
--- What holds of a circuit's tree: each instruction has the arguments and targets that its operation takes, each block
--- has at least one turn, and blocks are nested no deeper than the limit. (Stim's circuit format; the limits are this
--- project's.)
-use Rattle.std.specs.Prelude.{⊤, ◌≡◌, ◌<◌, ◌≤◌, nat_le, ℕ, suc, max, Bool, false, true, not}
+-- What a circuit's tree keeps: each instruction fits what its operation takes, each block has a turn, and no more blocks stand
+-- inside one another than may. (Stim's circuit format; the limits are this project's.)
+use Rattle.std.specs.Prelude.{◌≡◌, nat_le, ℕ, Bool, false, true, not}
 use Rattle.std.specs.List.{list_all}
 use Rattle.step_model.specs.WellFormed.{is_I}
+use Rattle.block_text.specs.Fitting as fitting
 use Rattle.stim_parser.specs.declared.operation.Keyword.TheVariants.{Does}
 use Rattle.stim_parser.specs.declared.operation.Operation.{Operation}
 use Rattle.stim_parser.specs.declared.operation.Operation.TheVariants.{Measures, Resets, MeasuresAndResets, Errs}
@@ -11,8 +11,8 @@ use Rattle.stim_parser.specs.declared.target.Target.{Target}
 use Rattle.stim_parser.specs.declared.target.Target.TheVariants.{Back, Pauli}
 use Rattle.stim_parser.specs.Instructions.{argument_form, target_form}
 use Rattle.stim_parser.specs.Limits.{has_wrong_arguments, has_wrong_probability, has_argument_beyond, are_of_form, has_target_beyond, has_wrong_count, has_same_qubit}
-use Rattle.stim_parser.specs.Trees.{Tree, Nothing, Then, Block}
-use Rattle.stim_parser.specs.Verdicts.{Instruction, deepest}
+use Rattle.stim_parser.specs.Trees.{Tree}
+use Rattle.stim_parser.specs.Verdicts.{Instruction}
 
 -- an operation and a target as a text can write them: no letter is I, and a record is at least one back
 abbrev pub operation_is_written : Operation → Bool
@@ -41,17 +41,12 @@ pub record Fits (i : Instruction) : Type 0 where
 
 -- how deep blocks are nested
 abbrev pub depth : Tree → ℕ
-depth Nothing = 0
-depth (Then instruction rest) = depth rest
-depth (Block line turns body rest) = max (suc (depth body)) (depth rest)
+depth tree = fitting.depth tree
 
 -- in a tree each instruction fits, and each block has a turn
 abbrev pub AllFit : Tree → Type 0
-AllFit Nothing = ⊤
-AllFit (Then instruction rest) = Fits instruction × AllFit rest
-AllFit (Block line turns body rest) = (0 < turns) × AllFit body × AllFit rest
+AllFit tree = fitting.AllFit Fits tree
 
--- a tree that is a circuit
-pub record IsCircuit (tree : Tree) : Type 0 where
-  pub fit : AllFit tree
-  pub shallow : depth tree ≤ deepest
+-- each instruction fits, each block has a turn, and no more blocks stand inside one another than may
+abbrev pub IsCircuit : Tree → Type 0
+IsCircuit tree = fitting.IsBuilt Fits tree

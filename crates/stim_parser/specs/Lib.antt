@@ -13,7 +13,6 @@ pub mod Trees
 pub mod Circuits
 pub mod Flat
 pub mod Halves
-pub mod Unfinished
 pub mod Coordinates
 pub mod QubitSets
 pub mod Products

@@ -8,28 +8,11 @@ use Rattle.step_model.specs.declared.fault.Cause.{Cause}
 use Rattle.step_model.specs.declared.fault.Cause.TheVariants as cause
 use Rattle.stim_lexer.specs.Cut.{Cut}
 use Rattle.stim_parser.specs.declared.forms.ArgumentForm.{ArgumentForm}
-use Rattle.stim_parser.specs.declared.judge.Said.{Said}
-use Rattle.stim_parser.specs.declared.judge.Said.TheVariants as said
 use Rattle.stim_parser.specs.declared.operation.Keyword.{Keyword}
-use Rattle.stim_parser.specs.declared.target.Target.{Target}
 use Rattle.stim_parser.specs.Arguments.{arguments_in}
 use Rattle.stim_parser.specs.Instructions.{argument_form, target_form}
 use Rattle.stim_parser.specs.Limits.{takes_probability, has_wrong_arguments, has_wrong_probability, has_argument_beyond, has_target_beyond, has_same_qubit}
-use Rattle.stim_parser.specs.Verdicts.{Reading, Takes, Opens, Closes, Refuses, read_targets, has_wrong_number, repeats_zero_times, opens_too_deep}
-
--- what the line of this number says, with the targets that were read from it
-abbrev pub reading_in : ℕ → Said → List Target → Reading
-reading_in line (said.Takes operation arguments) targets =
-    Takes
-    (record {
-      line = line;
-      operation = operation;
-      arguments = arguments_in arguments.now;
-      targets = targets;
-    })
-reading_in line (said.Opens turns) targets = Opens turns
-reading_in line said.Closes targets = Closes
-reading_in line (said.Refuses c) targets = Refuses c
+use Rattle.stim_parser.specs.Verdicts.{read_targets, has_wrong_number, repeats_zero_times, opens_too_deep}
 
 -- borrowed texts
 abbrev pub texts_of : List (Bor (List ℕ)) → List (List ℕ)

@@ -1,27 +1,26 @@
--- The circuit that a text writes, as a tree: instructions, and blocks with the number of their turns and what stands in
--- them. A tree and its text say the same items in the same order, and so no two trees have one text. (Stim's circuit
--- format, github.com/quantumlib/Stim, doc/file_format_stim_circuit.md, "REPEAT blocks".)
-use Rattle.std.specs.Prelude.{◌≡◌, ℕ, List, [], ◌∷◌, ◌++◌, Ok, Err}
+-- The circuit that a text writes, as a tree: instructions, and blocks with their turns and what stands in them. A tree
+-- and its text say the same items in the same order, and so no two trees have one text.
+-- (Stim's circuit format, github.com/quantumlib/Stim, doc/file_format_stim_circuit.md, "REPEAT blocks".)
+use Rattle.std.specs.Prelude.{ℕ, List}
 use Rattle.step_model.specs.declared.fault.Fault.{Fault}
+use Rattle.block_text.specs.Texts as text
+use Rattle.block_text.specs.Trees as trees
+pub use Rattle.block_text.specs.Trees.{Nothing, Then, Block}
+use Rattle.stim_parser.specs.Texts.{Item, circuits}
 use Rattle.stim_parser.specs.Verdicts.{Instruction}
-use Rattle.stim_parser.specs.Texts.{Item, Does, Begins, Ends, items_in}
 
 -- what stands in a circuit or in a block, from the first on: an instruction and the rest, or a block by its line, its
 -- turns and its body, and the rest
-pub data Tree : Type 0 where
-  Nothing : Tree
-  Then : Instruction → Tree → Tree
-  Block : ℕ → ℕ → Tree → Tree → Tree
+abbrev pub Tree : Type 0
+Tree = trees.Tree Instruction
 
 -- the items that a tree says, in their order
 abbrev pub items_of : Tree → List Item
-items_of Nothing = []
-items_of (Then instruction rest) = Does instruction ∷ items_of rest
-items_of (Block line turns body rest) = Begins line turns ∷ (items_of body ++ Ends ∷ items_of rest)
+items_of tree = trees.items_of tree
 
 -- a text writes this tree; a text is refused by this fault
 abbrev pub Writes : List ℕ → Tree → Type 0
-Writes text tree = items_in text ≡ Ok (items_of tree)
+Writes bytes tree = text.Writes circuits bytes tree
 
 abbrev pub IsRefusedBy : List ℕ → Fault → Type 0
-IsRefusedBy text fault = items_in text ≡ Err fault
+IsRefusedBy bytes fault = text.IsRefusedBy circuits bytes fault

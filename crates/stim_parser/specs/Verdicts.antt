@@ -20,6 +20,10 @@ use Rattle.stim_lexer.specs.declared.line.Braces.{Braces}
 use Rattle.stim_lexer.specs.declared.line.Braces.TheVariants.{NoBrace, OpeningLast, ClosingAlone}
 use Rattle.stim_lexer.specs.Bytes.{is_empty, after_blanks}
 use Rattle.stim_lexer.specs.Cut.{Cut}
+use Rattle.block_text.specs.Instructions as lines
+use Rattle.block_text.specs.Texts as text
+pub use Rattle.block_text.specs.Fitting.{deepest}
+pub use Rattle.block_text.specs.Texts.{Takes, Opens, Closes, Refuses}
 use Rattle.stim_parser.specs.declared.forms.TargetForm.{TargetForm}
 use Rattle.stim_parser.specs.declared.forms.TargetForm.TheVariants.{NoTargets, Turns}
 use Rattle.stim_parser.specs.declared.operation.Keyword.{Keyword}
@@ -82,10 +86,6 @@ opens_block form = false
 abbrev pub repeats_zero_times : TargetForm → List ℕ → Bool
 repeats_zero_times form text = opens_block form && turns_of (read_targets form text) == 0
 
--- how many blocks may be open
-abbrev pub deepest : ℕ
-deepest = 32
-
 abbrev pub opens_too_deep : ℕ → TargetForm → Bool
 opens_too_deep depth form = opens_block form && nat_le deepest depth
 
@@ -121,19 +121,12 @@ refusal_of depth cut = option_map (λ asked. asked.1) (find (λ asked. asked.0) 
 
 -- ---- what a line says
 
--- an instruction: the number of its line, what it does, its arguments as they stood, and its targets
-pub record Instruction : Type 0 where
-  pub line : ℕ
-  pub operation : Operation
-  pub arguments : List (List ℕ)
-  pub targets : List Target
+-- an instruction of a line, and what a line says
+abbrev pub Instruction : Type 0
+Instruction = lines.Instruction Operation Target
 
--- an instruction; the start of a block of this many turns; the end of a block; or a refusal
-pub data Reading : Type 0 where
-  Takes : Instruction → Reading
-  Opens : ℕ → Reading
-  Closes : Reading
-  Refuses : Cause → Reading
+abbrev pub Reading : Type 0
+Reading = text.Reading Instruction
 
 -- what an accepted line says
 abbrev pub accepted : ℕ → Option Keyword → Cut → Reading

@@ -4,7 +4,9 @@ ghost use Rattle.stim_parser.specs.Flat.{item_in, IsWritten};
 ghost use Rattle.stim_parser.specs.Trees.{items_of};
 
 use crate::instruction::Instruction;
-use crate::items::Items;
+use crate::operation::Operation;
+use crate::target::Target;
+use block_text::Items;
 use std::alloc::Allocator;
 use std::marker::Model;
 
@@ -20,7 +22,7 @@ pub enum Item<'c, 'a> {
 /// A circuit as its text writes it, its blocks among its instructions.
 #[derive(Drop)]
 pub struct Circuit<'a, A: Allocator + Copy> {
-    items: Items<'a, A>,
+    items: Items<'a, Operation, Target, A>,
 }
 
 impl<'a, A: Allocator + Copy> Model for Circuit<'a, A> {
@@ -38,7 +40,7 @@ impl<'a, A: Allocator + Copy> Model for Circuit<'a, A> {
 
 impl<'a, A: Allocator + Copy> Circuit<'a, A> {
     /// The circuit of these items.
-    pub(crate) fn new(items: Items<'a, A>) -> Self
+    pub(crate) fn new(items: Items<'a, Operation, Target, A>) -> Self
         requires { IsWritten items }
         ensures { items_of result ≡ items.entry }
     {
@@ -66,7 +68,16 @@ impl<'a, A: Allocator + Copy> Circuit<'a, A> {
         requires { i < length (items_of self.now) }
         ensures { Some (item_in result) ≡ slice_get (items_of self.now) i }
     {
-        self.items.get(i)
+        match self.items.get(i) {
+            block_text::Item::Does(instruction) => Item::Does(Instruction {
+                line: instruction.line,
+                operation: instruction.operation,
+                arguments: instruction.arguments,
+                targets: instruction.targets,
+            }),
+            block_text::Item::Begins { line, turns } => Item::Begins { line, turns },
+            block_text::Item::Ends => Item::Ends,
+        }
     }
 
     /// Does nothing. Its contract says that each instruction of a circuit has the arguments and targets that its

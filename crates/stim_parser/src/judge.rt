@@ -4,41 +4,25 @@ ghost use Rattle.stim_lexer.specs.Lexing.{cut_in};
 ghost use Rattle.stim_parser.specs.declared.forms.ArgumentForm.TheVariants.{NoArguments};
 ghost use Rattle.stim_parser.specs.Arguments.{arguments_in};
 ghost use Rattle.stim_parser.specs.Instructions.{argument_form, keyword_named, target_form};
-ghost use Rattle.stim_parser.specs.Said.{first_of, reading_in, refusals_of_amounts, refusals_of_arguments};
+ghost use Rattle.block_text.specs.Said.{reading_in};
+ghost use Rattle.stim_parser.specs.Said.{first_of, refusals_of_amounts, refusals_of_arguments};
 ghost use Rattle.stim_parser.specs.Limits.{has_argument_beyond};
 ghost use Rattle.stim_parser.specs.Verdicts.{accepted, closed_at, has_wrong_number, has_wrong_target, judged, misplaces_brace, opens_block, reading_of, read_targets, refusal_of, refusals_of_keyword, takes_none, turns_of};
 
 use crate::argument_checks::{has_argument_beyond, has_wrong_arguments, has_wrong_probability};
 use crate::arguments::read_arguments;
 use crate::forms::{ArgumentForm, TargetForm, argument_form, target_form};
-use crate::last::{LastName, LastParentheses, LastProbability};
+use crate::last::{Last, LastName};
 use crate::names::is_left_out;
 use crate::operation::{Keyword, Operation};
 use crate::target::{Target, read_targets};
 use crate::target_checks::{are_of_form, has_same_qubit, has_target_beyond, has_wrong_count};
+use block_text::{LEVELS, Said};
 use std::alloc::{AllocError, Allocator};
 use step_model::Cause;
 use stim_lexer::{Braces, Line, after_blanks};
 
-/// How many blocks may stand inside one another.
-pub(crate) const DEEPEST: usize = 32;
-
-/// What a line says; the targets of an instruction are kept apart.
-#[derive(Clone, Copy)]
-pub(crate) enum Said<'a> {
-    /// An instruction, and what stands in its parentheses.
-    Takes {
-        operation: Operation,
-        arguments: &'a [u8],
-    },
-    /// The start of a block of this many turns.
-    Opens(u64),
-    /// The end of a block.
-    Closes,
-    Refuses(Cause),
-}
-
-/// Whether the braces of a line aren't those that its keyword asks for.
+/// Whether the braces of a line stand otherwise than its keyword asks.
 fn misplaces_brace(keyword: Option<Keyword>, braces: Braces) -> bool
     ensures { result ≡ misplaces_brace keyword braces }
 {
@@ -48,26 +32,7 @@ fn misplaces_brace(keyword: Option<Keyword>, braces: Braces) -> bool
     }
 }
 
-/// What was read last: a name, what stood in parentheses, and a probability.
-#[derive(Drop)]
-pub(crate) struct Last<'a> {
-    pub name: LastName<'a>,
-    pub parentheses: LastParentheses<'a>,
-    pub probability: LastProbability<'a>,
-}
-
-impl<'a> Last<'a> {
-    /// Those of an empty text.
-    pub(crate) fn new() -> Self {
-        Last {
-            name: LastName::new(),
-            parentheses: LastParentheses::new(),
-            probability: LastProbability::new(),
-        }
-    }
-}
-
-/// The keyword of a line that doesn't close a block, where its braces are those that the keyword asks for.
+/// The keyword of a line that doesn't close a block, where its braces stand as that asks.
 fn keyword_of<'a>(last: &mut LastName<'a>, line: Line<'a>) -> Result<Keyword, Cause>
     ensures { MatchResult result
         (λ keyword. (keyword_named line.entry.name.now ≡ Some keyword) × (misplaces_brace (Some keyword) line.entry.braces ≡ false))
@@ -217,7 +182,7 @@ fn refusal_of_amounts(
     if opens_block(form) && turns_of(targets) == 0 {
         return Some(Cause::RepeatZero);
     }
-    if opens_block(form) && depth >= DEEPEST {
+    if opens_block(form) && depth >= LEVELS {
         return Some(Cause::Depth);
     }
     None
@@ -246,7 +211,7 @@ fn refusal_of<'a, A: Allocator + Copy>(
 }
 
 /// What a line says that isn't refused.
-fn accepted<'a>(keyword: Keyword, line: Line<'a>, targets: &[Target]) -> Said<'a>
+fn accepted<'a>(keyword: Keyword, line: Line<'a>, targets: &[Target]) -> Said<'a, Operation>
     requires { targets.now ≡ read_targets (target_form keyword) line.targets.now }
     ensures { reading_in line.entry.number result targets.now ≡ accepted line.entry.number (Some keyword) (cut_in line.entry) }
 {
@@ -259,8 +224,8 @@ fn accepted<'a>(keyword: Keyword, line: Line<'a>, targets: &[Target]) -> Said<'a
     }
 }
 
-/// What a line of `}` alone says, where `depth` blocks are open.
-fn closed_at<'a>(depth: usize) -> Said<'a>
+/// What a line says that closes a block, where so many are open.
+fn closed_at<'a>(depth: usize) -> Said<'a, Operation>
     ensures { (number : ℕ) (targets : List Target) → reading_in number result targets ≡ closed_at depth }
 {
     if depth == 0 {
@@ -276,7 +241,7 @@ fn judged<'a, A: Allocator + Copy>(
     targets: &mut Vec<Target, A>,
     depth: usize,
     line: Line<'a>,
-) -> Result<Said<'a>, AllocError>
+) -> Result<Said<'a, Operation>, AllocError>
     ensures { IfOk result (λ said. reading_in line.entry.number said targets.new.items ≡ judged depth line.entry.number (cut_in line.entry)) }
 {
     let keyword = match keyword_of(&mut last.name, line) {
@@ -297,7 +262,7 @@ pub(crate) fn read_line<'a, A: Allocator + Copy>(
     targets: &mut Vec<Target, A>,
     depth: usize,
     line: Line<'a>,
-) -> Result<Said<'a>, AllocError>
+) -> Result<Said<'a, Operation>, AllocError>
     ensures { IfOk result (λ said. reading_in line.entry.number said targets.new.items ≡ reading_of depth line.entry.number (cut_in line.entry)) }
 {
     match line.braces {

@@ -117,3 +117,22 @@ impl<'a> LastParentheses<'a> {
         }
     }
 }
+
+/// What was read last: a name, what stood in parentheses, and a probability.
+#[derive(Drop)]
+pub struct Last<'a> {
+    pub(crate) name: LastName<'a>,
+    pub parentheses: LastParentheses<'a>,
+    pub probability: LastProbability<'a>,
+}
+
+impl<'a> Last<'a> {
+    /// Those of an empty text.
+    pub fn new() -> Self {
+        Last {
+            name: LastName::new(),
+            parentheses: LastParentheses::new(),
+            probability: LastProbability::new(),
+        }
+    }
+}

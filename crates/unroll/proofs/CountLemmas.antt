@@ -8,7 +8,7 @@ use Rattle.stim_parser.specs.Circuits.{AllFit, IsCircuit}
 use Rattle.stim_parser.specs.Texts.{Does, Begins, Ends}
 use Rattle.stim_parser.specs.Trees.{Tree, items_of}
 use Rattle.stim_parser.specs.Verdicts.{Instruction}
-use Rattle.unroll.specs.declared.blocks.OpenBlock.{OpenBlock}
+use Rattle.block_text.specs.declared.blocks.OpenBlock.{OpenBlock}
 use Rattle.unroll.specs.declared.marks.Mark.{Mark}
 use Rattle.unroll.specs.Flattened.{reached}
 use Rattle.unroll.specs.Gathered.{Gathered, Gathering, gathering, given, later}

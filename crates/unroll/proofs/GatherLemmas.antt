@@ -7,7 +7,7 @@ use Rattle.stim_parser.specs.Circuits.{Fits, IsCircuit}
 use Rattle.stim_parser.specs.Texts.{Item, Does, Begins, Ends}
 use Rattle.stim_parser.specs.Trees.{Tree, Nothing, Then, Block, items_of}
 use Rattle.stim_parser.specs.Verdicts.{Instruction}
-use Rattle.unroll.specs.declared.blocks.OpenBlock.{OpenBlock}
+use Rattle.block_text.specs.declared.blocks.OpenBlock.{OpenBlock}
 use Rattle.unroll.specs.declared.marks.Mark.{Mark}
 use Rattle.unroll.specs.Flattened.{copies, reached}
 use Rattle.unroll.specs.Gathered.{Gathered, Gathering, closed, gathering, given, later, mark_of, place_behind, stepped}

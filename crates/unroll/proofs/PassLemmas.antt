@@ -1,122 +1,23 @@
 -- A pass over a circuit's items in their order is a pass over its tree.
-use Rattle.std.proofs.Common.{◌≡◌, ℕ, zero, suc, ◌+◌, ◌<◌, ◌≤◌, List, [], ◌∷◌, ◌++◌, length, drop, reverse, Some, refl, sym, ap, ◌∙◌, subst, append_assoc, append-nil, arith, length-append}
-use Rattle.std.specs.Prelude.{slice_get}
-use Rattle.std.proofs.lemmas.List.{reverse-append, drop_all}
-use Rattle.stim_parser.specs.Circuits.{AllFit, Fits, IsCircuit, depth}
-use Rattle.stim_parser.specs.Texts.{Item, Does, Begins, Ends}
-use Rattle.stim_parser.specs.Trees.{Tree, Nothing, Then, Block, items_of}
-use Rattle.unroll.specs.declared.blocks.OpenBlock.{OpenBlock}
-use Rattle.unroll.specs.Passes.{Pass, behind, opened, CanStand, Passes}
-
--- the state behind items, where these blocks are open, the innermost first
-abbrev pub run : {S : Type 0} → Pass S → List Item → List (OpenBlock S) → S → S
-run pass [] blocks s = s
-run pass (Does i ∷ items) blocks s = run pass items blocks (pass.step i s)
-run pass (Begins line turns ∷ items) blocks s = run pass items (opened turns s ∷ blocks) s
-run pass (Ends ∷ items) [] s = s
-run pass (Ends ∷ items) (block ∷ blocks) s = run pass items blocks (pass.close block.turns block.before s)
+use Rattle.std.proofs.Common.{ℕ, List, ◌∷◌}
+use Rattle.block_text.specs.declared.blocks.OpenBlock.{OpenBlock}
+use Rattle.block_text.proofs.PassLemmas as passes
+pub use Rattle.block_text.proofs.PassLemmas.{drop_got, passing-first, passing-can, passing-next, passing-done}
+use Rattle.stim_parser.specs.Circuits.{Fits, IsCircuit}
+use Rattle.stim_parser.specs.Texts.{Item}
+use Rattle.stim_parser.specs.Trees.{Tree, items_of}
+use Rattle.unroll.specs.Passes.{CanStand, Pass}
 
 -- items that stand where they may, with so many blocks open before them and none behind
 abbrev pub AreWhole : List Item → ℕ → Type 0
-AreWhole [] depth = depth ≡ 0
-AreWhole (Does i ∷ items) depth = Fits i × AreWhole items depth
-AreWhole (Begins line turns ∷ items) depth = (0 < turns) × (depth < 32) × AreWhole items (suc depth)
-AreWhole (Ends ∷ items) zero = ⊥
-AreWhole (Ends ∷ items) (suc depth) = AreWhole items depth
-
--- ---- items of a tree
-
-pub run-items : {S : Type 0} (pass : Pass S) (t : Tree) (rest : List Item) (blocks : List (OpenBlock S)) (s : S) → run pass (items_of t ++ rest) blocks s ≡ run pass rest blocks (behind pass t s)
-run-items pass Nothing rest blocks s = refl
-run-items pass (Then i t) rest blocks s = run-items pass t rest blocks (pass.step i s)
-run-items pass (Block line turns t u) rest blocks s =
-    ap (λ (items : List Item). run pass items (opened turns s ∷ blocks) s) (append_assoc (items_of t) (Ends ∷ items_of u) rest)
-    ∙ run-items pass t (Ends ∷ (items_of u ++ rest)) (opened turns s ∷ blocks) s
-    ∙ run-items pass u rest blocks (pass.close turns s (behind pass t s))
-
-pub run-tree : {S : Type 0} (pass : Pass S) (t : Tree) (s : S) → run pass (items_of t) [] s ≡ behind pass t s
-run-tree pass t s = ap (λ (items : List Item). run pass items [] s) (sym (append-nil (items_of t))) ∙ run-items pass t [] [] s
-
-whole-items : (t : Tree) (rest : List Item) (d : ℕ) → AllFit t → depth t + d ≤ 32 → AreWhole rest d → AreWhole (items_of t ++ rest) d
-whole-items Nothing rest d fit room whole = whole
-whole-items (Then i t) rest d fit room whole = (fit.0, whole-items t rest d fit.1 room whole)
-whole-items (Block line turns t u) rest d fit room whole = (
-  fit.0,
-  omega arith,
-  subst (λ (items : List Item). AreWhole items (suc d)) (sym (append_assoc (items_of t) (Ends ∷ items_of u) rest))
-      (whole-items t (Ends ∷ (items_of u ++ rest)) (suc d) fit.1 (omega arith) (whole-items u rest d fit.2 (omega arith) whole)),
-)
+AreWhole items depth = passes.AreWhole Fits items depth
 
 pub whole-tree : (t : Tree) → IsCircuit t → AreWhole (items_of t) 0
-whole-tree t circuit =
-    subst (λ (items : List Item). AreWhole items 0) (append-nil (items_of t))
-    (whole-items t [] 0 circuit.fit (omega (arith, circuit.shallow)) refl)
-
--- ---- one item
-
--- the item that was read stands first in what is left
-pub drop_got : {X : Type 0} (xs : List X) (i : ℕ) (x : X) → Some x ≡ slice_get xs i → drop i xs ≡ x ∷ drop (suc i) xs
-drop_got [] i x h = absurd cc
-drop_got (y ∷ xs) zero x h = ap (λ z. z ∷ xs) (sym (some_same x y h))
-  where
-    some_same : {X : Type 0} (x y : X) → Some x ≡ Some y → x ≡ y
-    some_same x y h = cc
-drop_got (y ∷ xs) (suc i) x h = drop_got xs i x h
+whole-tree t circuit = passes.whole-tree Fits t circuit
 
 pub can_stand : (item : Item) (items : List Item) (d : ℕ) → AreWhole (item ∷ items) d → CanStand item d
-can_stand (Does i) items d whole = whole.0
-can_stand (Begins line turns) items d whole = (whole.0, whole.1)
-can_stand Ends items zero whole = absurd whole
-can_stand Ends items (suc d) whole = omega arith
-
--- what is left behind an item stands where it may
-pub whole-next : {S : Type 0} (pass : Pass S) (item : Item) (items : List Item) (s : S) (blocks : List (OpenBlock S)) (s' : S) (blocks' : List (OpenBlock S)) → Passes pass item s blocks s' blocks' → AreWhole (item ∷ items) (length blocks) → AreWhole items (length blocks')
-whole-next pass (Does i) items s blocks s' blocks' h whole = subst (λ (xs : List (OpenBlock _)). AreWhole items (length xs)) (sym h.1) whole.1
-whole-next pass (Begins line turns) items s blocks s' blocks' h whole =
-    subst (AreWhole items) (sym (ap length h.1 ∙ length-append blocks (opened turns s ∷ []) ∙ omega arith)) whole.2
-whole-next pass Ends items s blocks s' blocks' h whole =
-    let e : length blocks ≡ suc (length blocks') = ap length h.open_is ∙ length-append blocks' (h.last ∷ []) ∙ omega arith in
-    subst (λ d. AreWhole (Ends ∷ items) d) e whole
-
--- the items left give the same behind an item as with it
-pub run-next : {S : Type 0} (pass : Pass S) (item : Item) (items : List Item) (s : S) (blocks : List (OpenBlock S)) (s' : S) (blocks' : List (OpenBlock S)) → Passes pass item s blocks s' blocks' → run pass (item ∷ items) (reverse blocks) s ≡ run pass items (reverse blocks') s'
-run-next pass (Does i) items s blocks s' blocks' h = rw (h.0, h.1) refl
-run-next pass (Begins line turns) items s blocks s' blocks' h = rw (h.0, h.1, reverse-append blocks (opened turns s ∷ [])) refl
-run-next pass Ends items s blocks s' blocks' h = rw (h.open_is, reverse-append blocks' (h.last ∷ []), h.state_is) refl
-
--- ---- a loop over all items
+can_stand item items d whole = passes.can_stand Fits item items d whole
 
 -- behind so many items of a tree, with these blocks open, the outermost first
-pub record IsPassing {S : Type 0} (pass : Pass S) (t : Tree) (start : S) (i : ℕ) (s : S) (blocks : List (OpenBlock S)) : Type 0 where
-  pub left : run pass (drop i (items_of t)) (reverse blocks) s ≡ behind pass t start
-  pub whole : AreWhole (drop i (items_of t)) (length blocks)
-
-pub passing-first : {S : Type 0} (pass : Pass S) (t : Tree) (start : S) → IsCircuit t → IsPassing pass t start 0 start []
-passing-first pass t start circuit = record { left = run-tree pass t start; whole = whole-tree t circuit }
-
-pub passing-can : {S : Type 0} (pass : Pass S) (t : Tree) (start : S) (i : ℕ) (s : S) (blocks : List (OpenBlock S)) (item : Item) → IsPassing pass t start i s blocks → Some item ≡ slice_get (items_of t) i → CanStand item (length blocks)
-passing-can pass t start i s blocks item p got =
-    can_stand item (drop (suc i) (items_of t)) (length blocks)
-    (subst (λ (items : List Item). AreWhole items (length blocks)) (drop_got (items_of t) i item got) p.whole)
-
-pub passing-next : {S : Type 0} (pass : Pass S) (t : Tree) (start : S) (i j : ℕ) (s : S) (blocks : List (OpenBlock S)) (s' : S) (blocks' : List (OpenBlock S)) (item : Item) → IsPassing pass t start i s blocks → Some item ≡ slice_get (items_of t) i → Passes pass item s blocks s' blocks' → j ≡ i + 1 → IsPassing pass t start j s' blocks'
-passing-next pass t start i j s blocks s' blocks' item p got h e =
-    let at = drop_got (items_of t) i item got in
-    let rest = drop (suc i) (items_of t) in
-    let later : j ≡ suc i = omega (arith, e) in
-    let next : drop j (items_of t) ≡ rest = ap (λ k. drop k (items_of t)) later in
-    record {
-      left =
-          ap (λ (items : List Item). run pass items (reverse blocks') s') next
-          ∙ sym (run-next pass item rest s blocks s' blocks' h)
-          ∙ sym (ap (λ (items : List Item). run pass items (reverse blocks) s) at)
-          ∙ p.left;
-      whole =
-          subst (λ (items : List Item). AreWhole items (length blocks')) (sym next)
-          (whole-next pass item rest s blocks s' blocks' h
-          (subst (λ (items : List Item). AreWhole items (length blocks)) at p.whole));
-    }
-
-pub passing-done : {S : Type 0} (pass : Pass S) (t : Tree) (start : S) (i : ℕ) (s : S) (blocks : List (OpenBlock S)) → IsPassing pass t start i s blocks → length (items_of t) ≤ i → s ≡ behind pass t start
-passing-done pass t start i s blocks p h =
-    sym (ap (λ (items : List Item). run pass items (reverse blocks) s) (drop_all i (items_of t) h)) ∙ p.left
+abbrev pub IsPassing : {S : Type 0} → Pass S → Tree → S → ℕ → S → List (OpenBlock S) → Type 0
+IsPassing pass t start i s blocks = passes.IsPassing Fits pass t start i s blocks

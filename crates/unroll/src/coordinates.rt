@@ -6,11 +6,11 @@ ghost use Rattle.unroll.specs.Gathered.{later};
 ghost use Rattle.unroll.specs.Placing.{IsStated, added_by, placing};
 ghost use Rattle.unroll.specs.Totals.{step_total};
 
-use crate::blocks::{LEVELS, OpenBlock};
 use crate::marks::Mark;
 use crate::offsets::{AXES, Offset, moved};
 use crate::shifts::{coordinates_read, shift, turn_on};
 use arrayvec::ArrayVec;
+use block_text::{LEVELS, OpenBlock};
 use flat_lists::FlatLists;
 use std::alloc::{AllocError, Allocator};
 use stim_parser::{Circuit, Instruction, Item, Operation};

@@ -5,11 +5,11 @@ ghost use Rattle.unroll.specs.Gathered.{later};
 ghost use Rattle.unroll.specs.Refusals.{first_far_line};
 ghost use Rattle.unroll.specs.Totals.{record_count, record_total};
 
-use crate::blocks::{LEVELS, OpenBlock};
 use crate::counts::records_made;
 use crate::marks::Mark;
 use crate::targets::target_count;
 use arrayvec::ArrayVec;
+use block_text::{LEVELS, OpenBlock};
 use flat_lists::FlatLists;
 use std::alloc::{AllocError, Allocator};
 use stim_parser::{Circuit, Item, Operation, Target};

@@ -6,12 +6,12 @@ ghost use Rattle.unroll.specs.Including.{including, inclusion_moved, inclusion_o
 ghost use Rattle.unroll.specs.Refusals.{first_far_line};
 ghost use Rattle.unroll.specs.Totals.{record_count, record_total};
 
-use crate::blocks::{LEVELS, OpenBlock};
 use crate::counts::records_made;
 use crate::detectors::record_named;
 use crate::marks::Mark;
 use crate::targets::target_count;
 use arrayvec::ArrayVec;
+use block_text::{LEVELS, OpenBlock};
 use std::alloc::{AllocError, Allocator};
 use stim_parser::{Circuit, Instruction, Item, Operation, Target};
 

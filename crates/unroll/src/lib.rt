@@ -2,7 +2,6 @@
 #![tactic(auto)]
 
 mod assembly;
-mod blocks;
 mod coordinates;
 mod counts;
 mod detectors;

@@ -6,10 +6,10 @@ ghost use Rattle.unroll.specs.Passes.{CanStand, Passes};
 ghost use Rattle.unroll.specs.Summed.{AreTotals, capped_sum, far_line_after, nothing_summed, repeated_sum, summing, totals_after, totals_repeated};
 ghost use Rattle.unroll.specs.Totals.{fault_count, has_argument};
 
-use crate::blocks::{LEVELS, OpenBlock};
 use crate::counts::{collapses_made, detectors_made, faults_made, records_made, steps_made};
 use crate::targets::{reaches_far, target_count};
 use arrayvec::ArrayVec;
+use block_text::{LEVELS, OpenBlock};
 use std::alloc::Allocator;
 use stim_parser::{Circuit, Instruction, Item};
 

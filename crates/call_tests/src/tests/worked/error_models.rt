@@ -145,4 +145,5 @@ fn models_are_placed(rt: HostRuntime) -> Result<(), Fail> {
 fn laws_are_called(_rt: HostRuntime) {
     laws::texts_are_judged_once();
     laws::texts_write_accepted_trees();
+    laws::texts_stand_for_trees();
 }

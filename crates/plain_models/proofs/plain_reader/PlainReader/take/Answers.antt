@@ -1,8 +1,9 @@
 use Rattle.std.proofs.Common.{◌≡◌, ◌∙◌, ap, sym}
 use Rattle.stim_lexer.specs.Lexing.{cut_in}
 use Rattle.stim_parser.specs.Arguments.{arguments_in}
-use Rattle.dem_lines.specs.declared.judge.Said.{Said}
-use Rattle.dem_lines.specs.Said.{reading_in}
+use Rattle.block_text.specs.declared.said.Said.{Said}
+use Rattle.dem_lines.specs.declared.operation.Operation.{Operation}
+use Rattle.block_text.specs.Said.{reading_in}
 use Rattle.dem_lines.specs.Verdicts.{Instruction, Takes, reading_of}
 use Rattle.plain_models.proofs.PlainLemmas.{taken_targets}
 use Rattle.plain_models.proofs.plain_reader.PlainReader.take.Goals as goal
@@ -19,5 +20,5 @@ add-requires g c =
       targets = c.read_line.new.targets.items;
     } in
     let taken : Takes i ≡ reading_of 0 number cut =
-    sym (ap (λ (s : Said). reading_in number s c.read_line.new.targets.items) c.in-Takes.is) ∙ c.in_ok-read_line.ensures in
+    sym (ap (λ (s : Said Operation). reading_in number s c.read_line.new.targets.items) c.in-Takes.is) ∙ c.in_ok-read_line.ensures in
     c.as_slice.ensures.value ∙ taken_targets 0 number cut i taken

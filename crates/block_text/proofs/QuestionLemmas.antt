@@ -1,0 +1,32 @@
+-- Questions of which none applies, and the tests that they are made of.
+use Rattle.std.proofs.Common.{◌≡◌, ℕ, ◌<◌, ◌==◌, Bool, true, false, not, ◌||◌, List, [], ◌∷◌, None, refl, arith}
+use Rattle.std.specs.Prelude.{⊤, find, option_map, nat_le}
+use Rattle.std.proofs.lemmas.Bool.{true≢false}
+use Rattle.step_model.specs.declared.fault.Cause.{Cause}
+
+-- ---- tests
+
+pub neither : (a b : Bool) → (a || b) ≡ false → (a ≡ false) × (b ≡ false)
+neither true b h = absurd (true≢false h)
+neither false b h = (refl, h)
+
+pub not_not : (b : Bool) → not b ≡ false → b ≡ true
+not_not true h = refl
+not_not false h = absurd (true≢false h)
+
+-- ---- questions
+
+abbrev pub NoneApplies : List (Bool × Cause) → Type 0
+NoneApplies [] = ⊤
+NoneApplies (asked ∷ rest) = (asked.0 ≡ false) × NoneApplies rest
+
+pub none_applies : (asked : List (Bool × Cause)) → option_map (λ (a : Bool × Cause). a.1) (find (λ a. a.0) asked) ≡ None → NoneApplies asked
+none_applies [] h = tt
+none_applies ((true, c) ∷ rest) h = absurd (cc)
+none_applies ((false, c) ∷ rest) h = (refl, none_applies rest h)
+
+pub not_zero : (n : ℕ) → (n == 0) ≡ false → 0 < n
+not_zero n h = grind arith
+
+pub not_deep : (n : ℕ) → nat_le 32 n ≡ false → n < 32
+not_deep n h = grind arith

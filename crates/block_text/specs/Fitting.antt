@@ -1,0 +1,32 @@
+-- What the tree of an accepted text keeps: each instruction fits, as its format asks; each block has a turn; and no more
+-- blocks stand inside one another than may. (The limit is this project's.)
+use Rattle.std.specs.Prelude.{⊤, ◌<◌, ◌≤◌, ℕ, suc, max}
+use Rattle.block_text.specs.Trees.{Tree, Nothing, Then, Block}
+use Rattle.block_text.specs.Texts.{Reading, Takes, Opens, Closes, Refuses}
+
+-- how many blocks may be open
+abbrev pub deepest : ℕ
+deepest = 32
+
+-- how deep blocks stand inside one another
+abbrev pub depth : {I : Type 0} → Tree I → ℕ
+depth Nothing = 0
+depth (Then instruction rest) = depth rest
+depth (Block line turns body rest) = max (suc (depth body)) (depth rest)
+
+abbrev pub AllFit : {I : Type 0} → (I → Type 0) → Tree I → Type 0
+AllFit Fits Nothing = ⊤
+AllFit Fits (Then instruction rest) = Fits instruction × AllFit Fits rest
+AllFit Fits (Block line turns body rest) = (0 < turns) × AllFit Fits body × AllFit Fits rest
+
+pub record IsBuilt {I : Type 0} (Fits : I → Type 0) (tree : Tree I) : Type 0 where
+  pub fit : AllFit Fits tree
+  pub shallow : depth tree ≤ deepest
+
+-- what a line says fits where so many blocks are open: an instruction is one that fits, a block has a turn and stands where
+-- one more may be open, and a block is open where one is closed
+abbrev pub ReadingFits : {I : Type 0} → (I → Type 0) → ℕ → Reading I → Type 0
+ReadingFits Fits depth (Takes i) = Fits i
+ReadingFits Fits depth (Opens turns) = (0 < turns) × (depth < 32)
+ReadingFits Fits depth Closes = 0 < depth
+ReadingFits Fits depth (Refuses c) = ⊤

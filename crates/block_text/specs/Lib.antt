@@ -1,0 +1,10 @@
+pub mod Arguments
+pub mod Instructions
+pub mod Trees
+pub mod Texts
+pub mod Fitting
+pub mod Flat
+pub mod Unfinished
+pub mod Passes
+pub mod Said
+pub mod Kept

@@ -1,0 +1,22 @@
+-- What a text of lines and blocks writes, as a tree: instructions, and blocks with their turns and what stands in them. A
+-- tree and its text say the same items in the same order, and so no two trees have one text.
+use Rattle.std.specs.Prelude.{ℕ, List, [], ◌∷◌, ◌++◌}
+
+-- an instruction, the start of a block by its line and its turns, or the end of a block
+pub data Item (I : Type 0) : Type 0 where
+  Does : I → Item I
+  Begins : ℕ → ℕ → Item I
+  Ends : Item I
+
+-- what stands in a text or in a block, from the first on: an instruction and the rest, or a block by its line, its turns
+-- and its body, and the rest
+pub data Tree (I : Type 0) : Type 0 where
+  Nothing : Tree I
+  Then : I → Tree I → Tree I
+  Block : ℕ → ℕ → Tree I → Tree I → Tree I
+
+-- the items that a tree says, in their order
+abbrev pub items_of : {I : Type 0} → Tree I → List (Item I)
+items_of Nothing = []
+items_of (Then instruction rest) = Does instruction ∷ items_of rest
+items_of (Block line turns body rest) = Begins line turns ∷ (items_of body ++ Ends ∷ items_of rest)

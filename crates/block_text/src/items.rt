@@ -1,0 +1,146 @@
+ghost use Rattle.std.specs.Prelude.{◌≡◌, ◌<◌, ◌++◌, [], ◌∷◌, Some, length, slice_get, OnOk, OnErr};
+ghost use Rattle.block_text.specs.Kept.{instruction_in, item_in};
+ghost use Rattle.block_text.specs.Trees.{Does, Begins, Ends};
+
+use flat_lists::FlatLists;
+use std::alloc::{AllocError, Allocator};
+use std::marker::Model;
+
+/// An instruction of a text: the line that it stands on, what it does, the text between its parentheses, and its targets.
+#[derive(Clone, Copy)]
+pub struct Instruction<'c, 'a, O, T> {
+    pub line: u64,
+    pub operation: O,
+    /// Empty where there are no parentheses, too.
+    pub arguments: &'a [u8],
+    pub targets: &'c [T],
+}
+
+/// What stands at a place of a text: an instruction, the start of a block by its line and its turns, or the end of the
+/// innermost block.
+#[derive(Clone, Copy)]
+pub enum Item<'c, 'a, O, T> {
+    Does(Instruction<'c, 'a, O, T>),
+    Begins { line: u64, turns: u64 },
+    Ends,
+}
+
+/// What is kept of an item: all but the targets of an instruction, of which it has the number of their list.
+#[derive(Clone, Copy)]
+pub(crate) enum Node<'a, O> {
+    // Small fields first and a list's number in 32 bits: so a node takes 32 bytes and not 48.
+    Does {
+        operation: O,
+        list: u32,
+        line: u64,
+        arguments: &'a [u8],
+    },
+    Begins {
+        line: u64,
+        turns: u64,
+    },
+    Ends,
+}
+
+/// Items in the order of the text. Blocks are kept flat, so no recursion is needed to go over them.
+#[derive(Drop)]
+pub struct Items<'a, O: Copy, T: Copy, A: Allocator + Copy> {
+    nodes: Vec<Node<'a, O>, A>,
+    targets: FlatLists<T, A>,
+}
+
+impl<'a, O: Copy, T: Copy, A: Allocator + Copy> Model for Items<'a, O, T, A> {
+    ghost use Rattle.std.specs.Prelude.{All, List, length};
+    ghost use Rattle.block_text.specs.Instructions.{Instruction};
+    ghost use Rattle.block_text.specs.Kept.{HasTargets, items_kept};
+    ghost use Rattle.block_text.specs.Trees.{Item};
+
+    ghost Value = { List (Item (Instruction O T)) };
+
+    ghost view = { λ i. items_kept i.targets i.nodes.items };
+
+    ghost invariant = { λ i. All (HasTargets (length i.targets)) i.nodes.items };
+}
+
+impl<'a, O: Copy, T: Copy, A: Allocator + Copy> Items<'a, O, T, A> {
+    /// No items. Takes no memory.
+    pub(crate) fn new(alloc: A) -> Self
+        ensures { result ≡ [] }
+    {
+        Items {
+            nodes: Vec::new(alloc),
+            targets: FlatLists::new(alloc),
+        }
+    }
+
+    /// How many items there are, the ends of blocks too.
+    #[inline(always)]
+    pub fn len(&self) -> usize
+        ensures { result ≡ length self.now }
+    {
+        self.nodes.len()
+    }
+
+    /// Appends an instruction with a copy of its targets. It may fail only where memory runs out, or the instructions or
+    /// their targets would be more than 32 bits number.
+    pub(crate) fn push(&mut self, instruction: Instruction<'_, 'a, O, T>) -> Result<(), AllocError>
+        ensures ok { OnOk result (self.new ≡ self.old ++ Does (instruction_in instruction.entry) ∷ []) }
+        ensures err { OnErr result (self.new ≡ self.old) }
+    {
+        let list = self.targets.len();
+        if list > u32::MAX as usize {
+            return Err(AllocError);
+        }
+        // Room for the node first, so that nothing changes where memory runs out.
+        self.nodes.reserve(1)?;
+        self.targets.push(instruction.targets)?;
+        self.nodes.push_reserved(Node::Does {
+            operation: instruction.operation,
+            list: list as u32,
+            line: instruction.line,
+            arguments: instruction.arguments,
+        });
+        Ok(())
+    }
+
+    /// Appends the start of a block. It fails only where memory runs out.
+    pub(crate) fn begin(&mut self, line: u64, turns: u64) -> Result<(), AllocError>
+        ensures ok { OnOk result (self.new ≡ self.old ++ Begins line turns ∷ []) }
+        ensures err { OnErr result (self.new ≡ self.old) }
+    {
+        self.nodes.push(Node::Begins { line, turns })?;
+        Ok(())
+    }
+
+    /// Appends the end of a block. It fails only where memory runs out.
+    pub(crate) fn end(&mut self) -> Result<(), AllocError>
+        ensures ok { OnOk result (self.new ≡ self.old ++ Ends ∷ []) }
+        ensures err { OnErr result (self.new ≡ self.old) }
+    {
+        self.nodes.push(Node::Ends)?;
+        Ok(())
+    }
+
+    /// The item at a place.
+    #[inline(always)]
+    pub fn get(&self, i: usize) -> Item<'_, 'a, O, T>
+        requires { i < length self.now }
+        ensures { Some (item_in result) ≡ slice_get self.now i }
+    {
+        match self.nodes[i] {
+            Node::Does {
+                operation,
+                list,
+                line,
+                arguments,
+            } => Item::Does(Instruction {
+                line,
+                operation,
+                arguments,
+                targets: self.targets.get(list as usize),
+            }),
+            Node::Begins { line, turns } => Item::Begins { line, turns },
+            Node::Ends => Item::Ends,
+        }
+    }
+}

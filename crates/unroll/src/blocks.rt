@@ -1,9 +1,0 @@
-/// How deep blocks may stand inside one another.
-pub(crate) const LEVELS: usize = 32;
-
-/// A block that is open: its turns, and the state of a pass before it.
-#[derive(Clone, Copy, Default)]
-pub(crate) struct OpenBlock<S> {
-    pub turns: u64,
-    pub before: S,
-}
