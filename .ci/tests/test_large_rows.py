@@ -55,6 +55,22 @@ class LargePredictions(ProgramTest):
         output = bits(k % 3 != 2 for k in range(1500)) + "0\n"
         self.check(["predict", "--lines", listed(range(0, 1500, 3))], model, output)
 
+    def test_a_line_of_100_targets_in_a_block_of_900000_turns(self):
+        """90,000,000 targets are reached, each turn's one detector further; those of the first and of the last are named."""
+        model = "repeat 900000 {\n    error(0.1)" + named("D", range(100)) + "\n    shift_detectors 1\n}\n"
+        ends = "1" * 100
+        self.check(["predict", "--lines", "0,899999"], model, ends + "0" * (899_999 - 100) + ends + "\n")
+
+    def test_a_line_of_100000_targets_in_a_block_of_2000000_turns(self):
+        """2 * 10^11 targets are reached, none of an error."""
+        model = "repeat 2000000 {\n    detector(1, 2)" + named("D", range(100_000)) + "\n}\nerror(0.1) D7\n"
+        self.check(["predict", "--lines", "0"], model, "0" * 7 + "1" + "0" * (100_000 - 8) + "\n")
+
+    def test_a_line_of_2148_targets_in_a_block_of_2000000_turns(self):
+        """Three turns are named, which flip each detector three times."""
+        model = "repeat 2000000 {\n    error(0.1)" + named("D", range(2148)) + "\n}\n"
+        self.check(["predict", "--lines", "0,1,1999999"], model, "1" * 2148 + "\n")
+
     def test_an_error_line_of_1000_targets(self):
         """Error lines of more than 300 targets, which cancel where both name a detector, and 1,024 observables."""
         model = "error(0.1)" + named("D", range(0, 3000, 3)) + " ^" + named("L", range(1024)) + "\n"
