@@ -56,7 +56,7 @@ class LargePredictions(ProgramTest):
         self.check(["predict", "--lines", listed(range(0, 1500, 3))], model, output)
 
     def test_a_line_of_100_targets_in_a_block_of_900000_turns(self):
-        """90,000,000 targets are reached, each turn's one detector further; those of the first and of the last are named."""
+        """90,000,000 targets are reached, a detector further each turn; the first turn and the last are named."""
         model = "repeat 900000 {\n    error(0.1)" + named("D", range(100)) + "\n    shift_detectors 1\n}\n"
         ends = "1" * 100
         self.check(["predict", "--lines", "0,899999"], model, ends + "0" * (899_999 - 100) + ends + "\n")

@@ -1,11 +1,8 @@
 -- The greatest counts of targets, found one after another.
-use Rattle.std.proofs.Common.{◌≡◌, ℕ, suc, ◌+◌, ◌≤◌, List, [], ◌∷◌, Some, length, drop, ap, ap₂, sym, ◌∙◌, arith}
-use Rattle.std.specs.Prelude.{max, slice_get}
-use Rattle.std.proofs.lemmas.List.{drop_all}
+use Rattle.std.proofs.Common.{◌≡◌, ℕ, List, [], ◌∷◌, ap, sym, ◌∙◌, arith}
+use Rattle.std.specs.Prelude.{max}
 use Rattle.dem_lines.specs.declared.target.Target.{Target}
-use Rattle.dem_parser.specs.Meanings.{greatest_of, greatest_over}
-use Rattle.dem_parser.specs.Shifts.{Placed}
-use Rattle.dem_lines.proofs.PassLemmas.{drop_got}
+use Rattle.dem_parser.specs.Meanings.{greatest_of}
 
 pub max-none : (a : ℕ) → max a 0 ≡ a
 max-none a = omega arith

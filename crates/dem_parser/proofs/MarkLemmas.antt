@@ -1,5 +1,5 @@
 -- Detectors marked by the last line that gives them coordinates, one line after another.
-use Rattle.std.proofs.Common.{◌≡◌, ℕ, zero, suc, ◌+◌, ◌==◌, ◌<◌, ◌≤◌, Bool, true, false, not, ◌&&◌, ◌||◌, ℤ, List, [], ◌∷◌, ◌++◌, length, map, get_or, set, replicate, refl, ap, ap₂, subst, sym, ◌∙◌, inl, inr, arith, length-append, length-set}
+use Rattle.std.proofs.Common.{◌≡◌, ℕ, zero, suc, ◌+◌, ◌==◌, ◌<◌, ◌≤◌, Bool, true, false, not, ◌&&◌, ◌||◌, ℤ, List, [], ◌∷◌, ◌++◌, length, map, get_or, set, replicate, refl, ap, ap₂, sym, ◌∙◌, inl, inr, arith, length-append, length-set}
 use Rattle.std.specs.Prelude.{if◌then◌else◌}
 use Rattle.std.specs.List.{range_with_len, list_any}
 use Rattle.std.proofs.Math.Seq.{get_or-append_seam}
@@ -11,7 +11,7 @@ use Rattle.dem_lines.specs.declared.target.Target.{Target}
 use Rattle.dem_lines.specs.declared.target.Target.TheVariants.{Plain, Detector, Observable, Separator}
 use Rattle.dem_lines.specs.Verdicts.{Instruction}
 use Rattle.dem_parser.specs.Marked.{HasMarked, list_numbered, marked}
-use Rattle.dem_parser.specs.Meanings.{gives_coordinates, is_detector_of, last_coordinates}
+use Rattle.dem_parser.specs.Meanings.{is_detector_of, last_coordinates}
 use Rattle.dem_parser.specs.Shifts.{Placed, Shift, no_shift, placed_at, placed_from, shift_after}
 use Rattle.dem_parser.proofs.WalkLemmas.{placed-next, placed-none}
 

@@ -1,15 +1,13 @@
 -- The model of a text, put together from what was read of it.
-use Rattle.std.proofs.Common.{◌≡◌, ℕ, ◌≤◌, true, false, ℤ, List, [], None, Some, Ok, Err, ◌⊎◌, inl, inr, length, map, ap, ap₂, sym, ◌∙◌, arith}
+use Rattle.std.proofs.Common.{◌≡◌, ℕ, true, false, List, None, Some, Ok, Err, ◌⊎◌, inl, inr, ap, sym, ◌∙◌}
 use Rattle.std.specs.Prelude.{if◌then◌else◌, option_map}
-use Rattle.std.specs.List.{range_with_len}
 use Rattle.std.specs.Option.{option_or}
-use Rattle.std.proofs.lemmas.List.FromFn.{length-map-range_with_len}
 use Rattle.step_model.specs.declared.fault.Cause.TheVariants as cause
 use Rattle.step_model.specs.declared.fault.Fault.{Fault}
 use Rattle.step_model.specs.ErrorModels.{ErrorModel}
 use Rattle.step_model.specs.Faults.{memory_fault, without_line}
 use Rattle.dem_lines.specs.Flat.{tree_of-items}
-use Rattle.dem_parser.specs.Meanings.{detector_count, error_lines, last_coordinates, meaning_of, observable_count}
+use Rattle.dem_parser.specs.Meanings.{meaning_of}
 use Rattle.dem_parser.specs.Models.{first_beyond, model_in, model_of_items, model_of_tree, placed_lines, unless_refused_by}
 use Rattle.dem_lines.specs.Reached.{has_many_lines}
 use Rattle.dem_parser.specs.Shifts.{Placed}

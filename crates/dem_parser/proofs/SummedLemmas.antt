@@ -1,9 +1,9 @@
 -- Lines that are summed as they were read: their targets turn round what those of their error lines turn round.
-use Rattle.std.proofs.Common.{◌≡◌, ℕ, zero, suc, ◌+◌, ◌&&◌, ◌<◌, ◌≤◌, Bool, true, false, if◌then◌else◌, List, [], ◌∷◌, ◌++◌, Some, length, drop, get_or, map, replicate, refl, ap, ap₂, subst, sym, ◌∙◌, inl, inr, arith}
-use Rattle.std.specs.Prelude.{cond, filter, slice_get}
+use Rattle.std.proofs.Common.{◌≡◌, ℕ, zero, suc, ◌+◌, ◌&&◌, ◌<◌, ◌≤◌, Bool, true, false, if◌then◌else◌, List, [], ◌∷◌, ◌++◌, length, drop, get_or, map, replicate, refl, ap, ap₂, subst, sym, ◌∙◌, inl, inr, arith}
+use Rattle.std.specs.Prelude.{cond, filter}
 use Rattle.std.specs.List.{range_with_len}
 use Rattle.std.proofs.lemmas.Bool.{cases_lt, eq-eqb, ne_eqb}
-use Rattle.std.proofs.lemmas.List.{drop_all, get_or-drop, ext_get_or, length-replicate}
+use Rattle.std.proofs.lemmas.List.{get_or-drop, ext_get_or}
 use Rattle.std.proofs.lemmas.List.FromFn.{get_or-map-range_with_len, length-map-range_with_len}
 use Rattle.pauli_word.specs.Parity.{exclusive_or}
 use Rattle.step_model.specs.ErrorModels.{ErrorLine, ErrorModel}
@@ -14,7 +14,6 @@ use Rattle.dem_parser.specs.Shifts.{Placed}
 use Rattle.dem_parser.specs.Summed.{error_count, passed_after, turned_past}
 use Rattle.dem_parser.specs.Sums.{is_flipped, symptom_of, turned, turned_at, turned_by}
 use Rattle.dem_parser.proofs.NumberLemmas.{flipped-numbers}
-use Rattle.dem_lines.proofs.PassLemmas.{drop_got}
 use Rattle.dem_parser.proofs.SumLemmas.{length-turned_if, symptom-turned, turned-map}
 
 -- ---- targets one after another

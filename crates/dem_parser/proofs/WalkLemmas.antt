@@ -1,6 +1,6 @@
 -- Instructions reached one after another, from a shift on: their counts, the first that is beyond a limit, and what
 -- those of them flip that are named.
-use Rattle.std.proofs.Common.{◌≡◌, ℕ, zero, suc, ◌+◌, ◌≤◌, Bool, true, false, ℤ, List, [], ◌∷◌, None, Some, Option, length, drop, get_or, replicate, refl, ap, ap₂, subst, sym, ◌∙◌, arith}
+use Rattle.std.proofs.Common.{◌≡◌, ℕ, ◌+◌, ◌≤◌, Bool, true, false, ℤ, List, [], ◌∷◌, None, Some, length, drop, get_or, replicate, refl, ap, ap₂, sym, ◌∙◌, arith}
 use Rattle.std.specs.Prelude.{if◌then◌else◌, max, find, option_map}
 use Rattle.std.proofs.lemmas.List.{length-replicate}
 use Rattle.step_model.specs.ErrorModels.{ErrorModel}

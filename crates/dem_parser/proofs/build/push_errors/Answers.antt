@@ -1,4 +1,4 @@
-use Rattle.std.proofs.Common.{ap, ◌∙◌}
+use Rattle.std.proofs.Common.{ap}
 use Rattle.std.proofs.lemmas.List.{at_drop_more, drop_all}
 use Rattle.dem_parser.specs.Gathered.{instructions_at}
 use Rattle.dem_parser.proofs.BuildLemmas.{unrolling-done, unrolling-first, unrolling-here, unrolling-next}

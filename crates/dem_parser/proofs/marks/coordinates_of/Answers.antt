@@ -3,7 +3,6 @@ use Rattle.std.proofs.lemmas.List.{at_drop_more, drop_all}
 use Rattle.dem_lines.specs.Flat.{instruction_in}
 use Rattle.dem_parser.specs.Gathered.{instructions_at}
 use Rattle.dem_parser.specs.Marked.{list_numbered}
-use Rattle.dem_parser.specs.Offsets.{shift_of}
 use Rattle.dem_parser.specs.Shifts.{shift_after}
 use Rattle.dem_parser.proofs.MarkLemmas.{marking-done, marking-first, marking-next}
 use Rattle.dem_parser.proofs.marks.coordinates_of.Goals as goal
