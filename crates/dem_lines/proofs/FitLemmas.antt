@@ -1,7 +1,6 @@
 -- What a line says that isn't refused: an instruction fits, a block has a turn and stands where one more may be open, and
 -- a block is open where one is closed. Each question of the list was answered with no.
-use Rattle.std.proofs.Common.{◌≡◌, ℕ, ◌<◌, ◌==◌, Bool, true, false, not, ◌||◌, List, [], ◌∷◌, Option, None, Some, refl, sym, inl, inr, arith}
-use Rattle.std.specs.Prelude.{⊤, nat_le}
+use Rattle.std.proofs.Common.{◌≡◌, ℕ, ◌<◌, ◌==◌, Option, None, Some, refl, sym, inl, inr}
 use Rattle.std.proofs.lemmas.Bool.{cases_Bool, true≢false}
 use Rattle.step_model.specs.declared.fault.Cause.{Cause}
 use Rattle.stim_lexer.specs.declared.line.Braces.{Braces}
@@ -13,7 +12,7 @@ use Rattle.dem_lines.specs.declared.operation.Keyword.{Keyword}
 use Rattle.dem_lines.specs.declared.operation.Keyword.TheVariants.{Does, Repeats}
 use Rattle.dem_lines.specs.Fitting.{Fits}
 use Rattle.dem_lines.specs.Instructions.{keyword_named}
-use Rattle.dem_lines.specs.Verdicts.{Reading, Takes, Opens, Closes, Refuses, first_of, refusals, refusals_of_name, refusals_of_keyword, refusal_of, accepted, unless_refused, closed_at, judged, said_by, reading_of}
+use Rattle.dem_lines.specs.Verdicts.{Reading, refusals, refusals_of_name, refusals_of_keyword, refusal_of, accepted, unless_refused, closed_at, judged, said_by, reading_of}
 
 -- what a line says that stands inside so many open blocks
 abbrev pub ReadingFits : ℕ → Reading → Type 0

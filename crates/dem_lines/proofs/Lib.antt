@@ -1,5 +1,4 @@
 mod NameLemmas
-mod TargetLemmas
 pub mod JudgeLemmas
 mod CheckLemmas
 mod FitLemmas

@@ -2,7 +2,7 @@ ghost use Rattle.std.specs.Prelude.{◌≡◌, None, Some, IfOk, MatchBool};
 ghost use Rattle.dem_lines.specs.Targets.{marked_of, target_of, targets_in};
 
 use std::alloc::{AllocError, Allocator};
-use stim_parser::{next_piece, number_of};
+use stim_parser::{PieceValue, number_of, read_pieces};
 
 /// A target as it is written. All numbers from 10^18 on are taken as one, which is beyond every limit.
 #[derive(Clone, Copy, Debug, PartialEq, Eq)]
@@ -40,8 +40,16 @@ fn target_of(piece: &[u8]) -> Option<Target>
     }
 }
 
-/// Puts the targets of a text into `targets`, in place of what it held, and answers whether each of its pieces is a
-/// target.
+impl PieceValue for Target {
+    ghost written = { target_of };
+
+    fn of_piece(piece: &[u8]) -> Option<Target> {
+        target_of(piece)
+    }
+}
+
+/// Puts the targets of a text in place of those that were there. Answers whether each of its pieces is a target.
+#[tactic(auto, unfolding(crate::specs::Targets::targets_in))]
 pub fn read_targets<A: Allocator + Copy>(
     targets: &mut Vec<Target, A>,
     text: &[u8],
@@ -50,14 +58,5 @@ pub fn read_targets<A: Allocator + Copy>(
         (targets_in text.now ≡ Some targets.new.items)
         (targets_in text.now ≡ None)) }
 {
-    targets.clear();
-    let mut rest = text;
-    while let Some((piece, after)) = next_piece(rest) {
-        let Some(target) = target_of(piece) else {
-            return Ok(false);
-        };
-        targets.push(target)?;
-        rest = after;
-    }
-    Ok(true)
+    read_pieces(targets, text)
 }

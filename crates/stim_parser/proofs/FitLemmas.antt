@@ -1,7 +1,6 @@
 -- What a line says that isn't refused: an instruction fits, a block has a turn and stands where one more may be open, and
 -- a block is open where one is closed. Each question of the list was answered with no.
-use Rattle.std.proofs.Common.{◌≡◌, ℕ, ◌<◌, ◌==◌, Bool, true, false, not, ◌||◌, List, [], ◌∷◌, Option, None, Some, refl, sym, inl, inr, arith}
-use Rattle.std.specs.Prelude.{⊤, find, option_map, nat_le}
+use Rattle.std.proofs.Common.{◌≡◌, ℕ, ◌<◌, ◌==◌, true, Option, None, Some, refl, sym, inl, inr}
 use Rattle.std.proofs.lemmas.Bool.{cases_Bool, true≢false}
 use Rattle.step_model.specs.declared.fault.Cause.{Cause}
 use Rattle.stim_lexer.specs.declared.line.Braces.{Braces}
@@ -13,7 +12,7 @@ use Rattle.stim_parser.specs.declared.operation.Keyword.{Keyword}
 use Rattle.stim_parser.specs.declared.operation.Keyword.TheVariants.{Does, Repeats}
 use Rattle.stim_parser.specs.Circuits.{Fits}
 use Rattle.stim_parser.specs.Instructions.{keyword_named, target_form}
-use Rattle.stim_parser.specs.Verdicts.{Reading, Takes, Opens, Closes, Refuses, refusals, refusals_of_name, refusals_of_keyword, refusal_of, accepted, unless_refused, closed_at, judged, said_by, reading_of}
+use Rattle.stim_parser.specs.Verdicts.{Reading, refusals, refusals_of_name, refusals_of_keyword, refusal_of, accepted, unless_refused, closed_at, judged, said_by, reading_of}
 use Rattle.stim_parser.proofs.WrittenLemmas.{keyword_is_written, keyword_written, passes, targets_written}
 
 -- what a line says that stands inside so many open blocks

@@ -4,7 +4,7 @@ mod DigitLemmas
 mod JudgeLemmas
 mod NameLemmas
 mod PieceLemmas
-mod TargetLemmas
+mod PieceValueLemmas
 mod SignificantLemmas
 mod FitLemmas
 mod TreeLemmas

@@ -12,8 +12,8 @@ fn place_of_end(text: &[u8]) -> Option<usize>
         .position(|byte| is_blank(*byte) || *byte == b'*')
 }
 
-/// The first piece of a text, and what follows it. There is none where the text has nothing but blanks.
-pub fn next_piece(text: &[u8]) -> Option<(&[u8], &[u8])>
+/// The first piece of a text, and what follows it. There is none where all is blank.
+pub(crate) fn next_piece(text: &[u8]) -> Option<(&[u8], &[u8])>
     ensures pieces { MatchOption result (pieces_of text.now ≡ [])
         (λ cut. pieces_of text.now ≡ cut.0.now ∷ pieces_of cut.1.now) }
     ensures less { IfSome result (λ cut. length cut.1.now < length text.now) }

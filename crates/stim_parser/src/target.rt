@@ -3,7 +3,7 @@ ghost use Rattle.stim_parser.specs.Targets.{at_least_one, before_bracket, invert
 
 use crate::digits::number_of;
 use crate::halved::Number;
-use crate::piece::next_piece;
+use crate::piece_values::{PieceValue, read_pieces};
 use pauli_word::Letter;
 use std::alloc::{AllocError, Allocator};
 
@@ -113,8 +113,16 @@ fn target_of(piece: &[u8]) -> Option<Target>
     marked_of(piece)
 }
 
-/// Puts the targets of a text into `targets`, in place of what it held, and answers whether each of its pieces is a
-/// target.
+impl PieceValue for Target {
+    ghost written = { target_of };
+
+    fn of_piece(piece: &[u8]) -> Option<Target> {
+        target_of(piece)
+    }
+}
+
+/// Puts the targets of a text in place of those that were there. Answers whether each of its pieces is a target.
+#[tactic(auto, unfolding(crate::specs::Targets::targets_in))]
 pub(crate) fn read_targets<A: Allocator + Copy>(
     targets: &mut Vec<Target, A>,
     text: &[u8],
@@ -123,14 +131,5 @@ pub(crate) fn read_targets<A: Allocator + Copy>(
         (targets_in text.now ≡ Some targets.new.items)
         (targets_in text.now ≡ None)) }
 {
-    targets.clear();
-    let mut rest = text;
-    while let Some((piece, after)) = next_piece(rest) {
-        let Some(target) = target_of(piece) else {
-            return Ok(false);
-        };
-        targets.push(target)?;
-        rest = after;
-    }
-    Ok(true)
+    read_pieces(targets, text)
 }

@@ -1,0 +1,36 @@
+ghost use Rattle.std.specs.Prelude.{◌≡◌, ℕ, List, Option, None, Some, IfOk, MatchBool};
+ghost use Rattle.stim_parser.specs.Pieces.{pieces_of};
+ghost use Rattle.stim_parser.specs.Targets.{each_of};
+
+use crate::piece::next_piece;
+use std::alloc::{AllocError, Allocator};
+
+/// A value that a piece of a text writes, as a target.
+pub trait PieceValue: Copy {
+    ghost written: { List ℕ → Option Self };
+
+    /// What a piece writes, where it writes one.
+    fn of_piece(piece: &[u8]) -> Option<Self>
+        ensures { result ≡ written piece.now };
+}
+
+/// Puts what the pieces of a text write in place of the values that were there. Answers whether each of them writes one.
+pub fn read_pieces<V: PieceValue, A: Allocator + Copy>(
+    values: &mut Vec<V, A>,
+    text: &[u8],
+) -> Result<bool, AllocError>
+    ensures { IfOk result (λ all. MatchBool all
+        (each_of V.written (pieces_of text.now) ≡ Some values.new.items)
+        (each_of V.written (pieces_of text.now) ≡ None)) }
+{
+    values.clear();
+    let mut rest = text;
+    while let Some((piece, after)) = next_piece(rest) {
+        let Some(value) = V::of_piece(piece) else {
+            return Ok(false);
+        };
+        values.push(value)?;
+        rest = after;
+    }
+    Ok(true)
+}
