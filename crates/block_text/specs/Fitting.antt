@@ -1,14 +1,14 @@
--- What the tree of an accepted text keeps: each instruction fits, as its format asks; each block has a turn; and no more
--- blocks stand inside one another than may. (The limit is this project's.)
+-- What holds of the tree of an accepted text: each instruction has the arguments and targets that its format asks, each
+-- block has at least one turn, and blocks are nested no deeper than the limit. (The limit is this project's.)
 use Rattle.std.specs.Prelude.{⊤, ◌<◌, ◌≤◌, ℕ, suc, max}
 use Rattle.block_text.specs.Trees.{Tree, Nothing, Then, Block}
 use Rattle.block_text.specs.Texts.{Reading, Takes, Opens, Closes, Refuses}
 
--- how many blocks may be open
+-- the most blocks that may be open
 abbrev pub deepest : ℕ
 deepest = 32
 
--- how deep blocks stand inside one another
+-- how deep the blocks of a tree are nested
 abbrev pub depth : {I : Type 0} → Tree I → ℕ
 depth Nothing = 0
 depth (Then instruction rest) = depth rest
@@ -23,8 +23,8 @@ pub record IsBuilt {I : Type 0} (Fits : I → Type 0) (tree : Tree I) : Type 0 w
   pub fit : AllFit Fits tree
   pub shallow : depth tree ≤ deepest
 
--- what a line says fits where so many blocks are open: an instruction is one that fits, a block has a turn and stands where
--- one more may be open, and a block is open where one is closed
+-- what a line says fits where this many blocks are open: an instruction fits, a block that is opened has a turn and is not
+-- too deep, and where a block is closed one is open
 abbrev pub ReadingFits : {I : Type 0} → (I → Type 0) → ℕ → Reading I → Type 0
 ReadingFits Fits depth (Takes i) = Fits i
 ReadingFits Fits depth (Opens turns) = (0 < turns) × (depth < 32)

@@ -1,5 +1,5 @@
--- A tree kept flat, as its text writes it: a list of items. Items give back their tree: read from the last item on, the end
--- of a block starts a body, and the start of a block takes the body that is found.
+-- A tree kept flat, as its text writes it: a list of items. The tree is found again by reading them from the last to the
+-- first: the end of a block starts a body, and the start of a block takes the body that was found.
 use Rattle.std.specs.Prelude.{◌≡◌, ℕ, ◌⊎◌, List, [], ◌∷◌, ◌++◌, refl}
 use Rattle.std.specs.Coded.{Coded, code_by, coded×, coded⊎, coded_ℕ, coded_list}
 use Rattle.std.proofs.Common.{sym, ap, ◌∙◌, append_assoc, append-nil, inl, inr}
@@ -8,7 +8,7 @@ use Rattle.block_text.specs.Trees.{Item, Does, Begins, Ends, Tree, Nothing, Then
 
 -- ---- the tree of items
 
--- an item before the trees that were read behind it: the innermost one, and those that follow the ends of blocks
+-- an item put before the trees that were read after it: the innermost one, and those that follow the ends of blocks
 abbrev pub onto : {I : Type 0} → Item I → List (Tree I) → List (Tree I)
 onto (Does i) [] = []
 onto (Does i) (t ∷ ts) = Then i t ∷ ts
@@ -40,7 +40,7 @@ pub tree_of-items : {I : Type 0} (t : Tree I) → tree_of (items_of t) ≡ t
 tree_of-items {I} t =
     ap (λ (items : List (Item I)). tree_of items) (sym (append-nil (items_of t))) ∙ ap first_tree (read_back t [] [] refl)
 
--- these are the items of a tree whose instructions fit, whose blocks have turns and which is not too deep
+-- these are the items of the tree of an accepted text
 pub record IsWritten {I : Type 0} (Fits : I → Type 0) (items : List (Item I)) : Type 0 where
   pub written : items_of (tree_of items) ≡ items
   pub fits : IsBuilt Fits (tree_of items)

@@ -1,5 +1,5 @@
--- What is kept of items, and what is handed out of them: the targets of an instruction are one of the lists that are kept
--- beside.
+-- What is kept of items, and what is handed out of them. The targets of all instructions are kept in one list of lists, and
+-- an instruction keeps the number of its list.
 use Rattle.std.specs.Prelude.{⊤, ℕ, ◌<◌, List, [], map, slice_index_or}
 use Rattle.block_text.specs.declared.items.Instruction as instruction
 use Rattle.block_text.specs.declared.items.Item as handed
@@ -10,7 +10,7 @@ use Rattle.block_text.specs.Arguments.{arguments_in}
 use Rattle.block_text.specs.Instructions.{Instruction}
 use Rattle.block_text.specs.Trees.{Item, Does, Begins, Ends}
 
--- an instruction's heading names a list that is there
+-- the list that a kept item names is there
 abbrev pub HasTargets : {O : Type 0} → ℕ → Node O → Type 0
 HasTargets count (node.Does operation list line arguments) = list < count
 HasTargets count kept = ⊤

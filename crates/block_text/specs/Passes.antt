@@ -1,16 +1,16 @@
--- A pass over a text of lines and blocks as it stands: a state that each instruction changes, and that each end of a block
--- changes by the block's turns, from the state before the block and the state behind its first turn. So a pass goes over
--- each instruction once, whatever the turns of the blocks round it.
+-- A pass over a text of lines and blocks: a state, which each instruction changes. At the end of a block the state after
+-- all its turns is made from the state before the block and the state after its first turn. So a pass goes over each
+-- instruction once, however often the blocks around it are repeated.
 use Rattle.std.specs.Prelude.{◌≡◌, ◌<◌, ℕ, List, [], ◌∷◌, ◌++◌}
 use Rattle.block_text.specs.Trees.{Item, Does, Begins, Ends, Tree, Nothing, Then, Block}
 use Rattle.block_text.specs.declared.blocks.OpenBlock.{OpenBlock}
 
 pub record Pass (I S : Type 0) : Type 0 where
   pub step : I → S → S
-  -- the turns, the state before the block, and the state behind its first turn
+  -- the number of turns, the state before the block, and the state after its first turn
   pub close : ℕ → S → S → S
 
--- the state behind a tree
+-- the state after a tree
 abbrev pub behind : {I S : Type 0} → Pass I S → Tree I → S → S
 behind pass Nothing s = s
 behind pass (Then i rest) s = behind pass rest (pass.step i s)
@@ -19,13 +19,13 @@ behind pass (Block line turns body rest) s = behind pass rest (pass.close turns 
 abbrev pub opened : {S : Type 0} → ℕ → S → OpenBlock S
 opened turns s = record { turns = turns; before = s }
 
--- an item can stand where so many blocks are open
+-- an item can stand where this many blocks are open
 abbrev pub CanStand : {I : Type 0} → (I → Type 0) → Item I → ℕ → Type 0
 CanStand Fits (Does i) depth = Fits i
 CanStand Fits (Begins line turns) depth = (0 < turns) × (depth < 32)
 CanStand Fits Ends depth = 0 < depth
 
--- one block less is open, and its turns are over
+-- the innermost block is closed, and its turns are over
 pub record HasClosed {I S : Type 0} (pass : Pass I S) (s : S) (blocks : List (OpenBlock S)) (s' : S) (blocks' : List (OpenBlock S)) : Type 0 where
   pub last : OpenBlock S
   pub open_is : blocks ≡ blocks' ++ last ∷ []

@@ -1,5 +1,5 @@
--- What a judge hands out of a cut line: the targets of an instruction stand apart from the rest, and its arguments are still
--- the text in its parentheses.
+-- What the judge of a format hands out of a cut line. The targets of an instruction are handed out apart from the rest,
+-- and its arguments are still the text in its parentheses.
 use Rattle.std.specs.Prelude.{⊤, ℕ, ◌<◌, List}
 use Rattle.block_text.specs.declared.said.Said.{Said}
 use Rattle.block_text.specs.declared.said.Said.TheVariants as said
@@ -7,7 +7,7 @@ use Rattle.block_text.specs.Arguments.{arguments_in}
 use Rattle.block_text.specs.Instructions.{Instruction}
 use Rattle.block_text.specs.Texts.{Reading, Takes, Opens, Closes, Refuses}
 
--- what a line of a number says, with the targets that were read of it
+-- what the line of this number says, with the targets that were read from it
 abbrev pub reading_in : {O T : Type 0} → ℕ → Said O → List T → Reading (Instruction O T)
 reading_in line (said.Takes operation arguments) targets =
     Takes
@@ -21,7 +21,7 @@ reading_in line (said.Opens turns) targets = Opens turns
 reading_in line said.Closes targets = Closes
 reading_in line (said.Refuses c) targets = Refuses c
 
--- a block is opened only where one more may be open
+-- where a block is opened, one more may be open
 abbrev pub OpensFew : {O : Type 0} → ℕ → Said O → Type 0
 OpensFew depth (said.Opens turns) = depth < 32
 OpensFew depth said = ⊤

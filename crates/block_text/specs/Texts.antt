@@ -1,6 +1,6 @@
 -- What a whole text says: the items of its lines in their order, or its refusal. Lines that say nothing are passed over.
--- The first line that is refused refuses the text; where none is, a block that is left open does, and then by the line of the
--- innermost open block. Lines are numbered from 1.
+-- The first line that is refused is the text's refusal. Where there is none but a block is left open, the text is refused
+-- by the line of the innermost open block. Lines are numbered from 1.
 use Rattle.std.specs.Prelude.{◌≡◌, ℕ, ◌+◌, if◌then◌else◌, List, [], ◌∷◌, length, drop, Option, None, Some, Result, Ok, Err}
 use Rattle.step_model.specs.declared.fault.Fault.{Fault}
 use Rattle.step_model.specs.declared.fault.Cause.{Cause}
@@ -9,15 +9,15 @@ use Rattle.stim_lexer.specs.Cut.{Cut, cut_of, has_bad_byte}
 use Rattle.stim_lexer.specs.Lines.{lines_of, says_nothing}
 use Rattle.block_text.specs.Trees.{Item, Does, Begins, Ends, Tree, items_of}
 
--- what a line says: an instruction; the start of a block of so many turns; the end of a block; or a refusal
+-- what a line says: an instruction; the start of a block of this many turns; the end of a block; or a refusal
 pub data Reading (I : Type 0) : Type 0 where
   Takes : I → Reading I
   Opens : ℕ → Reading I
   Closes : Reading I
   Refuses : Cause → Reading I
 
--- a format of texts: what a cut line of a number says where so many blocks are open, and the refusal of a block that is
--- left open
+-- a format of texts: what the cut line of a number says where this many blocks are open, and the cause of the refusal of a
+-- block that is left open
 pub record Format (I : Type 0) : Type 0 where
   pub reading_of : ℕ → ℕ → Cut → Reading I
   pub left_open : Cause
@@ -53,12 +53,12 @@ abbrev pub at_end : {I : Type 0} → Format I → List ℕ → Result (List (Ite
 at_end format [] = Ok []
 at_end format (line ∷ opened) = Err (refused format.left_open line)
 
--- a line of a number as it stands, in these open blocks: bytes are judged before all else
+-- what the line of a number says in these open blocks: its bytes are judged before all else
 abbrev pub line_reading : {I : Type 0} → Format I → List ℕ → ℕ → List ℕ → Reading I
 line_reading format opened number line =
     if has_bad_byte line then Refuses cause.Byte else format.reading_of (length opened) number (cut_of line)
 
--- the items of lines, of which so many came before, in these open blocks
+-- the items of lines, of which this many came before, in these open blocks
 unfoldable pub items_from : {I : Type 0} → Format I → List ℕ → ℕ → List (List ℕ) → Result (List (Item I)) Fault
 items_from format opened read [] = at_end format opened
 items_from format opened read (line ∷ lines) =

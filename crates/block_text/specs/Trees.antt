@@ -1,15 +1,15 @@
--- What a text of lines and blocks writes, as a tree: instructions, and blocks with their turns and what stands in them. A
--- tree and its text say the same items in the same order, and so no two trees have one text.
+-- What a text of lines and blocks writes, as a tree: instructions, and blocks with the number of their turns and what
+-- stands in them. A tree and its text say the same items in the same order, and so no two trees have one text.
 use Rattle.std.specs.Prelude.{ℕ, List, [], ◌∷◌, ◌++◌}
 
--- an instruction, the start of a block by its line and its turns, or the end of a block
+-- an instruction, the start of a block with its line and turns, or the end of a block
 pub data Item (I : Type 0) : Type 0 where
   Does : I → Item I
   Begins : ℕ → ℕ → Item I
   Ends : Item I
 
--- what stands in a text or in a block, from the first on: an instruction and the rest, or a block by its line, its turns
--- and its body, and the rest
+-- what stands in a text or in a block, from the first on: nothing; an instruction and the rest; or a block, with its line,
+-- its turns and its body, and the rest
 pub data Tree (I : Type 0) : Type 0 where
   Nothing : Tree I
   Then : I → Tree I → Tree I

@@ -1,5 +1,5 @@
--- A text that is read line by line: the items so far, and the lines of the open blocks. A line that isn't refused puts its
--- item behind them.
+-- A text that is read line by line: the items so far, and the lines of the open blocks. A line that isn't refused adds its
+-- item.
 use Rattle.std.specs.Prelude.{ℕ, List, [], ◌∷◌, ◌++◌, length, Option, None, Some, refl}
 use Rattle.std.specs.Coded.{Coded, code_by, coded×, coded_ℕ, coded_list}
 use Rattle.step_model.specs.declared.fault.Cause.{Cause}
@@ -19,7 +19,7 @@ coded_unfinished {I} instruction =
     (λ p. record { items = p.0; opened = p.1 })
     (λ _. refl)
 
--- what a line says behind these
+-- the state after a line that says this
 abbrev pub reading_at : {I : Type 0} → Format I → Unfinished I → ℕ → Cut → Reading I
 reading_at format u number cut = format.reading_of (length u.opened) number cut
 

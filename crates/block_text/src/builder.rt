@@ -30,7 +30,7 @@ impl<'a, O: Copy, T: Copy, A: Allocator + Copy> Model for Builder<'a, O, T, A> {
 }
 
 impl<'a, O: Copy, T: Copy, A: Allocator + Copy> Builder<'a, O, T, A> {
-    /// Nothing was read. Takes no memory.
+    /// A text of which no line was read. Takes no memory.
     pub fn new(alloc: A) -> Self
         ensures { result ≡ record { items = []; opened = [] } }
     {
@@ -48,8 +48,8 @@ impl<'a, O: Copy, T: Copy, A: Allocator + Copy> Builder<'a, O, T, A> {
         self.blocks.len()
     }
 
-    /// Puts what a line of a number says behind what was read. Answers why the line is refused, where it is. It may fail
-    /// only where memory runs out; what was read before isn't used then.
+    /// Adds what the line of a number says. Answers the cause where the line is refused. It fails where memory runs out or
+    /// lines or targets outgrow 32 bits; what was read before can't be used then.
     pub fn take(
         &mut self,
         line: u64,
@@ -83,7 +83,7 @@ impl<'a, O: Copy, T: Copy, A: Allocator + Copy> Builder<'a, O, T, A> {
         Ok(None)
     }
 
-    /// The items that were read. A block that is left open is refused, for the given cause, by the line of the innermost.
+    /// The items that were read. Where a block is left open, the refusal for this cause, with the line of the innermost.
     pub fn finish(mut self, cause: Cause) -> Result<Items<'a, O, T, A>, Fault>
         ensures ok { IfOk result (λ items. (self.entry.opened ≡ []) × (items ≡ self.entry.items)) }
         ensures err { IfErr result (λ fault. left_open cause self.entry.opened ≡ Some fault) }

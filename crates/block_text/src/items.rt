@@ -11,12 +11,12 @@ use std::marker::Model;
 pub struct Instruction<'c, 'a, O, T> {
     pub line: u64,
     pub operation: O,
-    /// Empty where there are no parentheses, too.
+    /// Empty also where there are no parentheses.
     pub arguments: &'a [u8],
     pub targets: &'c [T],
 }
 
-/// What stands at a place of a text: an instruction, the start of a block by its line and its turns, or the end of the
+/// What stands at a place of a text: an instruction, the start of a block with its line and turns, or the end of the
 /// innermost block.
 #[derive(Clone, Copy)]
 pub enum Item<'c, 'a, O, T> {
@@ -25,7 +25,7 @@ pub enum Item<'c, 'a, O, T> {
     Ends,
 }
 
-/// What is kept of an item: all but the targets of an instruction, of which it has the number of their list.
+/// What is kept of an item: all but the targets of an instruction, whose list it names by its number.
 #[derive(Clone, Copy)]
 pub(crate) enum Node<'a, O> {
     // Small fields first and a list's number in 32 bits: so a node takes 32 bytes and not 48.
@@ -73,7 +73,7 @@ impl<'a, O: Copy, T: Copy, A: Allocator + Copy> Items<'a, O, T, A> {
         }
     }
 
-    /// How many items there are, the ends of blocks too.
+    /// How many items there are, with the ends of blocks.
     #[inline(always)]
     pub fn len(&self) -> usize
         ensures { result ≡ length self.now }

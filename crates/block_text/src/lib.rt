@@ -1,5 +1,5 @@
-//! Texts of lines and blocks: a line is an instruction, or opens or closes a block. What a line says is told by the judge of
-//! a format, as of circuits or of error models.
+//! Texts of lines and blocks: a line is an instruction, or opens or closes a block. The judge of a format, such as that of
+//! circuits or of error models, says which.
 #![tactic(auto)]
 
 mod blocks;

@@ -1,11 +1,11 @@
 use step_model::Cause;
 
-/// What a line says; the targets of what it takes stand apart.
+/// What a line says; the targets of an instruction are kept apart.
 #[derive(Clone, Copy)]
 pub enum Said<'a, O> {
     /// An instruction, and what stands in its parentheses.
     Takes { operation: O, arguments: &'a [u8] },
-    /// The start of a block of so many turns.
+    /// The start of a block of this many turns.
     Opens(u64),
     /// The end of a block.
     Closes,

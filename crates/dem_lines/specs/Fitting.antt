@@ -26,6 +26,6 @@ depth tree = fitting.depth tree
 abbrev pub AllFit : Tree → Type 0
 AllFit tree = fitting.AllFit Fits tree
 
--- each instruction fits, each block has a turn, and no more blocks stand inside one another than may
+-- a tree that is accepted: its instructions fit, its blocks have turns, and it is not too deep
 abbrev pub IsAccepted : Tree → Type 0
 IsAccepted tree = fitting.IsBuilt Fits tree

@@ -1,6 +1,6 @@
--- A pass over an error model as its text stands: a state that each instruction changes, and that each end of a block
--- changes by the block's turns, from the state before the block and the state behind its first turn. So a pass goes over
--- each instruction once, whatever the turns of the blocks round it.
+-- A pass over the text of an error model: a state, which each instruction changes. At the end of a block the state after all its turns
+-- is made from the state before the block and the state after its first turn. So a pass goes over each instruction once,
+-- however often the blocks around it are repeated.
 -- (Stim's detector error model format, github.com/quantumlib/Stim, doc/file_format_dem_detector_error_model.md,
 -- "repeat".)
 use Rattle.std.specs.Prelude.{ℕ}

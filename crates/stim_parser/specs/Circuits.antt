@@ -1,5 +1,6 @@
--- What a circuit's tree keeps: each instruction fits what its operation takes, each block has a turn, and no more blocks stand
--- inside one another than may. (Stim's circuit format; the limits are this project's.)
+-- What holds of a circuit's tree: each instruction has the arguments and targets that its operation takes, each block
+-- has at least one turn, and blocks are nested no deeper than the limit. (Stim's circuit format; the limits are this
+-- project's.)
 use Rattle.std.specs.Prelude.{◌≡◌, nat_le, ℕ, Bool, false, true, not}
 use Rattle.std.specs.List.{list_all}
 use Rattle.step_model.specs.WellFormed.{is_I}
@@ -47,6 +48,6 @@ depth tree = fitting.depth tree
 abbrev pub AllFit : Tree → Type 0
 AllFit tree = fitting.AllFit Fits tree
 
--- each instruction fits, each block has a turn, and no more blocks stand inside one another than may
+-- a tree that is accepted: its instructions fit, its blocks have turns, and it is not too deep
 abbrev pub IsCircuit : Tree → Type 0
 IsCircuit tree = fitting.IsBuilt Fits tree

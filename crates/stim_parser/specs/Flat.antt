@@ -1,5 +1,5 @@
--- A circuit kept flat, as its text writes it: a list of items. Items give back their tree: read from the last item on, the
--- end of a block starts a body, and the start of a block takes the body that is found.
+-- A circuit kept flat, as its text writes it: a list of items. The tree is found again by reading them from the last to
+-- the first: the end of a block starts a body, and the start of a block takes the body that was found.
 -- (Stim's circuit format, github.com/quantumlib/Stim, doc/file_format_stim_circuit.md, "REPEAT blocks".)
 use Rattle.std.specs.Prelude.{◌≡◌, List}
 use Rattle.std.specs.Coded.{Coded}

@@ -1,8 +1,7 @@
 -- What a whole text says: the items of its lines in their order, or its refusal. Lines that say nothing are passed over.
--- The first line that is refused refuses the text; where none is, a block that is left open does, and then by the line of the
--- innermost open REPEAT. Lines are numbered from 1.
--- (Stim's circuit format, github.com/quantumlib/Stim, doc/file_format_stim_circuit.md; the order of refusals is this
--- project's.)
+-- The first line that is refused is the text's refusal. Where there is none but a block is left open, the text is refused
+-- by the line of the innermost open REPEAT. Lines are numbered from 1. (Stim's circuit format,
+-- github.com/quantumlib/Stim, doc/file_format_stim_circuit.md; the order of refusals is this project's.)
 use Rattle.std.specs.Prelude.{ℕ, List, Result}
 use Rattle.step_model.specs.declared.fault.Fault.{Fault}
 use Rattle.step_model.specs.declared.fault.Cause.TheVariants as cause
@@ -12,7 +11,7 @@ pub use Rattle.block_text.specs.Texts.{refused, before, open_after, followed}
 pub use Rattle.block_text.specs.Trees.{Does, Begins, Ends}
 use Rattle.stim_parser.specs.Verdicts.{Instruction, Reading, reading_of}
 
--- an instruction, the start of a block by its line and its turns, or the end of a block
+-- an instruction, the start of a block with its line and turns, or the end of a block
 abbrev pub Item : Type 0
 Item = trees.Item Instruction
 
@@ -28,7 +27,7 @@ at_end opened = text.at_end circuits opened
 abbrev pub line_reading : List ℕ → ℕ → List ℕ → Reading
 line_reading opened number line = text.line_reading circuits opened number line
 
--- the items of lines, of which so many came before, in these open blocks
+-- the items of lines, of which this many came before, in these open blocks
 abbrev pub items_from : List ℕ → ℕ → List (List ℕ) → Result (List Item) Fault
 items_from opened read lines = text.items_from circuits opened read lines
 

@@ -1,5 +1,5 @@
--- The circuit that a text writes, as a tree: instructions, and blocks with their turns and what stands in them. A tree
--- and its text say the same items in the same order, and so no two trees have one text.
+-- The circuit that a text writes, as a tree: instructions, and blocks with the number of their turns and what
+-- stands in them. A tree and its text say the same items in the same order, and so no two trees have one text.
 -- (Stim's circuit format, github.com/quantumlib/Stim, doc/file_format_stim_circuit.md, "REPEAT blocks".)
 use Rattle.std.specs.Prelude.{ℕ, List}
 use Rattle.step_model.specs.declared.fault.Fault.{Fault}
@@ -9,8 +9,8 @@ pub use Rattle.block_text.specs.Trees.{Nothing, Then, Block}
 use Rattle.stim_parser.specs.Texts.{Item, circuits}
 use Rattle.stim_parser.specs.Verdicts.{Instruction}
 
--- what stands in a circuit or in a block, from the first on: an instruction and the rest, or a block by its line, its
--- turns and its body, and the rest
+-- what stands in a circuit or in a block, from the first on: nothing; an instruction and the rest; or a block, with its line,
+-- its turns and its body, and the rest
 abbrev pub Tree : Type 0
 Tree = trees.Tree Instruction
 

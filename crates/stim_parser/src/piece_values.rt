@@ -5,16 +5,16 @@ ghost use Rattle.stim_parser.specs.Targets.{each_of};
 use crate::piece::next_piece;
 use std::alloc::{AllocError, Allocator};
 
-/// A value that a piece of a text writes, as a target.
+/// A value that a piece of a text writes, such as a target.
 pub trait PieceValue: Copy {
     ghost written: { List ℕ → Option Self };
 
-    /// What a piece writes, where it writes one.
+    /// The value that a piece writes; none where it writes none.
     fn of_piece(piece: &[u8]) -> Option<Self>
         ensures { result ≡ written piece.now };
 }
 
-/// Puts what the pieces of a text write in place of the values that were there. Answers whether each of them writes one.
+/// Puts the values that the pieces of a text write in place of those that were there. Answers whether each piece writes one.
 pub fn read_pieces<V: PieceValue, A: Allocator + Copy>(
     values: &mut Vec<V, A>,
     text: &[u8],

@@ -12,13 +12,13 @@ use std::alloc::{AllocError, Allocator};
 use step_model::{Cause, Fault};
 use stim_lexer::{Lexer, Line};
 
-/// What tells the lines of a format, as of circuits or of error models: what they do, their targets, and why a line is
-/// refused.
+/// The judge of a format, such as that of circuits or of error models: it says what a line does, reads its targets, and says
+/// why a line is refused.
 pub trait Judge<O: Copy, T: Copy> {
     ghost format: { Format (Instruction O T) };
 
-    /// Reads a cut line where so many blocks are open, and puts its targets in place of those that were there. Where it
-    /// is no instruction that is taken, what stands in their place is not said.
+    /// Reads a cut line where `depth` blocks are open, and puts its targets in place of those that were there. Where the line
+    /// isn't an instruction that is accepted, nothing is promised of the targets.
     fn read_line<'a, A: Allocator + Copy>(
         last: &mut Last<'a>,
         targets: &mut Vec<T, A>,
@@ -28,12 +28,12 @@ pub trait Judge<O: Copy, T: Copy> {
         ensures reading { IfOk result (λ said. reading_in line.entry.number said targets.new.items ≡ format.reading_of depth line.entry.number (cut_in line.entry)) }
         ensures few { IfOk result (λ said. OpensFew depth said) };
 
-    /// The refusal of a block that is left open.
+    /// The cause of the refusal of a block that is left open.
     fn left_open() -> Cause
         ensures { result ≡ format.left_open };
 }
 
-/// Reads a line behind those that were read. Answers why it is refused, where it is.
+/// Reads the next line. Answers the cause where it is refused.
 fn read_next<'a, O: Copy, T: Copy, J: Judge<O, T>, A: Allocator + Copy>(
     builder: &mut Builder<'a, O, T, A>,
     last: &mut Last<'a>,
@@ -48,8 +48,8 @@ fn read_next<'a, O: Copy, T: Copy, J: Judge<O, T>, A: Allocator + Copy>(
     builder.take(number, said, targets.as_slice())
 }
 
-/// The items of a text in the format of a judge, or the first refusal of its lines. Memory is refused only where it runs
-/// out.
+/// The items of a text in the format of a judge, or the text's refusal. The cause is `Memory` only where memory runs out or
+/// a number of lines or targets outgrows 32 bits.
 pub fn read_items<'a, O: Copy, T: Copy, J: Judge<O, T>, A: Allocator + Copy>(
     alloc: A,
     text: &'a [u8],

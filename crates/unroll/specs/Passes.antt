@@ -1,6 +1,6 @@
--- A pass over a circuit as its text stands: a state that each instruction changes, and that each end of a block changes by
--- the block's turns, from the state before the block and the state behind its first turn. So a pass goes over each
--- instruction once, whatever the turns of the blocks round it.
+-- A pass over the text of a circuit: a state, which each instruction changes. At the end of a block the state after all its turns
+-- is made from the state before the block and the state after its first turn. So a pass goes over each instruction once,
+-- however often the blocks around it are repeated.
 -- (Stim's circuit format, github.com/quantumlib/Stim, doc/file_format_stim_circuit.md, "REPEAT blocks".)
 use Rattle.std.specs.Prelude.{ℕ}
 use Rattle.block_text.specs.Passes as passes
