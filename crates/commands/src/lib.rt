@@ -1,5 +1,6 @@
 //! What a command line asks for, done from a runtime's standard input to its standard output.
 #![tactic(auto)]
+
 ghost use Rattle.std.specs.Prelude.{◌≡◌, ◌≢◌};
 ghost use Rattle.clap.specs.declared.error.kind.ErrorKind.TheVariants.{OutOfMemory, DisplayHelp};
 ghost use Rattle.commands.specs.declared.Reply.TheVariants.{Nothing, Help, Usage};
