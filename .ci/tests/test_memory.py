@@ -96,14 +96,12 @@ class WantOfMemory(ProgramTest):
                 self.assertGreater(refused, 3)
 
     def test_words_that_leave_little_memory(self):
-        """A list of faults of rising length leaves less and less to the reading of the words, and then to the words."""
-        start = least_to_start()
-        for pages in 25, 35, 45:
-            refused = 0
-            for length in range(1_000, 131_000, 1_000):
-                # Zeros in front are allowed: this is the fault 0.
-                written, status = run_within(start + pages * PAGE, ["run", "--faults", "0" * length], "X_ERROR(0.1) 0\nM 0\n")
-                self.assertIn((written, status), [(b"1\n\n", 0), (b"", 1)], f"{length} bytes, {pages} pages")
-                refused += status == 1
-            with self.subTest(pages=pages):
-                self.assertGreater(refused, 10)
+        """Coins of rising length leave less and less for what is done with the words, until there is too little for them."""
+        limit = least_to_start() + 25 * PAGE
+        refused = 0
+        for length in range(1_000, 65_000, 101):
+            words = ["run", "--coins", "0" * length, "--faults", "0" * 50_000]
+            written, status = run_within(limit, words, "X_ERROR(0.1) 0\nM 0\n")
+            self.assertIn((written, status), [(b"refused 50 line 0\n", 2), (b"", 1)], f"{length} bytes")
+            refused += status == 1
+        self.assertGreater(refused, 10)

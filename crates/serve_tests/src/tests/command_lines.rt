@@ -1,5 +1,5 @@
 //! What the program writes and how it ends, for its words and its input, by a runtime of the tests' own.
-mod long_texts;
+mod long_outputs;
 mod rows;
 mod runtime;
 
@@ -125,6 +125,27 @@ fn check_help(rt: &impl Abort, alloc: Global, words: &[&str], text: &str) -> Res
     Ok(())
 }
 
+/// Where the output takes nothing the status is 1, whatever was asked.
+#[test]
+fn a_closed_output_ends_with_1(rt: HostRuntime) {
+    let table: [&[&str]; 10] = [
+        &["run"],
+        &["analyze"],
+        &["sample", "--shots", "1"],
+        &["detect", "--shots", "1"],
+        &["faults"],
+        &["predict"],
+        &["run", "--faults", "9"],
+        &["predict", "--help"],
+        &["--help"],
+        &["walk"],
+    ];
+    for words in table {
+        let test = TestRuntime::new(rt.alloc(), words, DETECTED.as_bytes()).with_closed_output();
+        assert_eq!(rt; respond(&test), 1, "{words:?}");
+    }
+}
+
 /// Words by which the input is read.
 const READING: &[&[&str]] = &[
     &["run"],
@@ -136,24 +157,6 @@ const READING: &[&[&str]] = &[
     &["run", "--faults", "9"],
     &["sample", "--shots", "1000001"],
 ];
-
-/// Words by which it isn't.
-const QUIET: &[&[&str]] = &[&["predict", "--help"], &["--help"], &["walk"]];
-
-/// Where the output takes nothing the status is 1, whatever was asked.
-#[test]
-fn a_closed_output_ends_with_1(rt: HostRuntime) {
-    for table in [READING, QUIET] {
-        for words in table {
-            ends_with_1(&rt, rt.alloc(), words);
-        }
-    }
-}
-
-fn ends_with_1(rt: &impl Abort, alloc: Global, words: &[&str]) {
-    let test = TestRuntime::new(alloc, words, DETECTED.as_bytes()).with_closed_output();
-    assert_eq!(rt; respond(&test), 1, "{words:?}");
-}
 
 /// Where the input fails the status is 1, whatever was asked, and nothing is written.
 #[test]
