@@ -11,8 +11,7 @@ use std::marker::Model;
 #[derive(Drop)]
 pub struct FlatLists<T: Copy, A: Allocator + Copy> {
     items: Vec<T, A>,
-    // An end takes 32 bits and not 64: of short lists there are as many ends as items, or more.
-    ends: Vec<u32, A>,
+    ends: Vec<usize, A>,
 }
 
 impl<T: Copy, A: Allocator + Copy> Model for FlatLists<T, A> {
@@ -53,21 +52,16 @@ impl<T: Copy, A: Allocator + Copy> FlatLists<T, A> {
         self.len() == 0
     }
 
-    /// Appends a copy of the list. It fails only where memory runs out, or where all lists together would have more
-    /// than `u32::MAX` items.
+    /// Appends a copy of the list. It fails only where memory runs out.
     #[tactic(auto, using(crate::proofs::CutLemmas::pushes))]
     pub fn push(&mut self, list: &[T]) -> Result<(), AllocError>
         ensures ok { OnOk result (self.new ≡ self.old ++ list.now ∷ []) }
         ensures err { OnErr result (self.new ≡ self.old) }
     {
-        let end = self.items.len().saturating_add(list.len());
-        if end > u32::MAX as usize {
-            return Err(AllocError);
-        }
         // Room for the end first, so that nothing changes where memory runs out.
         self.ends.reserve(1)?;
         self.items.extend_from_slice(list)?;
-        self.ends.push_reserved(end as u32);
+        self.ends.push_reserved(self.items.len());
         Ok(())
     }
 
@@ -80,20 +74,20 @@ impl<T: Copy, A: Allocator + Copy> FlatLists<T, A> {
         ensures value { result.now ≡ slice_index_or self.now index [] }
     {
         let start = start_of(&self.ends, index);
-        let end = self.ends[index] as usize;
+        let end = self.ends[index];
         &self.items[start..end]
     }
 }
 
 // Where the list at an index starts: where the one before it ends, and the first at 0.
 #[inline(always)]
-fn start_of(ends: &[u32], index: usize) -> usize
+fn start_of(ends: &[usize], index: usize) -> usize
     requires { index < length ends.now }
     ensures { result ≡ slice_index (0 ∷ ends.now) index }
 {
     if index == 0 {
         0
     } else {
-        ends[index - 1] as usize
+        ends[index - 1]
     }
 }
