@@ -51,7 +51,7 @@ pub(crate) struct TextStore<'p, 'a, A: Allocator + Copy> {
     program: &'p Program<'a, A>,
     chances: ChanceTable<'p, 'a>,
     // For each part of the table the number of its text among those that are kept beside the lines.
-    numbers: Vec<u32, A>,
+    numbers: Vec<usize, A>,
     text: LinesText<'a, A>,
     ghost fits: { IsTextFor program.now chances numbers.items text },
 }
@@ -87,7 +87,7 @@ fn kept_numbers<'a, A: Allocator + Copy>(
     alloc: A,
     parts: &[EntryPart<'a>],
     text: &mut LinesText<'a, A>,
-) -> Result<Vec<u32, A>, AllocError>
+) -> Result<Vec<usize, A>, AllocError>
     ensures numbers { IfOk result (λ numbers. AreNumbers parts.now text.new.texts numbers.items) }
     ensures counted { IfOk result (λ numbers. length numbers.items ≡ length parts.now) }
     ensures detectors { text.new.detectors ≡ text.old.detectors }
@@ -103,7 +103,7 @@ fn kept_numbers<'a, A: Allocator + Copy>(
 fn keep_each<'a, A: Allocator + Copy>(
     parts: &[EntryPart<'a>],
     text: &mut LinesText<'a, A>,
-    numbers: &mut Vec<u32, A>,
+    numbers: &mut Vec<usize, A>,
 ) -> Result<(), AllocError>
     requires { numbers.old.items ≡ [] }
     ensures numbers { OnOk result (AreNumbers parts.now text.new.texts numbers.new.items) }
@@ -126,6 +126,6 @@ impl<'p, 'a, A: Allocator + Copy> LineStore for TextStore<'p, 'a, A> {
 
     fn give(&mut self, entry: u32, targets: &[u32]) -> Result<(), AllocError> {
         let chance = self.chances.numbers[entry as usize];
-        self.text.put_line(self.numbers[chance as usize], targets)
+        self.text.put_line(self.numbers[chance], targets)
     }
 }

@@ -1,6 +1,6 @@
--- What is kept of items, and what is handed out of them. The targets of all instructions are kept in one list of lists, and
--- an instruction keeps the number of its list.
-use Rattle.std.specs.Prelude.{⊤, ℕ, ◌<◌, List, [], map, slice_index_or}
+-- What is kept of items, and what is handed out of them. The targets of all items are kept in one list of lists, which are
+-- empty where an item isn't an instruction.
+use Rattle.std.specs.Prelude.{List, [], ◌∷◌}
 use Rattle.block_text.specs.declared.items.Instruction as instruction
 use Rattle.block_text.specs.declared.items.Item as handed
 use Rattle.block_text.specs.declared.items.Item.TheVariants as item
@@ -10,25 +10,16 @@ use Rattle.block_text.specs.Arguments.{arguments_in}
 use Rattle.block_text.specs.Instructions.{Instruction}
 use Rattle.block_text.specs.Trees.{Item, Does, Begins, Ends}
 
--- the list that a kept item names is there
-abbrev pub HasTargets : {O : Type 0} → ℕ → Node O → Type 0
-HasTargets count (node.Does operation list line arguments) = list < count
-HasTargets count kept = ⊤
-
-abbrev pub item_kept : {O T : Type 0} → List (List T) → Node O → Item (Instruction O T)
-item_kept lists (node.Does operation list line arguments) =
-    Does
-    (record {
-      line = line;
-      operation = operation;
-      arguments = arguments_in arguments.now;
-      targets = slice_index_or lists list [];
-    })
-item_kept lists (node.Begins line turns) = Begins line turns
-item_kept lists node.Ends = Ends
+-- an item, from its targets and what is kept of it beside them
+abbrev pub item_kept : {O T : Type 0} → List T → Node O → Item (Instruction O T)
+item_kept targets (node.Does operation line arguments) =
+    Does (record { line = line; operation = operation; arguments = arguments_in arguments.now; targets = targets })
+item_kept targets (node.Begins line turns) = Begins line turns
+item_kept targets node.Ends = Ends
 
 abbrev pub items_kept : {O T : Type 0} → List (List T) → List (Node O) → List (Item (Instruction O T))
-items_kept lists nodes = map (item_kept lists) nodes
+items_kept (targets ∷ lists) (n ∷ nodes) = item_kept targets n ∷ items_kept lists nodes
+items_kept lists nodes = []
 
 -- ---- what is handed out
 

@@ -48,8 +48,8 @@ impl<'a, O: Copy, T: Copy, A: Allocator + Copy> Builder<'a, O, T, A> {
         self.blocks.len()
     }
 
-    /// Adds what the line of a number says. Answers the cause where the line is refused. It fails where memory runs out or
-    /// lines or targets outgrow 32 bits; what was read before can't be used then.
+    /// Adds what the line of a number says. Answers the cause where the line is refused. It fails only where memory runs
+    /// out; what was read before can't be used then.
     pub fn take(
         &mut self,
         line: u64,

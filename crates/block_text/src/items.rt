@@ -1,5 +1,5 @@
 ghost use Rattle.std.specs.Prelude.{◌≡◌, ◌<◌, ◌++◌, [], ◌∷◌, Some, length, slice_get, OnOk, OnErr};
-ghost use Rattle.block_text.specs.Kept.{instruction_in, item_in};
+ghost use Rattle.block_text.specs.Kept.{instruction_in, item_in, item_kept};
 ghost use Rattle.block_text.specs.Trees.{Does, Begins, Ends};
 
 use flat_lists::FlatLists;
@@ -25,13 +25,12 @@ pub enum Item<'c, 'a, O, T> {
     Ends,
 }
 
-/// What is kept of an item: all but the targets of an instruction, whose list it names by its number.
+/// What is kept of an item: all but the targets of an instruction.
 #[derive(Clone, Copy)]
 pub(crate) enum Node<'a, O> {
-    // Small fields first and a list's number in 32 bits: so a node takes 32 bytes and not 48.
+    // An operation is small and stands first, beside the tag: so a node takes 32 bytes and not 40.
     Does {
         operation: O,
-        list: u32,
         line: u64,
         arguments: &'a [u8],
     },
@@ -46,20 +45,21 @@ pub(crate) enum Node<'a, O> {
 #[derive(Drop)]
 pub struct Items<'a, O: Copy, T: Copy, A: Allocator + Copy> {
     nodes: Vec<Node<'a, O>, A>,
+    // A list for each node, empty where it isn't an instruction.
     targets: FlatLists<T, A>,
 }
 
 impl<'a, O: Copy, T: Copy, A: Allocator + Copy> Model for Items<'a, O, T, A> {
-    ghost use Rattle.std.specs.Prelude.{All, List, length};
+    ghost use Rattle.std.specs.Prelude.{List, length};
     ghost use Rattle.block_text.specs.Instructions.{Instruction};
-    ghost use Rattle.block_text.specs.Kept.{HasTargets, items_kept};
+    ghost use Rattle.block_text.specs.Kept.{items_kept};
     ghost use Rattle.block_text.specs.Trees.{Item};
 
     ghost Value = { List (Item (Instruction O T)) };
 
     ghost view = { λ i. items_kept i.targets i.nodes.items };
 
-    ghost invariant = { λ i. All (HasTargets (length i.targets)) i.nodes.items };
+    ghost invariant = { λ i. length i.nodes.items ≡ length i.targets };
 }
 
 impl<'a, O: Copy, T: Copy, A: Allocator + Copy> Items<'a, O, T, A> {
@@ -75,32 +75,37 @@ impl<'a, O: Copy, T: Copy, A: Allocator + Copy> Items<'a, O, T, A> {
 
     /// How many items there are, with the ends of blocks.
     #[inline(always)]
+    #[tactic(auto, using(crate::proofs::FlatLemmas::counts))]
     pub fn len(&self) -> usize
         ensures { result ≡ length self.now }
     {
         self.nodes.len()
     }
 
-    /// Appends an instruction with a copy of its targets. It may fail only where memory runs out, or the instructions or
-    /// their targets would be more than 32 bits number.
+    // Appends an item with a copy of its targets.
+    #[tactic(auto, using(crate::proofs::FlatLemmas::pushes))]
+    fn keep(&mut self, node: Node<'a, O>, targets: &[T]) -> Result<(), AllocError>
+        ensures ok { OnOk result (self.new ≡ self.old ++ item_kept targets.now node.entry ∷ []) }
+        ensures err { OnErr result (self.new ≡ self.old) }
+    {
+        // Room for the node first, so that nothing changes where memory runs out.
+        self.nodes.reserve(1)?;
+        self.targets.push(targets)?;
+        self.nodes.push_reserved(node);
+        Ok(())
+    }
+
+    /// Appends an instruction with a copy of its targets. It fails only where memory runs out.
     pub(crate) fn push(&mut self, instruction: Instruction<'_, 'a, O, T>) -> Result<(), AllocError>
         ensures ok { OnOk result (self.new ≡ self.old ++ Does (instruction_in instruction.entry) ∷ []) }
         ensures err { OnErr result (self.new ≡ self.old) }
     {
-        let list = self.targets.len();
-        if list > u32::MAX as usize {
-            return Err(AllocError);
-        }
-        // Room for the node first, so that nothing changes where memory runs out.
-        self.nodes.reserve(1)?;
-        self.targets.push(instruction.targets)?;
-        self.nodes.push_reserved(Node::Does {
+        let node = Node::Does {
             operation: instruction.operation,
-            list: list as u32,
             line: instruction.line,
             arguments: instruction.arguments,
-        });
-        Ok(())
+        };
+        self.keep(node, instruction.targets)
     }
 
     /// Appends the start of a block. It fails only where memory runs out.
@@ -108,8 +113,7 @@ impl<'a, O: Copy, T: Copy, A: Allocator + Copy> Items<'a, O, T, A> {
         ensures ok { OnOk result (self.new ≡ self.old ++ Begins line turns ∷ []) }
         ensures err { OnErr result (self.new ≡ self.old) }
     {
-        self.nodes.push(Node::Begins { line, turns })?;
-        Ok(())
+        self.keep(Node::Begins { line, turns }, &[])
     }
 
     /// Appends the end of a block. It fails only where memory runs out.
@@ -117,12 +121,12 @@ impl<'a, O: Copy, T: Copy, A: Allocator + Copy> Items<'a, O, T, A> {
         ensures ok { OnOk result (self.new ≡ self.old ++ Ends ∷ []) }
         ensures err { OnErr result (self.new ≡ self.old) }
     {
-        self.nodes.push(Node::Ends)?;
-        Ok(())
+        self.keep(Node::Ends, &[])
     }
 
     /// The item at a place.
     #[inline(always)]
+    #[tactic(auto, using(crate::proofs::FlatLemmas::pieces))]
     pub fn get(&self, i: usize) -> Item<'_, 'a, O, T>
         requires { i < length self.now }
         ensures { Some (item_in result) ≡ slice_get self.now i }
@@ -130,14 +134,13 @@ impl<'a, O: Copy, T: Copy, A: Allocator + Copy> Items<'a, O, T, A> {
         match self.nodes[i] {
             Node::Does {
                 operation,
-                list,
                 line,
                 arguments,
             } => Item::Does(Instruction {
                 line,
                 operation,
                 arguments,
-                targets: self.targets.get(list as usize),
+                targets: self.targets.get(i),
             }),
             Node::Begins { line, turns } => Item::Begins { line, turns },
             Node::Ends => Item::Ends,

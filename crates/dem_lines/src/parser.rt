@@ -34,7 +34,7 @@ impl Judge<Operation, Target> for ModelJudge {
 }
 
 /// The error model that a text writes, or the first refusal of its lines. The cause is `Memory`, and the line 0, only
-/// where memory runs out or a number of lines or targets outgrows 32 bits.
+/// where memory runs out.
 pub fn parse<'a, A: Allocator + Copy>(alloc: A, text: &'a [u8]) -> Result<ModelLines<'a, A>, Fault>
     ensures ok { IfOk result (λ model. Writes text.now model) }
     ensures err { IfErr result (λ fault. (fault ≡ memory_fault) ⊎ IsRefusedBy text.now fault) }

@@ -13,7 +13,7 @@ use std::marker::Model;
 #[derive(Drop)]
 pub(crate) struct Lines<'a, A: Allocator + Copy> {
     texts: Vec<LineText<'a>, A>,
-    numbers: Vec<u32, A>,
+    numbers: Vec<usize, A>,
     targets: FlatLists<u32, A>,
 }
 
@@ -41,8 +41,7 @@ impl<'a, A: Allocator + Copy> Lines<'a, A> {
         }
     }
 
-    /// Appends a line. It fails only where memory runs out, or where the texts, or the targets of all lines, are too
-    /// many for 32 bits.
+    /// Appends a line. It fails only where memory runs out.
     pub(crate) fn push(&mut self, text: &'a [u8], targets: &[u32]) -> Result<(), AllocError>
         ensures ok { OnOk result (self.new ≡ self.old ++ record { text = text.now; targets = targets.now } ∷ []) }
         ensures err { OnErr result (self.new ≡ self.old) }
@@ -67,8 +66,7 @@ impl<'a, A: Allocator + Copy> Lines<'a, A> {
         requires { line < length self.now }
         ensures { result.now ≡ (slice_index_or self.now line no_line).text }
     {
-        let number = self.numbers[line] as usize;
-        &self.texts[number]
+        &self.texts[self.numbers[line]]
     }
 
     /// The targets that a line flips.

@@ -93,8 +93,8 @@ impl<'a, A: Allocator + Copy> LinesText<'a, A> {
         })
     }
 
-    /// Keeps a probability's text, and answers its number. It fails only where memory runs out, or 2^32 texts are kept.
-    pub fn keep_text(&mut self, text: &'a [u8]) -> Result<u32, AllocError>
+    /// Keeps a probability's text, and answers its number. It fails only where memory runs out.
+    pub fn keep_text(&mut self, text: &'a [u8]) -> Result<usize, AllocError>
         ensures within { IfOk result (λ number. number < length self.new.texts) }
         ensures named { IfOk result (λ number. text_at self.new.texts number ≡ text.now) }
 
@@ -109,7 +109,7 @@ impl<'a, A: Allocator + Copy> LinesText<'a, A> {
 
     /// Puts a line, with the kept probability text of this number, before those that were there. It fails only where
     /// memory runs out. Those lines are then still there, and before them the end of the line, or none of it.
-    pub fn put_line(&mut self, number: u32, targets: &[u32]) -> Result<(), AllocError>
+    pub fn put_line(&mut self, number: usize, targets: &[u32]) -> Result<(), AllocError>
         requires number { number < length self.old.texts }
         requires targets { All (λ target. target < self.old.targets) targets.now }
         ensures ok { OnOk result (self.new.text ≡ line_text self.old.detectors (record { text = text_at self.old.texts number; targets = targets.now }) ++ self.old.text) }
@@ -118,7 +118,7 @@ impl<'a, A: Allocator + Copy> LinesText<'a, A> {
         ensures targets { self.new.targets ≡ self.old.targets }
         ensures texts { self.new.texts ≡ self.old.texts }
     {
-        let text = &self.texts[number as usize];
+        let text = &self.texts[number];
         if text.text().len() > SHORT_TEXT || targets.len() > SHORT_TARGETS {
             let text = text.text();
             return self.put_long_line(text, targets);

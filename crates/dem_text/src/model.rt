@@ -58,8 +58,7 @@ impl<'a, A: Allocator + Copy> Model<'a, A> {
         }
     }
 
-    /// Appends a line. It fails only where memory runs out, or where the texts, or the targets of all lines, are too
-    /// many for 32 bits.
+    /// Appends a line. It fails only where memory runs out.
     pub fn push_line(&mut self, text: &'a [u8], targets: &[u32]) -> Result<(), AllocError>
         ensures ok { OnOk result (self.new ≡ record self.old { lines = self.old.lines ++ record { text = text.now; targets = targets.now } ∷ [] }) }
         ensures err { OnErr result (self.new ≡ self.old) }

@@ -8,24 +8,21 @@ use std::alloc::{AllocError, Allocator};
 /// The text of a new line is looked for among this many of the latest.
 const LATEST: usize = 8;
 
-/// The number of a text, which is appended where it isn't among the latest.
+/// The number of a text, which is appended where it isn't among the latest. It fails only where memory runs out.
 pub(crate) fn number_of<'a, A: Allocator + Copy>(
     texts: &mut Vec<LineText<'a>, A>,
     text: &'a [u8],
-) -> Result<u32, AllocError>
+) -> Result<usize, AllocError>
     ensures kept { KeepsTexts texts.old.items texts.new.items }
     ensures within { IfOk result (λ n. n < length texts.new.items) }
     ensures named { IfOk result (λ n. text_at texts.new.items n ≡ text.now) }
 {
-    let count = texts.len();
-    if count > u32::MAX as usize {
-        return Err(AllocError);
-    }
     if let Some(number) = latest(texts.as_slice(), text) {
-        return Ok(number as u32);
+        return Ok(number);
     }
+    let count = texts.len();
     texts.push(LineText::new(text))?;
-    Ok(count as u32)
+    Ok(count)
 }
 
 // Where a text stands among the latest.

@@ -21,7 +21,7 @@ pub struct EntryPart<'a> {
 /// For each entry the number of its part; and the parts, texts with their bounds. The same part may stand there twice.
 #[derive(Clone, Copy, Drop)]
 pub struct ChanceTable<'t, 'a> {
-    pub numbers: &'t [u32],
+    pub numbers: &'t [usize],
     pub parts: &'t [EntryPart<'a>],
 }
 
@@ -30,7 +30,7 @@ pub struct ChanceTable<'t, 'a> {
 #[derive(Drop)]
 pub struct Entries<'a, A: Allocator + Copy> {
     parts: Vec<EntryPart<'a>, A>,
-    numbers: Vec<u32, A>,
+    numbers: Vec<usize, A>,
     terms: FlatLists<Term, A>,
 }
 
@@ -65,8 +65,7 @@ impl<'a, A: Allocator + Copy> Entries<'a, A> {
         self.numbers.len()
     }
 
-    /// Appends an entry. It fails only where memory runs out, where all entries together would have more than `u32::MAX`
-    /// letters, or where there are more than `u32::MAX` texts with bounds already.
+    /// Appends an entry. It fails only where memory runs out.
     pub fn push(&mut self, text: &'a [u8], bound: u128, terms: &[Term]) -> Result<(), AllocError>
         ensures ok { OnOk result (self.new ≡ self.old ++ record { text = text.now; bound = bound; terms = terms.now } ∷ []) }
         ensures err { OnErr result (self.new ≡ self.old) }
@@ -120,7 +119,7 @@ impl<'a, A: Allocator + Copy> Entries<'a, A> {
         ensures text { result.text.now ≡ (slice_index_or self.now e none_kept).text }
         ensures bound { result.bound ≡ (slice_index_or self.now e none_kept).bound }
     {
-        self.parts[self.numbers[e] as usize]
+        self.parts[self.numbers[e]]
     }
 }
 
@@ -129,20 +128,17 @@ fn number_of<'a, A: Allocator + Copy>(
     parts: &mut Vec<EntryPart<'a>, A>,
     text: &'a [u8],
     bound: u128,
-) -> Result<u32, AllocError>
+) -> Result<usize, AllocError>
     ensures kept { KeepsChances parts.old.items parts.new.items }
     ensures within { IfOk result (λ n. n < length parts.new.items) }
     ensures named { IfOk result (λ n. chance_at parts.new.items n ≡ record { text = text.now; bound = bound }) }
 {
-    let count = parts.len();
-    if count > u32::MAX as usize {
-        return Err(AllocError);
-    }
     if let Some(number) = latest(parts.as_slice(), text, bound) {
-        return Ok(number as u32);
+        return Ok(number);
     }
+    let count = parts.len();
     parts.push(EntryPart { text, bound })?;
-    Ok(count as u32)
+    Ok(count)
 }
 
 // Where a part with this text and bound stands, if it is among the latest.

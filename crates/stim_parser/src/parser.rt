@@ -35,7 +35,7 @@ impl Judge<Operation, Target> for CircuitJudge {
 }
 
 /// The circuit that a text writes, or the first refusal of its lines. The cause is `Memory`, and the line 0, only where
-/// memory runs out or the text is too long for numbers of 32 bits.
+/// memory runs out.
 pub fn parse<'a, A: Allocator + Copy>(alloc: A, text: &'a [u8]) -> Result<Circuit<'a, A>, Fault>
     ensures ok { IfOk result (λ circuit. Writes text.now circuit) }
     ensures err { IfErr result (λ fault. (fault ≡ memory_fault) ⊎ IsRefusedBy text.now fault) }

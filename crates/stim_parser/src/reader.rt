@@ -48,8 +48,7 @@ fn read_next<'a, O: Copy, T: Copy, J: Judge<O, T>, A: Allocator + Copy>(
     builder.take(number, said, targets.as_slice())
 }
 
-/// The items of a text in the format of a judge, or the text's refusal. The cause is `Memory` only where memory runs out or
-/// a number of lines or targets outgrows 32 bits.
+/// The items of a text in the format of a judge, or the text's refusal. The cause is `Memory` only where memory runs out.
 pub fn read_items<'a, O: Copy, T: Copy, J: Judge<O, T>, A: Allocator + Copy>(
     alloc: A,
     text: &'a [u8],
