@@ -1,5 +1,5 @@
 -- Items kept flat: how many there are, which is at a place, and one more of them.
-use Rattle.std.proofs.Common.{◌≡◌, ℕ, zero, suc, ◌<◌, List, [], ◌∷◌, ◌++◌, length, get_or, Some, slice_get, refl, ap, arith, length-append}
+use Rattle.std.proofs.Common.{◌≡◌, ℕ, zero, suc, ◌<◌, List, [], ◌∷◌, ◌++◌, length, get_or, Some, slice_get, refl, sym, ap, ◌∙◌, arith, length-append}
 use Rattle.std.proofs.Math.Nat.{suc_inj}
 use Rattle.block_text.specs.declared.items.Node.{Node}
 use Rattle.block_text.specs.Instructions.{Instruction}
@@ -12,7 +12,7 @@ length-items_kept [] (n ∷ nodes) h = cc
 length-items_kept (targets ∷ lists) [] h = refl
 length-items_kept (targets ∷ lists) (n ∷ nodes) h = ap suc (length-items_kept lists nodes (suc_inj h))
 
-pub slice_get-items_kept : {O T : Type 0} (lists : List (List T)) (nodes : List (Node O)) (i : ℕ) (d : Node O) → length nodes ≡ length lists → i < length nodes → slice_get (items_kept lists nodes) i ≡ Some (item_kept (get_or lists i []) (get_or nodes i d))
+slice_get-items_kept : {O T : Type 0} (lists : List (List T)) (nodes : List (Node O)) (i : ℕ) (d : Node O) → length nodes ≡ length lists → i < length nodes → slice_get (items_kept lists nodes) i ≡ Some (item_kept (get_or lists i []) (get_or nodes i d))
 slice_get-items_kept lists [] i d h below = absurd (omega arith)
 slice_get-items_kept [] (n ∷ nodes) i d h below = cc
 slice_get-items_kept (targets ∷ lists) (n ∷ nodes) zero d h below = refl
@@ -25,9 +25,15 @@ items_kept-push (more ∷ lists) [] targets n h = cc
 items_kept-push {O} {T} (more ∷ lists) (other ∷ nodes) targets n h =
     ap (λ (items : List (Item (Instruction O T))). item_kept more other ∷ items) (items_kept-push lists nodes targets n (suc_inj h))
 
--- what each method's goals take
+-- the item at a place, once what is kept of it is read
+pub item_at : {O T : Type 0} (lists : List (List T)) (nodes : List (Node O)) {items : List (Item (Instruction O T))} (i : ℕ) (n : Node O) → items_kept lists nodes ≡ items → length nodes ≡ length lists → i < length items → n ≡ get_or nodes i n → slice_get items i ≡ Some (item_kept (get_or lists i []) n)
+item_at {O} {T} lists nodes {items} i n view same below is =
+    let within : i < length nodes = omega (arith, length-items_kept lists nodes same, ap length view) in
+    ap (λ (all : List (Item (Instruction O T))). slice_get all i) (sym view)
+    ∙ slice_get-items_kept lists nodes i n same within
+    ∙ ap (λ (m : Node O). Some (item_kept (get_or lists i []) m)) (sym is)
+
+-- what the methods' goals take
 pub ruleset counts = (length-items_kept)
 
 pub ruleset pushes = (length-append, items_kept-push)
-
-pub ruleset pieces = (length-items_kept, slice_get-items_kept)

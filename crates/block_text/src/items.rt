@@ -50,7 +50,7 @@ pub struct Items<'a, O: Copy, T: Copy, A: Allocator + Copy> {
 }
 
 impl<'a, O: Copy, T: Copy, A: Allocator + Copy> Model for Items<'a, O, T, A> {
-    ghost use Rattle.std.specs.Prelude.{List, length};
+    ghost use Rattle.std.specs.Prelude.{◌≡◌, List, length};
     ghost use Rattle.block_text.specs.Instructions.{Instruction};
     ghost use Rattle.block_text.specs.Kept.{items_kept};
     ghost use Rattle.block_text.specs.Trees.{Item};
@@ -126,7 +126,7 @@ impl<'a, O: Copy, T: Copy, A: Allocator + Copy> Items<'a, O, T, A> {
 
     /// The item at a place.
     #[inline(always)]
-    #[tactic(auto, using(crate::proofs::FlatLemmas::pieces))]
+    #[tactic(auto, using(crate::proofs::FlatLemmas::counts))]
     pub fn get(&self, i: usize) -> Item<'_, 'a, O, T>
         requires { i < length self.now }
         ensures { Some (item_in result) ≡ slice_get self.now i }

@@ -173,7 +173,7 @@ fn has_number<'m>(lines: &mut LinesText<'static, Memory<'m>>, number: usize) -> 
     requires { number < 6 }
 {
     match lines.keep_text(TEXTS[number]) {
-        Ok(kept) => kept as usize == number,
+        Ok(kept) => kept == number,
         Err(_) => false,
     }
 }
