@@ -1,6 +1,4 @@
-mod broken;
 mod devices;
 mod memory;
-mod plain;
 mod rows;
 mod writers;

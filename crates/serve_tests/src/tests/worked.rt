@@ -1,5 +1,4 @@
 mod checks;
-mod cuts;
 mod examples;
 mod lengths;
 mod lists;

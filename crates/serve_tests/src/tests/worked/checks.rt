@@ -14,14 +14,14 @@ pub(super) fn run_order<'o>(coins: Option<&'o str>, faults: &'o str) -> Order<'o
 }
 
 /// What the error lines of these numbers flip.
-pub(super) fn predict_order<'o>(lines: &'o str) -> Order<'o> {
+fn predict_order<'o>(lines: &'o str) -> Order<'o> {
     Order::Predict {
         lines: lines.as_bytes(),
     }
 }
 
 /// Each order that a circuit is asked, with nothing given beside it.
-pub(super) fn circuit_orders() -> [Order<'static>; 3] {
+fn circuit_orders() -> [Order<'static>; 3] {
     [run_order(None, ""), Order::Analyze, Order::Faults]
 }
 
@@ -142,12 +142,7 @@ pub(super) fn check_predictions(
 }
 
 /// A text that every order on a circuit refuses with this line.
-pub(super) fn check_refusal(
-    rt: &impl Abort,
-    alloc: Global,
-    text: &str,
-    line: &str,
-) -> Result<(), Fail> {
+fn check_refusal(rt: &impl Abort, alloc: Global, text: &str, line: &str) -> Result<(), Fail> {
     for order in circuit_orders() {
         check_output(rt, alloc, &order, text, line, Status::Refused)?;
     }
@@ -167,7 +162,7 @@ pub(super) fn check_refused(
 }
 
 /// A text on which every order on a circuit is done, whatever it writes.
-pub(super) fn check_taken(rt: &impl Abort, alloc: Global, text: &str) -> Result<(), Fail> {
+fn check_taken(rt: &impl Abort, alloc: Global, text: &str) -> Result<(), Fail> {
     for order in circuit_orders() {
         check_end(rt, text, end_of(alloc, &order, text)?, Status::Done);
     }
