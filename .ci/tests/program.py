@@ -12,9 +12,12 @@ PROGRAM = os.environ.get("STABSIM")
 # No test comes near: a program that hangs fails.
 SECONDS = 120
 
+# Each subcommand that a circuit is given to with nothing beside it.
+CIRCUIT_ORDERS = (["run"], ["analyze"], ["faults"])
+
 
 def as_bytes(text):
-    return text.encode("ascii") if isinstance(text, str) else text
+    return text.encode() if isinstance(text, str) else text
 
 
 def file_of(content):
@@ -66,6 +69,30 @@ class ProgramTest(unittest.TestCase):
     def check(self, words, content, output, status=0):
         """The program writes exactly this output for this content, and ends with this status."""
         self.compare(run_program(words, content), output, status)
+
+    def check_rows(self, rows):
+        """Each row has words, the input, the output and the status."""
+        for words, content, output, status in rows:
+            with self.subTest(words=words, content=content):
+                self.check(words, content, output, status)
+
+    def check_runs(self, rows, status):
+        """Each row has coins, or None for all 0, faults, a text, and what `run` writes."""
+        for coins, faults, text, output in rows:
+            words = ["run", *([] if coins is None else ["--coins", coins]), "--faults", faults]
+            with self.subTest(words=words, text=text):
+                self.check(words, text, output, status)
+
+    def check_refused(self, rows):
+        """Each row has a text, and the line by which every subcommand on a circuit refuses it."""
+        self.check_rows((words, text, line, 2) for text, line in rows for words in CIRCUIT_ORDERS)
+
+    def check_taken(self, texts):
+        """Texts on which every subcommand on a circuit is done, whatever it writes."""
+        for text in texts:
+            for words in CIRCUIT_ORDERS:
+                with self.subTest(words=words, text=text):
+                    self.assertEqual(run_program(words, text)[1], 0)
 
     def compare(self, ended, output, status):
         written, ended_with = ended

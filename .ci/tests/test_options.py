@@ -94,11 +94,6 @@ MISUSES = [
 
 
 class Options(ProgramTest):
-    def check_rows(self, rows):
-        for words, content, output, status in rows:
-            with self.subTest(words=words, content=content):
-                self.check(words, content, output, status)
-
     def test_coins_and_faults_of_run(self):
         self.check_rows(RUNS)
 

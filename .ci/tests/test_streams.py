@@ -155,9 +155,11 @@ ORDERS = [
     (["faults"], CIRCUIT),
     (["predict"], MODEL),
     (["run"], "refused\n"),
+    (["run", "--faults", "9"], CIRCUIT),
+    (["sample", "--shots", "1000001"], CIRCUIT),
 ]
 
-WITHOUT_INPUT = [["--help"], ["run", "--help"], ["walk"], []]
+WITHOUT_INPUT = [["--help"], ["run", "--help"], ["predict", "--help"], ["walk"], []]
 
 
 class FailingStreams(ProgramTest):
@@ -184,7 +186,7 @@ class FailingStreams(ProgramTest):
                 self.compare(streams.run_in_shell("<&-", words), "", 1)
 
     def test_a_closed_output(self):
-        for words in [["analyze", "--help"], ["run"], ["walk"]]:
+        for words in [["analyze", "--help"], ["run"], ["run", "--faults", "9"], ["walk"]]:
             with self.subTest(words=words):
                 self.compare(streams.run_in_shell(">&-", words), "", 1)
 

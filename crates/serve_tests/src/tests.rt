@@ -1,4 +1,3 @@
-mod command_lines;
 mod drawn;
 mod sweeps;
 mod worked;

@@ -3,7 +3,6 @@ mod analyses;
 mod destabilizers;
 mod gates;
 mod large;
-mod notation;
 mod runs;
 mod table;
 mod three_steps;

@@ -2,7 +2,7 @@
 
 use super::are_digits;
 use super::runs::differences;
-use super::table::{Answer, Row};
+use super::table::text_of;
 use backward::{Analysed, Words, analyse};
 use frames::coin_pair;
 use plain_runs::place_of;
@@ -11,23 +11,23 @@ use std::alloc::{AllocError, Global};
 use std::test::Fail;
 use step_model::{Fault, MemorySink, Place};
 
-/// Whether each tracker gives the row's answer.
+/// Whether each tracker gives this answer.
 pub(super) fn answers_hold(
     alloc: Global,
-    row: &Row,
+    answer: &str,
     program: &Program<'_, Global>,
 ) -> Result<bool, Fail> {
-    Ok(dense_holds(alloc, row, program)? && sparse_holds(&alloc, row, program)?)
+    Ok(dense_holds(alloc, answer, program)? && sparse_holds(&alloc, answer, program)?)
 }
 
-fn dense_holds(alloc: Global, row: &Row, program: &Program<'_, Global>) -> Result<bool, Fail> {
+fn dense_holds(alloc: Global, answer: &str, program: &Program<'_, Global>) -> Result<bool, Fail> {
     let analysed = by_dense(alloc, program)?;
-    answer_holds(alloc, row, program, &analysed)
+    answer_holds(alloc, answer, program, &analysed)
 }
 
-fn sparse_holds(alloc: &Global, row: &Row, program: &Program<'_, Global>) -> Result<bool, Fail> {
+fn sparse_holds(alloc: &Global, answer: &str, program: &Program<'_, Global>) -> Result<bool, Fail> {
     let analysed = by_sparse(alloc, program)?;
-    answer_holds(*alloc, row, program, &analysed)
+    answer_holds(*alloc, answer, program, &analysed)
 }
 
 /// The analysis by rows of bits.
@@ -48,31 +48,51 @@ pub(super) fn by_sparse<'p>(
 
 fn answer_holds(
     alloc: Global,
-    row: &Row,
+    answer: &str,
     program: &Program<'_, Global>,
     analysed: &Analysed<'_, Global>,
 ) -> Result<bool, Fail> {
-    match row.answer {
-        Answer::Model(expected) => Ok(is_model(alloc, analysed, expected)?),
-        Answer::Random(target, place, coins) => Ok(
-            random_of(analysed) == Some((target, place))
-                && has_pair(alloc, program, (target as usize, place), coins)?,
-        ),
+    match analysed {
+        Analysed::Model(_) => is_model(alloc, analysed, answer),
+        Analysed::Random { which, place } => random_holds(alloc, answer, program, (*which, *place)),
     }
 }
 
-/// The target that an analysis names, and its place.
-pub(super) fn random_of(analysed: &Analysed<'_, Global>) -> Option<(u32, Place)> {
-    match analysed {
-        Analysed::Random { which, place } => Some((*which, *place)),
-        Analysed::Model(_) => None,
+/// Whether an answer names this target and its place, and the coins of the pair.
+fn random_holds(
+    alloc: Global,
+    answer: &str,
+    program: &Program<'_, Global>,
+    (which, place): (u32, Place),
+) -> Result<bool, Fail> {
+    match coins_behind(alloc, answer, (which, place))? {
+        Some(coins) => has_pair(alloc, program, (which as usize, place), coins),
+        None => Ok(false),
     }
+}
+
+/// What stands behind a target and its place.
+fn coins_behind<'a>(
+    alloc: Global,
+    answer: &'a str,
+    (which, place): (u32, Place),
+) -> Result<Option<&'a str>, AllocError> {
+    let named = match place {
+        Place::Start(qubit) => format!(in alloc; "random {which} start {qubit} ")?,
+        Place::After(collapse) => format!(in alloc; "random {which} after {collapse} ")?,
+    };
+    Ok(answer.strip_prefix(named.as_str()))
 }
 
 /// Whether the answer is the model of this text.
-fn is_model(alloc: Global, analysed: &Analysed<'_, Global>, expected: &str) -> Result<bool, Fault> {
+fn is_model(alloc: Global, analysed: &Analysed<'_, Global>, expected: &str) -> Result<bool, Fail> {
     let mut sink = MemorySink::new(alloc);
-    Ok(writes_model(analysed, &mut sink)? && sink.bytes() == expected.as_bytes())
+    Ok(writes_model(analysed, &mut sink)? && is_text(alloc, sink.bytes(), expected)?)
+}
+
+fn is_text(alloc: Global, written: &[u8], expected: &str) -> Result<bool, AllocError> {
+    let text = text_of(alloc, expected)?;
+    Ok(written == text.as_slice())
 }
 
 /// Writes the model, where the answer is one.

@@ -1,29 +1,49 @@
 //! Runs as the table has them, by the tableau and straight from the definitions.
-use super::table::Run;
 use super::{are_digits, digit};
 use forward_sim::{Records, detections, read_coins, read_numbers, run};
 use programs::Program;
 use std::alloc::Global;
 use std::test::Fail;
 
-/// Whether these runs of a program are as expected.
+/// Whether there are runs in a text, and each is as it says.
 pub(super) fn runs_hold(
     alloc: Global,
     program: &Program<'_, Global>,
-    runs: &[Run],
+    runs: &str,
 ) -> Result<bool, Fail> {
-    for expected in runs {
-        if !run_holds(alloc, program, expected)? {
+    let mut holds = false;
+    for run in runs.split_whitespace() {
+        holds = run_holds(alloc, program, run)?;
+        if !holds {
             return Ok(false);
         }
     }
-    Ok(true)
+    Ok(holds)
 }
 
-fn run_holds(alloc: Global, program: &Program<'_, Global>, expected: &Run) -> Result<bool, Fail> {
+fn run_holds(alloc: Global, program: &Program<'_, Global>, run: &str) -> Result<bool, Fail> {
+    match given_of(run) {
+        Some((faults, coins, expected)) => is_as_written(alloc, program, (faults, coins), expected),
+        None => Ok(false),
+    }
+}
+
+/// The faults and the coins of a run, and what stands behind them.
+fn given_of(run: &str) -> Option<(&str, &str, &str)> {
+    let (faults, rest) = run.split_once(';')?;
+    let (coins, expected) = rest.split_once(';')?;
+    Some((faults, coins, expected))
+}
+
+fn is_as_written(
+    alloc: Global,
+    program: &Program<'_, Global>,
+    given: (&str, &str),
+    expected: &str,
+) -> Result<bool, Fail> {
     let count = program.fault_count() as usize;
-    let faults = read_numbers(alloc, count, expected.faults.as_bytes())?;
-    let coins = read_coins(alloc, program, expected.coins.as_bytes())?;
+    let faults = read_numbers(alloc, count, given.0.as_bytes())?;
+    let coins = read_coins(alloc, program, given.1.as_bytes())?;
     is_run(
         alloc,
         program,
@@ -37,12 +57,15 @@ fn is_run(
     alloc: Global,
     program: &Program<'_, Global>,
     given: (&[bool], &[bool]),
-    expected: &Run,
+    expected: &str,
 ) -> Result<bool, Fail> {
+    let Some((records, detections)) = expected.split_once(';') else {
+        return Ok(false);
+    };
     Ok(
-        records_are(alloc, program, given, expected.records)?
-            && plain_records_are(alloc, program, given, expected.records)?
-            && detections_are(alloc, program, given, expected.detections)?,
+        records_are(alloc, program, given, records)?
+            && plain_records_are(alloc, program, given, records)?
+            && detections_are(alloc, program, given, detections)?,
     )
 }
 

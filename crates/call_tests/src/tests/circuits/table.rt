@@ -1,90 +1,84 @@
 //! Circuits worked by hand: what runs of each record, and what its analysis answers.
-mod blocks;
-mod faults;
-mod feedback;
-mod gates;
-mod products;
-mod resets;
+mod rows;
 
 use super::analyses::answers_hold;
 use super::runs::runs_hold;
-use crate::tests::made_program;
-use programs::Program;
-use programs::by_hand::{Lists, Piece};
-use std::alloc::Global;
+use rows::{BLOCKS, FAULTS, FEEDBACK, GATES, PRODUCTS, RESETS};
+use std::alloc::{AllocError, Global};
 use std::process::Abort;
 use std::test::Fail;
-use step_model::Place;
-
-/// A circuit with its answer and some of its runs.
-pub(super) struct Row {
-    pub(super) circuit: &'static str,
-    pub(super) qubits: u32,
-    pub(super) pieces: &'static [Piece],
-    pub(super) lists: Lists<'static>,
-    pub(super) answer: Answer,
-    pub(super) runs: &'static [Run],
-}
-
-/// The text of the error model; or the lowest random target, observables counted behind the detectors, its place, and
-/// the coins under which its parity differs from that under zeros.
-pub(super) enum Answer {
-    Model(&'static str),
-    Random(u32, Place, &'static str),
-}
-
-/// Detections are by the run without faults whose coins are all 0.
-pub(super) struct Run {
-    pub(super) faults: &'static str,
-    pub(super) coins: &'static str,
-    pub(super) records: &'static str,
-    pub(super) detections: &'static str,
-}
+use unroll::read_program;
 
 #[test]
 fn rows_of_gates(rt: HostRuntime) -> Result<(), Fail> {
-    check_rows(&rt, rt.alloc(), gates::ROWS)
+    check_rows(&rt, rt.alloc(), GATES, 12)
 }
 
 #[test]
 fn rows_of_resets(rt: HostRuntime) -> Result<(), Fail> {
-    check_rows(&rt, rt.alloc(), resets::ROWS)
+    check_rows(&rt, rt.alloc(), RESETS, 8)
 }
 
 #[test]
 fn rows_of_faults(rt: HostRuntime) -> Result<(), Fail> {
-    check_rows(&rt, rt.alloc(), faults::ROWS)
+    check_rows(&rt, rt.alloc(), FAULTS, 6)
 }
 
 #[test]
 fn rows_of_blocks(rt: HostRuntime) -> Result<(), Fail> {
-    check_rows(&rt, rt.alloc(), blocks::ROWS)
+    check_rows(&rt, rt.alloc(), BLOCKS, 5)
 }
 
 #[test]
 fn rows_of_products(rt: HostRuntime) -> Result<(), Fail> {
-    check_rows(&rt, rt.alloc(), products::ROWS)
+    check_rows(&rt, rt.alloc(), PRODUCTS, 6)
 }
 
 #[test]
 fn rows_of_feedback(rt: HostRuntime) -> Result<(), Fail> {
-    check_rows(&rt, rt.alloc(), feedback::ROWS)
+    check_rows(&rt, rt.alloc(), FEEDBACK, 6)
 }
 
-fn check_rows(rt: &impl Abort, alloc: Global, rows: &[Row]) -> Result<(), Fail> {
-    for row in rows {
-        assert!(rt; row_holds(alloc, row)?, "{}", row.circuit);
+/// Each of so many rows holds.
+fn check_rows(rt: &impl Abort, alloc: Global, rows: &str, count: usize) -> Result<(), Fail> {
+    for row in rows.lines() {
+        assert!(rt; row_holds(alloc, row)?, "{row}");
     }
+    assert_eq!(rt; rows.lines().count(), count);
     Ok(())
 }
 
-fn row_holds(alloc: Global, row: &Row) -> Result<bool, Fail> {
-    match made_program(alloc, row.qubits, row.pieces, row.lists)? {
-        Some(program) => is_as_worked(alloc, row, &program),
+fn row_holds(alloc: Global, row: &str) -> Result<bool, Fail> {
+    match parts_of(row) {
+        Some((circuit, answer, runs)) => circuit_holds(alloc, circuit, (answer, runs)),
         None => Ok(false),
     }
 }
 
-fn is_as_worked(alloc: Global, row: &Row, program: &Program<'_, Global>) -> Result<bool, Fail> {
-    Ok(answers_hold(alloc, row, program)? && runs_hold(alloc, program, row.runs)?)
+/// A row's circuit, its answer and its runs.
+fn parts_of(row: &str) -> Option<(&str, &str, &str)> {
+    let (circuit, rest) = row.split_once(" = ")?;
+    let (answer, runs) = rest.split_once(" = ")?;
+    Some((circuit, answer, runs))
+}
+
+fn circuit_holds(alloc: Global, circuit: &str, worked: (&str, &str)) -> Result<bool, Fail> {
+    let text = text_of(alloc, circuit)?;
+    text_holds(alloc, text.as_slice(), worked)
+}
+
+/// A text of which `|` ends each line.
+pub(super) fn text_of(alloc: Global, lines: &str) -> Result<Vec<u8>, AllocError> {
+    let mut text = Vec::from_slice(alloc, lines.as_bytes())?;
+    for byte in text.as_mut_slice() {
+        if *byte == b'|' {
+            *byte = b'\n';
+        }
+    }
+    Ok(text)
+}
+
+fn text_holds(alloc: Global, text: &[u8], (answer, runs): (&str, &str)) -> Result<bool, Fail> {
+    let program = read_program(alloc, text)?;
+    Ok(answers_hold(alloc, answer, &program)? && runs_hold(alloc, &program, runs)?)
 }

@@ -4,7 +4,7 @@ use engine::{Order, Status};
 
 /// Every kind of line, of step and of target, of which none is random. Qubit 4 ends as 0: the feedback flips it in both turns,
 /// since the record is inverted.
-pub(super) const EVERYTHING: &str = "\
+const EVERYTHING: &str = "\
 # every kind of line
 QUBIT_COORDS(0.5, -1e2) 0 1
 R 0 1
@@ -42,7 +42,7 @@ OBSERVABLE_INCLUDE(1) rec[-3]
 
 /// The same with faults that happen always or never, so that each shot is one: the fault of X happens in both turns and at the end, and
 /// all products are flipped. In the first turn the measured record is 0, so nothing is fed back to qubit 4.
-pub(super) const CERTAIN: &str = "\
+const CERTAIN: &str = "\
 R 0 1
 RX 2
 RY 3
@@ -75,10 +75,10 @@ OBSERVABLE_INCLUDE(1) rec[-3]
 ";
 
 /// A random outcome, fed back to the qubit of the detector.
-pub(super) const RANDOM: &str = "H 0\nCX 0 1\nM 1\nCX rec[-1] 2\nM 2\nDETECTOR rec[-1]\n";
+const RANDOM: &str = "H 0\nCX 0 1\nM 1\nCX rec[-1] 2\nM 2\nDETECTOR rec[-1]\n";
 
 /// An error model with blocks and shifts: ten error lines, four detectors and two observables.
-pub(super) const MODEL: &str = "\
+const MODEL: &str = "\
 error(0.1) D0 L0
 repeat 3 {
     error(0.2) D0 ^ D1

@@ -14,14 +14,14 @@ pub(super) fn run_order<'o>(coins: Option<&'o str>, faults: &'o str) -> Order<'o
 }
 
 /// What the error lines of these numbers flip.
-pub(super) fn predict_order<'o>(lines: &'o str) -> Order<'o> {
+fn predict_order<'o>(lines: &'o str) -> Order<'o> {
     Order::Predict {
         lines: lines.as_bytes(),
     }
 }
 
 /// Each order that a circuit is asked, with nothing given beside it.
-pub(super) fn circuit_orders() -> [Order<'static>; 3] {
+fn circuit_orders() -> [Order<'static>; 3] {
     [run_order(None, ""), Order::Analyze, Order::Faults]
 }
 
@@ -92,32 +92,6 @@ pub(super) fn check_runs(
     Ok(())
 }
 
-/// Each row has a text, and what `run` writes where all coins are 0 and no fault happens.
-pub(super) fn check_plain_runs(
-    rt: &impl Abort,
-    alloc: Global,
-    rows: &[(&str, &str)],
-) -> Result<(), Fail> {
-    for (text, output) in rows {
-        let order = run_order(None, "");
-        check_output(rt, alloc, &order, text, output, Status::Done)?;
-    }
-    Ok(())
-}
-
-/// Each row has coins, or all 0, the faults, a text, and the line that refuses the run.
-pub(super) fn check_refused_runs(
-    rt: &impl Abort,
-    alloc: Global,
-    rows: &[(Option<&str>, &str, &str, &str)],
-) -> Result<(), Fail> {
-    for (coins, faults, text, line) in rows {
-        let order = run_order(*coins, faults);
-        check_output(rt, alloc, &order, text, line, Status::Refused)?;
-    }
-    Ok(())
-}
-
 /// Each row has a text, and the error model that `analyze` writes.
 pub(super) fn check_models(
     rt: &impl Abort,
@@ -168,12 +142,7 @@ pub(super) fn check_predictions(
 }
 
 /// A text that every order on a circuit refuses with this line.
-pub(super) fn check_refusal(
-    rt: &impl Abort,
-    alloc: Global,
-    text: &str,
-    line: &str,
-) -> Result<(), Fail> {
+fn check_refusal(rt: &impl Abort, alloc: Global, text: &str, line: &str) -> Result<(), Fail> {
     for order in circuit_orders() {
         check_output(rt, alloc, &order, text, line, Status::Refused)?;
     }
@@ -193,17 +162,9 @@ pub(super) fn check_refused(
 }
 
 /// A text on which every order on a circuit is done, whatever it writes.
-pub(super) fn check_taken(rt: &impl Abort, alloc: Global, text: &str) -> Result<(), Fail> {
+fn check_taken(rt: &impl Abort, alloc: Global, text: &str) -> Result<(), Fail> {
     for order in circuit_orders() {
         check_end(rt, text, end_of(alloc, &order, text)?, Status::Done);
-    }
-    Ok(())
-}
-
-/// Texts on which every order on a circuit is done.
-pub(super) fn check_all_taken(rt: &impl Abort, alloc: Global, texts: &[&str]) -> Result<(), Fail> {
-    for text in texts {
-        check_taken(rt, alloc, text)?;
     }
     Ok(())
 }

@@ -1,5 +1,5 @@
 //! The circuits of examples/: what is written for each, worked by hand.
-pub(super) mod texts;
+mod texts;
 
 use crate::tests::worked::checks::{check_models, check_predictions, check_runs, served};
 use crate::tests::worked::examples::texts::{
