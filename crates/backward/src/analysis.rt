@@ -54,7 +54,8 @@ const NO_MEMORY: Fault = Fault {
     line: 0,
 };
 
-/// The error model of a program, or the lowest target that is random. It fails only where memory runs out.
+/// The error model of a program, or the lowest target that is random. It fails only where memory runs out, or where the
+/// records' lists of targets, to which feedback adds, would be 2^32 targets long in all.
 pub fn analyse<'a, A: Allocator + Copy, T: Tracker + Drop>(
     alloc: A,
     program: &Program<'a, A>,
@@ -71,7 +72,7 @@ pub fn analyse<'a, A: Allocator + Copy, T: Tracker + Drop>(
 }
 
 /// The text of the error model of a program, or the lowest target that is random. The lines are kept as text alone,
-/// written when they are found. It fails only where memory runs out.
+/// written when they are found. It fails as `analyse` does.
 pub fn analyse_to_text<'a, A: Allocator + Copy, T: Tracker + Drop>(
     alloc: A,
     program: &Program<'a, A>,

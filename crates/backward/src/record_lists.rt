@@ -230,7 +230,8 @@ fn put_each<A: Allocator + Copy>(
     Ok(first)
 }
 
-// Puts a target in front of a list, and answers the place of that list.
+// Puts a target in front of a list, and answers the place of that list. It fails only where memory runs out, or where a
+// place would be too large for 32 bits.
 fn put_first<A: Allocator + Copy>(
     links: &mut Vec<Link, A>,
     place: u32,
