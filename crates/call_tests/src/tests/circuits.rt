@@ -2,7 +2,6 @@ mod agreement;
 mod analyses;
 mod destabilizers;
 mod gates;
-mod large;
 mod runs;
 mod table;
 mod three_steps;
