@@ -1,5 +1,5 @@
 -- Questions of which none applies, and the tests that they are made of.
-use Rattle.std.proofs.Common.{◌≡◌, ℕ, ◌<◌, ◌==◌, Bool, true, false, not, ◌||◌, List, [], ◌∷◌, None, refl, arith}
+use Rattle.std.proofs.Common.{◌≡◌, ℕ, ◌<◌, ◌==◌, Bool, true, false, not, ◌||◌, List, [], ◌∷◌, ◌++◌, None, refl, arith}
 use Rattle.std.specs.Prelude.{⊤, find, option_map, nat_le}
 use Rattle.std.proofs.lemmas.Bool.{true≢false}
 use Rattle.step_model.specs.declared.fault.Cause.{Cause}
@@ -24,6 +24,11 @@ pub none_applies : (asked : List (Bool × Cause)) → option_map (λ (a : Bool �
 none_applies [] h = tt
 none_applies ((true, c) ∷ rest) h = absurd (cc)
 none_applies ((false, c) ∷ rest) h = (refl, none_applies rest h)
+
+-- of two lists none of the second applies
+pub none_behind : (xs ys : List (Bool × Cause)) → NoneApplies (xs ++ ys) → NoneApplies ys
+none_behind [] ys h = h
+none_behind (x ∷ xs) ys h = none_behind xs ys h.1
 
 pub not_zero : (n : ℕ) → (n == 0) ≡ false → 0 < n
 not_zero n h = grind arith

@@ -1,6 +1,5 @@
 -- A line that opens a block stands where one more may be open, wherever its reading fits.
-use Rattle.std.proofs.Common.{◌≡◌, ℕ, List, Result, Ok, Err, sym, subst}
-use Rattle.std.specs.Prelude.{IfOk}
+use Rattle.std.proofs.Common.{◌≡◌, ℕ, List, sym, subst}
 use Rattle.block_text.specs.declared.said.Said.{Said}
 use Rattle.block_text.specs.declared.said.Said.TheVariants as said
 use Rattle.block_text.specs.Fitting.{ReadingFits}
@@ -14,8 +13,7 @@ few_said Fits depth number (said.Opens turns) targets h = h.1
 few_said Fits depth number said.Closes targets h = tt
 few_said Fits depth number (said.Refuses c) targets h = tt
 
-pub opens_few : {O T E : Type 0} (Fits : Instruction O T → Type 0) (depth number : ℕ) (said : Result (Said O) E) (targets : List T) (reading : Reading (Instruction O T))
-    → IfOk said (λ s. reading_in number s targets ≡ reading) → ReadingFits Fits depth reading → IfOk said (λ s. OpensFew depth s)
-opens_few Fits depth number (Ok s) targets reading e fits =
+pub opens_few : {O T : Type 0} (Fits : Instruction O T → Type 0) (depth number : ℕ) (s : Said O) (targets : List T) (reading : Reading (Instruction O T))
+    → reading_in number s targets ≡ reading → ReadingFits Fits depth reading → OpensFew depth s
+opens_few Fits depth number s targets reading e fits =
     few_said Fits depth number s targets (subst (ReadingFits Fits depth) (sym e) fits)
-opens_few Fits depth number (Err error) targets reading e fits = tt

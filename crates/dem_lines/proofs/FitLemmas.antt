@@ -1,61 +1,20 @@
--- What a line says that isn't refused: an instruction fits, a block has a turn and stands where one more may be open, and
--- a block is open where one is closed. Each question of the list was answered with no.
-use Rattle.std.proofs.Common.{◌≡◌, ℕ, ◌<◌, ◌==◌, Option, None, Some, refl, sym, inl, inr}
-use Rattle.std.proofs.lemmas.Bool.{cases_Bool, true≢false}
-use Rattle.step_model.specs.declared.fault.Cause.{Cause}
-use Rattle.stim_lexer.specs.declared.line.Braces.{Braces}
-use Rattle.stim_lexer.specs.declared.line.Braces.TheVariants.{NoBrace, OpeningLast, ClosingAlone, Misplaced}
-use Rattle.stim_lexer.specs.Cut.{Cut}
-use Rattle.block_text.specs.Fitting as fitting
-use Rattle.block_text.proofs.QuestionLemmas.{NoneApplies, neither, none_applies, not_deep, not_not, not_zero}
-use Rattle.dem_lines.specs.declared.operation.Keyword.{Keyword}
-use Rattle.dem_lines.specs.declared.operation.Keyword.TheVariants.{Does, Repeats}
+-- A line of an error model that isn't refused says an instruction that fits.
+use Rattle.block_text.proofs.QuestionLemmas.{neither, not_not}
+use Rattle.block_text.proofs.TreeLemmas.{LinesFit}
+use Rattle.stim_parser.proofs.FitLemmas.{TakesFitting, readings_fit}
 use Rattle.dem_lines.specs.Fitting.{Fits}
-use Rattle.dem_lines.specs.Instructions.{keyword_named}
-use Rattle.dem_lines.specs.Verdicts.{Reading, refusals, refusals_of_name, refusals_of_keyword, refusal_of, accepted, unless_refused, closed_at, judged, said_by, reading_of}
+use Rattle.dem_lines.specs.Texts.{models}
+use Rattle.dem_lines.specs.Verdicts.{model_table}
 
--- what a line says that stands inside so many open blocks
-abbrev pub ReadingFits : ℕ → Reading → Type 0
-ReadingFits depth reading = fitting.ReadingFits Fits depth reading
-
-keyword_fits : (depth number : ℕ) (keyword : Keyword) (cut : Cut) → NoneApplies (refusals_of_keyword depth keyword cut) → ReadingFits depth (accepted number (Some keyword) cut)
-keyword_fits depth number Repeats cut h = (not_zero _ h.1.1.1.0, not_deep _ h.1.1.1.1.0)
-keyword_fits depth number (Does operation) cut h =
+takes_fitting : TakesFitting model_table Fits
+takes_fitting depth number operation cut e h =
     record {
-      arguments = (neither _ _ (neither _ _ h.0).1).0;
-      probability = (neither _ _ (neither _ _ h.0).1).1;
-      arguments_within = (neither _ _ h.1.1.0).0;
-      targets = not_not _ (neither _ _ h.1.0).1;
-      targets_within = (neither _ _ h.1.1.0).1;
+      arguments = (neither _ _ h.0).1;
+      probability = h.1.0;
+      arguments_within = (neither _ _ h.1.1.1.0).0;
+      targets = not_not _ (neither _ _ h.1.1.0).1;
+      targets_within = (neither _ _ h.1.1.1.0).1;
     }
 
-name_fits : (depth number : ℕ) (named : Option Keyword) (cut : Cut) → NoneApplies (refusals_of_name depth named cut) → ReadingFits depth (accepted number named cut)
-name_fits depth number None cut h = absurd (true≢false h.0)
-name_fits depth number (Some keyword) cut h = keyword_fits depth number keyword cut h
-
-unless_fits : (depth number : ℕ) (cut : Cut) (refusal : Option Cause) → refusal ≡ refusal_of depth cut
-    → ReadingFits depth (unless_refused refusal (accepted number (keyword_named cut.name) cut))
-unfolding refusal_of
-unless_fits depth number cut (Some c) h = tt
-unless_fits depth number cut None h = name_fits depth number (keyword_named cut.name) cut (none_applies (refusals depth cut) (sym h)).1
-
-judged_fits : (depth number : ℕ) (cut : Cut) → ReadingFits depth (judged depth number cut)
-unfolding judged
-judged_fits depth number cut = unless_fits depth number cut (refusal_of depth cut) refl
-
-closed_fits : (depth : ℕ) → ReadingFits depth (closed_at depth)
-closed_fits depth =
-    elim (cases_Bool (depth == 0)) [
-      | inl e ↦ rw e tt
-      | inr e ↦ let some : 0 < depth = not_zero depth e in rw e some
-    ]
-
-said_fits : (braces : Braces) (depth number : ℕ) (cut : Cut) → ReadingFits depth (said_by braces depth number cut)
-said_fits ClosingAlone depth number cut = closed_fits depth
-said_fits NoBrace depth number cut = judged_fits depth number cut
-said_fits OpeningLast depth number cut = judged_fits depth number cut
-said_fits Misplaced depth number cut = judged_fits depth number cut
-
-pub reading_fits : (depth number : ℕ) (cut : Cut) → ReadingFits depth (reading_of depth number cut)
-unfolding reading_of
-reading_fits depth number cut = said_fits cut.braces depth number cut
+pub reading_fits : LinesFit Fits models
+reading_fits = readings_fit model_table Fits takes_fitting

@@ -1,28 +1,14 @@
--- What is asked of the arguments and of the targets of a line of an error model. The number and the form of its
--- arguments are judged as those of a circuit's instruction. The limits: a detector's number is at most 999,999, an
--- observable's at most 1,023; all other numbers and the magnitudes of coordinates are below 10^18. (Stim's detector
--- error model format, github.com/quantumlib/Stim, doc/file_format_dem_detector_error_model.md; the limits are this
--- project's.)
-use Rattle.std.specs.Prelude.{ℕ, nat_lt, Bool, true, false, ◌&&◌, List, [], ◌∷◌}
+-- What is asked of the targets of a line of an error model; its arguments are judged as those of a circuit's instruction.
+-- The limits: a detector's number is at most 999,999, an observable's at most 1,023; all other numbers and the
+-- magnitudes of coordinates are below 10^18. (Stim's detector error model format, github.com/quantumlib/Stim,
+-- doc/file_format_dem_detector_error_model.md; the limits are this project's.)
+use Rattle.std.specs.Prelude.{ℕ, nat_lt, Bool, true, false, List, [], ◌∷◌}
 use Rattle.std.specs.List.{list_any, list_all}
-use Rattle.stim_parser.specs.declared.forms.ArgumentForm.{ArgumentForm}
-use Rattle.stim_parser.specs.declared.forms.ArgumentForm.TheVariants.{WholeNumbers}
-use Rattle.stim_parser.specs.Numbers.{is_number_beyond, magnitude_of}
+use Rattle.stim_parser.specs.Numbers.{is_number_beyond}
 use Rattle.dem_lines.specs.declared.forms.TargetForm.{TargetForm}
 use Rattle.dem_lines.specs.declared.forms.TargetForm.TheVariants.{Effects, Detectors, Observables, OneNumber}
 use Rattle.dem_lines.specs.declared.target.Target.{Target}
 use Rattle.dem_lines.specs.declared.target.Target.TheVariants.{Plain, Detector, Observable, Separator}
-
--- ---- arguments
-
--- whole numbers are coordinates
-abbrev pub takes_coordinates : ArgumentForm → Bool
-takes_coordinates WholeNumbers = true
-takes_coordinates form = false
-
-unfoldable pub has_coordinate_beyond : ArgumentForm → List (List ℕ) → Bool
-has_coordinate_beyond form arguments =
-    takes_coordinates form && list_any (λ text. is_number_beyond (magnitude_of text)) arguments
 
 -- ---- forms of targets
 

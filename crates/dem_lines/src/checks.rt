@@ -1,12 +1,10 @@
 ghost use Rattle.std.specs.Prelude.{◌≡◌};
 ghost use Rattle.std.specs.List.{list_all, list_any};
-ghost use Rattle.stim_parser.specs.Numbers.{is_number_beyond, magnitude_of};
-ghost use Rattle.stim_parser.specs.Said.{texts_of};
-ghost use Rattle.dem_lines.specs.Limits.{are_of_form, has_coordinate_beyond, has_target_beyond, is_detector, is_effect, is_observable, is_one_number, is_target_beyond, takes_coordinates};
+ghost use Rattle.stim_parser.specs.Numbers.{is_number_beyond};
+ghost use Rattle.dem_lines.specs.Limits.{are_of_form, has_target_beyond, is_detector, is_effect, is_observable, is_one_number, is_target_beyond};
 
 use crate::forms::TargetForm;
 use crate::target::Target;
-use stim_parser::{ArgumentForm, magnitude_of};
 
 /// The greatest number of a detector.
 pub const GREATEST_DETECTOR: u64 = 999_999;
@@ -17,34 +15,11 @@ const GREATEST_OBSERVABLE: u64 = 1_023;
 /// The greatest of all other numbers, and the greatest magnitude of a coordinate.
 pub const GREATEST_NUMBER: u64 = 999_999_999_999_999_999;
 
-/// Whether the arguments of a form are coordinates.
-fn takes_coordinates(form: ArgumentForm) -> bool
-    ensures { result ≡ takes_coordinates form }
-{
-    matches!(form, ArgumentForm::WholeNumbers)
-}
-
 /// Whether a number that is neither a detector's nor an observable's is beyond its limit.
 fn is_number_beyond(number: u64) -> bool
     ensures { result ≡ is_number_beyond number }
 {
     number > GREATEST_NUMBER
-}
-
-/// Whether one of the whole numbers is beyond its limit.
-fn are_beyond(arguments: &[&[u8]]) -> bool
-    ensures { result ≡ list_any (λ argument. is_number_beyond (magnitude_of argument.now)) arguments.now }
-{
-    arguments
-        .iter()
-        .any(|argument| is_number_beyond(magnitude_of(*argument)))
-}
-
-/// Whether one of the arguments is a coordinate beyond its limit.
-pub(crate) fn has_coordinate_beyond(form: ArgumentForm, arguments: &[&[u8]]) -> bool
-    ensures { result ≡ has_coordinate_beyond form (texts_of arguments.now) }
-{
-    takes_coordinates(form) && are_beyond(arguments)
 }
 
 fn is_detector(target: Target) -> bool

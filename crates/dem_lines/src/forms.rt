@@ -1,8 +1,8 @@
 ghost use Rattle.std.specs.Prelude.{◌≡◌};
 ghost use Rattle.dem_lines.specs.Instructions.{argument_form, target_form};
 
-use crate::operation::{Keyword, Operation};
-use stim_parser::ArgumentForm;
+use crate::operation::Operation;
+use stim_parser::{ArgumentForm, Keyword};
 
 /// Which targets a line takes.
 #[derive(Clone, Copy)]
@@ -16,7 +16,7 @@ pub enum TargetForm {
 }
 
 /// The arguments that a keyword takes.
-pub(crate) fn argument_form(keyword: Keyword) -> ArgumentForm
+pub(crate) fn argument_form(keyword: Keyword<Operation>) -> ArgumentForm
     ensures { result ≡ argument_form keyword }
 {
     match keyword {
@@ -29,7 +29,7 @@ pub(crate) fn argument_form(keyword: Keyword) -> ArgumentForm
 }
 
 /// The targets that a keyword takes.
-pub(crate) fn target_form(keyword: Keyword) -> TargetForm
+pub(crate) fn target_form(keyword: Keyword<Operation>) -> TargetForm
     ensures { result ≡ target_form keyword }
 {
     match keyword {

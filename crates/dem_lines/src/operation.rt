@@ -10,10 +10,3 @@ pub enum Operation {
     /// Shifts the numbers of later detectors, and their coordinates.
     Shifts,
 }
-
-/// What a name says: an operation, or the start of a block.
-#[derive(Clone, Copy)]
-pub enum Keyword {
-    Does(Operation),
-    Repeats,
-}

@@ -6,7 +6,7 @@ use Rattle.stim_parser.specs.declared.forms.ArgumentForm.{ArgumentForm}
 use Rattle.stim_parser.specs.declared.forms.ArgumentForm.TheVariants.{NoArguments, ProbabilityAtWill, OneProbability, WholeNumbers, Decimals, OneNumber}
 use Rattle.stim_parser.specs.Limits.{has_wrong_arguments, is_wrong_count}
 use Rattle.stim_parser.specs.Numbers.{whole_value}
-use Rattle.dem_lines.specs.declared.operation.Keyword.TheVariants.{Does}
+use Rattle.stim_parser.specs.declared.table.Keyword.TheVariants.{Does}
 use Rattle.dem_lines.specs.Fitting.{Fits}
 use Rattle.dem_lines.specs.Instructions.{argument_form}
 use Rattle.dem_parser.specs.Offsets.{added_at}

@@ -4,6 +4,8 @@ use Rattle.std.specs.List.{list_any, list_all, onto_first, slice_split}
 use Rattle.std.proofs.lemmas.Bool.{and_parts, false≢true, ltb-false, or_from, or_parts}
 use Rattle.stim_lexer.specs.Bytes.{after_blanks, is_blank, is_empty}
 use Rattle.stim_parser.specs.Arguments.{arguments_in, is_comma, trimmed}
+use Rattle.block_text.specs.Texts.{Takes}
+use Rattle.stim_parser.specs.Judging.{judged, reading_of, refusal_of}
 use Rattle.stim_parser.specs.Numbers.{greatest_number}
 use Rattle.stim_parser.specs.Pieces.{ends_here, ends_piece, is_star, pieces_of}
 use Rattle.stim_parser.specs.Targets.{each_of}
@@ -15,7 +17,7 @@ use Rattle.dem_lines.specs.Fitting.{Fits}
 use Rattle.dem_lines.specs.Instructions.{keyword_named}
 use Rattle.dem_lines.specs.Limits.{has_target_beyond, is_target_beyond}
 use Rattle.dem_lines.specs.Targets.{target_of, targets_in}
-use Rattle.dem_lines.specs.Verdicts.{Takes, judged, reading_of, refusal_of}
+use Rattle.dem_lines.specs.Verdicts.{model_table}
 use Rattle.model_laws.proofs.CutLemmas.{none-where, slice_split-alone, slice_split-first}
 use Rattle.model_laws.proofs.InstructionTexts.{inside, instruction, more_arguments, target_word, target_words}
 use Rattle.model_laws.proofs.LineCutLemmas.{AreTargetWords, AreWords, line_cut}
@@ -123,15 +125,14 @@ targets_read targets h = ap (each_of target_of) (pieces_found targets (all_are_w
 -- ---- the line
 
 pub reading_found : (number : ℕ) (o : Operation) (arguments : List (List ℕ)) (targets : List Target) → AreWords arguments → Fits (instruction number o arguments targets)
-    → reading_of 0 number (line_cut o arguments targets) ≡ Takes (instruction number o arguments targets)
+    → reading_of model_table 0 number (line_cut o arguments targets) ≡ Takes (instruction number o arguments targets)
 unfolding reading_of judged refusal_of keyword_named
 reading_found number Errs arguments targets words fits =
     let count = fits.arguments in
     let probability = fits.probability in
-    let coordinates = fits.arguments_within in
     let form = fits.targets in
     let within = fits.targets_within in
-    rw (arguments_read arguments words, targets_read targets within, count, probability, coordinates, form, within) refl
+    rw (arguments_read arguments words, targets_read targets within, count, probability, form, within) refl
 reading_found number Detects arguments targets words fits =
     let count = fits.arguments in
     let probability = fits.probability in
@@ -142,10 +143,9 @@ reading_found number Detects arguments targets words fits =
 reading_found number Observes arguments targets words fits =
     let count = fits.arguments in
     let probability = fits.probability in
-    let coordinates = fits.arguments_within in
     let form = fits.targets in
     let within = fits.targets_within in
-    rw (arguments_read arguments words, targets_read targets within, count, probability, coordinates, form, within) refl
+    rw (arguments_read arguments words, targets_read targets within, count, probability, form, within) refl
 reading_found number Shifts arguments targets words fits =
     let count = fits.arguments in
     let probability = fits.probability in

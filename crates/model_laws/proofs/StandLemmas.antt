@@ -9,7 +9,7 @@ use Rattle.step_model.specs.WellFormed.{CoordinatesFit}
 use Rattle.stim_lexer.specs.Bytes.{is_empty}
 use Rattle.stim_parser.specs.Limits.{has_wrong_arguments, has_wrong_probability}
 use Rattle.stim_parser.specs.Numbers.{is_number_beyond, is_whole_number, magnitude_of}
-use Rattle.dem_lines.specs.Limits.{are_of_form, has_coordinate_beyond, has_target_beyond, is_effect, is_target_beyond}
+use Rattle.dem_lines.specs.Limits.{are_of_form, has_target_beyond, is_effect, is_target_beyond}
 use Rattle.dem_lines.specs.Verdicts.{Instruction}
 use Rattle.model_laws.specs.Writable.{IsWritable, IsWritableLine}
 use Rattle.model_laws.proofs.AcceptedLemmas.{accepted_is_word}
@@ -51,7 +51,7 @@ all_within detectors observables (t ∷ targets) few_detectors few_observables h
     (all_within detectors observables targets few_detectors few_observables (λ k d below. h (suc k) d (omega (arith, below))))
 
 error_stands : (detectors observables : ℕ) (line : ErrorLine) → detectors ≤ 1000000 → observables ≤ 1024 → IsWritableLine (detectors + observables) line → CanStand (error_instruction detectors line)
-unfolding has_wrong_arguments has_wrong_probability has_coordinate_beyond are_of_form has_target_beyond
+unfolding has_wrong_arguments has_wrong_probability are_of_form has_target_beyond
 error_stands detectors observables line few_detectors few_observables h =
     let word = accepted_is_word line.text h.accepted in
     let some = not_empty line.text word in
@@ -104,7 +104,7 @@ few_texts : (coordinates : List ℤ) → length coordinates ≤ 16 → nat_lt 16
 few_texts coordinates h = ap (λ n. nat_lt 16 n) (length-texts coordinates) ∙ le-ltb 16 (length coordinates) h
 
 detector_stands : (coordinates : List (List ℤ)) (d : ℕ) → d < 1000000 → CoordinatesFit (slice_index_or coordinates d []) → CanStand (detector_instruction coordinates d)
-unfolding has_wrong_arguments has_wrong_probability has_coordinate_beyond are_of_form has_target_beyond
+unfolding has_wrong_arguments has_wrong_probability are_of_form has_target_beyond
 detector_stands coordinates d h fit =
     let few = few_texts (slice_index_or coordinates d []) fit.few in
     let whole = all_whole (slice_index_or coordinates d []) fit.within in
@@ -131,7 +131,7 @@ detectors_stand coordinates k (suc n) few given fit = (
 -- ---- observables
 
 observable_stands : (k : ℕ) → k < 1024 → CanStand (observable_instruction k)
-unfolding has_wrong_arguments has_wrong_probability has_coordinate_beyond are_of_form has_target_beyond
+unfolding has_wrong_arguments has_wrong_probability are_of_form has_target_beyond
 observable_stands k h =
     let within : nat_lt 1023 k ≡ false = le-ltb 1023 k (omega (arith, h)) in
     record {

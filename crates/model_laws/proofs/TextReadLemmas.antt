@@ -6,21 +6,22 @@ use Rattle.std.proofs.lemmas.Bool.{or_from, or_parts}
 use Rattle.stim_lexer.specs.Cut.{cut_of}
 use Rattle.stim_lexer.specs.Lines.{lines_of}
 use Rattle.stim_parser.specs.Numbers.{is_number_beyond, has_minus, magnitude_of, whole_value}
-use Rattle.block_text.specs.Texts as lines
+use Rattle.stim_parser.specs.Judging.{reading_of}
+use Rattle.block_text.specs.Texts.{Takes, before, items_from}
 use Rattle.dem_lines.specs.declared.operation.Operation.{Operation}
 use Rattle.dem_lines.specs.declared.operation.Operation.TheVariants.{Errs, Detects, Observes, Shifts}
 use Rattle.dem_lines.specs.declared.target.Target.{Target}
 use Rattle.dem_lines.specs.declared.target.Target.TheVariants.{Plain, Detector, Observable, Separator}
 use Rattle.dem_lines.specs.Fitting.{Fits}
 use Rattle.dem_lines.specs.Flat.{tree_of, tree_of-items}
-use Rattle.dem_lines.specs.Limits.{has_coordinate_beyond, has_target_beyond}
+use Rattle.dem_lines.specs.Limits.{has_target_beyond}
 use Rattle.dem_parser.specs.Meanings.{detectors_to, observables_to, detector_count, error_line, error_lines, gives_coordinates, greatest_of, greatest_over, is_error, last_coordinates, meaning_of, observable_count}
 use Rattle.dem_parser.specs.Models.{is_beyond, is_far, model_in, model_of_items, model_of_tree, placed_lines, refusal_of_tree, unless_refused_by}
 use Rattle.dem_lines.specs.Reached.{block_lines, reached}
 use Rattle.dem_parser.specs.Shifts.{Placed, Shift, coordinates_given, moved, no_shift, placed_at, placed_from, shift_after, target_at}
-use Rattle.dem_lines.specs.Texts.{Does, before, items_from}
+use Rattle.dem_lines.specs.Texts.{Does, models}
 use Rattle.dem_lines.specs.Trees.{Tree, Nothing, Then, items_of}
-use Rattle.dem_lines.specs.Verdicts.{Instruction, Takes, reading_of}
+use Rattle.dem_lines.specs.Verdicts.{Instruction, model_table}
 use Rattle.model_laws.proofs.CutLemmas.{lines_of-line}
 use Rattle.model_laws.proofs.InstructionTexts.{instruction, instruction_line}
 use Rattle.model_laws.proofs.LineCutLemmas.{AreWords, cut_found, has_no_bad_byte, no_line_feed, says_something}
@@ -72,28 +73,28 @@ numbered_stand read (i ∷ instructions) h =
 
 -- ---- their items
 
-line_reads : (number : ℕ) (i : Instruction) → CanStand i → reading_of 0 number (cut_of (instruction_line i.operation i.arguments i.targets)) ≡ Takes (at_line number i)
+line_reads : (number : ℕ) (i : Instruction) → CanStand i → reading_of model_table 0 number (cut_of (instruction_line i.operation i.arguments i.targets)) ≡ Takes (at_line number i)
 line_reads number i h =
-    ap (reading_of 0 number) (cut_found i.operation i.arguments i.targets h.words (targets_are_words i.targets h.fits.targets_within))
+    ap (reading_of model_table 0 number) (cut_found i.operation i.arguments i.targets h.words (targets_are_words i.targets h.fits.targets_within))
     ∙ reading_found number i.operation i.arguments i.targets h.words (fits_at number i h.fits)
 
 next_item : (read : ℕ) (i : Instruction) (lines : List (List ℕ)) → CanStand i
-    → items_from [] read (instruction_line i.operation i.arguments i.targets ∷ lines) ≡ before (Does (at_line (read + 1) i)) (items_from [] (read + 1) lines)
-unfolding lines.items_from
+    → items_from models [] read (instruction_line i.operation i.arguments i.targets ∷ lines) ≡ before (Does (at_line (read + 1) i)) (items_from models [] (read + 1) lines)
+unfolding items_from
 next_item read i lines h =
     let k = targets_are_words i.targets h.fits.targets_within in
     rw (says_something i.operation i.arguments i.targets h.words k, has_no_bad_byte i.operation i.arguments i.targets h.words k, line_reads (read + 1) i h)
     refl
 
-no_items : (read : ℕ) → items_from [] read (lines_of []) ≡ Ok []
-unfolding lines.items_from lines_of
+no_items : (read : ℕ) → items_from models [] read (lines_of []) ≡ Ok []
+unfolding items_from lines_of
 no_items read = refl
 
-items_read : (read : ℕ) (instructions : List Instruction) → AllCanStand instructions → items_from [] read (lines_of (text_of instructions)) ≡ Ok (map Does (numbered read instructions))
+items_read : (read : ℕ) (instructions : List Instruction) → AllCanStand instructions → items_from models [] read (lines_of (text_of instructions)) ≡ Ok (map Does (numbered read instructions))
 items_read read [] h = no_items read
 items_read read (i ∷ instructions) h =
     let k = targets_are_words i.targets h.0.fits.targets_within in
-    ap (items_from [] read) (lines_of-line (instruction_line i.operation i.arguments i.targets) (text_of instructions) (no_line_feed i.operation i.arguments i.targets h.0.words k))
+    ap (items_from models [] read) (lines_of-line (instruction_line i.operation i.arguments i.targets) (text_of instructions) (no_line_feed i.operation i.arguments i.targets h.0.words k))
     ∙ next_item read i (lines_of (text_of instructions)) h.0
     ∙ ap (before (Does (at_line (read + 1) i))) (items_read (read + 1) instructions h.1)
 
@@ -189,7 +190,6 @@ values_near (a ∷ arguments) h =
     or_from (is_far (whole_value a)) (list_any is_far (map whole_value arguments)) (ap is_number_beyond (magnitude_kept a) ∙ parts.0) (values_near arguments parts.1)
 
 coordinates_near : (number : ℕ) (o : Operation) (arguments : List (List ℕ)) (targets : List Target) → Fits (instruction number o arguments targets) → list_any is_far (coordinates_given o arguments []) ≡ false
-unfolding has_coordinate_beyond
 coordinates_near number Errs arguments targets fits = refl
 coordinates_near number Detects arguments targets fits =
     ap (list_any is_far) (moved_by_nothing (map whole_value arguments)) ∙ values_near arguments fits.arguments_within

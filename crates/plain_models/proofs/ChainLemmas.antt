@@ -9,7 +9,7 @@ use Rattle.dem_lines.specs.declared.operation.Operation.TheVariants.{Errs, Detec
 use Rattle.dem_lines.specs.declared.target.Target.{Target}
 use Rattle.dem_lines.specs.Fitting.{Fits, AllFit}
 use Rattle.dem_lines.specs.Flat.{tree_of-items}
-use Rattle.dem_lines.specs.Limits.{has_coordinate_beyond, has_target_beyond}
+use Rattle.dem_lines.specs.Limits.{has_target_beyond}
 use Rattle.dem_parser.specs.Meanings.{meaning_of}
 use Rattle.dem_parser.specs.Models.{is_beyond, is_far, model_in, model_of_items, model_of_tree, placed_lines, refusal_of_tree, unless_refused_by}
 use Rattle.dem_lines.specs.Reached.{block_lines, reached}
@@ -107,7 +107,6 @@ instruction line operation arguments targets =
     record { line = line; operation = operation; arguments = arguments; targets = targets }
 
 coordinates_near : (line : ℕ) (o : Operation) (arguments : List (List ℕ)) (targets : List Target) → Fits (instruction line o arguments targets) → list_any is_far (coordinates_given o arguments []) ≡ false
-unfolding has_coordinate_beyond
 coordinates_near line Errs arguments targets fits = refl
 coordinates_near line Detects arguments targets fits =
     ap (list_any is_far) (moved_by_nothing (map whole_value arguments)) ∙ values_near arguments fits.arguments_within

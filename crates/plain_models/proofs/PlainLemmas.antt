@@ -14,17 +14,20 @@ use Rattle.stim_lexer.specs.Cut.{Cut, cut_of, has_bad_byte}
 use Rattle.stim_lexer.specs.Lexing.{Numbered, Unread, after_silent, next_found}
 use Rattle.stim_lexer.specs.Lines.{lines_of, says_nothing}
 use Rattle.stim_lexer.proofs.ScanLemmas.{lines_of-cut, lines_of-none, list_any-from_first}
-use Rattle.block_text.specs.Texts as lines
-use Rattle.dem_lines.specs.declared.operation.Keyword.{Keyword}
-use Rattle.dem_lines.specs.declared.operation.Keyword.TheVariants.{Does as keyword_Does, Repeats}
+use Rattle.stim_parser.specs.declared.table.Causes.{Causes}
+use Rattle.stim_parser.specs.declared.table.Keyword.{Keyword}
+use Rattle.stim_parser.specs.declared.table.Keyword.TheVariants.{Does as keyword_Does, Repeats}
+use Rattle.stim_parser.specs.Judging.{accepted, closed_at, judged, reading_of, refusal_of, said_by, unless_refused}
+use Rattle.dem_lines.specs.declared.operation.Operation.{Operation}
 use Rattle.plain_models.specs.declared.plain_reader.Step.TheVariants as step
 use Rattle.dem_lines.specs.Instructions.{keyword_named}
 use Rattle.dem_parser.specs.Models.{model_in, model_of_items}
 use Rattle.plain_models.specs.PlainLines.{IsTallied, Passes}
 use Rattle.plain_models.specs.Stripped.{stripped_or}
 use Rattle.plain_models.specs.Tallies.{IsWhole, Tally, model_tallied, no_tally, tallied}
-use Rattle.dem_lines.specs.Texts.{Item, Does, before, items_from, items_in, line_reading, refused}
-use Rattle.dem_lines.specs.Verdicts.{Instruction, Reading, Takes, Opens, Closes, Refuses, accepted, closed_at, judged, read_targets, reading_of, refusal_of, said_by, unless_refused}
+use Rattle.dem_lines.specs.Texts.{Item, Does, items_in, models, refused}
+use Rattle.block_text.specs.Texts.{Reading, Takes, Opens, Closes, Refuses, before, items_from, line_reading}
+use Rattle.dem_lines.specs.Verdicts.{Instruction, model_table, read_targets}
 use Rattle.plain_models.proofs.ChainLemmas.{AllStill, chain_means, items_of-then_all}
 use Rattle.plain_models.proofs.TallyLemmas.{model-tallied, tally-more, tally_from, whole-tallied}
 use Rattle.block_text.proofs.TextLemmas.{after, after-append, after-err, after-ok}
@@ -108,39 +111,39 @@ fault_found line fault h e = fault_in _ _ line fault (e ∙ found_alone line h)
 
 -- ---- the targets of a line that is taken
 
-abbrev Reads : Cut → Reading → Type 0
+abbrev Reads : Cut → Reading Instruction → Type 0
 Reads cut (Takes i) = i.targets ≡ read_targets cut.targets
 Reads cut (Opens turns) = ⊤
 Reads cut Closes = ⊤
 Reads cut (Refuses c) = ⊤
 
-accepted_reads : (number : ℕ) (named : Option Keyword) (cut : Cut) → Reads cut (accepted number named cut)
+accepted_reads : (number : ℕ) (named : Option (Keyword Operation)) (cut : Cut) → Reads cut (accepted model_table number named cut)
 accepted_reads number None cut = tt
 accepted_reads number (Some Repeats) cut = tt
 accepted_reads number (Some (keyword_Does operation)) cut = refl
 
-unless_reads : (refusal : Option Cause) (cut : Cut) (reading : Reading) → Reads cut reading → Reads cut (unless_refused refusal reading)
+unless_reads : (refusal : Option Cause) (cut : Cut) (reading : Reading Instruction) → Reads cut reading → Reads cut (unless_refused refusal reading)
 unless_reads None cut reading h = h
 unless_reads (Some c) cut reading h = tt
 
-judged_reads : (depth number : ℕ) (cut : Cut) → Reads cut (judged depth number cut)
+judged_reads : (depth number : ℕ) (cut : Cut) → Reads cut (judged model_table depth number cut)
 unfolding judged
-judged_reads depth number cut = unless_reads (refusal_of depth cut) cut _ (accepted_reads number (keyword_named cut.name) cut)
+judged_reads depth number cut = unless_reads (refusal_of model_table depth cut) cut _ (accepted_reads number (keyword_named cut.name) cut)
 
-closed_reads : (depth : ℕ) (cut : Cut) → Reads cut (closed_at depth)
-closed_reads depth cut = elim (cases_Bool (depth == 0)) [ inl e ↦ rw e tt | inr e ↦ rw e tt ]
+closed_reads : (causes : Causes) (depth : ℕ) (cut : Cut) → Reads cut (closed_at causes depth)
+closed_reads causes depth cut = elim (cases_Bool (depth == 0)) [ inl e ↦ rw e tt | inr e ↦ rw e tt ]
 
-said_reads : (braces : Braces) (depth number : ℕ) (cut : Cut) → Reads cut (said_by braces depth number cut)
-said_reads ClosingAlone depth number cut = closed_reads depth cut
+said_reads : (braces : Braces) (depth number : ℕ) (cut : Cut) → Reads cut (said_by model_table braces depth number cut)
+said_reads ClosingAlone depth number cut = closed_reads model_table.causes depth cut
 said_reads NoBrace depth number cut = judged_reads depth number cut
 said_reads OpeningLast depth number cut = judged_reads depth number cut
 said_reads Misplaced depth number cut = judged_reads depth number cut
 
-reading_reads : (depth number : ℕ) (cut : Cut) → Reads cut (reading_of depth number cut)
+reading_reads : (depth number : ℕ) (cut : Cut) → Reads cut (reading_of model_table depth number cut)
 unfolding reading_of
 reading_reads depth number cut = said_reads cut.braces depth number cut
 
-pub taken_targets : (depth number : ℕ) (cut : Cut) (i : Instruction) → Takes i ≡ reading_of depth number cut → i.targets ≡ read_targets cut.targets
+pub taken_targets : (depth number : ℕ) (cut : Cut) (i : Instruction) → Takes i ≡ reading_of model_table depth number cut → i.targets ≡ read_targets cut.targets
 taken_targets depth number cut i e = subst (Reads cut) (sym e) (reading_reads depth number cut)
 
 -- ---- lines one after another
@@ -148,7 +151,7 @@ taken_targets depth number cut i e = subst (Reads cut) (sym e) (reading_reads de
 -- so many lines were read and tallied, and these are left
 pub record IsPlain (text : List ℕ) (t : Tally) (read : ℕ) (lines : List (List ℕ)) : Type 0 where
   pub instructions : List Instruction
-  pub reading : items_in text ≡ after (map Does instructions) (items_from [] read lines)
+  pub reading : items_in text ≡ after (map Does instructions) (items_from models [] read lines)
   pub still : AllStill instructions
   pub tally : t ≡ tally_from no_tally instructions
 
@@ -159,18 +162,18 @@ still-more : (is : List Instruction) (i : Instruction) → AllStill is → AllSt
 still-more [] i h k = k
 still-more (j ∷ is) i h k = (h.0, still-more is i h.1 k)
 
-silent_next : (read : ℕ) (line : List ℕ) (lines : List (List ℕ)) → says_nothing line ≡ true → items_from [] read (line ∷ lines) ≡ items_from [] (read + 1) lines
-unfolding lines.items_from
+silent_next : (read : ℕ) (line : List ℕ) (lines : List (List ℕ)) → says_nothing line ≡ true → items_from models [] read (line ∷ lines) ≡ items_from models [] (read + 1) lines
+unfolding items_from
 silent_next read line lines silent = rw silent refl
 
-taken_next : (read : ℕ) (line : List ℕ) (lines : List (List ℕ)) (i : Instruction) → says_nothing line ≡ false → line_reading [] (read + 1) line ≡ Takes i
-    → items_from [] read (line ∷ lines) ≡ before (Does i) (items_from [] (read + 1) lines)
-unfolding lines.items_from
+taken_next : (read : ℕ) (line : List ℕ) (lines : List (List ℕ)) (i : Instruction) → says_nothing line ≡ false → line_reading models [] (read + 1) line ≡ Takes i
+    → items_from models [] read (line ∷ lines) ≡ before (Does i) (items_from models [] (read + 1) lines)
+unfolding items_from
 taken_next read line lines i speaks taken = rw (speaks, taken) refl
 
-refused_next : (read : ℕ) (line : List ℕ) (lines : List (List ℕ)) (c : Cause) → says_nothing line ≡ false → line_reading [] (read + 1) line ≡ Refuses c
-    → items_from [] read (line ∷ lines) ≡ Err (refused c (read + 1))
-unfolding lines.items_from
+refused_next : (read : ℕ) (line : List ℕ) (lines : List (List ℕ)) (c : Cause) → says_nothing line ≡ false → line_reading models [] (read + 1) line ≡ Refuses c
+    → items_from models [] read (line ∷ lines) ≡ Err (refused c (read + 1))
+unfolding items_from
 refused_next read line lines c speaks taken = rw (speaks, taken) refl
 
 silent_on : (text : List ℕ) (t t' : Tally) (read : ℕ) (line : List ℕ) (lines : List (List ℕ)) → IsPlain text t read (line ∷ lines)
@@ -184,11 +187,11 @@ silent_on text t t' read line lines h silent same =
     }
 
 taken_on : (text : List ℕ) (t t' : Tally) (read : ℕ) (line : List ℕ) (lines : List (List ℕ)) → IsPlain text t read (line ∷ lines)
-    → says_nothing line ≡ false → IsTallied (line_reading [] (read + 1) line) t t' → IsPlain text t' (read + 1) lines
+    → says_nothing line ≡ false → IsTallied (line_reading models [] (read + 1) line) t t' → IsPlain text t' (read + 1) lines
 taken_on text t t' read line lines h speaks k =
     let is = h.instructions in
     let i = k.instruction in
-    let rest : Result (List Item) Fault = items_from [] (read + 1) lines in
+    let rest : Result (List Item) Fault = items_from models [] (read + 1) lines in
     record {
       instructions = is ++ i ∷ [];
       reading =
@@ -212,18 +215,18 @@ plain-next text t t' read next all lines line h e n passes =
     by k (inr p) = taken_on text t t' read line lines k p.0 p.1
 
 pub plain-refused : (text : List ℕ) (t : Tally) (read next : ℕ) (all lines : List (List ℕ)) (line : List ℕ) (c : Cause) → IsPlain text t read all → all ≡ line ∷ lines → next ≡ read + 1
-    → (says_nothing line ≡ false) × (line_reading [] next line ≡ Refuses c) → model_in text ≡ Err (refused c next)
+    → (says_nothing line ≡ false) × (line_reading models [] next line ≡ Refuses c) → model_in text ≡ Err (refused c next)
 plain-refused text t read next all lines line c h e n k =
-    let numbered : line_reading [] (read + 1) line ≡ Refuses c = ap (λ m. line_reading [] m line) (sym n) ∙ k.1 in
+    let numbered : line_reading models [] (read + 1) line ≡ Refuses c = ap (λ m. line_reading models [] m line) (sym n) ∙ k.1 in
     ap model_of_items
     (h.reading
-    ∙ ap (λ (ls : List (List ℕ)). after (map Does h.instructions) (items_from [] read ls)) e
+    ∙ ap (λ (ls : List (List ℕ)). after (map Does h.instructions) (items_from models [] read ls)) e
     ∙ ap (after (map Does h.instructions)) (refused_next read line lines c k.0 numbered)
     ∙ after-err (map Does h.instructions) (refused c (read + 1)))
     ∙ ap (λ (m : ℕ). Err (refused c m)) (sym n)
 
-no_items : (read : ℕ) → items_from [] read [] ≡ Ok []
-unfolding lines.items_from
+no_items : (read : ℕ) → items_from models [] read [] ≡ Ok []
+unfolding items_from
 no_items read = refl
 
 pub plain-means : (text : List ℕ) (t : Tally) (read : ℕ) (lines : List (List ℕ)) → IsPlain text t read lines → lines ≡ [] → stripped_or (model_in text) ≡ Ok (model_tallied t)
@@ -231,7 +234,7 @@ plain-means text t read lines h e =
     let is = h.instructions in
     let written =
     h.reading
-    ∙ ap (λ (ls : List (List ℕ)). after (map Does is) (items_from [] read ls)) e
+    ∙ ap (λ (ls : List (List ℕ)). after (map Does is) (items_from models [] read ls)) e
     ∙ ap (after (map Does is)) (no_items read)
     ∙ after-ok (map Does is) []
     ∙ ap (λ (items : List Item). Ok items) (append-nil (map Does is) ∙ sym (items_of-then_all is)) in

@@ -8,7 +8,8 @@ ghost use Rattle.stim_lexer.specs.Lines.{says_nothing};
 ghost use Rattle.plain_models.specs.declared.plain_reader.Step.TheVariants.{Goes};
 ghost use Rattle.plain_models.specs.PlainLines.{Passes, Steps};
 ghost use Rattle.plain_models.specs.Tallies.{no_tally};
-ghost use Rattle.dem_lines.specs.Verdicts.{reading_of};
+ghost use Rattle.dem_lines.specs.Verdicts.{model_table};
+ghost use Rattle.stim_parser.specs.Judging.{reading_of};
 
 use crate::plain_head::{Head, behind_head, head_in};
 use crate::plain_tally::TalliedLines;
@@ -69,7 +70,7 @@ impl<'a, A: Allocator + Copy> PlainReader<'a, A> {
 
     /// Reads a cut line.
     fn take(&mut self, line: Line<'a>) -> Result<Step, AllocError>
-        ensures { IfOk result (λ step. Steps step (reading_of 0 line.entry.number (cut_in line.entry)) self.old.lines self.new.lines) }
+        ensures { IfOk result (λ step. Steps step (reading_of model_table 0 line.entry.number (cut_in line.entry)) self.old.lines self.new.lines) }
     {
         let text = line.targets;
         match read_line(&mut self.last, &mut self.targets, 0, line)? {

@@ -4,8 +4,7 @@ use Rattle.std.specs.List.{list_all, list_any}
 use Rattle.std.proofs.lemmas.List.{length-map}
 use Rattle.std.proofs.lemmas.List.Folds.{list_all-map}
 use Rattle.stim_parser.specs.declared.forms.ArgumentForm.{ArgumentForm}
-use Rattle.stim_parser.specs.Limits.{has_argument_beyond, has_wrong_arguments, has_wrong_probability, is_argument, is_argument_beyond, is_probability, is_wrong_count, takes_probability}
-use Rattle.stim_parser.specs.Said.{texts_of}
+use Rattle.stim_parser.specs.Limits.{has_wrong_arguments, has_wrong_probability, is_argument, is_probability, is_wrong_count, takes_probability, texts_of}
 
 pub wrong_count : (form : ArgumentForm) (lent : List (Bor (List ℕ))) → is_wrong_count form (length lent) ≡ true → has_wrong_arguments form (texts_of lent) ≡ true
 unfolding has_wrong_arguments
@@ -26,7 +25,6 @@ wrong_probability form lent b e =
     ap (λ takes. takes && not (list_all is_probability (texts_of lent))) e
     ∙ ap (λ all. b && not all) (list_all-map is_probability (λ text. text.now) lent)
 
-pub argument_beyond : (form : ArgumentForm) (lent : List (Bor (List ℕ))) → has_argument_beyond form (texts_of lent) ≡ list_any (λ argument. is_argument_beyond form argument.now) lent
-unfolding has_argument_beyond
-argument_beyond form [] = refl
-argument_beyond form (text ∷ lent) = ap (λ b. is_argument_beyond form text.now || b) (argument_beyond form lent)
+pub any_lent : (p : List ℕ → Bool) (lent : List (Bor (List ℕ))) → list_any p (texts_of lent) ≡ list_any (λ argument. p argument.now) lent
+any_lent p [] = refl
+any_lent p (text ∷ lent) = ap (λ b. p text.now || b) (any_lent p lent)

@@ -5,14 +5,14 @@ use Rattle.std.specs.List.{list_all, list_any}
 use Rattle.std.proofs.lemmas.Bool.{ltb-false, or_parts}
 use Rattle.std.proofs.lemmas.List.Elements.{All-cons, All-nil}
 use Rattle.stim_parser.specs.declared.forms.ArgumentForm.TheVariants.{WholeNumbers}
-use Rattle.stim_parser.specs.declared.operation.Keyword.TheVariants.{Does}
+use Rattle.stim_parser.specs.declared.table.Keyword.TheVariants.{Does}
 use Rattle.stim_parser.specs.declared.operation.Operation.{Operation}
 use Rattle.stim_parser.specs.declared.operation.Operation.TheVariants.{Detects, ShiftsCoordinates}
 use Rattle.stim_parser.specs.Circuits.{Fits}
 use Rattle.stim_parser.specs.Coordinates.{coordinates_in, is_coordinate}
 use Rattle.stim_parser.specs.Instructions.{argument_form}
-use Rattle.stim_parser.specs.Limits.{has_argument_beyond, has_wrong_arguments, is_argument, is_argument_beyond}
-use Rattle.stim_parser.specs.Numbers.{has_minus, is_coordinate_beyond, is_whole_number, magnitude_of, whole_value}
+use Rattle.stim_parser.specs.Limits.{has_argument_beyond, has_wrong_arguments, is_argument}
+use Rattle.stim_parser.specs.Numbers.{greatest_coordinate, has_minus, is_coordinate_beyond, is_whole_number, magnitude_of, whole_value}
 use Rattle.stim_parser.specs.Verdicts.{Instruction}
 
 -- coordinates of magnitudes up to a number
@@ -40,10 +40,10 @@ value-within : (b : Bool) (m : ℕ) → m ≤ most → nat_abs (if b then neg_�
 value-within true m h = minus-within m h
 value-within false m h = h
 
-values-within : (arguments : List (List ℕ)) → list_any (is_argument_beyond WholeNumbers) arguments ≡ false → AreUpTo most (map whole_value arguments)
+values-within : (arguments : List (List ℕ)) → list_any is_coordinate_beyond arguments ≡ false → AreUpTo most (map whole_value arguments)
 values-within [] h = All-nil (λ z. nat_abs z ≤ most)
 values-within (text ∷ arguments) h =
-    let parts = or_parts (is_coordinate_beyond text) (list_any (is_argument_beyond WholeNumbers) arguments) h in
+    let parts = or_parts (is_coordinate_beyond text) (list_any is_coordinate_beyond arguments) h in
     All-cons (λ z. nat_abs z ≤ most) (whole_value text) (map whole_value arguments)
     (value-within (has_minus text) (magnitude_of text) (ltb-false most (magnitude_of text) parts.0))
     (values-within arguments parts.1)
@@ -52,18 +52,18 @@ and_parts : (a b : Bool) → not (a && b) ≡ false → (a ≡ true) × (not b �
 and_parts true b h = (refl, h)
 and_parts false b h = absurd cc
 
-all_read : (arguments : List (List ℕ)) → not (list_all (is_argument WholeNumbers) arguments) ≡ false → list_any (is_argument_beyond WholeNumbers) arguments ≡ false → list_all is_coordinate arguments ≡ true
+all_read : (arguments : List (List ℕ)) → not (list_all (is_argument WholeNumbers) arguments) ≡ false → list_any is_coordinate_beyond arguments ≡ false → list_all is_coordinate arguments ≡ true
 all_read [] h k = refl
 all_read (text ∷ arguments) h k =
-    let parts = or_parts (is_coordinate_beyond text) (list_any (is_argument_beyond WholeNumbers) arguments) k in
+    let parts = or_parts (is_coordinate_beyond text) (list_any is_coordinate_beyond arguments) k in
     let whole = and_parts (is_whole_number text) (list_all (is_argument WholeNumbers) arguments) h in
     ap₂ (λ (a b : Bool). a && b) (ap₂ (λ (a b : Bool). a && not b) whole.0 parts.0) (all_read arguments whole.1 parts.1)
 
 few_read : (n : ℕ) → n ≤ 16 → nat_le n 16 ≡ true
 few_read n h = grind arith
 
-coordinates : (arguments : List (List ℕ)) → has_wrong_arguments WholeNumbers arguments ≡ false → has_argument_beyond WholeNumbers arguments ≡ false → AreCoordinates arguments
-unfolding has_wrong_arguments has_argument_beyond coordinates_in
+coordinates : (arguments : List (List ℕ)) → has_wrong_arguments WholeNumbers arguments ≡ false → has_argument_beyond greatest_coordinate WholeNumbers arguments ≡ false → AreCoordinates arguments
+unfolding has_wrong_arguments coordinates_in
 coordinates arguments h k =
     let parts = or_parts (ltb 16 (length arguments)) (not (list_all (is_argument WholeNumbers) arguments)) h in
     let few : length arguments ≤ 16 = ltb-false 16 (length arguments) parts.0 in
@@ -75,7 +75,7 @@ coordinates arguments h k =
           (ap₂ (λ (a b : Bool). a && b) (few_read (length arguments) few) (all_read arguments parts.1 k));
     }
 
-of_form : (o : Operation) (arguments : List (List ℕ)) → has_wrong_arguments (argument_form (Does o)) arguments ≡ false → has_argument_beyond (argument_form (Does o)) arguments ≡ false → HasCoordinates o arguments
+of_form : (o : Operation) (arguments : List (List ℕ)) → has_wrong_arguments (argument_form (Does o)) arguments ≡ false → has_argument_beyond greatest_coordinate (argument_form (Does o)) arguments ≡ false → HasCoordinates o arguments
 of_form Detects arguments h k = coordinates arguments h k
 of_form ShiftsCoordinates arguments h k = coordinates arguments h k
 of_form o arguments h k = tt

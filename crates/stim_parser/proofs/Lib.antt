@@ -2,11 +2,12 @@ mod ArgumentLemmas
 mod CheckLemmas
 mod DigitLemmas
 mod JudgeLemmas
-mod NameLemmas
+pub mod NameLemmas
 mod PieceLemmas
 mod PieceValueLemmas
 mod SignificantLemmas
-mod FitLemmas
+pub mod FitLemmas
+mod CircuitFits
 mod TreeLemmas
 mod CoordinateLemmas
 mod WrittenLemmas

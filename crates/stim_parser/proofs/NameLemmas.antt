@@ -3,14 +3,14 @@ use Rattle.std.proofs.Common.{◌≡◌, refl, ap, ℕ, true, false, cond, List,
 use Rattle.std.specs.Prelude.{option_map, Some}
 use Rattle.std.specs.List.{list_any}
 use Rattle.std.specs.Str.{str_eq_ignore_ascii_case}
-use Rattle.stim_parser.specs.declared.operation.Keyword.{Keyword}
-use Rattle.stim_parser.specs.Instructions.{is_among_rows, named_in, named_in_rows}
+use Rattle.stim_parser.specs.Instructions.{is_among_rows}
+use Rattle.stim_parser.specs.Names.{named_in, named_in_rows}
 
--- the name and the keyword of a row
-abbrev pub entry_of : Bor (List ℕ) × Keyword → List ℕ × Keyword
+-- a row and its name
+abbrev pub entry_of : {K : Type 0} → Bor (List ℕ) × K → List ℕ × K
 entry_of row = (row.0.now, row.1)
 
-pub named_in_rows-named_in : (rows : List (Bor (List ℕ) × Keyword)) (text : List ℕ) → named_in_rows rows text ≡ named_in (map entry_of rows) text
+pub named_in_rows-named_in : {K : Type 0} (rows : List (Bor (List ℕ) × K)) (text : List ℕ) → named_in_rows rows text ≡ named_in (map entry_of rows) text
 unfolding named_in_rows
 named_in_rows-named_in [] text = refl
 named_in_rows-named_in (row ∷ rows) text =

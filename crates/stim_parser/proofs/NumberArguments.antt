@@ -4,7 +4,7 @@ use Rattle.std.specs.Prelude.{⊤, slice_index_or}
 use Rattle.std.specs.List.{list_all}
 use Rattle.std.proofs.lemmas.Bool.{or_parts}
 use Rattle.stim_parser.specs.declared.forms.ArgumentForm.TheVariants.{OneNumber}
-use Rattle.stim_parser.specs.declared.operation.Keyword.TheVariants.{Does}
+use Rattle.stim_parser.specs.declared.table.Keyword.TheVariants.{Does}
 use Rattle.stim_parser.specs.declared.operation.Operation.{Operation}
 use Rattle.stim_parser.specs.declared.operation.Operation.TheVariants.{Observes}
 use Rattle.stim_parser.specs.Circuits.{Fits}

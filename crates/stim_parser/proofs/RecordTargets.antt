@@ -3,7 +3,7 @@ use Rattle.std.proofs.Common.{◌≡◌, true, List}
 use Rattle.std.specs.Prelude.{⊤}
 use Rattle.std.specs.List.{list_all}
 use Rattle.stim_parser.specs.declared.forms.TargetForm.TheVariants.{Records}
-use Rattle.stim_parser.specs.declared.operation.Keyword.TheVariants.{Does}
+use Rattle.stim_parser.specs.declared.table.Keyword.TheVariants.{Does}
 use Rattle.stim_parser.specs.declared.operation.Operation.{Operation}
 use Rattle.stim_parser.specs.declared.operation.Operation.TheVariants.{Detects, Observes}
 use Rattle.stim_parser.specs.declared.target.Target.{Target}

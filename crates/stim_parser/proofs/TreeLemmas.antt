@@ -5,7 +5,7 @@ use Rattle.stim_parser.specs.Circuits.{Fits, IsCircuit}
 use Rattle.stim_parser.specs.Flat.{IsWritten}
 use Rattle.stim_parser.specs.Texts.{Item, circuits, items_in}
 use Rattle.stim_parser.specs.Trees.{Tree, Writes}
-use Rattle.stim_parser.proofs.FitLemmas.{reading_fits}
+use Rattle.stim_parser.proofs.CircuitFits.{reading_fits}
 
 -- the items of a text that is accepted are those of a circuit
 pub items_are_written : (text : List ℕ) (items : List Item) → items_in text ≡ Ok items → IsWritten items

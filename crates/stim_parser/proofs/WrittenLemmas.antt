@@ -11,8 +11,9 @@ use Rattle.gate_table.specs.declared.gate.Gate.{Gate}
 use Rattle.gate_table.specs.Names.{gate_named}
 use Rattle.stim_lexer.specs.Bytes.{is_empty}
 use Rattle.stim_parser.specs.declared.forms.TargetForm.{TargetForm}
-use Rattle.stim_parser.specs.declared.operation.Keyword.{Keyword}
-use Rattle.stim_parser.specs.declared.operation.Keyword.TheVariants.{Does, Repeats}
+use Rattle.stim_parser.specs.declared.table.Keyword.{Keyword}
+use Rattle.stim_parser.specs.declared.table.Keyword.TheVariants.{Does, Repeats}
+use Rattle.stim_parser.specs.declared.operation.Operation.{Operation}
 use Rattle.stim_parser.specs.declared.operation.Operation.TheVariants.{Applies}
 use Rattle.stim_parser.specs.declared.target.Target.{Target}
 use Rattle.stim_parser.specs.declared.target.Target.TheVariants.{Plain, Inverted, Back, Pauli, Star}
@@ -21,7 +22,7 @@ use Rattle.stim_parser.specs.Instructions.{keyword_named, other_named, other_nam
 use Rattle.stim_parser.specs.Numbers.{number_of}
 use Rattle.stim_parser.specs.Pieces.{is_star, pieces_of}
 use Rattle.stim_parser.specs.Targets.{at_least_one, before_bracket, each_of, inverted_of, letter_of, marked_of, pauli_of, record_of, target_of, targets_in}
-use Rattle.stim_parser.specs.Verdicts.{line_targets, read_targets, takes_none}
+use Rattle.stim_parser.specs.Verdicts.{line_targets, takes_none}
 
 -- ---- what passes where there is something
 
@@ -58,7 +59,7 @@ passes-find test p (x ∷ xs) h =
 
 -- ---- names
 
-abbrev pub keyword_is_written : Keyword → Bool
+abbrev pub keyword_is_written : Keyword Operation → Bool
 keyword_is_written (Does operation) = operation_is_written operation
 keyword_is_written Repeats = true
 
@@ -68,8 +69,8 @@ gate_written (Some g) = refl
 
 other_written : (name : List ℕ) → passes keyword_is_written (other_named name) ≡ true
 other_written name =
-    passes-map keyword_is_written (λ (entry : List ℕ × Keyword). entry.1) (find (λ entry. str_eq_ignore_ascii_case entry.0 name) other_names)
-    (passes-find (λ (entry : List ℕ × Keyword). keyword_is_written entry.1) (λ entry. str_eq_ignore_ascii_case entry.0 name) other_names refl)
+    passes-map keyword_is_written (λ (entry : List ℕ × Keyword Operation). entry.1) (find (λ entry. str_eq_ignore_ascii_case entry.0 name) other_names)
+    (passes-find (λ (entry : List ℕ × Keyword Operation). keyword_is_written entry.1) (λ entry. str_eq_ignore_ascii_case entry.0 name) other_names refl)
 
 pub keyword_written : (name : List ℕ) → passes keyword_is_written (keyword_named name) ≡ true
 unfolding keyword_named
@@ -153,5 +154,5 @@ of_all : (o : Option (List Target)) → passes (list_all target_is_written) o �
 of_all None h = refl
 of_all (Some ts) h = h
 
-pub targets_written : (form : TargetForm) (text : List ℕ) → list_all target_is_written (read_targets form text) ≡ true
+pub targets_written : (form : TargetForm) (text : List ℕ) → list_all target_is_written (unwrap_or (line_targets form text) []) ≡ true
 targets_written form text = of_all (line_targets form text) (line_written form text)

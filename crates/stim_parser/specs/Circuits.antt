@@ -1,17 +1,18 @@
 -- What holds of a circuit's tree: each instruction has the arguments and targets that its operation takes, each block
 -- has at least one turn, and blocks are nested no deeper than the limit. (Stim's circuit format; the limits are this
 -- project's.)
-use Rattle.std.specs.Prelude.{◌≡◌, nat_le, ℕ, Bool, false, true, not}
+use Rattle.std.specs.Prelude.{◌≡◌, nat_le, Bool, false, true, not}
 use Rattle.std.specs.List.{list_all}
 use Rattle.step_model.specs.WellFormed.{is_I}
 use Rattle.block_text.specs.Fitting as fitting
-use Rattle.stim_parser.specs.declared.operation.Keyword.TheVariants.{Does}
+use Rattle.stim_parser.specs.declared.table.Keyword.TheVariants.{Does}
 use Rattle.stim_parser.specs.declared.operation.Operation.{Operation}
 use Rattle.stim_parser.specs.declared.operation.Operation.TheVariants.{Measures, Resets, MeasuresAndResets, Errs}
 use Rattle.stim_parser.specs.declared.target.Target.{Target}
 use Rattle.stim_parser.specs.declared.target.Target.TheVariants.{Back, Pauli}
 use Rattle.stim_parser.specs.Instructions.{argument_form, target_form}
 use Rattle.stim_parser.specs.Limits.{has_wrong_arguments, has_wrong_probability, has_argument_beyond, are_of_form, has_target_beyond, has_wrong_count, has_same_qubit}
+use Rattle.stim_parser.specs.Numbers.{greatest_coordinate}
 use Rattle.stim_parser.specs.Trees.{Tree}
 use Rattle.stim_parser.specs.Verdicts.{Instruction}
 
@@ -32,17 +33,13 @@ target_is_written target = true
 pub record Fits (i : Instruction) : Type 0 where
   pub arguments : has_wrong_arguments (argument_form (Does i.operation)) i.arguments ≡ false
   pub probability : has_wrong_probability (argument_form (Does i.operation)) i.arguments ≡ false
-  pub arguments_within : has_argument_beyond (argument_form (Does i.operation)) i.arguments ≡ false
+  pub arguments_within : has_argument_beyond greatest_coordinate (argument_form (Does i.operation)) i.arguments ≡ false
   pub targets : are_of_form (target_form (Does i.operation)) i.targets ≡ true
   pub targets_within : has_target_beyond (target_form (Does i.operation)) i.targets ≡ false
   pub count : has_wrong_count (target_form (Does i.operation)) i.targets ≡ false
   pub different : has_same_qubit (target_form (Does i.operation)) i.targets ≡ false
   pub operation_written : operation_is_written i.operation ≡ true
   pub targets_written : list_all target_is_written i.targets ≡ true
-
--- how deep blocks are nested
-abbrev pub depth : Tree → ℕ
-depth tree = fitting.depth tree
 
 -- in a tree each instruction fits, and each block has a turn
 abbrev pub AllFit : Tree → Type 0

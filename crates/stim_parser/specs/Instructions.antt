@@ -2,7 +2,7 @@
 -- compared without regard to case. Some names of the format are known and left out of this profile. (Stim's gate
 -- reference, github.com/quantumlib/Stim, doc/gates.md: the titles, "Alternate name", "Parens Arguments" and "Targets";
 -- which names are left out is this project's choice.)
-use Rattle.std.specs.Prelude.{ℕ, ◌==◌, Bool, if◌then◌else◌, List, [], ◌∷◌, Option, codes, find, option_map}
+use Rattle.std.specs.Prelude.{ℕ, ◌==◌, Bool, if◌then◌else◌, List, [], ◌∷◌, Option, codes, option_map}
 use Rattle.std.specs.Borrow.{Bor}
 use Rattle.std.specs.Str.{str_eq_ignore_ascii_case}
 use Rattle.std.specs.List.{list_any}
@@ -12,13 +12,15 @@ use Rattle.gate_table.specs.declared.gate.Gate.{Gate}
 use Rattle.gate_table.specs.declared.gate.Gate.TheVariants as gate
 use Rattle.gate_table.specs.Images.{arity_of}
 use Rattle.gate_table.specs.Names.{gate_named}
+use Rattle.stim_parser.specs.declared.operation.Operation.{Operation}
 use Rattle.stim_parser.specs.declared.operation.Operation.TheVariants.{Applies, Measures, Resets, MeasuresAndResets, MeasuresProducts, Errs, ErrsTogether, Detects, Observes, Ticks, PlacesQubits, ShiftsCoordinates}
-use Rattle.stim_parser.specs.declared.operation.Keyword.{Keyword}
-use Rattle.stim_parser.specs.declared.operation.Keyword.TheVariants.{Does, Repeats}
+use Rattle.stim_parser.specs.declared.table.Keyword.{Keyword}
+use Rattle.stim_parser.specs.declared.table.Keyword.TheVariants.{Does, Repeats}
 use Rattle.stim_parser.specs.declared.forms.ArgumentForm.{ArgumentForm}
 use Rattle.stim_parser.specs.declared.forms.ArgumentForm.TheVariants.{NoArguments, ProbabilityAtWill, OneProbability, WholeNumbers, Decimals, OneNumber}
 use Rattle.stim_parser.specs.declared.forms.TargetForm.{TargetForm}
 use Rattle.stim_parser.specs.declared.forms.TargetForm.TheVariants.{NoTargets, Qubits, QubitsInvertedAtWill, QubitPairs, PairsRecordFirst, PairsOneRecord, Paulis, Products, Records, Turns}
+use Rattle.stim_parser.specs.Names.{named_in}
 
 -- ---- the table
 
@@ -31,7 +33,7 @@ gate_targets gate.CZ = PairsOneRecord
 gate_targets g = if arity_of g == 1 then Qubits else QubitPairs
 
 -- the arguments that each keyword takes
-abbrev pub argument_form : Keyword → ArgumentForm
+abbrev pub argument_form : Keyword Operation → ArgumentForm
 argument_form (Does (Measures l)) = ProbabilityAtWill
 argument_form (Does (MeasuresAndResets l)) = ProbabilityAtWill
 argument_form (Does MeasuresProducts) = ProbabilityAtWill
@@ -44,7 +46,7 @@ argument_form (Does ShiftsCoordinates) = WholeNumbers
 argument_form keyword = NoArguments
 
 -- the targets that each keyword takes
-abbrev pub target_form : Keyword → TargetForm
+abbrev pub target_form : Keyword Operation → TargetForm
 target_form (Does (Applies g)) = gate_targets g
 target_form (Does (Measures l)) = QubitsInvertedAtWill
 target_form (Does (MeasuresAndResets l)) = QubitsInvertedAtWill
@@ -62,7 +64,7 @@ target_form Repeats = Turns
 -- ---- names
 
 -- the names of keywords that are no gates, and their aliases
-abbrev pub other_names : List (List ℕ × Keyword)
+abbrev pub other_names : List (List ℕ × Keyword Operation)
 other_names =
     (codes "M", Does (Measures Z))
     ∷ (codes "MZ", Does (Measures Z))
@@ -90,19 +92,11 @@ other_names =
     ∷ (codes "REPEAT", Repeats)
     ∷ []
 
--- the keyword of the first name that equals the text
-abbrev pub named_in : List (List ℕ × Keyword) → List ℕ → Option Keyword
-named_in entries text = option_map (λ entry. entry.1) (find (λ entry. str_eq_ignore_ascii_case entry.0 text) entries)
-
--- the same in a list whose names are borrowed
-unfoldable pub named_in_rows : List (Bor (List ℕ) × Keyword) → List ℕ → Option Keyword
-named_in_rows rows text = option_map (λ row. row.1) (find (λ row. str_eq_ignore_ascii_case row.0.now text) rows)
-
-abbrev pub other_named : List ℕ → Option Keyword
+abbrev pub other_named : List ℕ → Option (Keyword Operation)
 other_named name = named_in other_names name
 
 -- the keyword that a name names
-unfoldable pub keyword_named : List ℕ → Option Keyword
+unfoldable pub keyword_named : List ℕ → Option (Keyword Operation)
 keyword_named name = option_or (option_map (λ g. Does (Applies g)) (gate_named name)) (other_named name)
 
 -- the names of Stim's format that this profile leaves out: instructions of several exclusive errors, errors that depend

@@ -4,10 +4,11 @@ pub mod Decimals
 pub mod Pieces
 pub mod Targets
 pub mod Arguments
+pub mod Names
 pub mod Instructions
 pub mod Limits
+pub mod Judging
 pub mod Verdicts
-pub mod Said
 pub mod Texts
 pub mod Trees
 pub mod Circuits

@@ -2,7 +2,8 @@
 -- answer by itself; their order is said elsewhere. An instruction fits where no question finds anything wrong. (Stim's
 -- circuit format, github.com/quantumlib/Stim, doc/file_format_stim_circuit.md, "Instruction Types", and doc/gates.md;
 -- the limits are this project's.)
-use Rattle.std.specs.Prelude.{ℕ, ◌==◌, ◌%◌, nat_lt, Bool, true, false, not, ◌&&◌, ◌||◌, List, [], ◌∷◌, length, is_some}
+use Rattle.std.specs.Prelude.{◌≡◌, ℕ, ◌==◌, ◌%◌, nat_lt, Bool, true, false, not, ◌&&◌, ◌||◌, List, [], ◌∷◌, length, map, is_some}
+use Rattle.std.specs.Borrow.{Bor}
 use Rattle.std.specs.List.{list_any, list_all}
 use Rattle.step_model.specs.Probabilities.{decimal_of, probability_bound}
 use Rattle.stim_lexer.specs.Bytes.{is_empty}
@@ -12,7 +13,7 @@ use Rattle.stim_parser.specs.declared.forms.TargetForm.{TargetForm}
 use Rattle.stim_parser.specs.declared.forms.TargetForm.TheVariants.{NoTargets, Qubits, QubitsInvertedAtWill, QubitPairs, PairsRecordFirst, PairsOneRecord, Paulis, Products, Records, Turns}
 use Rattle.stim_parser.specs.declared.target.Target.{Target}
 use Rattle.stim_parser.specs.declared.target.Target.TheVariants.{Plain, Inverted, Back, Pauli, Star}
-use Rattle.stim_parser.specs.Numbers.{is_number, is_whole_number, without_minus, value_of, is_coordinate_beyond, is_number_beyond, is_qubit_beyond}
+use Rattle.stim_parser.specs.Numbers.{is_number, is_whole_number, without_minus, value_of, magnitude_of, is_number_beyond, is_qubit_beyond}
 
 -- ---- arguments
 
@@ -50,13 +51,20 @@ is_probability text = is_some (probability_bound text)
 unfoldable pub has_wrong_probability : ArgumentForm → List (List ℕ) → Bool
 has_wrong_probability form arguments = takes_probability form && not (list_all is_probability arguments)
 
-abbrev pub is_argument_beyond : ArgumentForm → List ℕ → Bool
-is_argument_beyond WholeNumbers text = is_coordinate_beyond text
-is_argument_beyond OneNumber text = is_number_beyond (value_of text)
-is_argument_beyond form text = false
+-- these arguments have to be probabilities, and nothing is wrong with them
+abbrev pub AreProbabilities : ArgumentForm → List (List ℕ) → Type 0
+AreProbabilities form arguments =
+    (takes_probability form ≡ true) × (has_wrong_arguments form arguments ≡ false) × (has_wrong_probability form arguments ≡ false)
 
-unfoldable pub has_argument_beyond : ArgumentForm → List (List ℕ) → Bool
-has_argument_beyond form arguments = list_any (is_argument_beyond form) arguments
+-- an argument is beyond its limit: a coordinate of a magnitude above the greatest one, or another number
+abbrev pub has_argument_beyond : ℕ → ArgumentForm → List (List ℕ) → Bool
+has_argument_beyond greatest WholeNumbers arguments = list_any (λ text. nat_lt greatest (magnitude_of text)) arguments
+has_argument_beyond greatest OneNumber arguments = list_any (λ text. is_number_beyond (value_of text)) arguments
+has_argument_beyond greatest form arguments = false
+
+-- borrowed texts
+abbrev pub texts_of : List (Bor (List ℕ)) → List (List ℕ)
+texts_of lent = map (λ text. text.now) lent
 
 -- ---- forms of targets
 

@@ -4,12 +4,12 @@
 -- github.com/quantumlib/Stim, doc/file_format_stim_circuit.md; the order of refusals is this project's.)
 use Rattle.std.specs.Prelude.{ℕ, List, Result}
 use Rattle.step_model.specs.declared.fault.Fault.{Fault}
-use Rattle.step_model.specs.declared.fault.Cause.TheVariants as cause
 use Rattle.block_text.specs.Texts as text
 use Rattle.block_text.specs.Trees as trees
-pub use Rattle.block_text.specs.Texts.{refused, before, open_after, followed}
+pub use Rattle.block_text.specs.Texts.{refused}
 pub use Rattle.block_text.specs.Trees.{Does, Begins, Ends}
-use Rattle.stim_parser.specs.Verdicts.{Instruction, Reading, reading_of}
+use Rattle.stim_parser.specs.Judging.{format_of}
+use Rattle.stim_parser.specs.Verdicts.{Instruction, circuit_table}
 
 -- an instruction, the start of a block with its line and turns, or the end of a block
 abbrev pub Item : Type 0
@@ -17,19 +17,7 @@ Item = trees.Item Instruction
 
 -- circuits as a format of texts
 abbrev pub circuits : text.Format Instruction
-circuits = record { reading_of = reading_of; left_open = cause.Block }
-
--- the end of a text
-abbrev pub at_end : List ℕ → Result (List Item) Fault
-at_end opened = text.at_end circuits opened
-
--- what the line of this number says where these blocks are open; its bytes are judged before everything else
-abbrev pub line_reading : List ℕ → ℕ → List ℕ → Reading
-line_reading opened number line = text.line_reading circuits opened number line
-
--- the items of lines, of which this many came before, in these open blocks
-abbrev pub items_from : List ℕ → ℕ → List (List ℕ) → Result (List Item) Fault
-items_from opened read lines = text.items_from circuits opened read lines
+circuits = format_of circuit_table
 
 -- the items of a text, or its refusal
 abbrev pub items_in : List ℕ → Result (List Item) Fault

@@ -1,13 +1,13 @@
-ghost use Rattle.std.specs.Prelude.{◌≡◌, length};
+ghost use Rattle.std.specs.Prelude.{◌≡◌, length, nat_lt};
 ghost use Rattle.std.specs.List.{list_all, list_any};
-ghost use Rattle.stim_parser.specs.Limits.{has_argument_beyond, has_wrong_arguments, has_wrong_probability, is_argument, is_argument_beyond, is_probability, is_wrong_count, takes_probability};
-ghost use Rattle.stim_parser.specs.Said.{texts_of};
+ghost use Rattle.stim_parser.specs.Limits.{has_argument_beyond, has_wrong_arguments, has_wrong_probability, is_argument, is_probability, is_wrong_count, takes_probability, texts_of};
+ghost use Rattle.stim_parser.specs.Numbers.{is_number_beyond, magnitude_of, value_of};
 
 use crate::arguments::MOST_ARGUMENTS;
 use crate::digits::{is_number, value_of};
 use crate::forms::ArgumentForm;
 use crate::last::LastProbability;
-use crate::numbers::{is_coordinate_beyond, is_decimal, is_number_beyond, is_whole_number};
+use crate::numbers::{is_decimal, is_number_beyond, is_whole_number, magnitude_of};
 
 /// Whether this is a number of arguments that the form doesn't take.
 fn is_wrong_count(form: ArgumentForm, count: usize) -> bool
@@ -82,29 +82,31 @@ pub fn has_wrong_probability<'a>(
     takes_probability(form) && !are_probabilities(last, arguments)
 }
 
-/// Whether an argument is beyond its limit.
-fn is_argument_beyond(form: ArgumentForm, text: &[u8]) -> bool
-    ensures { result ≡ is_argument_beyond form text.now }
-{
-    match form {
-        ArgumentForm::WholeNumbers => is_coordinate_beyond(text),
-        ArgumentForm::OneNumber => is_number_beyond(value_of(text)),
-        _ => false,
-    }
-}
-
-/// Whether some of the arguments are beyond their limit.
-fn are_beyond(form: ArgumentForm, arguments: &[&[u8]]) -> bool
-    ensures { result ≡ list_any (λ argument. is_argument_beyond form argument.now) arguments.now }
+/// Whether one of the whole numbers is of a magnitude above the greatest one.
+fn are_coordinates_beyond(greatest: u64, arguments: &[&[u8]]) -> bool
+    ensures { result ≡ list_any (λ argument. nat_lt greatest (magnitude_of argument.now)) arguments.now }
 {
     arguments
         .iter()
-        .any(|argument| is_argument_beyond(form, *argument))
+        .any(|argument| magnitude_of(*argument) > greatest)
 }
 
-/// Whether one of the arguments is beyond its limit.
-pub(crate) fn has_argument_beyond(form: ArgumentForm, arguments: &[&[u8]]) -> bool
-    ensures { result ≡ has_argument_beyond form (texts_of arguments.now) }
+/// Whether one of the numbers is beyond the limit of all that have none of their own.
+fn are_numbers_beyond(arguments: &[&[u8]]) -> bool
+    ensures { result ≡ list_any (λ argument. is_number_beyond (value_of argument.now)) arguments.now }
 {
-    are_beyond(form, arguments)
+    arguments
+        .iter()
+        .any(|argument| is_number_beyond(value_of(*argument)))
+}
+
+/// Whether one of the arguments is beyond its limit, which of a coordinate's magnitude is `greatest`.
+pub(crate) fn has_argument_beyond(greatest: u64, form: ArgumentForm, arguments: &[&[u8]]) -> bool
+    ensures { result ≡ has_argument_beyond greatest form (texts_of arguments.now) }
+{
+    match form {
+        ArgumentForm::WholeNumbers => are_coordinates_beyond(greatest, arguments),
+        ArgumentForm::OneNumber => are_numbers_beyond(arguments),
+        _ => false,
+    }
 }

@@ -1,7 +1,8 @@
 ghost use Rattle.std.specs.Prelude.{◌≡◌};
 ghost use Rattle.stim_parser.specs.Instructions.{argument_form, gate_targets, target_form};
 
-use crate::operation::{Keyword, Operation};
+use crate::operation::Operation;
+use crate::table::Keyword;
 use gate_table::Gate;
 
 /// Which arguments an instruction takes.
@@ -40,7 +41,7 @@ pub(crate) enum TargetForm {
 }
 
 /// The arguments that a keyword takes.
-pub(crate) fn argument_form(keyword: Keyword) -> ArgumentForm
+pub(crate) fn argument_form(keyword: Keyword<Operation>) -> ArgumentForm
     ensures { result ≡ argument_form keyword }
 {
     let Keyword::Does(operation) = keyword else {
@@ -77,7 +78,7 @@ fn gate_targets(gate: Gate) -> TargetForm
 }
 
 /// The targets that a keyword takes.
-pub(crate) fn target_form(keyword: Keyword) -> TargetForm
+pub(crate) fn target_form(keyword: Keyword<Operation>) -> TargetForm
     ensures { result ≡ target_form keyword }
 {
     let Keyword::Does(operation) = keyword else {

@@ -1,29 +1,23 @@
 ghost use Rattle.std.specs.Prelude.{◌≡◌, ℕ, List, None, Some, not, true, false, IfOk, MatchResult};
-ghost use Rattle.stim_lexer.specs.Bytes.{after_blanks, is_empty};
 ghost use Rattle.stim_lexer.specs.Lexing.{cut_in};
+ghost use Rattle.block_text.specs.Said.{OpensFew, reading_in};
 ghost use Rattle.stim_parser.specs.declared.forms.ArgumentForm.TheVariants.{NoArguments};
 ghost use Rattle.stim_parser.specs.Arguments.{arguments_in};
-ghost use Rattle.stim_parser.specs.Instructions.{argument_form, keyword_named, target_form};
-ghost use Rattle.block_text.specs.Said.{reading_in};
-ghost use Rattle.stim_parser.specs.Said.{first_of, refusals_of_amounts, refusals_of_arguments};
 ghost use Rattle.stim_parser.specs.Limits.{has_argument_beyond};
-ghost use Rattle.stim_parser.specs.Verdicts.{accepted, closed_at, has_wrong_number, has_wrong_target, judged, misplaces_brace, opens_block, reading_of, read_targets, refusal_of, refusals_of_keyword, takes_none, turns_of};
+ghost use Rattle.stim_parser.specs.Judging.{accepted, closed_at, first_of, has_wrong_target, judged, misplaces_brace, opens_block, reading_of, read_targets, refusal_of, refusals_of_amounts, refusals_of_arguments, refusals_of_block, refusals_of_keyword};
 
 use crate::argument_checks::{has_argument_beyond, has_wrong_arguments, has_wrong_probability};
 use crate::arguments::read_arguments;
-use crate::forms::{ArgumentForm, TargetForm, argument_form, target_form};
-use crate::last::{Last, LastName};
-use crate::names::is_left_out;
-use crate::operation::{Keyword, Operation};
-use crate::target::{Target, read_targets};
-use crate::target_checks::{are_of_form, has_same_qubit, has_target_beyond, has_wrong_count};
+use crate::forms::ArgumentForm;
+use crate::last::Last;
+use crate::table::{Causes, Judge, Keyword};
 use block_text::{LEVELS, Said};
 use std::alloc::{AllocError, Allocator};
 use step_model::Cause;
-use stim_lexer::{Braces, Line, after_blanks};
+use stim_lexer::{Braces, Line};
 
 /// Whether the braces of a line stand otherwise than its keyword asks.
-fn misplaces_brace(keyword: Option<Keyword>, braces: Braces) -> bool
+fn misplaces_brace<O: Copy>(keyword: Option<Keyword<O>>, braces: Braces) -> bool
     ensures { result ≡ misplaces_brace keyword braces }
 {
     match keyword {
@@ -33,24 +27,21 @@ fn misplaces_brace(keyword: Option<Keyword>, braces: Braces) -> bool
 }
 
 /// The keyword of a line that doesn't close a block, where its braces stand as that asks.
-fn keyword_of<'a>(last: &mut LastName<'a>, line: Line<'a>) -> Result<Keyword, Cause>
+fn keyword_of<'a, O: Copy, T: Copy, J: Judge<O, T>>(
+    last: &mut Last<'a>,
+    line: Line<'a>,
+) -> Result<Keyword<O>, Cause>
     ensures { MatchResult result
-        (λ keyword. (keyword_named line.entry.name.now ≡ Some keyword) × (misplaces_brace (Some keyword) line.entry.braces ≡ false))
-        (λ refused. (depth : ℕ) → refusal_of depth (cut_in line.entry) ≡ Some refused) }
+        (λ keyword. (J.table.keyword_named line.entry.name.now ≡ Some keyword) × (misplaces_brace (Some keyword) line.entry.braces ≡ false))
+        (λ refused. (depth : ℕ) → refusal_of J.table depth (cut_in line.entry) ≡ Some refused) }
 {
-    let keyword = last.keyword(line.name);
+    let keyword = J::keyword_named(last, line.name);
     if misplaces_brace(keyword, line.braces) {
-        return Err(Cause::Block);
+        return Err(J::causes().block);
     }
     match keyword {
         Some(keyword) => Ok(keyword),
-        None => {
-            if is_left_out(line.name) {
-                Err(Cause::LeftOut)
-            } else {
-                Err(Cause::Name)
-            }
-        }
+        None => Err(J::refusal_of_name(line.name)),
     }
 }
 
@@ -64,13 +55,19 @@ fn takes_no_arguments(form: ArgumentForm) -> bool
 /// Whether an argument of a line is beyond its limit, where they are of the number and the form that its keyword takes;
 /// otherwise the refusal.
 #[inline(always)]
-fn arguments_of<'a>(last: &mut Last<'a>, form: ArgumentForm, line: Line<'a>) -> Result<bool, Cause>
+fn arguments_of<'a>(
+    last: &mut Last<'a>,
+    causes: Causes,
+    greatest: u64,
+    form: ArgumentForm,
+    line: Line<'a>,
+) -> Result<bool, Cause>
     ensures { MatchResult result
-        (λ beyond. (beyond ≡ has_argument_beyond form (arguments_in line.entry.arguments.now)) × (first_of (refusals_of_arguments form (cut_in line.entry)) ≡ None))
-        (λ refused. first_of (refusals_of_arguments form (cut_in line.entry)) ≡ Some refused) }
+        (λ beyond. (beyond ≡ has_argument_beyond greatest form (arguments_in line.entry.arguments.now)) × (first_of (refusals_of_arguments causes form (cut_in line.entry)) ≡ None))
+        (λ refused. first_of (refusals_of_arguments causes form (cut_in line.entry)) ≡ Some refused) }
 {
     if line.stays_open {
-        return Err(Cause::Arguments);
+        return Err(causes.arguments);
     }
     if takes_no_arguments(form) && line.arguments.is_empty() {
         return Ok(false);
@@ -78,145 +75,132 @@ fn arguments_of<'a>(last: &mut Last<'a>, form: ArgumentForm, line: Line<'a>) -> 
     if last.parentheses.are(form, line.arguments) {
         return Ok(false);
     }
-    closed_arguments_of(last, form, line)
+    closed_arguments_of(last, causes, greatest, form, line)
 }
 
 /// The same for a line on which no tag and no parentheses stay open.
 #[inline(never)]
 fn closed_arguments_of<'a>(
     last: &mut Last<'a>,
+    causes: Causes,
+    greatest: u64,
     form: ArgumentForm,
     line: Line<'a>,
 ) -> Result<bool, Cause>
     requires { line.stays_open ≡ false }
     ensures { MatchResult result
-        (λ beyond. (beyond ≡ has_argument_beyond form (arguments_in line.entry.arguments.now)) × (first_of (refusals_of_arguments form (cut_in line.entry)) ≡ None))
-        (λ refused. first_of (refusals_of_arguments form (cut_in line.entry)) ≡ Some refused) }
+        (λ beyond. (beyond ≡ has_argument_beyond greatest form (arguments_in line.entry.arguments.now)) × (first_of (refusals_of_arguments causes form (cut_in line.entry)) ≡ None))
+        (λ refused. first_of (refusals_of_arguments causes form (cut_in line.entry)) ≡ Some refused) }
 {
     let Some(arguments) = read_arguments(line.arguments) else {
-        return Err(Cause::Arguments);
+        return Err(causes.arguments);
     };
     if has_wrong_arguments(form, arguments.as_slice()) {
-        return Err(Cause::Arguments);
+        return Err(causes.arguments);
     }
     if has_wrong_probability(&mut last.probability, form, arguments.as_slice()) {
-        return Err(Cause::Probability);
+        return Err(causes.probability);
     }
     last.parentheses.keep(form, line.arguments);
-    Ok(has_argument_beyond(form, arguments.as_slice()))
-}
-
-fn takes_none(form: TargetForm) -> bool
-    ensures { result ≡ takes_none form }
-{
-    matches!(form, TargetForm::NoTargets)
+    Ok(has_argument_beyond(greatest, form, arguments.as_slice()))
 }
 
 /// Puts the targets of a line into `targets`, in place of what it held, and answers whether each can be read and is of
-/// this form. For a form without targets none is read.
-fn read_line_targets<A: Allocator + Copy>(
-    targets: &mut Vec<Target, A>,
-    form: TargetForm,
+/// the form that the keyword takes.
+fn read_line_targets<O: Copy, T: Copy, J: Judge<O, T>, A: Allocator + Copy>(
+    targets: &mut Vec<T, A>,
+    keyword: Keyword<O>,
     text: &[u8],
 ) -> Result<bool, AllocError>
-    ensures wrong { IfOk result (λ right. has_wrong_target form text.now ≡ not right) }
-    ensures items { IfOk result (λ right. right ≡ true → targets.new.items ≡ read_targets form text.now) }
+    ensures wrong { IfOk result (λ right. has_wrong_target J.table keyword text.now ≡ not right) }
+    ensures items { IfOk result (λ right. right ≡ true → targets.new.items ≡ read_targets J.table keyword text.now) }
 {
-    if takes_none(form) {
-        targets.clear();
-        return Ok(true);
-    }
-    if !read_targets(targets, text)? {
+    if !J::read_targets(targets, keyword, text)? {
         return Ok(false);
     }
-    Ok(are_of_form(form, targets.as_slice()))
+    Ok(J::are_of_form(keyword, targets.as_slice()))
 }
 
-/// Whether there are targets where none is taken, or another number of them than is taken.
-fn has_wrong_number(form: TargetForm, text: &[u8], targets: &[Target]) -> bool
-    requires { targets.now ≡ read_targets form text.now }
-    ensures { result ≡ has_wrong_number form text.now }
+fn opens_block<O: Copy>(keyword: Keyword<O>) -> bool
+    ensures { result ≡ opens_block keyword }
 {
-    (takes_none(form) && !after_blanks(text).is_empty()) || has_wrong_count(form, targets)
+    matches!(keyword, Keyword::Repeats)
 }
 
-fn opens_block(form: TargetForm) -> bool
-    ensures { result ≡ opens_block form }
-{
-    matches!(form, TargetForm::Turns)
-}
-
-/// How often a block is repeated, by the targets of its line.
-fn turns_of(targets: &[Target]) -> u64
-    ensures { result ≡ turns_of targets.now }
-{
-    match targets {
-        [Target::Plain(turns), ..] => turns.value(),
-        _ => 0,
-    }
-}
-
-/// The refusal of a line whose arguments and targets are of their forms. `beyond` says whether an argument is beyond
-/// its limit.
-fn refusal_of_amounts(
+/// The refusal of a block, by how often it is repeated.
+fn refusal_of_block<O: Copy>(
+    causes: Causes,
     depth: usize,
-    keyword: Keyword,
-    line: Line,
-    beyond: bool,
-    targets: &[Target],
+    keyword: Keyword<O>,
+    turns: u64,
 ) -> Option<Cause>
-    requires arguments { beyond ≡ has_argument_beyond (argument_form keyword) (arguments_in line.arguments.now) }
-    requires targets { targets.now ≡ read_targets (target_form keyword) line.targets.now }
-    ensures { result ≡ first_of (refusals_of_amounts depth keyword (cut_in line.entry)) }
+    ensures { result ≡ first_of (refusals_of_block causes depth keyword turns) }
 {
-    let form = target_form(keyword);
-    if beyond || has_target_beyond(form, targets) {
-        return Some(Cause::Number);
+    if opens_block(keyword) && turns == 0 {
+        return Some(causes.repeat_zero);
     }
-    if has_wrong_number(form, line.targets, targets) {
-        return Some(Cause::Count);
-    }
-    if has_same_qubit(form, targets) {
-        return Some(Cause::SameQubit);
-    }
-    if opens_block(form) && turns_of(targets) == 0 {
-        return Some(Cause::RepeatZero);
-    }
-    if opens_block(form) && depth >= LEVELS {
-        return Some(Cause::Depth);
+    if opens_block(keyword) && depth >= LEVELS {
+        return Some(causes.depth);
     }
     None
 }
 
+/// The refusal of a line whose arguments and targets are of their forms. `beyond` says whether an argument is beyond
+/// its limit.
+fn refusal_of_amounts<O: Copy, T: Copy, J: Judge<O, T>>(
+    depth: usize,
+    keyword: Keyword<O>,
+    line: Line,
+    beyond: bool,
+    targets: &[T],
+) -> Option<Cause>
+    requires arguments { beyond ≡ has_argument_beyond J.table.greatest_coordinate (J.table.argument_form keyword) (arguments_in line.arguments.now) }
+    requires targets { targets.now ≡ read_targets J.table keyword line.targets.now }
+    ensures { result ≡ first_of (refusals_of_amounts J.table depth keyword (cut_in line.entry)) }
+{
+    if beyond || J::has_target_beyond(keyword, targets) {
+        return Some(J::causes().number);
+    }
+    match J::refusal_of_targets(keyword, line.targets, targets) {
+        Some(cause) => Some(cause),
+        None => refusal_of_block(J::causes(), depth, keyword, J::turns_of(targets)),
+    }
+}
+
 /// The refusal of a line with this keyword, where `depth` blocks are open. Where there is none, `targets` has the
 /// line's targets then.
-fn refusal_of<'a, A: Allocator + Copy>(
+fn refusal_of<'a, O: Copy, T: Copy, J: Judge<O, T>, A: Allocator + Copy>(
     last: &mut Last<'a>,
-    targets: &mut Vec<Target, A>,
+    targets: &mut Vec<T, A>,
     depth: usize,
-    keyword: Keyword,
+    keyword: Keyword<O>,
     line: Line<'a>,
 ) -> Result<Option<Cause>, AllocError>
-    ensures refusal { IfOk result (λ refusal. refusal ≡ first_of (refusals_of_keyword depth keyword (cut_in line.entry))) }
-    ensures targets { IfOk result (λ refusal. refusal ≡ None → targets.new.items ≡ read_targets (target_form keyword) line.entry.targets.now) }
+    ensures refusal { IfOk result (λ refusal. refusal ≡ first_of (refusals_of_keyword J.table depth keyword (cut_in line.entry))) }
+    ensures targets { IfOk result (λ refusal. refusal ≡ None → targets.new.items ≡ read_targets J.table keyword line.entry.targets.now) }
 {
-    let beyond = match arguments_of(last, argument_form(keyword), line) {
+    let form = J::argument_form(keyword);
+    let beyond = match arguments_of(last, J::causes(), J::greatest_coordinate(), form, line) {
         Ok(beyond) => beyond,
         Err(cause) => return Ok(Some(cause)),
     };
-    if !read_line_targets(targets, target_form(keyword), line.targets)? {
-        return Ok(Some(Cause::Target));
+    if !read_line_targets::<O, T, J, A>(targets, keyword, line.targets)? {
+        return Ok(Some(J::causes().target));
     }
-    Ok(refusal_of_amounts(depth, keyword, line, beyond, targets.as_slice()))
+    Ok(refusal_of_amounts::<O, T, J>(depth, keyword, line, beyond, targets.as_slice()))
 }
 
 /// What a line says that isn't refused.
-fn accepted<'a>(keyword: Keyword, line: Line<'a>, targets: &[Target]) -> Said<'a, Operation>
-    requires { targets.now ≡ read_targets (target_form keyword) line.targets.now }
-    ensures { reading_in line.entry.number result targets.now ≡ accepted line.entry.number (Some keyword) (cut_in line.entry) }
+fn accepted<'a, O: Copy, T: Copy, J: Judge<O, T>>(
+    keyword: Keyword<O>,
+    line: Line<'a>,
+    targets: &[T],
+) -> Said<'a, O>
+    requires { targets.now ≡ read_targets J.table keyword line.targets.now }
+    ensures { reading_in line.entry.number result targets.now ≡ accepted J.table line.entry.number (Some keyword) (cut_in line.entry) }
 {
     match keyword {
-        Keyword::Repeats => Said::Opens(turns_of(targets)),
+        Keyword::Repeats => Said::Opens(J::turns_of(targets)),
         Keyword::Does(operation) => Said::Takes {
             operation,
             arguments: line.arguments,
@@ -225,48 +209,48 @@ fn accepted<'a>(keyword: Keyword, line: Line<'a>, targets: &[Target]) -> Said<'a
 }
 
 /// What a line says that closes a block, where so many are open.
-fn closed_at<'a>(depth: usize) -> Said<'a, Operation>
-    ensures { (number : ℕ) (targets : List Target) → reading_in number result targets ≡ closed_at depth }
+fn closed_at<'a, O: Copy, T: Copy>(causes: Causes, depth: usize) -> Said<'a, O>
+    ensures { (number : ℕ) (targets : List T) → reading_in number result targets ≡ closed_at causes depth }
 {
     if depth == 0 {
-        Said::Refuses(Cause::Block)
+        Said::Refuses(causes.block)
     } else {
         Said::Closes
     }
 }
 
 /// Reads a line that doesn't close a block.
-fn judged<'a, A: Allocator + Copy>(
+fn judged<'a, O: Copy, T: Copy, J: Judge<O, T>, A: Allocator + Copy>(
     last: &mut Last<'a>,
-    targets: &mut Vec<Target, A>,
+    targets: &mut Vec<T, A>,
     depth: usize,
     line: Line<'a>,
-) -> Result<Said<'a, Operation>, AllocError>
-    ensures { IfOk result (λ said. reading_in line.entry.number said targets.new.items ≡ judged depth line.entry.number (cut_in line.entry)) }
+) -> Result<Said<'a, O>, AllocError>
+    ensures { IfOk result (λ said. reading_in line.entry.number said targets.new.items ≡ judged J.table depth line.entry.number (cut_in line.entry)) }
 {
-    let keyword = match keyword_of(&mut last.name, line) {
+    let keyword = match keyword_of::<O, T, J>(last, line) {
         Ok(keyword) => keyword,
         Err(cause) => return Ok(Said::Refuses(cause)),
     };
-    match refusal_of(last, targets, depth, keyword, line)? {
+    match refusal_of::<O, T, J, A>(last, targets, depth, keyword, line)? {
         Some(cause) => Ok(Said::Refuses(cause)),
-        None => Ok(accepted(keyword, line, targets.as_slice())),
+        None => Ok(accepted::<O, T, J>(keyword, line, targets.as_slice())),
     }
 }
 
 /// Reads a cut line where `depth` blocks are open, and puts its targets into `targets`, in place of what it held. Where
 /// the line is no accepted instruction, nothing is promised of `targets`.
-#[tactic(auto, unfolding(crate::specs::Verdicts::reading_of))]
-pub(crate) fn read_line<'a, A: Allocator + Copy>(
+#[tactic(auto, unfolding(crate::specs::Judging::reading_of))]
+pub fn read_line<'a, O: Copy, T: Copy, J: Judge<O, T>, A: Allocator + Copy>(
     last: &mut Last<'a>,
-    targets: &mut Vec<Target, A>,
+    targets: &mut Vec<T, A>,
     depth: usize,
     line: Line<'a>,
-) -> Result<Said<'a, Operation>, AllocError>
-    ensures { IfOk result (λ said. reading_in line.entry.number said targets.new.items ≡ reading_of depth line.entry.number (cut_in line.entry)) }
+) -> Result<Said<'a, O>, AllocError>
+    ensures { IfOk result (λ said. reading_in line.entry.number said targets.new.items ≡ reading_of J.table depth line.entry.number (cut_in line.entry)) }
 {
     match line.braces {
-        Braces::ClosingAlone => Ok(closed_at(depth)),
-        _ => judged(last, targets, depth, line),
+        Braces::ClosingAlone => Ok(closed_at::<O, T>(J::causes(), depth)),
+        _ => judged::<O, T, J, A>(last, targets, depth, line),
     }
 }

@@ -3,20 +3,20 @@ ghost use Rattle.std.specs.Prelude.{◌≡◌, false, true};
 ghost use Rattle.step_model.specs.Probabilities.{probability_bound};
 ghost use Rattle.stim_parser.specs.Arguments.{arguments_in};
 ghost use Rattle.stim_parser.specs.Instructions.{keyword_named};
-ghost use Rattle.stim_parser.specs.Limits.{has_wrong_arguments, has_wrong_probability};
-ghost use Rattle.stim_parser.specs.Said.{AreProbabilities};
+ghost use Rattle.stim_parser.specs.Limits.{AreProbabilities, has_wrong_arguments, has_wrong_probability};
 
 use crate::argument_checks::takes_probability;
 use crate::forms::ArgumentForm;
 use crate::names::keyword_named;
-use crate::operation::Keyword;
+use crate::operation::Operation;
 use crate::probability::Probability;
+use crate::table::Keyword;
 
 /// The name that was looked up last, and what it names.
 #[derive(Clone, Copy)]
 pub(crate) struct LastName<'a> {
     name: &'a [u8],
-    keyword: Option<Keyword>,
+    keyword: Option<Keyword<Operation>>,
     ghost named: { keyword ≡ keyword_named name.now },
 }
 
@@ -30,7 +30,7 @@ impl<'a> LastName<'a> {
     }
 
     /// The keyword that a name names, in any case.
-    pub(crate) fn keyword(&mut self, name: &'a [u8]) -> Option<Keyword>
+    pub(crate) fn keyword(&mut self, name: &'a [u8]) -> Option<Keyword<Operation>>
         ensures { result ≡ keyword_named name.now }
     {
         if self.name == name {

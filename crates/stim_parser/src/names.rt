@@ -1,12 +1,14 @@
 ghost use Rattle.std.specs.Prelude.{◌≡◌};
-ghost use Rattle.stim_parser.specs.Instructions.{is_among_rows, is_left_out, keyword_named, named_in_rows};
+ghost use Rattle.stim_parser.specs.Instructions.{is_among_rows, is_left_out, keyword_named};
+ghost use Rattle.stim_parser.specs.Names.{named_in_rows};
 
-use crate::operation::{Keyword, Operation};
+use crate::operation::Operation;
+use crate::table::Keyword;
 use gate_table::Gate;
 use pauli_word::Letter;
 
 /// Each name that is no gate's, in capitals, and its keyword.
-static OTHER_NAMES: [(&'static [u8], Keyword); 24] = [
+static OTHER_NAMES: [(&'static [u8], Keyword<Operation>); 24] = [
     (b"M", Keyword::Does(Operation::Measures(Letter::Z))),
     (b"MZ", Keyword::Does(Operation::Measures(Letter::Z))),
     (b"MX", Keyword::Does(Operation::Measures(Letter::X))),
@@ -78,9 +80,9 @@ static LEFT_OUT_NAMES: [&'static [u8]; 29] = [
     b"C_ZYNX",
 ];
 
-/// The keyword of the first row whose name is the text, in any case.
-#[tactic(auto, unfolding(crate::specs::Instructions::named_in_rows))]
-fn look_up(rows: &[(&[u8], Keyword)], text: &[u8]) -> Option<Keyword>
+/// What the first row names whose name is the text, in any case.
+#[tactic(auto, unfolding(crate::specs::Names::named_in_rows))]
+pub fn look_up<K: Copy>(rows: &[(&[u8], K)], text: &[u8]) -> Option<K>
     ensures { result ≡ named_in_rows rows.now text.now }
 {
     rows.iter()
@@ -97,7 +99,7 @@ fn is_among(rows: &[&[u8]], name: &[u8]) -> bool
 }
 
 /// The keyword that a name names, in any case.
-pub(crate) fn keyword_named(name: &[u8]) -> Option<Keyword>
+pub(crate) fn keyword_named(name: &[u8]) -> Option<Keyword<Operation>>
     ensures { result ≡ keyword_named name.now }
 {
     match Gate::named(name) {

@@ -9,7 +9,7 @@ use crate::digits::{is_number, value_of};
 const GREATEST_QUBIT: u64 = 4_095;
 
 /// The greatest magnitude of a coordinate.
-const GREATEST_COORDINATE: u64 = 1_000_000_000;
+pub(crate) const GREATEST_COORDINATE: u64 = 1_000_000_000;
 
 /// The greatest of all other numbers.
 const GREATEST_NUMBER: u64 = 999_999_999_999_999_999;

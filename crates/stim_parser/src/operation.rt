@@ -29,10 +29,3 @@ pub enum Operation {
     /// Shifts the coordinates of later detectors.
     ShiftsCoordinates,
 }
-
-/// What a name says: an instruction, or the start of a block.
-#[derive(Clone, Copy)]
-pub(crate) enum Keyword {
-    Does(Operation),
-    Repeats,
-}

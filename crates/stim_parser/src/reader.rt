@@ -1,37 +1,17 @@
 ghost use Rattle.std.specs.Prelude.{◌≡◌, ◌⊎◌, IfOk, IfErr, Ok};
 ghost use Rattle.step_model.specs.Faults.{memory_fault};
 ghost use Rattle.stim_lexer.specs.Lexing.{cut_in};
-ghost use Rattle.block_text.specs.Instructions.{Instruction};
-ghost use Rattle.block_text.specs.Said.{OpensFew, reading_in};
-ghost use Rattle.block_text.specs.Texts.{Format, IsRefusedBy, items_in};
+ghost use Rattle.block_text.specs.Texts.{IsRefusedBy, items_in};
 ghost use Rattle.block_text.specs.Unfinished.{after_line, cause_in, reading_at};
+ghost use Rattle.stim_parser.specs.Judging.{format_of};
 
+use crate::judge::read_line;
 use crate::last::Last;
-use block_text::{Builder, Items, Said};
+use crate::table::Judge;
+use block_text::{Builder, Items};
 use std::alloc::{AllocError, Allocator};
 use step_model::{Cause, Fault};
 use stim_lexer::{Lexer, Line};
-
-/// The judge of a format, such as that of circuits or of error models: it says what a line does, reads its targets, and says
-/// why a line is refused.
-pub trait Judge<O: Copy, T: Copy> {
-    ghost format: { Format (Instruction O T) };
-
-    /// Reads a cut line where `depth` blocks are open, and puts its targets in place of those that were there. Where the line
-    /// isn't an instruction that is accepted, nothing is promised of the targets.
-    fn read_line<'a, A: Allocator + Copy>(
-        last: &mut Last<'a>,
-        targets: &mut Vec<T, A>,
-        depth: usize,
-        line: Line<'a>,
-    ) -> Result<Said<'a, O>, AllocError>
-        ensures reading { IfOk result (λ said. reading_in line.entry.number said targets.new.items ≡ format.reading_of depth line.entry.number (cut_in line.entry)) }
-        ensures few { IfOk result (λ said. OpensFew depth said) };
-
-    /// The cause of the refusal of a block that is left open.
-    fn left_open() -> Cause
-        ensures { result ≡ format.left_open };
-}
 
 /// Reads the next line. Answers the cause where it is refused.
 fn read_next<'a, O: Copy, T: Copy, J: Judge<O, T>, A: Allocator + Copy>(
@@ -40,11 +20,11 @@ fn read_next<'a, O: Copy, T: Copy, J: Judge<O, T>, A: Allocator + Copy>(
     targets: &mut Vec<T, A>,
     line: Line<'a>,
 ) -> Result<Option<Cause>, AllocError>
-    ensures refused { IfOk result (λ refused. refused ≡ cause_in (reading_at J.format builder.old line.entry.number (cut_in line.entry))) }
-    ensures after { IfOk result (λ refused. builder.new ≡ after_line line.entry.number (reading_at J.format builder.old line.entry.number (cut_in line.entry)) builder.old) }
+    ensures refused { IfOk result (λ refused. refused ≡ cause_in (reading_at (format_of J.table) builder.old line.entry.number (cut_in line.entry))) }
+    ensures after { IfOk result (λ refused. builder.new ≡ after_line line.entry.number (reading_at (format_of J.table) builder.old line.entry.number (cut_in line.entry)) builder.old) }
 {
     let number = line.number;
-    let said = J::read_line(last, targets, builder.depth(), line)?;
+    let said = read_line::<O, T, J, A>(last, targets, builder.depth(), line)?;
     builder.take(number, said, targets.as_slice())
 }
 
@@ -53,8 +33,8 @@ pub fn read_items<'a, O: Copy, T: Copy, J: Judge<O, T>, A: Allocator + Copy>(
     alloc: A,
     text: &'a [u8],
 ) -> Result<Items<'a, O, T, A>, Fault>
-    ensures ok { IfOk result (λ items. items_in J.format text.now ≡ Ok items) }
-    ensures err { IfErr result (λ fault. (fault ≡ memory_fault) ⊎ IsRefusedBy J.format text.now fault) }
+    ensures ok { IfOk result (λ items. items_in (format_of J.table) text.now ≡ Ok items) }
+    ensures err { IfErr result (λ fault. (fault ≡ memory_fault) ⊎ IsRefusedBy (format_of J.table) text.now fault) }
 {
     let mut lexer = Lexer::new(text);
     let mut builder = Builder::new(alloc);
@@ -73,5 +53,5 @@ pub fn read_items<'a, O: Copy, T: Copy, J: Judge<O, T>, A: Allocator + Copy>(
             Err(_) => return Err(Fault::MEMORY),
         }
     }
-    builder.finish(J::left_open())
+    builder.finish(J::causes().block)
 }

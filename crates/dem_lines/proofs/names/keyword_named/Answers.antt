@@ -1,6 +1,6 @@
 use Rattle.std.proofs.Common.{◌∙◌}
 use Rattle.dem_lines.specs.Instructions.{keyword_named}
-use Rattle.dem_lines.proofs.NameLemmas.{named_in_rows-named_in}
+use Rattle.stim_parser.proofs.NameLemmas.{named_in_rows-named_in}
 use Rattle.dem_lines.proofs.names.keyword_named.Goals as goal
 
 -- the static table is the one of the definition

@@ -1,7 +1,7 @@
 use Rattle.block_text.proofs.TreeLemmas.{each_text_is_judged, no_text_writes_two_trees, no_text_has_two_faults, no_text_is_both}
 use Rattle.stim_parser.specs.Circuits.{Fits}
 use Rattle.stim_parser.specs.Texts.{circuits}
-use Rattle.stim_parser.proofs.FitLemmas.{reading_fits}
+use Rattle.stim_parser.proofs.CircuitFits.{reading_fits}
 use Rattle.stim_parser.proofs.laws.texts_are_judged_once.Goals as goal
 
 pub returns : goal.returns

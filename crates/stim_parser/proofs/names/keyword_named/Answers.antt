@@ -2,7 +2,7 @@ use Rattle.std.proofs.Common.{◌∙◌, ap, sym}
 use Rattle.std.specs.Prelude.{option_map}
 use Rattle.std.specs.Option.{option_or}
 use Rattle.stim_parser.specs.declared.operation.Operation.TheVariants.{Applies}
-use Rattle.stim_parser.specs.declared.operation.Keyword.TheVariants.{Does}
+use Rattle.stim_parser.specs.declared.table.Keyword.TheVariants.{Does}
 use Rattle.stim_parser.specs.Instructions.{keyword_named, other_named}
 use Rattle.stim_parser.proofs.NameLemmas.{named_in_rows-named_in}
 use Rattle.stim_parser.proofs.names.keyword_named.Goals as goal

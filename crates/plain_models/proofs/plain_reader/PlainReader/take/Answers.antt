@@ -4,7 +4,9 @@ use Rattle.stim_parser.specs.Arguments.{arguments_in}
 use Rattle.block_text.specs.declared.said.Said.{Said}
 use Rattle.dem_lines.specs.declared.operation.Operation.{Operation}
 use Rattle.block_text.specs.Said.{reading_in}
-use Rattle.dem_lines.specs.Verdicts.{Instruction, Takes, reading_of}
+use Rattle.block_text.specs.Texts.{Takes}
+use Rattle.stim_parser.specs.Judging.{reading_of}
+use Rattle.dem_lines.specs.Verdicts.{Instruction, model_table}
 use Rattle.plain_models.proofs.PlainLemmas.{taken_targets}
 use Rattle.plain_models.proofs.plain_reader.PlainReader.take.Goals as goal
 
@@ -19,6 +21,6 @@ add-requires g c =
       arguments = arguments_in c.in-Takes.arguments.now;
       targets = c.read_line.new.targets.items;
     } in
-    let taken : Takes i ≡ reading_of 0 number cut =
+    let taken : Takes i ≡ reading_of model_table 0 number cut =
     sym (ap (λ (s : Said Operation). reading_in number s c.read_line.new.targets.items) c.in-Takes.is) ∙ c.in_ok-read_line.ensures in
     c.as_slice.ensures.value ∙ taken_targets 0 number cut i taken

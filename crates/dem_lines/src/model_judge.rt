@@ -1,0 +1,125 @@
+ghost use Rattle.std.specs.Prelude.{◌≡◌, None, Some, false, IfOk, MatchBool};
+ghost use Rattle.stim_lexer.specs.Lexing.{cut_in};
+ghost use Rattle.block_text.specs.Said.{reading_in};
+ghost use Rattle.stim_parser.specs.Judging.{first_of, reading_of};
+ghost use Rattle.dem_lines.specs.Verdicts.{model_table, number_in};
+
+use crate::checks::{GREATEST_NUMBER, are_of_form, has_target_beyond};
+use crate::forms::{argument_form, target_form};
+use crate::names::keyword_named;
+use crate::operation::Operation;
+use crate::target::{Target, read_targets};
+use block_text::Said;
+use std::alloc::{AllocError, Allocator};
+use step_model::Cause;
+use stim_lexer::Line;
+use stim_parser::{ArgumentForm, Causes, Judge, Keyword, Last};
+
+/// How often a block is repeated, or by how much detectors shift, by the targets of the line.
+pub fn number_in(targets: &[Target]) -> u64
+    ensures { result ≡ number_in targets.now }
+{
+    match targets {
+        [Target::Plain(number), ..] => *number,
+        _ => 0,
+    }
+}
+
+/// The judge of an error model's lines.
+pub(crate) struct ModelJudge;
+
+impl Judge<Operation, Target> for ModelJudge {
+    ghost table = { model_table };
+
+    #[inline(always)]
+    fn keyword_named<'a>(_: &mut Last<'a>, name: &'a [u8]) -> Option<Keyword<Operation>> {
+        keyword_named(name)
+    }
+
+    #[inline(always)]
+    fn refusal_of_name(_: &[u8]) -> Cause {
+        Cause::DemName
+    }
+
+    #[inline(always)]
+    fn argument_form(keyword: Keyword<Operation>) -> ArgumentForm
+        ensures { result ≡ model_table.argument_form keyword }
+    {
+        argument_form(keyword)
+    }
+
+    #[inline(always)]
+    fn greatest_coordinate() -> u64 {
+        GREATEST_NUMBER
+    }
+
+    #[inline(always)]
+    fn read_targets<A: Allocator + Copy>(
+        targets: &mut Vec<Target, A>,
+        keyword: Keyword<Operation>,
+        text: &[u8],
+    ) -> Result<bool, AllocError>
+        ensures { IfOk result (λ all. MatchBool all
+            (model_table.line_targets keyword text.now ≡ Some targets.new.items)
+            (model_table.line_targets keyword text.now ≡ None)) }
+    {
+        read_targets(targets, text)
+    }
+
+    #[inline(always)]
+    fn are_of_form(keyword: Keyword<Operation>, targets: &[Target]) -> bool
+        ensures { result ≡ model_table.are_of_form keyword targets.now }
+    {
+        are_of_form(target_form(keyword), targets)
+    }
+
+    #[inline(always)]
+    fn has_target_beyond(keyword: Keyword<Operation>, targets: &[Target]) -> bool
+        ensures { result ≡ model_table.has_target_beyond keyword targets.now }
+    {
+        has_target_beyond(targets)
+    }
+
+    #[inline(always)]
+    fn refusal_of_targets(
+        keyword: Keyword<Operation>,
+        text: &[u8],
+        targets: &[Target],
+    ) -> Option<Cause>
+        requires { model_table.has_target_beyond keyword targets.now ≡ false }
+        ensures { result ≡ first_of (model_table.refusals_of_targets keyword text.now targets.now) }
+    {
+        None
+    }
+
+    #[inline(always)]
+    fn turns_of(targets: &[Target]) -> u64 {
+        number_in(targets)
+    }
+
+    #[inline(always)]
+    fn causes() -> Causes {
+        Causes {
+            block: Cause::DemBlock,
+            arguments: Cause::DemArguments,
+            probability: Cause::DemArguments,
+            target: Cause::DemTarget,
+            number: Cause::DemNumber,
+            repeat_zero: Cause::DemRepeatZero,
+            depth: Cause::DemDepth,
+        }
+    }
+}
+
+/// Reads a cut line where `depth` blocks are open, and puts its targets into `targets`, in place of what it held. Where
+/// the line is no accepted instruction, nothing is promised of `targets`.
+pub fn read_line<'a, A: Allocator + Copy>(
+    last: &mut Last<'a>,
+    targets: &mut Vec<Target, A>,
+    depth: usize,
+    line: Line<'a>,
+) -> Result<Said<'a, Operation>, AllocError>
+    ensures { IfOk result (λ said. reading_in line.entry.number said targets.new.items ≡ reading_of model_table depth line.entry.number (cut_in line.entry)) }
+{
+    stim_parser::read_line::<Operation, Target, ModelJudge, A>(last, targets, depth, line)
+}

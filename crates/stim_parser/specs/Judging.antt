@@ -1,0 +1,164 @@
+-- What a cut line says where `depth` blocks are open, or why it is refused, by the table of its format. A line of `}` alone
+-- closes a block. Any other is asked these questions in their order, and the first that applies is its refusal:
+--     block: `}` alone with no open block; a line that opens a block whose one brace isn't a `{` at its end; any other brace.
+--     of the name, by the table: the name is empty or no keyword's.
+--     arguments: a tag or parentheses stay open; a wrong number of arguments; an empty one; one of another form.
+--     probability: the argument isn't a probability that is accepted.
+--     target: a target that can't be read, or of another form than the keyword takes.
+--     number: a number beyond its limit.
+--     of the targets, by the table: what else is wrong with them.
+--     repeat_zero: a block repeated zero times.
+--     depth: a block inside as many as may be open.
+-- (The causes and their order are this project's.)
+use Rattle.std.specs.Prelude.{ℕ, ◌==◌, nat_le, Bool, true, false, not, ◌&&◌, ◌||◌, if◌then◌else◌, List, [], ◌∷◌, ◌++◌, find, Option, None, Some, option_map, is_none, unwrap_or}
+use Rattle.step_model.specs.declared.fault.Cause.{Cause}
+use Rattle.stim_lexer.specs.declared.line.Braces.{Braces}
+use Rattle.stim_lexer.specs.declared.line.Braces.TheVariants.{NoBrace, OpeningLast, ClosingAlone}
+use Rattle.stim_lexer.specs.Cut.{Cut}
+use Rattle.block_text.specs.Fitting.{deepest}
+use Rattle.block_text.specs.Instructions.{Instruction}
+use Rattle.block_text.specs.Texts.{Format, Reading, Takes, Opens, Closes, Refuses}
+use Rattle.stim_parser.specs.declared.forms.ArgumentForm.{ArgumentForm}
+use Rattle.stim_parser.specs.declared.table.Causes.{Causes}
+use Rattle.stim_parser.specs.declared.table.Keyword.{Keyword}
+use Rattle.stim_parser.specs.declared.table.Keyword.TheVariants.{Does, Repeats}
+use Rattle.stim_parser.specs.Arguments.{arguments_in}
+use Rattle.stim_parser.specs.Limits.{has_wrong_arguments, has_wrong_probability, has_argument_beyond}
+
+-- what a format says of its lines: what a name names, and why a name is refused that names nothing; which arguments a
+-- keyword takes, and the greatest magnitude of a coordinate among them; the targets of a line, where each can be read;
+-- whether targets are of the keyword's form, whether one is beyond its limit, and what else is asked of them; how often a
+-- block is repeated, by the targets of its line; and the causes of refusals
+pub record Table (O T : Type 0) : Type 0 where
+  pub keyword_named : List ℕ → Option (Keyword O)
+  pub refusal_of_name : List ℕ → Cause
+  pub argument_form : Keyword O → ArgumentForm
+  pub greatest_coordinate : ℕ
+  pub line_targets : Keyword O → List ℕ → Option (List T)
+  pub are_of_form : Keyword O → List T → Bool
+  pub has_target_beyond : Keyword O → List T → Bool
+  pub refusals_of_targets : Keyword O → List ℕ → List T → List (Bool × Cause)
+  pub turns_of : List T → ℕ
+  pub causes : Causes
+
+-- the cause of the first question that applies
+abbrev pub first_of : List (Bool × Cause) → Option Cause
+first_of asked = option_map (λ question. question.1) (find (λ question. question.0) asked)
+
+-- ---- braces
+
+abbrev pub is_opening_last : Braces → Bool
+is_opening_last OpeningLast = true
+is_opening_last braces = false
+
+abbrev pub is_no_brace : Braces → Bool
+is_no_brace NoBrace = true
+is_no_brace braces = false
+
+-- a line that opens a block has one brace, at its end; another line has none
+abbrev pub misplaces_brace : {O : Type 0} → Option (Keyword O) → Braces → Bool
+misplaces_brace (Some Repeats) braces = not (is_opening_last braces)
+misplaces_brace keyword braces = not (is_no_brace braces)
+
+-- ---- arguments, targets and blocks
+
+-- the questions of the arguments' number and form
+abbrev pub refusals_of_arguments : Causes → ArgumentForm → Cut → List (Bool × Cause)
+refusals_of_arguments causes form cut =
+    (cut.stays_open || has_wrong_arguments form (arguments_in cut.arguments), causes.arguments)
+    ∷ (has_wrong_probability form (arguments_in cut.arguments), causes.probability)
+    ∷ []
+
+-- the targets of a line
+abbrev pub read_targets : {O T : Type 0} → Table O T → Keyword O → List ℕ → List T
+read_targets table keyword text = unwrap_or (table.line_targets keyword text) []
+
+abbrev pub has_wrong_target : {O T : Type 0} → Table O T → Keyword O → List ℕ → Bool
+has_wrong_target table keyword text =
+    is_none (table.line_targets keyword text) || not (table.are_of_form keyword (read_targets table keyword text))
+
+abbrev pub has_number_beyond : {O T : Type 0} → Table O T → Keyword O → Cut → Bool
+has_number_beyond table keyword cut =
+    has_argument_beyond table.greatest_coordinate (table.argument_form keyword) (arguments_in cut.arguments)
+    || table.has_target_beyond keyword (read_targets table keyword cut.targets)
+
+abbrev pub opens_block : {O : Type 0} → Keyword O → Bool
+opens_block Repeats = true
+opens_block keyword = false
+
+-- the questions of a block, by how often it is repeated
+abbrev pub refusals_of_block : {O : Type 0} → Causes → ℕ → Keyword O → ℕ → List (Bool × Cause)
+refusals_of_block causes depth keyword turns =
+    (opens_block keyword && turns == 0, causes.repeat_zero)
+    ∷ (opens_block keyword && nat_le deepest depth, causes.depth)
+    ∷ []
+
+-- ---- the questions in their order
+
+-- the questions of numbers and of how many targets there are, which are asked where each target is of its form
+abbrev pub refusals_of_amounts : {O T : Type 0} → Table O T → ℕ → Keyword O → Cut → List (Bool × Cause)
+refusals_of_amounts table depth keyword cut =
+    let targets = read_targets table keyword cut.targets in
+    (has_number_beyond table keyword cut, table.causes.number)
+    ∷ (table.refusals_of_targets keyword cut.targets targets
+    ++ refusals_of_block table.causes depth keyword (table.turns_of targets))
+
+-- the questions of a line with this keyword, of one with a keyword or none, and of any line
+abbrev pub refusals_of_keyword : {O T : Type 0} → Table O T → ℕ → Keyword O → Cut → List (Bool × Cause)
+refusals_of_keyword table depth keyword cut =
+    refusals_of_arguments table.causes (table.argument_form keyword) cut
+    ++ (has_wrong_target table keyword cut.targets, table.causes.target)
+    ∷ refusals_of_amounts table depth keyword cut
+
+abbrev pub refusals_of_name : {O T : Type 0} → Table O T → ℕ → Option (Keyword O) → Cut → List (Bool × Cause)
+refusals_of_name table depth None cut = (true, table.refusal_of_name cut.name) ∷ []
+refusals_of_name table depth (Some keyword) cut = refusals_of_keyword table depth keyword cut
+
+abbrev pub refusals : {O T : Type 0} → Table O T → ℕ → Cut → List (Bool × Cause)
+refusals table depth cut =
+    (misplaces_brace (table.keyword_named cut.name) cut.braces, table.causes.block)
+    ∷ refusals_of_name table depth (table.keyword_named cut.name) cut
+
+-- the refusal of a line where `depth` blocks are open
+unfoldable pub refusal_of : {O T : Type 0} → Table O T → ℕ → Cut → Option Cause
+refusal_of table depth cut = first_of (refusals table depth cut)
+
+-- ---- what a line says
+
+-- what an accepted line says
+abbrev pub accepted : {O T : Type 0} → Table O T → ℕ → Option (Keyword O) → Cut → Reading (Instruction O T)
+accepted table number None cut = Refuses (table.refusal_of_name cut.name)
+accepted table number (Some Repeats) cut = Opens (table.turns_of (read_targets table Repeats cut.targets))
+accepted table number (Some (Does operation)) cut =
+    Takes
+    (record {
+      line = number;
+      operation = operation;
+      arguments = arguments_in cut.arguments;
+      targets = read_targets table (Does operation) cut.targets;
+    })
+
+abbrev pub unless_refused : {I : Type 0} → Option Cause → Reading I → Reading I
+unless_refused None reading = reading
+unless_refused (Some c) reading = Refuses c
+
+abbrev pub closed_at : {I : Type 0} → Causes → ℕ → Reading I
+closed_at causes depth = if depth == 0 then Refuses causes.block else Closes
+
+-- what a line that doesn't close a block says
+unfoldable pub judged : {O T : Type 0} → Table O T → ℕ → ℕ → Cut → Reading (Instruction O T)
+judged table depth number cut =
+    unless_refused (refusal_of table depth cut) (accepted table number (table.keyword_named cut.name) cut)
+
+-- what the cut line of this number says where `depth` blocks are open
+abbrev pub said_by : {O T : Type 0} → Table O T → Braces → ℕ → ℕ → Cut → Reading (Instruction O T)
+said_by table ClosingAlone depth number cut = closed_at table.causes depth
+said_by table braces depth number cut = judged table depth number cut
+
+-- what a cut line says
+unfoldable pub reading_of : {O T : Type 0} → Table O T → ℕ → ℕ → Cut → Reading (Instruction O T)
+reading_of table depth number cut = said_by table cut.braces depth number cut
+
+-- the texts of the lines that a table judges
+abbrev pub format_of : {O T : Type 0} → Table O T → Format (Instruction O T)
+format_of table = record { reading_of = reading_of table; left_open = table.causes.block }
