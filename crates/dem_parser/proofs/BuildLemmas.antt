@@ -50,29 +50,29 @@ unrolling-first start all d o errors are =
     record { offset = []; left = refl; low = omega (arith, are.detectors_are); few = omega (arith, are.observables_are) }
 
 -- the instruction that is next names no more than all do
-pub unrolling-here : (d o : ℕ) (model : ErrorModel) (shift : ℕ) (rest rest' : List Instruction) (whole : ErrorModel) (i j : Instruction) → IsUnrolling d o model shift rest whole → rest ≡ j ∷ rest' → i ≡ j
+pub unrolling-here : (d o : ℕ) (model : ErrorModel) (shift : ℕ) (rest rest' : List Instruction) (whole : ErrorModel) (i : Instruction) → IsUnrolling d o model shift rest whole → rest ≡ i ∷ rest'
     → (greatest_of detectors_to (map (target_at shift) i.targets) ≤ d) × (greatest_of observables_to (map (target_at shift) i.targets) ≤ o)
 unfolding greatest_over
-unrolling-here d o model shift rest rest' whole i j h e same =
+unrolling-here d o model shift rest rest' whole i h e =
     let s = shift_of shift h.offset in
-    let first = placed-next s (shift_after i s) i j rest rest' e same refl in
+    let first = placed-next s (shift_after i s) i rest rest' e refl in
     let detectors = ap (λ ps. detector_count ps) first in
     let observables = ap (λ ps. observable_count ps) first in
     (omega (arith, detectors, h.low), omega (arith, observables, h.few))
 
-pub unrolling-next : (d o : ℕ) (model model' : ErrorModel) (shift shift' : ℕ) (rest rest' : List Instruction) (whole : ErrorModel) (i j : Instruction)
-    → IsUnrolling d o model shift rest whole → rest ≡ j ∷ rest' → i ≡ j
+pub unrolling-next : (d o : ℕ) (model model' : ErrorModel) (shift shift' : ℕ) (rest rest' : List Instruction) (whole : ErrorModel) (i : Instruction)
+    → IsUnrolling d o model shift rest whole → rest ≡ i ∷ rest'
     → ((offset : List ℤ) → model' ≡ with_lines model (error_lines d o (placed_at (shift_of shift offset) i ∷ [])))
     → ((offset : List ℤ) → shift' ≡ (shift_after i (shift_of shift offset)).detectors)
     → IsUnrolling d o model' shift' rest' whole
 unfolding greatest_over
-unrolling-next d o model model' shift shift' rest rest' whole i j h e same more shifts =
+unrolling-next d o model model' shift shift' rest rest' whole i h e more shifts =
     let s = shift_of shift h.offset in
     let p = placed_at s i in
     let offset = (shift_after i s).offset in
     let next : shift_of shift' offset ≡ shift_after i s = ap (λ n. shift_of n offset) (shifts h.offset) in
     let later = placed_from (shift_of shift' offset) rest' in
-    let first : placed_from s rest ≡ p ∷ later = placed-next s (shift_of shift' offset) i j rest rest' e same next in
+    let first : placed_from s rest ≡ p ∷ later = placed-next s (shift_of shift' offset) i rest rest' e next in
     let detectors = ap (λ ps. detector_count ps) first in
     let observables = ap (λ ps. observable_count ps) first in
     record {

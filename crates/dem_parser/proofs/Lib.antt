@@ -1,4 +1,4 @@
-mod GatherLemmas
+mod WalkSteps
 pub mod SumLemmas
 pub mod SummedLemmas
 mod WorkedTexts

@@ -115,15 +115,15 @@ length-chosen : (b : Bool) (mark : ℕ) (marks : List ℕ) (ts : List Target) �
 length-chosen true mark marks ts = length-marked mark marks ts
 length-chosen false mark marks ts = refl
 
-pub marking-next : (all rest rest' : List Instruction) (s s' : Shift) (lists lists' : List (List ℤ)) (marks marks' : List ℕ) (n : ℕ) (i j : Instruction)
-    → IsMarking all rest s lists marks n → rest ≡ j ∷ rest' → i ≡ j → HasMarked (placed_at s i) lists marks lists' marks' → s' ≡ shift_after i s
+pub marking-next : (all rest rest' : List Instruction) (s s' : Shift) (lists lists' : List (List ℤ)) (marks marks' : List ℕ) (n : ℕ) (i : Instruction)
+    → IsMarking all rest s lists marks n → rest ≡ i ∷ rest' → HasMarked (placed_at s i) lists marks lists' marks' → s' ≡ shift_after i s
     → IsMarking all rest' s' lists' marks' n
 unfolding last_coordinates
-marking-next all rest rest' s s' lists lists' marks marks' n i j h e same has next =
+marking-next all rest rest' s s' lists lists' marks marks' n i h e has next =
     let p = placed_at s i in
     let gives = not (is_empty p.coordinates) in
     let later = placed_from s' rest' in
-    let first : placed_from s rest ≡ p ∷ later = placed-next s s' i j rest rest' e same next in
+    let first : placed_from s rest ≡ p ∷ later = placed-next s s' i rest rest' e next in
     record {
       long = ap length has.marks_are ∙ length-chosen gives (length lists + 1) marks p.targets ∙ h.long;
       there = λ d below.

@@ -10,7 +10,6 @@ use Rattle.dem_lines.specs.Flat.{tree_of-items}
 use Rattle.dem_parser.specs.Meanings.{meaning_of}
 use Rattle.dem_parser.specs.Models.{first_beyond, model_in, model_of_items, model_of_tree, placed_lines, unless_refused_by}
 use Rattle.dem_lines.specs.Reached.{has_many_lines}
-use Rattle.dem_parser.specs.Shifts.{Placed}
 use Rattle.dem_lines.specs.Texts.{refused}
 use Rattle.dem_lines.specs.Trees.{IsRefusedBy, Tree, Writes}
 
@@ -37,12 +36,11 @@ pub number-beyond : (t : Tree) (f : Fault) → has_many_lines t ≡ false
 number-beyond t f e (inl m) = inl m
 number-beyond t f e (inr r) = inr (few-lines t e ∙ ap (λ o. unless_refused_by o (meaning_of (placed_lines t))) r)
 
-pub whole-model : (t : Tree) (lines : List Placed) (m : ErrorModel) → has_many_lines t ≡ false → first_beyond (placed_lines t) ≡ None → lines ≡ placed_lines t
-    → m ≡ meaning_of lines → model_of_tree t ≡ Ok m
-whole-model t lines m e near same is =
+pub whole-model : (t : Tree) (m : ErrorModel) → has_many_lines t ≡ false → first_beyond (placed_lines t) ≡ None → m ≡ meaning_of (placed_lines t) → model_of_tree t ≡ Ok m
+whole-model t m e near is =
     few-lines t e
     ∙ ap (λ o. unless_refused_by (option_map (refused cause.DemNumber) o) (meaning_of (placed_lines t))) near
-    ∙ ap (λ (n : ErrorModel). Ok n) (ap (λ ps. meaning_of ps) (sym same) ∙ sym is)
+    ∙ ap (λ (n : ErrorModel). Ok n) (sym is)
 
 -- ---- the model of a text
 

@@ -83,7 +83,7 @@ few WholeNumbers n h = grind arith
 few Decimals n h = grind arith
 few OneNumber n h = grind arith
 
-left : (a b : Bool) → a || b ≡ false → a ≡ false
+pub left : (a b : Bool) → a || b ≡ false → a ≡ false
 left false b h = refl
 left true b h = cc
 

@@ -3,6 +3,7 @@
 use Rattle.std.proofs.Common.{◌≡◌, ℕ, zero, suc, ◌+◌, ◌<◌, ◌≤◌, ◌||◌, Bool, true, false, ℤ, List, [], ◌∷◌, ◌++◌, Some, length, get_or, map, take, refl, ap, subst, sym, ◌∙◌, arith}
 use Rattle.std.specs.Prelude.{All, max, nat_lt}
 use Rattle.std.specs.List.{list_any}
+use Rattle.std.proofs.lemmas.Bool.{ltb-false}
 use Rattle.std.proofs.lemmas.Bool.Decides.{nat_tests}
 use Rattle.std.proofs.lemmas.List.Elements.{All-append, All-cons}
 use Rattle.stim_parser.specs.Arguments.{arguments_in}
@@ -21,7 +22,7 @@ use Rattle.dem_parser.specs.Meanings.{detectors_to, greatest_of, observables_to}
 use Rattle.dem_parser.specs.Models.{is_beyond, is_far}
 use Rattle.dem_parser.specs.Shifts.{Shift, coordinates_given, placed_at, target_at}
 use Rattle.dem_parser.specs.Tables.{AreTables, IsKnown, coordinates_from, count_at, extent_of, most_detectors, numbers_of_line, numbers_stated, tabled}
-use Rattle.dem_parser.proofs.ShiftLemmas.{few_arguments}
+use Rattle.dem_parser.proofs.ShiftLemmas.{few_arguments, left}
 
 -- ---- a table
 
@@ -108,10 +109,6 @@ observables-stay s (Separator ∷ ts) = ap (max 0) (observables-stay s ts)
 either-above : (m : ℕ) (a b : Bool) (x y : ℕ) → a ≡ nat_lt m x → b ≡ nat_lt m y → a || b ≡ nat_lt m (max x y)
 either-above m a b x y e f = grind (arith, nat_tests)
 
-left : (a b : Bool) → a || b ≡ false → a ≡ false
-left false b h = refl
-left true b h = cc
-
 right : (a b : Bool) → a || b ≡ false → b ≡ false
 right false b h = h
 right true b h = cc
@@ -129,6 +126,27 @@ far-targets s (Detector d ∷ ts) h =
 far-targets s (Observable k ∷ ts) h =
     either-above most_detectors _ _ 0 _ (left (is_target_beyond (Observable k)) _ h) (far-targets s ts (right (is_target_beyond (Observable k)) _ h))
 far-targets s (Separator ∷ ts) h = either-above most_detectors _ _ 0 _ refl (far-targets s ts h)
+
+-- ---- targets within their limits
+
+pub few-named : (ts : List Target) → has_target_beyond ts ≡ false → (greatest_of detectors_to ts ≤ 1_000_000) × (greatest_of observables_to ts ≤ 1024)
+unfolding has_target_beyond
+few-named [] h = (omega arith, omega arith)
+few-named (Plain n ∷ ts) h =
+    let rest = few-named ts (right (is_target_beyond (Plain n)) _ h) in (omega (arith, rest.0), omega (arith, rest.1))
+few-named (Detector d ∷ ts) h =
+    let rest = few-named ts (right (is_target_beyond (Detector d)) _ h) in
+    let here = ltb-false 999_999 d (left (is_target_beyond (Detector d)) _ h) in (
+      omega (arith, rest.0, here),
+      omega (arith, rest.1),
+    )
+few-named (Observable k ∷ ts) h =
+    let rest = few-named ts (right (is_target_beyond (Observable k)) _ h) in
+    let here = ltb-false 1023 k (left (is_target_beyond (Observable k)) _ h) in (
+      omega (arith, rest.0),
+      omega (arith, rest.1, here),
+    )
+few-named (Separator ∷ ts) h = let rest = few-named ts h in (omega (arith, rest.0), omega (arith, rest.1))
 
 -- ---- a line as it is reached
 

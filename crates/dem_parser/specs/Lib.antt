@@ -2,7 +2,7 @@ pub mod Shifts
 pub mod Meanings
 pub mod Models
 pub mod Sums
-pub mod Gathered
+pub mod Walks
 pub mod Offsets
 pub mod Numbered
 pub mod Summed

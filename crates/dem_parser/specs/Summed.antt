@@ -1,8 +1,11 @@
 -- The symptom of error lines, from lines that stay as they were read: what each of them flips, and how many there are.
 -- (Stim's detector error model format, github.com/quantumlib/Stim, doc/file_format_dem_detector_error_model.md.)
-use Rattle.std.specs.Prelude.{◌≡◌, ℕ, ◌+◌, max, Bool, false, ◌&&◌, if◌then◌else◌, List, length, filter, slice_index_or}
+use Rattle.std.specs.Prelude.{◌≡◌, ℕ, ◌+◌, ◌<◌, ◌^◌, max, None, Bool, false, ◌&&◌, if◌then◌else◌, List, length, filter, slice_index_or}
+use Rattle.dem_lines.specs.Reached.{reached}
+use Rattle.dem_lines.specs.Trees.{Tree}
 use Rattle.dem_parser.specs.declared.counts.LineCounts.{LineCounts}
 use Rattle.dem_parser.specs.Meanings.{detector_count, detectors_to, greatest_of, is_error, observable_count, observables_to}
+use Rattle.dem_parser.specs.Models.{first_beyond, placed_lines}
 use Rattle.dem_parser.specs.Numbered.{numbers_of}
 use Rattle.dem_parser.specs.Shifts.{Placed}
 use Rattle.dem_parser.specs.Sums.{turned}
@@ -25,6 +28,12 @@ pub record AreCounts (lines : List Placed) (detectors observables errors : ℕ) 
   pub detectors_are : detectors ≡ detector_count lines
   pub observables_are : observables ≡ observable_count lines
   pub errors_are : errors ≡ error_count lines
+
+-- the lines of a tree are within their limits as they are reached, and these are their counts
+pub record IsJudged (tree : Tree) (detectors observables errors : ℕ) : Type 0 where
+  pub counts : AreCounts (placed_lines tree) detectors observables errors
+  pub within : first_beyond (placed_lines tree) ≡ None
+  pub few : length (reached tree) < 2 ^ 64
 
 -- counts after one more line
 pub record HasCounted (counts : LineCounts) (line : Placed) (counts' : LineCounts) : Type 0 where

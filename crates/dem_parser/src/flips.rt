@@ -1,35 +1,27 @@
-ghost use Rattle.std.specs.Prelude.{◌≡◌, ◌+◌, ◌<◌, ◌≤◌, ◌++◌, [], ◌∷◌, ℕ, List, map, All, IfOk, IsPermutation};
+ghost use Rattle.std.specs.Prelude.{◌≡◌, ◌+◌, ◌^◌, ◌<◌, ◌≤◌, ◌++◌, [], ◌∷◌, ℕ, List, map, All, IfOk, IsPermutation};
 ghost use Rattle.std.specs.List.Sorted.{IsNonDecreasing};
 ghost use Rattle.dem_parser.specs.Meanings.{detectors_to, flipped, greatest_of, observables_to};
 ghost use Rattle.dem_parser.specs.Numbered.{numbered, numbers_of, odd_below};
 ghost use Rattle.dem_parser.specs.Shifts.{target_at};
 
-use dem_lines::{Target, narrowed};
+use crate::counts::LineCounts;
+use dem_lines::Target;
 use std::alloc::{AllocError, Allocator};
 
-/// The number of a target, `number` after `first`. One that doesn't fit 32 bits fails as if memory had run out; the
-/// limits of detectors and observables are far below.
-pub(crate) fn number_at(first: u32, number: u64) -> Result<u32, AllocError>
-    ensures { IfOk result (λ found. found ≡ first + number) }
+/// The number of a target, `number` after `first`.
+fn number_at(first: u32, number: u64) -> u32
+    requires { first + number < 2 ^ 32 }
+    ensures { result ≡ first + number }
 {
-    let Some(sum) = (first as u64).checked_add(number) else {
-        return Err(AllocError);
-    };
-    if sum > u32::MAX as u64 {
-        return Err(AllocError);
-    }
-    Ok(sum as u32)
+    (first as u64 + number) as u32
 }
 
-/// The number of a detector once shifted. One that doesn't fit 32 bits fails as if memory had run out; the limit of
-/// detectors is far below.
-pub(crate) fn detector_at(shift: u128, detector: u64) -> Result<u32, AllocError>
-    ensures { IfOk result (λ found. found ≡ detector + shift) }
+/// The number of a detector once shifted.
+fn detector_at(shift: u128, detector: u64) -> u32
+    requires { detector + shift < 2 ^ 32 }
+    ensures { result ≡ detector + shift }
 {
-    match shift.checked_add(detector as u128) {
-        Some(number) => narrowed(number),
-        None => Err(AllocError),
-    }
+    (shift + detector as u128) as u32
 }
 
 /// Appends the number of a target, in a model with this many detectors, where detectors are shifted. A separator has
@@ -40,11 +32,13 @@ fn push_number<A: Allocator + Copy>(
     shift: u128,
     target: Target,
 ) -> Result<(), AllocError>
+    requires detector { detectors_to (target_at shift target) ≤ 2 ^ 32 }
+    requires observable { detectors + observables_to (target_at shift target) ≤ 2 ^ 32 }
     ensures { IfOk result (λ _. numbers.new.items ≡ numbers.old.items ++ numbered detectors (target_at shift target)) }
 {
     match target {
-        Target::Detector(detector) => numbers.push(detector_at(shift, detector)?)?,
-        Target::Observable(observable) => numbers.push(number_at(detectors, observable)?)?,
+        Target::Detector(detector) => numbers.push(detector_at(shift, detector))?,
+        Target::Observable(observable) => numbers.push(number_at(detectors, observable))?,
         _ => {}
     }
     Ok(())
@@ -57,6 +51,8 @@ fn read_numbers<A: Allocator + Copy>(
     shift: u128,
     targets: &[Target],
 ) -> Result<(), AllocError>
+    requires detectors { greatest_of detectors_to (map (target_at shift) targets.now) ≤ 2 ^ 32 }
+    requires observables { detectors + greatest_of observables_to (map (target_at shift) targets.now) ≤ 2 ^ 32 }
     ensures { IfOk result (λ _. numbers.new.items ≡ numbers_of detectors (map (target_at shift) targets.now)) }
 {
     numbers.clear();
@@ -110,13 +106,16 @@ fn put_in_order<A: Allocator + Copy>(numbers: &mut Vec<u32, A>) -> Result<(), Al
 pub(crate) fn read_flipped<A: Allocator + Copy>(
     numbers: &mut Vec<u32, A>,
     kept: &mut Vec<u32, A>,
-    detectors: u32,
+    counts: LineCounts,
     shift: u128,
     targets: &[Target],
 ) -> Result<(), AllocError>
-    ensures { IfOk result (λ _. (observables : ℕ) → greatest_of detectors_to (map (target_at shift) targets.now) ≤ detectors → greatest_of observables_to (map (target_at shift) targets.now) ≤ observables → kept.new.items ≡ flipped detectors observables (map (target_at shift) targets.now)) }
+    requires detectors { greatest_of detectors_to (map (target_at shift) targets.now) ≤ counts.detectors }
+    requires observables { greatest_of observables_to (map (target_at shift) targets.now) ≤ counts.observables }
+    requires few { counts.detectors + counts.observables ≤ 2 ^ 32 }
+    ensures { IfOk result (λ _. kept.new.items ≡ flipped counts.detectors counts.observables (map (target_at shift) targets.now)) }
 {
-    read_numbers(numbers, detectors, shift, targets)?;
+    read_numbers(numbers, counts.detectors, shift, targets)?;
     put_in_order(numbers)?;
     keep_odd(kept, numbers.as_slice())?;
     Ok(())

@@ -1,13 +1,13 @@
-ghost use Rattle.std.specs.Prelude.{◌≡◌, ◌+◌, ◌<◌, ◌^◌, ◌⊎◌, max, not, true, false, nat_lt, None, Some, IfOk, IfErr, MatchOption, option_map};
+ghost use Rattle.std.specs.Prelude.{◌≡◌, ◌+◌, ◌<◌, ◌^◌, ◌⊎◌, max, not, true, false, nat_lt, None, Some, IfOk, IfErr, MatchOption, length, option_map};
 ghost use Rattle.step_model.specs.declared.fault.Cause.TheVariants as cause;
 ghost use Rattle.step_model.specs.Faults.{memory_fault};
 ghost use Rattle.dem_lines.specs.Flat.{instruction_in};
+ghost use Rattle.dem_lines.specs.Reached.{reached};
 ghost use Rattle.dem_lines.specs.Texts.{refused};
-ghost use Rattle.dem_parser.specs.Gathered.{instructions_at};
 ghost use Rattle.dem_parser.specs.Offsets.{shift_of};
 ghost use Rattle.dem_parser.specs.Meanings.{detectors_to, greatest_of, is_error};
-ghost use Rattle.dem_parser.specs.Models.{first_beyond, is_beyond};
-ghost use Rattle.dem_parser.specs.Shifts.{no_shift, placed_at, placed_from, shift_after};
+ghost use Rattle.dem_parser.specs.Models.{first_beyond, is_beyond, placed_lines};
+ghost use Rattle.dem_parser.specs.Shifts.{placed_at, shift_after};
 ghost use Rattle.dem_parser.specs.Summed.{AreCounts, HasCounted};
 ghost use Rattle.dem_parser.specs.Tables.{IsKnown, count_at, most_detectors};
 
@@ -15,6 +15,7 @@ use crate::coordinates::move_stated;
 use crate::counts::{LineCounts, counts_past};
 use crate::shifts::Shift;
 use crate::table::{LineTable, TableLine};
+use crate::walk::Walk;
 use dem_lines::GREATEST_DETECTOR;
 use std::alloc::{AllocError, Allocator};
 use step_model::{Cause, Fault};
@@ -102,16 +103,16 @@ impl<A: Allocator + Copy> Judging<A> {
     }
 }
 
-/// The counts of the lines at these places as they are reached one after another, or the refusal of the first line with
-/// a number that is then beyond its limit.
+/// The counts of a model's lines as they are reached one after another, or the refusal of the first line with a number
+/// that is then beyond its limit.
 pub(crate) fn counts_of<A: Allocator + Copy>(
     alloc: A,
     table: &LineTable<'_, '_, A>,
-    places: &[u32],
 ) -> Result<LineCounts, Fault>
-    ensures counts { IfOk result (λ counts. AreCounts (placed_from no_shift (instructions_at table.now places.now)) counts.detectors counts.observables counts.errors) }
-    ensures within { IfOk result (λ counts. first_beyond (placed_from no_shift (instructions_at table.now places.now)) ≡ None) }
-    ensures err { IfErr result (λ fault. (fault ≡ memory_fault) ⊎ (option_map (refused cause.DemNumber) (first_beyond (placed_from no_shift (instructions_at table.now places.now))) ≡ Some fault)) }
+    requires { length (reached table.now) < 2 ^ 64 }
+    ensures counts { IfOk result (λ counts. AreCounts (placed_lines table.now) counts.detectors counts.observables counts.errors) }
+    ensures within { IfOk result (λ counts. first_beyond (placed_lines table.now) ≡ None) }
+    ensures err { IfErr result (λ fault. (fault ≡ memory_fault) ⊎ (option_map (refused cause.DemNumber) (first_beyond (placed_lines table.now)) ≡ Some fault)) }
 {
     let mut judging = Judging {
         counts: LineCounts {
@@ -125,8 +126,8 @@ pub(crate) fn counts_of<A: Allocator + Copy>(
         },
         coordinates: Vec::new(alloc),
     };
-    for place in places {
-        let line = table.line_at(*place as usize);
+    let mut walk = Walk::new(table);
+    while let Some(line) = walk.next() {
         match judging.pass(line) {
             Ok(true) => {}
             Ok(false) => {

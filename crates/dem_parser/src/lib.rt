@@ -9,11 +9,11 @@ mod judging;
 pub mod laws;
 mod marks;
 mod placed_model;
-mod reached;
 mod reader;
 mod shifts;
 mod sums;
 mod table;
+mod walk;
 
 pub use counts::{TargetCounts, is_error, raised, raised_to};
 pub use dem_lines::{Instruction, Item, ModelLines, Operation, Target, parse};

@@ -1,16 +1,17 @@
-ghost use Rattle.std.specs.Prelude.{◌≡◌, [], map, replicate, IfOk};
+ghost use Rattle.std.specs.Prelude.{◌≡◌, false, [], map, replicate, IfOk};
 ghost use Rattle.std.specs.List.{range_with_len};
 ghost use Rattle.dem_lines.specs.Flat.{instruction_in};
-ghost use Rattle.dem_parser.specs.Gathered.{instructions_at};
 ghost use Rattle.dem_parser.specs.Marked.{HasMarked, list_numbered, marked, marked_at};
 ghost use Rattle.dem_parser.specs.Meanings.{last_coordinates};
+ghost use Rattle.dem_parser.specs.Models.{first_beyond, is_beyond, placed_lines};
 ghost use Rattle.dem_parser.specs.Offsets.{shift_of};
-ghost use Rattle.dem_parser.specs.Shifts.{no_shift, placed_at, placed_from, target_at};
+ghost use Rattle.dem_parser.specs.Shifts.{placed_at, target_at};
 ghost use Rattle.dem_parser.specs.Tables.{IsKnown};
 
 use crate::coordinates::move_stated;
 use crate::shifts::Shift;
 use crate::table::{LineTable, TableLine};
+use crate::walk::Walk;
 use dem_lines::Target;
 use flat_lists::FlatLists;
 use std::alloc::{AllocError, Allocator};
@@ -58,18 +59,17 @@ struct Marking<A: Allocator + Copy> {
 }
 
 impl<A: Allocator + Copy> Marking<A> {
-    /// Marks the detectors to which a line gives coordinates. These are within their limit, as those of all lines of a
-    /// model.
+    /// Marks the detectors to which a line gives coordinates.
     fn mark(&mut self, line: TableLine<'_, '_>) -> Result<(), AllocError>
-        requires { IsKnown (instruction_in line.instruction) line.extent line.numbers.now }
+        requires known { IsKnown (instruction_in line.instruction) line.extent line.numbers.now }
+        requires near { is_beyond (placed_at (shift_of self.old.shift.detectors self.old.shift.offset.items) (instruction_in line.instruction)) ≡ false }
         ensures marked { IfOk result (λ _. HasMarked (placed_at (shift_of self.old.shift.detectors self.old.shift.offset.items) (instruction_in line.entry.instruction)) self.old.lists self.old.marks.items self.new.lists self.new.marks.items) }
         ensures shift { IfOk result (λ _. shift_of self.new.shift.detectors self.new.shift.offset.items ≡ shift_of self.old.shift.detectors self.old.shift.offset.items) }
     {
         let offset = self.shift.offset.as_slice();
         let operation = line.instruction.operation;
-        if !move_stated(&mut self.room, offset, operation, line.numbers)? {
-            return Err(AllocError);
-        }
+        let within = move_stated(&mut self.room, offset, operation, line.numbers)?;
+        prove!(within);
         if !self.room.is_empty() {
             self.lists.push(self.room.as_slice())?;
             mark_all(
@@ -105,14 +105,14 @@ fn stood_for<A: Allocator + Copy>(
     Ok(found)
 }
 
-/// The coordinates of each of this many detectors: those of the last of the lines at these places that gives it any.
+/// The coordinates of each of this many detectors: those of the last line that is reached and gives it any.
 pub(crate) fn coordinates_of<A: Allocator + Copy>(
     alloc: A,
     table: &LineTable<'_, '_, A>,
-    places: &[u32],
     detectors: usize,
 ) -> Result<FlatLists<i64, A>, AllocError>
-    ensures { IfOk result (λ found. found ≡ map (λ d. last_coordinates d [] (placed_from no_shift (instructions_at table.now places.now))) (range_with_len 0 detectors)) }
+    requires { first_beyond (placed_lines table.now) ≡ None }
+    ensures { IfOk result (λ found. found ≡ map (λ d. last_coordinates d [] (placed_lines table.now)) (range_with_len 0 detectors)) }
 {
     let mut marking = Marking {
         lists: FlatLists::new(alloc),
@@ -123,8 +123,8 @@ pub(crate) fn coordinates_of<A: Allocator + Copy>(
         },
         room: Vec::new(alloc),
     };
-    for place in places {
-        let line = table.line_at(*place as usize);
+    let mut walk = Walk::new(table);
+    while let Some(line) = walk.next() {
         marking.mark(line)?;
         marking.shift.pass(line)?;
     }

@@ -1,43 +1,39 @@
 ghost use Rattle.std.specs.Prelude.{◌≡◌, ◌≤◌, ◌+◌, ◌<◌, ◌^◌, ℕ, ℤ, List, false, true, length, map, slice_index_or, IfOk};
 ghost use Rattle.dem_lines.specs.Flat.{instruction_in};
-ghost use Rattle.dem_parser.specs.Gathered.{instructions_at};
 ghost use Rattle.dem_parser.specs.Offsets.{shift_of};
-ghost use Rattle.dem_parser.specs.Meanings.{meaning_of};
 ghost use Rattle.dem_parser.specs.Numbered.{numbered, numbers_of};
-ghost use Rattle.dem_parser.specs.Shifts.{no_shift, placed_at, placed_from, target_at};
-ghost use Rattle.dem_parser.specs.Summed.{AreCounts, passed_after, turned_past};
+ghost use Rattle.dem_parser.specs.Shifts.{placed_at, target_at};
+ghost use Rattle.dem_parser.specs.Summed.{passed_after, turned_past};
 ghost use Rattle.dem_parser.specs.Sums.{symptom_of, turned};
 
 use crate::counts::{LineCounts, is_error};
-use crate::flips::{detector_at, number_at};
 use crate::shifts::detectors_past;
 use crate::sums::{no_bits, turn_at};
 use crate::table::LineTable;
+use crate::walk::Walk;
 use dem_lines::{Instruction, Target};
 use std::alloc::{AllocError, Allocator};
 use std::marker::Model;
 
-/// An error model whose lines stay as they were read, with the places of its lines in the order in which they are
-/// reached. What a line flips is worked out only where the line is named, and most are not.
+/// An error model whose lines stay as they were read. What a line flips is worked out only where the line is named, and
+/// most are not.
 #[derive(Drop)]
 pub struct PlacedModel<'c, 'a, A: Allocator + Copy> {
     pub(crate) table: LineTable<'c, 'a, A>,
-    pub(crate) places: Vec<u32, A>,
     pub(crate) counts: LineCounts,
 }
 
 impl<'c, 'a, A: Allocator + Copy> Model for PlacedModel<'c, 'a, A> {
     ghost use Rattle.step_model.specs.ErrorModels.{ErrorModel};
-    ghost use Rattle.dem_parser.specs.Gathered.{instructions_at};
     ghost use Rattle.dem_parser.specs.Meanings.{meaning_of};
-    ghost use Rattle.dem_parser.specs.Shifts.{no_shift, placed_from};
-    ghost use Rattle.dem_parser.specs.Summed.{AreCounts};
+    ghost use Rattle.dem_parser.specs.Models.{placed_lines};
+    ghost use Rattle.dem_parser.specs.Summed.{IsJudged};
 
     ghost Value = { ErrorModel };
 
-    ghost view = { λ m. meaning_of (placed_from no_shift (instructions_at m.table m.places.items)) };
+    ghost view = { λ m. meaning_of (placed_lines m.table) };
 
-    ghost invariant = { λ m. AreCounts (placed_from no_shift (instructions_at m.table m.places.items)) m.counts.detectors m.counts.observables m.counts.errors };
+    ghost invariant = { λ m. IsJudged m.table m.counts.detectors m.counts.observables m.counts.errors };
 }
 
 /// One more than the number of the last line that is named, or 0 where none is.
@@ -60,57 +56,36 @@ fn is_named(named: &[bool], line: usize) -> bool
     line < named.len() && named[line]
 }
 
-/// Flips the truth value of a target, in a model with this many detectors. A separator has none.
-fn turn_target(bits: &mut [bool], detectors: u32, target: Target) -> Result<(), AllocError>
-    ensures { IfOk result (λ _. bits.new ≡ turned bits.old (numbered detectors target)) }
+/// Flips the truth value of a target, in a model with this many detectors, where these are shifted. A separator has none.
+fn turn_target(bits: &mut [bool], detectors: u32, shift: u128, target: Target)
+    ensures { bits.new ≡ turned bits.old (numbered detectors (target_at shift target)) }
 {
     match target {
-        Target::Detector(detector) => turn_at(bits, number_at(0, detector)?),
-        Target::Observable(observable) => turn_at(bits, number_at(detectors, observable)?),
+        Target::Detector(detector) => {
+            // A number that doesn't fit is past the end.
+            if let Some(number) = shift.checked_add(detector as u128) {
+                turn_at(bits, number);
+            }
+        }
+        Target::Observable(observable) => turn_at(bits, detectors as u128 + observable as u128),
         _ => {}
     }
-    Ok(())
 }
 
 /// The same for targets, one after another.
-pub fn turn_targets(bits: &mut [bool], detectors: u32, targets: &[Target]) -> Result<(), AllocError>
-    ensures { IfOk result (λ _. bits.new ≡ turned bits.old (numbers_of detectors targets.now)) }
+fn turn_shifted(bits: &mut [bool], detectors: u32, shift: u128, targets: &[Target])
+    ensures { bits.new ≡ turned bits.old (numbers_of detectors (map (target_at shift) targets.now)) }
 {
     for target in targets {
-        turn_target(bits, detectors, *target)?;
+        turn_target(bits, detectors, shift, *target);
     }
-    Ok(())
 }
 
-/// Flips the truth value of a target where detectors are shifted.
-fn turn_shifted(
-    bits: &mut [bool],
-    detectors: u32,
-    shift: u128,
-    target: Target,
-) -> Result<(), AllocError>
-    ensures { IfOk result (λ _. bits.new ≡ turned bits.old (numbered detectors (target_at shift target))) }
+/// The same where detectors aren't shifted.
+pub fn turn_targets(bits: &mut [bool], detectors: u32, targets: &[Target])
+    ensures { bits.new ≡ turned bits.old (numbers_of detectors targets.now) }
 {
-    match target {
-        Target::Detector(detector) => turn_at(bits, detector_at(shift, detector)?),
-        _ => turn_target(bits, detectors, target)?,
-    }
-    Ok(())
-}
-
-/// The same for targets, one after another.
-fn turn_all_shifted(
-    bits: &mut [bool],
-    detectors: u32,
-    shift: u128,
-    targets: &[Target],
-) -> Result<(), AllocError>
-    ensures { IfOk result (λ _. bits.new ≡ turned bits.old (numbers_of detectors (map (target_at shift) targets.now))) }
-{
-    for target in targets {
-        turn_shifted(bits, detectors, shift, *target)?;
-    }
-    Ok(())
+    turn_shifted(bits, detectors, 0, targets);
 }
 
 /// Goes past a line that comes after `passed` error lines, and answers how many there are after it. An error line that
@@ -122,33 +97,21 @@ fn pass_line(
     detectors: u32,
     shift: u128,
     line: Instruction<'_, '_>,
-) -> Result<usize, AllocError>
+) -> usize
     requires { passed + 1 < 2 ^ 64 }
-    ensures bits { IfOk result (λ _. (offset : List ℤ) → bits.new ≡ turned_past detectors named.now passed (placed_at (shift_of shift offset) (instruction_in line.entry)) bits.old) }
-    ensures passed { IfOk result (λ after. (offset : List ℤ) → after ≡ passed_after passed (placed_at (shift_of shift offset) (instruction_in line.entry))) }
+    ensures bits { (offset : List ℤ) → bits.new ≡ turned_past detectors named.now passed (placed_at (shift_of shift offset) (instruction_in line.entry)) bits.old }
+    ensures passed { (offset : List ℤ) → result ≡ passed_after passed (placed_at (shift_of shift offset) (instruction_in line.entry)) }
 {
     if !is_error(line.operation) {
-        return Ok(passed);
+        return passed;
     }
     if is_named(named, passed) {
-        turn_all_shifted(bits, detectors, shift, line.targets)?;
+        turn_shifted(bits, detectors, shift, line.targets);
     }
-    Ok(passed + 1)
+    passed + 1
 }
 
 impl<'c, 'a, A: Allocator + Copy> PlacedModel<'c, 'a, A> {
-    /// The model of the lines at these places, as they are reached one after another.
-    pub(crate) fn new(table: LineTable<'c, 'a, A>, places: Vec<u32, A>, counts: LineCounts) -> Self
-        requires { AreCounts (placed_from no_shift (instructions_at table places.items)) counts.detectors counts.observables counts.errors }
-        ensures { result ≡ meaning_of (placed_from no_shift (instructions_at table.entry places.items)) }
-    {
-        PlacedModel {
-            table,
-            places,
-            counts,
-        }
-    }
-
     /// How many error lines there are.
     pub fn line_count(&self) -> usize
         ensures { result ≡ length self.now.lines }
@@ -168,12 +131,14 @@ impl<'c, 'a, A: Allocator + Copy> PlacedModel<'c, 'a, A> {
         let end = named_end(named);
         let mut passed = 0;
         let mut shift = 0;
-        let mut i = 0;
-        while passed < end && i < self.places.len() {
-            let line = self.table.instruction_at(self.places[i] as usize);
-            passed = pass_line(&mut bits, named, passed, detectors, shift, line)?;
+        let mut walk = Walk::new(&self.table);
+        while passed < end {
+            let Some(line) = walk.next() else {
+                return Ok(bits);
+            };
+            let line = line.instruction;
+            passed = pass_line(&mut bits, named, passed, detectors, shift, line);
             shift = detectors_past(shift, line)?;
-            i += 1;
         }
         Ok(bits)
     }

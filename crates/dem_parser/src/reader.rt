@@ -1,16 +1,10 @@
-ghost use Rattle.std.specs.Prelude.{◌≡◌, ◌⊎◌, IfOk, IfErr, None, Some, Ok, Err, option_map};
-ghost use Rattle.step_model.specs.declared.fault.Cause.TheVariants as cause;
+ghost use Rattle.std.specs.Prelude.{◌≡◌, ◌⊎◌, IfOk, IfErr, Ok, Err};
 ghost use Rattle.step_model.specs.Faults.{memory_fault};
-ghost use Rattle.dem_parser.specs.Gathered.{instructions_at};
-ghost use Rattle.dem_parser.specs.Meanings.{meaning_of};
-ghost use Rattle.dem_parser.specs.Models.{first_beyond, model_in, model_of_tree, placed_lines};
-ghost use Rattle.dem_parser.specs.Shifts.{no_shift, placed_from};
-ghost use Rattle.dem_lines.specs.Texts.{refused};
+ghost use Rattle.dem_parser.specs.Models.{model_in, model_of_tree};
 
 use crate::build::model_of;
 use crate::judging::counts_of;
 use crate::placed_model::PlacedModel;
-use crate::reached::reached_of;
 use crate::table::LineTable;
 use dem_lines::{ModelLines, has_many_lines, parse};
 use dem_text::Model;
@@ -32,34 +26,6 @@ pub fn read_lines<'a, A: Allocator + Copy>(
     }
 }
 
-/// The lines of a model and the places of those that are reached.
-fn walked<'c, 'a, A: Allocator + Copy>(
-    alloc: A,
-    lines: &'c ModelLines<'a, A>,
-) -> Result<(LineTable<'c, 'a, A>, Vec<u32, A>), AllocError>
-    ensures { IfOk result (λ found. placed_from no_shift (instructions_at found.0 found.1.items) ≡ placed_lines lines.now) }
-{
-    let table = LineTable::new(alloc, lines)?;
-    let places = reached_of(alloc, lines)?;
-    Ok((table, places))
-}
-
-/// The model of lines at places, or the refusal of the first one with a number that is beyond its limit.
-fn counted<'c, 'a, A: Allocator + Copy>(
-    alloc: A,
-    table: LineTable<'c, 'a, A>,
-    places: Vec<u32, A>,
-) -> Result<PlacedModel<'c, 'a, A>, Fault>
-    ensures model { IfOk result (λ model. model ≡ meaning_of (placed_from no_shift (instructions_at table.entry places.items))) }
-    ensures within { IfOk result (λ model. first_beyond (placed_from no_shift (instructions_at table.entry places.items)) ≡ None) }
-    ensures err { IfErr result (λ fault. (fault ≡ memory_fault) ⊎ (option_map (refused cause.DemNumber) (first_beyond (placed_from no_shift (instructions_at table.entry places.items))) ≡ Some fault)) }
-{
-    match counts_of(alloc, &table, places.as_slice()) {
-        Ok(counts) => Ok(PlacedModel::new(table, places, counts)),
-        Err(fault) => Err(fault),
-    }
-}
-
 /// The error model of lines and blocks, or its refusal. The model's lines stay as they were read. The cause is `Memory`
 /// only where memory runs out or a number of lines or targets outgrows 32 bits.
 pub fn place<'c, 'a, A: Allocator + Copy>(
@@ -75,9 +41,13 @@ pub fn place<'c, 'a, A: Allocator + Copy>(
             line: 0,
         });
     }
-    match walked(alloc, lines) {
-        Ok((table, places)) => counted(alloc, table, places),
-        Err(_) => Err(Fault::MEMORY),
+    let Ok(table) = LineTable::new(alloc, lines) else {
+        return Err(Fault::MEMORY);
+    };
+    table.fits();
+    match counts_of(alloc, &table) {
+        Ok(counts) => Ok(PlacedModel { table, counts }),
+        Err(fault) => Err(fault),
     }
 }
 

@@ -5,11 +5,11 @@ use dem_text::Model;
 use std::alloc::{AllocError, Allocator};
 
 /// Flips the truth value at this place, where there is one.
-pub(crate) fn turn_at(bits: &mut [bool], target: u32)
+pub(crate) fn turn_at(bits: &mut [bool], target: u128)
     ensures { bits.new ≡ turned_at bits.old target }
 {
-    let place = target as usize;
-    if place < bits.len() {
+    if target < bits.len() as u128 {
+        let place = target as usize;
         bits[place] = !bits[place];
     }
 }
@@ -19,7 +19,7 @@ fn turn(bits: &mut [bool], targets: &[u32])
     ensures { bits.new ≡ turned bits.old targets.now }
 {
     for target in targets {
-        turn_at(bits, *target);
+        turn_at(bits, *target as u128);
     }
 }
 

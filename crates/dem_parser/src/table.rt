@@ -1,6 +1,8 @@
-ghost use Rattle.std.specs.Prelude.{◌≡◌, ◌≤◌, [], length, slice_index_or, IfOk};
+ghost use Rattle.std.specs.Prelude.{◌≡◌, ◌≤◌, ◌<◌, ◌-◌, ◌^◌, false, [], length, option_map, slice_get, slice_index_or, IfOk, IfSome};
 ghost use Rattle.stim_parser.specs.Arguments.{arguments_in};
-ghost use Rattle.dem_lines.specs.Flat.{instruction_in};
+ghost use Rattle.dem_lines.specs.Fitting.{IsAccepted};
+ghost use Rattle.dem_lines.specs.Flat.{instruction_in, item_in};
+ghost use Rattle.dem_lines.specs.Limits.{has_target_beyond};
 ghost use Rattle.dem_lines.specs.Places.{instruction_at, no_instruction};
 ghost use Rattle.dem_lines.specs.Trees.{items_of};
 ghost use Rattle.dem_parser.specs.Meanings.{detectors_to, greatest_of, observables_to};
@@ -9,7 +11,7 @@ ghost use Rattle.dem_parser.specs.Tables.{IsKnown, extent_of, numbers_stated};
 use crate::counts::{TargetCounts, raised};
 use crate::shifts::coordinates_read;
 use arrayvec::ArrayVec;
-use dem_lines::{Instruction, ModelLines, Operation, Target, narrowed};
+use dem_lines::{Instruction, Item, ModelLines, Operation, Target};
 use flat_lists::FlatLists;
 use std::alloc::{AllocError, Allocator};
 use std::marker::Model;
@@ -39,35 +41,34 @@ pub(crate) struct LineTable<'c, 'a, A: Allocator + Copy> {
 }
 
 impl<'c, 'a, A: Allocator + Copy> Model for LineTable<'c, 'a, A> {
-    ghost use Rattle.std.specs.Prelude.{List};
-    ghost use Rattle.dem_lines.specs.Flat.{coded_items};
-    ghost use Rattle.dem_lines.specs.Texts.{Item};
-    ghost use Rattle.dem_lines.specs.Trees.{items_of};
+    ghost use Rattle.dem_lines.specs.Flat.{coded_tree};
+    ghost use Rattle.dem_lines.specs.Trees.{Tree, items_of};
     ghost use Rattle.dem_parser.specs.Tables.{AreTables};
 
-    ghost Value = { List Item };
+    ghost Value = { Tree };
 
-    ghost coded = { coded_items };
+    ghost coded = { coded_tree };
 
-    ghost view = { λ t. items_of t.lines.now };
+    ghost view = { λ t. t.lines.now };
 
     ghost invariant = { λ t. AreTables (items_of t.lines.now) t.extents.items t.numbers };
 }
 
 /// The extent of targets.
-fn extent_of(targets: &[Target]) -> Result<Extent, AllocError>
-    ensures detectors { IfOk result (λ extent. extent.detectors ≡ greatest_of detectors_to targets.now) }
-    ensures observables { IfOk result (λ extent. extent.observables ≡ greatest_of observables_to targets.now) }
+fn extent_of(targets: &[Target]) -> Extent
+    requires { has_target_beyond targets.now ≡ false }
+    ensures detectors { result.detectors ≡ greatest_of detectors_to targets.now }
+    ensures observables { result.observables ≡ greatest_of observables_to targets.now }
 {
     let none = TargetCounts {
         detectors: 0,
         observables: 0,
     };
     let counts = raised(none, targets);
-    Ok(Extent {
-        detectors: narrowed(counts.detectors)?,
-        observables: narrowed(counts.observables)?,
-    })
+    Extent {
+        detectors: counts.detectors as u32,
+        observables: counts.observables as u32,
+    }
 }
 
 /// The numbers that a line of this kind states.
@@ -112,14 +113,14 @@ fn numbers_at<A: Allocator + Copy>(numbers: &FlatLists<i64, A>, place: usize) ->
 impl<'c, 'a, A: Allocator + Copy> LineTable<'c, 'a, A> {
     /// The table of these lines.
     pub(crate) fn new(alloc: A, lines: &'c ModelLines<'a, A>) -> Result<Self, AllocError>
-        ensures { IfOk result (λ table. table ≡ items_of lines.now) }
+        ensures { IfOk result (λ table. table ≡ lines.now) }
     {
         lines.fits();
         let mut extents = Vec::new(alloc);
         let mut numbers = FlatLists::new(alloc);
         for place in 0..lines.len() {
             let instruction = lines.instruction_at(place);
-            extents.push(extent_of(instruction.targets)?)?;
+            extents.push(extent_of(instruction.targets))?;
             numbers.push(numbers_stated(instruction.operation, instruction.arguments).as_slice())?;
         }
         Ok(LineTable {
@@ -129,18 +130,34 @@ impl<'c, 'a, A: Allocator + Copy> LineTable<'c, 'a, A> {
         })
     }
 
-    /// The instruction at a place; an empty one where no instruction stands there.
+    /// The item at a place, where there is one.
     #[inline(always)]
-    pub(crate) fn instruction_at(&self, place: usize) -> Instruction<'_, 'a>
-        ensures { instruction_in result ≡ instruction_at self.now place }
+    pub(crate) fn item_at(&self, place: usize) -> Option<Item<'_, 'a>>
+        ensures item { option_map item_in result ≡ slice_get (items_of self.now) place }
+        ensures few { IfSome result (λ item. place < 2 ^ 64 - 1) }
     {
-        self.lines.instruction_at(place)
+        if place < self.lines.len() {
+            Some(self.lines.item(place))
+        } else {
+            None
+        }
+    }
+
+    /// Does nothing. Its contract says what holds of all tables.
+    #[inline(always)]
+    pub(crate) fn fits(&self)
+        ensures accepted { IsAccepted self.now }
+        ensures few { length (items_of self.now) < 2 ^ 63 }
+    {
+        self.lines.fits();
+        // The proof looks inside.
+        let _extents = &self.extents;
     }
 
     /// The line at a place; an empty one where no instruction stands there.
     #[inline(always)]
     pub(crate) fn line_at(&self, place: usize) -> TableLine<'_, 'a>
-        ensures instruction { instruction_in result.instruction ≡ instruction_at self.now place }
+        ensures instruction { instruction_in result.instruction ≡ instruction_at (items_of self.now) place }
         ensures known { IsKnown (instruction_in result.instruction) result.extent result.numbers.now }
     {
         self.lines.fits();

@@ -40,7 +40,7 @@ fn turn_text<A: Allocator + Copy>(
     ensures { IfOk result (λ _. bits.new ≡ turned bits.old (numbers_of detectors (read_targets text.now))) }
 {
     if read_targets(targets, text)? {
-        turn_targets(bits, detectors, targets.as_slice())?;
+        turn_targets(bits, detectors, targets.as_slice());
     }
     Ok(())
 }

@@ -12,8 +12,9 @@ keep_odd-requires g c =
     subst (λ (ns : List ℕ). IsNonDecreasing ns) (sym c.as_slice.ensures.value) c.in_ok-put_in_order.ensures.ascending
 
 pub returns : goal.returns
-returns g c observables h j =
-    let detectors = c.args.detectors in
+returns g c =
+    let detectors = c.args.counts.detectors in
+    let observables = c.args.counts.observables in
     let targets = map (target_at c.args.shift) c.args.targets.now in
     let n : ℕ = detectors + observables in
     let read = c.read_numbers.new.numbers.items in
@@ -21,9 +22,10 @@ returns g c observables h j =
     let below : All (λ m. m < n) c.as_slice.result.now =
     subst (λ (ns : List ℕ). All (λ m. m < n) ns) (sym c.as_slice.ensures.value)
     (All-permutation (λ m. m < n) read sorted c.in_ok-put_in_order.ensures.same
-    (subst (λ (ns : List ℕ). All (λ m. m < n) ns) (sym c.in_ok-read_numbers.ensures) (all-numbers detectors observables targets h j))) in
+    (subst (λ (ns : List ℕ). All (λ m. m < n) ns) (sym c.in_ok-read_numbers.ensures)
+    (all-numbers detectors observables targets c.requires.detectors c.requires.observables))) in
     c.in_ok-keep_odd.ensures n below
     ∙ ap (odd_below n) c.as_slice.ensures.value
     ∙ same-odd n read sorted c.in_ok-put_in_order.ensures.same
     ∙ ap (odd_below n) c.in_ok-read_numbers.ensures
-    ∙ flipped-numbers detectors observables targets h
+    ∙ flipped-numbers detectors observables targets c.requires.detectors

@@ -1,12 +1,14 @@
-use Rattle.std.proofs.Common.{◌≤◌, drop}
-use Rattle.dem_parser.specs.Gathered.{instructions_at}
+use Rattle.std.proofs.Common.{◌+◌, ◌<◌, ◌^◌, length}
+use Rattle.dem_lines.specs.Reached.{reached}
 use Rattle.dem_parser.specs.Offsets.{shift_of}
 use Rattle.dem_parser.proofs.WalkLemmas.{IsJudging}
 use Rattle.dem_parser.proofs.judging.counts_of.Given as goal
 
-abbrev pub invariant-loop-place : goal.invariant-loop-place
-invariant-loop-place g l = record {
-  judging : IsJudging (instructions_at l.table l.places) (instructions_at l.table (drop l.place-index l.places)) l.judging.counts
-      (shift_of l.judging.shift.detectors l.judging.shift.offset.items);
-  few : l.judging.counts.errors ≤ l.place-index;
+abbrev pub invariant-loop-line : goal.invariant-loop-line
+invariant-loop-line g l = record {
+  judging : IsJudging (reached l.table) l.walk l.judging.counts (shift_of l.judging.shift.detectors l.judging.shift.offset.items);
+  few : l.judging.counts.errors + length l.walk < 2 ^ 64;
 }
+
+abbrev pub decreases-loop-line : goal.decreases-loop-line
+decreases-loop-line g l = length l.walk

@@ -1,28 +1,30 @@
-use Rattle.std.proofs.Common.{ap, map, ◌∙◌}
-use Rattle.std.proofs.lemmas.List.{at_drop_more, drop_all}
+use Rattle.std.proofs.Common.{ap, map, refl, ◌∙◌}
 use Rattle.dem_lines.specs.Flat.{instruction_in}
-use Rattle.dem_parser.specs.Gathered.{instructions_at}
+use Rattle.dem_lines.specs.Reached.{reached}
 use Rattle.dem_parser.specs.Marked.{list_numbered}
 use Rattle.dem_parser.specs.Shifts.{shift_after}
 use Rattle.dem_parser.proofs.MarkLemmas.{marking-done, marking-first, marking-next}
+use Rattle.dem_parser.proofs.WalkLemmas.{near-next}
 use Rattle.dem_parser.proofs.marks.coordinates_of.Goals as goal
 
-pub loop-place-init : goal.loop-place-init
-loop-place-init g c =
-    rw (c.new.ensures, c.new-2.ensures.items)
-    (marking-first (instructions_at c.args.table.now c.args.places.now) _ c.args.detectors c.in_ok-no_marks.ensures)
+pub loop-line-init : goal.loop-line-init
+loop-line-init g c =
+    rw (c.new.ensures, c.new-2.ensures.items, c.new-walk.ensures)
+    (record { marking = marking-first (reached c.args.table.now) _ c.args.detectors c.in_ok-no_marks.ensures; near = c.requires })
 
-pub loop-place-preserved : goal.loop-place-preserved
-loop-place-preserved g c =
-    marking-next _ _ _ _ _ _ _ _ _ _ _ _ c.loop-place.invariant
-    (at_drop_more (instructions_at c.args.table.now) c.args.places.now c.loop-place.place-index 0 c.loop-place-test.true)
-    c.line_at-line.ensures.instruction
-    c.in_ok-mark.ensures.marked
-    (c.in_ok-pass.ensures ∙ ap (shift_after (instruction_in c.line_at-line.result.instruction)) c.in_ok-mark.ensures.shift)
+pub mark-requires-clause-near : goal.mark-requires-clause-near
+mark-requires-clause-near g c = (near-next _ _ _ _ _ c.loop-line.invariant.near c.in-Some.ensures.line refl).0
+
+pub loop-line-preserved : goal.loop-line-preserved
+loop-line-preserved g c =
+    let shift = c.in_ok-pass.ensures ∙ ap (shift_after (instruction_in c.in-Some.line.instruction)) c.in_ok-mark.ensures.shift in
+    record {
+      marking = marking-next _ _ _ _ _ _ _ _ _ _ _ c.loop-line.invariant.marking c.in-Some.ensures.line c.in_ok-mark.ensures.marked shift;
+      near = (near-next _ _ _ _ _ c.loop-line.invariant.near c.in-Some.ensures.line shift).1;
+    }
 
 pub returns : goal.returns
 returns g c =
     c.in_ok-found.ensures
-    ∙ ap (map (list_numbered c.loop-place.marking.lists)) c.as_slice.ensures.value
-    ∙ marking-done _ _ _ _ _ _ c.loop-place.invariant
-    (ap (instructions_at c.args.table.now) (drop_all c.loop-place.place-index c.args.places.now c.loop-place-test.false))
+    ∙ ap (map (list_numbered c.loop-line.marking.lists)) c.as_slice.ensures.value
+    ∙ marking-done _ _ _ _ _ _ c.loop-line.invariant.marking c.in_default.ensures.line

@@ -1,0 +1,307 @@
+-- A walk goes over the items of a model in their order, and so reaches its instructions in theirs.
+use Rattle.std.proofs.Common.{◌≡◌, ℕ, zero, suc, ◌+◌, ◌-◌, ◌*◌, ◌<◌, ◌≤◌, ◌^◌, true, false, List, [], ◌∷◌, ◌++◌, length, drop, reverse, Option, None, Some, option_to_list, refl, sym, ap, ◌∙◌, subst, append_assoc, append-nil, arith, length-append}
+use Rattle.std.specs.Prelude.{slice_get}
+use Rattle.std.proofs.lemmas.List.{length-reverse, reverse-append}
+use Rattle.std.proofs.lemmas.Bool.Decides.{nat_tests}
+use Rattle.block_text.specs.Flat.{first_tree, onto, read_back, trees_of}
+use Rattle.dem_lines.specs.Fitting.{IsAccepted}
+use Rattle.dem_lines.specs.Passes.{CanStand}
+use Rattle.dem_lines.specs.Places.{instruction_at, instruction_of}
+use Rattle.dem_lines.specs.Reached.{block_lines, copies, has_many_lines, lines_inside, reached}
+use Rattle.dem_lines.specs.Texts.{Item, Does, Begins, Ends}
+use Rattle.dem_lines.specs.Trees.{Tree, Nothing, Then, Block, items_of}
+use Rattle.dem_lines.specs.Verdicts.{Instruction}
+use Rattle.dem_lines.proofs.PassLemmas.{AreWhole, can_stand, drop_got, whole-tree}
+use Rattle.dem_parser.specs.declared.walk.Turns.{Turns}
+use Rattle.dem_parser.specs.Walks.{AreOpen, IsWalk, after, after_turn, gone_over, is_line, items_left, left_behind, lines_among, lines_left, trees_at, turn_of}
+
+-- ---- instructions among items
+
+among-both : (xs ys : List Item) → lines_among (xs ++ ys) ≡ lines_among xs ++ lines_among ys
+among-both [] ys = refl
+among-both (Does i ∷ xs) ys = ap (λ is. i ∷ is) (among-both xs ys)
+among-both (Begins line turns ∷ xs) ys = among-both xs ys
+among-both (Ends ∷ xs) ys = among-both xs ys
+
+among-copies : (n : ℕ) (xs : List Item) → lines_among (copies n xs) ≡ copies n (lines_among xs)
+among-copies zero xs = refl
+among-copies (suc n) xs = among-both xs (copies n xs) ∙ ap (λ is. lines_among xs ++ is) (among-copies n xs)
+
+among-tree : (t : Tree) → lines_among (gone_over t) ≡ reached t
+among-tree Nothing = refl
+among-tree (Then i rest) = ap (λ is. i ∷ is) (among-tree rest)
+among-tree (Block line turns body rest) =
+    among-both (copies turns (turn_of body)) (gone_over rest)
+    ∙ ap (λ is. is ++ lines_among (gone_over rest))
+    (among-copies turns (turn_of body)
+    ∙ ap (copies turns) (among-both (gone_over body) (Ends ∷ []) ∙ append-nil (lines_among (gone_over body)) ∙ among-tree body))
+    ∙ ap (λ is. copies turns (reached body) ++ is) (among-tree rest)
+
+-- ---- the first place
+
+tree-left : (t : Tree) → trees_of (items_of t) ≡ t ∷ []
+tree-left t = ap (λ (items : List Item). trees_of items) (sym (append-nil (items_of t))) ∙ read_back t [] [] refl
+
+pub walk-first : (t : Tree) → IsAccepted t → IsWalk (items_of t) 0 []
+walk-first t accepted = record { inside = tt; whole = whole-tree t accepted; few = omega arith }
+
+pub left-first : (t : Tree) → lines_left (items_of t) 0 [] ≡ reached t
+left-first t =
+    ap lines_among (ap (λ (ts : List Tree). gone_over (first_tree ts) ++ []) (tree-left t) ∙ append-nil (gone_over t)) ∙ among-tree t
+
+-- ---- one item
+
+-- there is a tree for each open block, and one more
+trees-long : (items : List Item) (d : ℕ) → AreWhole items d → length (trees_of items) ≡ suc d
+trees-long [] d whole = ap suc (sym whole)
+trees-long (Does i ∷ items) d whole = one (trees_of items) (trees-long items d whole.1)
+  where
+    one : (ts : List Tree) → length ts ≡ suc d → length (onto (Does i) ts) ≡ suc d
+    one [] e = e
+    one (t ∷ ts) e = e
+trees-long (Begins line turns ∷ items) d whole = two (trees_of items) (trees-long items (suc d) whole.2)
+  where
+    two : (ts : List Tree) → length ts ≡ suc (suc d) → length (onto (Begins line turns) ts) ≡ suc d
+    two [] e = absurd (omega (arith, e))
+    two (t ∷ []) e = absurd (omega (arith, e))
+    two (t ∷ u ∷ ts) e = omega (arith, e)
+trees-long (Ends ∷ items) zero whole = absurd whole
+trees-long (Ends ∷ items) (suc d) whole = ap suc (trees-long items d whole)
+
+-- the first of several turns, before what follows them
+first_turn : (body more : List Item) (n : ℕ) → copies (suc n) (body ++ Ends ∷ []) ++ more ≡ body ++ Ends ∷ (copies n (body ++ Ends ∷ []) ++ more)
+first_turn body more n =
+    let turns = copies n (body ++ Ends ∷ []) in
+    append_assoc (body ++ Ends ∷ []) turns more ∙ append_assoc body (Ends ∷ []) (turns ++ more)
+
+goes-does : (items : List Item) (blocks : List Turns) (i : Instruction) (ts : List Tree) (d : ℕ) → length ts ≡ suc d
+    → gone_over (first_tree (onto (Does i) ts)) ++ left_behind items blocks (drop 1 (onto (Does i) ts))
+    ≡ Does i ∷ (gone_over (first_tree ts) ++ left_behind items blocks (drop 1 ts))
+goes-does items blocks i [] d e = absurd (omega (arith, e))
+goes-does items blocks i (t ∷ ts) d e = refl
+
+goes-begins : (items : List Item) (blocks : List Turns) (start line turns : ℕ) (ts : List Tree) (d : ℕ) → 0 < turns → trees_at items start ≡ ts → length ts ≡ suc (suc d)
+    → gone_over (first_tree (onto (Begins line turns) ts)) ++ left_behind items blocks (drop 1 (onto (Begins line turns) ts))
+    ≡ Begins line turns ∷ (gone_over (first_tree ts) ++ left_behind items (record { start = start; left = turns - 1 } ∷ blocks) (drop 1 ts))
+goes-begins items blocks start line zero ts d some e long = absurd (omega (arith, some))
+goes-begins items blocks start line (suc n) [] d some e long = absurd (omega (arith, long))
+goes-begins items blocks start line (suc n) (t ∷ []) d some e long = absurd (omega (arith, long))
+goes-begins items blocks start line (suc n) (t ∷ u ∷ ts) d some e long =
+    let less : n ≡ suc n - 1 = omega arith in
+    let more = gone_over u ++ left_behind items blocks ts in
+    ap (λ (is : List Item). Begins line (suc n) ∷ is)
+    (append_assoc (copies (suc n) (turn_of t)) (gone_over u) (left_behind items blocks ts)
+    ∙ first_turn (gone_over t) more n
+    ∙ ap (λ (b : Tree). gone_over t ++ Ends ∷ (copies n (turn_of b) ++ more)) (sym (ap first_tree e))
+    ∙ ap (λ m. gone_over t ++ Ends ∷ (copies m (turn_of (first_tree (trees_at items start))) ++ more)) less)
+
+drop-onto : (line turns : ℕ) (ts : List Tree) → drop 1 (drop 1 ts) ≡ drop 1 (onto (Begins line turns) ts)
+drop-onto line turns [] = refl
+drop-onto line turns (t ∷ []) = refl
+drop-onto line turns (t ∷ u ∷ ts) = refl
+
+drop-does : (i : Instruction) (ts : List Tree) → drop 1 (onto (Does i) ts) ≡ drop 1 ts
+drop-does i [] = refl
+drop-does i (t ∷ ts) = refl
+
+-- what is left after an item, and the walk goes on
+pub record HasGone (items : List Item) (left : List Item) (item : Item) (place : ℕ × List Turns) : Type 0 where
+  pub left_is : left ≡ item ∷ items_left items place.0 place.1
+  pub walk : IsWalk items place.0 place.1
+
+-- after the end of a turn
+goes-ends : (items : List Item) (place : ℕ) (blocks : List Turns) (start left : ℕ) (ts : List Tree) → trees_at items (place + 1) ≡ ts
+    → drop 1 (trees_at items start) ≡ ts → AreWhole (drop start items) (suc (length blocks)) → AreWhole (drop (place + 1) items) (length blocks) → AreOpen items blocks (drop 1 ts) → suc (length blocks) ≤ 32
+    → HasGone items (left_behind items (record { start = start; left = left } ∷ blocks) ts) Ends (after_turn start left place blocks)
+goes-ends items place blocks start zero ts here same again out inside few =
+    record {
+      left_is = ap (λ (us : List Tree). Ends ∷ (gone_over (first_tree us) ++ left_behind items blocks (drop 1 us))) (sym here);
+      walk = record { inside = subst (λ (us : List Tree). AreOpen items blocks (drop 1 us)) (sym here) inside; whole = out; few = omega (arith, few) };
+    }
+goes-ends items place blocks start (suc n) ts here same again out inside few =
+    let body = first_tree (trees_at items start) in
+    record {
+      left_is =
+          ap (λ (is : List Item). Ends ∷ is) (first_turn (gone_over body) (gone_over (first_tree ts) ++ left_behind items blocks (drop 1 ts)) n)
+          ∙ ap (λ (us : List Tree). Ends ∷ (gone_over body ++ left_behind items (record { start = start; left = n } ∷ blocks) us)) (sym same);
+      walk = record {
+        inside = (refl, again, subst (λ (us : List Tree). AreOpen items blocks (drop 1 us)) (sym same) inside);
+        whole = again;
+        few = few;
+      };
+    }
+
+-- one item, at whose place these trees are
+goes : (items : List Item) (place : ℕ) (blocks : List Turns) (item : Item) → drop place items ≡ item ∷ drop (place + 1) items → IsWalk items place blocks
+    → HasGone items (items_left items place blocks) item (after item place blocks)
+goes items place blocks (Does i) at walk =
+    let ts = trees_at items (place + 1) in
+    let here : trees_at items place ≡ onto (Does i) ts = ap (λ (is : List Item). trees_of is) at in
+    let whole = subst (λ (is : List Item). AreWhole is (length blocks)) at walk.whole in
+    record {
+      left_is =
+          ap (λ (us : List Tree). gone_over (first_tree us) ++ left_behind items blocks (drop 1 us)) here
+          ∙ goes-does items blocks i ts (length blocks) (trees-long (drop (place + 1) items) (length blocks) whole.1);
+      walk = record {
+        inside = subst (AreOpen items blocks) (ap (λ (us : List Tree). drop 1 us) here ∙ drop-does i ts) walk.inside;
+        whole = whole.1;
+        few = walk.few;
+      };
+    }
+goes items place blocks (Begins line turns) at walk =
+    let ts = trees_at items (place + 1) in
+    let here : trees_at items place ≡ onto (Begins line turns) ts = ap (λ (is : List Item). trees_of is) at in
+    let whole = subst (λ (is : List Item). AreWhole is (length blocks)) at walk.whole in
+    record {
+      left_is =
+          ap (λ (us : List Tree). gone_over (first_tree us) ++ left_behind items blocks (drop 1 us)) here
+          ∙ goes-begins items blocks (place + 1) line turns ts (length blocks) whole.0 refl
+          (trees-long (drop (place + 1) items) (suc (length blocks)) whole.2);
+      walk = record {
+        inside = (
+          refl,
+          whole.2,
+          subst (AreOpen items blocks) (ap (λ (us : List Tree). drop 1 us) here ∙ sym (drop-onto line turns ts)) walk.inside,
+        );
+        whole = whole.2;
+        few = omega (arith, whole.1);
+      };
+    }
+goes items place [] Ends at walk = absurd (subst (λ (is : List Item). AreWhole is 0) at walk.whole)
+goes items place (b ∷ blocks) Ends at walk =
+    let ts = trees_at items (place + 1) in
+    let here : trees_at items place ≡ Nothing ∷ ts = ap (λ (is : List Item). trees_of is) at in
+    let whole = subst (λ (is : List Item). AreWhole is (suc (length blocks))) at walk.whole in
+    let inside = subst (AreOpen items (b ∷ blocks)) (ap (λ (us : List Tree). drop 1 us) here) walk.inside in
+    let next = goes-ends items place blocks b.start b.left ts refl inside.0 inside.1 whole inside.2 walk.few in
+    record {
+      left_is =
+          ap (λ (us : List Tree). gone_over (first_tree us) ++ left_behind items (b ∷ blocks) (drop 1 us)) here
+          ∙ next.left_is;
+      walk = next.walk;
+    }
+
+-- ---- blocks that are kept the outermost first
+
+pub after-begins : (line turns place : ℕ) (blocks blocks' : List Turns) → blocks' ≡ blocks ++ record { start = place + 1; left = turns - 1 } ∷ []
+    → after (Begins line turns) place (reverse blocks) ≡ (place + 1, reverse blocks')
+after-begins line turns place blocks blocks' more =
+    ap (λ (bs : List Turns). (place + 1, bs))
+    (sym (ap reverse more ∙ reverse-append blocks (record { start = place + 1; left = turns - 1 } ∷ [])))
+
+ends-last : (place : ℕ) (blocks rest : List Turns) (popped : Option Turns) (b : Turns) → blocks ≡ rest ++ option_to_list popped → popped ≡ Some b
+    → after Ends place (reverse blocks) ≡ after_turn b.start b.left place (reverse rest)
+ends-last place blocks rest popped b e is =
+    ap (after Ends place) (ap reverse (e ∙ ap (λ o. rest ++ option_to_list o) is) ∙ reverse-append rest (b ∷ []))
+
+pub ends-over : (place : ℕ) (blocks rest : List Turns) (popped : Option Turns) (b : Turns) → blocks ≡ rest ++ option_to_list popped → popped ≡ Some b → b.left ≡ 0
+    → after Ends place (reverse blocks) ≡ (place + 1, reverse rest)
+ends-over place blocks rest popped b e is none =
+    ends-last place blocks rest popped b e is ∙ ap (λ n. after_turn b.start n place (reverse rest)) none
+
+pub ends-again : (place : ℕ) (blocks rest blocks' : List Turns) (popped : Option Turns) (b : Turns) (left : ℕ) → blocks ≡ rest ++ option_to_list popped → popped ≡ Some b
+    → b.left ≡ left + 1 → blocks' ≡ rest ++ record { start = b.start; left = left } ∷ [] → after Ends place (reverse blocks) ≡ (b.start, reverse blocks')
+ends-again place blocks rest blocks' popped b left e is some more =
+    let again : b.left ≡ suc left = omega (arith, some) in
+    ends-last place blocks rest popped b e is
+    ∙ ap (λ n. after_turn b.start n place (reverse rest)) again
+    ∙ ap (λ (bs : List Turns). (b.start, bs)) (sym (ap reverse more ∙ reverse-append rest (record { start = b.start; left = left } ∷ [])))
+
+-- ---- a step of a walk
+
+-- what holds before and after an item that stands at the place
+pub record Goes (items : List Item) (place : ℕ) (blocks : List Turns) (item : Item) (place' : ℕ) (blocks' : List Turns) : Type 0 where
+  pub walk : IsWalk items place' blocks'
+  pub fewer : length (items_left items place' blocks') < length (items_left items place blocks)
+  pub line : is_line item ≡ true → lines_left items place blocks ≡ instruction_at items place ∷ lines_left items place' blocks'
+  pub other : is_line item ≡ false → lines_left items place blocks ≡ lines_left items place' blocks'
+
+line-first : (item : Item) (items : List Item) → is_line item ≡ true → lines_among (item ∷ items) ≡ instruction_of (Some item) ∷ lines_among items
+line-first (Does i) items e = refl
+line-first (Begins line turns) items e = absurd cc
+line-first Ends items e = absurd cc
+
+other-first : (item : Item) (items : List Item) → is_line item ≡ false → lines_among (item ∷ items) ≡ lines_among items
+other-first (Does i) items e = absurd cc
+other-first (Begins line turns) items e = refl
+other-first Ends items e = refl
+
+pub goes-on : (items : List Item) (place : ℕ) (blocks : List Turns) (item : Item) (place' : ℕ) (blocks' : List Turns) → IsWalk items place blocks → Some item ≡ slice_get items place
+    → after item place blocks ≡ (place', blocks') → Goes items place blocks item place' blocks'
+goes-on items place blocks item place' blocks' walk got e =
+    let later : suc place ≡ place + 1 = omega arith in
+    let at = drop_got items place item got ∙ ap (λ k. item ∷ drop k items) later in
+    let next = subst (HasGone items (items_left items place blocks) item) e (goes items place blocks item at walk) in
+    let long = ap length next.left_is in
+    record {
+      walk = next.walk;
+      fewer = omega (arith, long);
+      line = λ is.
+          ap lines_among next.left_is
+          ∙ line-first item (items_left items place' blocks') is
+          ∙ ap (λ o. instruction_of o ∷ lines_left items place' blocks') got;
+      other = λ is. ap lines_among next.left_is ∙ other-first item (items_left items place' blocks') is;
+    }
+
+pub goes-can : (items : List Item) (place : ℕ) (blocks : List Turns) (item : Item) (inside : ℕ) → IsWalk items place (reverse blocks) → Some item ≡ slice_get items place → inside ≡ length blocks
+    → CanStand item inside
+goes-can items place blocks item inside walk got e =
+    let same : length (reverse blocks) ≡ inside = length-reverse blocks ∙ sym e in
+    can_stand item (drop (suc place) items) inside
+    (subst (λ d. AreWhole (item ∷ drop (suc place) items) d) same
+    (subst (λ (is : List Item). AreWhole is (length (reverse blocks))) (drop_got items place item got) walk.whole))
+
+drop-none : (items : List Item) (place : ℕ) → None ≡ slice_get items place → drop place items ≡ []
+drop-none [] zero e = refl
+drop-none [] (suc place) e = refl
+drop-none (x ∷ items) zero e = absurd cc
+drop-none (x ∷ items) (suc place) e = drop-none items place e
+
+pub goes-none : (items : List Item) (place : ℕ) (blocks : List Turns) → IsWalk items place blocks → None ≡ slice_get items place → lines_left items place blocks ≡ []
+goes-none items place blocks walk e =
+    let at = drop-none items place e in
+    ap (λ (is : List Item). lines_among (gone_over (first_tree (trees_of is)) ++ left_behind items blocks (drop 1 (trees_of is)))) at
+    ∙ ended blocks (subst (λ (is : List Item). AreWhole is (length blocks)) at walk.whole)
+  where
+    ended : (bs : List Turns) → length bs ≡ 0 → lines_among (left_behind items bs []) ≡ []
+    ended [] none = refl
+    ended (b ∷ bs) none = absurd (omega (arith, none))
+
+-- ---- how many lines are reached
+
+few-copies : (n m : ℕ) (xs : List Instruction) → length xs ≤ m → length (copies n xs) ≤ n * m
+few-copies zero m xs few = omega arith
+few-copies (suc n) m xs few =
+    let long = length-append xs (copies n xs) in
+    let rest = few-copies n m xs few in
+    omega (arith, long, rest, few)
+
+few-inside : (t : Tree) → length (reached t) ≤ lines_inside t
+unfolding lines_inside
+few-inside Nothing = omega arith
+few-inside (Then i rest) = let r = few-inside rest in omega (arith, r)
+few-inside (Block line turns body rest) =
+    let r = few-inside rest in
+    let b = few-inside body in
+    let turn = few-copies turns (1 + lines_inside body) (reached body) (omega (arith, b)) in
+    let long = length-append (copies turns (reached body)) (reached rest) in
+    omega (arith, r, turn, long)
+
+few-reached : (t : Tree) → length (reached t) ≤ length (items_of t) + block_lines t
+unfolding block_lines
+few-reached Nothing = omega arith
+few-reached (Then i rest) = let r = few-reached rest in omega (arith, r)
+few-reached (Block line turns body rest) =
+    let r = few-reached rest in
+    let b = few-inside body in
+    let turn = few-copies turns (1 + lines_inside body) (reached body) (omega (arith, b)) in
+    let long = length-append (copies turns (reached body)) (reached rest) in
+    let items = length-append (items_of body) (Ends ∷ items_of rest) in
+    omega (arith, r, turn, long, items)
+
+-- of a model whose blocks don't unroll to many
+pub few-lines : (t : Tree) → has_many_lines t ≡ false → length (items_of t) < 2 ^ 63 → length (reached t) < 2 ^ 64
+few-lines t few items =
+    let all = few-reached t in
+    let most : block_lines t ≤ 4_000_000 = grind (arith, nat_tests) in
+    omega (arith, all, items, most)
