@@ -11,5 +11,7 @@ pub mod NumberLemmas
 mod MarkLemmas
 mod BuildLemmas
 mod ReadLemmas
+pub mod ChainLemmas
+pub mod QuietLemmas
 mod TableLemmas
 mod WalkLemmas

@@ -9,6 +9,7 @@ use Rattle.stim_parser.specs.Judging.{judged, reading_of, refusal_of}
 use Rattle.stim_parser.specs.Numbers.{greatest_number}
 use Rattle.stim_parser.specs.Pieces.{ends_here, ends_piece, is_star, pieces_of}
 use Rattle.stim_parser.specs.Targets.{each_of}
+use Rattle.stim_parser.specs.declared.table.Keyword.TheVariants.{Does}
 use Rattle.dem_lines.specs.declared.operation.Operation.{Operation}
 use Rattle.dem_lines.specs.declared.operation.Operation.TheVariants.{Errs, Detects, Observes, Shifts}
 use Rattle.dem_lines.specs.declared.target.Target.{Target}
@@ -18,8 +19,9 @@ use Rattle.dem_lines.specs.Instructions.{keyword_named}
 use Rattle.dem_lines.specs.Limits.{has_target_beyond, is_target_beyond}
 use Rattle.dem_lines.specs.Targets.{target_of, targets_in}
 use Rattle.dem_lines.specs.Verdicts.{model_table}
-use Rattle.model_laws.proofs.CutLemmas.{none-where, slice_split-alone, slice_split-first}
-use Rattle.model_laws.proofs.InstructionTexts.{inside, instruction, more_arguments, target_word, target_words}
+use Rattle.dem_parser.proofs.QuietLemmas.{first_piece, none-where}
+use Rattle.model_laws.proofs.CutLemmas.{slice_split-alone, slice_split-first}
+use Rattle.model_laws.proofs.InstructionTexts.{inside, instruction, more_arguments, name_text, target_word, target_words}
 use Rattle.model_laws.proofs.LineCutLemmas.{AreTargetWords, AreWords, line_cut}
 use Rattle.model_laws.proofs.NumberLemmas.{decimal_is_word, number_of-decimal}
 use Rattle.model_laws.proofs.WordLemmas.{after_blanks-word, is_word, is_word_byte, no_blank, no_end_of_piece, other_byte, trimmed-space, trimmed-word, word_bytes}
@@ -53,22 +55,9 @@ arguments_read (a ∷ arguments) k =
 
 -- ---- targets
 
-word_piece : (b : ℕ) (w rest : List ℕ) → is_word_byte b ≡ true → list_all is_word_byte w ≡ true → ends_here rest ≡ true → pieces_of (b ∷ (w ++ rest)) ≡ (b ∷ w) ∷ pieces_of rest
-unfolding pieces_of
-word_piece b [] rest h k e =
-    let blank : is_blank b ≡ false = no_blank b h in
-    let star : is_star b ≡ false = other_byte 42 b refl h in rw (blank, star, e) refl
-word_piece b (c ∷ w) rest h k e =
-    let blank : is_blank b ≡ false = no_blank b h in
-    let star : is_star b ≡ false = other_byte 42 b refl h in
-    let parts = and_parts (is_word_byte c) (list_all is_word_byte w) k in
-    let on : ends_piece c ≡ false = no_end_of_piece c parts.0 in
-    rw (blank, star, on) (ap (onto_first b) (word_piece c w rest parts.0 parts.1 e))
-
-first_piece : (w rest : List ℕ) → is_word w ≡ true → ends_here rest ≡ true → pieces_of (w ++ rest) ≡ w ∷ pieces_of rest
-first_piece [] rest h e = absurd (false≢true h)
-first_piece (b ∷ w) rest h e =
-    let parts = and_parts (is_word_byte b) (list_all is_word_byte w) h in word_piece b w rest parts.0 parts.1 e
+word_piece : (w rest : List ℕ) → is_word w ≡ true → ends_here rest ≡ true → pieces_of (w ++ rest) ≡ w ∷ pieces_of rest
+word_piece [] rest h e = absurd (false≢true h)
+word_piece (b ∷ w) rest h e = first_piece (b ∷ w) rest refl (none-where ends_piece is_word_byte (b ∷ w) no_end_of_piece (word_bytes (b ∷ w) h)) e
 
 words_end : (targets : List Target) → ends_here (target_words targets) ≡ true
 words_end [] = refl
@@ -78,7 +67,7 @@ pieces_found : (targets : List Target) → AreTargetWords targets → pieces_of 
 unfolding pieces_of
 pieces_found [] k = refl
 pieces_found (t ∷ targets) k =
-    first_piece (target_word t) (target_words targets) k.0 (words_end targets) ∙ ap (λ ps. target_word t ∷ ps) (pieces_found targets k.1)
+    word_piece (target_word t) (target_words targets) k.0 (words_end targets) ∙ ap (λ ps. target_word t ∷ ps) (pieces_found targets k.1)
 
 detector_below : (d : ℕ) → is_target_beyond (Detector d) ≡ false → d < 1_000_000_000_000_000_000
 detector_below d h = omega (arith, ltb-false 999_999 d h)
@@ -124,32 +113,20 @@ targets_read targets h = ap (each_of target_of) (pieces_found targets (all_are_w
 
 -- ---- the line
 
+keyword_found : (o : Operation) → keyword_named (name_text o) ≡ Some (Does o)
+unfolding keyword_named
+keyword_found Errs = refl
+keyword_found Detects = refl
+keyword_found Observes = refl
+keyword_found Shifts = refl
+
 pub reading_found : (number : ℕ) (o : Operation) (arguments : List (List ℕ)) (targets : List Target) → AreWords arguments → Fits (instruction number o arguments targets)
     → reading_of model_table 0 number (line_cut o arguments targets) ≡ Takes (instruction number o arguments targets)
-unfolding reading_of judged refusal_of keyword_named
-reading_found number Errs arguments targets words fits =
-    let count = fits.arguments in
-    let probability = fits.probability in
-    let form = fits.targets in
-    let within = fits.targets_within in
-    rw (arguments_read arguments words, targets_read targets within, count, probability, form, within) refl
-reading_found number Detects arguments targets words fits =
+unfolding reading_of judged refusal_of
+reading_found number o arguments targets words fits =
     let count = fits.arguments in
     let probability = fits.probability in
     let coordinates = fits.arguments_within in
     let form = fits.targets in
     let within = fits.targets_within in
-    rw (arguments_read arguments words, targets_read targets within, count, probability, coordinates, form, within) refl
-reading_found number Observes arguments targets words fits =
-    let count = fits.arguments in
-    let probability = fits.probability in
-    let form = fits.targets in
-    let within = fits.targets_within in
-    rw (arguments_read arguments words, targets_read targets within, count, probability, form, within) refl
-reading_found number Shifts arguments targets words fits =
-    let count = fits.arguments in
-    let probability = fits.probability in
-    let coordinates = fits.arguments_within in
-    let form = fits.targets in
-    let within = fits.targets_within in
-    rw (arguments_read arguments words, targets_read targets within, count, probability, coordinates, form, within) refl
+    rw (keyword_found o, arguments_read arguments words, targets_read targets within, count, probability, coordinates, form, within) refl

@@ -17,13 +17,14 @@ use Rattle.dem_parser.specs.Meanings.{detector_count, detectors_to, error_line, 
 use Rattle.dem_parser.specs.Models.{model_in}
 use Rattle.dem_parser.specs.Numbered.{numbered, numbers_of, odd_below}
 use Rattle.dem_parser.specs.Shifts.{Placed}
+use Rattle.dem_parser.proofs.ChainLemmas.{moved_by_nothing, placed}
 use Rattle.dem_parser.proofs.NumberLemmas.{flipped-numbers}
 use Rattle.model_laws.specs.Writable.{IsWritable, IsWritableLine}
 use Rattle.model_laws.proofs.AscendingLemmas.{odd_below-ascending}
 use Rattle.model_laws.proofs.ModelInstructions.{detector_instruction, detector_instructions, error_instruction, error_instructions, instructions_of, instructions_text, observable_instruction, observable_instructions, target_of_number}
 use Rattle.model_laws.proofs.NumberLemmas.{signed_decimal_is_whole}
 use Rattle.model_laws.proofs.StandLemmas.{instructions_stand}
-use Rattle.model_laws.proofs.TextReadLemmas.{moved_by_nothing, placed, text_means}
+use Rattle.model_laws.proofs.TextReadLemmas.{text_means}
 
 -- ---- lines of each kind
 

@@ -9,7 +9,8 @@ use Rattle.std.proofs.lemmas.List.Sums.{fold-append}
 use Rattle.step_model.specs.Probabilities.{digits_value}
 use Rattle.stim_lexer.specs.Bytes.{is_empty}
 use Rattle.stim_parser.specs.Numbers.{has_minus, is_whole_number, magnitude_of, number_of, value_of, whole_value, without_minus}
-use Rattle.model_laws.proofs.WordLemmas.{all-append, digits_are_word_bytes, is_word}
+use Rattle.dem_parser.proofs.QuietLemmas.{both_all}
+use Rattle.model_laws.proofs.WordLemmas.{digits_are_word_bytes, is_word}
 
 -- ---- digits
 
@@ -40,7 +41,7 @@ one_more_digit : (n : ℕ) (ds : List ℕ) → 10 ≤ n → AreDigits (n / 10) d
 one_more_digit n ds h front =
     record {
       some = some-append ds (48 + n % 10);
-      digits = all-append is_ascii_digit ds ((48 + n % 10) ∷ []) front.digits (and_from (is_ascii_digit (48 + n % 10)) true (digit (n % 10) (omega arith)) refl);
+      digits = both_all is_ascii_digit ds ((48 + n % 10) ∷ []) front.digits (and_from (is_ascii_digit (48 + n % 10)) true (digit (n % 10) (omega arith)) refl);
       value = fold-append (λ m d. 10 * m + (d - 48)) 0 ds ((48 + n % 10) ∷ []) ∙ (let before = front.value in omega (arith, before));
     }
 

@@ -117,47 +117,33 @@ lines_kept s (i ∷ instructions) h k =
 
 -- ---- counts
 
-within_detectors : (targets : List Target) → list_any is_target_beyond targets ≡ false → greatest_of detectors_to targets ≤ 1000000
-within_detectors [] h = omega arith
-within_detectors (t ∷ targets) h =
+-- where no target counts more than so many, none of the lines does
+targets_within : (count : Target → ℕ) (n : ℕ) → ((t : Target) → is_target_beyond t ≡ false → count t ≤ n)
+    → (targets : List Target) → list_any is_target_beyond targets ≡ false → greatest_of count targets ≤ n
+targets_within count n each [] h = omega arith
+targets_within count n each (t ∷ targets) h =
     let parts = or_parts (is_target_beyond t) (list_any is_target_beyond targets) h in
-    let rest = within_detectors targets parts.1 in
-    let here = by t parts.0 in omega (arith, here, rest)
-  where
-    by : (t : Target) → is_target_beyond t ≡ false → detectors_to t ≤ 1000000
-    by (Plain n) h = omega arith
-    by (Detector d) h = let most = ltb-false 999999 d h in omega (arith, most)
-    by (Observable k) h = omega arith
-    by Separator h = omega arith
+    omega (arith, each t parts.0, targets_within count n each targets parts.1)
 
-within_observables : (targets : List Target) → list_any is_target_beyond targets ≡ false → greatest_of observables_to targets ≤ 1024
-within_observables [] h = omega arith
-within_observables (t ∷ targets) h =
-    let parts = or_parts (is_target_beyond t) (list_any is_target_beyond targets) h in
-    let rest = within_observables targets parts.1 in
-    let here = by t parts.0 in omega (arith, here, rest)
-  where
-    by : (t : Target) → is_target_beyond t ≡ false → observables_to t ≤ 1024
-    by (Plain n) h = omega arith
-    by (Detector d) h = omega arith
-    by (Observable k) h = let most = ltb-false 1023 k h in omega (arith, most)
-    by Separator h = omega arith
+lines_within : (count : Target → ℕ) (n : ℕ) → ((t : Target) → is_target_beyond t ≡ false → count t ≤ n)
+    → (lines : List Placed) → AreKept lines → greatest_over count lines ≤ n
+unfolding AreKept greatest_over has_target_beyond
+lines_within count n each [] h = omega arith
+lines_within count n each (p ∷ lines) h =
+    let near = (or_parts (has_target_beyond p.targets) (list_any is_far p.coordinates) h.1).0 in
+    omega (arith, targets_within count n each p.targets near, lines_within count n each lines h.2)
 
-targets_near : (p : Placed) → is_beyond p ≡ false → list_any is_target_beyond p.targets ≡ false
-unfolding has_target_beyond
-targets_near p h = (or_parts (has_target_beyond p.targets) (list_any is_far p.coordinates) h).0
+detector_within : (t : Target) → is_target_beyond t ≡ false → detectors_to t ≤ 1000000
+detector_within (Plain n) h = omega arith
+detector_within (Detector d) h = omega (arith, ltb-false 999999 d h)
+detector_within (Observable k) h = omega arith
+detector_within Separator h = omega arith
 
-few_detectors : (lines : List Placed) → AreKept lines → detector_count lines ≤ 1000000
-unfolding AreKept greatest_over
-few_detectors [] h = omega arith
-few_detectors (p ∷ lines) h =
-    let here = within_detectors p.targets (targets_near p h.1) in let rest = few_detectors lines h.2 in omega (arith, here, rest)
-
-few_observables : (lines : List Placed) → AreKept lines → observable_count lines ≤ 1024
-unfolding AreKept greatest_over
-few_observables [] h = omega arith
-few_observables (p ∷ lines) h =
-    let here = within_observables p.targets (targets_near p h.1) in let rest = few_observables lines h.2 in omega (arith, here, rest)
+observable_within : (t : Target) → is_target_beyond t ≡ false → observables_to t ≤ 1024
+observable_within (Plain n) h = omega arith
+observable_within (Detector d) h = omega arith
+observable_within (Observable k) h = omega (arith, ltb-false 1023 k h)
+observable_within Separator h = omega arith
 
 -- ---- error lines
 
@@ -226,8 +212,8 @@ meaning_writable lines h =
       lines = lines_writable (detector_count lines) (observable_count lines) lines (omega arith) h;
       coordinates_given = length-map-range_with_len (λ d. last_coordinates d [] lines) 0 (detector_count lines);
       coordinates_fit = each_fits (λ d. last_coordinates d [] lines) 0 (detector_count lines) (λ d. last_kept d [] lines no_coordinates h);
-      few_detectors = few_detectors lines h;
-      few_observables = few_observables lines h;
+      few_detectors = lines_within detectors_to 1000000 detector_within lines h;
+      few_observables = lines_within observables_to 1024 observable_within lines h;
     }
 
 not_refused : (refusal : Option Fault) (meaning model : ErrorModel) → unless_refused_by refusal meaning ≡ Ok model → (refusal ≡ None) × (meaning ≡ model)

@@ -1,14 +1,15 @@
 -- Bytes of words: letters, digits, `.`, `+`, `-` and others that neither end a word of an error model nor begin anything.
 -- Names, numbers and targets are made of them.
-use Rattle.std.proofs.Common.{◌≡◌, ℕ, ◌-◌, ◌==◌, nat_lt, nat_le, Bool, true, false, not, ◌||◌, ◌&&◌, List, [], ◌∷◌, ◌++◌, length, get_or, subst, refl, arith}
+use Rattle.std.proofs.Common.{◌≡◌, ℕ, ◌-◌, ◌==◌, nat_lt, Bool, true, false, not, ◌||◌, ◌&&◌, List, [], ◌∷◌, ◌++◌, length, get_or, subst, refl, arith}
 use Rattle.std.specs.Char.{is_ascii_digit}
 use Rattle.std.specs.List.{list_all, suffix_len}
 use Rattle.std.proofs.lemmas.List.{take_all}
 use Rattle.std.proofs.lemmas.List.Sums.{AllPass-from_list_all, suffix_len_is}
-use Rattle.std.proofs.lemmas.Bool.{and_from, and_parts, both_ways, false≢true, le-leb, ltb-true, ne_eqb, or_from}
-use Rattle.stim_lexer.specs.Bytes.{after_blanks, is_bad_byte, is_blank, is_empty}
+use Rattle.std.proofs.lemmas.Bool.{and_parts, both_ways, false≢true, ne_eqb, or_from}
+use Rattle.stim_lexer.specs.Bytes.{after_blanks, is_blank, is_empty}
 use Rattle.stim_parser.specs.Arguments.{before_blanks, trimmed}
 use Rattle.stim_parser.specs.Pieces.{ends_piece, is_star}
+use Rattle.dem_parser.proofs.QuietLemmas.{all-where}
 
 abbrev pub is_word_byte : ℕ → Bool
 is_word_byte b = nat_lt 42 b && (nat_lt b 123 && not (b == 44 || b == 91 || b == 93))
@@ -28,14 +29,6 @@ no_blank b h =
     let return : (b == 13) ≡ false = other_byte 13 b refl h in
     rw (space, tab, return) refl
 
-pub no_bad_byte : (b : ℕ) → is_word_byte b ≡ true → is_bad_byte b ≡ false
-no_bad_byte b h =
-    let parts = and_parts (nat_lt 42 b) (nat_lt b 123 && not (b == 44 || b == 91 || b == 93)) h in
-    let more = and_parts (nat_lt b 123) (not (b == 44 || b == 91 || b == 93)) parts.1 in
-    let low : nat_le 32 b ≡ true = le-leb 32 b (omega (arith, ltb-true 42 b parts.0)) in
-    let high : nat_le b 126 ≡ true = le-leb b 126 (omega (arith, ltb-true b 123 more.0)) in
-    rw (no_blank b h, low, high) refl
-
 pub no_end_of_piece : (b : ℕ) → is_word_byte b ≡ true → ends_piece b ≡ false
 no_end_of_piece b h = or_from (is_blank b) (is_star b) (no_blank b h) (other_byte 42 b refl h)
 
@@ -43,20 +36,12 @@ pub digit_is_word_byte : (b : ℕ) → is_ascii_digit b ≡ true → is_word_byt
 digit_is_word_byte b h = grind arith
 
 pub digits_are_word_bytes : (text : List ℕ) → list_all is_ascii_digit text ≡ true → list_all is_word_byte text ≡ true
-digits_are_word_bytes [] h = refl
-digits_are_word_bytes (b ∷ text) h =
-    let parts = and_parts (is_ascii_digit b) (list_all is_ascii_digit text) h in
-    and_from (is_word_byte b) (list_all is_word_byte text) (digit_is_word_byte b parts.0) (digits_are_word_bytes text parts.1)
+digits_are_word_bytes text h = all-where is_word_byte is_ascii_digit text digit_is_word_byte h
 
 -- ---- words
 
 pub word_bytes : (text : List ℕ) → is_word text ≡ true → list_all is_word_byte text ≡ true
 word_bytes text h = (and_parts (not (is_empty text)) (list_all is_word_byte text) h).1
-
-pub all-append : (p : ℕ → Bool) (xs ys : List ℕ) → list_all p xs ≡ true → list_all p ys ≡ true → list_all p (xs ++ ys) ≡ true
-all-append p [] ys h k = k
-all-append p (x ∷ xs) ys h k =
-    let parts = and_parts (p x) (list_all p xs) h in and_from (p x) (list_all p (xs ++ ys)) parts.0 (all-append p xs ys parts.1 k)
 
 -- blanks in front of a word, and behind it
 pub after_blanks-word : (word text : List ℕ) → is_word word ≡ true → after_blanks (word ++ text) ≡ word ++ text

@@ -1,8 +1,5 @@
-mod ChainLemmas
-mod TallyLemmas
 mod PlainLemmas
-mod ErrorTextLemmas
 mod CountedLemmas
 mod AlikeLemmas
-mod PlainSumLemmas
+mod KeptLemmas
 pub mod StrippedLemmas

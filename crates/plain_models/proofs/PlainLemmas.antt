@@ -1,36 +1,39 @@
 -- A text without blocks and shifts read line by line, and one line by itself.
-use Rattle.std.proofs.Common.{◌≡◌, ℕ, suc, ◌+◌, ◌<◌, ◌==◌, Bool, true, false, not, List, [], ◌∷◌, ◌++◌, length, map, Option, None, Some, Result, Ok, Err, refl, ap, sym, subst, ◌∙◌, append-nil, inl, inr, arith}
-use Rattle.std.specs.Prelude.{⊤}
-use Rattle.std.specs.List.{before_first, list_any, position_or_len}
+use Rattle.std.proofs.Common.{◌≡◌, ℕ, suc, ◌+◌, ◌≤◌, Bool, true, false, cond, if◌then◌else◌, max, List, [], ◌∷◌, ◌++◌, map, Option, None, Some, Bor, Result, Ok, Err, refl, ap, ap₂, sym, subst, ◌∙◌, append_assoc, append-nil, inl, inr, arith}
+use Rattle.std.specs.Prelude.{All, MatchOption, MatchResult}
+use Rattle.std.specs.List.{before_first, filter, list_any, onto_first, position_or_len}
 use Rattle.std.proofs.lemmas.Bool.{cases_Bool, or_parts}
-use Rattle.std.proofs.lemmas.List.{map-append}
+use Rattle.std.proofs.lemmas.List.Elements.{All-cons, All-nil}
 use Rattle.step_model.specs.declared.fault.Cause.{Cause}
 use Rattle.step_model.specs.declared.fault.Cause.TheVariants as cause
 use Rattle.step_model.specs.declared.fault.Fault.{Fault}
+use Rattle.step_model.specs.ErrorModels.{ErrorLine, ErrorModel}
 use Rattle.stim_lexer.specs.declared.line.Braces.{Braces}
 use Rattle.stim_lexer.specs.declared.line.Braces.TheVariants.{NoBrace, OpeningLast, ClosingAlone, Misplaced}
-use Rattle.stim_lexer.specs.Bytes.{from_first, is_empty, is_line_feed}
+use Rattle.stim_lexer.specs.Bytes.{is_empty, is_line_feed}
 use Rattle.stim_lexer.specs.Cut.{Cut, cut_of, has_bad_byte}
-use Rattle.stim_lexer.specs.Lexing.{Numbered, Unread, after_silent, next_found}
+use Rattle.stim_lexer.specs.Lexing.{Numbered, Unread, after_silent, first_found, next_found}
 use Rattle.stim_lexer.specs.Lines.{lines_of, says_nothing}
-use Rattle.stim_lexer.proofs.ScanLemmas.{lines_of-cut, lines_of-none, list_any-from_first}
-use Rattle.stim_parser.specs.declared.table.Causes.{Causes}
+use Rattle.stim_parser.specs.Arguments.{arguments_in}
+use Rattle.block_text.specs.Texts.{Takes, Refuses, before, items_from, line_reading}
 use Rattle.stim_parser.specs.declared.table.Keyword.{Keyword}
 use Rattle.stim_parser.specs.declared.table.Keyword.TheVariants.{Does as keyword_Does, Repeats}
-use Rattle.stim_parser.specs.Judging.{accepted, closed_at, judged, reading_of, refusal_of, said_by, unless_refused}
+use Rattle.stim_parser.specs.Judging.{accepted, judged, reading_of, refusal_of, said_by, unless_refused}
 use Rattle.dem_lines.specs.declared.operation.Operation.{Operation}
-use Rattle.plain_models.specs.declared.plain_reader.Step.TheVariants as step
+use Rattle.dem_lines.specs.declared.target.Target.{Target}
 use Rattle.dem_lines.specs.Instructions.{keyword_named}
-use Rattle.dem_parser.specs.Models.{model_in, model_of_items}
-use Rattle.plain_models.specs.PlainLines.{IsTallied, Passes}
-use Rattle.plain_models.specs.Stripped.{stripped_or}
-use Rattle.plain_models.specs.Tallies.{IsWhole, Tally, model_tallied, no_tally, tallied}
-use Rattle.dem_lines.specs.Texts.{Item, Does, items_in, models, refused}
-use Rattle.block_text.specs.Texts.{Reading, Takes, Opens, Closes, Refuses, before, items_from, line_reading}
+use Rattle.dem_lines.specs.Texts.{Does, items_in, models, refused}
 use Rattle.dem_lines.specs.Verdicts.{Instruction, model_table, read_targets}
-use Rattle.plain_models.proofs.ChainLemmas.{AllStill, chain_means, items_of-then_all}
-use Rattle.plain_models.proofs.TallyLemmas.{model-tallied, tally-more, tally_from, whole-tallied}
-use Rattle.block_text.proofs.TextLemmas.{after, after-append, after-err, after-ok}
+use Rattle.dem_parser.specs.declared.counts.TargetCounts.{TargetCounts}
+use Rattle.dem_parser.specs.Meanings.{detector_count, detectors_to, error_line, greatest_of, greatest_over, is_error, observable_count, observables_to}
+use Rattle.dem_parser.specs.Models.{model_in, model_of_items}
+use Rattle.dem_parser.specs.Shifts.{Placed}
+use Rattle.dem_parser.proofs.ChainLemmas.{AllStay, chain_means, placed}
+use Rattle.dem_parser.proofs.CountLemmas.{max-more, max-none}
+use Rattle.plain_models.specs.declared.plain_reader.Step.TheVariants as step
+use Rattle.plain_models.specs.Kept.{AreWithin, line_kept, model_kept, targets_kept}
+use Rattle.plain_models.specs.PlainLines.{Passes}
+use Rattle.plain_models.specs.Stripped.{stripped_line, stripped_or}
 
 -- ---- one line
 
@@ -40,127 +43,100 @@ none_before p (b ∷ text) =
     let here : 1 + position_or_len p text ≡ suc (position_or_len p text) = omega arith in
     elim (cases_Bool (p b)) [ inl e ↦ rw e refl | inr e ↦ rw (e, here, e) (none_before p text) ]
 
-whole_before : (p : ℕ → Bool) (text : List ℕ) → list_any p text ≡ false → before_first p text ≡ text
-whole_before p [] h = refl
-whole_before p (b ∷ text) h =
-    let here : 1 + position_or_len p text ≡ suc (position_or_len p text) = omega arith in
-    let parts = or_parts (p b) (list_any p text) h in
-    rw (parts.0, here) (ap (λ (bs : List ℕ). b ∷ bs) (whole_before p text parts.1))
-
-empty_is : (text : List ℕ) → not (is_empty text) ≡ false → text ≡ []
-empty_is [] h = refl
-empty_is (b ∷ text) h = absurd (cc)
-
-none_from : (p : ℕ → Bool) (text : List ℕ) → list_any p text ≡ false → from_first p text ≡ []
-none_from p text h = empty_is (from_first p text) (sym (list_any-from_first p text) ∙ h)
-
-one_line : (line : List ℕ) → 0 < length line → list_any is_line_feed line ≡ false → lines_of line ≡ line ∷ []
-one_line line some h =
-    lines_of-cut line line [] [] some (sym (whole_before is_line_feed line h)) (sym (none_from is_line_feed line h)) refl
-    ∙ ap (λ (ls : List (List ℕ)). line ∷ ls) (lines_of-none [] refl)
-
--- what is found in a text of one line
-abbrev found_in : Bool → Bool → List ℕ → Result (Option Numbered) Fault
-found_in true bad line = Ok None
-found_in false true line = Err (record { cause = cause.Byte; line = 1 })
-found_in false false line = Ok (Some (record { number = 1; cut = cut_of line }))
+lines_alone : (line : List ℕ) → list_any is_line_feed line ≡ false → lines_of line ≡ (if is_empty line then [] else line ∷ [])
+unfolding lines_of
+lines_alone [] h = refl
+lines_alone (b ∷ []) h = let here = (or_parts (is_line_feed b) false h).0 in rw here refl
+lines_alone (b ∷ c ∷ line) h =
+    let parts = or_parts (is_line_feed b) (list_any is_line_feed (c ∷ line)) h in
+    let here : is_line_feed b ≡ false = parts.0 in
+    rw here (ap (onto_first b) (lines_alone (c ∷ line) parts.1))
 
 abbrev pub alone : List ℕ → Unread
 alone line = record { read = 0; lines = lines_of line }
 
-found_spoken : (line : List ℕ) (s w : Bool) → says_nothing line ≡ s → has_bad_byte line ≡ w → next_found (record { read = 0; lines = line ∷ [] }) ≡ found_in s w line
-unfolding after_silent
-found_spoken line true w e f = rw e refl
-found_spoken line false true e f = rw (e, f) refl
-found_spoken line false false e f = rw (e, f) refl
-
-found_alone : (line : List ℕ) → list_any is_line_feed line ≡ false → next_found (alone line) ≡ found_in (says_nothing line) (has_bad_byte line) line
-unfolding after_silent says_nothing lines_of
-found_alone [] h = refl
+found_alone : (line : List ℕ) → list_any is_line_feed line ≡ false → next_found (alone line) ≡ (if says_nothing line then Ok None else first_found 0 (line ∷ []))
+unfolding after_silent says_nothing
+found_alone [] h = ap (λ ls. next_found (record { read = 0; lines = ls })) (lines_alone [] h)
 found_alone (b ∷ line) h =
-    ap (λ (ls : List (List ℕ)). next_found (record { read = 0; lines = ls })) (one_line (b ∷ line) (omega arith) h)
-    ∙ found_spoken (b ∷ line) (says_nothing (b ∷ line)) (has_bad_byte (b ∷ line)) refl refl
+    ap (λ ls. next_found (record { read = 0; lines = ls })) (lines_alone (b ∷ line) h)
+    ∙ elim (cases_Bool (says_nothing (b ∷ line))) [ inl e ↦ rw e refl | inr e ↦ rw e refl ]
 
-nothing_in : (s w : Bool) (line : List ℕ) → Ok None ≡ found_in s w line → s ≡ true
-nothing_in true w line h = refl
-nothing_in false true line h = absurd (cc)
-nothing_in false false line h = absurd (cc)
+-- what is found says this of the line
+abbrev Says : List ℕ → Result (Option Numbered) Fault → Type 0
+Says line found =
+    MatchResult found
+    (λ found. MatchOption found (says_nothing line ≡ true) (λ n. (says_nothing line ≡ false) × (has_bad_byte line ≡ false) × (n.cut ≡ cut_of line)))
+    (λ fault. (says_nothing line ≡ false) × (has_bad_byte line ≡ true) × (fault.cause ≡ cause.Byte))
 
-pub nothing_found : (line : List ℕ) → list_any is_line_feed line ≡ false → Ok None ≡ next_found (alone line) → says_nothing line ≡ true
-nothing_found line h e = nothing_in _ _ line (e ∙ found_alone line h)
-
-line_at : (s w : Bool) (line : List ℕ) (n : Numbered) → Ok (Some n) ≡ found_in s w line → (s ≡ false) × (w ≡ false) × (n.cut ≡ cut_of line)
-line_at true w line n h = absurd (cc)
-line_at false true line n h = absurd (cc)
-line_at false false line n h =
-    let same : n ≡ record { number = 1; cut = cut_of line } = cc in (refl, refl, ap (λ (m : Numbered). m.cut) same)
-
-pub line_found : (line : List ℕ) (n : Numbered) → list_any is_line_feed line ≡ false → Ok (Some n) ≡ next_found (alone line)
-    → (says_nothing line ≡ false) × (has_bad_byte line ≡ false) × (n.cut ≡ cut_of line)
-line_found line n h e = line_at _ _ line n (e ∙ found_alone line h)
-
-fault_in : (s w : Bool) (line : List ℕ) (fault : Fault) → Err fault ≡ found_in s w line → (s ≡ false) × (w ≡ true) × (fault.cause ≡ cause.Byte)
-fault_in true w line fault h = absurd (cc)
-fault_in false true line fault h =
-    let same : fault ≡ record { cause = cause.Byte; line = 1 } = cc in (refl, refl, ap (λ (f : Fault). f.cause) same)
-fault_in false false line fault h = absurd (cc)
-
-pub fault_found : (line : List ℕ) (fault : Fault) → list_any is_line_feed line ≡ false → Err fault ≡ next_found (alone line)
-    → (says_nothing line ≡ false) × (has_bad_byte line ≡ true) × (fault.cause ≡ cause.Byte)
-fault_found line fault h e = fault_in _ _ line fault (e ∙ found_alone line h)
+pub line_says : (line : List ℕ) (found : Result (Option Numbered) Fault) → list_any is_line_feed line ≡ false → found ≡ next_found (alone line) → Says line found
+line_says line found h e =
+    subst (Says line) (sym (e ∙ found_alone line h))
+    (by (says_nothing line) (has_bad_byte line) refl refl)
+  where
+    by : (s w : Bool) → says_nothing line ≡ s → has_bad_byte line ≡ w
+        → Says line (if s then Ok None else (if w then Err (record { cause = cause.Byte; line = 1 }) else Ok (Some (record { number = 1; cut = cut_of line }))))
+    by true w e f = e
+    by false true e f = (e, f, refl)
+    by false false e f = (e, f, refl)
 
 -- ---- the targets of a line that is taken
 
-abbrev Reads : Cut → Reading Instruction → Type 0
-Reads cut (Takes i) = i.targets ≡ read_targets cut.targets
-Reads cut (Opens turns) = ⊤
-Reads cut Closes = ⊤
-Reads cut (Refuses c) = ⊤
+accepted_targets : (refusal : Option Cause) (named : Option (Keyword Operation)) (number : ℕ) (cut : Cut) (i : Instruction) → Takes i ≡ unless_refused refusal (accepted model_table number named cut) → i.targets ≡ read_targets cut.targets
+accepted_targets (Some c) named number cut i e = absurd (cc)
+accepted_targets None None number cut i e = absurd (cc)
+accepted_targets None (Some Repeats) number cut i e = absurd (cc)
+accepted_targets None (Some (keyword_Does operation)) number cut i e =
+    let same : i ≡ record { line = number; operation = operation; arguments = arguments_in cut.arguments; targets = read_targets cut.targets } = cc in
+    ap (λ (j : Instruction). j.targets) same
 
-accepted_reads : (number : ℕ) (named : Option (Keyword Operation)) (cut : Cut) → Reads cut (accepted model_table number named cut)
-accepted_reads number None cut = tt
-accepted_reads number (Some Repeats) cut = tt
-accepted_reads number (Some (keyword_Does operation)) cut = refl
-
-unless_reads : (refusal : Option Cause) (cut : Cut) (reading : Reading Instruction) → Reads cut reading → Reads cut (unless_refused refusal reading)
-unless_reads None cut reading h = h
-unless_reads (Some c) cut reading h = tt
-
-judged_reads : (depth number : ℕ) (cut : Cut) → Reads cut (judged model_table depth number cut)
+said_targets : (braces : Braces) (number : ℕ) (cut : Cut) (i : Instruction) → Takes i ≡ said_by model_table braces 0 number cut → i.targets ≡ read_targets cut.targets
 unfolding judged
-judged_reads depth number cut = unless_reads (refusal_of model_table depth cut) cut _ (accepted_reads number (keyword_named cut.name) cut)
+said_targets ClosingAlone number cut i e = absurd (cc)
+said_targets NoBrace number cut i e = accepted_targets (refusal_of model_table 0 cut) (keyword_named cut.name) number cut i e
+said_targets OpeningLast number cut i e = accepted_targets (refusal_of model_table 0 cut) (keyword_named cut.name) number cut i e
+said_targets Misplaced number cut i e = accepted_targets (refusal_of model_table 0 cut) (keyword_named cut.name) number cut i e
 
-closed_reads : (causes : Causes) (depth : ℕ) (cut : Cut) → Reads cut (closed_at causes depth)
-closed_reads causes depth cut = elim (cases_Bool (depth == 0)) [ inl e ↦ rw e tt | inr e ↦ rw e tt ]
-
-said_reads : (braces : Braces) (depth number : ℕ) (cut : Cut) → Reads cut (said_by model_table braces depth number cut)
-said_reads ClosingAlone depth number cut = closed_reads model_table.causes depth cut
-said_reads NoBrace depth number cut = judged_reads depth number cut
-said_reads OpeningLast depth number cut = judged_reads depth number cut
-said_reads Misplaced depth number cut = judged_reads depth number cut
-
-reading_reads : (depth number : ℕ) (cut : Cut) → Reads cut (reading_of model_table depth number cut)
+pub taken_targets : (number : ℕ) (cut : Cut) (i : Instruction) → Takes i ≡ reading_of model_table 0 number cut → i.targets ≡ read_targets cut.targets
 unfolding reading_of
-reading_reads depth number cut = said_reads cut.braces depth number cut
-
-pub taken_targets : (depth number : ℕ) (cut : Cut) (i : Instruction) → Takes i ≡ reading_of model_table depth number cut → i.targets ≡ read_targets cut.targets
-taken_targets depth number cut i e = subst (Reads cut) (sym e) (reading_reads depth number cut)
+taken_targets number cut i e = said_targets cut.braces number cut i e
 
 -- ---- lines one after another
 
--- so many lines were read and tallied, and these are left
-pub record IsPlain (text : List ℕ) (t : Tally) (read : ℕ) (lines : List (List ℕ)) : Type 0 where
-  pub instructions : List Instruction
-  pub reading : items_in text ≡ after (map Does instructions) (items_from models [] read lines)
-  pub still : AllStill instructions
-  pub tally : t ≡ tally_from no_tally instructions
+abbrev errors_of : List Placed → List (List Target)
+errors_of ps = map (λ (p : Placed). p.targets) (filter (λ p. is_error p.operation) ps)
 
-pub plain-first : (text : List ℕ) (t : Tally) → t ≡ no_tally → IsPlain text t 0 (lines_of text)
-plain-first text t e = record { instructions = []; reading = refl; still = tt; tally = e }
+-- with what was kept so far, these instructions make all of the text
+pub record AreAll (text : List ℕ) (texts : List (Bor (List ℕ))) (counts : TargetCounts) (is : List Instruction) : Type 0 where
+  pub all : List Instruction
+  pub stay : AllStay all
+  pub writes : items_in text ≡ Ok (map Does all)
+  pub errors : targets_kept texts ++ errors_of (map placed is) ≡ errors_of (map placed all)
+  pub detectors : max counts.detectors (detector_count (map placed is)) ≡ detector_count (map placed all)
+  pub observables : max counts.observables (observable_count (map placed is)) ≡ observable_count (map placed all)
 
-still-more : (is : List Instruction) (i : Instruction) → AllStill is → AllStill (i ∷ []) → AllStill (is ++ i ∷ [])
-still-more [] i h k = k
-still-more (j ∷ is) i h k = (h.0, still-more is i h.1 k)
+-- so many lines were read and kept, and these are left: what they make is made of the whole text
+pub record IsPlain (text : List ℕ) (texts : List (Bor (List ℕ))) (counts : TargetCounts) (read : ℕ) (lines : List (List ℕ)) : Type 0 where
+  pub chains : (is : List Instruction) → AllStay is → items_from models [] read lines ≡ Ok (map Does is) → AreAll text texts counts is
+  pub refusal : (fault : Fault) → items_from models [] read lines ≡ Err fault → items_in text ≡ Err fault
+
+none_so_far : (n : ℕ) → max 0 n ≡ n
+none_so_far n = omega arith
+
+pub plain-first : (text : List ℕ) (texts : List (Bor (List ℕ))) (counts : TargetCounts) → texts ≡ [] → counts ≡ record { detectors = 0; observables = 0 } → IsPlain text texts counts 0 (lines_of text)
+plain-first text texts counts none no_counts =
+    rw (none, no_counts)
+    (record {
+      chains = λ is stay e. record {
+        all = is;
+        stay = stay;
+        writes = e;
+        errors = refl;
+        detectors = none_so_far (detector_count (map placed is));
+        observables = none_so_far (observable_count (map placed is));
+      };
+      refusal = λ fault e. e;
+    })
 
 silent_next : (read : ℕ) (line : List ℕ) (lines : List (List ℕ)) → says_nothing line ≡ true → items_from models [] read (line ∷ lines) ≡ items_from models [] (read + 1) lines
 unfolding items_from
@@ -176,70 +152,93 @@ refused_next : (read : ℕ) (line : List ℕ) (lines : List (List ℕ)) (c : Cau
 unfolding items_from
 refused_next read line lines c speaks taken = rw (speaks, taken) refl
 
-silent_on : (text : List ℕ) (t t' : Tally) (read : ℕ) (line : List ℕ) (lines : List (List ℕ)) → IsPlain text t read (line ∷ lines)
-    → says_nothing line ≡ true → t' ≡ t → IsPlain text t' (read + 1) lines
-silent_on text t t' read line lines h silent same =
-    record {
-      instructions = h.instructions;
-      reading = h.reading ∙ ap (after (map Does h.instructions)) (silent_next read line lines silent);
-      still = h.still;
-      tally = same ∙ h.tally;
-    }
+errors_next : (b : Bool) (kept : List (List Target)) (i : Instruction) (ps : List Placed)
+    → (if b then kept ++ i.targets ∷ [] else kept) ++ map (λ (p : Placed). p.targets) ps ≡ kept ++ map (λ (p : Placed). p.targets) (cond b (placed i ∷ ps) ps)
+errors_next true kept i ps = append_assoc kept (i.targets ∷ []) (map (λ (p : Placed). p.targets) ps)
+errors_next false kept i ps = refl
 
-taken_on : (text : List ℕ) (t t' : Tally) (read : ℕ) (line : List ℕ) (lines : List (List ℕ)) → IsPlain text t read (line ∷ lines)
-    → says_nothing line ≡ false → IsTallied (line_reading models [] (read + 1) line) t t' → IsPlain text t' (read + 1) lines
-taken_on text t t' read line lines h speaks k =
-    let is = h.instructions in
-    let i = k.instruction in
-    let rest : Result (List Item) Fault = items_from models [] (read + 1) lines in
-    record {
-      instructions = is ++ i ∷ [];
-      reading =
-          h.reading
-          ∙ ap (after (map Does is)) (taken_next read line lines i speaks k.taken)
-          ∙ sym (after-append (map Does is) (Does i ∷ []) rest)
-          ∙ ap (λ (items : List Item). after items rest) (sym (map-append Does is (i ∷ [])));
-      still = still-more is i h.still (k.still, tt);
-      tally = k.tally ∙ ap (tallied i.operation i.targets) h.tally ∙ sym (tally-more no_tally is i);
-    }
-
-pub plain-next : (text : List ℕ) (t t' : Tally) (read next : ℕ) (all lines : List (List ℕ)) (line : List ℕ) → IsPlain text t read all → all ≡ line ∷ lines → next ≡ read + 1
-    → Passes step.Goes next line t t' → IsPlain text t' next lines
-plain-next text t t' read next all lines line h e n passes =
-    let first : IsPlain text t read (line ∷ lines) = subst (IsPlain text t read) e h in
-    subst (λ m. IsPlain text t' m lines) (sym n)
-    (by first (subst (λ m. Passes step.Goes m line t t') n passes))
+pub plain-next : (text : List ℕ) (texts texts' : List (Bor (List ℕ))) (counts counts' : TargetCounts) (read : ℕ) (all lines : List (List ℕ)) (line : List ℕ)
+    → IsPlain text texts counts read all → all ≡ line ∷ lines → Passes step.Goes (read + 1) line texts counts texts' counts' → IsPlain text texts' counts' (read + 1) lines
+unfolding greatest_over
+plain-next text texts texts' counts counts' read all lines line h e passes = by (subst (IsPlain text texts counts read) e h) passes
   where
-    by : IsPlain text t read (line ∷ lines) → Passes step.Goes (read + 1) line t t' → IsPlain text t' (read + 1) lines
-    by k (inl p) = silent_on text t t' read line lines k p.0 p.1
-    by k (inr p) = taken_on text t t' read line lines k p.0 p.1
+    by : IsPlain text texts counts read (line ∷ lines) → Passes step.Goes (read + 1) line texts counts texts' counts' → IsPlain text texts' counts' (read + 1) lines
+    by h (inl p) =
+        let same = silent_next read line lines p.0 in
+        rw (p.1, p.2) (record { chains = λ is stay e. h.chains is stay (same ∙ e); refusal = λ fault e. h.refusal fault (same ∙ e) })
+    by h (inr p) =
+        let i = p.1.instruction in
+        let next = taken_next read line lines i p.0 p.1.taken in
+        record {
+          chains = λ is stay e.
+              (let ps = map placed is in
+              let all = h.chains (i ∷ is) (p.1.stays, stay) (next ∙ ap (before (Does i)) e) in
+              record {
+                all = all.all;
+                stay = all.stay;
+                writes = all.writes;
+                errors =
+                    ap (λ (ts : List (List Target)). ts ++ errors_of ps) p.1.errors
+                    ∙ errors_next (is_error i.operation) (targets_kept texts) i (filter (λ p. is_error p.operation) ps)
+                    ∙ all.errors;
+                detectors =
+                    ap (λ m. max m (detector_count ps)) p.1.detectors
+                    ∙ max-more counts.detectors (greatest_of detectors_to i.targets) (detector_count ps)
+                    ∙ all.detectors;
+                observables =
+                    ap (λ m. max m (observable_count ps)) p.1.observables
+                    ∙ max-more counts.observables (greatest_of observables_to i.targets) (observable_count ps)
+                    ∙ all.observables;
+              });
+          refusal = λ fault e. h.refusal fault (next ∙ ap (before (Does i)) e);
+        }
 
-pub plain-refused : (text : List ℕ) (t : Tally) (read next : ℕ) (all lines : List (List ℕ)) (line : List ℕ) (c : Cause) → IsPlain text t read all → all ≡ line ∷ lines → next ≡ read + 1
-    → (says_nothing line ≡ false) × (line_reading models [] next line ≡ Refuses c) → model_in text ≡ Err (refused c next)
-plain-refused text t read next all lines line c h e n k =
-    let numbered : line_reading models [] (read + 1) line ≡ Refuses c = ap (λ m. line_reading models [] m line) (sym n) ∙ k.1 in
-    ap model_of_items
-    (h.reading
-    ∙ ap (λ (ls : List (List ℕ)). after (map Does h.instructions) (items_from models [] read ls)) e
-    ∙ ap (after (map Does h.instructions)) (refused_next read line lines c k.0 numbered)
-    ∙ after-err (map Does h.instructions) (refused c (read + 1)))
-    ∙ ap (λ (m : ℕ). Err (refused c m)) (sym n)
+pub plain-refused : (text : List ℕ) (texts : List (Bor (List ℕ))) (counts : TargetCounts) (read : ℕ) (all lines : List (List ℕ)) (line : List ℕ) (c : Cause)
+    → IsPlain text texts counts read all → all ≡ line ∷ lines → (says_nothing line ≡ false) × (line_reading models [] (read + 1) line ≡ Refuses c) → model_in text ≡ Err (refused c (read + 1))
+plain-refused text texts counts read all lines line c h e k =
+    ap model_of_items (h.refusal (refused c (read + 1)) (ap (items_from models [] read) e ∙ refused_next read line lines c k.0 k.1))
+
+-- ---- all lines
 
 no_items : (read : ℕ) → items_from models [] read [] ≡ Ok []
 unfolding items_from
 no_items read = refl
 
-pub plain-means : (text : List ℕ) (t : Tally) (read : ℕ) (lines : List (List ℕ)) → IsPlain text t read lines → lines ≡ [] → stripped_or (model_in text) ≡ Ok (model_tallied t)
-plain-means text t read lines h e =
-    let is = h.instructions in
-    let written =
-    h.reading
-    ∙ ap (λ (ls : List (List ℕ)). after (map Does is) (items_from models [] read ls)) e
-    ∙ ap (after (map Does is)) (no_items read)
-    ∙ after-ok (map Does is) []
-    ∙ ap (λ (items : List Item). Ok items) (append-nil (map Does is) ∙ sym (items_of-then_all is)) in
-    ap stripped_or (chain_means text is h.still written)
-    ∙ ap Ok (model-tallied is ∙ ap model_tallied (sym h.tally))
+errors_within : (n : ℕ) (ps : List Placed) → detector_count ps ≤ n → All (λ targets. greatest_of detectors_to targets ≤ n) (errors_of ps)
+unfolding greatest_over
+errors_within n [] h = All-nil (λ targets. greatest_of detectors_to targets ≤ n)
+errors_within n (p ∷ ps) h = by (is_error p.operation) (errors_within n ps (omega (arith, h)))
+  where
+    by : (b : Bool) → All (λ targets. greatest_of detectors_to targets ≤ n) (errors_of ps)
+        → All (λ targets. greatest_of detectors_to targets ≤ n) (map (λ (p : Placed). p.targets) (cond b (p ∷ filter (λ p. is_error p.operation) ps) (filter (λ p. is_error p.operation) ps)))
+    by true rest = All-cons (λ targets. greatest_of detectors_to targets ≤ n) p.targets (errors_of ps) (omega (arith, h)) rest
+    by false rest = rest
 
-pub plain-whole : (text : List ℕ) (t : Tally) (read : ℕ) (lines : List (List ℕ)) → IsPlain text t read lines → IsWhole t
-plain-whole text t read lines h = subst IsWhole (sym h.tally) (whole-tallied h.instructions)
+lines_stripped : (d o : ℕ) (ps : List Placed) → map stripped_line (map (error_line d o) ps) ≡ map (line_kept d o) (map (λ (p : Placed). p.targets) ps)
+lines_stripped d o [] = refl
+lines_stripped d o (p ∷ ps) = ap (λ (ls : List ErrorLine). line_kept d o p.targets ∷ ls) (lines_stripped d o ps)
+
+abbrev with_lines : List ErrorLine → ℕ → ℕ → ErrorModel
+with_lines lines d o = record { lines = lines; coordinates = []; detectors = d; observables = o }
+
+-- what was kept of all lines
+pub record IsWhole (text : List ℕ) (texts : List (Bor (List ℕ))) (counts : TargetCounts) : Type 0 where
+  pub within : AreWithin texts counts.detectors
+  pub model : stripped_or (model_in text) ≡ Ok (model_kept texts counts.detectors counts.observables)
+
+pub plain-whole : (text : List ℕ) (texts : List (Bor (List ℕ))) (counts : TargetCounts) (read : ℕ) (lines : List (List ℕ)) → IsPlain text texts counts read lines → lines ≡ [] → IsWhole text texts counts
+unfolding greatest_over
+plain-whole text texts counts read lines h e =
+    let all = h.chains [] tt (ap (items_from models [] read) e ∙ no_items read) in
+    let ps = map placed all.all in
+    let errors : errors_of ps ≡ targets_kept texts = sym all.errors ∙ append-nil (targets_kept texts) in
+    let detectors : detector_count ps ≡ counts.detectors = sym all.detectors ∙ max-none counts.detectors in
+    let observables : observable_count ps ≡ counts.observables = sym all.observables ∙ max-none counts.observables in
+    record {
+      within = subst (All (λ targets. greatest_of detectors_to targets ≤ counts.detectors)) errors (errors_within counts.detectors ps (omega (arith, detectors)));
+      model =
+          ap stripped_or (chain_means text all.all all.stay all.writes)
+          ∙ ap (λ (ls : List ErrorLine). Ok (with_lines ls (detector_count ps) (observable_count ps))) (lines_stripped (detector_count ps) (observable_count ps) (filter (λ p. is_error p.operation) ps))
+          ∙ ap (λ (ts : List (List Target)). Ok (with_lines (map (line_kept (detector_count ps) (observable_count ps)) ts) (detector_count ps) (observable_count ps))) errors
+          ∙ ap₂ (λ (d o : ℕ). Ok (with_lines (map (line_kept d o) (targets_kept texts)) d o)) detectors observables;
+    }

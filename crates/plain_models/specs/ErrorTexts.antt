@@ -2,7 +2,7 @@
 -- digits. They are read straight from the bytes; the general reader, which reads all others, reads the same of these.
 -- (Stim's detector error model format, github.com/quantumlib/Stim, doc/file_format_dem_detector_error_model.md, "Target
 -- Types".)
-use Rattle.std.specs.Prelude.{◌≡◌, ℕ, ◌==◌, ◌||◌, max, Bool, true, false, List, ◌∷◌, ◌++◌, Some}
+use Rattle.std.specs.Prelude.{◌≡◌, ℕ, max, Bool, true, false, List, ◌∷◌, ◌++◌, Some}
 use Rattle.std.specs.Char.{is_ascii_digit}
 use Rattle.std.specs.Int.{is_in_range}
 use Rattle.std.specs.List.{list_all}
@@ -14,14 +14,11 @@ use Rattle.dem_lines.specs.declared.target.Target.{Target}
 use Rattle.dem_lines.specs.Limits.{has_target_beyond, is_effect}
 use Rattle.dem_parser.specs.Meanings.{detectors_to, greatest_of, observables_to}
 use Rattle.dem_lines.specs.Targets.{target_of, targets_in}
+use Rattle.dem_parser.proofs.QuietLemmas.{is_quiet}
 
 -- the bytes from `+` to `z`: none of them ends a word of targets, ends arguments or begins a comment
 abbrev pub is_word_byte : ℕ → Bool
 is_word_byte b = is_in_range 43 122 b
-
--- these and the space
-abbrev pub is_quiet : ℕ → Bool
-is_quiet b = b == 32 || is_word_byte b
 
 -- a text begins with the digits of a number
 pub record IsNumberFront (text : List ℕ) (number : ℕ) (rest : List ℕ) : Type 0 where

@@ -1,4 +1,4 @@
 pub mod Stripped
-pub mod Tallies
+pub mod Kept
 pub mod PlainLines
 pub mod ErrorTexts

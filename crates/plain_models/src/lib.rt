@@ -4,7 +4,6 @@
 mod plain_head;
 mod plain_model;
 mod plain_reader;
-mod plain_tally;
 mod plain_targets;
 mod plain_text;
 

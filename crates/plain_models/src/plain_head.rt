@@ -3,9 +3,11 @@ ghost use Rattle.std.specs.List.{list_all};
 ghost use Rattle.stim_parser.specs.Arguments.{arguments_in};
 ghost use Rattle.stim_parser.specs.declared.forms.ArgumentForm.TheVariants.{OneProbability};
 ghost use Rattle.stim_parser.specs.Limits.{AreProbabilities};
-ghost use Rattle.plain_models.specs.ErrorTexts.{is_quiet};
+ghost use Rattle.dem_parser.proofs.QuietLemmas.{is_quiet};
+ghost use Rattle.plain_models.specs.PlainLines.{IsErrorLine};
 
-use crate::plain_targets::behind_byte;
+use crate::plain_targets::{behind_byte, counted};
+use dem_parser::TargetCounts;
 use stim_lexer::cut_at;
 use stim_parser::{
     ArgumentForm, LastProbability, has_wrong_arguments, has_wrong_probability, read_arguments,
@@ -14,7 +16,7 @@ use stim_parser::{
 /// What stood in the parentheses of an error line, where it is accepted: most lines that follow have the same.
 #[derive(Clone, Copy)]
 pub(crate) struct Head<'a> {
-    pub arguments: &'a [u8],
+    arguments: &'a [u8],
     ghost quiet: { list_all is_quiet arguments.now ≡ true },
     ghost right: { AreProbabilities OneProbability (arguments_in arguments.now) },
 }
@@ -37,7 +39,7 @@ fn behind<'t>(front: &[u8], text: &'t [u8]) -> Option<&'t [u8]>
 
 /// What follows `error(`, these arguments and `)` in a text that begins with them.
 #[inline(always)]
-pub(crate) fn behind_head<'t>(arguments: &[u8], text: &'t [u8]) -> Option<&'t [u8]>
+fn behind_head<'t>(arguments: &[u8], text: &'t [u8]) -> Option<&'t [u8]>
     ensures { IfSome result (λ rest. text.now ≡ codes "error(" ++ (arguments.now ++ 41 ∷ rest.now)) }
 {
     let inside = behind(b"error(", text)?;
@@ -60,12 +62,60 @@ fn are_right<'a>(last: &mut LastProbability<'a>, arguments: &'a [u8]) -> bool
 
 /// The arguments of the error line that a text begins with, where they are accepted and later lines may be compared
 /// with them.
-pub(crate) fn head_in<'a>(last: &mut LastProbability<'a>, text: &'a [u8]) -> Option<Head<'a>> {
+fn head_in<'a>(last: &mut LastProbability<'a>, text: &'a [u8]) -> Option<Head<'a>> {
     let inside = behind(b"error(", text)?;
     let (arguments, _) = cut_at(inside, b')');
     if is_quiet(arguments) && are_right(last, arguments) {
         Some(Head { arguments })
     } else {
         None
+    }
+}
+
+/// The text of the targets of an error line that begins as one before it, and what counts become by these.
+#[inline(always)]
+fn error_alike<'a>(
+    head: Option<Head<'a>>,
+    counts: TargetCounts,
+    text: &'a [u8],
+) -> Option<(&'a [u8], TargetCounts)>
+    ensures { IfSome result (λ found. IsErrorLine text.now counts found.0 found.1) }
+{
+    let head = head?;
+    let targets = behind_head(head.arguments, text)?;
+    let found = counted(targets, counts)?;
+    Some((targets, found))
+}
+
+/// The same for an error line whose beginning is read anew. It is never inlined, so that it takes no registers from the
+/// reading of lines that begin as one before them.
+#[inline(never)]
+fn error_anew<'a>(
+    head: &mut Option<Head<'a>>,
+    last: &mut LastProbability<'a>,
+    counts: TargetCounts,
+    text: &'a [u8],
+) -> Option<(&'a [u8], TargetCounts)>
+    ensures { IfSome result (λ found. IsErrorLine text.now counts found.0 found.1) }
+{
+    let found = head_in(last, text)?;
+    *head = Some(found);
+    error_alike(Some(found), counts, text)
+}
+
+/// The text of the targets of an error line, and what counts become by these. There are none where the line is written
+/// in a rare way, or is refused.
+#[inline(always)]
+pub(crate) fn error_in<'a>(
+    head: &mut Option<Head<'a>>,
+    last: &mut LastProbability<'a>,
+    counts: TargetCounts,
+    text: &'a [u8],
+) -> Option<(&'a [u8], TargetCounts)>
+    ensures { IfSome result (λ found. IsErrorLine text.now counts found.0 found.1) }
+{
+    match error_alike(*head, counts, text) {
+        None => error_anew(head, last, counts, text),
+        found => found,
     }
 }

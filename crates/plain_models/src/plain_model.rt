@@ -1,12 +1,11 @@
 ghost use Rattle.std.specs.Prelude.{◌≡◌, if◌then◌else◌, length, IfOk};
 ghost use Rattle.dem_parser.specs.Numbered.{numbers_of};
 ghost use Rattle.dem_parser.specs.Sums.{symptom_of, turned};
-ghost use Rattle.plain_models.specs.Tallies.{IsWhole, model_tallied};
+ghost use Rattle.plain_models.specs.Kept.{AreWithin, model_kept};
 ghost use Rattle.dem_lines.specs.Verdicts.{read_targets};
 
-use crate::plain_tally::TalliedLines;
 use dem_lines::{Target, narrowed, read_targets};
-use dem_parser::{named_end, no_bits, turn_targets};
+use dem_parser::{TargetCounts, no_bits, turn_targets};
 use std::alloc::{AllocError, Allocator};
 use std::marker::Model;
 
@@ -14,38 +13,24 @@ use std::marker::Model;
 /// are not. Its value is the model without the texts of probabilities and without coordinates.
 #[derive(Drop)]
 pub struct PlainModel<'a, A: Allocator + Copy> {
-    lines: TalliedLines<'a, A>,
+    texts: Vec<&'a [u8], A>,
     detectors: u32,
     observables: u32,
 }
 
 impl<'a, A: Allocator + Copy> Model for PlainModel<'a, A> {
     ghost use Rattle.step_model.specs.ErrorModels.{ErrorModel};
-    ghost use Rattle.plain_models.specs.Tallies.{AreCountsOf, model_tallied};
+    ghost use Rattle.plain_models.specs.Kept.{AreWithin, model_kept};
 
     ghost Value = { ErrorModel };
 
-    ghost view = { λ m. model_tallied m.lines };
+    ghost view = { λ m. model_kept m.texts.items m.detectors m.observables };
 
-    ghost invariant = { λ m. AreCountsOf m.lines m.detectors m.observables };
+    ghost invariant = { λ m. AreWithin m.texts.items m.detectors };
 }
 
-/// Flips the truth values of the targets that a text writes, in a model with this many detectors.
-fn turn_text<A: Allocator + Copy>(
-    bits: &mut [bool],
-    targets: &mut Vec<Target, A>,
-    detectors: u32,
-    text: &[u8],
-) -> Result<(), AllocError>
-    ensures { IfOk result (λ _. bits.new ≡ turned bits.old (numbers_of detectors (read_targets text.now))) }
-{
-    if read_targets(targets, text)? {
-        turn_targets(bits, detectors, targets.as_slice());
-    }
-    Ok(())
-}
-
-/// The same if `named`; otherwise nothing.
+/// Flips the truth values of the targets that a text writes, in a model with this many detectors, if `named`; otherwise
+/// nothing.
 fn turn_named<A: Allocator + Copy>(
     named: bool,
     bits: &mut [bool],
@@ -55,23 +40,22 @@ fn turn_named<A: Allocator + Copy>(
 ) -> Result<(), AllocError>
     ensures { IfOk result (λ _. bits.new ≡ (if named then turned bits.old (numbers_of detectors (read_targets text.now)) else bits.old)) }
 {
-    if named {
-        turn_text(bits, targets, detectors, text)?;
+    if named && read_targets(targets, text)? {
+        turn_targets(bits, detectors, targets.as_slice())?;
     }
     Ok(())
 }
 
 impl<'a, A: Allocator + Copy> PlainModel<'a, A> {
-    /// The model of lines that were tallied.
-    pub(crate) fn new(lines: TalliedLines<'a, A>) -> Result<Self, AllocError>
-        requires { IsWhole lines }
-        ensures { IfOk result (λ model. model ≡ model_tallied lines.entry) }
+    /// The model of error lines whose targets these texts write.
+    pub(crate) fn new(texts: Vec<&'a [u8], A>, counts: TargetCounts) -> Result<Self, AllocError>
+        requires { AreWithin texts.items counts.detectors }
+        ensures { IfOk result (λ model. model ≡ model_kept texts.entry.items counts.detectors counts.observables) }
     {
-        let counts = lines.counts();
         Ok(PlainModel {
             detectors: narrowed(counts.detectors)?,
             observables: narrowed(counts.observables)?,
-            lines,
+            texts,
         })
     }
 
@@ -79,7 +63,7 @@ impl<'a, A: Allocator + Copy> PlainModel<'a, A> {
     pub fn line_count(&self) -> usize
         ensures { result ≡ length self.now.lines }
     {
-        self.lines.len()
+        self.texts.len()
     }
 
     /// The symptom of the error lines that are named: a truth value for each detector, then one for each observable,
@@ -90,13 +74,13 @@ impl<'a, A: Allocator + Copy> PlainModel<'a, A> {
     {
         let mut bits = no_bits(alloc, self.detectors as usize, self.observables as usize)?;
         let mut targets = Vec::new(alloc);
-        for line in 0..self.lines.len().min(named_end(named)) {
+        for line in 0..self.texts.len().min(named.len()) {
             turn_named(
                 named[line],
                 &mut bits,
                 &mut targets,
                 self.detectors,
-                self.lines.text(line),
+                self.texts[line],
             )?;
         }
         Ok(bits)

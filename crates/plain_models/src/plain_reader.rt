@@ -1,20 +1,19 @@
-ghost use Rattle.std.specs.Prelude.{◌≡◌, ℕ, true, false, IfOk, MatchOption, MatchResult};
+ghost use Rattle.std.specs.Prelude.{◌≡◌, ◌++◌, ◌∷◌, [], true, false, max, if◌then◌else◌, IfOk, MatchOption, MatchResult};
 ghost use Rattle.std.specs.List.{list_any};
 ghost use Rattle.step_model.specs.declared.fault.Cause.TheVariants as cause;
 ghost use Rattle.stim_lexer.specs.Bytes.{is_line_feed};
 ghost use Rattle.stim_lexer.specs.Cut.{cut_of, has_bad_byte};
 ghost use Rattle.stim_lexer.specs.Lexing.{cut_in};
 ghost use Rattle.stim_lexer.specs.Lines.{says_nothing};
-ghost use Rattle.plain_models.specs.declared.plain_reader.Step.TheVariants.{Goes};
-ghost use Rattle.plain_models.specs.PlainLines.{Passes, Steps};
-ghost use Rattle.plain_models.specs.Tallies.{no_tally};
-ghost use Rattle.dem_lines.specs.Verdicts.{model_table};
+ghost use Rattle.dem_lines.specs.Verdicts.{model_table, read_targets};
 ghost use Rattle.stim_parser.specs.Judging.{reading_of};
+ghost use Rattle.dem_parser.specs.Meanings.{detectors_to, greatest_of, is_error, observables_to};
+ghost use Rattle.plain_models.specs.Kept.{targets_kept};
+ghost use Rattle.plain_models.specs.PlainLines.{Passes, Steps};
 
-use crate::plain_head::{Head, behind_head, head_in};
-use crate::plain_tally::TalliedLines;
-use crate::plain_targets::counted;
+use crate::plain_head::{Head, error_in};
 use dem_lines::{Last, Operation, Said, Target, read_line};
+use dem_parser::{TargetCounts, is_error, raised};
 use std::alloc::{AllocError, Allocator};
 use step_model::Cause;
 use stim_lexer::{Lexer, Line};
@@ -29,10 +28,12 @@ pub(crate) enum Step {
     Refuses(Cause),
 }
 
-/// Reads lines of an error model that has no blocks and no shifts, and tallies them.
+/// Reads lines of an error model that has no blocks and no shifts. Of an error line only the text of its targets is
+/// kept, and of others nothing.
 #[derive(Drop)]
 pub(crate) struct PlainReader<'a, A: Allocator + Copy> {
-    pub lines: TalliedLines<'a, A>,
+    pub texts: Vec<&'a [u8], A>,
+    pub counts: TargetCounts,
     // Room for the targets of the line that is read.
     targets: Vec<Target, A>,
     last: Last<'a>,
@@ -44,7 +45,7 @@ fn line_in(number: u64, text: &[u8]) -> Result<Option<Line<'_>>, Cause>
     requires { list_any is_line_feed text.now ≡ false }
     ensures { MatchResult result
         (λ found. MatchOption found (says_nothing text.now ≡ true)
-        (λ line. (says_nothing text.now ≡ false) × (has_bad_byte text.now ≡ false) × (line.number ≡ number) × (cut_in line ≡ cut_of text.now)))
+        (λ line. (says_nothing text.now ≡ false) × (has_bad_byte text.now ≡ false) × (cut_in line ≡ cut_of text.now) × (line.number ≡ number)))
         (λ refused. (says_nothing text.now ≡ false) × (has_bad_byte text.now ≡ true) × (refused ≡ cause.Byte)) }
 {
     let mut lexer = Lexer::new(text);
@@ -58,19 +59,39 @@ fn line_in(number: u64, text: &[u8]) -> Result<Option<Line<'_>>, Cause>
 impl<'a, A: Allocator + Copy> PlainReader<'a, A> {
     /// A reader that has read nothing. Takes no memory.
     pub(crate) fn new(alloc: A) -> Self
-        ensures { result.lines ≡ no_tally }
+        ensures texts { result.texts.items ≡ [] }
+        ensures counts { result.counts ≡ record { detectors = 0; observables = 0 } }
     {
         PlainReader {
-            lines: TalliedLines::new(alloc),
+            texts: Vec::new(alloc),
+            counts: TargetCounts {
+                detectors: 0,
+                observables: 0,
+            },
             targets: Vec::new(alloc),
             last: Last::new(),
             head: None,
         }
     }
 
+    /// Keeps a line by what it says and its targets, which the text writes.
+    fn keep(&mut self, operation: Operation, text: &'a [u8]) -> Result<(), AllocError>
+        requires { self.old.targets.items ≡ read_targets text.now }
+        ensures errors { IfOk result (λ _. targets_kept self.new.texts.items ≡
+            (if is_error operation then targets_kept self.old.texts.items ++ self.old.targets.items ∷ [] else targets_kept self.old.texts.items)) }
+        ensures detectors { IfOk result (λ _. self.new.counts.detectors ≡ max self.old.counts.detectors (greatest_of detectors_to self.old.targets.items)) }
+        ensures observables { IfOk result (λ _. self.new.counts.observables ≡ max self.old.counts.observables (greatest_of observables_to self.old.targets.items)) }
+    {
+        if is_error(operation) {
+            self.texts.push(text)?;
+        }
+        self.counts = raised(self.counts, self.targets.as_slice());
+        Ok(())
+    }
+
     /// Reads a cut line.
     fn take(&mut self, line: Line<'a>) -> Result<Step, AllocError>
-        ensures { IfOk result (λ step. Steps step (reading_of model_table 0 line.entry.number (cut_in line.entry)) self.old.lines self.new.lines) }
+        ensures { IfOk result (λ step. Steps step (reading_of model_table 0 line.entry.number (cut_in line.entry)) self.old.texts.items self.old.counts self.new.texts.items self.new.counts) }
     {
         let text = line.targets;
         match read_line(&mut self.last, &mut self.targets, 0, line)? {
@@ -79,7 +100,7 @@ impl<'a, A: Allocator + Copy> PlainReader<'a, A> {
                 ..
             } => Ok(Step::Leaves),
             Said::Takes { operation, .. } => {
-                self.lines.add(operation, text, self.targets.as_slice())?;
+                self.keep(operation, text)?;
                 Ok(Step::Goes)
             }
             Said::Refuses(cause) => Ok(Step::Refuses(cause)),
@@ -87,43 +108,10 @@ impl<'a, A: Allocator + Copy> PlainReader<'a, A> {
         }
     }
 
-    /// Reads a line as it stands, where it is an error line that begins as one before it, and answers whether it did.
-    #[inline(always)]
-    fn pass_alike(&mut self, text: &'a [u8]) -> Result<bool, AllocError>
-        ensures passed { IfOk result (λ passed. passed ≡ true → (number : ℕ) → Passes Goes number text.now self.old.lines self.new.lines) }
-        ensures still { IfOk result (λ passed. passed ≡ false → self.new.lines ≡ self.old.lines) }
-    {
-        let Some(head) = self.head else {
-            return Ok(false);
-        };
-        let Some(targets) = behind_head(head.arguments, text) else {
-            return Ok(false);
-        };
-        let Some(counts) = counted(targets, self.lines.counts()) else {
-            return Ok(false);
-        };
-        self.lines.add_error(targets, counts)?;
-        Ok(true)
-    }
-
-    /// The same for an error line whose beginning is read anew. It is never inlined, so that it takes no registers from
-    /// the reading of lines that begin as one before them.
-    #[inline(never)]
-    fn pass_anew(&mut self, text: &'a [u8]) -> Result<bool, AllocError>
-        ensures passed { IfOk result (λ passed. passed ≡ true → (number : ℕ) → Passes Goes number text.now self.old.lines self.new.lines) }
-        ensures still { IfOk result (λ passed. passed ≡ false → self.new.lines ≡ self.old.lines) }
-    {
-        let Some(head) = head_in(&mut self.last.probability, text) else {
-            return Ok(false);
-        };
-        self.head = Some(head);
-        self.pass_alike(text)
-    }
-
     /// Reads any line, of this number, as it stands.
     fn pass_any(&mut self, number: u64, text: &'a [u8]) -> Result<Step, AllocError>
         requires { list_any is_line_feed text.now ≡ false }
-        ensures { IfOk result (λ step. Passes step number text.now self.old.lines self.new.lines) }
+        ensures { IfOk result (λ step. Passes step number text.now self.old.texts.items self.old.counts self.new.texts.items self.new.counts) }
     {
         match line_in(number, text) {
             Ok(Some(line)) => self.take(line),
@@ -136,11 +124,20 @@ impl<'a, A: Allocator + Copy> PlainReader<'a, A> {
     #[inline(always)]
     pub(crate) fn pass(&mut self, number: u64, text: &'a [u8]) -> Result<Step, AllocError>
         requires { list_any is_line_feed text.now ≡ false }
-        ensures { IfOk result (λ step. Passes step number text.now self.old.lines self.new.lines) }
+        ensures { IfOk result (λ step. Passes step number text.now self.old.texts.items self.old.counts self.new.texts.items self.new.counts) }
     {
-        if self.pass_alike(text)? || self.pass_anew(text)? {
-            return Ok(Step::Goes);
+        match error_in(
+            &mut self.head,
+            &mut self.last.probability,
+            self.counts,
+            text,
+        ) {
+            Some((targets, counts)) => {
+                self.texts.push(targets)?;
+                self.counts = counts;
+                Ok(Step::Goes)
+            }
+            None => self.pass_any(number, text),
         }
-        self.pass_any(number, text)
     }
 }

@@ -54,7 +54,7 @@ pub fn read_plain<'a, A: Allocator + Copy>(
             Err(_) => return Err(Fault::MEMORY),
         }
     }
-    match PlainModel::new(reader.lines) {
+    match PlainModel::new(reader.texts, reader.counts) {
         Ok(model) => Ok(Some(model)),
         Err(_) => Err(Fault::MEMORY),
     }

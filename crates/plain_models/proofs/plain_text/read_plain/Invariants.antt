@@ -5,7 +5,7 @@ use Rattle.plain_models.proofs.plain_text.read_plain.Given as goal
 
 abbrev pub invariant-loop-rest : goal.invariant-loop-rest
 invariant-loop-rest g l = record {
-  plain : IsPlain l.fn.text l.reader.lines l.number (lines_of l.rest);
+  plain : IsPlain l.fn.text l.reader.texts.items l.reader.counts l.number (lines_of l.rest);
   few : l.number + length l.rest ≤ length l.fn.text;
 }
 

@@ -10,8 +10,8 @@ use Rattle.dem_lines.specs.Verdicts.{Instruction, model_table}
 use Rattle.plain_models.proofs.PlainLemmas.{taken_targets}
 use Rattle.plain_models.proofs.plain_reader.PlainReader.take.Goals as goal
 
-pub add-requires : goal.add-requires
-add-requires g c =
+pub keep-requires : goal.keep-requires
+keep-requires g c =
     let number = c.args.line.number in
     let cut = cut_in c.args.line in
     let i : Instruction =
@@ -23,4 +23,4 @@ add-requires g c =
     } in
     let taken : Takes i ≡ reading_of model_table 0 number cut =
     sym (ap (λ (s : Said Operation). reading_in number s c.read_line.new.targets.items) c.in-Takes.is) ∙ c.in_ok-read_line.ensures in
-    c.as_slice.ensures.value ∙ taken_targets 0 number cut i taken
+    taken_targets number cut i taken
