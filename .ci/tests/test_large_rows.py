@@ -223,6 +223,11 @@ class LargeFaultLists(ProgramTest):
             output += f"{3 * k} 0.1 X{k % 201}\n{3 * k + 1} 0.02 rec[{k}]\n{3 * k + 2} 1e-3 {product}\n"
         self.check(["faults"], circuit, output + "coins 1000\n")
 
+    def test_5000_flips_of_records(self):
+        """The list goes out in several pieces."""
+        output = "".join(f"{k} 0.001 rec[{k}]\n" for k in range(5000)) + "coins 5000\n"
+        self.check(["faults"], "REPEAT 5000 {\nM(0.001) 0\n}\n", output)
+
     def test_3000_faults_in_a_block(self):
         """3,000 faults on qubit 200, and one more of 201 letters."""
         circuit = "REPEAT 3000 {\n    Y_ERROR(0.001) 200\n    MR 200\n}\nE(0.2)"

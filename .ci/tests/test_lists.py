@@ -1,5 +1,5 @@
 """Coins and lists of faults that are given to a run. All by hand."""
-from program import ProgramTest
+from program import ProgramTest, bits, listed
 
 # Two qubits, and a fault that flips both.
 PAIR = "X_ERROR(0.1) 0\nCX 0 1\nM 0 1\n"
@@ -52,3 +52,16 @@ class Lists(ProgramTest):
 
     def test_lists_are_refused(self):
         self.check_runs(REFUSED, 2)
+
+    def test_each_of_many_faults_happens(self):
+        """Each flips the qubit. A longer list doesn't fit a word of a command line."""
+        for count in 9, 99, 1_001, 20_000:
+            with self.subTest(count=count):
+                words = ["run", "--coins", "1", "--faults", listed(range(count))]
+                self.check(words, "X_ERROR(0.5) 0\n" * count + "M 0\n", f"{bits([count % 2])}\n\n")
+
+    def test_each_of_many_measurements_has_a_coin(self):
+        """None of them is random."""
+        for count in 9, 99, 1_001, 30_000, 130_000:
+            with self.subTest(count=count):
+                self.check(["run", "--coins", "1" * count], "M 0\n" * count, "0" * count + "\n\n")

@@ -1,5 +1,4 @@
 mod checks;
 mod examples;
 mod lengths;
-mod lists;
 mod rows;

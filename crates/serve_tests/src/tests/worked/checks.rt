@@ -6,7 +6,7 @@ use std::test::Fail;
 use step_model::{Fault, MemorySink, MemorySource};
 
 /// A run with these coins, or all 0, and these faults.
-pub(super) fn run_order<'o>(coins: Option<&'o str>, faults: &'o str) -> Order<'o> {
+fn run_order<'o>(coins: Option<&'o str>, faults: &'o str) -> Order<'o> {
     Order::Run {
         coins: coins.map(|text| text.as_bytes()),
         faults: faults.as_bytes(),
@@ -179,7 +179,7 @@ pub(super) fn repeated(alloc: Global, piece: &str, times: usize) -> Result<Strin
 }
 
 /// Pieces of a text, one after another.
-pub(super) fn joined(alloc: Global, pieces: &[&str]) -> Result<String, AllocError> {
+fn joined(alloc: Global, pieces: &[&str]) -> Result<String, AllocError> {
     let mut text = String::new(alloc);
     for piece in pieces {
         text.push_str(piece)?;

@@ -1,6 +1,6 @@
 //! Long texts, far lines and long numbers, with ample memory: none is answered with a want of memory.
 use super::checks::{check_model_of, check_refusal_of, check_run_of, check_taken_of, repeated};
-use std::alloc::{AllocError, Global};
+use std::alloc::Global;
 use std::process::Abort;
 use std::test::Fail;
 
@@ -112,21 +112,11 @@ fn long_probabilities(rt: HostRuntime) -> Result<(), Fail> {
     check_model_of(&rt, rt.alloc(), &pieces, &model)
 }
 
-/// The lines of a thousand errors that flip a detector each, and of the detectors.
-fn thousand_lines(alloc: Global) -> Result<String, AllocError> {
-    let mut model = String::new(alloc);
-    for detector in 0..1_000 {
-        writeln!(model, "error(0.001) D{detector}")?;
-    }
-    for detector in 0..1_000 {
-        writeln!(model, "detector D{detector}")?;
-    }
-    Ok(model)
-}
-
+/// An observable that a thousand errors flip, one in each turn.
 #[test]
 fn long_models(rt: HostRuntime) -> Result<(), Fail> {
-    let text = "REPEAT 1000 {\nX_ERROR(0.001) 0\nMR 0\nDETECTOR rec[-1]\n}\n";
-    let model = thousand_lines(rt.alloc())?;
-    check_model_of(&rt, rt.alloc(), &[text], &[model.as_str()])
+    let text = "REPEAT 1000 {\nX_ERROR(0.001) 0\nMR 0\nOBSERVABLE_INCLUDE(0) rec[-1]\n}\n";
+    let errors = repeated(rt.alloc(), "error(0.001) L0\n", 1_000)?;
+    let model = [errors.as_str(), "logical_observable L0\n"];
+    check_model_of(&rt, rt.alloc(), &[text], &model)
 }

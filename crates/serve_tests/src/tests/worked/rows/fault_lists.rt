@@ -49,15 +49,3 @@ fn fault_at_a_long_number(rt: HostRuntime) -> Result<(), Fail> {
     let pieces = ["H ", zeros, "5\nX_ERROR(0.1) ", zeros, "5\n"];
     check_fault_list_of(&rt, rt.alloc(), &pieces, "0 0.1 X5\ncoins 0\n")
 }
-
-/// So many faults that the list goes out in several pieces.
-#[test]
-fn many_faults(rt: HostRuntime) -> Result<(), Fail> {
-    let mut list = String::new(rt.alloc());
-    for fault in 0..5_000 {
-        writeln!(list, "{fault} 0.001 rec[{fault}]")?;
-    }
-    list.push_str("coins 5000\n")?;
-    let text = "REPEAT 5000 {\nM(0.001) 0\n}\n";
-    check_fault_list_of(&rt, rt.alloc(), &[text], list.as_str())
-}
