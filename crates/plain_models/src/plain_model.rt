@@ -41,7 +41,7 @@ fn turn_named<A: Allocator + Copy>(
     ensures { IfOk result (λ _. bits.new ≡ (if named then turned bits.old (numbers_of detectors (read_targets text.now)) else bits.old)) }
 {
     if named && read_targets(targets, text)? {
-        turn_targets(bits, detectors, targets.as_slice())?;
+        turn_targets(bits, detectors, targets.as_slice());
     }
     Ok(())
 }

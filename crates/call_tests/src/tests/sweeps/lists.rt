@@ -232,7 +232,7 @@ fn held_texts_are_right(ration: Ration<'_>) -> Result<bool, Fault> {
 }
 
 /// Puts a line of 20 bytes, and one of 68 with many targets, which goes in parts.
-fn put_two<'m>(lines: &mut LinesText<'static, Memory<'m>>, text: u32) -> Result<(), AllocError>
+fn put_two<'m>(lines: &mut LinesText<'static, Memory<'m>>, text: usize) -> Result<(), AllocError>
     requires text { text < length lines.old.texts }
     requires targets { lines.old.targets ≡ 3 }
     ensures texts { lines.new.texts ≡ lines.old.texts }
