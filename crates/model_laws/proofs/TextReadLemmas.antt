@@ -19,7 +19,7 @@ use Rattle.dem_parser.specs.Meanings.{detectors_to, observables_to, detector_cou
 use Rattle.dem_parser.specs.Models.{is_beyond, is_far, model_in, model_of_items, model_of_tree, placed_lines, refusal_of_tree, unless_refused_by}
 use Rattle.dem_lines.specs.Reached.{block_lines, reached}
 use Rattle.dem_parser.specs.Shifts.{Placed, Shift, coordinates_given, moved, no_shift, placed_at, placed_from, shift_after, target_at}
-use Rattle.dem_lines.specs.Texts.{Does, models}
+use Rattle.dem_lines.specs.Texts.{Item, Does, models}
 use Rattle.dem_lines.specs.Trees.{Tree, Nothing, Then, items_of}
 use Rattle.dem_lines.specs.Verdicts.{Instruction, model_table}
 use Rattle.model_laws.proofs.CutLemmas.{lines_of-line}
@@ -110,7 +110,7 @@ items_of-then_all (i ∷ instructions) = ap (λ items. Does i ∷ items) (items_
 
 tree_found : (instructions : List Instruction) → tree_of (map Does instructions) ≡ then_all instructions
 tree_found instructions =
-    ap (λ items. tree_of items) (sym (items_of-then_all instructions)) ∙ tree_of-items (then_all instructions)
+    ap (λ (items : List Item). tree_of items) (sym (items_of-then_all instructions)) ∙ tree_of-items (then_all instructions)
 
 all_reached : (instructions : List Instruction) → reached (then_all instructions) ≡ instructions
 all_reached [] = refl
