@@ -2,9 +2,10 @@
 -- the first: the end of a block starts a body, and the start of a block takes the body that was found.
 -- (Stim's detector error model format, github.com/quantumlib/Stim, doc/file_format_dem_detector_error_model.md,
 -- "repeat".)
-use Rattle.std.specs.Prelude.{◌≡◌, List}
+use Rattle.std.specs.Prelude.{List}
 use Rattle.std.specs.Coded.{Coded}
 use Rattle.block_text.specs.Flat as flat
+pub use Rattle.block_text.specs.Flat.{tree_of, tree_of-items}
 use Rattle.block_text.specs.Instructions.{coded_instruction}
 use Rattle.dem_lines.specs.declared.lines.Item as lines
 use Rattle.dem_lines.specs.declared.instruction.Instruction as instruction
@@ -14,16 +15,8 @@ use Rattle.dem_lines.specs.contracts.target.Target as target
 use Rattle.stim_parser.specs.Arguments.{arguments_in}
 use Rattle.dem_lines.specs.Fitting.{Fits}
 use Rattle.dem_lines.specs.Texts.{Item, Does, Begins, Ends}
-use Rattle.dem_lines.specs.Trees.{Tree, items_of}
+use Rattle.dem_lines.specs.Trees.{Tree}
 use Rattle.dem_lines.specs.Verdicts.{Instruction}
-
--- ---- the tree of items
-
-abbrev pub tree_of : List Item → Tree
-tree_of items = flat.tree_of items
-
-pub tree_of-items : (t : Tree) → tree_of (items_of t) ≡ t
-tree_of-items t = flat.tree_of-items t
 
 -- these are the items of an error model
 abbrev pub IsWritten : List Item → Type 0

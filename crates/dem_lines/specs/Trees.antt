@@ -6,18 +6,14 @@ use Rattle.std.specs.Prelude.{ℕ, List}
 use Rattle.step_model.specs.declared.fault.Fault.{Fault}
 use Rattle.block_text.specs.Texts as text
 use Rattle.block_text.specs.Trees as trees
-pub use Rattle.block_text.specs.Trees.{Nothing, Then, Block}
-use Rattle.dem_lines.specs.Texts.{Item, models}
+pub use Rattle.block_text.specs.Trees.{Nothing, Then, Block, items_of}
+use Rattle.dem_lines.specs.Texts.{models}
 use Rattle.dem_lines.specs.Verdicts.{Instruction}
 
 -- what stands in a model or in a block, from the first on: nothing; an instruction and the rest; or a block, with its line,
 -- its turns and its body, and the rest
 abbrev pub Tree : Type 0
 Tree = trees.Tree Instruction
-
--- the items that a tree says, in their order
-abbrev pub items_of : Tree → List Item
-items_of tree = trees.items_of tree
 
 -- a text writes this tree; a text is refused by this fault
 abbrev pub Writes : List ℕ → Tree → Type 0

@@ -15,6 +15,7 @@ use Rattle.step_model.specs.declared.fault.Cause.TheVariants as cause
 use Rattle.block_text.specs.Instructions as lines
 use Rattle.stim_parser.specs.Judging.{Table}
 use Rattle.stim_parser.specs.Numbers.{greatest_number}
+use Rattle.dem_lines.specs.declared.forms.TargetForm.{TargetForm}
 use Rattle.dem_lines.specs.declared.operation.Operation.{Operation}
 use Rattle.dem_lines.specs.declared.target.Target.{Target}
 use Rattle.dem_lines.specs.declared.target.Target.TheVariants.{Plain}
@@ -35,17 +36,18 @@ abbrev pub number_in : List Target → ℕ
 number_in (Plain n ∷ rest) = n
 number_in targets = 0
 
-abbrev pub model_table : Table Operation Target
+abbrev pub model_table : Table Operation Target TargetForm
 model_table =
     record {
       keyword_named = keyword_named;
       refusal_of_name = λ name. cause.DemName;
       argument_form = argument_form;
       greatest_coordinate = greatest_number;
-      line_targets = λ keyword. targets_in;
-      are_of_form = λ keyword. are_of_form (target_form keyword);
-      has_target_beyond = λ keyword. has_target_beyond;
-      refusals_of_targets = λ keyword text targets. [];
+      target_form = target_form;
+      line_targets = λ form. targets_in;
+      are_of_form = are_of_form;
+      has_target_beyond = λ form. has_target_beyond;
+      refusals_of_targets = λ form text targets. [];
       turns_of = number_in;
       causes = record {
         block = cause.DemBlock;

@@ -1,5 +1,5 @@
 ghost use Rattle.std.specs.Prelude.{◌≡◌};
-ghost use Rattle.std.specs.List.{list_all, list_any};
+ghost use Rattle.std.specs.List.{list_all};
 ghost use Rattle.stim_parser.specs.Numbers.{is_number_beyond};
 ghost use Rattle.dem_lines.specs.Limits.{are_of_form, has_target_beyond, is_detector, is_effect, is_observable, is_one_number, is_target_beyond};
 

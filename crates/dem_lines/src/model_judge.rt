@@ -1,11 +1,11 @@
-ghost use Rattle.std.specs.Prelude.{◌≡◌, None, Some, false, IfOk, MatchBool};
+ghost use Rattle.std.specs.Prelude.{◌≡◌, IfOk};
 ghost use Rattle.stim_lexer.specs.Lexing.{cut_in};
 ghost use Rattle.block_text.specs.Said.{reading_in};
-ghost use Rattle.stim_parser.specs.Judging.{first_of, reading_of};
+ghost use Rattle.stim_parser.specs.Judging.{reading_of};
 ghost use Rattle.dem_lines.specs.Verdicts.{model_table, number_in};
 
 use crate::checks::{GREATEST_NUMBER, are_of_form, has_target_beyond};
-use crate::forms::{argument_form, target_form};
+use crate::forms::{TargetForm, argument_form, target_form};
 use crate::names::keyword_named;
 use crate::operation::Operation;
 use crate::target::{Target, read_targets};
@@ -28,7 +28,7 @@ pub fn number_in(targets: &[Target]) -> u64
 /// The judge of an error model's lines.
 pub(crate) struct ModelJudge;
 
-impl Judge<Operation, Target> for ModelJudge {
+impl Judge<Operation, Target, TargetForm> for ModelJudge {
     ghost table = { model_table };
 
     #[inline(always)]
@@ -54,41 +54,33 @@ impl Judge<Operation, Target> for ModelJudge {
     }
 
     #[inline(always)]
+    fn target_form(keyword: Keyword<Operation>) -> TargetForm
+        ensures { result ≡ model_table.target_form keyword }
+    {
+        target_form(keyword)
+    }
+
+    #[inline(always)]
     fn read_targets<A: Allocator + Copy>(
         targets: &mut Vec<Target, A>,
-        keyword: Keyword<Operation>,
+        _: TargetForm,
         text: &[u8],
-    ) -> Result<bool, AllocError>
-        ensures { IfOk result (λ all. MatchBool all
-            (model_table.line_targets keyword text.now ≡ Some targets.new.items)
-            (model_table.line_targets keyword text.now ≡ None)) }
-    {
+    ) -> Result<bool, AllocError> {
         read_targets(targets, text)
     }
 
     #[inline(always)]
-    fn are_of_form(keyword: Keyword<Operation>, targets: &[Target]) -> bool
-        ensures { result ≡ model_table.are_of_form keyword targets.now }
-    {
-        are_of_form(target_form(keyword), targets)
+    fn are_of_form(form: TargetForm, targets: &[Target]) -> bool {
+        are_of_form(form, targets)
     }
 
     #[inline(always)]
-    fn has_target_beyond(keyword: Keyword<Operation>, targets: &[Target]) -> bool
-        ensures { result ≡ model_table.has_target_beyond keyword targets.now }
-    {
+    fn has_target_beyond(_: TargetForm, targets: &[Target]) -> bool {
         has_target_beyond(targets)
     }
 
     #[inline(always)]
-    fn refusal_of_targets(
-        keyword: Keyword<Operation>,
-        text: &[u8],
-        targets: &[Target],
-    ) -> Option<Cause>
-        requires { model_table.has_target_beyond keyword targets.now ≡ false }
-        ensures { result ≡ first_of (model_table.refusals_of_targets keyword text.now targets.now) }
-    {
+    fn refusal_of_targets(_: TargetForm, _: &[u8], _: &[Target]) -> Option<Cause> {
         None
     }
 
@@ -121,5 +113,7 @@ pub fn read_line<'a, A: Allocator + Copy>(
 ) -> Result<Said<'a, Operation>, AllocError>
     ensures { IfOk result (λ said. reading_in line.entry.number said targets.new.items ≡ reading_of model_table depth line.entry.number (cut_in line.entry)) }
 {
-    stim_parser::read_line::<Operation, Target, ModelJudge, A>(last, targets, depth, line)
+    stim_parser::read_line::<Operation, Target, TargetForm, ModelJudge, A>(
+        last, targets, depth, line,
+    )
 }

@@ -1,8 +1,8 @@
 ghost use Rattle.std.specs.Prelude.{◌≡◌, ◌⊎◌, IfOk, IfErr};
 ghost use Rattle.step_model.specs.Faults.{memory_fault};
-ghost use Rattle.dem_lines.specs.Texts.{models};
 ghost use Rattle.dem_lines.specs.Trees.{Writes, IsRefusedBy};
 
+use crate::forms::TargetForm;
 use crate::lines::ModelLines;
 use crate::model_judge::ModelJudge;
 use crate::operation::Operation;
@@ -17,6 +17,6 @@ pub fn parse<'a, A: Allocator + Copy>(alloc: A, text: &'a [u8]) -> Result<ModelL
     ensures ok { IfOk result (λ model. Writes text.now model) }
     ensures err { IfErr result (λ fault. (fault ≡ memory_fault) ⊎ IsRefusedBy text.now fault) }
 {
-    let items = read_items::<Operation, Target, ModelJudge, A>(alloc, text)?;
+    let items = read_items::<Operation, Target, TargetForm, ModelJudge, A>(alloc, text)?;
     Ok(ModelLines::new(items))
 }

@@ -15,27 +15,27 @@ use Rattle.stim_parser.specs.declared.table.Keyword.TheVariants.{Does, Repeats}
 use Rattle.stim_parser.specs.Judging.{Table, accepted, closed_at, judged, read_targets, reading_of, refusal_of, refusals, refusals_of_keyword, refusals_of_name, said_by, unless_refused}
 
 -- an instruction fits where no question of its line applies
-abbrev pub TakesFitting : {O T : Type 0} → Table O T → (Instruction O T → Type 0) → Type 0
+abbrev pub TakesFitting : {O T F : Type 0} → Table O T F → (Instruction O T → Type 0) → Type 0
 TakesFitting {O} table Fits =
     (depth number : ℕ) (operation : O) (cut : Cut) → table.keyword_named cut.name ≡ Some (Does operation)
     → NoneApplies (refusals_of_keyword table depth (Does operation) cut) → ReadingFits Fits depth (accepted table number (Some (Does operation)) cut)
 
-named_fits : {O T : Type 0} (table : Table O T) (Fits : Instruction O T → Type 0) → TakesFitting table Fits → (depth number : ℕ) (named : Option (Keyword O)) (cut : Cut) → table.keyword_named cut.name ≡ named
+named_fits : {O T F : Type 0} (table : Table O T F) (Fits : Instruction O T → Type 0) → TakesFitting table Fits → (depth number : ℕ) (named : Option (Keyword O)) (cut : Cut) → table.keyword_named cut.name ≡ named
     → NoneApplies (refusals_of_name table depth named cut) → ReadingFits Fits depth (accepted table number named cut)
 named_fits table Fits fits depth number None cut e h = absurd (true≢false h.0)
 named_fits table Fits fits depth number (Some (Does operation)) cut e h = fits depth number operation cut e h
 named_fits table Fits fits depth number (Some Repeats) cut e h =
-    let block = none_behind (table.refusals_of_targets Repeats cut.targets (read_targets table Repeats cut.targets)) _ h.1.1.1.1 in
+    let block = none_behind (table.refusals_of_targets (table.target_form Repeats) cut.targets (read_targets table (table.target_form Repeats) cut.targets)) _ h.1.1.1.1 in
     (not_zero _ block.0, not_deep _ block.1.0)
 
-unless_fits : {O T : Type 0} (table : Table O T) (Fits : Instruction O T → Type 0) → TakesFitting table Fits → (depth number : ℕ) (cut : Cut) (refusal : Option Cause) → refusal ≡ refusal_of table depth cut
+unless_fits : {O T F : Type 0} (table : Table O T F) (Fits : Instruction O T → Type 0) → TakesFitting table Fits → (depth number : ℕ) (cut : Cut) (refusal : Option Cause) → refusal ≡ refusal_of table depth cut
     → ReadingFits Fits depth (unless_refused refusal (accepted table number (table.keyword_named cut.name) cut))
 unfolding refusal_of
 unless_fits table Fits fits depth number cut (Some c) h = tt
 unless_fits table Fits fits depth number cut None h =
     named_fits table Fits fits depth number (table.keyword_named cut.name) cut refl (none_applies (refusals table depth cut) (sym h)).1
 
-judged_fits : {O T : Type 0} (table : Table O T) (Fits : Instruction O T → Type 0) → TakesFitting table Fits → (depth number : ℕ) (cut : Cut) → ReadingFits Fits depth (judged table depth number cut)
+judged_fits : {O T F : Type 0} (table : Table O T F) (Fits : Instruction O T → Type 0) → TakesFitting table Fits → (depth number : ℕ) (cut : Cut) → ReadingFits Fits depth (judged table depth number cut)
 unfolding judged
 judged_fits table Fits fits depth number cut = unless_fits table Fits fits depth number cut (refusal_of table depth cut) refl
 
@@ -46,12 +46,12 @@ closed_fits Fits causes depth =
       | inr e ↦ let some : 0 < depth = not_zero depth e in rw e some
     ]
 
-said_fits : {O T : Type 0} (table : Table O T) (Fits : Instruction O T → Type 0) → TakesFitting table Fits → (braces : Braces) (depth number : ℕ) (cut : Cut) → ReadingFits Fits depth (said_by table braces depth number cut)
+said_fits : {O T F : Type 0} (table : Table O T F) (Fits : Instruction O T → Type 0) → TakesFitting table Fits → (braces : Braces) (depth number : ℕ) (cut : Cut) → ReadingFits Fits depth (said_by table braces depth number cut)
 said_fits table Fits fits ClosingAlone depth number cut = closed_fits Fits table.causes depth
 said_fits table Fits fits NoBrace depth number cut = judged_fits table Fits fits depth number cut
 said_fits table Fits fits OpeningLast depth number cut = judged_fits table Fits fits depth number cut
 said_fits table Fits fits Misplaced depth number cut = judged_fits table Fits fits depth number cut
 
-pub readings_fit : {O T : Type 0} (table : Table O T) (Fits : Instruction O T → Type 0) → TakesFitting table Fits → (depth number : ℕ) (cut : Cut) → ReadingFits Fits depth (reading_of table depth number cut)
+pub readings_fit : {O T F : Type 0} (table : Table O T F) (Fits : Instruction O T → Type 0) → TakesFitting table Fits → (depth number : ℕ) (cut : Cut) → ReadingFits Fits depth (reading_of table depth number cut)
 unfolding reading_of
 readings_fit table Fits fits depth number cut = said_fits table Fits fits cut.braces depth number cut

@@ -33,24 +33,24 @@ first_of-append (x ∷ xs) ys =
 
 -- ---- the keyword
 
-pub refusal-brace : {O T : Type 0} (table : Table O T) (depth : ℕ) (cut : Cut) → misplaces_brace (table.keyword_named cut.name) cut.braces ≡ true
+pub refusal-brace : {O T F : Type 0} (table : Table O T F) (depth : ℕ) (cut : Cut) → misplaces_brace (table.keyword_named cut.name) cut.braces ≡ true
     → refusal_of table depth cut ≡ Some table.causes.block
 unfolding refusal_of
 refusal-brace table depth cut e =
     applies _ table.causes.block (refusals_of_name table depth (table.keyword_named cut.name) cut) e
 
-refusal-placed : {O T : Type 0} (table : Table O T) (depth : ℕ) (cut : Cut) (named : Option (Keyword O)) → table.keyword_named cut.name ≡ named → misplaces_brace named cut.braces ≡ false
+refusal-placed : {O T F : Type 0} (table : Table O T F) (depth : ℕ) (cut : Cut) (named : Option (Keyword O)) → table.keyword_named cut.name ≡ named → misplaces_brace named cut.braces ≡ false
     → refusal_of table depth cut ≡ first_of (refusals_of_name table depth named cut)
 unfolding refusal_of
 refusal-placed {O} table depth cut named n e =
     ap (λ (k : Option (Keyword O)). first_of ((misplaces_brace k cut.braces, table.causes.block) ∷ refusals_of_name table depth k cut)) n
     ∙ passes _ table.causes.block (refusals_of_name table depth named cut) e
 
-pub refusal-name : {O T : Type 0} (table : Table O T) (depth : ℕ) (cut : Cut) → table.keyword_named cut.name ≡ None → misplaces_brace {O = O} None cut.braces ≡ false
+pub refusal-name : {O T F : Type 0} (table : Table O T F) (depth : ℕ) (cut : Cut) → table.keyword_named cut.name ≡ None → misplaces_brace {O = O} None cut.braces ≡ false
     → refusal_of table depth cut ≡ Some (table.refusal_of_name cut.name)
 refusal-name table depth cut n e = refusal-placed table depth cut None n e
 
-pub refusal-keyword : {O T : Type 0} (table : Table O T) (depth : ℕ) (cut : Cut) (keyword : Keyword O) → table.keyword_named cut.name ≡ Some keyword → misplaces_brace (Some keyword) cut.braces ≡ false
+pub refusal-keyword : {O T F : Type 0} (table : Table O T F) (depth : ℕ) (cut : Cut) (keyword : Keyword O) → table.keyword_named cut.name ≡ Some keyword → misplaces_brace (Some keyword) cut.braces ≡ false
     → refusal_of table depth cut ≡ first_of (refusals_of_keyword table depth keyword cut)
 refusal-keyword table depth cut keyword n e = refusal-placed table depth cut (Some keyword) n e
 
@@ -115,64 +115,66 @@ no_arguments causes greatest form cut asked closed none =
 
 -- ---- a line's targets
 
-pub wrong_target-at : {O T : Type 0} (table : Table O T) (keyword : Keyword O) (text : List ℕ) (found : Option (List T)) → table.line_targets keyword text ≡ found
-    → has_wrong_target table keyword text ≡ (is_none found || not (table.are_of_form keyword (unwrap_or found [])))
-wrong_target-at {O} {T} table keyword text found e =
-    ap (λ (o : Option (List T)). is_none o || not (table.are_of_form keyword (unwrap_or o []))) e
+pub wrong_target-at : {O T F : Type 0} (table : Table O T F) (form : F) (text : List ℕ) (found : Option (List T)) → table.line_targets form text ≡ found
+    → has_wrong_target table form text ≡ (is_none found || not (table.are_of_form form (unwrap_or found [])))
+wrong_target-at {O} {T} table form text found e =
+    ap (λ (o : Option (List T)). is_none o || not (table.are_of_form form (unwrap_or o []))) e
 
-pub read_targets-at : {O T : Type 0} (table : Table O T) (keyword : Keyword O) (text : List ℕ) (found : Option (List T)) → table.line_targets keyword text ≡ found → read_targets table keyword text ≡ unwrap_or found []
-read_targets-at {O} {T} table keyword text found e = ap (λ (o : Option (List T)). unwrap_or o []) e
+pub read_targets-at : {O T F : Type 0} (table : Table O T F) (form : F) (text : List ℕ) (found : Option (List T)) → table.line_targets form text ≡ found → read_targets table form text ≡ unwrap_or found []
+read_targets-at {O} {T} table form text found e = ap (λ (o : Option (List T)). unwrap_or o []) e
 
 -- ---- a keyword's arguments, targets and amounts
 
-keyword-after : {O T : Type 0} (table : Table O T) (depth : ℕ) (keyword : Keyword O) (cut : Cut) (found : Option Cause) → first_of (refusals_of_arguments table.causes (table.argument_form keyword) cut) ≡ found
+keyword-after : {O T F : Type 0} (table : Table O T F) (depth : ℕ) (keyword : Keyword O) (cut : Cut) (found : Option Cause) → first_of (refusals_of_arguments table.causes (table.argument_form keyword) cut) ≡ found
     → first_of (refusals_of_keyword table depth keyword cut)
-    ≡ option_or found (first_of ((has_wrong_target table keyword cut.targets, table.causes.target) ∷ refusals_of_amounts table depth keyword cut))
+    ≡ option_or found (first_of ((has_wrong_target table (table.target_form keyword) cut.targets, table.causes.target) ∷ refusals_of_amounts table depth keyword cut))
 keyword-after table depth keyword cut found e =
-    let rest : List (Bool × Cause) = (has_wrong_target table keyword cut.targets, table.causes.target) ∷ refusals_of_amounts table depth keyword cut in
+    let rest : List (Bool × Cause) = (has_wrong_target table (table.target_form keyword) cut.targets, table.causes.target) ∷ refusals_of_amounts table depth keyword cut in
     first_of-append (refusals_of_arguments table.causes (table.argument_form keyword) cut) rest ∙ ap (λ o. option_or o (first_of rest)) e
 
-pub keyword-arguments : {O T : Type 0} (table : Table O T) (depth : ℕ) (keyword : Keyword O) (cut : Cut) (c : Cause) → first_of (refusals_of_arguments table.causes (table.argument_form keyword) cut) ≡ Some c
+pub keyword-arguments : {O T F : Type 0} (table : Table O T F) (depth : ℕ) (keyword : Keyword O) (cut : Cut) (c : Cause) → first_of (refusals_of_arguments table.causes (table.argument_form keyword) cut) ≡ Some c
     → first_of (refusals_of_keyword table depth keyword cut) ≡ Some c
 keyword-arguments table depth keyword cut c e = keyword-after table depth keyword cut (Some c) e
 
-pub keyword-target : {O T : Type 0} (table : Table O T) (depth : ℕ) (keyword : Keyword O) (cut : Cut) → first_of (refusals_of_arguments table.causes (table.argument_form keyword) cut) ≡ None
-    → has_wrong_target table keyword cut.targets ≡ true → first_of (refusals_of_keyword table depth keyword cut) ≡ Some table.causes.target
+pub keyword-target : {O T F : Type 0} (table : Table O T F) (depth : ℕ) (keyword : Keyword O) (cut : Cut) → first_of (refusals_of_arguments table.causes (table.argument_form keyword) cut) ≡ None
+    → has_wrong_target table (table.target_form keyword) cut.targets ≡ true → first_of (refusals_of_keyword table depth keyword cut) ≡ Some table.causes.target
 keyword-target table depth keyword cut e t =
     keyword-after table depth keyword cut None e ∙ applies _ table.causes.target (refusals_of_amounts table depth keyword cut) t
 
-pub keyword-amounts : {O T : Type 0} (table : Table O T) (depth : ℕ) (keyword : Keyword O) (cut : Cut) → first_of (refusals_of_arguments table.causes (table.argument_form keyword) cut) ≡ None
-    → has_wrong_target table keyword cut.targets ≡ false → first_of (refusals_of_keyword table depth keyword cut) ≡ first_of (refusals_of_amounts table depth keyword cut)
+pub keyword-amounts : {O T F : Type 0} (table : Table O T F) (depth : ℕ) (keyword : Keyword O) (cut : Cut) → first_of (refusals_of_arguments table.causes (table.argument_form keyword) cut) ≡ None
+    → has_wrong_target table (table.target_form keyword) cut.targets ≡ false → first_of (refusals_of_keyword table depth keyword cut) ≡ first_of (refusals_of_amounts table depth keyword cut)
 keyword-amounts table depth keyword cut e t =
     keyword-after table depth keyword cut None e ∙ passes _ table.causes.target (refusals_of_amounts table depth keyword cut) t
 
-pub amounts-number : {O T : Type 0} (table : Table O T) (depth : ℕ) (keyword : Keyword O) (cut : Cut) → has_number_beyond table keyword cut ≡ true
+pub amounts-number : {O T F : Type 0} (table : Table O T F) (depth : ℕ) (keyword : Keyword O) (cut : Cut) → has_number_beyond table keyword cut ≡ true
     → first_of (refusals_of_amounts table depth keyword cut) ≡ Some table.causes.number
 amounts-number table depth keyword cut e =
-    let targets = read_targets table keyword cut.targets in
+    let form = table.target_form keyword in
+    let targets = read_targets table form cut.targets in
     applies (has_number_beyond table keyword cut) table.causes.number
-    (table.refusals_of_targets keyword cut.targets targets ++ refusals_of_block table.causes depth keyword (table.turns_of targets)) e
+    (table.refusals_of_targets form cut.targets targets ++ refusals_of_block table.causes depth keyword (table.turns_of targets)) e
 
 -- what the questions of the targets give, or else those of the block
-pub amounts-targets : {O T : Type 0} (table : Table O T) (depth : ℕ) (keyword : Keyword O) (cut : Cut) (found : Option Cause) → has_number_beyond table keyword cut ≡ false
-    → first_of (table.refusals_of_targets keyword cut.targets (read_targets table keyword cut.targets)) ≡ found
+pub amounts-targets : {O T F : Type 0} (table : Table O T F) (depth : ℕ) (keyword : Keyword O) (cut : Cut) (found : Option Cause) → has_number_beyond table keyword cut ≡ false
+    → first_of (table.refusals_of_targets (table.target_form keyword) cut.targets (read_targets table (table.target_form keyword) cut.targets)) ≡ found
     → first_of (refusals_of_amounts table depth keyword cut)
-    ≡ option_or found (first_of (refusals_of_block table.causes depth keyword (table.turns_of (read_targets table keyword cut.targets))))
+    ≡ option_or found (first_of (refusals_of_block table.causes depth keyword (table.turns_of (read_targets table (table.target_form keyword) cut.targets))))
 amounts-targets table depth keyword cut found e f =
-    let targets = read_targets table keyword cut.targets in
+    let form = table.target_form keyword in
+    let targets = read_targets table form cut.targets in
     let block = refusals_of_block table.causes depth keyword (table.turns_of targets) in
-    passes (has_number_beyond table keyword cut) table.causes.number (table.refusals_of_targets keyword cut.targets targets ++ block) e
-    ∙ first_of-append (table.refusals_of_targets keyword cut.targets targets) block
+    passes (has_number_beyond table keyword cut) table.causes.number (table.refusals_of_targets form cut.targets targets ++ block) e
+    ∙ first_of-append (table.refusals_of_targets form cut.targets targets) block
     ∙ ap (λ o. option_or o (first_of block)) f
 
 -- ---- a line
 
-pub judged-refused : {O T : Type 0} (table : Table O T) (depth number : ℕ) (cut : Cut) (c : Cause) → refusal_of table depth cut ≡ Some c → judged table depth number cut ≡ Refuses c
+pub judged-refused : {O T F : Type 0} (table : Table O T F) (depth number : ℕ) (cut : Cut) (c : Cause) → refusal_of table depth cut ≡ Some c → judged table depth number cut ≡ Refuses c
 unfolding judged
 judged-refused table depth number cut c e =
     ap (λ (refusal : Option Cause). unless_refused refusal (accepted table number (table.keyword_named cut.name) cut)) e
 
-pub judged-accepted : {O T : Type 0} (table : Table O T) (depth number : ℕ) (cut : Cut) (keyword : Keyword O) → table.keyword_named cut.name ≡ Some keyword → refusal_of table depth cut ≡ None
+pub judged-accepted : {O T F : Type 0} (table : Table O T F) (depth number : ℕ) (cut : Cut) (keyword : Keyword O) → table.keyword_named cut.name ≡ Some keyword → refusal_of table depth cut ≡ None
     → judged table depth number cut ≡ accepted table number (Some keyword) cut
 unfolding judged
 judged-accepted {O} table depth number cut keyword n e =

@@ -26,18 +26,20 @@ use Rattle.stim_parser.specs.Arguments.{arguments_in}
 use Rattle.stim_parser.specs.Limits.{has_wrong_arguments, has_wrong_probability, has_argument_beyond}
 
 -- what a format says of its lines: what a name names, and why a name is refused that names nothing; which arguments a
--- keyword takes, and the greatest magnitude of a coordinate among them; the targets of a line, where each can be read;
--- whether targets are of the keyword's form, whether one is beyond its limit, and what else is asked of them; how often a
--- block is repeated, by the targets of its line; and the causes of refusals
-pub record Table (O T : Type 0) : Type 0 where
+-- keyword takes, and the greatest magnitude of a coordinate among them; the form of the targets that a keyword takes, by
+-- which are told the targets of a line, where each can be read, whether they are of the form, whether one is beyond its
+-- limit, and what else is asked of them; how often a block is repeated, by the targets of its line; and the causes of
+-- refusals
+pub record Table (O T F : Type 0) : Type 0 where
   pub keyword_named : List ℕ → Option (Keyword O)
   pub refusal_of_name : List ℕ → Cause
   pub argument_form : Keyword O → ArgumentForm
   pub greatest_coordinate : ℕ
-  pub line_targets : Keyword O → List ℕ → Option (List T)
-  pub are_of_form : Keyword O → List T → Bool
-  pub has_target_beyond : Keyword O → List T → Bool
-  pub refusals_of_targets : Keyword O → List ℕ → List T → List (Bool × Cause)
+  pub target_form : Keyword O → F
+  pub line_targets : F → List ℕ → Option (List T)
+  pub are_of_form : F → List T → Bool
+  pub has_target_beyond : F → List T → Bool
+  pub refusals_of_targets : F → List ℕ → List T → List (Bool × Cause)
   pub turns_of : List T → ℕ
   pub causes : Causes
 
@@ -69,18 +71,19 @@ refusals_of_arguments causes form cut =
     ∷ (has_wrong_probability form (arguments_in cut.arguments), causes.probability)
     ∷ []
 
--- the targets of a line
-abbrev pub read_targets : {O T : Type 0} → Table O T → Keyword O → List ℕ → List T
-read_targets table keyword text = unwrap_or (table.line_targets keyword text) []
+-- the targets of a line, of this form
+abbrev pub read_targets : {O T F : Type 0} → Table O T F → F → List ℕ → List T
+read_targets table form text = unwrap_or (table.line_targets form text) []
 
-abbrev pub has_wrong_target : {O T : Type 0} → Table O T → Keyword O → List ℕ → Bool
-has_wrong_target table keyword text =
-    is_none (table.line_targets keyword text) || not (table.are_of_form keyword (read_targets table keyword text))
+abbrev pub has_wrong_target : {O T F : Type 0} → Table O T F → F → List ℕ → Bool
+has_wrong_target table form text =
+    is_none (table.line_targets form text) || not (table.are_of_form form (read_targets table form text))
 
-abbrev pub has_number_beyond : {O T : Type 0} → Table O T → Keyword O → Cut → Bool
+abbrev pub has_number_beyond : {O T F : Type 0} → Table O T F → Keyword O → Cut → Bool
 has_number_beyond table keyword cut =
+    let form = table.target_form keyword in
     has_argument_beyond table.greatest_coordinate (table.argument_form keyword) (arguments_in cut.arguments)
-    || table.has_target_beyond keyword (read_targets table keyword cut.targets)
+    || table.has_target_beyond form (read_targets table form cut.targets)
 
 abbrev pub opens_block : {O : Type 0} → Keyword O → Bool
 opens_block Repeats = true
@@ -96,46 +99,47 @@ refusals_of_block causes depth keyword turns =
 -- ---- the questions in their order
 
 -- the questions of numbers and of how many targets there are, which are asked where each target is of its form
-abbrev pub refusals_of_amounts : {O T : Type 0} → Table O T → ℕ → Keyword O → Cut → List (Bool × Cause)
+abbrev pub refusals_of_amounts : {O T F : Type 0} → Table O T F → ℕ → Keyword O → Cut → List (Bool × Cause)
 refusals_of_amounts table depth keyword cut =
-    let targets = read_targets table keyword cut.targets in
+    let form = table.target_form keyword in
+    let targets = read_targets table form cut.targets in
     (has_number_beyond table keyword cut, table.causes.number)
-    ∷ (table.refusals_of_targets keyword cut.targets targets
+    ∷ (table.refusals_of_targets form cut.targets targets
     ++ refusals_of_block table.causes depth keyword (table.turns_of targets))
 
 -- the questions of a line with this keyword, of one with a keyword or none, and of any line
-abbrev pub refusals_of_keyword : {O T : Type 0} → Table O T → ℕ → Keyword O → Cut → List (Bool × Cause)
+abbrev pub refusals_of_keyword : {O T F : Type 0} → Table O T F → ℕ → Keyword O → Cut → List (Bool × Cause)
 refusals_of_keyword table depth keyword cut =
     refusals_of_arguments table.causes (table.argument_form keyword) cut
-    ++ (has_wrong_target table keyword cut.targets, table.causes.target)
+    ++ (has_wrong_target table (table.target_form keyword) cut.targets, table.causes.target)
     ∷ refusals_of_amounts table depth keyword cut
 
-abbrev pub refusals_of_name : {O T : Type 0} → Table O T → ℕ → Option (Keyword O) → Cut → List (Bool × Cause)
+abbrev pub refusals_of_name : {O T F : Type 0} → Table O T F → ℕ → Option (Keyword O) → Cut → List (Bool × Cause)
 refusals_of_name table depth None cut = (true, table.refusal_of_name cut.name) ∷ []
 refusals_of_name table depth (Some keyword) cut = refusals_of_keyword table depth keyword cut
 
-abbrev pub refusals : {O T : Type 0} → Table O T → ℕ → Cut → List (Bool × Cause)
+abbrev pub refusals : {O T F : Type 0} → Table O T F → ℕ → Cut → List (Bool × Cause)
 refusals table depth cut =
     (misplaces_brace (table.keyword_named cut.name) cut.braces, table.causes.block)
     ∷ refusals_of_name table depth (table.keyword_named cut.name) cut
 
 -- the refusal of a line where `depth` blocks are open
-unfoldable pub refusal_of : {O T : Type 0} → Table O T → ℕ → Cut → Option Cause
+unfoldable pub refusal_of : {O T F : Type 0} → Table O T F → ℕ → Cut → Option Cause
 refusal_of table depth cut = first_of (refusals table depth cut)
 
 -- ---- what a line says
 
 -- what an accepted line says
-abbrev pub accepted : {O T : Type 0} → Table O T → ℕ → Option (Keyword O) → Cut → Reading (Instruction O T)
+abbrev pub accepted : {O T F : Type 0} → Table O T F → ℕ → Option (Keyword O) → Cut → Reading (Instruction O T)
 accepted table number None cut = Refuses (table.refusal_of_name cut.name)
-accepted table number (Some Repeats) cut = Opens (table.turns_of (read_targets table Repeats cut.targets))
+accepted table number (Some Repeats) cut = Opens (table.turns_of (read_targets table (table.target_form Repeats) cut.targets))
 accepted table number (Some (Does operation)) cut =
     Takes
     (record {
       line = number;
       operation = operation;
       arguments = arguments_in cut.arguments;
-      targets = read_targets table (Does operation) cut.targets;
+      targets = read_targets table (table.target_form (Does operation)) cut.targets;
     })
 
 abbrev pub unless_refused : {I : Type 0} → Option Cause → Reading I → Reading I
@@ -146,19 +150,19 @@ abbrev pub closed_at : {I : Type 0} → Causes → ℕ → Reading I
 closed_at causes depth = if depth == 0 then Refuses causes.block else Closes
 
 -- what a line that doesn't close a block says
-unfoldable pub judged : {O T : Type 0} → Table O T → ℕ → ℕ → Cut → Reading (Instruction O T)
+unfoldable pub judged : {O T F : Type 0} → Table O T F → ℕ → ℕ → Cut → Reading (Instruction O T)
 judged table depth number cut =
     unless_refused (refusal_of table depth cut) (accepted table number (table.keyword_named cut.name) cut)
 
 -- what the cut line of this number says where `depth` blocks are open
-abbrev pub said_by : {O T : Type 0} → Table O T → Braces → ℕ → ℕ → Cut → Reading (Instruction O T)
+abbrev pub said_by : {O T F : Type 0} → Table O T F → Braces → ℕ → ℕ → Cut → Reading (Instruction O T)
 said_by table ClosingAlone depth number cut = closed_at table.causes depth
 said_by table braces depth number cut = judged table depth number cut
 
 -- what a cut line says
-unfoldable pub reading_of : {O T : Type 0} → Table O T → ℕ → ℕ → Cut → Reading (Instruction O T)
+unfoldable pub reading_of : {O T F : Type 0} → Table O T F → ℕ → ℕ → Cut → Reading (Instruction O T)
 reading_of table depth number cut = said_by table cut.braces depth number cut
 
 -- the texts of the lines that a table judges
-abbrev pub format_of : {O T : Type 0} → Table O T → Format (Instruction O T)
+abbrev pub format_of : {O T F : Type 0} → Table O T F → Format (Instruction O T)
 format_of table = record { reading_of = reading_of table; left_open = table.causes.block }

@@ -58,17 +58,18 @@ abbrev pub turns_of : List Target → ℕ
 turns_of (Plain n ∷ rest) = n
 turns_of targets = 0
 
-abbrev pub circuit_table : Table Operation Target
+abbrev pub circuit_table : Table Operation Target TargetForm
 circuit_table =
     record {
       keyword_named = keyword_named;
       refusal_of_name = refusal_of_name;
       argument_form = argument_form;
       greatest_coordinate = greatest_coordinate;
-      line_targets = λ keyword. line_targets (target_form keyword);
-      are_of_form = λ keyword. are_of_form (target_form keyword);
-      has_target_beyond = λ keyword. has_target_beyond (target_form keyword);
-      refusals_of_targets = λ keyword. refusals_of_targets (target_form keyword);
+      target_form = target_form;
+      line_targets = line_targets;
+      are_of_form = are_of_form;
+      has_target_beyond = has_target_beyond;
+      refusals_of_targets = refusals_of_targets;
       turns_of = turns_of;
       causes = record {
         block = cause.Block;

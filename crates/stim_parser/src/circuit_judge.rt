@@ -63,7 +63,7 @@ fn refusal_of_targets(form: TargetForm, text: &[u8], targets: &[Target]) -> Opti
 /// The judge of a circuit's lines.
 pub(crate) struct CircuitJudge;
 
-impl Judge<Operation, Target> for CircuitJudge {
+impl Judge<Operation, Target, TargetForm> for CircuitJudge {
     ghost table = { circuit_table };
 
     #[inline(always)]
@@ -92,42 +92,34 @@ impl Judge<Operation, Target> for CircuitJudge {
     }
 
     #[inline(always)]
+    fn target_form(keyword: Keyword<Operation>) -> TargetForm
+        ensures { result ≡ circuit_table.target_form keyword }
+    {
+        target_form(keyword)
+    }
+
+    #[inline(always)]
     fn read_targets<A: Allocator + Copy>(
         targets: &mut Vec<Target, A>,
-        keyword: Keyword<Operation>,
+        form: TargetForm,
         text: &[u8],
-    ) -> Result<bool, AllocError>
-        ensures { IfOk result (λ all. MatchBool all
-            (circuit_table.line_targets keyword text.now ≡ Some targets.new.items)
-            (circuit_table.line_targets keyword text.now ≡ None)) }
-    {
-        read_line_targets(targets, target_form(keyword), text)
+    ) -> Result<bool, AllocError> {
+        read_line_targets(targets, form, text)
     }
 
     #[inline(always)]
-    fn are_of_form(keyword: Keyword<Operation>, targets: &[Target]) -> bool
-        ensures { result ≡ circuit_table.are_of_form keyword targets.now }
-    {
-        are_of_form(target_form(keyword), targets)
+    fn are_of_form(form: TargetForm, targets: &[Target]) -> bool {
+        are_of_form(form, targets)
     }
 
     #[inline(always)]
-    fn has_target_beyond(keyword: Keyword<Operation>, targets: &[Target]) -> bool
-        ensures { result ≡ circuit_table.has_target_beyond keyword targets.now }
-    {
-        has_target_beyond(target_form(keyword), targets)
+    fn has_target_beyond(form: TargetForm, targets: &[Target]) -> bool {
+        has_target_beyond(form, targets)
     }
 
     #[inline(always)]
-    fn refusal_of_targets(
-        keyword: Keyword<Operation>,
-        text: &[u8],
-        targets: &[Target],
-    ) -> Option<Cause>
-        requires { circuit_table.has_target_beyond keyword targets.now ≡ false }
-        ensures { result ≡ first_of (circuit_table.refusals_of_targets keyword text.now targets.now) }
-    {
-        refusal_of_targets(target_form(keyword), text, targets)
+    fn refusal_of_targets(form: TargetForm, text: &[u8], targets: &[Target]) -> Option<Cause> {
+        refusal_of_targets(form, text, targets)
     }
 
     #[inline(always)]

@@ -1,6 +1,6 @@
 ghost use Rattle.std.specs.Prelude.{◌≡◌, ℕ, List, None, Some, not, true, false, IfOk, MatchResult};
 ghost use Rattle.stim_lexer.specs.Lexing.{cut_in};
-ghost use Rattle.block_text.specs.Said.{OpensFew, reading_in};
+ghost use Rattle.block_text.specs.Said.{reading_in};
 ghost use Rattle.stim_parser.specs.declared.forms.ArgumentForm.TheVariants.{NoArguments};
 ghost use Rattle.stim_parser.specs.Arguments.{arguments_in};
 ghost use Rattle.stim_parser.specs.Limits.{has_argument_beyond};
@@ -27,7 +27,7 @@ fn misplaces_brace<O: Copy>(keyword: Option<Keyword<O>>, braces: Braces) -> bool
 }
 
 /// The keyword of a line that doesn't close a block, where its braces stand as that asks.
-fn keyword_of<'a, O: Copy, T: Copy, J: Judge<O, T>>(
+fn keyword_of<'a, O: Copy, T: Copy, F: Copy, J: Judge<O, T, F>>(
     last: &mut Last<'a>,
     line: Line<'a>,
 ) -> Result<Keyword<O>, Cause>
@@ -106,19 +106,19 @@ fn closed_arguments_of<'a>(
 }
 
 /// Puts the targets of a line into `targets`, in place of what it held, and answers whether each can be read and is of
-/// the form that the keyword takes.
-fn read_line_targets<O: Copy, T: Copy, J: Judge<O, T>, A: Allocator + Copy>(
+/// this form.
+fn read_line_targets<O: Copy, T: Copy, F: Copy, J: Judge<O, T, F>, A: Allocator + Copy>(
     targets: &mut Vec<T, A>,
-    keyword: Keyword<O>,
+    form: F,
     text: &[u8],
 ) -> Result<bool, AllocError>
-    ensures wrong { IfOk result (λ right. has_wrong_target J.table keyword text.now ≡ not right) }
-    ensures items { IfOk result (λ right. right ≡ true → targets.new.items ≡ read_targets J.table keyword text.now) }
+    ensures wrong { IfOk result (λ right. has_wrong_target J.table form text.now ≡ not right) }
+    ensures items { IfOk result (λ right. right ≡ true → targets.new.items ≡ read_targets J.table form text.now) }
 {
-    if !J::read_targets(targets, keyword, text)? {
+    if !J::read_targets(targets, form, text)? {
         return Ok(false);
     }
-    Ok(J::are_of_form(keyword, targets.as_slice()))
+    Ok(J::are_of_form(form, targets.as_slice()))
 }
 
 fn opens_block<O: Copy>(keyword: Keyword<O>) -> bool
@@ -147,21 +147,23 @@ fn refusal_of_block<O: Copy>(
 
 /// The refusal of a line whose arguments and targets are of their forms. `beyond` says whether an argument is beyond
 /// its limit.
-fn refusal_of_amounts<O: Copy, T: Copy, J: Judge<O, T>>(
+fn refusal_of_amounts<O: Copy, T: Copy, F: Copy, J: Judge<O, T, F>>(
     depth: usize,
     keyword: Keyword<O>,
+    form: F,
     line: Line,
     beyond: bool,
     targets: &[T],
 ) -> Option<Cause>
     requires arguments { beyond ≡ has_argument_beyond J.table.greatest_coordinate (J.table.argument_form keyword) (arguments_in line.arguments.now) }
-    requires targets { targets.now ≡ read_targets J.table keyword line.targets.now }
+    requires form { form ≡ J.table.target_form keyword }
+    requires targets { targets.now ≡ read_targets J.table (J.table.target_form keyword) line.targets.now }
     ensures { result ≡ first_of (refusals_of_amounts J.table depth keyword (cut_in line.entry)) }
 {
-    if beyond || J::has_target_beyond(keyword, targets) {
+    if beyond || J::has_target_beyond(form, targets) {
         return Some(J::causes().number);
     }
-    match J::refusal_of_targets(keyword, line.targets, targets) {
+    match J::refusal_of_targets(form, line.targets, targets) {
         Some(cause) => Some(cause),
         None => refusal_of_block(J::causes(), depth, keyword, J::turns_of(targets)),
     }
@@ -169,7 +171,7 @@ fn refusal_of_amounts<O: Copy, T: Copy, J: Judge<O, T>>(
 
 /// The refusal of a line with this keyword, where `depth` blocks are open. Where there is none, `targets` has the
 /// line's targets then.
-fn refusal_of<'a, O: Copy, T: Copy, J: Judge<O, T>, A: Allocator + Copy>(
+fn refusal_of<'a, O: Copy, T: Copy, F: Copy, J: Judge<O, T, F>, A: Allocator + Copy>(
     last: &mut Last<'a>,
     targets: &mut Vec<T, A>,
     depth: usize,
@@ -177,26 +179,27 @@ fn refusal_of<'a, O: Copy, T: Copy, J: Judge<O, T>, A: Allocator + Copy>(
     line: Line<'a>,
 ) -> Result<Option<Cause>, AllocError>
     ensures refusal { IfOk result (λ refusal. refusal ≡ first_of (refusals_of_keyword J.table depth keyword (cut_in line.entry))) }
-    ensures targets { IfOk result (λ refusal. refusal ≡ None → targets.new.items ≡ read_targets J.table keyword line.entry.targets.now) }
+    ensures targets { IfOk result (λ refusal. refusal ≡ None → targets.new.items ≡ read_targets J.table (J.table.target_form keyword) line.entry.targets.now) }
 {
-    let form = J::argument_form(keyword);
-    let beyond = match arguments_of(last, J::causes(), J::greatest_coordinate(), form, line) {
+    let asked = J::argument_form(keyword);
+    let beyond = match arguments_of(last, J::causes(), J::greatest_coordinate(), asked, line) {
         Ok(beyond) => beyond,
         Err(cause) => return Ok(Some(cause)),
     };
-    if !read_line_targets::<O, T, J, A>(targets, keyword, line.targets)? {
+    let form = J::target_form(keyword);
+    if !read_line_targets::<O, T, F, J, A>(targets, form, line.targets)? {
         return Ok(Some(J::causes().target));
     }
-    Ok(refusal_of_amounts::<O, T, J>(depth, keyword, line, beyond, targets.as_slice()))
+    Ok(refusal_of_amounts::<O, T, F, J>(depth, keyword, form, line, beyond, targets.as_slice()))
 }
 
 /// What a line says that isn't refused.
-fn accepted<'a, O: Copy, T: Copy, J: Judge<O, T>>(
+fn accepted<'a, O: Copy, T: Copy, F: Copy, J: Judge<O, T, F>>(
     keyword: Keyword<O>,
     line: Line<'a>,
     targets: &[T],
 ) -> Said<'a, O>
-    requires { targets.now ≡ read_targets J.table keyword line.targets.now }
+    requires { targets.now ≡ read_targets J.table (J.table.target_form keyword) line.targets.now }
     ensures { reading_in line.entry.number result targets.now ≡ accepted J.table line.entry.number (Some keyword) (cut_in line.entry) }
 {
     match keyword {
@@ -220,7 +223,7 @@ fn closed_at<'a, O: Copy, T: Copy>(causes: Causes, depth: usize) -> Said<'a, O>
 }
 
 /// Reads a line that doesn't close a block.
-fn judged<'a, O: Copy, T: Copy, J: Judge<O, T>, A: Allocator + Copy>(
+fn judged<'a, O: Copy, T: Copy, F: Copy, J: Judge<O, T, F>, A: Allocator + Copy>(
     last: &mut Last<'a>,
     targets: &mut Vec<T, A>,
     depth: usize,
@@ -228,20 +231,20 @@ fn judged<'a, O: Copy, T: Copy, J: Judge<O, T>, A: Allocator + Copy>(
 ) -> Result<Said<'a, O>, AllocError>
     ensures { IfOk result (λ said. reading_in line.entry.number said targets.new.items ≡ judged J.table depth line.entry.number (cut_in line.entry)) }
 {
-    let keyword = match keyword_of::<O, T, J>(last, line) {
+    let keyword = match keyword_of::<O, T, F, J>(last, line) {
         Ok(keyword) => keyword,
         Err(cause) => return Ok(Said::Refuses(cause)),
     };
-    match refusal_of::<O, T, J, A>(last, targets, depth, keyword, line)? {
+    match refusal_of::<O, T, F, J, A>(last, targets, depth, keyword, line)? {
         Some(cause) => Ok(Said::Refuses(cause)),
-        None => Ok(accepted::<O, T, J>(keyword, line, targets.as_slice())),
+        None => Ok(accepted::<O, T, F, J>(keyword, line, targets.as_slice())),
     }
 }
 
 /// Reads a cut line where `depth` blocks are open, and puts its targets into `targets`, in place of what it held. Where
 /// the line is no accepted instruction, nothing is promised of `targets`.
 #[tactic(auto, unfolding(crate::specs::Judging::reading_of))]
-pub fn read_line<'a, O: Copy, T: Copy, J: Judge<O, T>, A: Allocator + Copy>(
+pub fn read_line<'a, O: Copy, T: Copy, F: Copy, J: Judge<O, T, F>, A: Allocator + Copy>(
     last: &mut Last<'a>,
     targets: &mut Vec<T, A>,
     depth: usize,
@@ -251,6 +254,6 @@ pub fn read_line<'a, O: Copy, T: Copy, J: Judge<O, T>, A: Allocator + Copy>(
 {
     match line.braces {
         Braces::ClosingAlone => Ok(closed_at::<O, T>(J::causes(), depth)),
-        _ => judged::<O, T, J, A>(last, targets, depth, line),
+        _ => judged::<O, T, F, J, A>(last, targets, depth, line),
     }
 }

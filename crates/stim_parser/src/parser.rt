@@ -1,10 +1,10 @@
 ghost use Rattle.std.specs.Prelude.{◌≡◌, ◌⊎◌, IfOk, IfErr};
 ghost use Rattle.step_model.specs.Faults.{memory_fault};
-ghost use Rattle.stim_parser.specs.Texts.{circuits};
 ghost use Rattle.stim_parser.specs.Trees.{Writes, IsRefusedBy};
 
 use crate::circuit::Circuit;
 use crate::circuit_judge::CircuitJudge;
+use crate::forms::TargetForm;
 use crate::operation::Operation;
 use crate::reader::read_items;
 use crate::target::Target;
@@ -17,6 +17,6 @@ pub fn parse<'a, A: Allocator + Copy>(alloc: A, text: &'a [u8]) -> Result<Circui
     ensures ok { IfOk result (λ circuit. Writes text.now circuit) }
     ensures err { IfErr result (λ fault. (fault ≡ memory_fault) ⊎ IsRefusedBy text.now fault) }
 {
-    let items = read_items::<Operation, Target, CircuitJudge, A>(alloc, text)?;
+    let items = read_items::<Operation, Target, TargetForm, CircuitJudge, A>(alloc, text)?;
     Ok(Circuit::new(items))
 }

@@ -14,7 +14,7 @@ use step_model::{Cause, Fault};
 use stim_lexer::{Lexer, Line};
 
 /// Reads the next line. Answers the cause where it is refused.
-fn read_next<'a, O: Copy, T: Copy, J: Judge<O, T>, A: Allocator + Copy>(
+fn read_next<'a, O: Copy, T: Copy, F: Copy, J: Judge<O, T, F>, A: Allocator + Copy>(
     builder: &mut Builder<'a, O, T, A>,
     last: &mut Last<'a>,
     targets: &mut Vec<T, A>,
@@ -24,12 +24,12 @@ fn read_next<'a, O: Copy, T: Copy, J: Judge<O, T>, A: Allocator + Copy>(
     ensures after { IfOk result (λ refused. builder.new ≡ after_line line.entry.number (reading_at (format_of J.table) builder.old line.entry.number (cut_in line.entry)) builder.old) }
 {
     let number = line.number;
-    let said = read_line::<O, T, J, A>(last, targets, builder.depth(), line)?;
+    let said = read_line::<O, T, F, J, A>(last, targets, builder.depth(), line)?;
     builder.take(number, said, targets.as_slice())
 }
 
 /// The items of a text in the format of a judge, or the text's refusal. The cause is `Memory` only where memory runs out.
-pub fn read_items<'a, O: Copy, T: Copy, J: Judge<O, T>, A: Allocator + Copy>(
+pub fn read_items<'a, O: Copy, T: Copy, F: Copy, J: Judge<O, T, F>, A: Allocator + Copy>(
     alloc: A,
     text: &'a [u8],
 ) -> Result<Items<'a, O, T, A>, Fault>
@@ -42,7 +42,7 @@ pub fn read_items<'a, O: Copy, T: Copy, J: Judge<O, T>, A: Allocator + Copy>(
     let mut targets = Vec::new(alloc);
     while let Some(line) = lexer.next_line()? {
         let number = line.number;
-        match read_next::<O, T, J, A>(&mut builder, &mut last, &mut targets, line) {
+        match read_next::<O, T, F, J, A>(&mut builder, &mut last, &mut targets, line) {
             Ok(None) => {}
             Ok(Some(cause)) => {
                 return Err(Fault {

@@ -26,8 +26,8 @@ pub struct Causes {
 }
 
 /// What a format, such as that of circuits or of error models, says of its lines.
-pub trait Judge<O: Copy, T: Copy> {
-    ghost table: { Table O T };
+pub trait Judge<O: Copy, T: Copy, F: Copy> {
+    ghost table: { Table O T F };
 
     /// The keyword that a name names. The name that was looked up last may be remembered.
     fn keyword_named<'a>(last: &mut Last<'a>, name: &'a [u8]) -> Option<Keyword<O>>
@@ -45,28 +45,32 @@ pub trait Judge<O: Copy, T: Copy> {
     fn greatest_coordinate() -> u64
         ensures { result ≡ table.greatest_coordinate };
 
+    /// The form of the targets that a keyword takes.
+    fn target_form(keyword: Keyword<O>) -> F
+        ensures { result ≡ table.target_form keyword };
+
     /// Puts the targets of a line in place of those that were there. Answers whether each can be read.
     fn read_targets<A: Allocator + Copy>(
         targets: &mut Vec<T, A>,
-        keyword: Keyword<O>,
+        form: F,
         text: &[u8],
     ) -> Result<bool, AllocError>
         ensures { IfOk result (λ all. MatchBool all
-            (table.line_targets keyword text.now ≡ Some targets.new.items)
-            (table.line_targets keyword text.now ≡ None)) };
+            (table.line_targets form text.now ≡ Some targets.new.items)
+            (table.line_targets form text.now ≡ None)) };
 
-    /// Whether targets are of the form that a keyword takes.
-    fn are_of_form(keyword: Keyword<O>, targets: &[T]) -> bool
-        ensures { result ≡ table.are_of_form keyword targets.now };
+    /// Whether targets are of a form.
+    fn are_of_form(form: F, targets: &[T]) -> bool
+        ensures { result ≡ table.are_of_form form targets.now };
 
     /// Whether the number of one of the targets is beyond its limit.
-    fn has_target_beyond(keyword: Keyword<O>, targets: &[T]) -> bool
-        ensures { result ≡ table.has_target_beyond keyword targets.now };
+    fn has_target_beyond(form: F, targets: &[T]) -> bool
+        ensures { result ≡ table.has_target_beyond form targets.now };
 
     /// The refusal by what the format asks of targets besides.
-    fn refusal_of_targets(keyword: Keyword<O>, text: &[u8], targets: &[T]) -> Option<Cause>
-        requires { table.has_target_beyond keyword targets.now ≡ false }
-        ensures { result ≡ first_of (table.refusals_of_targets keyword text.now targets.now) };
+    fn refusal_of_targets(form: F, text: &[u8], targets: &[T]) -> Option<Cause>
+        requires { table.has_target_beyond form targets.now ≡ false }
+        ensures { result ≡ first_of (table.refusals_of_targets form text.now targets.now) };
 
     /// How often a block is repeated, by the targets of its line.
     fn turns_of(targets: &[T]) -> u64
