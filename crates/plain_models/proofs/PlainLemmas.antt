@@ -32,7 +32,7 @@ use Rattle.dem_parser.specs.Meanings.{detector_count, detectors_to, error_line, 
 use Rattle.dem_parser.specs.Models.{model_in, model_of_items}
 use Rattle.dem_parser.specs.Shifts.{Placed}
 use Rattle.dem_parser.proofs.ChainLemmas.{AllStay, chain_means, placed}
-use Rattle.dem_parser.proofs.CountLemmas.{max-more, max-none}
+use Rattle.dem_parser.proofs.CountLemmas.{max-none}
 use Rattle.plain_models.specs.declared.plain_reader.Step.TheVariants as step
 use Rattle.plain_models.specs.Kept.{AreWithin, line_kept, model_kept, targets_kept}
 use Rattle.plain_models.specs.PlainLines.{Passes}
@@ -186,14 +186,8 @@ plain-next text texts texts' counts counts' read all lines line h e passes = by 
                     ap (λ (ts : List (List Target)). ts ++ errors_of ps) p.1.errors
                     ∙ errors_next (is_error i.operation) (targets_kept texts) i (filter (λ p. is_error p.operation) ps)
                     ∙ all.errors;
-                detectors =
-                    ap (λ m. max m (detector_count ps)) p.1.detectors
-                    ∙ max-more counts.detectors (greatest_of detectors_to i.targets) (detector_count ps)
-                    ∙ all.detectors;
-                observables =
-                    ap (λ m. max m (observable_count ps)) p.1.observables
-                    ∙ max-more counts.observables (greatest_of observables_to i.targets) (observable_count ps)
-                    ∙ all.observables;
+                detectors = omega (arith, p.1.detectors, all.detectors);
+                observables = omega (arith, p.1.observables, all.observables);
               });
           refusal = λ fault e. h.refusal fault (next ∙ ap (before (Does i)) e);
         }
