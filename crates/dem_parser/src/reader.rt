@@ -12,7 +12,7 @@ use std::alloc::{AllocError, Allocator};
 use step_model::{Cause, Fault};
 
 /// The lines and blocks of an error model that a text writes, or its refusal before blocks are unrolled. The cause is
-/// `Memory` only where memory runs out or a number of lines or targets outgrows 32 bits.
+/// `Memory` only where memory runs out.
 pub fn read_lines<'a, A: Allocator + Copy>(
     alloc: A,
     text: &'a [u8],
@@ -27,7 +27,7 @@ pub fn read_lines<'a, A: Allocator + Copy>(
 }
 
 /// The error model of lines and blocks, or its refusal. The model's lines stay as they were read. The cause is `Memory`
-/// only where memory runs out or a number of lines or targets outgrows 32 bits.
+/// only where memory runs out.
 pub fn place<'c, 'a, A: Allocator + Copy>(
     alloc: A,
     lines: &'c ModelLines<'a, A>,

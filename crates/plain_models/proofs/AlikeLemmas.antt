@@ -4,8 +4,8 @@ use Rattle.std.specs.Prelude.{codes, unwrap_or}
 use Rattle.std.specs.List.{list_all}
 use Rattle.std.proofs.lemmas.List.{map-append}
 use Rattle.stim_parser.specs.declared.forms.ArgumentForm.TheVariants.{OneProbability}
-use Rattle.block_text.specs.Texts.{Takes}
 use Rattle.stim_parser.specs.Arguments.{arguments_in}
+use Rattle.block_text.specs.Texts.{Takes}
 use Rattle.stim_parser.specs.Judging.{judged, reading_of, refusal_of}
 use Rattle.stim_parser.specs.Limits.{AreProbabilities, has_wrong_arguments, has_wrong_probability}
 use Rattle.dem_lines.specs.declared.forms.TargetForm.TheVariants.{Effects}
@@ -25,18 +25,13 @@ abbrev error_instruction : ℕ → List ℕ → List Target → Instruction
 error_instruction number arguments targets =
     record { line = number; operation = Errs; arguments = arguments_in arguments; targets = targets }
 
-are_effects : (targets : List Target) → list_all is_effect targets ≡ true → are_of_form Effects targets ≡ true
-unfolding are_of_form
-are_effects targets h = h
-
 reading_found : (number : ℕ) (arguments text : List ℕ) (targets : List Target) → AreProbabilities OneProbability (arguments_in arguments) → targets_in text ≡ Some targets
     → list_all is_effect targets ≡ true → has_target_beyond targets ≡ false → reading_of model_table 0 number (cut_with (codes "error") false arguments text) ≡ Takes (error_instruction number arguments targets)
-unfolding reading_of judged refusal_of keyword_named
+unfolding reading_of judged refusal_of keyword_named are_of_form
 reading_found number arguments text targets right read effects within =
     let count : has_wrong_arguments OneProbability (arguments_in arguments) ≡ false = right.1 in
     let probability : has_wrong_probability OneProbability (arguments_in arguments) ≡ false = right.2 in
-    let form : are_of_form Effects targets ≡ true = are_effects targets effects in
-    rw (read, count, probability, form, within) refl
+    rw (read, count, probability, effects, within) refl
 
 pub error_line : (line arguments : List ℕ) (text : Bor (List ℕ)) (counts found : TargetCounts) → line ≡ codes "error(" ++ (arguments ++ 41 ∷ text.now)
     → list_all is_quiet arguments ≡ true → AreProbabilities OneProbability (arguments_in arguments) → AreCounted text.now counts found

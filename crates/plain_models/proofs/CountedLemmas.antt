@@ -17,7 +17,7 @@ use Rattle.plain_models.specs.ErrorTexts.{AreCounted, IsNumberFront, IsTargetFro
 use Rattle.dem_lines.specs.Limits.{has_target_beyond, is_effect, is_target_beyond}
 use Rattle.dem_parser.specs.Meanings.{detectors_to, greatest_of, observables_to}
 use Rattle.dem_lines.specs.Targets.{target_of, targets_in}
-use Rattle.dem_parser.proofs.CountLemmas.{max-more, max-none}
+use Rattle.dem_parser.proofs.CountLemmas.{max-none, raised-next}
 use Rattle.dem_parser.proofs.QuietLemmas.{all-where, both_all, first_piece, is_quiet, none-where}
 
 -- ---- a number
@@ -116,12 +116,6 @@ counted-next text after t counts next found front near detectors observables h =
       read = one_read front.word after t h.targets front.some front.bytes h.apart front.target_is h.read;
       effects = and_from (is_effect t) (list_all is_effect h.targets) front.effect h.effects;
       within = or_from (is_target_beyond t) (list_any is_target_beyond h.targets) near h.within;
-      detectors =
-          h.detectors
-          ∙ ap (λ n. max n (greatest_of detectors_to h.targets)) detectors
-          ∙ max-more counts.detectors (detectors_to t) (greatest_of detectors_to h.targets);
-      observables =
-          h.observables
-          ∙ ap (λ n. max n (greatest_of observables_to h.targets)) observables
-          ∙ max-more counts.observables (observables_to t) (greatest_of observables_to h.targets);
+      detectors = h.detectors ∙ raised-next detectors_to counts.detectors next.detectors t (t ∷ h.targets) h.targets refl detectors;
+      observables = h.observables ∙ raised-next observables_to counts.observables next.observables t (t ∷ h.targets) h.targets refl observables;
     })

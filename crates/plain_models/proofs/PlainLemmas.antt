@@ -9,12 +9,16 @@ use Rattle.step_model.specs.declared.fault.Cause.TheVariants as cause
 use Rattle.step_model.specs.declared.fault.Fault.{Fault}
 use Rattle.step_model.specs.ErrorModels.{ErrorLine, ErrorModel}
 use Rattle.stim_lexer.specs.declared.line.Braces.{Braces}
+use Rattle.stim_lexer.specs.declared.line.Line.{Line}
 use Rattle.stim_lexer.specs.declared.line.Braces.TheVariants.{NoBrace, OpeningLast, ClosingAlone, Misplaced}
 use Rattle.stim_lexer.specs.Bytes.{is_empty, is_line_feed}
 use Rattle.stim_lexer.specs.Cut.{Cut, cut_of, has_bad_byte}
-use Rattle.stim_lexer.specs.Lexing.{Numbered, Unread, after_silent, first_found, next_found}
+use Rattle.stim_lexer.specs.Lexing.{Numbered, Unread, after_silent, answered, cut_in, first_found, next_found}
 use Rattle.stim_lexer.specs.Lines.{lines_of, says_nothing}
 use Rattle.stim_parser.specs.Arguments.{arguments_in}
+use Rattle.block_text.specs.declared.said.Said.{Said}
+use Rattle.block_text.specs.declared.said.Said.TheVariants as said
+use Rattle.block_text.specs.Said.{reading_in}
 use Rattle.block_text.specs.Texts.{Takes, Refuses, before, items_from, line_reading}
 use Rattle.stim_parser.specs.declared.table.Keyword.{Keyword}
 use Rattle.stim_parser.specs.declared.table.Keyword.TheVariants.{Does as keyword_Does, Repeats}
@@ -29,7 +33,7 @@ use Rattle.dem_parser.specs.Meanings.{detector_count, detectors_to, error_line, 
 use Rattle.dem_parser.specs.Models.{model_in, model_of_items}
 use Rattle.dem_parser.specs.Shifts.{Placed}
 use Rattle.dem_parser.proofs.ChainLemmas.{AllStay, chain_means, placed}
-use Rattle.dem_parser.proofs.CountLemmas.{max-more, max-none}
+use Rattle.dem_parser.proofs.CountLemmas.{max-none}
 use Rattle.plain_models.specs.declared.plain_reader.Step.TheVariants as step
 use Rattle.plain_models.specs.Kept.{AreWithin, line_kept, model_kept, targets_kept}
 use Rattle.plain_models.specs.PlainLines.{Passes}
@@ -63,22 +67,25 @@ found_alone (b ∷ line) h =
     ∙ elim (cases_Bool (says_nothing (b ∷ line))) [ inl e ↦ rw e refl | inr e ↦ rw e refl ]
 
 -- what is found says this of the line
-abbrev Says : List ℕ → Result (Option Numbered) Fault → Type 0
-Says line found =
+abbrev Says : {X : Type 0} → (X → Cut) → List ℕ → Result (Option X) Fault → Type 0
+Says cut_in line found =
     MatchResult found
-    (λ found. MatchOption found (says_nothing line ≡ true) (λ n. (says_nothing line ≡ false) × (has_bad_byte line ≡ false) × (n.cut ≡ cut_of line)))
+    (λ o. MatchOption o (says_nothing line ≡ true) (λ x. (says_nothing line ≡ false) × (has_bad_byte line ≡ false) × (cut_in x ≡ cut_of line)))
     (λ fault. (says_nothing line ≡ false) × (has_bad_byte line ≡ true) × (fault.cause ≡ cause.Byte))
 
-pub line_says : (line : List ℕ) (found : Result (Option Numbered) Fault) → list_any is_line_feed line ≡ false → found ≡ next_found (alone line) → Says line found
+pub line_says : (line : List ℕ) (found : Result (Option Line) Fault) → list_any is_line_feed line ≡ false → answered found ≡ next_found (alone line) → Says cut_in line found
 line_says line found h e =
-    subst (Says line) (sym (e ∙ found_alone line h))
-    (by (says_nothing line) (has_bad_byte line) refl refl)
+    of found (subst (Says (λ (n : Numbered). n.cut) line) (sym (e ∙ found_alone line h)) (by (says_nothing line) (has_bad_byte line) refl refl))
   where
     by : (s w : Bool) → says_nothing line ≡ s → has_bad_byte line ≡ w
-        → Says line (if s then Ok None else (if w then Err (record { cause = cause.Byte; line = 1 }) else Ok (Some (record { number = 1; cut = cut_of line }))))
+        → Says (λ (n : Numbered). n.cut) line (if s then Ok None else (if w then Err (record { cause = cause.Byte; line = 1 }) else Ok (Some (record { number = 1; cut = cut_of line }))))
     by true w e f = e
     by false true e f = (e, f, refl)
     by false false e f = (e, f, refl)
+    of : (found : Result (Option Line) Fault) → Says (λ (n : Numbered). n.cut) line (answered found) → Says cut_in line found
+    of (Ok None) said = said
+    of (Ok (Some l)) said = said
+    of (Err fault) said = said
 
 -- ---- the targets of a line that is taken
 
@@ -97,9 +104,11 @@ said_targets NoBrace number cut i e = accepted_targets (refusal_of model_table 0
 said_targets OpeningLast number cut i e = accepted_targets (refusal_of model_table 0 cut) (keyword_named cut.name) number cut i e
 said_targets Misplaced number cut i e = accepted_targets (refusal_of model_table 0 cut) (keyword_named cut.name) number cut i e
 
-pub taken_targets : (number : ℕ) (cut : Cut) (i : Instruction) → Takes i ≡ reading_of model_table 0 number cut → i.targets ≡ read_targets cut.targets
+pub taken_targets : (s : Said Operation) (operation : Operation) (arguments : Bor (List ℕ)) (number : ℕ) (cut : Cut) (targets : List Target)
+    → s ≡ said.Takes operation arguments → reading_in number s targets ≡ reading_of model_table 0 number cut → targets ≡ read_targets cut.targets
 unfolding reading_of
-taken_targets number cut i e = said_targets cut.braces number cut i e
+taken_targets s operation arguments number cut targets is e =
+    said_targets cut.braces number cut _ (sym (ap (λ (x : Said Operation). reading_in number x targets) is) ∙ e)
 
 -- ---- lines one after another
 
@@ -120,9 +129,6 @@ pub record IsPlain (text : List ℕ) (texts : List (Bor (List ℕ))) (counts : T
   pub chains : (is : List Instruction) → AllStay is → items_from models [] read lines ≡ Ok (map Does is) → AreAll text texts counts is
   pub refusal : (fault : Fault) → items_from models [] read lines ≡ Err fault → items_in text ≡ Err fault
 
-none_so_far : (n : ℕ) → max 0 n ≡ n
-none_so_far n = omega arith
-
 pub plain-first : (text : List ℕ) (texts : List (Bor (List ℕ))) (counts : TargetCounts) → texts ≡ [] → counts ≡ record { detectors = 0; observables = 0 } → IsPlain text texts counts 0 (lines_of text)
 plain-first text texts counts none no_counts =
     rw (none, no_counts)
@@ -132,8 +138,8 @@ plain-first text texts counts none no_counts =
         stay = stay;
         writes = e;
         errors = refl;
-        detectors = none_so_far (detector_count (map placed is));
-        observables = none_so_far (observable_count (map placed is));
+        detectors = omega arith;
+        observables = omega arith;
       };
       refusal = λ fault e. e;
     })
@@ -181,14 +187,8 @@ plain-next text texts texts' counts counts' read all lines line h e passes = by 
                     ap (λ (ts : List (List Target)). ts ++ errors_of ps) p.1.errors
                     ∙ errors_next (is_error i.operation) (targets_kept texts) i (filter (λ p. is_error p.operation) ps)
                     ∙ all.errors;
-                detectors =
-                    ap (λ m. max m (detector_count ps)) p.1.detectors
-                    ∙ max-more counts.detectors (greatest_of detectors_to i.targets) (detector_count ps)
-                    ∙ all.detectors;
-                observables =
-                    ap (λ m. max m (observable_count ps)) p.1.observables
-                    ∙ max-more counts.observables (greatest_of observables_to i.targets) (observable_count ps)
-                    ∙ all.observables;
+                detectors = omega (arith, p.1.detectors, all.detectors);
+                observables = omega (arith, p.1.observables, all.observables);
               });
           refusal = λ fault e. h.refusal fault (next ∙ ap (before (Does i)) e);
         }

@@ -15,7 +15,7 @@ use crate::plain_head::{Head, error_in};
 use dem_lines::{Last, Operation, Said, Target, read_line};
 use dem_parser::{TargetCounts, is_error, raised};
 use std::alloc::{AllocError, Allocator};
-use step_model::Cause;
+use step_model::{Cause, Fault};
 use stim_lexer::{Lexer, Line};
 
 /// What a reader does at a line.
@@ -40,20 +40,16 @@ pub(crate) struct PlainReader<'a, A: Allocator + Copy> {
     head: Option<Head<'a>>,
 }
 
-/// The line of this number, cut; none where it says nothing.
-fn line_in(number: u64, text: &[u8]) -> Result<Option<Line<'_>>, Cause>
+/// A line, cut; none where it says nothing.
+fn line_in(text: &[u8]) -> Result<Option<Line<'_>>, Fault>
     requires { list_any is_line_feed text.now ≡ false }
     ensures { MatchResult result
         (λ found. MatchOption found (says_nothing text.now ≡ true)
-        (λ line. (says_nothing text.now ≡ false) × (has_bad_byte text.now ≡ false) × (cut_in line ≡ cut_of text.now) × (line.number ≡ number)))
-        (λ refused. (says_nothing text.now ≡ false) × (has_bad_byte text.now ≡ true) × (refused ≡ cause.Byte)) }
+        (λ line. (says_nothing text.now ≡ false) × (has_bad_byte text.now ≡ false) × (cut_in line ≡ cut_of text.now)))
+        (λ fault. (says_nothing text.now ≡ false) × (has_bad_byte text.now ≡ true) × (fault.cause ≡ cause.Byte)) }
 {
     let mut lexer = Lexer::new(text);
-    match lexer.next_line() {
-        Ok(Some(line)) => Ok(Some(Line { number, ..line })),
-        Ok(None) => Ok(None),
-        Err(fault) => Err(fault.cause),
-    }
+    lexer.next_line()
 }
 
 impl<'a, A: Allocator + Copy> PlainReader<'a, A> {
@@ -113,10 +109,10 @@ impl<'a, A: Allocator + Copy> PlainReader<'a, A> {
         requires { list_any is_line_feed text.now ≡ false }
         ensures { IfOk result (λ step. Passes step number text.now self.old.texts.items self.old.counts self.new.texts.items self.new.counts) }
     {
-        match line_in(number, text) {
-            Ok(Some(line)) => self.take(line),
+        match line_in(text) {
+            Ok(Some(line)) => self.take(Line { number, ..line }),
             Ok(None) => Ok(Step::Goes),
-            Err(cause) => Ok(Step::Refuses(cause)),
+            Err(fault) => Ok(Step::Refuses(fault.cause)),
         }
     }
 

@@ -7,8 +7,8 @@ use Rattle.plain_models.proofs.plain_targets.counted.Goals as goal
 pub loop-rest-preserved : goal.loop-rest-preserved
 loop-rest-preserved c =
     λ found k. c.loop-rest.invariant found
-    (counted-next c.loop-rest.rest.now c.in_ok-target.after.now c.in_ok-target.target c.loop-rest.found c.raised_to-found.result found c.in_ok-target.ensures.front
-    (sym c.is_target_beyond.ensures ∙ c.if-is_target_beyond.false) c.raised_to-found.ensures.detectors c.raised_to-found.ensures.observables k)
+    (counted-next _ _ _ _ _ found c.in_ok-target.ensures.front (sym c.is_target_beyond.ensures ∙ c.if-is_target_beyond.false)
+    c.raised_to-found.ensures.detectors c.raised_to-found.ensures.observables k)
 
 pub returns : goal.returns
 returns c =

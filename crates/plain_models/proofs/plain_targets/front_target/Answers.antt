@@ -1,16 +1,13 @@
 use Rattle.std.proofs.Common.{◌∙◌, ◌∷◌, ap, refl}
-use Rattle.dem_lines.specs.declared.target.Target.TheVariants.{Detector, Observable}
 use Rattle.plain_models.proofs.CountedLemmas.{detector_read, observable_read, target-front}
 use Rattle.plain_models.proofs.plain_targets.front_target.Goals as goal
 
 pub returns-in-Some-clause-front : goal.returns-in-Some-clause-front
 returns-in-Some-clause-front c =
-    target-front c.args.text.now c.in-Some.digits.now c.in_ok-number.rest.now 68 c.in_ok-number.number (Detector c.in_ok-number.number)
-    (c.in_ok-inside.ensures.text ∙ ap (λ inside. 32 ∷ inside) c.in-Some.ensures.text)
+    target-front _ _ _ 68 c.in_ok-number.number _ (c.in_ok-inside.ensures.text ∙ ap (λ inside. 32 ∷ inside) c.in-Some.ensures.text)
     c.in_ok-number.ensures.front c.in_ok-number.ensures.few c.in_ok-number.ensures.less refl refl (λ digits. detector_read digits c.in_ok-number.number)
 
 pub returns-clause-front : goal.returns-clause-front
 returns-clause-front c =
-    target-front c.args.text.now c.in_ok-digits.digits.now c.in_ok-number-2.rest.now 76 c.in_ok-number-2.number (Observable c.in_ok-number-2.number)
-    (c.in_ok-inside.ensures.text ∙ ap (λ inside. 32 ∷ inside) c.in_ok-digits.ensures.text)
+    target-front _ _ _ 76 c.in_ok-number-2.number _ (c.in_ok-inside.ensures.text ∙ ap (λ inside. 32 ∷ inside) c.in_ok-digits.ensures.text)
     c.in_ok-number-2.ensures.front c.in_ok-number-2.ensures.few c.in_ok-number-2.ensures.less refl refl (λ digits. observable_read digits c.in_ok-number-2.number)

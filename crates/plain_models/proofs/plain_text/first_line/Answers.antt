@@ -1,5 +1,4 @@
 use Rattle.std.proofs.Common.{◌≡◌, [], ap, drop, ◌∙◌, sym, arith}
-use Rattle.std.specs.List.{list_any}
 use Rattle.std.proofs.lemmas.List.{nil_from_length, take_rest}
 use Rattle.stim_lexer.specs.Bytes.{is_line_feed}
 use Rattle.stim_lexer.proofs.ScanLemmas.{lines_of-cut}
@@ -18,9 +17,7 @@ returns-in-len1-up-clause-lines c =
     lines_of-cut c.args.text.now c.cut_at.result.0.now rest _ c.requires c.cut_at.ensures.before c.cut_at.ensures.after (take_rest rest 1)
 
 pub returns-in-empty-clause-line : goal.returns-in-empty-clause-line
-returns-in-empty-clause-line c =
-    ap (list_any is_line_feed) c.cut_at.ensures.before ∙ none_before is_line_feed c.args.text.now
+returns-in-empty-clause-line c = rw c.cut_at.ensures.before (none_before is_line_feed c.args.text.now)
 
 pub returns-in-len1-up-clause-line : goal.returns-in-len1-up-clause-line
-returns-in-len1-up-clause-line c =
-    ap (list_any is_line_feed) c.cut_at.ensures.before ∙ none_before is_line_feed c.args.text.now
+returns-in-len1-up-clause-line c = rw c.cut_at.ensures.before (none_before is_line_feed c.args.text.now)

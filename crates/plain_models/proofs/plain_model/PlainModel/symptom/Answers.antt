@@ -19,27 +19,23 @@ loop-line-init g c =
 
 pub loop-line-preserved : goal.loop-line-preserved
 loop-line-preserved g c =
-    let texts = c.self.inside.texts.items in
-    let d = c.self.inside.detectors in
-    let o = c.self.inside.observables in
-    let model = model_kept texts d o in
+    let model = model_kept c.self.inside.texts.items c.self.inside.detectors c.self.inside.observables in
     let named = c.args.named.now in
     let line = c.loop-line.line in
     let old = c.loop-line.bits.items in
     let new = c.turn_named.new.bits in
-    let text = c.index.result.now in
-    let targets = read_targets text.now in
-    let in_lines : line < length texts = omega (arith, c.loop-line-test.true, c.min-line-end.ensures, c.len.ensures) in
-    let in_named : line < length named = omega (arith, c.loop-line-test.true, c.min-line-end.ensures) in
-    let bits : new ≡ (if get_or named line false then turned old (numbers_of d targets) else old) =
+    let targets = read_targets c.index.result.now.now in
+    let bits : new ≡ (if get_or named line false then turned old (numbers_of model.detectors targets) else old) =
     c.in_ok-turn_named.ensures
-    ∙ ap (λ bs. if get_or named line false then turned bs (numbers_of d targets) else bs) c.deref_mut.ensures.value in
-    let long : length new ≡ length old = ap length bits ∙ length-turned_if (get_or named line false) old (numbers_of d targets) in
+    ∙ ap (λ bs. if get_or named line false then turned bs (numbers_of model.detectors targets) else bs) c.deref_mut.ensures.value in
+    let long : length new ≡ length old = ap length bits ∙ length-turned_if (get_or named line false) old (numbers_of model.detectors targets) in
     let items = with_items_is c.loop-line.bits new (long ∙ sym c.loop-line.bits.ok.0) in
+    let in_named : line < length named = omega (arith, c.loop-line-test.true, c.min-line-end.ensures) in
     record {
       sum =
           ap (λ bs. turned_by bs (drop (line + 1) named) (drop (line + 1) model.lines)) items
-          ∙ kept-next texts d o named old new line text _ c.self.invariant in_lines in_named c.loop-line.invariant.long c.index.ensures bits
+          ∙ kept-next _ _ _ named old new line _ _ c.self.invariant (omega (arith, c.loop-line-test.true, c.min-line-end.ensures, c.len.ensures)) in_named
+          c.loop-line.invariant.long c.index.ensures bits
           ∙ c.loop-line.invariant.sum;
       long = ap length items ∙ long ∙ c.loop-line.invariant.long;
     }
