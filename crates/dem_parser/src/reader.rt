@@ -69,8 +69,7 @@ fn model_of_lines<'a, A: Allocator + Copy>(
     }
 }
 
-/// The error model that a text writes, or its one refusal. The cause is `Memory` only where memory runs out or a number
-/// of lines or targets outgrows 32 bits.
+/// The error model that a text writes, or its one refusal. The cause is `Memory` only where memory runs out.
 pub fn read<'a, A: Allocator + Copy>(alloc: A, text: &'a [u8]) -> Result<Model<'a, A>, Fault>
     ensures ok { IfOk result (λ model. model_in text.now ≡ Ok model) }
     ensures err { IfErr result (λ fault. (fault ≡ memory_fault) ⊎ (model_in text.now ≡ Err fault)) }
