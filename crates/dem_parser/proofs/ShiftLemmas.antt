@@ -1,5 +1,6 @@
 -- Offsets added place by place, and coordinates moved by them.
-use Rattle.std.proofs.Common.{◌≡◌, ℕ, zero, suc, ◌+◌, ◌<◌, ◌≤◌, ℤ, pos, ◌+ℤ◌, List, [], ◌∷◌, ◌++◌, length, take, drop, get_or, set, map, Bor, Bool, true, false, ◌||◌, refl, ap, ap₂, sym, ◌∙◌, arith}
+use Rattle.std.proofs.Common.{◌≡◌, ℕ, zero, suc, ◌+◌, ◌^◌, ◌<◌, ◌≤◌, ℤ, pos, ◌+ℤ◌, List, [], ◌∷◌, ◌++◌, length, take, drop, get_or, set, map, Bor, Bool, true, false, ◌||◌, refl, ap, ap₂, sym, ◌∙◌, arith}
+use Rattle.std.proofs.lemmas.Bool.{ltb-false}
 use Rattle.std.proofs.Math.IntN.{+ℤ_idl}
 use Rattle.std.proofs.lemmas.List.{drop_all}
 use Rattle.stim_parser.specs.declared.forms.ArgumentForm.{ArgumentForm}
@@ -7,11 +8,16 @@ use Rattle.stim_parser.specs.declared.forms.ArgumentForm.TheVariants.{NoArgument
 use Rattle.stim_parser.specs.Limits.{has_wrong_arguments, is_wrong_count}
 use Rattle.stim_parser.specs.Numbers.{whole_value}
 use Rattle.dem_lines.specs.declared.operation.Keyword.TheVariants.{Does}
+use Rattle.dem_lines.specs.declared.operation.Operation.{Operation}
+use Rattle.dem_lines.specs.declared.operation.Operation.TheVariants.{Errs, Detects, Observes, Shifts}
+use Rattle.dem_lines.specs.declared.target.Target.{Target}
+use Rattle.dem_lines.specs.declared.target.Target.TheVariants.{Plain, Detector, Observable, Separator}
 use Rattle.dem_lines.specs.Fitting.{Fits}
 use Rattle.dem_lines.specs.Instructions.{argument_form}
-use Rattle.dem_parser.specs.Offsets.{added_at}
-use Rattle.dem_parser.specs.Shifts.{both_offsets, moved}
-use Rattle.dem_lines.specs.Verdicts.{Instruction}
+use Rattle.dem_lines.specs.Limits.{has_target_beyond, is_target_beyond}
+use Rattle.dem_parser.specs.Offsets.{HasRoom, added_at, shift_of}
+use Rattle.dem_parser.specs.Shifts.{Shift, both_offsets, moved, shift_after, shifted_by}
+use Rattle.dem_lines.specs.Verdicts.{Instruction, number_in}
 
 -- ---- offsets
 
@@ -91,3 +97,35 @@ pub few_arguments : (i : Instruction) → Fits i → length i.arguments ≤ 16
 unfolding has_wrong_arguments
 few_arguments i fits =
     few (argument_form (Does i.operation)) (length i.arguments) (left _ _ fits.arguments)
+
+-- ---- room for shifts
+
+number-few : (ts : List Target) → has_target_beyond ts ≡ false → number_in ts < 1_000_000_000_000_000_000
+unfolding has_target_beyond
+number-few [] h = omega arith
+number-few (Plain n ∷ ts) h =
+    let low = ltb-false 999_999_999_999_999_999 n (left (is_target_beyond (Plain n)) _ h) in omega (arith, low)
+number-few (Detector d ∷ ts) h = omega arith
+number-few (Observable k ∷ ts) h = omega arith
+number-few (Separator ∷ ts) h = omega arith
+
+shifted-few : (operation : Operation) (arguments : List (List ℕ)) (ts : List Target) (s : Shift) → (shifted_by operation arguments ts s).detectors ≤ s.detectors + number_in ts
+shifted-few Errs arguments ts s = omega arith
+shifted-few Detects arguments ts s = omega arith
+shifted-few Observes arguments ts s = omega arith
+shifted-few Shifts arguments ts s = omega arith
+
+pub room-here : (rest rest' : List Instruction) (i : Instruction) (shift : ℕ) → HasRoom shift (length rest) → rest ≡ i ∷ rest' → has_target_beyond i.targets ≡ false
+    → shift + number_in i.targets < 2 ^ 128
+room-here rest rest' i shift room e within =
+    let few = number-few i.targets within in
+    let long = ap length e in
+    omega (arith, room, few, long)
+
+pub room-next : (rest rest' : List Instruction) (i : Instruction) (shift shift' : ℕ) (offset : List ℤ) → HasRoom shift (length rest) → rest ≡ i ∷ rest' → has_target_beyond i.targets ≡ false
+    → shift' ≡ (shift_after i (shift_of shift offset)).detectors → HasRoom shift' (length rest')
+room-next rest rest' i shift shift' offset room e within next =
+    let few = number-few i.targets within in
+    let more = shifted-few i.operation i.arguments i.targets (shift_of shift offset) in
+    let long = ap length e in
+    omega (arith, room, few, long, more, next)

@@ -1,5 +1,6 @@
-ghost use Rattle.std.specs.Prelude.{◌≡◌, ◌+◌, ◌^◌, ◌≤◌, ◌++◌, [], ◌∷◌, ℤ, List, map, IfOk};
+ghost use Rattle.std.specs.Prelude.{◌≡◌, ◌+◌, ◌^◌, ◌<◌, ◌≤◌, ◌++◌, length, [], ◌∷◌, ℤ, List, map, IfOk};
 ghost use Rattle.dem_lines.specs.Flat.{instruction_in};
+ghost use Rattle.dem_lines.specs.Reached.{reached};
 ghost use Rattle.dem_parser.specs.Meanings.{detectors_to, error_lines, greatest_of, observables_to};
 ghost use Rattle.dem_parser.specs.Models.{placed_lines};
 ghost use Rattle.dem_parser.specs.Shifts.{placed_at, target_at};
@@ -63,6 +64,7 @@ fn push_errors<'a, A: Allocator + Copy>(
 ) -> Result<(), AllocError>
     requires counts { AreCounts (placed_lines table.now) counts.detectors counts.observables counts.errors }
     requires few { counts.detectors + counts.observables ≤ 2 ^ 32 }
+    requires short { length (reached table.now) < 2 ^ 64 }
     ensures { IfOk result (λ _. model.new ≡ record model.old { lines = model.old.lines ++ error_lines counts.detectors counts.observables (placed_lines table.now) }) }
 {
     let mut room = Room {
@@ -73,7 +75,7 @@ fn push_errors<'a, A: Allocator + Copy>(
     let mut walk = Walk::new(table);
     while let Some(line) = walk.next() {
         push_error(model, &mut room, counts, shift, line.instruction)?;
-        shift = detectors_past(shift, line.instruction)?;
+        shift = detectors_past(shift, line.instruction);
     }
     Ok(())
 }

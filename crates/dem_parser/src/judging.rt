@@ -4,6 +4,7 @@ ghost use Rattle.step_model.specs.Faults.{memory_fault};
 ghost use Rattle.dem_lines.specs.Flat.{instruction_in};
 ghost use Rattle.dem_lines.specs.Reached.{reached};
 ghost use Rattle.dem_lines.specs.Texts.{refused};
+ghost use Rattle.dem_lines.specs.Verdicts.{number_in};
 ghost use Rattle.dem_parser.specs.Offsets.{shift_of};
 ghost use Rattle.dem_parser.specs.Meanings.{detectors_to, greatest_of, is_error};
 ghost use Rattle.dem_parser.specs.Models.{first_beyond, is_beyond, placed_lines};
@@ -84,6 +85,7 @@ impl<A: Allocator + Copy> Judging<A> {
     fn pass(&mut self, line: TableLine<'_, '_>) -> Result<bool, AllocError>
         requires known { IsKnown (instruction_in line.instruction) line.extent line.numbers.now }
         requires few { self.old.counts.errors + 1 < 2 ^ 64 }
+        requires room { self.old.shift.detectors + number_in line.instruction.targets.now < 2 ^ 128 }
         ensures beyond { IfOk result (λ within. is_beyond (placed_at (shift_of self.old.shift.detectors self.old.shift.offset.items) (instruction_in line.entry.instruction)) ≡ not within) }
         ensures counted { IfOk result (λ within. within ≡ true → HasCounted self.old.counts (placed_at (shift_of self.old.shift.detectors self.old.shift.offset.items) (instruction_in line.entry.instruction)) self.new.counts) }
         ensures shift { IfOk result (λ within. within ≡ true → shift_of self.new.shift.detectors self.new.shift.offset.items ≡ shift_after (instruction_in line.entry.instruction) (shift_of self.old.shift.detectors self.old.shift.offset.items)) }

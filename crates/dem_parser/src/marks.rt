@@ -1,6 +1,7 @@
-ghost use Rattle.std.specs.Prelude.{◌≡◌, false, [], map, replicate, IfOk};
+ghost use Rattle.std.specs.Prelude.{◌≡◌, ◌<◌, ◌^◌, false, [], length, map, replicate, IfOk};
 ghost use Rattle.std.specs.List.{range_with_len};
 ghost use Rattle.dem_lines.specs.Flat.{instruction_in};
+ghost use Rattle.dem_lines.specs.Reached.{reached};
 ghost use Rattle.dem_parser.specs.Marked.{HasMarked, list_numbered, marked, marked_at};
 ghost use Rattle.dem_parser.specs.Meanings.{last_coordinates};
 ghost use Rattle.dem_parser.specs.Models.{first_beyond, is_beyond, placed_lines};
@@ -111,7 +112,8 @@ pub(crate) fn coordinates_of<A: Allocator + Copy>(
     table: &LineTable<'_, '_, A>,
     detectors: usize,
 ) -> Result<FlatLists<i64, A>, AllocError>
-    requires { first_beyond (placed_lines table.now) ≡ None }
+    requires near { first_beyond (placed_lines table.now) ≡ None }
+    requires few { length (reached table.now) < 2 ^ 64 }
     ensures { IfOk result (λ found. found ≡ map (λ d. last_coordinates d [] (placed_lines table.now)) (range_with_len 0 detectors)) }
 {
     let mut marking = Marking {

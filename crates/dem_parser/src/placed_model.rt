@@ -138,7 +138,7 @@ impl<'c, 'a, A: Allocator + Copy> PlacedModel<'c, 'a, A> {
             };
             let line = line.instruction;
             passed = pass_line(&mut bits, named, passed, detectors, shift, line);
-            shift = detectors_past(shift, line)?;
+            shift = detectors_past(shift, line);
         }
         Ok(bits)
     }

@@ -1,7 +1,8 @@
-ghost use Rattle.std.specs.Prelude.{◌≡◌, ◌≤◌, ◌<◌, ◌+ℤ◌, ℤ, List, pos, [], length, map, slice_index_or, IfOk};
+ghost use Rattle.std.specs.Prelude.{◌≡◌, ◌≤◌, ◌<◌, ◌+◌, ◌^◌, ◌+ℤ◌, ℤ, List, pos, [], length, map, slice_index_or, IfOk};
 ghost use Rattle.stim_parser.specs.Arguments.{arguments_in};
 ghost use Rattle.stim_parser.specs.Numbers.{whole_value};
 ghost use Rattle.dem_lines.specs.Flat.{instruction_in};
+ghost use Rattle.dem_lines.specs.Verdicts.{number_in};
 ghost use Rattle.dem_parser.specs.Offsets.{added_at, shift_of};
 ghost use Rattle.dem_parser.specs.Shifts.{both_offsets, shift_after};
 ghost use Rattle.dem_parser.specs.Tables.{IsKnown};
@@ -97,36 +98,28 @@ fn add<A: Allocator + Copy>(offset: &mut Vec<i128, A>, more: &[i64]) -> Result<(
     Ok(())
 }
 
-/// By how much detectors are shifted after an instruction. A sum that does not fit would take more lines than memory
-/// holds.
-pub(crate) fn detectors_past(
-    shift: u128,
-    instruction: Instruction<'_, '_>,
-) -> Result<u128, AllocError>
-    ensures { IfOk result (λ after. (offset : List ℤ) → after ≡ (shift_after (instruction_in instruction.entry) (shift_of shift offset)).detectors) }
+/// By how much detectors are shifted after an instruction.
+pub(crate) fn detectors_past(shift: u128, instruction: Instruction<'_, '_>) -> u128
+    requires { shift + number_in instruction.targets.now < 2 ^ 128 }
+    ensures { (offset : List ℤ) → result ≡ (shift_after (instruction_in instruction.entry) (shift_of shift offset)).detectors }
 {
     match instruction.operation {
-        Operation::Shifts => {
-            let number = number_in(instruction.targets) as u128;
-            match shift.checked_add(number) {
-                Some(detectors) => Ok(detectors),
-                None => Err(AllocError),
-            }
-        }
-        _ => Ok(shift),
+        Operation::Shifts => shift + number_in(instruction.targets) as u128,
+        _ => shift,
     }
 }
 
 impl<A: Allocator + Copy> Shift<A> {
     /// Takes the shift past a line.
     pub(crate) fn pass(&mut self, line: TableLine<'_, '_>) -> Result<(), AllocError>
-        requires { IsKnown (instruction_in line.instruction) line.extent line.numbers.now }
+        requires known { IsKnown (instruction_in line.instruction) line.extent line.numbers.now }
+        requires room { self.old.detectors + number_in line.instruction.targets.now < 2 ^ 128 }
         ensures { IfOk result (λ _. shift_of self.new.detectors self.new.offset.items ≡ shift_after (instruction_in line.entry.instruction) (shift_of self.old.detectors self.old.offset.items)) }
     {
         match line.instruction.operation {
             Operation::Shifts => {
                 add(&mut self.offset, line.numbers)?;
-                self.detectors = detectors_past(self.detectors, line.instruction)?;
+                self.detectors = detectors_past(self.detectors, line.instruction);
                 Ok(())
             }
             _ => Ok(()),

@@ -8,7 +8,10 @@ pub push_errors-requires : goal.push_errors-requires
 push_errors-requires g c =
     let judged = c.placed.invariant in
     let few = few-counts (placed_lines c.placed.inside.table) judged.within in
-    record { counts = judged.counts; few = omega (arith, few, judged.counts.detectors_are, judged.counts.observables_are) }
+    record { counts = judged.counts; few = omega (arith, few, judged.counts.detectors_are, judged.counts.observables_are); short = judged.few }
+
+pub coordinates_of-requires : goal.coordinates_of-requires
+coordinates_of-requires g c = record { near = c.placed.invariant.within; few = c.placed.invariant.few }
 
 pub returns : goal.returns
 returns g c =
