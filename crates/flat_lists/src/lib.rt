@@ -85,9 +85,5 @@ fn start_of(ends: &[usize], index: usize) -> usize
     requires { index < length ends.now }
     ensures { result ≡ slice_index (0 ∷ ends.now) index }
 {
-    if index == 0 {
-        0
-    } else {
-        ends[index - 1]
-    }
+    if index == 0 { 0 } else { ends[index - 1] }
 }
