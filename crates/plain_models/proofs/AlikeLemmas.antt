@@ -7,7 +7,6 @@ use Rattle.stim_parser.specs.declared.forms.ArgumentForm.TheVariants.{OneProbabi
 use Rattle.stim_parser.specs.Arguments.{arguments_in}
 use Rattle.stim_parser.specs.Limits.{has_wrong_arguments, has_wrong_probability}
 use Rattle.stim_parser.specs.Said.{AreProbabilities}
-use Rattle.dem_lines.specs.declared.forms.TargetForm.TheVariants.{Effects}
 use Rattle.dem_lines.specs.declared.operation.Operation.TheVariants.{Errs}
 use Rattle.dem_lines.specs.declared.target.Target.{Target}
 use Rattle.dem_lines.specs.Instructions.{keyword_named}
