@@ -95,4 +95,4 @@ chain_means text is still e =
     let lines = all_placed is still in
     let few : has_many_lines t ≡ false = rw (no_block is) refl in
     let near : first_beyond (placed_lines t) ≡ None = rw (lines, none_beyond is (each_tree_is_accepted text t writes).fit) refl in
-    read-model text t (meaning_of (map placed is)) writes (whole-model t (map placed is) (meaning_of (map placed is)) few near (sym lines) refl)
+    read-model text t (meaning_of (map placed is)) writes (whole-model t (meaning_of (map placed is)) few near (ap meaning_of (sym lines)))

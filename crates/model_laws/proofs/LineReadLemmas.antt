@@ -1,13 +1,13 @@
 -- The line of an instruction that fits is read as that instruction.
 use Rattle.std.proofs.Common.{◌≡◌, ℕ, ◌==◌, ◌<◌, true, false, List, [], ◌∷◌, ◌++◌, map, Some, decimal, refl, ap, ap₂, ◌∙◌, append-nil, arith}
-use Rattle.std.specs.List.{list_any, list_all, onto_first, slice_split}
-use Rattle.std.proofs.lemmas.Bool.{and_parts, false≢true, ltb-false, or_from, or_parts}
-use Rattle.stim_lexer.specs.Bytes.{after_blanks, is_blank, is_empty}
+use Rattle.std.specs.List.{list_any, slice_split}
+use Rattle.std.proofs.lemmas.Bool.{false≢true, ltb-false, or_from, or_parts}
+use Rattle.stim_lexer.specs.Bytes.{after_blanks, is_empty}
 use Rattle.stim_parser.specs.Arguments.{arguments_in, is_comma, trimmed}
 use Rattle.block_text.specs.Texts.{Takes}
 use Rattle.stim_parser.specs.Judging.{judged, reading_of, refusal_of}
 use Rattle.stim_parser.specs.Numbers.{greatest_number}
-use Rattle.stim_parser.specs.Pieces.{ends_here, ends_piece, is_star, pieces_of}
+use Rattle.stim_parser.specs.Pieces.{ends_here, ends_piece, pieces_of}
 use Rattle.stim_parser.specs.Targets.{each_of}
 use Rattle.stim_parser.specs.declared.table.Keyword.TheVariants.{Does}
 use Rattle.dem_lines.specs.declared.operation.Operation.{Operation}
@@ -24,7 +24,7 @@ use Rattle.model_laws.proofs.CutLemmas.{slice_split-alone, slice_split-first}
 use Rattle.model_laws.proofs.InstructionTexts.{inside, instruction, more_arguments, name_text, target_word, target_words}
 use Rattle.model_laws.proofs.LineCutLemmas.{AreTargetWords, AreWords, line_cut}
 use Rattle.model_laws.proofs.NumberLemmas.{decimal_is_word, number_of-decimal}
-use Rattle.model_laws.proofs.WordLemmas.{after_blanks-word, is_word, is_word_byte, no_blank, no_end_of_piece, other_byte, trimmed-space, trimmed-word, word_bytes}
+use Rattle.model_laws.proofs.WordLemmas.{after_blanks-word, is_word, is_word_byte, no_end_of_piece, other_byte, trimmed-space, trimmed-word, word_bytes}
 
 -- ---- arguments
 

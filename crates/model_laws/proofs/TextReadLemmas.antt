@@ -1,5 +1,5 @@
 -- A text of instructions, one a line, in no block and with no shift among them, means what these instructions say.
-use Rattle.std.proofs.Common.{◌≡◌, ℕ, ◌+◌, Bool, true, false, cond, if◌then◌else◌, max, ℤ, List, [], ◌∷◌, ◌++◌, map, Ok, refl, ap, ap₂, ◌∙◌}
+use Rattle.std.proofs.Common.{◌≡◌, ℕ, ◌+◌, Bool, true, false, cond, if◌then◌else◌, max, ℤ, List, [], ◌∷◌, ◌++◌, map, Ok, refl, ap, ◌∙◌}
 use Rattle.std.proofs.Math.Path.{fun_ext}
 use Rattle.std.specs.Prelude.{⊤}
 use Rattle.std.specs.List.{filter, range_with_len}

@@ -15,7 +15,7 @@ use Rattle.dem_lines.specs.declared.target.Target.{Target}
 use Rattle.dem_lines.specs.declared.target.Target.TheVariants.{Detector, Observable}
 use Rattle.plain_models.specs.ErrorTexts.{AreCounted, IsNumberFront, IsTargetFront, is_word_byte}
 use Rattle.dem_lines.specs.Limits.{has_target_beyond, is_effect, is_target_beyond}
-use Rattle.dem_parser.specs.Meanings.{detectors_to, greatest_of, observables_to}
+use Rattle.dem_parser.specs.Meanings.{detectors_to, observables_to}
 use Rattle.dem_lines.specs.Targets.{target_of, targets_in}
 use Rattle.dem_parser.proofs.CountLemmas.{max-none, raised-next}
 use Rattle.dem_parser.proofs.QuietLemmas.{all-where, both_all, first_piece, is_quiet, none-where}

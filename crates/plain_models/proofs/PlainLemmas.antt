@@ -29,7 +29,7 @@ use Rattle.dem_lines.specs.Instructions.{keyword_named}
 use Rattle.dem_lines.specs.Texts.{Does, items_in, models, refused}
 use Rattle.dem_lines.specs.Verdicts.{Instruction, model_table, read_targets}
 use Rattle.dem_parser.specs.declared.counts.TargetCounts.{TargetCounts}
-use Rattle.dem_parser.specs.Meanings.{detector_count, detectors_to, error_line, greatest_of, greatest_over, is_error, observable_count, observables_to}
+use Rattle.dem_parser.specs.Meanings.{detector_count, detectors_to, error_line, greatest_of, greatest_over, is_error, observable_count}
 use Rattle.dem_parser.specs.Models.{model_in, model_of_items}
 use Rattle.dem_parser.specs.Shifts.{Placed}
 use Rattle.dem_parser.proofs.ChainLemmas.{AllStay, chain_means, placed}
@@ -82,6 +82,7 @@ line_says line found h e =
     by true w e f = e
     by false true e f = (e, f, refl)
     by false false e f = (e, f, refl)
+
     of : (found : Result (Option Line) Fault) → Says (λ (n : Numbered). n.cut) line (answered found) → Says cut_in line found
     of (Ok None) said = said
     of (Ok (Some l)) said = said

@@ -1,4 +1,4 @@
-use Rattle.std.proofs.Common.{◌≡◌, ◌+◌, ap, inr, sym, Ok, ◌∙◌, length, arith}
+use Rattle.std.proofs.Common.{◌≡◌, ap, inr, sym, Ok, ◌∙◌, length, arith}
 use Rattle.std.proofs.lemmas.Bool.Decides.{nat_tests}
 use Rattle.stim_lexer.proofs.ScanLemmas.{lines_of-none}
 use Rattle.plain_models.proofs.PlainLemmas.{plain-first, plain-next, plain-refused, plain-whole}
