@@ -5,12 +5,9 @@ use Rattle.std.specs.List.{range_with_len}
 use Rattle.std.proofs.lemmas.List.{map-append}
 use Rattle.std.proofs.lemmas.List.FromFn.{length-map-range_with_len}
 use Rattle.step_model.specs.ErrorModels.{ErrorLine, ErrorModel}
-use Rattle.dem_lines.specs.Verdicts.{Instruction}
 use Rattle.dem_parser.specs.Meanings.{detector_count, detectors_to, error_line, error_lines, greatest_of, greatest_over, is_error, last_coordinates, meaning_of, observable_count, observables_to}
-use Rattle.dem_parser.specs.Shifts.{Placed, no_shift, placed_at, placed_from, shift_after, target_at}
+use Rattle.dem_parser.specs.Shifts.{Placed}
 use Rattle.dem_parser.specs.Summed.{AreCounts}
-use Rattle.dem_parser.specs.Offsets.{shift_of}
-use Rattle.dem_parser.proofs.WalkLemmas.{placed-next, placed-none}
 
 -- ---- more error lines
 
@@ -35,61 +32,47 @@ lines-both model xs ys = ap (λ (ls : List ErrorLine). record model { lines = ls
 lines-none : (model : ErrorModel) → with_lines model [] ≡ model
 lines-none model = ap (λ (ls : List ErrorLine). record model { lines = ls }) (append-nil model.lines)
 
--- ---- instructions one after another
+-- ---- lines one after another
 
--- the model so far, and the lines that are left, with some offset of coordinates
-pub record IsUnrolling (d o : ℕ) (model : ErrorModel) (shift : ℕ) (rest : List Instruction) (whole : ErrorModel) : Type 0 where
-  pub offset : List ℤ
-  pub left : with_lines model (error_lines d o (placed_from (shift_of shift offset) rest)) ≡ whole
-  pub low : detector_count (placed_from (shift_of shift offset) rest) ≤ d
-  pub few : observable_count (placed_from (shift_of shift offset) rest) ≤ o
+-- the model so far, and the lines that are left
+pub record IsUnrolling (d o : ℕ) (model : ErrorModel) (rest : List Placed) (whole : ErrorModel) : Type 0 where
+  pub left : with_lines model (error_lines d o rest) ≡ whole
+  pub low : detector_count rest ≤ d
+  pub few : observable_count rest ≤ o
 
-pub unrolling-first : (start : ErrorModel) (all : List Instruction) (d o errors : ℕ) → AreCounts (placed_from no_shift all) d o errors
-    → IsUnrolling d o start 0 all (with_lines start (error_lines d o (placed_from no_shift all)))
+pub unrolling-first : (start : ErrorModel) (all : List Placed) (d o errors : ℕ) → AreCounts all d o errors → IsUnrolling d o start all (with_lines start (error_lines d o all))
 unrolling-first start all d o errors are =
-    record { offset = []; left = refl; low = omega (arith, are.detectors_are); few = omega (arith, are.observables_are) }
+    record { left = refl; low = omega (arith, are.detectors_are); few = omega (arith, are.observables_are) }
 
--- the instruction that is next names no more than all do
-pub unrolling-here : (d o : ℕ) (model : ErrorModel) (shift : ℕ) (rest rest' : List Instruction) (whole : ErrorModel) (i : Instruction) → IsUnrolling d o model shift rest whole → rest ≡ i ∷ rest'
-    → (greatest_of detectors_to (map (target_at shift) i.targets) ≤ d) × (greatest_of observables_to (map (target_at shift) i.targets) ≤ o)
+-- the line that is next names no more than all do
+pub unrolling-here : (d o : ℕ) (model : ErrorModel) (rest rest' : List Placed) (whole : ErrorModel) (p : Placed) → IsUnrolling d o model rest whole → rest ≡ p ∷ rest'
+    → (greatest_of detectors_to p.targets ≤ d) × (greatest_of observables_to p.targets ≤ o)
 unfolding greatest_over
-unrolling-here d o model shift rest rest' whole i h e =
-    let s = shift_of shift h.offset in
-    let first = placed-next s (shift_after i s) i rest rest' e refl in
-    let detectors = ap (λ ps. detector_count ps) first in
-    let observables = ap (λ ps. observable_count ps) first in
+unrolling-here d o model rest rest' whole p h e =
+    let detectors = ap (λ ps. detector_count ps) e in
+    let observables = ap (λ ps. observable_count ps) e in
     (omega (arith, detectors, h.low), omega (arith, observables, h.few))
 
-pub unrolling-next : (d o : ℕ) (model model' : ErrorModel) (shift shift' : ℕ) (rest rest' : List Instruction) (whole : ErrorModel) (i : Instruction)
-    → IsUnrolling d o model shift rest whole → rest ≡ i ∷ rest'
-    → ((offset : List ℤ) → model' ≡ with_lines model (error_lines d o (placed_at (shift_of shift offset) i ∷ [])))
-    → ((offset : List ℤ) → shift' ≡ (shift_after i (shift_of shift offset)).detectors)
-    → IsUnrolling d o model' shift' rest' whole
+pub unrolling-next : (d o : ℕ) (model model' : ErrorModel) (rest rest' : List Placed) (whole : ErrorModel) (p : Placed)
+    → IsUnrolling d o model rest whole → rest ≡ p ∷ rest' → model' ≡ with_lines model (error_lines d o (p ∷ [])) → IsUnrolling d o model' rest' whole
 unfolding greatest_over
-unrolling-next d o model model' shift shift' rest rest' whole i h e more shifts =
-    let s = shift_of shift h.offset in
-    let p = placed_at s i in
-    let offset = (shift_after i s).offset in
-    let next : shift_of shift' offset ≡ shift_after i s = ap (λ n. shift_of n offset) (shifts h.offset) in
-    let later = placed_from (shift_of shift' offset) rest' in
-    let first : placed_from s rest ≡ p ∷ later = placed-next s (shift_of shift' offset) i rest rest' e next in
-    let detectors = ap (λ ps. detector_count ps) first in
-    let observables = ap (λ ps. observable_count ps) first in
+unrolling-next d o model model' rest rest' whole p h e more =
+    let detectors = ap (λ ps. detector_count ps) e in
+    let observables = ap (λ ps. observable_count ps) e in
     record {
-      offset = offset;
       left =
-          ap (λ m. with_lines m (error_lines d o later)) (more h.offset)
-          ∙ lines-both model (error_lines d o (p ∷ [])) (error_lines d o later)
-          ∙ ap (with_lines model) (sym (errors-both d o (p ∷ []) later))
-          ∙ ap (λ ps. with_lines model (error_lines d o ps)) (sym first)
+          ap (λ m. with_lines m (error_lines d o rest')) more
+          ∙ lines-both model (error_lines d o (p ∷ [])) (error_lines d o rest')
+          ∙ ap (with_lines model) (sym (errors-both d o (p ∷ []) rest'))
+          ∙ ap (λ ps. with_lines model (error_lines d o ps)) (sym e)
           ∙ h.left;
       low = omega (arith, detectors, h.low);
       few = omega (arith, observables, h.few);
     }
 
-pub unrolling-done : (d o : ℕ) (model : ErrorModel) (shift : ℕ) (rest : List Instruction) (whole : ErrorModel) → IsUnrolling d o model shift rest whole → rest ≡ [] → model ≡ whole
-unrolling-done d o model shift rest whole h e =
-    sym (ap (λ ps. with_lines model (error_lines d o ps)) (placed-none (shift_of shift h.offset) rest e) ∙ lines-none model) ∙ h.left
+pub unrolling-done : (d o : ℕ) (model : ErrorModel) (rest : List Placed) (whole : ErrorModel) → IsUnrolling d o model rest whole → rest ≡ [] → model ≡ whole
+unrolling-done d o model rest whole h e =
+    sym (ap (λ ps. with_lines model (error_lines d o ps)) e ∙ lines-none model) ∙ h.left
 
 -- ---- the model of placed lines
 

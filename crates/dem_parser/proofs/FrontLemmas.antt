@@ -36,6 +36,9 @@ front-done p found all rest h e =
 pub matched : {X : Type 0} (P : Type 0) (Q : X → Type 0) (o : Option X) (x : X) → MatchOption o P Q → o ≡ Some x → Q x
 matched P Q o x h e = subst (λ o. MatchOption o P Q) e h
 
+pub matched_none : {X : Type 0} (P : Type 0) (Q : X → Type 0) (o : Option X) → MatchOption o P Q → o ≡ None → P
+matched_none P Q o h e = subst (λ o. MatchOption o P Q) e h
+
 pub if_some : {X : Type 0} (P : Type 0) (Q : X → Type 0) (o : Option X) → MatchOption o P Q → IfSome o Q
 if_some P Q None h = tt
 if_some P Q (Some x) h = h

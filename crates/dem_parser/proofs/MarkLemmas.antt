@@ -9,11 +9,9 @@ use Rattle.std.proofs.lemmas.List.FromFn.{get_or-map-range_with_len, length-map-
 use Rattle.stim_lexer.specs.Bytes.{is_empty}
 use Rattle.dem_lines.specs.declared.target.Target.{Target}
 use Rattle.dem_lines.specs.declared.target.Target.TheVariants.{Plain, Detector, Observable, Separator}
-use Rattle.dem_lines.specs.Verdicts.{Instruction}
 use Rattle.dem_parser.specs.Marked.{HasMarked, list_numbered, marked}
 use Rattle.dem_parser.specs.Meanings.{is_detector_of, last_coordinates}
-use Rattle.dem_parser.specs.Shifts.{Placed, Shift, no_shift, placed_at, placed_from, shift_after}
-use Rattle.dem_parser.proofs.WalkLemmas.{placed-next, placed-none}
+use Rattle.dem_parser.specs.Shifts.{Placed}
 
 -- ---- marks of one line
 
@@ -64,24 +62,24 @@ last-list lists list =
     let later : length lists + 1 ≡ suc (length lists) = omega arith in
     ap (list_numbered (lists ++ list ∷ [])) later ∙ get_or-append_seam lists list [] []
 
--- the lists and marks so far, and the lines that are left from this shift on
-pub record IsMarking (all rest : List Instruction) (s : Shift) (lists : List (List ℤ)) (marks : List ℕ) (n : ℕ) : Type 0 where
+-- the lists and marks so far, and the lines that are left
+pub record IsMarking (all rest : List Placed) (lists : List (List ℤ)) (marks : List ℕ) (n : ℕ) : Type 0 where
   pub long : length marks ≡ n
   pub there : (d : ℕ) → d < n → get_or marks d 0 ≤ length lists
-  pub same : (d : ℕ) → d < n → last_coordinates d (list_numbered lists (get_or marks d 0)) (placed_from s rest) ≡ last_coordinates d [] (placed_from no_shift all)
+  pub same : (d : ℕ) → d < n → last_coordinates d (list_numbered lists (get_or marks d 0)) rest ≡ last_coordinates d [] all
 
 none-got : (n d : ℕ) → ◌≡◌ {A = ℕ} (get_or (replicate n 0) d 0) 0
 none-got zero d = refl
 none-got (suc n) zero = refl
 none-got (suc n) (suc d) = none-got n d
 
-pub marking-first : (all : List Instruction) (marks : List ℕ) (n : ℕ) → marks ≡ replicate n 0 → IsMarking all all no_shift [] marks n
+pub marking-first : (all : List Placed) (marks : List ℕ) (n : ℕ) → marks ≡ replicate n 0 → IsMarking all all [] marks n
 marking-first all marks n e =
     let at = λ (d : ℕ). ap (λ ms. get_or ms d 0) e ∙ none-got n d in
     record {
       long = ap length e ∙ length-replicate n 0;
       there = λ d h. omega (arith, at d);
-      same = λ d h. ap (λ m. last_coordinates d (list_numbered [] m) (placed_from no_shift all)) (at d);
+      same = λ d h. ap (λ m. last_coordinates d (list_numbered [] m) all) (at d);
     }
 
 -- what stands for a detector's coordinates after a line
@@ -115,38 +113,34 @@ length-chosen : (b : Bool) (mark : ℕ) (marks : List ℕ) (ts : List Target) �
 length-chosen true mark marks ts = length-marked mark marks ts
 length-chosen false mark marks ts = refl
 
-pub marking-next : (all rest rest' : List Instruction) (s s' : Shift) (lists lists' : List (List ℤ)) (marks marks' : List ℕ) (n : ℕ) (i : Instruction)
-    → IsMarking all rest s lists marks n → rest ≡ i ∷ rest' → HasMarked (placed_at s i) lists marks lists' marks' → s' ≡ shift_after i s
-    → IsMarking all rest' s' lists' marks' n
+pub marking-next : (all rest rest' : List Placed) (lists lists' : List (List ℤ)) (marks marks' : List ℕ) (n : ℕ) (p : Placed)
+    → IsMarking all rest lists marks n → rest ≡ p ∷ rest' → HasMarked p lists marks lists' marks' → IsMarking all rest' lists' marks' n
 unfolding last_coordinates
-marking-next all rest rest' s s' lists lists' marks marks' n i h e has next =
-    let p = placed_at s i in
+marking-next all rest rest' lists lists' marks marks' n p h e has =
     let gives = not (is_empty p.coordinates) in
-    let later = placed_from s' rest' in
-    let first : placed_from s rest ≡ p ∷ later = placed-next s s' i rest rest' e next in
     record {
       long = ap length has.marks_are ∙ length-chosen gives (length lists + 1) marks p.targets ∙ h.long;
       there = λ d below.
           let one = there-more gives d p lists marks (omega (arith, below, h.long)) (h.there d below) in
           omega (arith, one, ap (λ ms. get_or ms d 0) has.marks_are, ap length has.lists_are);
       same = λ d below.
-          ap (λ c. last_coordinates d c later)
+          ap (λ c. last_coordinates d c rest')
           (ap₂ (λ ls ms. list_numbered ls (get_or ms d 0)) has.lists_are has.marks_are
           ∙ chosen gives d p lists marks refl (omega (arith, below, h.long)) (h.there d below))
-          ∙ ap (last_coordinates d (list_numbered lists (get_or marks d 0))) (sym first)
+          ∙ ap (last_coordinates d (list_numbered lists (get_or marks d 0))) (sym e)
           ∙ h.same d below;
     }
 
-pub marking-done : (all rest : List Instruction) (s : Shift) (lists : List (List ℤ)) (marks : List ℕ) (n : ℕ) → IsMarking all rest s lists marks n → rest ≡ []
-    → map (list_numbered lists) marks ≡ map (λ d. last_coordinates d [] (placed_from no_shift all)) (range_with_len 0 n)
+pub marking-done : (all rest : List Placed) (lists : List (List ℤ)) (marks : List ℕ) (n : ℕ) → IsMarking all rest lists marks n → rest ≡ []
+    → map (list_numbered lists) marks ≡ map (λ d. last_coordinates d [] all) (range_with_len 0 n)
 unfolding last_coordinates
-marking-done all rest s lists marks n h e =
-    let f : ℕ → List ℤ = λ d. last_coordinates d [] (placed_from no_shift all) in
+marking-done all rest lists marks n h e =
+    let f : ℕ → List ℤ = λ d. last_coordinates d [] all in
     let long : length (map (list_numbered lists) marks) ≡ n = length-map marks (list_numbered lists) ∙ h.long in
     ext_get_or [] _ _ (long ∙ sym (length-map-range_with_len f 0 n))
     (λ d below.
     let here : d < n = omega (arith, below, long) in
     get_or-map (list_numbered lists) marks d 0 [] (omega (arith, here, h.long))
-    ∙ sym (ap (last_coordinates d (list_numbered lists (get_or marks d 0))) (placed-none s rest e))
+    ∙ sym (ap (last_coordinates d (list_numbered lists (get_or marks d 0))) e)
     ∙ h.same d here
     ∙ sym (get_or-map-range_with_len f 0 n d d [] here (omega arith)))

@@ -1,12 +1,17 @@
 -- What is worked out once of each item of an error model, looked up by its place; and what that gives of a line as it is
 -- reached.
-use Rattle.std.proofs.Common.{◌≡◌, ℕ, zero, suc, ◌+◌, ◌<◌, ◌≤◌, ◌||◌, Bool, true, false, ℤ, List, [], ◌∷◌, ◌++◌, Some, length, get_or, map, take, refl, ap, subst, sym, ◌∙◌, arith}
-use Rattle.std.specs.Prelude.{All, max, nat_lt}
+use Rattle.std.proofs.Common.{◌≡◌, ℕ, zero, suc, ◌+◌, ◌<◌, ◌≤◌, ◌||◌, Bool, true, false, ℤ, List, [], ◌∷◌, ◌++◌, Option, None, Some, length, get_or, map, take, refl, ap, subst, sym, ◌∙◌, arith}
+use Rattle.std.specs.Prelude.{All, MatchOption, max, nat_lt}
 use Rattle.std.specs.List.{list_any}
 use Rattle.std.proofs.lemmas.Bool.{ltb-false}
 use Rattle.std.proofs.lemmas.Bool.Decides.{nat_tests}
+use Rattle.std.proofs.lemmas.List.{length-map}
 use Rattle.std.proofs.lemmas.List.Elements.{All-append, All-cons}
 use Rattle.stim_parser.specs.Arguments.{arguments_in}
+use Rattle.stim_parser.specs.declared.table.Keyword.TheVariants as Keyword
+use Rattle.stim_parser.specs.Limits.{has_argument_beyond}
+use Rattle.stim_parser.specs.Numbers.{greatest_number, whole_value}
+use Rattle.dem_lines.specs.Instructions.{argument_form}
 use Rattle.dem_lines.specs.declared.operation.Operation.{Operation}
 use Rattle.dem_lines.specs.declared.operation.Operation.TheVariants.{Errs, Detects, Observes, Shifts}
 use Rattle.dem_lines.specs.declared.target.Target.{Target}
@@ -19,10 +24,10 @@ use Rattle.dem_lines.specs.Trees.{Tree, Nothing, Then, Block, items_of}
 use Rattle.dem_lines.specs.Verdicts.{Instruction}
 use Rattle.dem_parser.specs.declared.table.Extent.{Extent}
 use Rattle.dem_parser.specs.Meanings.{detectors_to, greatest_of, observables_to}
-use Rattle.dem_parser.specs.Models.{is_beyond, is_far}
 use Rattle.dem_parser.specs.Shifts.{Shift, coordinates_given, placed_at, target_at}
 use Rattle.dem_parser.specs.Tables.{AreTables, IsKnown, coordinates_from, count_at, extent_of, most_detectors, numbers_of_line, numbers_stated, tabled}
-use Rattle.dem_parser.proofs.ShiftLemmas.{few_arguments, left}
+use Rattle.dem_parser.specs.Offsets.{AreSmall}
+use Rattle.dem_parser.proofs.ShiftLemmas.{few_arguments, left, right, small_values}
 
 -- ---- a table
 
@@ -77,6 +82,23 @@ within-at t fit place =
     let P : Instruction → Type 0 = λ i. has_target_beyond i.targets ≡ false in
     at-place P refl (items_of t) (of-items P refl (λ i fits. fits.targets_within) t fit) place
 
+-- the numbers that an instruction states are few and small
+numbers-right : (i : Instruction) → Fits i → (length (numbers_of_line i) ≤ 16) × AreSmall (numbers_of_line i)
+numbers-right i fits = stated i.operation i.arguments (few_arguments i fits) fits.arguments_within
+  where
+    stated : (operation : Operation) (arguments : List (List ℕ)) → length arguments ≤ 16 → has_argument_beyond greatest_number (argument_form (Keyword.Does operation)) arguments ≡ false
+        → (length (numbers_stated operation arguments) ≤ 16) × AreSmall (numbers_stated operation arguments)
+    stated Errs arguments few within = (omega arith, λ k d below. absurd (omega (arith, below)))
+    stated Detects arguments few within = (let same = length-map arguments whole_value in omega (arith, same, few), small_values arguments within)
+    stated Observes arguments few within = (omega arith, λ k d below. absurd (omega (arith, below)))
+    stated Shifts arguments few within = (let same = length-map arguments whole_value in omega (arith, same, few), small_values arguments within)
+
+numbers-at : (t : Tree) → AllFit t → (place : ℕ) → (length (numbers_of_line (instruction_at (items_of t) place)) ≤ 16) × AreSmall (numbers_of_line (instruction_at (items_of t) place))
+numbers-at t fit place =
+    let P : Instruction → Type 0 = λ i. (length (numbers_of_line i) ≤ 16) × AreSmall (numbers_of_line i) in
+    let none : P no_instruction = (omega arith, λ k d below. absurd (omega (arith, below))) in
+    at-place P none (items_of t) (of-items P none numbers-right t fit) place
+
 -- ---- targets that are shifted
 
 count-max : (s a b : ℕ) → max (count_at s a) (count_at s b) ≡ count_at s (max a b)
@@ -108,10 +130,6 @@ observables-stay s (Separator ∷ ts) = ap (max 0) (observables-stay s ts)
 
 either-above : (m : ℕ) (a b : Bool) (x y : ℕ) → a ≡ nat_lt m x → b ≡ nat_lt m y → a || b ≡ nat_lt m (max x y)
 either-above m a b x y e f = grind (arith, nat_tests)
-
-right : (a b : Bool) → a || b ≡ false → b ≡ false
-right false b h = h
-right true b h = cc
 
 one-more : (m d : ℕ) → nat_lt m d ≡ nat_lt (m + 1) (d + 1)
 one-more m d = grind (arith, nat_tests)
@@ -168,31 +186,16 @@ pub coordinates-known : (s : Shift) (i : Instruction) (e : Extent) (ns : List �
 coordinates-known s i e ns known =
     ap (λ stated. coordinates_from i.operation stated s.offset) known.numbers_are ∙ coordinates-same i.operation i.arguments s.offset
 
-pub beyond-targets : (s : Shift) (i : Instruction) (e : Extent) (ns : List ℤ) → IsKnown i e ns
-    → nat_lt most_detectors (count_at s.detectors e.detectors) ≡ true → is_beyond (placed_at s i) ≡ true
-beyond-targets s i e ns known far =
-    ap (λ b. b || list_any is_far (placed_at s i).coordinates) (targets-beyond s i e ns known ∙ far)
-
-either-true : (a b : Bool) → b ≡ true → a || b ≡ true
-either-true true b h = refl
-either-true false b h = h
-
-pub beyond-coordinates : (s : Shift) (i : Instruction) (e : Extent) (ns : List ℤ) → IsKnown i e ns
-    → list_any is_far (coordinates_from i.operation ns s.offset) ≡ true → is_beyond (placed_at s i) ≡ true
-beyond-coordinates s i e ns known far =
-    either-true (has_target_beyond (placed_at s i).targets) _ (ap (list_any is_far) (sym (coordinates-known s i e ns known)) ∙ far)
-
-pub within-limits : (s : Shift) (i : Instruction) (e : Extent) (ns : List ℤ) → IsKnown i e ns
-    → nat_lt most_detectors (count_at s.detectors e.detectors) ≡ false → list_any is_far (coordinates_from i.operation ns s.offset) ≡ false → is_beyond (placed_at s i) ≡ false
-within-limits s i e ns known near close =
-    ap (λ b. b || list_any is_far (placed_at s i).coordinates) (targets-beyond s i e ns known ∙ near)
-    ∙ ap (list_any is_far) (sym (coordinates-known s i e ns known))
-    ∙ close
-
-pub detectors-known : (s : Shift) (i : Instruction) (e : Extent) (ns : List ℤ) → IsKnown i e ns
+detectors-known : (s : Shift) (i : Instruction) (e : Extent) (ns : List ℤ) → IsKnown i e ns
     → count_at s.detectors e.detectors ≡ greatest_of detectors_to (placed_at s i).targets
 detectors-known s i e ns known =
     ap (λ (x : Extent). count_at s.detectors x.detectors) known.extent_is ∙ sym (counted s.detectors i.targets)
+
+pub detectors-placed : (s : Shift) (i : Instruction) (e : Extent) (ns : List ℤ) → IsKnown i e ns → (found : Option ℕ)
+    → MatchOption found (nat_lt most_detectors (count_at s.detectors e.detectors) ≡ true) (λ n. (n ≡ count_at s.detectors e.detectors) × (nat_lt most_detectors (count_at s.detectors e.detectors) ≡ false))
+    → MatchOption found (has_target_beyond (placed_at s i).targets ≡ true) (λ n. (n ≡ greatest_of detectors_to (placed_at s i).targets) × (has_target_beyond (placed_at s i).targets ≡ false))
+detectors-placed s i e ns known None far = targets-beyond s i e ns known ∙ far
+detectors-placed s i e ns known (Some n) near = (near.0 ∙ detectors-known s i e ns known, targets-beyond s i e ns known ∙ near.1)
 
 pub observables-known : (s : Shift) (i : Instruction) (e : Extent) (ns : List ℤ) → IsKnown i e ns
     → e.observables ≡ greatest_of observables_to (placed_at s i).targets
@@ -203,15 +206,19 @@ observables-known s i e ns known =
 pub known-at : (t : Tree) (place : ℕ) (i : Instruction) (extents : List Extent) (numbers : List (List ℤ)) (e : Extent) (ns : List ℤ) → AllFit t → AreTables (items_of t) extents numbers
     → i ≡ instruction_at (items_of t) place → e ≡ get_or extents place (extent_of no_instruction) → ns ≡ get_or numbers place [] → IsKnown i e ns
 known-at t place i extents numbers e ns fit tables same extent stated =
+    let found : ns ≡ numbers_of_line (instruction_at (items_of t) place) =
+    stated
+    ∙ ap (λ (xs : List (List ℤ)). get_or xs place []) tables.numbers_are
+    ∙ tabled-at numbers_of_line (items_of t) place in
+    let right = numbers-at t fit place in
     subst (λ (j : Instruction). IsKnown j e ns) (sym same)
     (record {
       extent_is =
           extent
           ∙ ap (λ xs. get_or xs place (extent_of no_instruction)) tables.extents_are
           ∙ tabled-at extent_of (items_of t) place;
-      numbers_are =
-          stated
-          ∙ ap (λ (xs : List (List ℤ)). get_or xs place []) tables.numbers_are
-          ∙ tabled-at numbers_of_line (items_of t) place;
+      numbers_are = found;
       within = within-at t fit place;
+      few = subst (λ (ms : List ℤ). length ms ≤ 16) (sym found) right.0;
+      small = subst AreSmall (sym found) right.1;
     })

@@ -13,7 +13,9 @@ use Rattle.dem_lines.specs.Trees.{Tree, Nothing, Then, Block, items_of}
 use Rattle.dem_lines.specs.Verdicts.{Instruction}
 use Rattle.dem_lines.proofs.PassLemmas.{AreWhole, can_stand, drop_got, whole-tree}
 use Rattle.dem_parser.specs.declared.walk.Turns.{Turns}
-use Rattle.dem_parser.specs.Walks.{AreOpen, IsWalk, after, after_turn, gone_over, is_line, items_left, left_behind, lines_among, lines_left, trees_at, turn_of}
+use Rattle.dem_parser.specs.Offsets.{HasRoom}
+use Rattle.dem_parser.specs.Shifts.{Placed, Shift, no_shift, placed_at, placed_from, shift_after}
+use Rattle.dem_parser.specs.Walks.{AreOpen, IsAtLine, IsPlacedWalk, IsWalk, after, after_turn, gone_over, is_line, items_left, left_behind, lines_among, lines_left, placed_left, trees_at, turn_of}
 
 -- ---- instructions among items
 
@@ -266,6 +268,49 @@ goes-none items place blocks walk e =
     ended : (bs : List Turns) → length bs ≡ 0 → lines_among (left_behind items bs []) ≡ []
     ended [] none = refl
     ended (b ∷ bs) none = absurd (omega (arith, none))
+
+-- ---- lines as they are reached
+
+line-after : (item : Item) (place : ℕ) (blocks : List Turns) → is_line item ≡ true → after item place blocks ≡ (place + 1, blocks)
+line-after (Does i) place blocks e = refl
+line-after (Begins line turns) place blocks e = absurd cc
+line-after Ends place blocks e = absurd cc
+
+-- at an item, a walk that stands at a line or at the end stands at this line
+at-line : (items : List Item) (place : ℕ) (item : Item) → IsAtLine (slice_get items place) → Some item ≡ slice_get items place → is_line item ≡ true
+at-line items place item at got = subst IsAtLine (sym got) at
+
+pub record Passes (items : List Item) (s : Shift) (place : ℕ) (blocks : List Turns) (i : Instruction) : Type 0 where
+  pub walk : IsWalk items (place + 1) blocks
+  pub first : placed_left items s place blocks ≡ placed_at s i ∷ placed_left items (shift_after i s) (place + 1) blocks
+  pub long : length (lines_left items place blocks) ≡ suc (length (lines_left items (place + 1) blocks))
+
+-- the line that is next, and the walk behind it
+pub passes : (items : List Item) (s : Shift) (place : ℕ) (blocks : List Turns) (item : Item) (i : Instruction) → IsPlacedWalk items s place blocks → Some item ≡ slice_get items place
+    → i ≡ instruction_at items place → Passes items s place blocks i
+unfolding placed_from
+passes items s place blocks item i h got is =
+    let line = at-line items place item h.line got in
+    let goes = goes-on items place blocks item (place + 1) blocks h.walk got (line-after item place blocks line) in
+    let left : lines_left items place blocks ≡ i ∷ lines_left items (place + 1) blocks =
+    goes.line line ∙ ap (λ (j : Instruction). j ∷ lines_left items (place + 1) blocks) (sym is) in
+    record { walk = goes.walk; first = ap (placed_from s) left; long = ap length left }
+
+pub passes-none : (items : List Item) (s : Shift) (place : ℕ) (blocks : List Turns) → IsPlacedWalk items s place blocks → None ≡ slice_get items place → placed_left items s place blocks ≡ []
+unfolding placed_from
+passes-none items s place blocks h got = ap (placed_from s) (goes-none items place blocks h.walk got)
+
+pub length-placed : (s : Shift) (is : List Instruction) → length (placed_from s is) ≡ length is
+unfolding placed_from
+length-placed s [] = refl
+length-placed s (i ∷ is) = ap suc (length-placed (shift_after i s) is)
+
+pub room-first : (n : ℕ) → n < 2 ^ 64 → HasRoom no_shift n
+room-first n few = record { detectors = omega (arith, few); offset = λ k d below. absurd (omega (arith, below)) }
+
+-- what follows the first line
+pub behind-first : (all later rest : List Placed) (p : Placed) → all ≡ p ∷ later → rest ≡ drop 1 all → all ≡ p ∷ rest
+behind-first all later rest p e is = e ∙ ap (λ (ps : List Placed). p ∷ ps) (sym (is ∙ ap (λ (ps : List Placed). drop 1 ps) e))
 
 -- ---- how many lines are reached
 

@@ -8,3 +8,4 @@ pub mod Numbered
 pub mod Summed
 pub mod Marked
 pub mod Tables
+pub mod Placed

@@ -1,18 +1,20 @@
--- How a shift is kept as lines are reached, and how an offset grows place by place. (Stim's detector error model format,
+-- How the shift of a line's coordinates is summed, and what 128 bits have room for. (Stim's detector error model format,
 -- github.com/quantumlib/Stim, doc/file_format_dem_detector_error_model.md, "shift_detectors".)
-use Rattle.std.specs.Prelude.{ℕ, zero, suc, ◌+◌, ◌*◌, ◌<◌, ◌^◌, ℤ, ◌+ℤ◌, List, [], ◌∷◌}
+use Rattle.std.specs.Prelude.{ℕ, ◌+◌, ◌*◌, ◌<◌, ◌^◌, nat_abs, ℤ, pos, List, All, slice_index_or}
 use Rattle.dem_parser.specs.Shifts.{Shift}
 
--- a shift of detectors by this number and of coordinates by this offset
-abbrev pub shift_of : ℕ → List ℤ → Shift
-shift_of detectors offset = record { detectors = detectors; offset = offset }
+-- the number at a place, 0 past the end
+abbrev pub number_at : List ℤ → ℕ → ℤ
+number_at numbers place = slice_index_or numbers place (pos 0)
 
--- an offset with a number added at a place; where the offset ends before the place, the number is appended
-abbrev pub added_at : List ℤ → ℕ → ℤ → List ℤ
-added_at [] place m = m ∷ []
-added_at (o ∷ offset) zero m = (o +ℤ m) ∷ offset
-added_at (o ∷ offset) (suc place) m = o ∷ added_at offset place m
+-- the least magnitude that no number of a line has
+abbrev pub beyond_stated : ℕ
+beyond_stated = 1_000_000_000_000_000_000
 
--- 128 bits have room for the shifts of this many lines more, each below 10^18
-abbrev pub HasRoom : ℕ → ℕ → Type 0
-HasRoom shift lines = shift + 1_000_000_000_000_000_000 * lines < 2 ^ 128
+abbrev pub AreSmall : List ℤ → Type 0
+AreSmall numbers = All (λ n. nat_abs n < beyond_stated) numbers
+
+-- 128 bits with a sign have room for the shifts of this many lines more
+pub record HasRoom (s : Shift) (lines : ℕ) : Type 0 where
+  pub detectors : s.detectors + beyond_stated * lines < 2 ^ 127
+  pub offset : All (λ o. nat_abs o + beyond_stated * lines < 2 ^ 127) s.offset

@@ -2,7 +2,7 @@
 -- the greatest observable that its own targets name, and the numbers that it states axis by axis. And what these are
 -- where detectors are shifted. (Stim's detector error model format, github.com/quantumlib/Stim,
 -- doc/file_format_dem_detector_error_model.md.)
-use Rattle.std.specs.Prelude.{◌≡◌, ℕ, zero, suc, ◌+◌, false, ℤ, List, [], map, Some}
+use Rattle.std.specs.Prelude.{◌≡◌, ℕ, zero, suc, ◌+◌, false, ◌≤◌, ℤ, List, [], length, map, Some}
 use Rattle.stim_parser.specs.Numbers.{whole_value}
 use Rattle.dem_lines.specs.declared.operation.Operation.{Operation}
 use Rattle.dem_lines.specs.declared.operation.Operation.TheVariants.{Detects, Shifts}
@@ -12,6 +12,7 @@ use Rattle.dem_lines.specs.Texts.{Item}
 use Rattle.dem_lines.specs.Verdicts.{Instruction}
 use Rattle.dem_parser.specs.declared.table.Extent.{Extent}
 use Rattle.dem_parser.specs.Meanings.{detectors_to, greatest_of, observables_to}
+use Rattle.dem_parser.specs.Offsets.{AreSmall}
 use Rattle.dem_parser.specs.Shifts.{moved}
 
 -- ---- what is worked out of an instruction
@@ -29,11 +30,13 @@ numbers_stated operation arguments = []
 abbrev pub numbers_of_line : Instruction → List ℤ
 numbers_of_line i = numbers_stated i.operation i.arguments
 
--- these are an instruction's, whose own targets are within their limits
+-- these are an instruction's, whose own targets and numbers are within their limits
 pub record IsKnown (i : Instruction) (extent : Extent) (numbers : List ℤ) : Type 0 where
   pub extent_is : extent ≡ extent_of i
   pub numbers_are : numbers ≡ numbers_of_line i
   pub within : has_target_beyond i.targets ≡ false
+  pub few : length numbers ≤ 16
+  pub small : AreSmall numbers
 
 -- ---- the same of all items
 

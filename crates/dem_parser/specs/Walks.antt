@@ -2,7 +2,7 @@
 -- items are before its place, and for each block that is open there where its body starts and how many turns come after
 -- this one. So what it keeps doesn't grow with the turns. (Stim's detector error model format,
 -- github.com/quantumlib/Stim, doc/file_format_dem_detector_error_model.md, "repeat".)
-use Rattle.std.specs.Prelude.{◌≡◌, ⊤, ℕ, zero, suc, ◌+◌, ◌-◌, ◌≤◌, Bool, true, false, List, [], ◌∷◌, ◌++◌, drop, length}
+use Rattle.std.specs.Prelude.{◌≡◌, ⊤, ℕ, zero, suc, ◌+◌, ◌-◌, ◌≤◌, Bool, true, false, List, [], ◌∷◌, ◌++◌, drop, length, Option, None, Some, slice_get}
 use Rattle.block_text.specs.Flat.{first_tree, trees_of}
 use Rattle.dem_lines.specs.Reached.{copies}
 use Rattle.dem_lines.specs.Texts.{Item, Does, Begins, Ends}
@@ -10,6 +10,8 @@ use Rattle.dem_lines.specs.Trees.{Tree, Nothing, Then, Block}
 use Rattle.dem_lines.specs.Verdicts.{Instruction}
 use Rattle.dem_lines.proofs.PassLemmas.{AreWhole}
 use Rattle.dem_parser.specs.declared.walk.Turns.{Turns}
+use Rattle.dem_parser.specs.Offsets.{HasRoom}
+use Rattle.dem_parser.specs.Shifts.{Placed, Shift, placed_from}
 
 -- ---- one step
 
@@ -76,3 +78,18 @@ pub record IsWalk (items : List Item) (place : ℕ) (blocks : List Turns) : Type
   pub inside : AreOpen items blocks (drop 1 (trees_at items place))
   pub whole : AreWhole (drop place items) (length blocks)
   pub few : length blocks ≤ 32
+
+-- ---- a walk that stands at a line or at the end
+
+abbrev pub IsAtLine : Option Item → Type 0
+IsAtLine None = ⊤
+IsAtLine (Some item) = is_line item ≡ true
+
+-- the lines that are left, as they are reached from this shift on
+abbrev pub placed_left : List Item → Shift → ℕ → List Turns → List Placed
+placed_left items s place blocks = placed_from s (lines_left items place blocks)
+
+pub record IsPlacedWalk (items : List Item) (s : Shift) (place : ℕ) (blocks : List Turns) : Type 0 where
+  pub walk : IsWalk items place blocks
+  pub line : IsAtLine (slice_get items place)
+  pub room : HasRoom s (length (lines_left items place blocks))

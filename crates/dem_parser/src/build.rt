@@ -1,20 +1,16 @@
-ghost use Rattle.std.specs.Prelude.{◌≡◌, ◌+◌, ◌^◌, ◌<◌, ◌≤◌, ◌++◌, length, [], ◌∷◌, ℤ, List, map, IfOk};
-ghost use Rattle.dem_lines.specs.Flat.{instruction_in};
+ghost use Rattle.std.specs.Prelude.{◌≡◌, ◌+◌, ◌^◌, ◌<◌, ◌≤◌, ◌++◌, length, [], ◌∷◌, IfOk};
 ghost use Rattle.dem_lines.specs.Reached.{reached};
 ghost use Rattle.dem_parser.specs.Meanings.{detectors_to, error_lines, greatest_of, observables_to};
 ghost use Rattle.dem_parser.specs.Models.{placed_lines};
-ghost use Rattle.dem_parser.specs.Shifts.{placed_at, target_at};
 ghost use Rattle.dem_parser.specs.Summed.{AreCounts};
-ghost use Rattle.dem_parser.specs.Offsets.{shift_of};
 
 use crate::counts::LineCounts;
 use crate::flips::read_flipped;
 use crate::marks::coordinates_of;
+use crate::placed_line::PlacedLine;
 use crate::placed_model::PlacedModel;
-use crate::shifts::{detectors_past, first_text};
 use crate::table::LineTable;
 use crate::walk::Walk;
-use dem_lines::{Instruction, Operation};
 use dem_text::Model;
 use std::alloc::{AllocError, Allocator};
 
@@ -25,34 +21,25 @@ struct Room<A: Allocator + Copy> {
     kept: Vec<u32, A>,
 }
 
-/// Appends a line where detectors are shifted, if it is an error line.
+/// Appends a line, if it is an error line.
 fn push_error<'a, A: Allocator + Copy>(
     model: &mut Model<'a, A>,
     room: &mut Room<A>,
     counts: LineCounts,
-    shift: u128,
-    line: Instruction<'_, 'a>,
+    line: &PlacedLine<'_, 'a>,
 ) -> Result<(), AllocError>
-    requires detectors { greatest_of detectors_to (map (target_at shift) line.targets.now) ≤ counts.detectors }
-    requires observables { greatest_of observables_to (map (target_at shift) line.targets.now) ≤ counts.observables }
+    requires detectors { greatest_of detectors_to line.now.targets ≤ counts.detectors }
+    requires observables { greatest_of observables_to line.now.targets ≤ counts.observables }
     requires few { counts.detectors + counts.observables ≤ 2 ^ 32 }
-    ensures { IfOk result (λ _. (offset : List ℤ) → model.new ≡ record model.old { lines = model.old.lines ++ error_lines counts.detectors counts.observables (placed_at (shift_of shift offset) (instruction_in line.entry) ∷ []) }) }
+    ensures { IfOk result (λ _. model.new ≡ record model.old { lines = model.old.lines ++ error_lines counts.detectors counts.observables (line.now ∷ []) }) }
 {
-    match line.operation {
-        Operation::Errs => {
-            let text = first_text(line.arguments);
-            read_flipped(
-                &mut room.numbers,
-                &mut room.kept,
-                counts,
-                shift,
-                line.targets,
-            )?;
-            model.push_line(text, room.kept.as_slice())?;
-            Ok(())
-        }
-        _ => Ok(()),
+    if !line.is_error() {
+        return Ok(());
     }
+    let (shift, targets) = line.targets();
+    read_flipped(&mut room.numbers, &mut room.kept, counts, shift, targets)?;
+    model.push_line(line.text(), room.kept.as_slice())?;
+    Ok(())
 }
 
 /// Appends the error lines among the lines that are reached.
@@ -71,11 +58,10 @@ fn push_errors<'a, A: Allocator + Copy>(
         numbers: Vec::new(alloc),
         kept: Vec::new(alloc),
     };
-    let mut shift = 0;
     let mut walk = Walk::new(table);
-    while let Some(line) = walk.next() {
-        push_error(model, &mut room, counts, shift, line.instruction)?;
-        shift = detectors_past(shift, line.instruction);
+    while let Some(line) = walk.line() {
+        push_error(model, &mut room, counts, &line)?;
+        walk.pass();
     }
     Ok(())
 }

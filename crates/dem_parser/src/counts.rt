@@ -1,4 +1,4 @@
-ghost use Rattle.std.specs.Prelude.{◌≡◌, ◌+◌, ◌<◌, ◌^◌, if◌then◌else◌, max};
+ghost use Rattle.std.specs.Prelude.{◌≡◌, max};
 ghost use Rattle.dem_parser.specs.Meanings.{detectors_to, greatest_of, is_error, observables_to};
 
 use dem_lines::{Operation, Target};
@@ -70,27 +70,4 @@ pub fn is_error(operation: Operation) -> bool
     ensures { result ≡ is_error operation }
 {
     matches!(operation, Operation::Errs)
-}
-
-/// Counts raised by a line with these counts.
-pub(crate) fn counts_past(
-    counts: LineCounts,
-    detectors: u32,
-    observables: u32,
-    operation: Operation,
-) -> LineCounts
-    requires { counts.errors + 1 < 2 ^ 64 }
-    ensures detectors { result.detectors ≡ max counts.detectors detectors }
-    ensures observables { result.observables ≡ max counts.observables observables }
-    ensures errors { result.errors ≡ (if is_error operation then counts.errors + 1 else counts.errors) }
-{
-    let mut errors = counts.errors;
-    if is_error(operation) {
-        errors += 1;
-    }
-    LineCounts {
-        detectors: counts.detectors.max(detectors),
-        observables: counts.observables.max(observables),
-        errors,
-    }
 }

@@ -2,12 +2,12 @@
 #![tactic(auto)]
 
 mod build;
-mod coordinates;
 mod counts;
 mod flips;
 mod judging;
 pub mod laws;
 mod marks;
+mod placed_line;
 mod placed_model;
 mod reader;
 mod shifts;

@@ -1,17 +1,13 @@
 ghost use Rattle.std.specs.Prelude.{◌≡◌, ◌<◌, ◌^◌, false, [], length, map, replicate, IfOk};
 ghost use Rattle.std.specs.List.{range_with_len};
-ghost use Rattle.dem_lines.specs.Flat.{instruction_in};
 ghost use Rattle.dem_lines.specs.Reached.{reached};
 ghost use Rattle.dem_parser.specs.Marked.{HasMarked, list_numbered, marked, marked_at};
 ghost use Rattle.dem_parser.specs.Meanings.{last_coordinates};
 ghost use Rattle.dem_parser.specs.Models.{first_beyond, is_beyond, placed_lines};
-ghost use Rattle.dem_parser.specs.Offsets.{shift_of};
-ghost use Rattle.dem_parser.specs.Shifts.{placed_at, target_at};
-ghost use Rattle.dem_parser.specs.Tables.{IsKnown};
+ghost use Rattle.dem_parser.specs.Shifts.{target_at};
 
-use crate::coordinates::move_stated;
-use crate::shifts::Shift;
-use crate::table::{LineTable, TableLine};
+use crate::placed_line::PlacedLine;
+use crate::table::LineTable;
 use crate::walk::Walk;
 use dem_lines::Target;
 use flat_lists::FlatLists;
@@ -50,35 +46,26 @@ fn list_at<A: Allocator + Copy>(lists: &FlatLists<i64, A>, mark: usize) -> &[i64
 }
 
 /// The lists of coordinates given so far, each detector's mark, which is the number from 1 of the last list that it was
-/// given, or 0, the shift from which it goes on, and room for a line's coordinates.
+/// given, or 0, and room for a line's coordinates.
 #[derive(Drop)]
 struct Marking<A: Allocator + Copy> {
     lists: FlatLists<i64, A>,
     marks: Vec<usize, A>,
-    shift: Shift<A>,
     room: Vec<i64, A>,
 }
 
 impl<A: Allocator + Copy> Marking<A> {
     /// Marks the detectors to which a line gives coordinates.
-    fn mark(&mut self, line: TableLine<'_, '_>) -> Result<(), AllocError>
-        requires known { IsKnown (instruction_in line.instruction) line.extent line.numbers.now }
-        requires near { is_beyond (placed_at (shift_of self.old.shift.detectors self.old.shift.offset.items) (instruction_in line.instruction)) ≡ false }
-        ensures marked { IfOk result (λ _. HasMarked (placed_at (shift_of self.old.shift.detectors self.old.shift.offset.items) (instruction_in line.entry.instruction)) self.old.lists self.old.marks.items self.new.lists self.new.marks.items) }
-        ensures shift { IfOk result (λ _. shift_of self.new.shift.detectors self.new.shift.offset.items ≡ shift_of self.old.shift.detectors self.old.shift.offset.items) }
+    fn mark(&mut self, line: &PlacedLine<'_, '_>) -> Result<(), AllocError>
+        requires { is_beyond line.now ≡ false }
+        ensures { IfOk result (λ _. HasMarked line.now self.old.lists self.old.marks.items self.new.lists self.new.marks.items) }
     {
-        let offset = self.shift.offset.as_slice();
-        let operation = line.instruction.operation;
-        let within = move_stated(&mut self.room, offset, operation, line.numbers)?;
+        let within = line.read_coordinates(&mut self.room)?;
         prove!(within);
         if !self.room.is_empty() {
             self.lists.push(self.room.as_slice())?;
-            mark_all(
-                &mut self.marks,
-                self.lists.len(),
-                self.shift.detectors,
-                line.instruction.targets,
-            );
+            let (shift, targets) = line.targets();
+            mark_all(&mut self.marks, self.lists.len(), shift, targets);
         }
         Ok(())
     }
@@ -119,16 +106,12 @@ pub(crate) fn coordinates_of<A: Allocator + Copy>(
     let mut marking = Marking {
         lists: FlatLists::new(alloc),
         marks: no_marks(alloc, detectors)?,
-        shift: Shift {
-            detectors: 0,
-            offset: Vec::new(alloc),
-        },
         room: Vec::new(alloc),
     };
     let mut walk = Walk::new(table);
-    while let Some(line) = walk.next() {
-        marking.mark(line)?;
-        marking.shift.pass(line)?;
+    while let Some(line) = walk.line() {
+        marking.mark(&line)?;
+        walk.pass();
     }
     let found = stood_for(alloc, &marking.lists, marking.marks.as_slice())?;
     Ok(found)

@@ -1,17 +1,15 @@
-ghost use Rattle.std.specs.Prelude.{◌≡◌, ◌≤◌, ◌+◌, ◌<◌, ◌^◌, ℕ, ℤ, List, false, true, length, map, slice_index_or, IfOk};
-ghost use Rattle.dem_lines.specs.Flat.{instruction_in};
-ghost use Rattle.dem_parser.specs.Offsets.{shift_of};
+ghost use Rattle.std.specs.Prelude.{◌≡◌, ◌≤◌, ◌+◌, ◌<◌, ◌^◌, ℕ, false, true, length, map, slice_index_or, IfOk};
 ghost use Rattle.dem_parser.specs.Numbered.{numbered, numbers_of};
-ghost use Rattle.dem_parser.specs.Shifts.{placed_at, target_at};
+ghost use Rattle.dem_parser.specs.Shifts.{target_at};
 ghost use Rattle.dem_parser.specs.Summed.{passed_after, turned_past};
 ghost use Rattle.dem_parser.specs.Sums.{symptom_of, turned};
 
-use crate::counts::{LineCounts, is_error};
-use crate::shifts::detectors_past;
+use crate::counts::LineCounts;
+use crate::placed_line::PlacedLine;
 use crate::sums::{no_bits, turn_at};
 use crate::table::LineTable;
 use crate::walk::Walk;
-use dem_lines::{Instruction, Target};
+use dem_lines::Target;
 use std::alloc::{AllocError, Allocator};
 use std::marker::Model;
 
@@ -95,18 +93,18 @@ fn pass_line(
     named: &[bool],
     passed: usize,
     detectors: u32,
-    shift: u128,
-    line: Instruction<'_, '_>,
+    line: &PlacedLine<'_, '_>,
 ) -> usize
     requires { passed + 1 < 2 ^ 64 }
-    ensures bits { (offset : List ℤ) → bits.new ≡ turned_past detectors named.now passed (placed_at (shift_of shift offset) (instruction_in line.entry)) bits.old }
-    ensures passed { (offset : List ℤ) → result ≡ passed_after passed (placed_at (shift_of shift offset) (instruction_in line.entry)) }
+    ensures bits { bits.new ≡ turned_past detectors named.now passed line.now bits.old }
+    ensures passed { result ≡ passed_after passed line.now }
 {
-    if !is_error(line.operation) {
+    if !line.is_error() {
         return passed;
     }
     if is_named(named, passed) {
-        turn_shifted(bits, detectors, shift, line.targets);
+        let (shift, targets) = line.targets();
+        turn_shifted(bits, detectors, shift, targets);
     }
     passed + 1
 }
@@ -130,15 +128,13 @@ impl<'c, 'a, A: Allocator + Copy> PlacedModel<'c, 'a, A> {
         let mut bits = no_bits(alloc, detectors as usize, observables as usize)?;
         let end = named_end(named);
         let mut passed = 0;
-        let mut shift = 0;
         let mut walk = Walk::new(&self.table);
         while passed < end {
-            let Some(line) = walk.next() else {
+            let Some(line) = walk.line() else {
                 return Ok(bits);
             };
-            let line = line.instruction;
-            passed = pass_line(&mut bits, named, passed, detectors, shift, line);
-            shift = detectors_past(shift, line);
+            passed = pass_line(&mut bits, named, passed, detectors, &line);
+            walk.pass();
         }
         Ok(bits)
     }

@@ -1,23 +1,30 @@
-ghost use Rattle.std.specs.Prelude.{◌≡◌, ◌≤◌, ◌<◌, ◌+◌, ◌^◌, ◌+ℤ◌, ℤ, List, pos, [], length, map, slice_index_or, IfOk};
+ghost use Rattle.std.specs.Prelude.{◌≡◌, ◌≤◌, ◌<◌, ◌+◌, ◌^◌, ◌+ℤ◌, pos, [], All, length, map, nat_abs, slice_index_or};
 ghost use Rattle.stim_parser.specs.Arguments.{arguments_in};
 ghost use Rattle.stim_parser.specs.Numbers.{whole_value};
 ghost use Rattle.dem_lines.specs.Flat.{instruction_in};
-ghost use Rattle.dem_lines.specs.Verdicts.{number_in};
-ghost use Rattle.dem_parser.specs.Offsets.{added_at, shift_of};
+ghost use Rattle.dem_parser.specs.Offsets.{AreSmall, HasRoom, beyond_stated, number_at};
 ghost use Rattle.dem_parser.specs.Shifts.{both_offsets, shift_after};
 ghost use Rattle.dem_parser.specs.Tables.{IsKnown};
 
 use crate::table::TableLine;
 use arrayvec::ArrayVec;
-use dem_lines::{Instruction, Operation, number_in};
-use std::alloc::{AllocError, Allocator};
+use dem_lines::{Operation, number_in};
+use std::marker::Model;
 use stim_parser::{MOST_ARGUMENTS, first_argument, read_arguments, whole_values};
 
 /// By how much the detectors of a line are shifted as it is reached, and its coordinates, axis by axis.
 #[derive(Drop)]
-pub(crate) struct Shift<A: Allocator + Copy> {
+pub(crate) struct Shift {
     pub detectors: u128,
-    pub offset: Vec<i128, A>,
+    pub offset: ArrayVec<i128, MOST_ARGUMENTS>,
+}
+
+impl Model for Shift {
+    ghost use Rattle.dem_parser.specs.Shifts.{Shift};
+
+    ghost Value = { Shift };
+
+    ghost view = { λ s. record { detectors = s.detectors; offset = s.offset.items } };
 }
 
 /// The text of the first argument, empty where there is none.
@@ -41,19 +48,9 @@ pub(crate) fn coordinates_read(arguments: &[u8]) -> ArrayVec<i64, MOST_ARGUMENTS
     }
 }
 
-/// A sum. One that does not fit would take more lines than memory holds.
-fn sum_of(a: i128, b: i64) -> Result<i128, AllocError>
-    ensures { IfOk result (λ sum. sum ≡ a +ℤ b) }
-{
-    match a.checked_add(b as i128) {
-        Some(sum) => Ok(sum),
-        None => Err(AllocError),
-    }
-}
-
 /// The number at a place of an offset, 0 past its end.
-fn number_at(offset: &[i128], place: usize) -> i128
-    ensures { result ≡ slice_index_or offset.now place (pos 0) }
+fn offset_at(offset: &[i128], place: usize) -> i128
+    ensures { result ≡ number_at offset.now place }
 {
     if place < offset.len() {
         offset[place]
@@ -62,67 +59,54 @@ fn number_at(offset: &[i128], place: usize) -> i128
     }
 }
 
-/// The sum of the numbers at a place of an offset and of another list.
-pub(crate) fn sum_at(offset: &[i128], more: &[i64], place: usize) -> Result<i128, AllocError>
-    requires { place < length more.now }
-    ensures { IfOk result (λ sum. sum ≡ slice_index_or offset.now place (pos 0) +ℤ slice_index_or more.now place (pos 0)) }
+/// The number at a place of those that a line states, 0 past their end.
+fn stated_at(stated: &[i64], place: usize) -> i64
+    ensures { result ≡ number_at stated.now place }
 {
-    sum_of(number_at(offset, place), more[place])
-}
-
-/// Adds the number at a place to that of an offset there; where the offset ends before the place, appends it.
-fn add_at<A: Allocator + Copy>(
-    offset: &mut Vec<i128, A>,
-    more: &[i64],
-    place: usize,
-) -> Result<(), AllocError>
-    requires { place < length more.now }
-    ensures { IfOk result (λ _. offset.new.items ≡ added_at offset.old.items place (slice_index_or more.now place (pos 0))) }
-{
-    if place < offset.len() {
-        let sum = sum_at(offset.as_slice(), more, place)?;
-        offset[place] = sum;
-        return Ok(());
-    }
-    offset.push(more[place] as i128)?;
-    Ok(())
-}
-
-/// Adds numbers to an offset, place by place. Those past its end are appended.
-fn add<A: Allocator + Copy>(offset: &mut Vec<i128, A>, more: &[i64]) -> Result<(), AllocError>
-    ensures { IfOk result (λ _. offset.new.items ≡ both_offsets offset.old.items more.now) }
-{
-    for place in 0..more.len() {
-        add_at(offset, more, place)?;
-    }
-    Ok(())
-}
-
-/// By how much detectors are shifted after an instruction.
-pub(crate) fn detectors_past(shift: u128, instruction: Instruction<'_, '_>) -> u128
-    requires { shift + number_in instruction.targets.now < 2 ^ 128 }
-    ensures { (offset : List ℤ) → result ≡ (shift_after (instruction_in instruction.entry) (shift_of shift offset)).detectors }
-{
-    match instruction.operation {
-        Operation::Shifts => shift + number_in(instruction.targets) as u128,
-        _ => shift,
+    if place < stated.len() {
+        stated[place]
+    } else {
+        0
     }
 }
 
-impl<A: Allocator + Copy> Shift<A> {
+/// The sum of the numbers at a place of an offset and of what a line states.
+pub(crate) fn sum_at(offset: &[i128], stated: &[i64], place: usize) -> i128
+    requires room { nat_abs (number_at offset.now place) + beyond_stated < 2 ^ 127 }
+    requires small { nat_abs (number_at stated.now place) < beyond_stated }
+    ensures { result ≡ number_at offset.now place +ℤ number_at stated.now place }
+{
+    offset_at(offset, place) + stated_at(stated, place) as i128
+}
+
+/// An offset with the numbers that a line states added.
+fn both_offsets(offset: &[i128], stated: &[i64]) -> ArrayVec<i128, MOST_ARGUMENTS>
+    requires axes { length offset.now ≤ MOST_ARGUMENTS }
+    requires few { length stated.now ≤ MOST_ARGUMENTS }
+    requires room { All (λ o. nat_abs o + beyond_stated < 2 ^ 127) offset.now }
+    requires small { AreSmall stated.now }
+    ensures { result.items ≡ both_offsets offset.now stated.now }
+{
+    let mut sum = ArrayVec::new();
+    for place in 0..offset.len().max(stated.len()) {
+        sum.push(sum_at(offset, stated, place));
+    }
+    sum
+}
+
+impl Shift {
     /// Takes the shift past a line.
-    pub(crate) fn pass(&mut self, line: TableLine<'_, '_>) -> Result<(), AllocError>
+    pub(crate) fn pass(&mut self, line: TableLine<'_, '_>)
         requires known { IsKnown (instruction_in line.instruction) line.extent line.numbers.now }
-        requires room { self.old.detectors + number_in line.instruction.targets.now < 2 ^ 128 }
-        ensures { IfOk result (λ _. shift_of self.new.detectors self.new.offset.items ≡ shift_after (instruction_in line.entry.instruction) (shift_of self.old.detectors self.old.offset.items)) }
+        requires room { HasRoom self.old 1 }
+        ensures { self.new ≡ shift_after (instruction_in line.entry.instruction) self.old }
     {
         match line.instruction.operation {
             Operation::Shifts => {
-                add(&mut self.offset, line.numbers)?;
-                self.detectors = detectors_past(self.detectors, line.instruction);
-                Ok(())
+                self.offset = both_offsets(self.offset.as_slice(), line.numbers);
+                self.detectors += number_in(line.instruction.targets) as u128;
             }
-            _ => Ok(()),
+            _ => {}
         }
     }
 }

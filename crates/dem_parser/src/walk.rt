@@ -1,13 +1,17 @@
-ghost use Rattle.std.specs.Prelude.{◌≡◌, ◌≤◌, ◌<◌, ◌-◌, ◌^◌, [], ◌∷◌, IfSome, MatchOption, reverse};
+ghost use Rattle.std.specs.Prelude.{◌≡◌, ◌≤◌, ◌<◌, ◌-◌, ◌^◌, [], ◌∷◌, List, MatchOption, drop, length, reverse, slice_get};
 ghost use Rattle.arrayvec.specs.ArrayVec.{array_vec_len};
-ghost use Rattle.dem_lines.specs.Flat.{instruction_in, item_in};
+ghost use Rattle.dem_lines.specs.Flat.{item_in};
 ghost use Rattle.dem_lines.specs.Passes.{CanStand};
 ghost use Rattle.dem_lines.specs.Reached.{reached};
 ghost use Rattle.dem_lines.specs.Texts.{Ends};
-ghost use Rattle.dem_parser.specs.Tables.{IsKnown};
-ghost use Rattle.dem_parser.specs.Walks.{after, is_line};
+ghost use Rattle.dem_lines.specs.Trees.{items_of};
+ghost use Rattle.dem_parser.specs.Models.{placed_lines};
+ghost use Rattle.dem_parser.specs.Shifts.{Placed};
+ghost use Rattle.dem_parser.specs.Walks.{IsAtLine, IsWalk, after, is_line, lines_left};
 
-use crate::table::{LineTable, TableLine};
+use crate::placed_line::PlacedLine;
+use crate::shifts::Shift;
+use crate::table::LineTable;
 use arrayvec::ArrayVec;
 use dem_lines::{Item, LEVELS};
 use std::alloc::Allocator;
@@ -27,34 +31,33 @@ struct Place {
     blocks: ArrayVec<Turns, LEVELS>,
 }
 
+/// Whether an item is an instruction.
+#[inline(always)]
+fn is_line(item: Item<'_, '_>) -> bool
+    ensures { result ≡ is_line (item_in item.entry) }
+{
+    matches!(item, Item::Does(_))
+}
+
 impl Place {
-    /// Goes past the item that stands here, or back to the next turn of the block that it ends. Answers whether it is an
-    /// instruction.
+    /// Goes past the item that stands here, or back to the next turn of the block that it ends.
     #[inline(always)]
-    fn pass(&mut self, item: Item<'_, '_>) -> bool
+    fn pass(&mut self, item: Item<'_, '_>)
         requires stands { CanStand (item_in item) (array_vec_len self.old.blocks) }
         requires room { array_vec_len self.old.blocks ≤ 32 }
         requires few { self.old.index < 2 ^ 64 - 1 }
-        ensures line { result ≡ is_line (item_in item.entry) }
-        ensures place { after (item_in item.entry) self.old.index (reverse self.old.blocks.items) ≡ (self.new.index, reverse self.new.blocks.items) }
+        ensures { after (item_in item.entry) self.old.index (reverse self.old.blocks.items) ≡ (self.new.index, reverse self.new.blocks.items) }
     {
         match item {
-            Item::Does(_) => {
-                self.index += 1;
-                true
-            }
+            Item::Does(_) => self.index += 1,
             Item::Begins { turns, .. } => {
                 self.index += 1;
                 self.blocks.push(Turns {
                     start: self.index,
                     left: turns - 1,
                 });
-                false
             }
-            Item::Ends => {
-                self.end_turn();
-                false
-            }
+            Item::Ends => self.end_turn(),
         }
     }
 
@@ -76,61 +79,96 @@ impl Place {
             left: block.left - 1,
         });
     }
+
+    /// Goes on to the next instruction, if it doesn't stand at one.
+    #[inline(always)]
+    fn go_to_line<A: Allocator + Copy>(&mut self, table: &LineTable<'_, '_, A>)
+        requires { IsWalk (items_of table.now) self.old.index (reverse self.old.blocks.items) }
+        ensures walk { IsWalk (items_of table.now) self.new.index (reverse self.new.blocks.items) }
+        ensures same { lines_left (items_of table.now) self.new.index (reverse self.new.blocks.items) ≡ lines_left (items_of table.now) self.old.index (reverse self.old.blocks.items) }
+        ensures line { IsAtLine (slice_get (items_of table.now) self.new.index) }
+    {
+        while let Some(item) = table.item_at(self.index) {
+            if is_line(item) {
+                return;
+            }
+            self.pass(item);
+        }
+    }
 }
 
-/// A walk over the lines of a model in the order in which they are reached. It is seen as the instructions that are
-/// left.
+/// A walk over the lines of a model in the order in which they are reached. It is seen as the lines that are left, each
+/// as it is reached.
 #[derive(Drop)]
 pub(crate) struct Walk<'t, 'c, 'a, A: Allocator + Copy> {
     table: &'t LineTable<'c, 'a, A>,
     place: Place,
+    shift: Shift,
 }
 
 impl<'t, 'c, 'a, A: Allocator + Copy> Model for Walk<'t, 'c, 'a, A> {
     ghost use Rattle.std.specs.Prelude.{List, reverse};
-    ghost use Rattle.dem_lines.specs.Flat.{coded_instructions};
-    ghost use Rattle.dem_lines.specs.Trees.{items_of};
-    ghost use Rattle.dem_lines.specs.Verdicts.{Instruction};
     ghost use Rattle.std.specs.Coded.{coded_list};
+    ghost use Rattle.dem_lines.specs.Trees.{items_of};
+    ghost use Rattle.dem_parser.specs.Placed.{coded_placed};
+    ghost use Rattle.dem_parser.specs.Shifts.{Placed};
+    ghost use Rattle.dem_parser.specs.Walks.{IsPlacedWalk, placed_left};
 
-    ghost Value = { List Instruction };
+    ghost Value = { List Placed };
 
-    ghost coded = { coded_list coded_instructions };
+    ghost coded = { coded_list coded_placed };
 
-    ghost use Rattle.dem_parser.specs.Walks.{IsWalk, lines_left};
+    ghost view = { λ w. placed_left (items_of w.table.now) w.shift w.place.index (reverse w.place.blocks.items) };
 
-    ghost view = { λ w. lines_left (items_of w.table.now) w.place.index (reverse w.place.blocks.items) };
-
-    ghost invariant = { λ w. IsWalk (items_of w.table.now) w.place.index (reverse w.place.blocks.items) };
+    ghost invariant = { λ w. IsPlacedWalk (items_of w.table.now) w.shift w.place.index (reverse w.place.blocks.items) };
 }
 
 impl<'t, 'c, 'a, A: Allocator + Copy> Walk<'t, 'c, 'a, A> {
     /// Before the first line.
     pub(crate) fn new(table: &'t LineTable<'c, 'a, A>) -> Self
-        ensures { result ≡ reached table.now }
+        requires { length (reached table.now) < 2 ^ 64 }
+        ensures { result ≡ placed_lines table.now }
     {
         table.fits();
+        let mut place = Place {
+            index: 0,
+            blocks: ArrayVec::new(),
+        };
+        place.go_to_line(table);
         Walk {
             table,
-            place: Place {
-                index: 0,
-                blocks: ArrayVec::new(),
+            place,
+            shift: Shift {
+                detectors: 0,
+                offset: ArrayVec::new(),
             },
         }
     }
 
-    /// The next line that is reached, and none at the end.
+    /// The line that is next, and none at the end.
     #[inline(always)]
-    pub(crate) fn next(&mut self) -> Option<TableLine<'t, 'a>>
-        ensures line { MatchOption result (self.old ≡ []) (λ line. self.old ≡ instruction_in line.instruction ∷ self.new) }
-        ensures known { IfSome result (λ line. IsKnown (instruction_in line.instruction) line.extent line.numbers.now) }
+    pub(crate) fn line(&self) -> Option<PlacedLine<'_, 'a>>
+        ensures { MatchOption result (self.now ≡ []) (λ line. (rest : List Placed) → rest ≡ drop 1 self.now → self.now ≡ line ∷ rest) }
     {
-        while let Some(item) = self.table.item_at(self.place.index) {
-            let index = self.place.index;
-            if self.place.pass(item) {
-                return Some(self.table.line_at(index));
-            }
+        match self.table.item_at(self.place.index) {
+            Some(_item) => Some(PlacedLine {
+                line: self.table.line_at(self.place.index),
+                shift: &self.shift,
+            }),
+            None => None,
         }
-        None
+    }
+
+    /// Goes past the next line, if there is one.
+    #[inline(always)]
+    pub(crate) fn pass(&mut self)
+        ensures { self.new ≡ drop 1 self.old }
+    {
+        let Some(_item) = self.table.item_at(self.place.index) else {
+            return;
+        };
+        self.shift.pass(self.table.line_at(self.place.index));
+        self.place.index += 1;
+        self.place.go_to_line(self.table);
     }
 }

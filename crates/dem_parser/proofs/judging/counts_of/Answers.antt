@@ -1,45 +1,42 @@
-use Rattle.std.proofs.Common.{not, ap, inr, ◌∙◌, length, arith}
+use Rattle.std.proofs.Common.{◌≡◌, false, Some, ap, inr, sym, ◌∙◌, length, refl, arith}
 use Rattle.std.specs.Prelude.{option_map}
 use Rattle.step_model.specs.declared.fault.Cause.TheVariants as cause
-use Rattle.dem_lines.specs.Flat.{instruction_in}
+use Rattle.dem_lines.specs.Reached.{reached}
 use Rattle.dem_lines.specs.Texts.{refused}
-use Rattle.dem_parser.specs.Offsets.{shift_of}
-use Rattle.dem_parser.specs.Shifts.{Shift, placed_at}
-use Rattle.dem_parser.proofs.ShiftLemmas.{room-here, room-next}
+use Rattle.dem_parser.specs.Models.{is_beyond, placed_lines}
+use Rattle.dem_parser.specs.Shifts.{no_shift}
+use Rattle.dem_parser.specs.Summed.{HasCounted}
+use Rattle.dem_parser.proofs.FrontLemmas.{matched, matched_none}
 use Rattle.dem_parser.proofs.SummedLemmas.{passed-few}
-use Rattle.dem_parser.proofs.WalkLemmas.{judging-beyond, judging-done, judging-next}
+use Rattle.dem_parser.proofs.WalkLemmas.{judging-beyond, judging-done, judging-first, judging-next}
+use Rattle.dem_parser.proofs.WalkSteps.{length-placed}
 use Rattle.dem_parser.proofs.judging.counts_of.Goals as goal
 
-pub returns-in-Ok-false-clause-err : goal.returns-in-Ok-false-clause-err
-returns-in-Ok-false-clause-err g c =
-    inr
-    (ap (option_map (refused cause.DemNumber))
-    (judging-beyond _ _ _ _ _ _ c.loop-line.invariant.judging c.in-Some.ensures.line (c.in-Ok-false.ensures.beyond ∙ ap not c.in-Ok-false.field-0-test)))
+pub loop-line-init : goal.loop-line-init
+loop-line-init g c =
+    rw c.new-walk.ensures
+    (record { judging = judging-first (placed_lines c.args.table.now); few = let long = length-placed no_shift (reached c.args.table.now) in omega (arith, c.requires, long) })
 
-pub pass-requires-clause-room : goal.pass-requires-clause-room
-pass-requires-clause-room g c =
-    room-here _ _ (instruction_in c.in-Some.line.instruction) c.loop-line.judging.shift.detectors c.loop-line.invariant.room c.in-Some.ensures.line c.in-Some.ensures.known.within
+pub returns-in-Ok-None-clause-err : goal.returns-in-Ok-None-clause-err
+returns-in-Ok-None-clause-err g c =
+    inr
+    (ap (option_map (refused cause.DemNumber)) (judging-beyond _ _ _ _ c.in-Some.line c.loop-line.invariant.judging (c.in-Some.ensures _ refl) (matched_none _ _ _ c.in-Ok-None.ensures c.in-Ok-None.field-0-is))
+    ∙ ap (λ n. Some (refused cause.DemNumber n)) (sym c.number.ensures))
 
 pub loop-line-preserved : goal.loop-line-preserved
 loop-line-preserved g c =
-    let counted = c.in-Ok-true.ensures.counted c.in-Ok-true.field-0-test in
-    let shift = shift_of c.loop-line.judging.shift.detectors c.loop-line.judging.shift.offset.items in
-    let few = passed-few c.loop-line.judging.counts.errors (placed_at shift (instruction_in c.in-Some.line.instruction)) in
+    let first = c.in-Some.ensures _ c.pass.ensures in
+    let counted = matched _ (λ after. HasCounted c.loop-line.counts c.in-Some.line after × (is_beyond c.in-Some.line ≡ false)) _ c.in-Ok-Some.after c.in-Ok-Some.ensures c.in-Ok-Some.field-0-is in
     record {
-      judging =
-          judging-next _ _ _ _ _ _ _ _ c.loop-line.invariant.judging
-          c.in-Some.ensures.line
-          (c.in-Ok-true.ensures.beyond ∙ ap not c.in-Ok-true.field-0-test)
-          counted
-          (c.in-Ok-true.ensures.shift c.in-Ok-true.field-0-test);
-      few = let long = ap length c.in-Some.ensures.line in omega (arith, few, long, counted.errors_are, c.loop-line.invariant.few);
-      room =
-          room-next _ _ (instruction_in c.in-Some.line.instruction) c.loop-line.judging.shift.detectors _ c.loop-line.judging.shift.offset.items c.loop-line.invariant.room
-          c.in-Some.ensures.line c.in-Some.ensures.known.within (ap (λ (s : Shift). s.detectors) (c.in-Ok-true.ensures.shift c.in-Ok-true.field-0-test));
+      judging = judging-next _ _ _ _ _ c.in-Some.line c.loop-line.invariant.judging first counted.1 counted.0;
+      few =
+          let one = passed-few c.loop-line.counts.errors c.in-Some.line in
+          let long = ap length first in
+          omega (arith, one, long, counted.0.errors_are, c.loop-line.invariant.few);
     }
 
 pub returns-clause-counts : goal.returns-clause-counts
-returns-clause-counts g c = (judging-done _ _ _ _ c.loop-line.invariant.judging c.in_default.ensures.line).0
+returns-clause-counts g c = (judging-done _ _ _ c.loop-line.invariant.judging c.in_default.ensures).0
 
 pub returns-clause-within : goal.returns-clause-within
-returns-clause-within g c = (judging-done _ _ _ _ c.loop-line.invariant.judging c.in_default.ensures.line).1
+returns-clause-within g c = (judging-done _ _ _ c.loop-line.invariant.judging c.in_default.ensures).1

@@ -1,14 +1,12 @@
 use Rattle.std.proofs.Common.{◌+◌, ◌<◌, ◌^◌, length}
-use Rattle.dem_lines.specs.Reached.{reached}
-use Rattle.dem_parser.specs.Offsets.{HasRoom, shift_of}
+use Rattle.dem_parser.specs.Models.{placed_lines}
 use Rattle.dem_parser.proofs.WalkLemmas.{IsJudging}
 use Rattle.dem_parser.proofs.judging.counts_of.Given as goal
 
 abbrev pub invariant-loop-line : goal.invariant-loop-line
 invariant-loop-line g l = record {
-  judging : IsJudging (reached l.table) l.walk l.judging.counts (shift_of l.judging.shift.detectors l.judging.shift.offset.items);
-  few : l.judging.counts.errors + length l.walk < 2 ^ 64;
-  room : HasRoom l.judging.shift.detectors (length l.walk);
+  judging : IsJudging (placed_lines l.table) l.walk l.counts;
+  few : l.counts.errors + length l.walk < 2 ^ 64;
 }
 
 abbrev pub decreases-loop-line : goal.decreases-loop-line

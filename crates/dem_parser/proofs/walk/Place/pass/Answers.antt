@@ -4,7 +4,7 @@ use Rattle.dem_parser.specs.Walks.{after}
 use Rattle.dem_parser.proofs.WalkSteps.{after-begins}
 use Rattle.dem_parser.proofs.walk.Place.pass.Goals as goal
 
-pub returns-in-Begins-clause-place : goal.returns-in-Begins-clause-place
-returns-in-Begins-clause-place c =
+pub returns-in-Begins : goal.returns-in-Begins
+returns-in-Begins c =
     ap (λ item. after (item_in item) c.args.self.now.index (reverse c.args.self.now.blocks.items)) c.in-Begins.is
     ∙ after-begins c.in-Begins.line c.in-Begins.turns c.args.self.now.index c.args.self.now.blocks.items c.push.new.self.items c.push.ensures.items

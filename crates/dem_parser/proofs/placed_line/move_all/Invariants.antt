@@ -2,7 +2,7 @@ use Rattle.std.proofs.Common.{drop}
 use Rattle.dem_parser.specs.Models.{is_far}
 use Rattle.dem_parser.specs.Shifts.{moved}
 use Rattle.dem_parser.proofs.FrontLemmas.{IsFront}
-use Rattle.dem_parser.proofs.coordinates.move_all.Given as goal
+use Rattle.dem_parser.proofs.placed_line.move_all.Given as goal
 
 abbrev pub invariant-loop-place : goal.invariant-loop-place
 invariant-loop-place g l =

@@ -1,0 +1,11 @@
+use Rattle.std.proofs.Common.{ap, ◌∙◌}
+use Rattle.dem_lines.specs.Flat.{instruction_in}
+use Rattle.dem_parser.specs.Meanings.{greatest_of, observables_to}
+use Rattle.dem_parser.specs.Shifts.{Placed}
+use Rattle.dem_parser.proofs.TableLemmas.{observables-known}
+use Rattle.dem_parser.proofs.placed_line.PlacedLine.observables.Goals as goal
+
+pub returns : goal.returns
+returns c =
+    observables-known c.self.inside.shift.now (instruction_in c.self.inside.line.instruction) _ _ c.self.invariant.known
+    ∙ ap (λ (p : Placed). greatest_of observables_to p.targets) c.self.view_is

@@ -1,0 +1,180 @@
+ghost use Rattle.std.specs.Prelude.{◌≡◌, ◌+◌, ◌<◌, ◌^◌, false, true, All, map, nat_abs, nat_lt, IfOk, MatchBool, MatchOption};
+ghost use Rattle.std.specs.List.{list_any};
+ghost use Rattle.dem_lines.specs.Limits.{has_target_beyond};
+ghost use Rattle.dem_parser.specs.Meanings.{detectors_to, greatest_of, is_error, observables_to};
+ghost use Rattle.dem_parser.specs.Models.{is_far};
+ghost use Rattle.dem_parser.specs.Offsets.{AreSmall, beyond_stated};
+ghost use Rattle.dem_parser.specs.Shifts.{moved, target_at};
+ghost use Rattle.dem_parser.specs.Tables.{coordinates_from, count_at, most_detectors};
+
+use crate::counts::is_error;
+use crate::shifts::{Shift, first_text, sum_at};
+use crate::table::TableLine;
+use dem_lines::{GREATEST_DETECTOR, GREATEST_NUMBER, Operation, Target};
+use std::alloc::{AllocError, Allocator};
+use std::marker::Model;
+
+/// How many detectors there may be.
+const MOST_DETECTORS: u64 = GREATEST_DETECTOR + 1;
+
+/// A line as it is reached: what is known of it, and the shift from which it goes on.
+#[derive(Drop)]
+pub(crate) struct PlacedLine<'w, 'a> {
+    pub(crate) line: TableLine<'w, 'a>,
+    pub(crate) shift: &'w Shift,
+}
+
+impl<'w, 'a> Model for PlacedLine<'w, 'a> {
+    ghost use Rattle.dem_lines.specs.Flat.{instruction_in};
+    ghost use Rattle.dem_parser.specs.Placed.{IsPlaced, coded_placed};
+    ghost use Rattle.dem_parser.specs.Shifts.{Placed, placed_at};
+
+    ghost Value = { Placed };
+
+    ghost coded = { coded_placed };
+
+    ghost view = { λ l. placed_at l.shift.now (instruction_in l.line.instruction) };
+
+    ghost invariant = { λ l. IsPlaced (instruction_in l.line.instruction) l.line.extent l.line.numbers.now l.shift.now };
+}
+
+/// How many detectors there are up to the greatest that is named, where these are shifted; none where it is then beyond
+/// its limit.
+fn shifted(shift: u128, detectors: u32) -> Option<u32>
+    ensures { MatchOption result (nat_lt most_detectors (count_at shift detectors) ≡ true)
+        (λ found. (found ≡ count_at shift detectors) × (nat_lt most_detectors (count_at shift detectors) ≡ false)) }
+{
+    if detectors == 0 {
+        return Some(0);
+    }
+    if shift > MOST_DETECTORS as u128 {
+        return None;
+    }
+    let number = detectors as u64 + shift as u64;
+    if number > MOST_DETECTORS {
+        None
+    } else {
+        Some(number as u32)
+    }
+}
+
+/// A coordinate within its limit; none where it is beyond.
+fn near(coordinate: i128) -> Option<i64>
+    ensures { MatchOption result (is_far coordinate ≡ true) (λ found. (found ≡ coordinate) × (is_far coordinate ≡ false)) }
+{
+    if coordinate.unsigned_abs() > GREATEST_NUMBER as u128 {
+        None
+    } else {
+        Some(coordinate as i64)
+    }
+}
+
+/// Puts coordinates that are stated, with the offset added, into `found`, in place of what it held, and answers whether
+/// all are within their limit then.
+fn move_all<A: Allocator + Copy>(
+    found: &mut Vec<i64, A>,
+    offset: &[i128],
+    stated: &[i64],
+) -> Result<bool, AllocError>
+    requires room { All (λ o. nat_abs o + beyond_stated < 2 ^ 127) offset.now }
+    requires small { AreSmall stated.now }
+    ensures { IfOk result (λ within. MatchBool within
+        ((found.new.items ≡ moved offset.now stated.now) × (list_any is_far (moved offset.now stated.now) ≡ false))
+        (list_any is_far (moved offset.now stated.now) ≡ true)) }
+{
+    found.clear();
+    for place in 0..stated.len() {
+        match near(sum_at(offset, stated, place)) {
+            Some(coordinate) => found.push(coordinate)?,
+            None => return Ok(false),
+        }
+    }
+    Ok(true)
+}
+
+/// Puts the coordinates that a line of this kind gives into `found`, in place of what it held, and answers whether all
+/// are within their limit.
+fn move_stated<A: Allocator + Copy>(
+    found: &mut Vec<i64, A>,
+    offset: &[i128],
+    operation: Operation,
+    stated: &[i64],
+) -> Result<bool, AllocError>
+    requires room { All (λ o. nat_abs o + beyond_stated < 2 ^ 127) offset.now }
+    requires small { AreSmall stated.now }
+    ensures { IfOk result (λ within. MatchBool within
+        ((found.new.items ≡ coordinates_from operation stated.now offset.now) × (list_any is_far (coordinates_from operation stated.now offset.now) ≡ false))
+        (list_any is_far (coordinates_from operation stated.now offset.now) ≡ true)) }
+{
+    match operation {
+        Operation::Detects => move_all(found, offset, stated),
+        _ => {
+            found.clear();
+            Ok(true)
+        }
+    }
+}
+
+impl<'w, 'a> PlacedLine<'w, 'a> {
+    /// The number of the line in the text.
+    pub(crate) fn number(&self) -> u64
+        ensures { result ≡ self.now.line }
+    {
+        self.line.instruction.line
+    }
+
+    /// Whether it is an error line.
+    #[inline(always)]
+    pub(crate) fn is_error(&self) -> bool
+        ensures { result ≡ is_error self.now.operation }
+    {
+        is_error(self.line.instruction.operation)
+    }
+
+    /// The text of its first argument, empty where it has none.
+    pub(crate) fn text(&self) -> &'a [u8]
+        ensures { result.now ≡ self.now.text }
+    {
+        first_text(self.line.instruction.arguments)
+    }
+
+    /// By how much its detectors are shifted, and the targets that are shifted so.
+    #[inline(always)]
+    pub(crate) fn targets(&self) -> (u128, &'w [Target])
+        ensures { map (target_at result.0) result.1.now ≡ self.now.targets }
+    {
+        let shift = self.shift;
+        (shift.detectors, self.line.instruction.targets)
+    }
+
+    /// How many detectors there are up to the greatest that the line names; none where that is beyond its limit.
+    pub(crate) fn detectors(&self) -> Option<u32>
+        ensures { MatchOption result (has_target_beyond self.now.targets ≡ true)
+            (λ found. (found ≡ greatest_of detectors_to self.now.targets) × (has_target_beyond self.now.targets ≡ false)) }
+    {
+        let shift = self.shift;
+        shifted(shift.detectors, self.line.extent.detectors)
+    }
+
+    /// How many observables there are up to the greatest that the line names.
+    pub(crate) fn observables(&self) -> u32
+        ensures { result ≡ greatest_of observables_to self.now.targets }
+    {
+        self.line.extent.observables
+    }
+
+    /// Puts the coordinates that the line gives into `found`, in place of what it held, and answers whether all are
+    /// within their limit.
+    pub(crate) fn read_coordinates<A: Allocator + Copy>(
+        &self,
+        found: &mut Vec<i64, A>,
+    ) -> Result<bool, AllocError>
+        ensures { IfOk result (λ within. MatchBool within
+            ((found.new.items ≡ self.now.coordinates) × (list_any is_far self.now.coordinates ≡ false))
+            (list_any is_far self.now.coordinates ≡ true)) }
+    {
+        let shift = self.shift;
+        let operation = self.line.instruction.operation;
+        move_stated(found, shift.offset.as_slice(), operation, self.line.numbers)
+    }
+}
