@@ -1,4 +1,4 @@
-mod FitLemmas
+pub mod FitLemmas
 pub mod TreeLemmas
 pub mod PassLemmas
 mod LineCountLemmas

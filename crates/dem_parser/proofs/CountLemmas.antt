@@ -1,8 +1,10 @@
 -- The greatest counts of targets, found one after another.
-use Rattle.std.proofs.Common.{◌≡◌, ℕ, List, [], ◌∷◌, ap, sym, ◌∙◌, arith}
+use Rattle.std.proofs.Common.{◌≡◌, ℕ, false, List, [], ◌∷◌, ap, sym, ◌∙◌, arith}
 use Rattle.std.specs.Prelude.{max}
 use Rattle.dem_lines.specs.declared.target.Target.{Target}
+use Rattle.dem_lines.specs.Limits.{has_target_beyond, is_target_beyond}
 use Rattle.dem_parser.specs.Meanings.{greatest_of}
+use Rattle.dem_parser.proofs.ShiftLemmas.{left, right}
 
 pub max-none : (a : ℕ) → max a 0 ≡ a
 max-none a = omega arith
@@ -20,3 +22,7 @@ raised-next count a b t rest rest' e more =
 
 pub raised-done : (count : Target → ℕ) (a : ℕ) (rest : List Target) → rest ≡ [] → a ≡ max a (greatest_of count rest)
 raised-done count a rest e = sym (ap (λ ts. max a (greatest_of count ts)) e ∙ max-none a)
+
+pub within-first : (t : Target) (ts : List Target) → has_target_beyond (t ∷ ts) ≡ false → (is_target_beyond t ≡ false) × (has_target_beyond ts ≡ false)
+unfolding has_target_beyond
+within-first t ts h = (left (is_target_beyond t) _ h, right (is_target_beyond t) _ h)

@@ -19,7 +19,7 @@ use Rattle.dem_lines.specs.Fitting.{Fits}
 use Rattle.dem_lines.specs.Instructions.{argument_form}
 use Rattle.dem_lines.specs.Limits.{has_target_beyond, is_target_beyond}
 use Rattle.dem_lines.specs.Verdicts.{Instruction, number_in}
-use Rattle.dem_parser.specs.declared.table.Extent.{Extent}
+use Rattle.dem_parser.specs.declared.counts.Extent.{Extent}
 use Rattle.dem_parser.specs.Offsets.{AreSmall, HasRoom, beyond_stated, number_at}
 use Rattle.dem_parser.specs.Shifts.{Shift, both_offsets, moved, shift_after, shifted_by}
 use Rattle.dem_parser.specs.Tables.{IsKnown, numbers_stated}

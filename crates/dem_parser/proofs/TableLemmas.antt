@@ -22,7 +22,7 @@ use Rattle.dem_lines.specs.Places.{instruction_at, instruction_of, no_instructio
 use Rattle.dem_lines.specs.Texts.{Item, Does, Begins, Ends}
 use Rattle.dem_lines.specs.Trees.{Tree, Nothing, Then, Block, items_of}
 use Rattle.dem_lines.specs.Verdicts.{Instruction}
-use Rattle.dem_parser.specs.declared.table.Extent.{Extent}
+use Rattle.dem_parser.specs.declared.counts.Extent.{Extent}
 use Rattle.dem_parser.specs.Meanings.{detectors_to, greatest_of, observables_to}
 use Rattle.dem_parser.specs.Shifts.{Shift, coordinates_given, placed_at, target_at}
 use Rattle.dem_parser.specs.Tables.{AreTables, IsKnown, coordinates_from, count_at, extent_of, most_detectors, numbers_of_line, numbers_stated, tabled}

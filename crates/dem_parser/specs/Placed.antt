@@ -7,7 +7,7 @@ use Rattle.dem_lines.specs.contracts.target.Target as target
 use Rattle.dem_lines.specs.declared.operation.Operation.{Operation}
 use Rattle.dem_lines.specs.declared.target.Target.{Target}
 use Rattle.dem_lines.specs.Verdicts.{Instruction}
-use Rattle.dem_parser.specs.declared.table.Extent.{Extent}
+use Rattle.dem_parser.specs.declared.counts.Extent.{Extent}
 use Rattle.dem_parser.specs.Offsets.{HasRoom}
 use Rattle.dem_parser.specs.Shifts.{Placed, Shift}
 use Rattle.dem_parser.specs.Tables.{IsKnown}

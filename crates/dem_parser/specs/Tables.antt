@@ -10,7 +10,7 @@ use Rattle.dem_lines.specs.Limits.{has_target_beyond}
 use Rattle.dem_lines.specs.Places.{instruction_of}
 use Rattle.dem_lines.specs.Texts.{Item}
 use Rattle.dem_lines.specs.Verdicts.{Instruction}
-use Rattle.dem_parser.specs.declared.table.Extent.{Extent}
+use Rattle.dem_parser.specs.declared.counts.Extent.{Extent}
 use Rattle.dem_parser.specs.Meanings.{detectors_to, greatest_of, observables_to}
 use Rattle.dem_parser.specs.Offsets.{AreSmall}
 use Rattle.dem_parser.specs.Shifts.{moved}

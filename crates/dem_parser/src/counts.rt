@@ -1,13 +1,14 @@
-ghost use Rattle.std.specs.Prelude.{◌≡◌, max};
+ghost use Rattle.std.specs.Prelude.{◌≡◌, false, max};
+ghost use Rattle.dem_lines.specs.Limits.{has_target_beyond, is_target_beyond};
 ghost use Rattle.dem_parser.specs.Meanings.{detectors_to, greatest_of, is_error, observables_to};
 
 use dem_lines::{Operation, Target};
 
 /// One more than the greatest detector and the greatest observable that targets name, or 0.
 #[derive(Clone, Copy)]
-pub struct TargetCounts {
-    pub detectors: u128,
-    pub observables: u128,
+pub struct Extent {
+    pub detectors: u32,
+    pub observables: u32,
 }
 
 /// How many detectors and observables lines name, up to the greatest, and how many of them are error lines.
@@ -19,48 +20,49 @@ pub(crate) struct LineCounts {
 }
 
 /// One more than the detector that a target names, or 0.
-fn detectors_to(target: Target) -> u128
+fn detectors_to(target: Target) -> u32
+    requires { is_target_beyond target ≡ false }
     ensures { result ≡ detectors_to target }
 {
     match target {
-        Target::Detector(detector) => detector as u128 + 1,
+        Target::Detector(detector) => detector as u32 + 1,
         _ => 0,
     }
 }
 
 /// One more than the observable that a target names, or 0.
-fn observables_to(target: Target) -> u128
+fn observables_to(target: Target) -> u32
+    requires { is_target_beyond target ≡ false }
     ensures { result ≡ observables_to target }
 {
     match target {
-        Target::Observable(observable) => observable as u128 + 1,
+        Target::Observable(observable) => observable as u32 + 1,
         _ => 0,
     }
 }
 
-/// Counts raised to what a target names.
+/// An extent raised to what a target names.
 #[inline(always)]
-pub fn raised_to(counts: TargetCounts, target: Target) -> TargetCounts
-    ensures detectors { result.detectors ≡ max counts.detectors (detectors_to target) }
-    ensures observables { result.observables ≡ max counts.observables (observables_to target) }
+pub fn raised_to(extent: Extent, target: Target) -> Extent
+    requires { is_target_beyond target ≡ false }
+    ensures detectors { result.detectors ≡ max extent.detectors (detectors_to target) }
+    ensures observables { result.observables ≡ max extent.observables (observables_to target) }
 {
-    TargetCounts {
-        detectors: counts.detectors.max(detectors_to(target)),
-        observables: counts.observables.max(observables_to(target)),
+    Extent {
+        detectors: extent.detectors.max(detectors_to(target)),
+        observables: extent.observables.max(observables_to(target)),
     }
 }
 
-/// Counts raised to what targets name.
-pub fn raised(counts: TargetCounts, targets: &[Target]) -> TargetCounts
-    ensures detectors { result.detectors ≡ max counts.detectors (greatest_of detectors_to targets.now) }
-    ensures observables { result.observables ≡ max counts.observables (greatest_of observables_to targets.now) }
+/// An extent raised to what targets name.
+pub fn raised(extent: Extent, targets: &[Target]) -> Extent
+    requires { has_target_beyond targets.now ≡ false }
+    ensures detectors { result.detectors ≡ max extent.detectors (greatest_of detectors_to targets.now) }
+    ensures observables { result.observables ≡ max extent.observables (greatest_of observables_to targets.now) }
 {
-    let mut found = counts;
+    let mut found = extent;
     for target in targets {
-        found = TargetCounts {
-            detectors: found.detectors.max(detectors_to(*target)),
-            observables: found.observables.max(observables_to(*target)),
-        };
+        found = raised_to(found, *target);
     }
     found
 }

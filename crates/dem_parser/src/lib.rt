@@ -15,7 +15,7 @@ mod sums;
 mod table;
 mod walk;
 
-pub use counts::{TargetCounts, is_error, raised, raised_to};
+pub use counts::{Extent, is_error, raised, raised_to};
 pub use dem_lines::{Instruction, Item, ModelLines, Operation, Target, parse};
 pub use placed_model::{PlacedModel, named_end, turn_targets};
 pub use reader::{place, read, read_lines};

@@ -8,7 +8,7 @@ ghost use Rattle.dem_lines.specs.Trees.{items_of};
 ghost use Rattle.dem_parser.specs.Meanings.{detectors_to, greatest_of, observables_to};
 ghost use Rattle.dem_parser.specs.Tables.{IsKnown, extent_of, numbers_stated};
 
-use crate::counts::{TargetCounts, raised};
+use crate::counts::{Extent, raised};
 use crate::shifts::coordinates_read;
 use arrayvec::ArrayVec;
 use dem_lines::{Instruction, Item, ModelLines, Operation, Target};
@@ -16,13 +16,6 @@ use flat_lists::FlatLists;
 use std::alloc::{AllocError, Allocator};
 use std::marker::Model;
 use stim_parser::MOST_ARGUMENTS;
-
-/// One more than the greatest detector and the greatest observable that the targets of a line name, unshifted, or 0.
-#[derive(Clone, Copy)]
-pub(crate) struct Extent {
-    pub detectors: u32,
-    pub observables: u32,
-}
 
 /// An instruction, its extent, and the numbers that it states axis by axis.
 #[derive(Clone, Copy)]
@@ -60,15 +53,11 @@ fn extent_of(targets: &[Target]) -> Extent
     ensures detectors { result.detectors ≡ greatest_of detectors_to targets.now }
     ensures observables { result.observables ≡ greatest_of observables_to targets.now }
 {
-    let none = TargetCounts {
+    let none = Extent {
         detectors: 0,
         observables: 0,
     };
-    let counts = raised(none, targets);
-    Extent {
-        detectors: counts.detectors as u32,
-        observables: counts.observables as u32,
-    }
+    raised(none, targets)
 }
 
 /// The numbers that a line of this kind states.

@@ -14,7 +14,7 @@ use Rattle.dem_lines.specs.Instructions.{keyword_named}
 use Rattle.dem_lines.specs.Limits.{are_of_form, has_target_beyond, is_effect}
 use Rattle.dem_lines.specs.Targets.{targets_in}
 use Rattle.dem_lines.specs.Verdicts.{Instruction, model_table, read_targets}
-use Rattle.dem_parser.specs.declared.counts.TargetCounts.{TargetCounts}
+use Rattle.dem_parser.specs.declared.counts.Extent.{Extent}
 use Rattle.dem_parser.proofs.QuietLemmas.{arguments_cut, cut_with, is_quiet}
 use Rattle.plain_models.specs.ErrorTexts.{AreCounted}
 use Rattle.plain_models.specs.Kept.{targets_kept}
@@ -32,7 +32,7 @@ reading_found number arguments text targets right read effects within =
     let probability : has_wrong_probability OneProbability (arguments_in arguments) ≡ false = right.2 in
     rw (read, count, probability, effects, within) refl
 
-pub error_line : (line arguments : List ℕ) (text : Bor (List ℕ)) (counts found : TargetCounts) → line ≡ codes "error(" ++ (arguments ++ 41 ∷ text.now)
+pub error_line : (line arguments : List ℕ) (text : Bor (List ℕ)) (counts found : Extent) → line ≡ codes "error(" ++ (arguments ++ 41 ∷ text.now)
     → list_all is_quiet arguments ≡ true → AreProbabilities OneProbability (arguments_in arguments) → AreCounted text.now counts found
     → IsErrorLine line counts text found
 error_line line arguments text counts found e quiet right h =

@@ -10,7 +10,7 @@ use Rattle.stim_lexer.specs.Bytes.{is_blank, is_empty}
 use Rattle.stim_parser.specs.Numbers.{number_of}
 use Rattle.stim_parser.specs.Pieces.{ends_here, ends_piece, is_star, pieces_of}
 use Rattle.stim_parser.specs.Targets.{each_of}
-use Rattle.dem_parser.specs.declared.counts.TargetCounts.{TargetCounts}
+use Rattle.dem_parser.specs.declared.counts.Extent.{Extent}
 use Rattle.dem_lines.specs.declared.target.Target.{Target}
 use Rattle.dem_lines.specs.declared.target.Target.TheVariants.{Detector, Observable}
 use Rattle.plain_models.specs.ErrorTexts.{AreCounted, IsNumberFront, IsTargetFront, is_word_byte}
@@ -88,7 +88,7 @@ unfolding targets_in pieces_of
 one_read w rest t ts some bytes apart read more =
     ap (each_of target_of) (first_piece w rest some (none-where ends_piece is_word_byte w no_end_of_piece bytes) apart) ∙ rw (read, more) refl
 
-pub counted-done : (text : List ℕ) (counts : TargetCounts) → text ≡ [] → AreCounted text counts counts
+pub counted-done : (text : List ℕ) (counts : Extent) → text ≡ [] → AreCounted text counts counts
 unfolding targets_in pieces_of has_target_beyond
 counted-done text counts e =
     subst (λ t. AreCounted t counts counts) (sym e)
@@ -103,7 +103,7 @@ counted-done text counts e =
       observables = sym (max-none counts.observables);
     })
 
-pub counted-next : (text after : List ℕ) (t : Target) (counts next found : TargetCounts) → IsTargetFront text t after → is_target_beyond t ≡ false
+pub counted-next : (text after : List ℕ) (t : Target) (counts next found : Extent) → IsTargetFront text t after → is_target_beyond t ≡ false
     → next.detectors ≡ max counts.detectors (detectors_to t) → next.observables ≡ max counts.observables (observables_to t)
     → AreCounted after next found → AreCounted text counts found
 unfolding has_target_beyond

@@ -18,6 +18,7 @@ use Rattle.stim_lexer.specs.Lines.{lines_of, says_nothing}
 use Rattle.stim_parser.specs.Arguments.{arguments_in}
 use Rattle.block_text.specs.declared.said.Said.{Said}
 use Rattle.block_text.specs.declared.said.Said.TheVariants as said
+use Rattle.block_text.specs.Fitting.{ReadingFits}
 use Rattle.block_text.specs.Said.{reading_in}
 use Rattle.block_text.specs.Texts.{Takes, Refuses, before, items_from, line_reading}
 use Rattle.stim_parser.specs.declared.table.Keyword.{Keyword}
@@ -25,10 +26,13 @@ use Rattle.stim_parser.specs.declared.table.Keyword.TheVariants.{Does as keyword
 use Rattle.stim_parser.specs.Judging.{accepted, judged, reading_of, refusal_of, said_by, unless_refused}
 use Rattle.dem_lines.specs.declared.operation.Operation.{Operation}
 use Rattle.dem_lines.specs.declared.target.Target.{Target}
+use Rattle.dem_lines.specs.Fitting.{Fits}
 use Rattle.dem_lines.specs.Instructions.{keyword_named}
+use Rattle.dem_lines.specs.Limits.{has_target_beyond}
 use Rattle.dem_lines.specs.Texts.{Does, items_in, models, refused}
 use Rattle.dem_lines.specs.Verdicts.{Instruction, model_table, read_targets}
-use Rattle.dem_parser.specs.declared.counts.TargetCounts.{TargetCounts}
+use Rattle.dem_lines.proofs.FitLemmas.{reading_fits}
+use Rattle.dem_parser.specs.declared.counts.Extent.{Extent}
 use Rattle.dem_parser.specs.Meanings.{detector_count, detectors_to, error_line, greatest_of, greatest_over, is_error, observable_count}
 use Rattle.dem_parser.specs.Models.{model_in, model_of_items}
 use Rattle.dem_parser.specs.Shifts.{Placed}
@@ -111,13 +115,18 @@ unfolding reading_of
 taken_targets s operation arguments number cut targets is e =
     said_targets cut.braces number cut _ (sym (ap (λ (x : Said Operation). reading_in number x targets) is) ∙ e)
 
+pub taken_within : (s : Said Operation) (operation : Operation) (arguments : Bor (List ℕ)) (number : ℕ) (cut : Cut) (targets : List Target)
+    → s ≡ said.Takes operation arguments → reading_in number s targets ≡ reading_of model_table 0 number cut → has_target_beyond targets ≡ false
+taken_within s operation arguments number cut targets is e =
+    (subst (ReadingFits Fits 0) (sym e ∙ ap (λ (x : Said Operation). reading_in number x targets) is) (reading_fits 0 number cut)).targets_within
+
 -- ---- lines one after another
 
 abbrev errors_of : List Placed → List (List Target)
 errors_of ps = map (λ (p : Placed). p.targets) (filter (λ p. is_error p.operation) ps)
 
 -- with what was kept so far, these instructions make all of the text
-pub record AreAll (text : List ℕ) (texts : List (Bor (List ℕ))) (counts : TargetCounts) (is : List Instruction) : Type 0 where
+pub record AreAll (text : List ℕ) (texts : List (Bor (List ℕ))) (counts : Extent) (is : List Instruction) : Type 0 where
   pub all : List Instruction
   pub stay : AllStay all
   pub writes : items_in text ≡ Ok (map Does all)
@@ -126,11 +135,11 @@ pub record AreAll (text : List ℕ) (texts : List (Bor (List ℕ))) (counts : Ta
   pub observables : max counts.observables (observable_count (map placed is)) ≡ observable_count (map placed all)
 
 -- so many lines were read and kept, and these are left: what they make is made of the whole text
-pub record IsPlain (text : List ℕ) (texts : List (Bor (List ℕ))) (counts : TargetCounts) (read : ℕ) (lines : List (List ℕ)) : Type 0 where
+pub record IsPlain (text : List ℕ) (texts : List (Bor (List ℕ))) (counts : Extent) (read : ℕ) (lines : List (List ℕ)) : Type 0 where
   pub chains : (is : List Instruction) → AllStay is → items_from models [] read lines ≡ Ok (map Does is) → AreAll text texts counts is
   pub refusal : (fault : Fault) → items_from models [] read lines ≡ Err fault → items_in text ≡ Err fault
 
-pub plain-first : (text : List ℕ) (texts : List (Bor (List ℕ))) (counts : TargetCounts) → texts ≡ [] → counts ≡ record { detectors = 0; observables = 0 } → IsPlain text texts counts 0 (lines_of text)
+pub plain-first : (text : List ℕ) (texts : List (Bor (List ℕ))) (counts : Extent) → texts ≡ [] → counts ≡ record { detectors = 0; observables = 0 } → IsPlain text texts counts 0 (lines_of text)
 plain-first text texts counts none no_counts =
     rw (none, no_counts)
     (record {
@@ -164,7 +173,7 @@ errors_next : (b : Bool) (kept : List (List Target)) (i : Instruction) (ps : Lis
 errors_next true kept i ps = append_assoc kept (i.targets ∷ []) (map (λ (p : Placed). p.targets) ps)
 errors_next false kept i ps = refl
 
-pub plain-next : (text : List ℕ) (texts texts' : List (Bor (List ℕ))) (counts counts' : TargetCounts) (read : ℕ) (all lines : List (List ℕ)) (line : List ℕ)
+pub plain-next : (text : List ℕ) (texts texts' : List (Bor (List ℕ))) (counts counts' : Extent) (read : ℕ) (all lines : List (List ℕ)) (line : List ℕ)
     → IsPlain text texts counts read all → all ≡ line ∷ lines → Passes step.Goes (read + 1) line texts counts texts' counts' → IsPlain text texts' counts' (read + 1) lines
 unfolding greatest_over
 plain-next text texts texts' counts counts' read all lines line h e passes = by (subst (IsPlain text texts counts read) e h) passes
@@ -194,7 +203,7 @@ plain-next text texts texts' counts counts' read all lines line h e passes = by 
           refusal = λ fault e. h.refusal fault (next ∙ ap (before (Does i)) e);
         }
 
-pub plain-refused : (text : List ℕ) (texts : List (Bor (List ℕ))) (counts : TargetCounts) (read : ℕ) (all lines : List (List ℕ)) (line : List ℕ) (c : Cause)
+pub plain-refused : (text : List ℕ) (texts : List (Bor (List ℕ))) (counts : Extent) (read : ℕ) (all lines : List (List ℕ)) (line : List ℕ) (c : Cause)
     → IsPlain text texts counts read all → all ≡ line ∷ lines → (says_nothing line ≡ false) × (line_reading models [] (read + 1) line ≡ Refuses c) → model_in text ≡ Err (refused c (read + 1))
 plain-refused text texts counts read all lines line c h e k =
     ap model_of_items (h.refusal (refused c (read + 1)) (ap (items_from models [] read) e ∙ refused_next read line lines c k.0 k.1))
@@ -223,11 +232,11 @@ abbrev with_lines : List ErrorLine → ℕ → ℕ → ErrorModel
 with_lines lines d o = record { lines = lines; coordinates = []; detectors = d; observables = o }
 
 -- what was kept of all lines
-pub record IsWhole (text : List ℕ) (texts : List (Bor (List ℕ))) (counts : TargetCounts) : Type 0 where
+pub record IsWhole (text : List ℕ) (texts : List (Bor (List ℕ))) (counts : Extent) : Type 0 where
   pub within : AreWithin texts counts.detectors
   pub model : stripped_or (model_in text) ≡ Ok (model_kept texts counts.detectors counts.observables)
 
-pub plain-whole : (text : List ℕ) (texts : List (Bor (List ℕ))) (counts : TargetCounts) (read : ℕ) (lines : List (List ℕ)) → IsPlain text texts counts read lines → lines ≡ [] → IsWhole text texts counts
+pub plain-whole : (text : List ℕ) (texts : List (Bor (List ℕ))) (counts : Extent) (read : ℕ) (lines : List (List ℕ)) → IsPlain text texts counts read lines → lines ≡ [] → IsWhole text texts counts
 unfolding greatest_over
 plain-whole text texts counts read lines h e =
     let all = h.chains [] tt (ap (items_from models [] read) e ∙ no_items read) in

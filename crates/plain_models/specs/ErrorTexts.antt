@@ -9,7 +9,7 @@ use Rattle.std.specs.List.{list_all}
 use Rattle.step_model.specs.Probabilities.{digits_value}
 use Rattle.stim_lexer.specs.Bytes.{is_empty}
 use Rattle.stim_parser.specs.Pieces.{ends_here}
-use Rattle.dem_parser.specs.declared.counts.TargetCounts.{TargetCounts}
+use Rattle.dem_parser.specs.declared.counts.Extent.{Extent}
 use Rattle.dem_lines.specs.declared.target.Target.{Target}
 use Rattle.dem_lines.specs.Limits.{has_target_beyond, is_effect}
 use Rattle.dem_parser.specs.Meanings.{detectors_to, greatest_of, observables_to}
@@ -37,7 +37,7 @@ pub record IsTargetFront (text : List ℕ) (target : Target) (rest : List ℕ) :
   pub effect : is_effect target ≡ true
 
 -- a text writes targets that an error may have, none beyond its limit, and by these `counts` become `found`
-pub record AreCounted (text : List ℕ) (counts found : TargetCounts) : Type 0 where
+pub record AreCounted (text : List ℕ) (counts found : Extent) : Type 0 where
   pub apart : ends_here text ≡ true
   pub quiet : list_all is_quiet text ≡ true
   pub targets : List Target

@@ -7,7 +7,7 @@ use Rattle.stim_lexer.specs.Lines.{says_nothing}
 use Rattle.block_text.specs.Texts.{Reading, Takes, Refuses, line_reading}
 use Rattle.dem_lines.specs.Texts.{models}
 use Rattle.dem_lines.specs.Verdicts.{Instruction}
-use Rattle.dem_parser.specs.declared.counts.TargetCounts.{TargetCounts}
+use Rattle.dem_parser.specs.declared.counts.Extent.{Extent}
 use Rattle.dem_parser.specs.Meanings.{detectors_to, greatest_of, is_error, observables_to}
 use Rattle.dem_parser.specs.Shifts.{no_shift, shift_after}
 use Rattle.plain_models.specs.declared.plain_reader.Step.{Step}
@@ -15,7 +15,7 @@ use Rattle.plain_models.specs.declared.plain_reader.Step.TheVariants as step
 use Rattle.plain_models.specs.Kept.{targets_kept}
 
 -- an instruction that shifts nothing was taken: by it these texts and counts became those
-pub record IsTaken (reading : Reading Instruction) (texts : List (Bor (List ℕ))) (counts : TargetCounts) (texts' : List (Bor (List ℕ))) (counts' : TargetCounts) : Type 0 where
+pub record IsTaken (reading : Reading Instruction) (texts : List (Bor (List ℕ))) (counts : Extent) (texts' : List (Bor (List ℕ))) (counts' : Extent) : Type 0 where
   pub instruction : Instruction
   pub taken : reading ≡ Takes instruction
   pub stays : shift_after instruction no_shift ≡ no_shift
@@ -24,13 +24,13 @@ pub record IsTaken (reading : Reading Instruction) (texts : List (Bor (List ℕ)
   pub observables : counts'.observables ≡ max counts.observables (greatest_of observables_to instruction.targets)
 
 -- at a line that says this
-abbrev pub Steps : Step → Reading Instruction → List (Bor (List ℕ)) → TargetCounts → List (Bor (List ℕ)) → TargetCounts → Type 0
+abbrev pub Steps : Step → Reading Instruction → List (Bor (List ℕ)) → Extent → List (Bor (List ℕ)) → Extent → Type 0
 Steps step.Goes reading texts counts texts' counts' = IsTaken reading texts counts texts' counts'
 Steps step.Leaves reading texts counts texts' counts' = ⊤
 Steps (step.Refuses c) reading texts counts texts' counts' = reading ≡ Refuses c
 
 -- at a line as it stands, of this number
-abbrev pub Passes : Step → ℕ → List ℕ → List (Bor (List ℕ)) → TargetCounts → List (Bor (List ℕ)) → TargetCounts → Type 0
+abbrev pub Passes : Step → ℕ → List ℕ → List (Bor (List ℕ)) → Extent → List (Bor (List ℕ)) → Extent → Type 0
 Passes step.Goes number line texts counts texts' counts' =
     ((says_nothing line ≡ true) × (texts' ≡ texts) × (counts' ≡ counts))
     ⊎ ((says_nothing line ≡ false) × IsTaken (line_reading models [] number line) texts counts texts' counts')
@@ -39,6 +39,6 @@ Passes (step.Refuses c) number line texts counts texts' counts' =
     (says_nothing line ≡ false) × (line_reading models [] number line ≡ Refuses c)
 
 -- a line is taken as an error line, by the text of its targets
-pub record IsErrorLine (line : List ℕ) (counts : TargetCounts) (text : Bor (List ℕ)) (found : TargetCounts) : Type 0 where
+pub record IsErrorLine (line : List ℕ) (counts : Extent) (text : Bor (List ℕ)) (found : Extent) : Type 0 where
   pub speaks : says_nothing line ≡ false
   pub taken : (number : ℕ) (texts : List (Bor (List ℕ))) → IsTaken (line_reading models [] number line) texts counts (texts ++ text ∷ []) found

@@ -7,7 +7,7 @@ ghost use Rattle.dem_parser.proofs.QuietLemmas.{is_quiet};
 ghost use Rattle.plain_models.specs.PlainLines.{IsErrorLine};
 
 use crate::plain_targets::{behind_byte, counted};
-use dem_parser::TargetCounts;
+use dem_parser::Extent;
 use stim_lexer::cut_at;
 use stim_parser::{
     ArgumentForm, LastProbability, has_wrong_arguments, has_wrong_probability, read_arguments,
@@ -76,9 +76,9 @@ fn head_in<'a>(last: &mut LastProbability<'a>, text: &'a [u8]) -> Option<Head<'a
 #[inline(always)]
 fn error_alike<'a>(
     head: Option<Head<'a>>,
-    counts: TargetCounts,
+    counts: Extent,
     text: &'a [u8],
-) -> Option<(&'a [u8], TargetCounts)>
+) -> Option<(&'a [u8], Extent)>
     ensures { IfSome result (λ found. IsErrorLine text.now counts found.0 found.1) }
 {
     let head = head?;
@@ -93,9 +93,9 @@ fn error_alike<'a>(
 fn error_anew<'a>(
     head: &mut Option<Head<'a>>,
     last: &mut LastProbability<'a>,
-    counts: TargetCounts,
+    counts: Extent,
     text: &'a [u8],
-) -> Option<(&'a [u8], TargetCounts)>
+) -> Option<(&'a [u8], Extent)>
     ensures { IfSome result (λ found. IsErrorLine text.now counts found.0 found.1) }
 {
     let found = head_in(last, text)?;
@@ -109,9 +109,9 @@ fn error_anew<'a>(
 pub(crate) fn error_in<'a>(
     head: &mut Option<Head<'a>>,
     last: &mut LastProbability<'a>,
-    counts: TargetCounts,
+    counts: Extent,
     text: &'a [u8],
-) -> Option<(&'a [u8], TargetCounts)>
+) -> Option<(&'a [u8], Extent)>
     ensures { IfSome result (λ found. IsErrorLine text.now counts found.0 found.1) }
 {
     match error_alike(*head, counts, text) {

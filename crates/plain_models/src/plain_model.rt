@@ -4,8 +4,8 @@ ghost use Rattle.dem_parser.specs.Sums.{symptom_of, turned};
 ghost use Rattle.plain_models.specs.Kept.{AreWithin, model_kept};
 ghost use Rattle.dem_lines.specs.Verdicts.{read_targets};
 
-use dem_lines::{Target, narrowed, read_targets};
-use dem_parser::{TargetCounts, no_bits, turn_targets};
+use dem_lines::{Target, read_targets};
+use dem_parser::{Extent, no_bits, turn_targets};
 use std::alloc::{AllocError, Allocator};
 use std::marker::Model;
 
@@ -48,15 +48,15 @@ fn turn_named<A: Allocator + Copy>(
 
 impl<'a, A: Allocator + Copy> PlainModel<'a, A> {
     /// The model of error lines whose targets these texts write.
-    pub(crate) fn new(texts: Vec<&'a [u8], A>, counts: TargetCounts) -> Result<Self, AllocError>
-        requires { AreWithin texts.items counts.detectors }
-        ensures { IfOk result (λ model. model ≡ model_kept texts.entry.items counts.detectors counts.observables) }
+    pub(crate) fn new(texts: Vec<&'a [u8], A>, extent: Extent) -> Self
+        requires { AreWithin texts.items extent.detectors }
+        ensures { result ≡ model_kept texts.entry.items extent.detectors extent.observables }
     {
-        Ok(PlainModel {
-            detectors: narrowed(counts.detectors)?,
-            observables: narrowed(counts.observables)?,
+        PlainModel {
+            detectors: extent.detectors,
+            observables: extent.observables,
             texts,
-        })
+        }
     }
 
     /// How many error lines there are.

@@ -5,6 +5,7 @@ ghost use Rattle.stim_lexer.specs.Bytes.{is_line_feed};
 ghost use Rattle.stim_lexer.specs.Cut.{cut_of, has_bad_byte};
 ghost use Rattle.stim_lexer.specs.Lexing.{cut_in};
 ghost use Rattle.stim_lexer.specs.Lines.{says_nothing};
+ghost use Rattle.dem_lines.specs.Limits.{has_target_beyond};
 ghost use Rattle.dem_lines.specs.Verdicts.{model_table, read_targets};
 ghost use Rattle.stim_parser.specs.Judging.{reading_of};
 ghost use Rattle.dem_parser.specs.Meanings.{detectors_to, greatest_of, is_error, observables_to};
@@ -13,7 +14,7 @@ ghost use Rattle.plain_models.specs.PlainLines.{Passes, Steps};
 
 use crate::plain_head::{Head, error_in};
 use dem_lines::{Last, Operation, Said, Target, read_line};
-use dem_parser::{TargetCounts, is_error, raised};
+use dem_parser::{Extent, is_error, raised};
 use std::alloc::{AllocError, Allocator};
 use step_model::{Cause, Fault};
 use stim_lexer::{Lexer, Line};
@@ -33,7 +34,7 @@ pub(crate) enum Step {
 #[derive(Drop)]
 pub(crate) struct PlainReader<'a, A: Allocator + Copy> {
     pub texts: Vec<&'a [u8], A>,
-    pub counts: TargetCounts,
+    pub counts: Extent,
     // Room for the targets of the line that is read.
     targets: Vec<Target, A>,
     last: Last<'a>,
@@ -60,7 +61,7 @@ impl<'a, A: Allocator + Copy> PlainReader<'a, A> {
     {
         PlainReader {
             texts: Vec::new(alloc),
-            counts: TargetCounts {
+            counts: Extent {
                 detectors: 0,
                 observables: 0,
             },
@@ -72,7 +73,8 @@ impl<'a, A: Allocator + Copy> PlainReader<'a, A> {
 
     /// Keeps a line by what it says and its targets, which the text writes.
     fn keep(&mut self, operation: Operation, text: &'a [u8]) -> Result<(), AllocError>
-        requires { self.old.targets.items ≡ read_targets text.now }
+        requires targets { self.old.targets.items ≡ read_targets text.now }
+        requires within { has_target_beyond self.old.targets.items ≡ false }
         ensures errors { IfOk result (λ _. targets_kept self.new.texts.items ≡
             (if is_error operation then targets_kept self.old.texts.items ++ self.old.targets.items ∷ [] else targets_kept self.old.texts.items)) }
         ensures detectors { IfOk result (λ _. self.new.counts.detectors ≡ max self.old.counts.detectors (greatest_of detectors_to self.old.targets.items)) }

@@ -3,7 +3,7 @@ ghost use Rattle.std.specs.Char.{is_ascii_digit};
 ghost use Rattle.plain_models.specs.ErrorTexts.{AreCounted, IsNumberFront, IsTargetFront};
 
 use dem_lines::{Target, is_target_beyond};
-use dem_parser::{TargetCounts, raised_to};
+use dem_parser::{Extent, raised_to};
 
 /// The greatest number after which one more digit is read.
 const MOST_READ: u64 = 99_999_999;
@@ -73,7 +73,7 @@ fn front_target(text: &[u8]) -> Option<(Target, &[u8])>
 /// Counts raised to what the targets of an error line name. There are none where a target is written in a rare way, or
 /// is refused.
 #[inline(always)]
-pub(crate) fn counted(text: &[u8], counts: TargetCounts) -> Option<TargetCounts>
+pub(crate) fn counted(text: &[u8], counts: Extent) -> Option<Extent>
     ensures { IfSome result (λ found. AreCounted text.now counts found) }
 {
     let mut found = counts;

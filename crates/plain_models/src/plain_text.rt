@@ -54,8 +54,5 @@ pub fn read_plain<'a, A: Allocator + Copy>(
             Err(_) => return Err(Fault::MEMORY),
         }
     }
-    match PlainModel::new(reader.texts, reader.counts) {
-        Ok(model) => Ok(Some(model)),
-        Err(_) => Err(Fault::MEMORY),
-    }
+    Ok(Some(PlainModel::new(reader.texts, reader.counts)))
 }

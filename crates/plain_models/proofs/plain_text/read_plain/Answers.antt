@@ -31,7 +31,7 @@ new-requires g c =
     let none : length c.loop-rest.rest.now ≡ 0 = grind (arith, nat_tests) in
     (plain-whole _ _ _ _ _ c.loop-rest.invariant.plain (lines_of-none c.loop-rest.rest.now none)).within
 
-pub returns-in-Ok-clause-ok : goal.returns-in-Ok-clause-ok
-returns-in-Ok-clause-ok g c =
+pub returns-clause-ok : goal.returns-clause-ok
+returns-clause-ok g c =
     let none : length c.loop-rest.rest.now ≡ 0 = grind (arith, nat_tests) in
-    (plain-whole _ _ _ _ _ c.loop-rest.invariant.plain (lines_of-none c.loop-rest.rest.now none)).model ∙ ap Ok (sym c.in-Ok.ensures)
+    (plain-whole _ _ _ _ _ c.loop-rest.invariant.plain (lines_of-none c.loop-rest.rest.now none)).model ∙ ap Ok (sym c.new.ensures)
