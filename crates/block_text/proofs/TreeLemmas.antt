@@ -4,9 +4,9 @@ use Rattle.std.proofs.Common.{◌≡◌, ℕ, zero, suc, ◌+◌, ◌<◌, ◌�
 use Rattle.std.specs.Prelude.{IfOk, is_err, if◌then◌else◌}
 use Rattle.std.proofs.lemmas.Bool.{cases_Bool, false≢true}
 use Rattle.step_model.specs.declared.fault.Fault.{Fault}
-use Rattle.stim_lexer.specs.Cut.{Cut, cut_of, has_bad_byte}
+use Rattle.stim_lexer.specs.Cut.{cut_of, has_bad_byte}
 use Rattle.stim_lexer.specs.Lines.{lines_of, says_nothing}
-use Rattle.block_text.specs.Fitting.{IsBuilt, AllFit, ReadingFits, depth}
+use Rattle.block_text.specs.Fitting.{IsBuilt, AllFit, LinesFit, ReadingFits, depth}
 use Rattle.block_text.specs.Flat.{IsWritten, tree_of, tree_of-items}
 use Rattle.block_text.specs.Texts.{Format, Reading, Takes, Opens, Closes, Refuses, items_in, items_from, followed, line_reading, open_after, Writes, IsRefusedBy}
 use Rattle.block_text.specs.Trees.{Item, Does, Begins, Ends, Tree, Nothing, Then, Block, items_of}
@@ -69,10 +69,6 @@ nothing_before : {I : Type 0} (Fits : I → Type 0) (k : ℕ) (behind : List (It
 nothing_before Fits k behind few = record { tree = Nothing; written = refl; fit = tt; shallow = omega arith }
 
 -- ---- lines
-
--- whatever a line says in a format fits
-abbrev pub LinesFit : {I : Type 0} → (I → Type 0) → Format I → Type 0
-LinesFit Fits format = (depth number : ℕ) (cut : Cut) → ReadingFits Fits depth (format.reading_of depth number cut)
 
 line_fits : {I : Type 0} (Fits : I → Type 0) (format : Format I) → LinesFit Fits format → (opened : List ℕ) (n : ℕ) (line : List ℕ) → ReadingFits Fits (length opened) (line_reading format opened n line)
 line_fits Fits format fit opened n line =

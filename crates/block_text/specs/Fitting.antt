@@ -1,8 +1,9 @@
 -- What holds of the tree of an accepted text: each instruction has the arguments and targets that its format asks, each
 -- block has at least one turn, and blocks are nested no deeper than the limit. (The limit is this project's.)
 use Rattle.std.specs.Prelude.{⊤, ◌<◌, ◌≤◌, ℕ, suc, max}
+use Rattle.stim_lexer.specs.Cut.{Cut}
 use Rattle.block_text.specs.Trees.{Tree, Nothing, Then, Block}
-use Rattle.block_text.specs.Texts.{Reading, Takes, Opens, Closes, Refuses}
+use Rattle.block_text.specs.Texts.{Format, Reading, Takes, Opens, Closes, Refuses}
 
 -- the most blocks that may be open
 abbrev pub deepest : ℕ
@@ -30,3 +31,7 @@ ReadingFits Fits depth (Takes i) = Fits i
 ReadingFits Fits depth (Opens turns) = (0 < turns) × (depth < 32)
 ReadingFits Fits depth Closes = 0 < depth
 ReadingFits Fits depth (Refuses c) = ⊤
+
+-- whatever a line says in a format fits
+abbrev pub LinesFit : {I : Type 0} → (I → Type 0) → Format I → Type 0
+LinesFit Fits format = (depth number : ℕ) (cut : Cut) → ReadingFits Fits depth (format.reading_of depth number cut)

@@ -1,6 +1,6 @@
 -- A line of an error model that isn't refused says an instruction that fits.
+use Rattle.block_text.specs.Fitting.{LinesFit}
 use Rattle.block_text.proofs.QuestionLemmas.{neither, not_not}
-use Rattle.block_text.proofs.TreeLemmas.{LinesFit}
 use Rattle.stim_parser.proofs.FitLemmas.{TakesFitting, readings_fit}
 use Rattle.dem_lines.specs.Fitting.{Fits}
 use Rattle.dem_lines.specs.Texts.{models}

@@ -1,14 +1,14 @@
 -- The items of an accepted text are those of one tree, which is accepted.
 use Rattle.std.proofs.Common.{◌≡◌, ℕ, List, Ok}
+use Rattle.block_text.specs.Flat.{IsWritten}
 use Rattle.block_text.proofs.TreeLemmas as trees
 use Rattle.dem_lines.specs.Fitting.{Fits, IsAccepted}
-use Rattle.dem_lines.specs.Flat.{IsWritten}
 use Rattle.dem_lines.specs.Texts.{Item, models, items_in}
 use Rattle.dem_lines.specs.Trees.{Tree, Writes}
 use Rattle.dem_lines.proofs.FitLemmas.{reading_fits}
 
 -- the items of a text that is accepted are those of an error model
-pub items_are_written : (text : List ℕ) (items : List Item) → items_in text ≡ Ok items → IsWritten items
+pub items_are_written : (text : List ℕ) (items : List Item) → items_in text ≡ Ok items → IsWritten Fits items
 items_are_written = trees.items_are_written Fits models reading_fits
 
 pub each_tree_is_accepted : (text : List ℕ) (tree : Tree) → Writes text tree → IsAccepted tree

@@ -3,7 +3,6 @@
 
 mod checks;
 mod forms;
-mod instruction;
 pub mod laws;
 mod line_counts;
 mod lines;
@@ -16,10 +15,9 @@ mod target;
 pub use block_text::{LEVELS, OpenBlock, Said};
 pub use checks::{GREATEST_DETECTOR, GREATEST_NUMBER, is_target_beyond};
 pub use forms::TargetForm;
-pub use instruction::Instruction;
 pub use line_counts::has_many_lines;
-pub use lines::{Item, ModelLines};
-pub use model_judge::{number_in, read_line};
+pub use lines::{Instruction, Item, ModelLines, instruction_at};
+pub use model_judge::{ModelJudge, number_in, read_line};
 pub use operation::Operation;
 pub use parser::parse;
 pub use stim_parser::Last;

@@ -2,6 +2,7 @@ ghost use Rattle.std.specs.Prelude.{◌≡◌, IfOk};
 ghost use Rattle.stim_lexer.specs.Lexing.{cut_in};
 ghost use Rattle.block_text.specs.Said.{reading_in};
 ghost use Rattle.stim_parser.specs.Judging.{reading_of};
+ghost use Rattle.dem_lines.specs.Fitting as fitting;
 ghost use Rattle.dem_lines.specs.Verdicts.{model_table, number_in};
 
 use crate::checks::{GREATEST_NUMBER, are_of_form, has_target_beyond};
@@ -26,10 +27,12 @@ pub fn number_in(targets: &[Target]) -> u64
 }
 
 /// The judge of an error model's lines.
-pub(crate) struct ModelJudge;
+pub struct ModelJudge;
 
 impl Judge<Operation, Target, TargetForm> for ModelJudge {
     ghost table = { model_table };
+
+    ghost Fits = { fitting.Fits };
 
     #[inline(always)]
     fn keyword_named<'a>(_: &mut Last<'a>, name: &'a [u8]) -> Option<Keyword<Operation>> {

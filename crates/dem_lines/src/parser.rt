@@ -9,7 +9,7 @@ use crate::operation::Operation;
 use crate::target::Target;
 use std::alloc::Allocator;
 use step_model::Fault;
-use stim_parser::read_items;
+use stim_parser::read_text;
 
 /// The error model that a text writes, or the first refusal of its lines. The cause is `Memory`, and the line 0, only
 /// where memory runs out.
@@ -17,6 +17,5 @@ pub fn parse<'a, A: Allocator + Copy>(alloc: A, text: &'a [u8]) -> Result<ModelL
     ensures ok { IfOk result (λ model. Writes text.now model) }
     ensures err { IfErr result (λ fault. (fault ≡ memory_fault) ⊎ IsRefusedBy text.now fault) }
 {
-    let items = read_items::<Operation, Target, TargetForm, ModelJudge, A>(alloc, text)?;
-    Ok(ModelLines::new(items))
+    read_text::<Operation, Target, TargetForm, ModelJudge, A>(alloc, text)
 }

@@ -11,7 +11,7 @@ ghost use Rattle.dem_parser.specs.Tables.{IsKnown, extent_of, numbers_stated};
 use crate::counts::{Extent, raised};
 use crate::shifts::coordinates_read;
 use arrayvec::ArrayVec;
-use dem_lines::{Instruction, Item, ModelLines, Operation, Target};
+use dem_lines::{Instruction, Item, ModelLines, Operation, Target, instruction_at};
 use flat_lists::FlatLists;
 use std::alloc::{AllocError, Allocator};
 use std::marker::Model;
@@ -108,7 +108,7 @@ impl<'c, 'a, A: Allocator + Copy> LineTable<'c, 'a, A> {
         let mut extents = Vec::new(alloc);
         let mut numbers = FlatLists::new(alloc);
         for place in 0..lines.len() {
-            let instruction = lines.instruction_at(place);
+            let instruction = instruction_at(lines, place);
             extents.push(extent_of(instruction.targets))?;
             numbers.push(numbers_stated(instruction.operation, instruction.arguments).as_slice())?;
         }
@@ -151,7 +151,7 @@ impl<'c, 'a, A: Allocator + Copy> LineTable<'c, 'a, A> {
     {
         self.lines.fits();
         TableLine {
-            instruction: self.lines.instruction_at(place),
+            instruction: instruction_at(self.lines, place),
             extent: extent_at(&self.extents, place),
             numbers: numbers_at(&self.numbers, place),
         }

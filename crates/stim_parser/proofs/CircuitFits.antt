@@ -1,8 +1,8 @@
 -- A line of a circuit that isn't refused says an instruction that fits.
 use Rattle.std.proofs.Common.{◌≡◌, true, Some, ap, sym, ◌∙◌}
 use Rattle.stim_lexer.specs.Cut.{Cut}
+use Rattle.block_text.specs.Fitting.{LinesFit}
 use Rattle.block_text.proofs.QuestionLemmas.{neither, not_not}
-use Rattle.block_text.proofs.TreeLemmas.{LinesFit}
 use Rattle.stim_parser.specs.declared.operation.Operation.{Operation}
 use Rattle.stim_parser.specs.declared.table.Keyword.TheVariants.{Does}
 use Rattle.stim_parser.specs.Circuits.{Fits, operation_is_written}

@@ -8,7 +8,6 @@ mod PieceValueLemmas
 mod SignificantLemmas
 pub mod FitLemmas
 mod CircuitFits
-mod TreeLemmas
 mod CoordinateLemmas
 mod WrittenLemmas
 pub mod TargetNumbers

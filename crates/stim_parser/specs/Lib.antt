@@ -12,7 +12,6 @@ pub mod Verdicts
 pub mod Texts
 pub mod Trees
 pub mod Circuits
-pub mod Flat
 pub mod Halves
 pub mod Coordinates
 pub mod QubitSets

@@ -77,7 +77,7 @@ pub fn first_argument(text: &[u8]) -> Option<&[u8]>
 
 /// Whether there is an argument in the text of some parentheses.
 #[inline(always)]
-pub(crate) fn has_argument(text: &[u8]) -> bool
+pub fn has_argument(text: &[u8]) -> bool
     ensures { result ≡ is_some (slice_get (arguments_in text.now) 0) }
 {
     !after_blanks(text).is_empty()

@@ -1,4 +1,5 @@
 ghost use Rattle.std.specs.Prelude.{◌≡◌, None, Some, false, IfOk, MatchBool};
+ghost use Rattle.stim_parser.specs.Circuits as circuits;
 ghost use Rattle.stim_parser.specs.Judging.{first_of};
 ghost use Rattle.stim_parser.specs.Limits.{has_target_beyond};
 ghost use Rattle.stim_parser.specs.Verdicts.{circuit_table, has_wrong_number, line_targets, refusal_of_name, refusals_of_targets, takes_none, turns_of};
@@ -61,10 +62,12 @@ fn refusal_of_targets(form: TargetForm, text: &[u8], targets: &[Target]) -> Opti
 }
 
 /// The judge of a circuit's lines.
-pub(crate) struct CircuitJudge;
+pub struct CircuitJudge;
 
 impl Judge<Operation, Target, TargetForm> for CircuitJudge {
     ghost table = { circuit_table };
+
+    ghost Fits = { circuits.Fits };
 
     #[inline(always)]
     fn keyword_named<'a>(last: &mut Last<'a>, name: &'a [u8]) -> Option<Keyword<Operation>> {

@@ -22,7 +22,7 @@ pub enum ArgumentForm {
 
 /// Which targets an instruction takes.
 #[derive(Clone, Copy)]
-pub(crate) enum TargetForm {
+pub enum TargetForm {
     NoTargets,
     Qubits,
     QubitsInvertedAtWill,

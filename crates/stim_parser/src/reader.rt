@@ -1,11 +1,13 @@
 ghost use Rattle.std.specs.Prelude.{◌≡◌, ◌⊎◌, IfOk, IfErr, Ok};
 ghost use Rattle.step_model.specs.Faults.{memory_fault};
 ghost use Rattle.stim_lexer.specs.Lexing.{cut_in};
-ghost use Rattle.block_text.specs.Texts.{IsRefusedBy, items_in};
+ghost use Rattle.block_text.specs.Fitting.{LinesFit};
+ghost use Rattle.block_text.specs.Texts.{IsRefusedBy, Writes, items_in};
 ghost use Rattle.block_text.specs.Unfinished.{after_line, cause_in, reading_at};
 ghost use Rattle.stim_parser.specs.Judging.{format_of};
 
 use crate::judge::read_line;
+use crate::judged_text::JudgedText;
 use crate::last::Last;
 use crate::table::Judge;
 use block_text::{Builder, Items};
@@ -29,7 +31,7 @@ fn read_next<'a, O: Copy, T: Copy, F: Copy, J: Judge<O, T, F>, A: Allocator + Co
 }
 
 /// The items of a text in the format of a judge, or the text's refusal. The cause is `Memory` only where memory runs out.
-pub fn read_items<'a, O: Copy, T: Copy, F: Copy, J: Judge<O, T, F>, A: Allocator + Copy>(
+fn read_items<'a, O: Copy, T: Copy, F: Copy, J: Judge<O, T, F>, A: Allocator + Copy>(
     alloc: A,
     text: &'a [u8],
 ) -> Result<Items<'a, O, T, A>, Fault>
@@ -54,4 +56,18 @@ pub fn read_items<'a, O: Copy, T: Copy, F: Copy, J: Judge<O, T, F>, A: Allocator
         }
     }
     builder.finish(J::causes().block)
+}
+
+/// What a text writes in the format of a judge, or the first refusal of its lines. The cause is `Memory`, and the line 0,
+/// only where memory runs out.
+pub fn read_text<'a, O: Copy, T: Copy, F: Copy, J: Judge<O, T, F>, A: Allocator + Copy>(
+    alloc: A,
+    text: &'a [u8],
+) -> Result<JudgedText<'a, O, T, F, J, A>, Fault>
+    requires { LinesFit J.Fits (format_of J.table) }
+    ensures ok { IfOk result (λ read. Writes (format_of J.table) text.now read) }
+    ensures err { IfErr result (λ fault. (fault ≡ memory_fault) ⊎ IsRefusedBy (format_of J.table) text.now fault) }
+{
+    let items = read_items::<O, T, F, J, A>(alloc, text)?;
+    Ok(JudgedText::new(items))
 }

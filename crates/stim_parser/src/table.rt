@@ -1,4 +1,5 @@
 ghost use Rattle.std.specs.Prelude.{◌≡◌, None, Some, false, IfOk, MatchBool};
+ghost use Rattle.block_text.specs.Instructions.{Instruction};
 ghost use Rattle.stim_parser.specs.Judging.{Table, first_of};
 
 use crate::forms::ArgumentForm;
@@ -28,6 +29,9 @@ pub struct Causes {
 /// What a format, such as that of circuits or of error models, says of its lines.
 pub trait Judge<O: Copy, T: Copy, F: Copy> {
     ghost table: { Table O T F };
+
+    // What holds of each instruction that isn't refused.
+    ghost Fits: { Instruction O T → Type 0 };
 
     /// The keyword that a name names. The name that was looked up last may be remembered.
     fn keyword_named<'a>(last: &mut Last<'a>, name: &'a [u8]) -> Option<Keyword<O>>

@@ -4,7 +4,7 @@ use Rattle.std.specs.Prelude.{IfOk, IfErr}
 use Rattle.step_model.specs.declared.fault.Fault.{Fault}
 use Rattle.step_model.specs.Faults.{memory_fault}
 use Rattle.step_model.specs.Listing.{Listing}
-use Rattle.stim_parser.specs.Flat.{tree_of-items}
+use Rattle.block_text.specs.Flat.{tree_of-items}
 use Rattle.stim_parser.specs.Trees.{Tree, Writes, IsRefusedBy}
 use Rattle.unroll.specs.Programs.{program_in, program_of_items}
 use Rattle.unroll.specs.Unrolled.{program_of}

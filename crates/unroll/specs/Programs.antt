@@ -4,7 +4,7 @@
 use Rattle.std.specs.Prelude.{ℕ, List, Result, Ok, Err}
 use Rattle.step_model.specs.declared.fault.Fault.{Fault}
 use Rattle.step_model.specs.Listing.{Listing}
-use Rattle.stim_parser.specs.Flat.{tree_of}
+use Rattle.block_text.specs.Flat.{tree_of}
 use Rattle.stim_parser.specs.Texts.{Item, items_in}
 use Rattle.unroll.specs.Unrolled.{program_of}
 

@@ -1,6 +1,6 @@
 ghost use Rattle.std.specs.Prelude.{◌≡◌, ◌<◌, ◌≤◌, ◌^◌, ◌++◌, All, drop, length, map, slice_range, IfOk, OnOk};
 ghost use Rattle.stim_parser.specs.Circuits.{Fits};
-ghost use Rattle.stim_parser.specs.Flat.{instruction_in};
+ghost use Rattle.block_text.specs.Kept.{instruction_in};
 ghost use Rattle.unroll.specs.Coordinates.{coordinates_of};
 ghost use Rattle.unroll.specs.Gathered.{later};
 ghost use Rattle.unroll.specs.Placing.{IsStated, added_by, placing};

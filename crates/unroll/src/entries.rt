@@ -1,5 +1,5 @@
 ghost use Rattle.std.specs.Prelude.{◌≡◌, ◌≤◌, ◌++◌, All, map, unwrap_or, OnOk};
-ghost use Rattle.stim_parser.specs.Flat.{instruction_in};
+ghost use Rattle.block_text.specs.Kept.{instruction_in};
 ghost use Rattle.unroll.specs.Kept.{entries_of as entries_made, entry_at, first_argument, flip_entries, letter_at, term_at, term_of};
 ghost use Rattle.unroll.specs.Pushed.{IsSmall};
 ghost use Rattle.unroll.specs.Totals.{qubits_to};
@@ -80,7 +80,7 @@ fn push_entries<'a, A: Allocator + Copy>(
 fn first_argument<'a>(instruction: Instruction<'_, 'a>) -> &'a [u8]
     ensures { result.now ≡ first_argument (instruction_in instruction.entry).arguments }
 {
-    match instruction.first_argument() {
+    match stim_parser::first_argument(instruction.arguments) {
         Some(text) => text,
         None => &[],
     }
@@ -94,7 +94,7 @@ fn push_flip<'a, A: Allocator + Copy>(
 ) -> Result<(), AllocError>
     ensures { OnOk result (entries.new ≡ entries.old ++ flip_entries (instruction_in instruction.entry).arguments) }
 {
-    match instruction.first_argument() {
+    match stim_parser::first_argument(instruction.arguments) {
         Some(text) => entries.push(text, bound_of(last, text), &[]),
         None => Ok(()),
     }

@@ -1,5 +1,5 @@
 ghost use Rattle.std.specs.Prelude.{◌≡◌, ◌+◌, ◌-◌, ◌*◌, ◌<◌, ◌≤◌, ◌^◌, ◌++◌, All, None, drop, length, map, slice_range, vec_len, IfOk, OnOk};
-ghost use Rattle.stim_parser.specs.Flat.{instruction_in};
+ghost use Rattle.block_text.specs.Kept.{instruction_in};
 ghost use Rattle.unroll.specs.Flattened.{reached};
 ghost use Rattle.unroll.specs.Gathered.{given, later};
 ghost use Rattle.unroll.specs.Including.{including, inclusion_moved, inclusion_of};
@@ -13,7 +13,7 @@ use crate::targets::target_count;
 use arrayvec::ArrayVec;
 use block_text::{LEVELS, OpenBlock};
 use std::alloc::{AllocError, Allocator};
-use stim_parser::{Circuit, Instruction, Item, Operation, Target};
+use stim_parser::{Circuit, Instruction, Item, Operation, Target, first_number};
 
 /// A record that is added to an observable: the numbers of both.
 #[derive(Clone, Copy)]
@@ -52,7 +52,7 @@ fn push_inclusions<A: Allocator + Copy>(
 {
     match instruction.operation {
         Operation::Observes => {
-            let observable = instruction.number().unwrap_or(0);
+            let observable = first_number(instruction.arguments).unwrap_or(0);
             include_records(inclusions, observable, records, instruction.targets)
         }
         _ => Ok(()),

@@ -1,5 +1,5 @@
 ghost use Rattle.std.specs.Prelude.{◌≡◌, ◌<◌, ◌^◌, [], None, map, IfOk, OnOk};
-ghost use Rattle.stim_parser.specs.Flat.{instruction_in, item_in};
+ghost use Rattle.block_text.specs.Kept.{instruction_in, item_in};
 ghost use Rattle.unroll.specs.Including.{item_observables, named_to, told_apart, with_place};
 ghost use Rattle.unroll.specs.Observables.{observable_total, observables_of};
 ghost use Rattle.unroll.specs.Refusals.{first_far_line};
@@ -8,14 +8,16 @@ ghost use Rattle.unroll.specs.Totals.{record_total};
 use crate::inclusions::{Inclusion, inclusions_of};
 use flat_lists::FlatLists;
 use std::alloc::{AllocError, Allocator};
-use stim_parser::{Circuit, Instruction, Item, Operation};
+use stim_parser::{Circuit, Instruction, Item, Operation, first_number};
 
 /// One more than the observable that an instruction names, and 0 where it names none.
 pub(crate) fn named_to(instruction: Instruction<'_, '_>) -> u64
     ensures { result ≡ named_to (instruction_in instruction.entry).operation (instruction_in instruction.entry).arguments }
 {
     match instruction.operation {
-        Operation::Observes => instruction.number().unwrap_or(0).saturating_add(1),
+        Operation::Observes => first_number(instruction.arguments)
+            .unwrap_or(0)
+            .saturating_add(1),
         _ => 0,
     }
 }

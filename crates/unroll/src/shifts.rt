@@ -1,18 +1,18 @@
 ghost use Rattle.std.specs.Prelude.{◌≡◌, ◌<◌, ◌^◌, [], All, unwrap_or};
 ghost use Rattle.stim_parser.specs.Circuits.{Fits};
 ghost use Rattle.stim_parser.specs.Coordinates.{coordinates_in};
-ghost use Rattle.stim_parser.specs.Flat.{instruction_in};
+ghost use Rattle.block_text.specs.Kept.{instruction_in};
 ghost use Rattle.unroll.specs.Placing.{downs, placing, raised_by, turned_by, turned_on, ups};
 
 use crate::offsets::{AXES, Offset, downs, raise, turn, ups};
 use arrayvec::ArrayVec;
-use stim_parser::{Instruction, Operation};
+use stim_parser::{Instruction, Operation, read_coordinates};
 
 /// An instruction's arguments as coordinates; no coordinates where the arguments aren't any.
 pub(crate) fn coordinates_read(instruction: Instruction<'_, '_>) -> ArrayVec<i64, AXES>
     ensures { result.items ≡ unwrap_or (coordinates_in (instruction_in instruction.entry).arguments) [] }
 {
-    match instruction.coordinates() {
+    match read_coordinates(instruction.arguments) {
         Some(found) => found,
         None => ArrayVec::new(),
     }

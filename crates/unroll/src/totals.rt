@@ -1,7 +1,7 @@
 ghost use Rattle.std.specs.Prelude.{◌≡◌, ◌<◌, Some, IsSome, ◌↔◌};
 ghost use Rattle.arrayvec.specs.ArrayVec.{array_vec_len};
 ghost use Rattle.stim_parser.specs.Circuits.{Fits};
-ghost use Rattle.stim_parser.specs.Flat.{instruction_in, item_in};
+ghost use Rattle.block_text.specs.Kept.{instruction_in, item_in};
 ghost use Rattle.unroll.specs.Passes.{CanStand, Passes};
 ghost use Rattle.unroll.specs.Summed.{AreTotals, capped_sum, far_line_after, nothing_summed, repeated_sum, summing, totals_after, totals_repeated};
 ghost use Rattle.unroll.specs.Totals.{fault_count, has_argument};
@@ -72,7 +72,7 @@ fn far_line_after(records: u64, instruction: Instruction<'_, '_>, found: Option<
 fn has_argument(instruction: Instruction<'_, '_>) -> bool
     ensures { result ≡ has_argument (instruction_in instruction.entry) }
 {
-    instruction.has_argument()
+    stim_parser::has_argument(instruction.arguments)
 }
 
 /// How many faults an instruction makes.

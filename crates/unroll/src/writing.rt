@@ -1,6 +1,6 @@
 ghost use Rattle.std.specs.Prelude.{◌≡◌, ◌<◌, ◌^◌, [], None, IfOk, OnOk};
 ghost use Rattle.programs.specs.Trees.{IsCircuit, tree_of, unrolled};
-ghost use Rattle.stim_parser.specs.Flat.{instruction_in, item_in};
+ghost use Rattle.block_text.specs.Kept.{instruction_in, item_in};
 ghost use Rattle.unroll.specs.Drafts.{CanWrite, HasRoom, Writes, draft_of, with_instruction};
 ghost use Rattle.unroll.specs.Kept.{kept_entries, kept_products};
 ghost use Rattle.unroll.specs.Made.{flip_of};
@@ -15,7 +15,7 @@ use flat_lists::FlatLists;
 use programs::{CircuitBuilder, Entries, Node};
 use std::alloc::{AllocError, Allocator};
 use step_model::Term;
-use stim_parser::{Circuit, Instruction, Item, LastProbability};
+use stim_parser::{Circuit, Instruction, Item, LastProbability, has_argument};
 
 /// A circuit's steps with its blocks, and what is kept beside them.
 #[derive(Drop)]
@@ -40,7 +40,7 @@ struct Writing<'a, A: Allocator + Copy> {
 fn flip_of(entry: u32, instruction: Instruction<'_, '_>) -> Option<u32>
     ensures { result ≡ flip_of entry (instruction_in instruction.entry).arguments }
 {
-    if instruction.has_argument() {
+    if has_argument(instruction.arguments) {
         Some(entry)
     } else {
         None

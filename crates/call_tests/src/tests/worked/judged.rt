@@ -10,7 +10,7 @@ use std::alloc::Global;
 use std::process::Abort;
 use std::test::Fail;
 use step_model::{Cause, Fault};
-use stim_parser::{Circuit, Item, Number, Operation, Target, parse};
+use stim_parser::{Item, Number, Operation, Target, first_argument, parse};
 use taken::{OPENING, TAKEN};
 
 /// A line inside so many blocks, with so many ends of blocks behind it.
@@ -94,20 +94,11 @@ fn left_out_names_are_refused(rt: HostRuntime) -> Result<(), Fail> {
     are_refused(&rt, rt.alloc(), 0, LEFT_OUT)
 }
 
-/// The item at a place, where there is one.
-fn item_of<'c, 'a>(circuit: &'c Circuit<'a, Global>, place: usize) -> Option<Item<'c, 'a>> {
-    if place < circuit.len() {
-        Some(circuit.item(place))
-    } else {
-        None
-    }
-}
-
 /// Whether a line inside 31 blocks opens another of so many turns.
 fn opens(alloc: Global, text: &[u8], turns: u64) -> bool {
     match parse(alloc, text) {
         Ok(circuit) => matches!(
-            item_of(&circuit, 31),
+            circuit.get(31),
             Some(Item::Begins { turns: found, .. }) if found == turns
         ),
         Err(_) => false,
@@ -156,7 +147,7 @@ fn blocks_close(rt: HostRuntime) -> Result<(), Fail> {
 /// Whether a line inside 32 blocks is an instruction.
 fn is_taken(alloc: Global, text: &[u8]) -> bool {
     match parse(alloc, text) {
-        Ok(circuit) => matches!(item_of(&circuit, 32), Some(Item::Does(_))),
+        Ok(circuit) => matches!(circuit.get(32), Some(Item::Does(_))),
         Err(_) => false,
     }
 }
@@ -176,7 +167,7 @@ fn is_feedback(item: Option<Item<'_, '_>>) -> bool {
     match item {
         Some(Item::Does(found)) => {
             found.operation == Operation::Applies(Gate::CX)
-                && found.first_argument().is_none()
+                && first_argument(found.arguments).is_none()
                 && found.targets
                     == [Target::Back(Number::new(2)), Target::Plain(Number::new(3))].as_slice()
         }
@@ -187,6 +178,6 @@ fn is_feedback(item: Option<Item<'_, '_>>) -> bool {
 #[test]
 fn tags_arguments_and_comments_are_cut_off(rt: HostRuntime) -> Result<(), Fail> {
     let circuit = parse(rt.alloc(), b"CX[x] () rec[-2] 3 # x")?;
-    assert!(rt; is_feedback(item_of(&circuit, 0)));
+    assert!(rt; is_feedback(circuit.get(0)));
     Ok(())
 }

@@ -4,7 +4,9 @@ mod written;
 use std::alloc::Global;
 use std::test::Fail;
 use step_model::{Cause, Fault};
-use stim_parser::{Circuit, Instruction, Item, Target, laws, parse};
+use stim_parser::{
+    Circuit, Instruction, Item, Target, first_argument, first_number, laws, parse, read_coordinates,
+};
 use written::{Named, REFUSED, WRITTEN, Wanted, Written, name_of};
 
 fn are_named(targets: &[Target], wanted: &[Named]) -> bool {
@@ -102,20 +104,18 @@ fn instruction_of<'c, 'a>(
     circuit: &'c Circuit<'a, Global>,
     place: usize,
 ) -> Option<Instruction<'c, 'a>> {
-    if place < circuit.len() {
-        if let Item::Does(instruction) = circuit.item(place) {
-            return Some(instruction);
-        }
+    match circuit.get(place) {
+        Some(Item::Does(instruction)) => Some(instruction),
+        _ => None,
     }
-    None
 }
 
 fn first_argument_is(found: Instruction<'_, '_>, text: &[u8], number: Option<u64>) -> bool {
-    found.first_argument() == Some(text) && found.number() == number
+    first_argument(found.arguments) == Some(text) && first_number(found.arguments) == number
 }
 
 fn coordinates_are(found: Instruction<'_, '_>, wanted: &[i64]) -> bool {
-    match found.coordinates() {
+    match read_coordinates(found.arguments) {
         Some(coordinates) => coordinates.as_slice() == wanted,
         None => false,
     }
@@ -126,7 +126,7 @@ const ARGUMENTS: &[u8] =
 
 /// No coordinates, since they aren't whole, and no number.
 fn are_unread(found: Instruction<'_, '_>) -> bool {
-    found.coordinates().is_none() & found.number().is_none()
+    read_coordinates(found.arguments).is_none() & first_number(found.arguments).is_none()
 }
 
 fn arguments_are_those_written(circuit: &Circuit<'_, Global>) -> Option<bool> {
@@ -136,11 +136,11 @@ fn arguments_are_those_written(circuit: &Circuit<'_, Global>) -> Option<bool> {
     let plain = instruction_of(circuit, 3)?;
     Some(
         (circuit.len() == 4)
-            & (detector.first_argument() == Some(b"1".as_slice()))
+            & (first_argument(detector.arguments) == Some(b"1".as_slice()))
             & coordinates_are(detector, &[1, -2, 0, 7])
             & first_argument_is(observable, b"01023", Some(1023))
             & are_unread(place)
-            & plain.first_argument().is_none()
+            & first_argument(plain.arguments).is_none()
             & coordinates_are(plain, &[]),
     )
 }

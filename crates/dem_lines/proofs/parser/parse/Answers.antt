@@ -1,16 +1,5 @@
-use Rattle.std.proofs.Common.{List, Ok, ap, sym, ◌∙◌}
-use Rattle.std.proofs.lemmas.Result.{err_from_is_err_and}
-use Rattle.dem_lines.specs.Texts.{Item}
-use Rattle.dem_lines.proofs.TreeLemmas.{items_are_written}
+use Rattle.dem_lines.proofs.FitLemmas.{reading_fits}
 use Rattle.dem_lines.proofs.parser.parse.Goals as goal
 
-pub new-requires : goal.new-requires
-new-requires g c = items_are_written c.args.text.now c.in_ok-items.items c.in_ok-items.ensures.ok
-
-pub returns-clause-ok : goal.returns-clause-ok
-returns-clause-ok g c = c.in_ok-items.ensures.ok ∙ ap (λ (items : List Item). Ok items) (sym c.new.ensures)
-
-pub returns-in_err-items-clause-err : goal.returns-in_err-items-clause-err
-returns-in_err-items-clause-err g c =
-    let p = err_from_is_err_and c.from_residual.result c.from_residual.ensures.1 in
-    rw (p.1, p.2) c.in_err-items.ensures.err
+pub read_text-requires : goal.read_text-requires
+read_text-requires g c = reading_fits

@@ -1,5 +1,5 @@
 use Rattle.std.proofs.Common.{◌+◌, ◌*◌, ◌++◌, [], ◌∷◌, ℕ, length, refl, ap, ◌∙◌, arith}
-use Rattle.stim_parser.specs.Flat.{instruction_in}
+use Rattle.block_text.specs.Kept.{instruction_in}
 use Rattle.unroll.specs.Detecting.{detecting, records_moved}
 use Rattle.unroll.specs.Detectors.{operation_detectors}
 use Rattle.unroll.specs.Totals.{record_count, records_made}

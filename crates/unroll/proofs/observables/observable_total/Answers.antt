@@ -1,5 +1,5 @@
 use Rattle.std.proofs.Common.{arith}
-use Rattle.stim_parser.specs.Flat.{item_in}
+use Rattle.block_text.specs.Kept.{item_in}
 use Rattle.unroll.proofs.ObservableLemmas.{named-done, named-first, named-next}
 use Rattle.unroll.proofs.observables.observable_total.Goals as goal
 

@@ -1,6 +1,8 @@
 use Rattle.std.proofs.Common.{subst}
-use Rattle.stim_parser.specs.declared.circuit.Item.{Item}
-use Rattle.stim_parser.specs.Flat.{instruction_in, item_in}
+use Rattle.block_text.specs.declared.items.Item.{Item}
+use Rattle.block_text.specs.Kept.{instruction_in, item_in}
+use Rattle.stim_parser.specs.declared.operation.Operation.{Operation}
+use Rattle.stim_parser.specs.declared.target.Target.{Target}
 use Rattle.unroll.specs.Items.{IsSound}
 use Rattle.unroll.proofs.FitLemmas.{qubits_within}
 use Rattle.unroll.proofs.qubits.item_qubits.Goals as goal
@@ -8,4 +10,4 @@ use Rattle.unroll.proofs.qubits.item_qubits.Goals as goal
 pub qubits_named-requires : goal.qubits_named-requires
 qubits_named-requires c =
     qubits_within (instruction_in c.in-Does.instruction)
-    (subst (λ (item : Item). IsSound (item_in item)) c.in-Does.is c.requires)
+    (subst (λ (item : Item Operation Target). IsSound (item_in item)) c.in-Does.is c.requires)

@@ -1,5 +1,5 @@
 use Rattle.std.proofs.Common.{refl, subst, sym, arith}
-use Rattle.stim_parser.specs.Flat.{item_in}
+use Rattle.block_text.specs.Kept.{item_in}
 use Rattle.unroll.specs.Summed.{AreTotals, nothing_summed, summing}
 use Rattle.unroll.proofs.PassLemmas.{passing-first, passing-can, passing-next, passing-done}
 use Rattle.unroll.proofs.SumLemmas.{summed}

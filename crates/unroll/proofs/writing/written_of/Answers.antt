@@ -1,5 +1,5 @@
 use Rattle.std.proofs.Common.{sym, ◌∙◌, subst, arith}
-use Rattle.stim_parser.specs.Flat.{item_in}
+use Rattle.block_text.specs.Kept.{item_in}
 use Rattle.unroll.specs.Drafts.{Draft, draft_of}
 use Rattle.unroll.proofs.DraftLemmas.{IsDrafting, drafting-can, drafting-done, drafting-first, drafting-next}
 use Rattle.unroll.proofs.writing.written_of.Goals as goal

@@ -1,0 +1,21 @@
+use Rattle.std.proofs.Common.{List, Ok, ap, sym, ◌∙◌}
+use Rattle.std.proofs.lemmas.Result.{err_from_is_err_and}
+use Rattle.block_text.specs.Instructions.{Instruction}
+use Rattle.block_text.specs.Trees.{Item}
+use Rattle.block_text.proofs.TreeLemmas.{items_are_written}
+use Rattle.stim_parser.specs.Judging.{format_of}
+use Rattle.stim_parser.proofs.reader.read_text.Goals as goal
+
+pub new-requires : goal.new-requires
+new-requires g c =
+    items_are_written g.J.Judge.Fits (format_of g.J.Judge.table) c.requires c.args.text.now c.in_ok-items.items c.in_ok-items.ensures.ok
+
+pub returns-clause-ok : goal.returns-clause-ok
+returns-clause-ok g c =
+    c.in_ok-items.ensures.ok
+    ∙ ap (λ (items : List (Item (Instruction g.row.O.Denot g.row.T.Denot))). Ok items) (sym c.new.ensures)
+
+pub returns-in_err-items-clause-err : goal.returns-in_err-items-clause-err
+returns-in_err-items-clause-err g c =
+    let p = err_from_is_err_and c.from_residual.result c.from_residual.ensures.1 in
+    rw (p.1, p.2) c.in_err-items.ensures.err
