@@ -18,7 +18,7 @@ use std::marker::Model;
 #[derive(Clone, Copy, Drop)]
 struct Link {
     target: u32,
-    next: u32,
+    next: usize,
 }
 
 /// For each record the set of the targets that list it an odd number of times. Feedback alone changes them.
@@ -31,7 +31,7 @@ pub(crate) struct RecordLists<'s, A: Allocator + Copy> {
     alloc: &'s A,
     targets: usize,
     links: Vec<Link, A>,
-    places: Vec<u32, A>,
+    places: Vec<usize, A>,
     // From how many links on the lists are made anew.
     many: usize,
 }
@@ -195,7 +195,7 @@ fn listed_count<'a, A: Allocator + Copy>(program: &Program<'a, A>) -> usize
 // Puts a target, which is above all that are there, in front of the list of each of these records.
 fn put_in_each<A: Allocator + Copy>(
     links: &mut Vec<Link, A>,
-    places: &mut Vec<u32, A>,
+    places: &mut Vec<usize, A>,
     named: &[u32],
     target: u32,
 ) -> Result<(), AllocError>
@@ -215,9 +215,9 @@ fn put_in_each<A: Allocator + Copy>(
 // put before an error stays, and no list has it.
 fn put_each<A: Allocator + Copy>(
     links: &mut Vec<Link, A>,
-    place: u32,
+    place: usize,
     targets: &[u32],
-) -> Result<u32, AllocError>
+) -> Result<usize, AllocError>
     requires back { LeadBack links.old.items }
     requires placed { place ≤ length links.old.items }
     ensures put { IfOk result (λ first. IsPutAt targets.now links.old.items place links.new.items first) }
@@ -230,26 +230,22 @@ fn put_each<A: Allocator + Copy>(
     Ok(first)
 }
 
-// Puts a target in front of a list, and answers the place of that list. It fails only where memory runs out, or where a
-// place would be too large for 32 bits.
+// Puts a target in front of a list, and answers the place of that list. It fails only where memory runs out.
 fn put_first<A: Allocator + Copy>(
     links: &mut Vec<Link, A>,
-    place: u32,
+    place: usize,
     target: u32,
-) -> Result<u32, AllocError>
+) -> Result<usize, AllocError>
     requires back { LeadBack links.old.items }
     requires placed { place ≤ length links.old.items }
     ensures put { IfOk result (λ first. IsPutAt (target ∷ []) links.old.items place links.new.items first) }
     ensures grown { IsGrown links.old.items links.new.items }
 {
-    if links.len() >= u32::MAX as usize {
-        return Err(AllocError);
-    }
     links.push(Link {
         target,
         next: place,
     })?;
-    Ok(links.len() as u32)
+    Ok(links.len())
 }
 
 // Whether each target is less than the one before it.
@@ -269,7 +265,7 @@ fn falls(targets: &[u32]) -> bool
 // Puts the targets of a list into `into`, in place of what it held.
 fn list_from<B: Allocator + Copy>(
     links: &[Link],
-    place: u32,
+    place: usize,
     into: &mut Vec<u32, B>,
 ) -> Result<(), AllocError>
     requires back { LeadBack links.now }
@@ -279,7 +275,7 @@ fn list_from<B: Allocator + Copy>(
     into.clear();
     let mut left = place;
     while left > 0 {
-        let link = links[left as usize - 1];
+        let link = links[left - 1];
         into.push(link.target)?;
         left = link.next;
     }

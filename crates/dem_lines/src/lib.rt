@@ -9,7 +9,6 @@ mod lines;
 mod model_judge;
 mod names;
 mod operation;
-mod parser;
 mod target;
 
 pub use block_text::{LEVELS, OpenBlock, Said};
@@ -19,6 +18,5 @@ pub use line_counts::has_many_lines;
 pub use lines::{Instruction, Item, ModelLines, instruction_at};
 pub use model_judge::{ModelJudge, number_in, read_line};
 pub use operation::Operation;
-pub use parser::parse;
 pub use stim_parser::Last;
 pub use target::{Target, read_targets};

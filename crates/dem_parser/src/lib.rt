@@ -16,7 +16,7 @@ mod table;
 mod walk;
 
 pub use counts::{Extent, is_error, raised, raised_to};
-pub use dem_lines::{Instruction, Item, ModelLines, Operation, Target, parse};
+pub use dem_lines::{Instruction, Item, ModelLines, Operation, Target};
 pub use placed_model::{PlacedModel, named_end, turn_targets};
 pub use reader::{place, read, read_lines};
 pub use sums::{no_bits, symptom};

@@ -1,29 +1,30 @@
 ghost use Rattle.std.specs.Prelude.{◌≡◌, ◌⊎◌, IfOk, IfErr, Ok, Err};
 ghost use Rattle.step_model.specs.Faults.{memory_fault};
+ghost use Rattle.dem_lines.specs.Trees.{Writes, IsRefusedBy};
 ghost use Rattle.dem_parser.specs.Models.{model_in, model_of_tree};
 
 use crate::build::model_of;
 use crate::judging::counts_of;
 use crate::placed_model::PlacedModel;
 use crate::table::LineTable;
-use dem_lines::{ModelLines, has_many_lines, parse};
+use dem_lines::{ModelJudge, ModelLines, Operation, Target, TargetForm, has_many_lines};
 use dem_text::Model;
 use std::alloc::{AllocError, Allocator};
 use step_model::{Cause, Fault};
+use stim_parser::read_text;
 
-/// The lines and blocks of an error model that a text writes, or its refusal before blocks are unrolled. The cause is
-/// `Memory` only where memory runs out.
+/// The lines and blocks of an error model that a text writes, or the first refusal of its lines, before blocks are
+/// unrolled. The cause is `Memory`, and the line 0, only where memory runs out.
 pub fn read_lines<'a, A: Allocator + Copy>(
     alloc: A,
     text: &'a [u8],
 ) -> Result<ModelLines<'a, A>, Fault>
-    ensures ok { IfOk result (λ lines. model_in text.now ≡ model_of_tree lines) }
+    ensures tree { IfOk result (λ lines. Writes text.now lines) }
+    ensures model { IfOk result (λ lines. model_in text.now ≡ model_of_tree lines) }
+    ensures refusal { IfErr result (λ fault. (fault ≡ memory_fault) ⊎ IsRefusedBy text.now fault) }
     ensures err { IfErr result (λ fault. (fault ≡ memory_fault) ⊎ (model_in text.now ≡ Err fault)) }
 {
-    match parse(alloc, text) {
-        Ok(lines) => Ok(lines),
-        Err(fault) => Err(fault),
-    }
+    read_text::<Operation, Target, TargetForm, ModelJudge, A>(alloc, text)
 }
 
 /// The error model of lines and blocks, or its refusal. The model's lines stay as they were read. The cause is `Memory`

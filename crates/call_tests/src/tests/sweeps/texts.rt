@@ -70,7 +70,7 @@ fn tree_is_right(memory: Memory<'_>) -> Result<bool, Fault> {
 }
 
 fn lines_are_right(memory: Memory<'_>) -> Result<bool, Fault> {
-    let lines = dem_parser::parse(memory, MODEL.as_bytes())?;
+    let lines = dem_parser::read_lines(memory, MODEL.as_bytes())?;
     Ok(lines.len() == 9)
 }
 
