@@ -6,7 +6,6 @@ pub mod Texts
 pub mod Trees
 pub mod Fitting
 pub mod Flat
-pub mod Places
 pub mod Reached
 pub mod Passes
 pub mod LineCounts

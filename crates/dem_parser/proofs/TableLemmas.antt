@@ -1,13 +1,12 @@
 -- What is worked out once of each item of an error model, looked up by its place; and what that gives of a line as it is
 -- reached.
 use Rattle.std.proofs.Common.{◌≡◌, ℕ, zero, suc, ◌+◌, ◌<◌, ◌≤◌, ◌||◌, Bool, true, false, ℤ, List, [], ◌∷◌, ◌++◌, Option, None, Some, length, get_or, map, take, refl, ap, subst, sym, ◌∙◌, arith}
-use Rattle.std.specs.Prelude.{All, MatchOption, max, nat_lt}
+use Rattle.std.specs.Prelude.{All, MatchOption, max, nat_lt, slice_get}
 use Rattle.std.specs.List.{list_any}
 use Rattle.std.proofs.lemmas.Bool.{ltb-false}
 use Rattle.std.proofs.lemmas.Bool.Decides.{nat_tests}
-use Rattle.std.proofs.lemmas.List.{length-map}
+use Rattle.std.proofs.lemmas.List.{get_or-map, length-map, map-append, take_more}
 use Rattle.std.proofs.lemmas.List.Elements.{All-append, All-cons}
-use Rattle.stim_parser.specs.Arguments.{arguments_in}
 use Rattle.stim_parser.specs.declared.table.Keyword.TheVariants as Keyword
 use Rattle.stim_parser.specs.Limits.{has_argument_beyond}
 use Rattle.stim_parser.specs.Numbers.{greatest_number, whole_value}
@@ -18,72 +17,58 @@ use Rattle.dem_lines.specs.declared.target.Target.{Target}
 use Rattle.dem_lines.specs.declared.target.Target.TheVariants.{Plain, Detector, Observable, Separator}
 use Rattle.dem_lines.specs.Fitting.{AllFit, Fits}
 use Rattle.dem_lines.specs.Limits.{has_target_beyond, is_target_beyond}
-use Rattle.dem_lines.specs.Places.{instruction_at, instruction_of, no_instruction}
 use Rattle.dem_lines.specs.Texts.{Item, Does, Begins, Ends}
 use Rattle.dem_lines.specs.Trees.{Tree, Nothing, Then, Block, items_of}
 use Rattle.dem_lines.specs.Verdicts.{Instruction}
 use Rattle.dem_parser.specs.declared.counts.Extent.{Extent}
 use Rattle.dem_parser.specs.Meanings.{detectors_to, greatest_of, observables_to}
 use Rattle.dem_parser.specs.Shifts.{Shift, coordinates_given, placed_at, target_at}
-use Rattle.dem_parser.specs.Tables.{AreTables, IsKnown, coordinates_from, count_at, extent_of, most_detectors, numbers_of_line, numbers_stated, tabled}
+use Rattle.dem_parser.specs.Tables.{AreTables, FitsItem, IsKnown, coordinates_from, count_at, extent_of_item, most_detectors, numbers_of_item, numbers_of_line, numbers_stated}
 use Rattle.dem_parser.specs.Offsets.{AreSmall}
 use Rattle.dem_parser.proofs.ShiftLemmas.{few_arguments, left, right, small_values}
 
 -- ---- a table
 
-pub tabled-at : {X : Type 0} (f : Instruction → X) (items : List Item) (k : ℕ) → get_or (tabled f items) k (f no_instruction) ≡ f (instruction_at items k)
-tabled-at f [] k = refl
-tabled-at f (x ∷ xs) zero = refl
-tabled-at f (x ∷ xs) (suc k) = tabled-at f xs k
+-- the item that is found at a place
+got_is : (items : List Item) (k : ℕ) (item : Item) → Some item ≡ slice_get items k → item ≡ get_or items k item
+got_is [] k item got = absurd cc
+got_is (x ∷ items) zero item got = some_same item x got
+  where
+    some_same : (a b : Item) → Some a ≡ Some b → a ≡ b
+    some_same a b e = cc
+got_is (x ∷ items) (suc k) item got = got_is items k item got
 
-tabled-suc : {X : Type 0} (f : Instruction → X) (items : List Item) (i : ℕ) → i < length items → tabled f (take (suc i) items) ≡ tabled f (take i items) ++ f (instruction_at items i) ∷ []
-tabled-suc f [] i h = absurd (omega (arith, h))
-tabled-suc f (x ∷ xs) zero h = refl
-tabled-suc {X = X} f (x ∷ xs) (suc i) h = ap (λ (ys : List X). f (instruction_of (Some x)) ∷ ys) (tabled-suc f xs i (omega (arith, h)))
+pub got_within : (items : List Item) (k : ℕ) (item : Item) → Some item ≡ slice_get items k → k < length items
+got_within [] k item got = absurd cc
+got_within (x ∷ items) zero item got = omega arith
+got_within (x ∷ items) (suc k) item got = let less = got_within items k item got in omega (arith, less)
 
 -- one item more
-pub tabled-next : {X : Type 0} (f : Instruction → X) (items : List Item) (i : ℕ) (found found' : List X) (x : X) → i < length items → found ≡ tabled f (take i items)
-    → x ≡ f (instruction_at items i) → found' ≡ found ++ x ∷ [] → found' ≡ tabled f (take (i + 1) items)
-tabled-next f items i found found' x h before one more =
-    let later : suc i ≡ i + 1 = omega arith in
+pub tabled-next : {X : Type 0} (f : Item → X) (items : List Item) (i : ℕ) (found found' : List X) (item : Item) (x : X) → i < length items → found ≡ map f (take i items)
+    → Some item ≡ slice_get items i → x ≡ f item → found' ≡ found ++ x ∷ [] → found' ≡ map f (take (i + 1) items)
+tabled-next f items i found found' item x h before got one more =
     more
     ∙ ap (λ xs. xs ++ x ∷ []) before
-    ∙ ap (λ y. tabled f (take i items) ++ y ∷ []) one
-    ∙ sym (tabled-suc f items i h)
-    ∙ ap (λ k. tabled f (take k items)) later
+    ∙ ap (λ y. map f (take i items) ++ y ∷ []) (one ∙ ap f (got_is items i item got))
+    ∙ sym (map-append f (take i items) (get_or items i item ∷ []))
+    ∙ ap (map f) (sym (take_more items i item h))
 
--- ---- what holds of each instruction that fits, and of the empty one
+-- ---- what holds of each item
 
-of-items : (P : Instruction → Type 0) → P no_instruction → ((i : Instruction) → Fits i → P i) → (t : Tree) → AllFit t → All (λ item. P (instruction_of (Some item))) (items_of t)
-of-items P none one Nothing fit = λ k d below. absurd (omega (arith, below))
-of-items P none one (Then i t) fit =
-    All-cons (λ item. P (instruction_of (Some item))) (Does i) (items_of t) (one i fit.0) (of-items P none one t fit.1)
-of-items P none one (Block line turns t u) fit =
-    let Q : Item → Type 0 = λ item. P (instruction_of (Some item)) in
-    All-cons Q (Begins line turns) (items_of t ++ Ends ∷ items_of u) none
-    (All-append Q (items_of t) (Ends ∷ items_of u) (of-items P none one t fit.1)
-    (All-cons Q Ends (items_of u) none (of-items P none one u fit.2)))
+items-fit : (t : Tree) → AllFit t → All FitsItem (items_of t)
+items-fit Nothing fit = λ k d below. absurd (omega (arith, below))
+items-fit (Then i t) fit = All-cons FitsItem (Does i) (items_of t) fit.0 (items-fit t fit.1)
+items-fit (Block line turns t u) fit =
+    All-cons FitsItem (Begins line turns) (items_of t ++ Ends ∷ items_of u) tt
+    (All-append FitsItem (items_of t) (Ends ∷ items_of u) (items-fit t fit.1)
+    (All-cons FitsItem Ends (items_of u) tt (items-fit u fit.2)))
 
-at-place : (P : Instruction → Type 0) → P no_instruction → (items : List Item) → All (λ item. P (instruction_of (Some item))) items → (place : ℕ) → P (instruction_at items place)
-at-place P none [] all place = none
-at-place P none (x ∷ xs) all zero = all 0 x (omega arith)
-at-place P none (x ∷ xs) all (suc place) =
-    at-place P none xs (λ k d below. all (suc k) d (omega (arith, below))) place
-
-pub few-at : (t : Tree) → AllFit t → (place : ℕ) → length (instruction_at (items_of t) place).arguments ≤ 16
-unfolding arguments_in
-few-at t fit place =
-    let P : Instruction → Type 0 = λ i. length i.arguments ≤ 16 in
-    at-place P (omega arith) (items_of t) (of-items P (omega arith) few_arguments t fit) place
-
-pub within-at : (t : Tree) → AllFit t → (place : ℕ) → has_target_beyond (instruction_at (items_of t) place).targets ≡ false
-unfolding has_target_beyond
-within-at t fit place =
-    let P : Instruction → Type 0 = λ i. has_target_beyond i.targets ≡ false in
-    at-place P refl (items_of t) (of-items P refl (λ i fits. fits.targets_within) t fit) place
+pub fits-at : (t : Tree) (k : ℕ) (item : Item) → AllFit t → Some item ≡ slice_get (items_of t) k → FitsItem item
+fits-at t k item fit got =
+    subst FitsItem (sym (got_is (items_of t) k item got)) (items-fit t fit k item (got_within (items_of t) k item got))
 
 -- the numbers that an instruction states are few and small
-numbers-right : (i : Instruction) → Fits i → (length (numbers_of_line i) ≤ 16) × AreSmall (numbers_of_line i)
+pub numbers-right : (i : Instruction) → Fits i → (length (numbers_of_line i) ≤ 16) × AreSmall (numbers_of_line i)
 numbers-right i fits = stated i.operation i.arguments (few_arguments i fits) fits.arguments_within
   where
     stated : (operation : Operation) (arguments : List (List ℕ)) → length arguments ≤ 16 → has_argument_beyond greatest_number (argument_form (Keyword.Does operation)) arguments ≡ false
@@ -92,12 +77,6 @@ numbers-right i fits = stated i.operation i.arguments (few_arguments i fits) fit
     stated Detects arguments few within = (let same = length-map arguments whole_value in omega (arith, same, few), small_values arguments within)
     stated Observes arguments few within = (omega arith, λ k d below. absurd (omega (arith, below)))
     stated Shifts arguments few within = (let same = length-map arguments whole_value in omega (arith, same, few), small_values arguments within)
-
-numbers-at : (t : Tree) → AllFit t → (place : ℕ) → (length (numbers_of_line (instruction_at (items_of t) place)) ≤ 16) × AreSmall (numbers_of_line (instruction_at (items_of t) place))
-numbers-at t fit place =
-    let P : Instruction → Type 0 = λ i. (length (numbers_of_line i) ≤ 16) × AreSmall (numbers_of_line i) in
-    let none : P no_instruction = (omega arith, λ k d below. absurd (omega (arith, below))) in
-    at-place P none (items_of t) (of-items P none numbers-right t fit) place
 
 -- ---- targets that are shifted
 
@@ -203,22 +182,27 @@ observables-known s i e ns known =
     ap (λ (x : Extent). x.observables) known.extent_is ∙ sym (observables-stay s.detectors i.targets)
 
 -- a line by its place in a table
-pub known-at : (t : Tree) (place : ℕ) (i : Instruction) (extents : List Extent) (numbers : List (List ℤ)) (e : Extent) (ns : List ℤ) → AllFit t → AreTables (items_of t) extents numbers
-    → i ≡ instruction_at (items_of t) place → e ≡ get_or extents place (extent_of no_instruction) → ns ≡ get_or numbers place [] → IsKnown i e ns
-known-at t place i extents numbers e ns fit tables same extent stated =
-    let found : ns ≡ numbers_of_line (instruction_at (items_of t) place) =
+pub known-at : (t : Tree) (place : ℕ) (i : Instruction) (extents : List Extent) (numbers : List (List ℤ)) (e d : Extent) (ns : List ℤ) → AllFit t → AreTables (items_of t) extents numbers
+    → Some (Does i) ≡ slice_get (items_of t) place → e ≡ get_or extents place d → ns ≡ get_or numbers place [] → IsKnown i e ns
+known-at t place i extents numbers e d ns fit tables got extent stated =
+    let items = items_of t in
+    let fits = fits-at t place (Does i) fit got in
+    let below = got_within items place (Does i) got in
+    let is = sym (got_is items place (Does i) got) in
+    let found : ns ≡ numbers_of_line i =
     stated
     ∙ ap (λ (xs : List (List ℤ)). get_or xs place []) tables.numbers_are
-    ∙ tabled-at numbers_of_line (items_of t) place in
-    let right = numbers-at t fit place in
-    subst (λ (j : Instruction). IsKnown j e ns) (sym same)
-    (record {
+    ∙ get_or-map numbers_of_item items place (Does i) [] below
+    ∙ ap numbers_of_item is in
+    let right = numbers-right i fits in
+    record {
       extent_is =
           extent
-          ∙ ap (λ xs. get_or xs place (extent_of no_instruction)) tables.extents_are
-          ∙ tabled-at extent_of (items_of t) place;
+          ∙ ap (λ (xs : List Extent). get_or xs place d) tables.extents_are
+          ∙ get_or-map extent_of_item items place (Does i) d below
+          ∙ ap extent_of_item is;
       numbers_are = found;
-      within = within-at t fit place;
+      within = fits.targets_within;
       few = subst (λ (ms : List ℤ). length ms ≤ 16) (sym found) right.0;
       small = subst AreSmall (sym found) right.1;
-    })
+    }

@@ -1,12 +1,11 @@
 -- A walk goes over the items of a model in their order, and so reaches its instructions in theirs.
-use Rattle.std.proofs.Common.{◌≡◌, ℕ, zero, suc, ◌+◌, ◌-◌, ◌*◌, ◌<◌, ◌≤◌, ◌^◌, true, false, List, [], ◌∷◌, ◌++◌, length, drop, reverse, Option, None, Some, option_to_list, refl, sym, ap, ◌∙◌, subst, append_assoc, append-nil, arith, length-append}
+use Rattle.std.proofs.Common.{◌≡◌, ℕ, zero, suc, ◌+◌, ◌-◌, ◌*◌, ◌<◌, ◌≤◌, ◌^◌, false, List, [], ◌∷◌, ◌++◌, length, drop, reverse, Option, None, Some, option_to_list, refl, sym, ap, ◌∙◌, subst, append_assoc, append-nil, arith, length-append}
 use Rattle.std.specs.Prelude.{slice_get}
 use Rattle.std.proofs.lemmas.List.{length-reverse, reverse-append}
 use Rattle.std.proofs.lemmas.Bool.Decides.{nat_tests}
 use Rattle.block_text.specs.Flat.{first_tree, onto, read_back, trees_of}
 use Rattle.dem_lines.specs.Fitting.{IsAccepted}
 use Rattle.dem_lines.specs.Passes.{CanStand}
-use Rattle.dem_lines.specs.Places.{instruction_at, instruction_of}
 use Rattle.dem_lines.specs.Reached.{block_lines, copies, has_many_lines, lines_inside, reached}
 use Rattle.dem_lines.specs.Texts.{Item, Does, Begins, Ends}
 use Rattle.dem_lines.specs.Trees.{Tree, Nothing, Then, Block, items_of}
@@ -15,6 +14,7 @@ use Rattle.dem_lines.proofs.PassLemmas.{AreWhole, can_stand, drop_got, whole-tre
 use Rattle.dem_parser.specs.declared.walk.Turns.{Turns}
 use Rattle.dem_parser.specs.Offsets.{HasRoom}
 use Rattle.dem_parser.specs.Shifts.{Placed, Shift, no_shift, placed_at, placed_from, shift_after}
+use Rattle.dem_parser.specs.Tables.{HasNoLine}
 use Rattle.dem_parser.specs.Walks.{AreOpen, IsAtLine, IsPlacedWalk, IsWalk, after, after_turn, gone_over, is_line, items_left, left_behind, lines_among, lines_left, placed_left, trees_at, turn_of}
 
 -- ---- instructions among items
@@ -215,13 +215,8 @@ ends-again place blocks rest blocks' popped b left e is some more =
 pub record Goes (items : List Item) (place : ℕ) (blocks : List Turns) (item : Item) (place' : ℕ) (blocks' : List Turns) : Type 0 where
   pub walk : IsWalk items place' blocks'
   pub fewer : length (items_left items place' blocks') < length (items_left items place blocks)
-  pub line : is_line item ≡ true → lines_left items place blocks ≡ instruction_at items place ∷ lines_left items place' blocks'
+  pub line : (i : Instruction) → item ≡ Does i → lines_left items place blocks ≡ i ∷ lines_left items place' blocks'
   pub other : is_line item ≡ false → lines_left items place blocks ≡ lines_left items place' blocks'
-
-line-first : (item : Item) (items : List Item) → is_line item ≡ true → lines_among (item ∷ items) ≡ instruction_of (Some item) ∷ lines_among items
-line-first (Does i) items e = refl
-line-first (Begins line turns) items e = absurd cc
-line-first Ends items e = absurd cc
 
 other-first : (item : Item) (items : List Item) → is_line item ≡ false → lines_among (item ∷ items) ≡ lines_among items
 other-first (Does i) items e = absurd cc
@@ -238,10 +233,7 @@ goes-on items place blocks item place' blocks' walk got e =
     record {
       walk = next.walk;
       fewer = omega (arith, long);
-      line = λ is.
-          ap lines_among next.left_is
-          ∙ line-first item (items_left items place' blocks') is
-          ∙ ap (λ o. instruction_of o ∷ lines_left items place' blocks') got;
+      line = λ i is. ap lines_among (next.left_is ∙ ap (λ x. x ∷ items_left items place' blocks') is);
       other = λ is. ap lines_among next.left_is ∙ other-first item (items_left items place' blocks') is;
     }
 
@@ -271,34 +263,30 @@ goes-none items place blocks walk e =
 
 -- ---- lines as they are reached
 
-line-after : (item : Item) (place : ℕ) (blocks : List Turns) → is_line item ≡ true → after item place blocks ≡ (place + 1, blocks)
-line-after (Does i) place blocks e = refl
-line-after (Begins line turns) place blocks e = absurd cc
-line-after Ends place blocks e = absurd cc
-
--- at an item, a walk that stands at a line or at the end stands at this line
-at-line : (items : List Item) (place : ℕ) (item : Item) → IsAtLine (slice_get items place) → Some item ≡ slice_get items place → is_line item ≡ true
-at-line items place item at got = subst IsAtLine (sym got) at
-
 pub record Passes (items : List Item) (s : Shift) (place : ℕ) (blocks : List Turns) (i : Instruction) : Type 0 where
   pub walk : IsWalk items (place + 1) blocks
   pub first : placed_left items s place blocks ≡ placed_at s i ∷ placed_left items (shift_after i s) (place + 1) blocks
   pub long : length (lines_left items place blocks) ≡ suc (length (lines_left items (place + 1) blocks))
 
 -- the line that is next, and the walk behind it
-pub passes : (items : List Item) (s : Shift) (place : ℕ) (blocks : List Turns) (item : Item) (i : Instruction) → IsPlacedWalk items s place blocks → Some item ≡ slice_get items place
-    → i ≡ instruction_at items place → Passes items s place blocks i
+pub passes : (items : List Item) (s : Shift) (place : ℕ) (blocks : List Turns) (i : Instruction) → IsPlacedWalk items s place blocks → Some (Does i) ≡ slice_get items place → Passes items s place blocks i
 unfolding placed_from
-passes items s place blocks item i h got is =
-    let line = at-line items place item h.line got in
-    let goes = goes-on items place blocks item (place + 1) blocks h.walk got (line-after item place blocks line) in
-    let left : lines_left items place blocks ≡ i ∷ lines_left items (place + 1) blocks =
-    goes.line line ∙ ap (λ (j : Instruction). j ∷ lines_left items (place + 1) blocks) (sym is) in
+passes items s place blocks i h got =
+    let goes = goes-on items place blocks (Does i) (place + 1) blocks h.walk got refl in
+    let left = goes.line i refl in
     record { walk = goes.walk; first = ap (placed_from s) left; long = ap length left }
 
-pub passes-none : (items : List Item) (s : Shift) (place : ℕ) (blocks : List Turns) → IsPlacedWalk items s place blocks → None ≡ slice_get items place → placed_left items s place blocks ≡ []
+-- where no line is next, there is nothing
+none-found : (found : Option Item) → IsAtLine found → HasNoLine found → None ≡ found
+none-found None at none = refl
+none-found (Some (Does i)) at none = absurd none
+none-found (Some (Begins line turns)) at none = absurd cc
+none-found (Some Ends) at none = absurd cc
+
+pub passes-none : (items : List Item) (s : Shift) (place : ℕ) (blocks : List Turns) → IsPlacedWalk items s place blocks → HasNoLine (slice_get items place) → placed_left items s place blocks ≡ []
 unfolding placed_from
-passes-none items s place blocks h got = ap (placed_from s) (goes-none items place blocks h.walk got)
+passes-none items s place blocks h none =
+    ap (placed_from s) (goes-none items place blocks h.walk (none-found (slice_get items place) h.line none))
 
 pub length-placed : (s : Shift) (is : List Instruction) → length (placed_from s is) ≡ length is
 unfolding placed_from

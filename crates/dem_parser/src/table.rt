@@ -1,21 +1,25 @@
-ghost use Rattle.std.specs.Prelude.{◌≡◌, ◌≤◌, ◌<◌, ◌-◌, ◌^◌, false, [], length, option_map, slice_get, slice_index_or, IfOk, IfSome};
+ghost use Rattle.std.specs.Prelude.{◌≡◌, ◌≤◌, ◌<◌, ◌-◌, ◌^◌, Some, length, option_map, slice_get, IfOk, IfSome, MatchOption};
 ghost use Rattle.stim_parser.specs.Arguments.{arguments_in};
 ghost use Rattle.dem_lines.specs.Fitting.{IsAccepted};
 ghost use Rattle.dem_lines.specs.Flat.{instruction_in, item_in};
-ghost use Rattle.dem_lines.specs.Limits.{has_target_beyond};
-ghost use Rattle.dem_lines.specs.Places.{instruction_at, no_instruction};
+ghost use Rattle.dem_lines.specs.Texts.{Does};
 ghost use Rattle.dem_lines.specs.Trees.{items_of};
-ghost use Rattle.dem_parser.specs.Meanings.{detectors_to, greatest_of, observables_to};
-ghost use Rattle.dem_parser.specs.Tables.{IsKnown, extent_of, numbers_stated};
+ghost use Rattle.dem_parser.specs.Tables.{FitsItem, HasNoLine, IsKnown, extent_of_item, numbers_of_item, numbers_stated};
 
 use crate::counts::{Extent, raised};
 use crate::shifts::coordinates_read;
 use arrayvec::ArrayVec;
-use dem_lines::{Instruction, Item, ModelLines, Operation, Target, instruction_at};
+use dem_lines::{Instruction, Item, ModelLines, Operation};
 use flat_lists::FlatLists;
 use std::alloc::{AllocError, Allocator};
 use std::marker::Model;
 use stim_parser::MOST_ARGUMENTS;
+
+/// Of no targets.
+const NONE: Extent = Extent {
+    detectors: 0,
+    observables: 0,
+};
 
 /// An instruction, its extent, and the numbers that it states axis by axis.
 #[derive(Clone, Copy)]
@@ -47,17 +51,15 @@ impl<'c, 'a, A: Allocator + Copy> Model for LineTable<'c, 'a, A> {
     ghost invariant = { λ t. AreTables (items_of t.lines.now) t.extents.items t.numbers };
 }
 
-/// The extent of targets.
-fn extent_of(targets: &[Target]) -> Extent
-    requires { has_target_beyond targets.now ≡ false }
-    ensures detectors { result.detectors ≡ greatest_of detectors_to targets.now }
-    ensures observables { result.observables ≡ greatest_of observables_to targets.now }
+/// The extent of an item's targets.
+fn extent_of(item: Item<'_, '_>) -> Extent
+    requires { FitsItem (item_in item) }
+    ensures { result ≡ extent_of_item (item_in item.entry) }
 {
-    let none = Extent {
-        detectors: 0,
-        observables: 0,
-    };
-    raised(none, targets)
+    match item {
+        Item::Does(instruction) => raised(NONE, instruction.targets),
+        _ => NONE,
+    }
 }
 
 /// The numbers that a line of this kind states.
@@ -72,30 +74,14 @@ fn numbers_stated(operation: Operation, arguments: &[u8]) -> ArrayVec<i64, MOST_
     }
 }
 
-/// The extent at a place; none past the end.
-#[inline(always)]
-fn extent_at(extents: &[Extent], place: usize) -> Extent
-    ensures { result ≡ slice_index_or extents.now place (extent_of no_instruction) }
+/// The numbers that an item states.
+fn numbers_of(item: Item<'_, '_>) -> ArrayVec<i64, MOST_ARGUMENTS>
+    requires { FitsItem (item_in item) }
+    ensures { result.items ≡ numbers_of_item (item_in item.entry) }
 {
-    if place < extents.len() {
-        extents[place]
-    } else {
-        Extent {
-            detectors: 0,
-            observables: 0,
-        }
-    }
-}
-
-/// The list at a place; an empty one past the end.
-#[inline(always)]
-fn numbers_at<A: Allocator + Copy>(numbers: &FlatLists<i64, A>, place: usize) -> &[i64]
-    ensures { result.now ≡ slice_index_or numbers.now place [] }
-{
-    if place < numbers.len() {
-        numbers.get(place)
-    } else {
-        &[]
+    match item {
+        Item::Does(instruction) => numbers_stated(instruction.operation, instruction.arguments),
+        _ => ArrayVec::new(),
     }
 }
 
@@ -108,9 +94,9 @@ impl<'c, 'a, A: Allocator + Copy> LineTable<'c, 'a, A> {
         let mut extents = Vec::new(alloc);
         let mut numbers = FlatLists::new(alloc);
         for place in 0..lines.len() {
-            let instruction = instruction_at(lines, place);
-            extents.push(extent_of(instruction.targets))?;
-            numbers.push(numbers_stated(instruction.operation, instruction.arguments).as_slice())?;
+            let item = lines.item(place);
+            extents.push(extent_of(item))?;
+            numbers.push(numbers_of(item).as_slice())?;
         }
         Ok(LineTable {
             lines,
@@ -143,17 +129,21 @@ impl<'c, 'a, A: Allocator + Copy> LineTable<'c, 'a, A> {
         let _extents = &self.extents;
     }
 
-    /// The line at a place; an empty one where no instruction stands there.
+    /// The line at a place, where an instruction stands there.
     #[inline(always)]
-    pub(crate) fn line_at(&self, place: usize) -> TableLine<'_, 'a>
-        ensures instruction { instruction_in result.instruction ≡ instruction_at (items_of self.now) place }
-        ensures known { IsKnown (instruction_in result.instruction) result.extent result.numbers.now }
+    pub(crate) fn line_at(&self, place: usize) -> Option<TableLine<'_, 'a>>
+        ensures line { MatchOption result (HasNoLine (slice_get (items_of self.now) place))
+            (λ line. (Some (Does (instruction_in line.instruction)) ≡ slice_get (items_of self.now) place) × IsKnown (instruction_in line.instruction) line.extent line.numbers.now) }
+        ensures few { IfSome result (λ line. place < 2 ^ 64 - 1) }
     {
         self.lines.fits();
-        TableLine {
-            instruction: instruction_at(self.lines, place),
-            extent: extent_at(&self.extents, place),
-            numbers: numbers_at(&self.numbers, place),
+        match self.item_at(place) {
+            Some(Item::Does(instruction)) => Some(TableLine {
+                instruction,
+                extent: self.extents[place],
+                numbers: self.numbers.get(place),
+            }),
+            _ => None,
         }
     }
 }

@@ -150,9 +150,9 @@ impl<'t, 'c, 'a, A: Allocator + Copy> Walk<'t, 'c, 'a, A> {
     pub(crate) fn line(&self) -> Option<PlacedLine<'_, 'a>>
         ensures { MatchOption result (self.now ≡ []) (λ line. (rest : List Placed) → rest ≡ drop 1 self.now → self.now ≡ line ∷ rest) }
     {
-        match self.table.item_at(self.place.index) {
-            Some(_item) => Some(PlacedLine {
-                line: self.table.line_at(self.place.index),
+        match self.table.line_at(self.place.index) {
+            Some(line) => Some(PlacedLine {
+                line,
                 shift: &self.shift,
             }),
             None => None,
@@ -164,10 +164,10 @@ impl<'t, 'c, 'a, A: Allocator + Copy> Walk<'t, 'c, 'a, A> {
     pub(crate) fn pass(&mut self)
         ensures { self.new ≡ drop 1 self.old }
     {
-        let Some(_item) = self.table.item_at(self.place.index) else {
+        let Some(line) = self.table.line_at(self.place.index) else {
             return;
         };
-        self.shift.pass(self.table.line_at(self.place.index));
+        self.shift.pass(line);
         self.place.index += 1;
         self.place.go_to_line(self.table);
     }
