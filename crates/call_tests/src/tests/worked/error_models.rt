@@ -1,6 +1,6 @@
 //! Error models that are read: their items as they stand, the coordinates of their detectors, and what named lines flip.
 use dem_parser::{
-    Item, ModelLines, Operation, PlacedModel, Target, laws, parse, place, read, read_lines, symptom,
+    Item, ModelLines, Operation, PlacedModel, Target, laws, place, read, read_lines, symptom,
 };
 use dem_text::Model;
 use std::alloc::{AllocError, Global};
@@ -67,7 +67,7 @@ fn are_items(
 }
 
 fn has_items(alloc: Global) -> Result<bool, Fail> {
-    let lines = parse(alloc, LINES)?;
+    let lines = read_lines(alloc, LINES)?;
     lines.fits();
     Ok(are_items(alloc, &lines, ITEMS)?)
 }
