@@ -111,11 +111,8 @@ impl<'c, 'a, A: Allocator + Copy> LineTable<'c, 'a, A> {
         ensures item { option_map item_in result ≡ slice_get (items_of self.now) place }
         ensures few { IfSome result (λ item. place < 2 ^ 64 - 1) }
     {
-        if place < self.lines.len() {
-            Some(self.lines.item(place))
-        } else {
-            None
-        }
+        self.fits();
+        self.lines.get(place)
     }
 
     /// Does nothing. Its contract says what holds of all tables.

@@ -1,4 +1,4 @@
-ghost use Rattle.std.specs.Prelude.{◌≡◌, ◌<◌, ◌==◌, Some, length, slice_get};
+ghost use Rattle.std.specs.Prelude.{◌≡◌, ◌<◌, ◌==◌, Some, length, option_map, slice_get};
 ghost use Rattle.block_text.specs.Fitting.{IsBuilt};
 ghost use Rattle.block_text.specs.Flat.{IsWritten};
 ghost use Rattle.block_text.specs.Kept.{item_in};
@@ -72,6 +72,18 @@ impl<'a, O: Copy, T: Copy, F: Copy, J: Judge<O, T, F>, A: Allocator + Copy> Judg
         ensures { Some (item_in result) ≡ slice_get (items_of self.now) i }
     {
         self.items.get(i)
+    }
+
+    /// The item at a place, where there is one.
+    #[inline(always)]
+    pub fn get(&self, place: usize) -> Option<Item<'_, 'a, O, T>>
+        ensures { option_map item_in result ≡ slice_get (items_of self.now) place }
+    {
+        if place < self.len() {
+            Some(self.item(place))
+        } else {
+            None
+        }
     }
 
     /// Does nothing. Its contract says that each instruction has the arguments and targets that its operation takes, that
