@@ -72,9 +72,10 @@ fn head_in<'a>(last: &mut LastProbability<'a>, text: &'a [u8]) -> Option<Head<'a
     }
 }
 
-/// The text of the targets of an error line that begins as one before it, and what counts become by these.
+/// The text of the targets of an error line that begins as one before it, and what counts become by these. There are none
+/// where the line begins otherwise, is written in a rare way, or is refused.
 #[inline(always)]
-fn error_alike<'a>(
+pub(crate) fn error_alike<'a>(
     head: Option<Head<'a>>,
     counts: Extent,
     text: &'a [u8],
@@ -87,10 +88,8 @@ fn error_alike<'a>(
     Some((targets, found))
 }
 
-/// The same for an error line whose beginning is read anew. It is never inlined, so that it takes no registers from the
-/// reading of lines that begin as one before them.
-#[inline(never)]
-fn error_anew<'a>(
+/// The same for an error line whose beginning is read anew.
+pub(crate) fn error_anew<'a>(
     head: &mut Option<Head<'a>>,
     last: &mut LastProbability<'a>,
     counts: Extent,
@@ -101,21 +100,4 @@ fn error_anew<'a>(
     let found = head_in(last, text)?;
     *head = Some(found);
     error_alike(Some(found), counts, text)
-}
-
-/// The text of the targets of an error line, and what counts become by these. There are none where the line is written
-/// in a rare way, or is refused.
-#[inline(always)]
-pub(crate) fn error_in<'a>(
-    head: &mut Option<Head<'a>>,
-    last: &mut LastProbability<'a>,
-    counts: Extent,
-    text: &'a [u8],
-) -> Option<(&'a [u8], Extent)>
-    ensures { IfSome result (λ found. IsErrorLine text.now counts found.0 found.1) }
-{
-    match error_alike(*head, counts, text) {
-        None => error_anew(head, last, counts, text),
-        found => found,
-    }
 }

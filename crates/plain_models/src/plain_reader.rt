@@ -12,7 +12,7 @@ ghost use Rattle.dem_parser.specs.Meanings.{detectors_to, greatest_of, is_error,
 ghost use Rattle.plain_models.specs.Kept.{targets_kept};
 ghost use Rattle.plain_models.specs.PlainLines.{Passes, Steps};
 
-use crate::plain_head::{Head, error_in};
+use crate::plain_head::{Head, error_alike, error_anew};
 use dem_lines::{Last, Operation, Said, Target, read_line};
 use dem_parser::{Extent, is_error, raised};
 use std::alloc::{AllocError, Allocator};
@@ -118,13 +118,14 @@ impl<'a, A: Allocator + Copy> PlainReader<'a, A> {
         }
     }
 
-    /// Reads the line of this number as it stands. It fails only where memory runs out.
-    #[inline(always)]
-    pub(crate) fn pass(&mut self, number: u64, text: &'a [u8]) -> Result<Step, AllocError>
+    /// Reads a line that may begin otherwise than those before it. It is never inlined, so that it takes no registers from
+    /// the reading of lines that begin as one before them.
+    #[inline(never)]
+    fn pass_anew(&mut self, number: u64, text: &'a [u8]) -> Result<Step, AllocError>
         requires { list_any is_line_feed text.now ≡ false }
         ensures { IfOk result (λ step. Passes step number text.now self.old.texts.items self.old.counts self.new.texts.items self.new.counts) }
     {
-        match error_in(
+        match error_anew(
             &mut self.head,
             &mut self.last.probability,
             self.counts,
@@ -137,5 +138,19 @@ impl<'a, A: Allocator + Copy> PlainReader<'a, A> {
             }
             None => self.pass_any(number, text),
         }
+    }
+
+    /// Reads the line of this number as it stands. It fails only where memory runs out.
+    #[inline(always)]
+    pub(crate) fn pass(&mut self, number: u64, text: &'a [u8]) -> Result<Step, AllocError>
+        requires { list_any is_line_feed text.now ≡ false }
+        ensures { IfOk result (λ step. Passes step number text.now self.old.texts.items self.old.counts self.new.texts.items self.new.counts) }
+    {
+        if let Some((targets, counts)) = error_alike(self.head, self.counts, text) {
+            self.texts.push(targets)?;
+            self.counts = counts;
+            return Ok(Step::Goes);
+        }
+        self.pass_anew(number, text)
     }
 }
