@@ -1,4 +1,3 @@
 pub mod FitLemmas
 pub mod TreeLemmas
 pub mod PassLemmas
-mod LineCountLemmas

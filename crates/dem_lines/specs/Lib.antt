@@ -8,4 +8,3 @@ pub mod Fitting
 pub mod Flat
 pub mod Reached
 pub mod Passes
-pub mod LineCounts

@@ -4,8 +4,6 @@
 mod checks;
 mod forms;
 pub mod laws;
-mod line_counts;
-mod lines;
 mod model_judge;
 mod names;
 mod operation;
@@ -14,8 +12,6 @@ mod target;
 pub use block_text::{LEVELS, OpenBlock, Said};
 pub use checks::{GREATEST_DETECTOR, GREATEST_NUMBER, is_target_beyond};
 pub use forms::TargetForm;
-pub use line_counts::has_many_lines;
-pub use lines::{Instruction, Item, ModelLines};
 pub use model_judge::{ModelJudge, number_in, read_line};
 pub use operation::Operation;
 pub use stim_parser::Last;

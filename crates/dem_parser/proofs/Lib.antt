@@ -4,7 +4,6 @@ pub mod SummedLemmas
 mod WorkedTexts
 pub mod FrontLemmas
 mod ShiftLemmas
-pub mod PlaceLemmas
 pub mod CountLemmas
 pub mod FlipLemmas
 pub mod NumberLemmas
@@ -15,3 +14,10 @@ pub mod ChainLemmas
 pub mod QuietLemmas
 mod TableLemmas
 mod WalkLemmas
+mod UnrolledLemmas
+mod KeptLemmas
+mod PlaceLemmas
+mod LineLemmas
+mod AlikeLemmas
+mod CountedLemmas
+mod ReadingLemmas

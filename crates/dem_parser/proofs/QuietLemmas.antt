@@ -10,16 +10,13 @@ use Rattle.stim_lexer.specs.Bytes.{after_blanks, ends_name, from_first, is_bad_b
 use Rattle.stim_lexer.specs.Cut.{Cut, after_brackets, after_name, body_of, cut_of, has_bad_byte, has_opening, in_brackets, leaves_open, name_of}
 use Rattle.stim_lexer.specs.Lines.{content_of, is_closing, says_nothing}
 use Rattle.stim_parser.specs.Pieces.{ends_here, ends_piece, is_star, pieces_of}
+pub use Rattle.dem_parser.specs.ErrorTexts.{is_quiet}
 
 -- ---- bytes
 
 -- the space and the bytes from `(` to `z`: none ends a line, begins a comment or is a brace
 abbrev pub is_clean : ℕ → Bool
 is_clean b = b == 32 || is_in_range 40 122 b
-
--- the space and the bytes from `+` to `z`
-abbrev pub is_quiet : ℕ → Bool
-is_quiet b = b == 32 || is_in_range 43 122 b
 
 -- `_` and the small letters
 abbrev pub is_name_byte : ℕ → Bool

@@ -1,12 +1,10 @@
--- What is worked out once of each item of an error model, looked up by its place; and what that gives of a line as it is
--- reached.
-use Rattle.std.proofs.Common.{◌≡◌, ℕ, zero, suc, ◌+◌, ◌<◌, ◌≤◌, ◌||◌, Bool, true, false, ℤ, List, [], ◌∷◌, ◌++◌, Option, None, Some, length, get_or, map, take, refl, ap, subst, sym, ◌∙◌, arith}
-use Rattle.std.specs.Prelude.{All, MatchOption, max, nat_lt, slice_get}
+-- What is worked out once of each line of an error model, and what that gives of the line as it is reached.
+use Rattle.std.proofs.Common.{◌≡◌, ℕ, zero, suc, ◌+◌, ◌≤◌, ◌||◌, Bool, true, false, ℤ, List, [], ◌∷◌, Option, None, Some, length, map, refl, ap, ap₂, subst, sym, ◌∙◌, arith}
+use Rattle.std.specs.Prelude.{MatchOption, max, nat_lt}
 use Rattle.std.specs.List.{list_any}
 use Rattle.std.proofs.lemmas.Bool.{ltb-false}
 use Rattle.std.proofs.lemmas.Bool.Decides.{nat_tests}
-use Rattle.std.proofs.lemmas.List.{get_or-map, length-map, map-append, take_more}
-use Rattle.std.proofs.lemmas.List.Elements.{All-append, All-cons}
+use Rattle.std.proofs.lemmas.List.{length-map}
 use Rattle.stim_parser.specs.declared.table.Keyword.TheVariants as Keyword
 use Rattle.stim_parser.specs.Limits.{has_argument_beyond}
 use Rattle.stim_parser.specs.Numbers.{greatest_number, whole_value}
@@ -15,57 +13,17 @@ use Rattle.dem_lines.specs.declared.operation.Operation.{Operation}
 use Rattle.dem_lines.specs.declared.operation.Operation.TheVariants.{Errs, Detects, Observes, Shifts}
 use Rattle.dem_lines.specs.declared.target.Target.{Target}
 use Rattle.dem_lines.specs.declared.target.Target.TheVariants.{Plain, Detector, Observable, Separator}
-use Rattle.dem_lines.specs.Fitting.{AllFit, Fits}
+use Rattle.dem_lines.specs.Fitting.{Fits}
 use Rattle.dem_lines.specs.Limits.{has_target_beyond, is_target_beyond}
-use Rattle.dem_lines.specs.Texts.{Item, Does, Begins, Ends}
-use Rattle.dem_lines.specs.Trees.{Tree, Nothing, Then, Block, items_of}
 use Rattle.dem_lines.specs.Verdicts.{Instruction}
 use Rattle.dem_parser.specs.declared.counts.Extent.{Extent}
 use Rattle.dem_parser.specs.Meanings.{detectors_to, greatest_of, observables_to}
 use Rattle.dem_parser.specs.Shifts.{Shift, coordinates_given, placed_at, target_at}
-use Rattle.dem_parser.specs.Tables.{AreTables, FitsItem, IsKnown, coordinates_from, count_at, extent_of_item, most_detectors, numbers_of_item, numbers_of_line, numbers_stated}
+use Rattle.dem_parser.specs.Tables.{IsKnown, coordinates_from, count_at, most_detectors, numbers_of_line, numbers_stated}
 use Rattle.dem_parser.specs.Offsets.{AreSmall}
 use Rattle.dem_parser.proofs.ShiftLemmas.{few_arguments, left, right, small_values}
 
--- ---- a table
-
--- the item that is found at a place
-got_is : (items : List Item) (k : ℕ) (item : Item) → Some item ≡ slice_get items k → item ≡ get_or items k item
-got_is [] k item got = absurd cc
-got_is (x ∷ items) zero item got = some_same item x got
-  where
-    some_same : (a b : Item) → Some a ≡ Some b → a ≡ b
-    some_same a b e = cc
-got_is (x ∷ items) (suc k) item got = got_is items k item got
-
-pub got_within : (items : List Item) (k : ℕ) (item : Item) → Some item ≡ slice_get items k → k < length items
-got_within [] k item got = absurd cc
-got_within (x ∷ items) zero item got = omega arith
-got_within (x ∷ items) (suc k) item got = let less = got_within items k item got in omega (arith, less)
-
--- one item more
-pub tabled-next : {X : Type 0} (f : Item → X) (items : List Item) (i : ℕ) (found found' : List X) (item : Item) (x : X) → i < length items → found ≡ map f (take i items)
-    → Some item ≡ slice_get items i → x ≡ f item → found' ≡ found ++ x ∷ [] → found' ≡ map f (take (i + 1) items)
-tabled-next f items i found found' item x h before got one more =
-    more
-    ∙ ap (λ xs. xs ++ x ∷ []) before
-    ∙ ap (λ y. map f (take i items) ++ y ∷ []) (one ∙ ap f (got_is items i item got))
-    ∙ sym (map-append f (take i items) (get_or items i item ∷ []))
-    ∙ ap (map f) (sym (take_more items i item h))
-
--- ---- what holds of each item
-
-items-fit : (t : Tree) → AllFit t → All FitsItem (items_of t)
-items-fit Nothing fit = λ k d below. absurd (omega (arith, below))
-items-fit (Then i t) fit = All-cons FitsItem (Does i) (items_of t) fit.0 (items-fit t fit.1)
-items-fit (Block line turns t u) fit =
-    All-cons FitsItem (Begins line turns) (items_of t ++ Ends ∷ items_of u) tt
-    (All-append FitsItem (items_of t) (Ends ∷ items_of u) (items-fit t fit.1)
-    (All-cons FitsItem Ends (items_of u) tt (items-fit u fit.2)))
-
-pub fits-at : (t : Tree) (k : ℕ) (item : Item) → AllFit t → Some item ≡ slice_get (items_of t) k → FitsItem item
-fits-at t k item fit got =
-    subst FitsItem (sym (got_is (items_of t) k item got)) (items-fit t fit k item (got_within (items_of t) k item got))
+-- ---- what is known of an instruction that fits
 
 -- the numbers that an instruction states are few and small
 pub numbers-right : (i : Instruction) → Fits i → (length (numbers_of_line i) ≤ 16) × AreSmall (numbers_of_line i)
@@ -181,28 +139,15 @@ pub observables-known : (s : Shift) (i : Instruction) (e : Extent) (ns : List �
 observables-known s i e ns known =
     ap (λ (x : Extent). x.observables) known.extent_is ∙ sym (observables-stay s.detectors i.targets)
 
--- a line by its place in a table
-pub known-at : (t : Tree) (place : ℕ) (i : Instruction) (extents : List Extent) (numbers : List (List ℤ)) (e d : Extent) (ns : List ℤ) → AllFit t → AreTables (items_of t) extents numbers
-    → Some (Does i) ≡ slice_get (items_of t) place → e ≡ get_or extents place d → ns ≡ get_or numbers place [] → IsKnown i e ns
-known-at t place i extents numbers e d ns fit tables got extent stated =
-    let items = items_of t in
-    let fits = fits-at t place (Does i) fit got in
-    let below = got_within items place (Does i) got in
-    let is = sym (got_is items place (Does i) got) in
-    let found : ns ≡ numbers_of_line i =
-    stated
-    ∙ ap (λ (xs : List (List ℤ)). get_or xs place []) tables.numbers_are
-    ∙ get_or-map numbers_of_item items place (Does i) [] below
-    ∙ ap numbers_of_item is in
+-- all is known of an instruction that fits, with what was worked out of it
+pub known-fitting : (i : Instruction) (e : Extent) (ns : List ℤ) → Fits i → e.detectors ≡ greatest_of detectors_to i.targets → e.observables ≡ greatest_of observables_to i.targets → ns ≡ numbers_of_line i
+    → IsKnown i e ns
+known-fitting i e ns fits detectors observables numbers =
     let right = numbers-right i fits in
     record {
-      extent_is =
-          extent
-          ∙ ap (λ (xs : List Extent). get_or xs place d) tables.extents_are
-          ∙ get_or-map extent_of_item items place (Does i) d below
-          ∙ ap extent_of_item is;
-      numbers_are = found;
+      extent_is = ap₂ (λ (d o : ℕ). record { detectors = d; observables = o }) detectors observables;
+      numbers_are = numbers;
       within = fits.targets_within;
-      few = subst (λ (ms : List ℤ). length ms ≤ 16) (sym found) right.0;
-      small = subst AreSmall (sym found) right.1;
+      few = subst (λ (ms : List ℤ). length ms ≤ 16) (sym numbers) right.0;
+      small = subst AreSmall (sym numbers) right.1;
     }

@@ -1,11 +1,14 @@
 -- A walk goes over the items of a model in their order, and so reaches its instructions in theirs.
 use Rattle.std.proofs.Common.{◌≡◌, ℕ, zero, suc, ◌+◌, ◌-◌, ◌*◌, ◌<◌, ◌≤◌, ◌^◌, false, List, [], ◌∷◌, ◌++◌, length, drop, reverse, Option, None, Some, option_to_list, refl, sym, ap, ◌∙◌, subst, append_assoc, append-nil, arith, length-append}
-use Rattle.std.specs.Prelude.{slice_get}
+use Rattle.std.specs.Prelude.{option_map, slice_get}
 use Rattle.std.proofs.lemmas.List.{length-reverse, reverse-append}
 use Rattle.std.proofs.lemmas.Bool.Decides.{nat_tests}
 use Rattle.block_text.specs.Flat.{first_tree, onto, read_back, trees_of}
 use Rattle.dem_lines.specs.Fitting.{IsAccepted}
 use Rattle.dem_lines.specs.Passes.{CanStand}
+use Rattle.dem_parser.specs.declared.table_line.Stand.{Stand}
+use Rattle.dem_parser.specs.declared.table_line.Stand.TheVariants as stand
+use Rattle.dem_parser.specs.TableLines.{CanStandAt, HasNoLine, stand_of}
 use Rattle.dem_lines.specs.Reached.{block_lines, copies, has_many_lines, lines_inside, reached}
 use Rattle.dem_lines.specs.Texts.{Item, Does, Begins, Ends}
 use Rattle.dem_lines.specs.Trees.{Tree, Nothing, Then, Block, items_of}
@@ -14,8 +17,7 @@ use Rattle.dem_lines.proofs.PassLemmas.{AreWhole, can_stand, drop_got, whole-tre
 use Rattle.dem_parser.specs.declared.walk.Turns.{Turns}
 use Rattle.dem_parser.specs.Offsets.{HasRoom}
 use Rattle.dem_parser.specs.Shifts.{Placed, Shift, no_shift, placed_at, placed_from, shift_after}
-use Rattle.dem_parser.specs.Tables.{HasNoLine}
-use Rattle.dem_parser.specs.Walks.{AreOpen, IsAtLine, IsPlacedWalk, IsWalk, after, after_turn, gone_over, is_line, items_left, left_behind, lines_among, lines_left, placed_left, trees_at, turn_of}
+use Rattle.dem_parser.specs.Walks.{AreOpen, IsAtLine, IsPlacedWalk, IsWalk, after_stand, after_turn, gone_over, is_at_line, items_left, left_behind, lines_among, lines_left, placed_left, trees_at, turn_of}
 
 -- ---- instructions among items
 
@@ -135,7 +137,7 @@ goes-ends items place blocks start (suc n) ts here same again out inside few =
 
 -- one item, at whose place these trees are
 goes : (items : List Item) (place : ℕ) (blocks : List Turns) (item : Item) → drop place items ≡ item ∷ drop (place + 1) items → IsWalk items place blocks
-    → HasGone items (items_left items place blocks) item (after item place blocks)
+    → HasGone items (items_left items place blocks) item (after_stand (stand_of item) place blocks)
 goes items place blocks (Does i) at walk =
     let ts = trees_at items (place + 1) in
     let here : trees_at items place ≡ onto (Does i) ts = ap (λ (is : List Item). trees_of is) at in
@@ -185,24 +187,24 @@ goes items place (b ∷ blocks) Ends at walk =
 
 -- ---- blocks that are kept the outermost first
 
-pub after-begins : (line turns place : ℕ) (blocks blocks' : List Turns) → blocks' ≡ blocks ++ record { start = place + 1; left = turns - 1 } ∷ []
-    → after (Begins line turns) place (reverse blocks) ≡ (place + 1, reverse blocks')
-after-begins line turns place blocks blocks' more =
+pub after-begins : (turns place : ℕ) (blocks blocks' : List Turns) → blocks' ≡ blocks ++ record { start = place + 1; left = turns - 1 } ∷ []
+    → after_stand (stand.Begins turns) place (reverse blocks) ≡ (place + 1, reverse blocks')
+after-begins turns place blocks blocks' more =
     ap (λ (bs : List Turns). (place + 1, bs))
     (sym (ap reverse more ∙ reverse-append blocks (record { start = place + 1; left = turns - 1 } ∷ [])))
 
 ends-last : (place : ℕ) (blocks rest : List Turns) (popped : Option Turns) (b : Turns) → blocks ≡ rest ++ option_to_list popped → popped ≡ Some b
-    → after Ends place (reverse blocks) ≡ after_turn b.start b.left place (reverse rest)
+    → after_stand stand.Ends place (reverse blocks) ≡ after_turn b.start b.left place (reverse rest)
 ends-last place blocks rest popped b e is =
-    ap (after Ends place) (ap reverse (e ∙ ap (λ o. rest ++ option_to_list o) is) ∙ reverse-append rest (b ∷ []))
+    ap (after_stand stand.Ends place) (ap reverse (e ∙ ap (λ o. rest ++ option_to_list o) is) ∙ reverse-append rest (b ∷ []))
 
 pub ends-over : (place : ℕ) (blocks rest : List Turns) (popped : Option Turns) (b : Turns) → blocks ≡ rest ++ option_to_list popped → popped ≡ Some b → b.left ≡ 0
-    → after Ends place (reverse blocks) ≡ (place + 1, reverse rest)
+    → after_stand stand.Ends place (reverse blocks) ≡ (place + 1, reverse rest)
 ends-over place blocks rest popped b e is none =
     ends-last place blocks rest popped b e is ∙ ap (λ n. after_turn b.start n place (reverse rest)) none
 
 pub ends-again : (place : ℕ) (blocks rest blocks' : List Turns) (popped : Option Turns) (b : Turns) (left : ℕ) → blocks ≡ rest ++ option_to_list popped → popped ≡ Some b
-    → b.left ≡ left + 1 → blocks' ≡ rest ++ record { start = b.start; left = left } ∷ [] → after Ends place (reverse blocks) ≡ (b.start, reverse blocks')
+    → b.left ≡ left + 1 → blocks' ≡ rest ++ record { start = b.start; left = left } ∷ [] → after_stand stand.Ends place (reverse blocks) ≡ (b.start, reverse blocks')
 ends-again place blocks rest blocks' popped b left e is some more =
     let again : b.left ≡ suc left = omega (arith, some) in
     ends-last place blocks rest popped b e is
@@ -216,15 +218,15 @@ pub record Goes (items : List Item) (place : ℕ) (blocks : List Turns) (item : 
   pub walk : IsWalk items place' blocks'
   pub fewer : length (items_left items place' blocks') < length (items_left items place blocks)
   pub line : (i : Instruction) → item ≡ Does i → lines_left items place blocks ≡ i ∷ lines_left items place' blocks'
-  pub other : is_line item ≡ false → lines_left items place blocks ≡ lines_left items place' blocks'
+  pub other : is_at_line (stand_of item) ≡ false → lines_left items place blocks ≡ lines_left items place' blocks'
 
-other-first : (item : Item) (items : List Item) → is_line item ≡ false → lines_among (item ∷ items) ≡ lines_among items
+other-first : (item : Item) (items : List Item) → is_at_line (stand_of item) ≡ false → lines_among (item ∷ items) ≡ lines_among items
 other-first (Does i) items e = absurd cc
 other-first (Begins line turns) items e = refl
 other-first Ends items e = refl
 
 pub goes-on : (items : List Item) (place : ℕ) (blocks : List Turns) (item : Item) (place' : ℕ) (blocks' : List Turns) → IsWalk items place blocks → Some item ≡ slice_get items place
-    → after item place blocks ≡ (place', blocks') → Goes items place blocks item place' blocks'
+    → after_stand (stand_of item) place blocks ≡ (place', blocks') → Goes items place blocks item place' blocks'
 goes-on items place blocks item place' blocks' walk got e =
     let later : suc place ≡ place + 1 = omega arith in
     let at = drop_got items place item got ∙ ap (λ k. item ∷ drop k items) later in
@@ -237,13 +239,46 @@ goes-on items place blocks item place' blocks' walk got e =
       other = λ is. ap lines_among next.left_is ∙ other-first item (items_left items place' blocks') is;
     }
 
+pub can_stand_at : (item : Item) (inside : ℕ) → CanStand item inside → CanStandAt (stand_of item) inside
+can_stand_at (Does i) inside h = tt
+can_stand_at (Begins line turns) inside h = h
+can_stand_at Ends inside h = h
+
+-- what was found at a place
+pub record HasItem (found : Option Item) (s : Stand) : Type 0 where
+  pub item : Item
+  pub got : Some item ≡ found
+  pub stands : s ≡ stand_of item
+
+pub item_found : (found : Option Item) (s : Stand) → Some s ≡ option_map stand_of found → HasItem found s
+item_found None s e = absurd cc
+item_found (Some item) s e = record { item = item; got = refl; stands = some_same s (stand_of item) e }
+  where
+    some_same : (a b : Stand) → Some a ≡ Some b → a ≡ b
+    some_same a b h = cc
+
+pub none_found : (found : Option Item) → None ≡ option_map stand_of found → None ≡ found
+none_found None e = refl
+none_found (Some item) e = absurd cc
+
+pub got_within : (items : List Item) (k : ℕ) (item : Item) → Some item ≡ slice_get items k → k < length items
+got_within [] k item got = absurd cc
+got_within (x ∷ items) zero item got = omega arith
+got_within (x ∷ items) (suc k) item got = let less = got_within items k item got in omega (arith, less)
+
+pub none_within : (items : List Item) (k : ℕ) → None ≡ slice_get items k → length items ≤ k
+none_within [] k none = omega arith
+none_within (x ∷ items) zero none = absurd cc
+none_within (x ∷ items) (suc k) none = let more = none_within items k none in omega (arith, more)
+
 pub goes-can : (items : List Item) (place : ℕ) (blocks : List Turns) (item : Item) (inside : ℕ) → IsWalk items place (reverse blocks) → Some item ≡ slice_get items place → inside ≡ length blocks
-    → CanStand item inside
+    → CanStandAt (stand_of item) inside
 goes-can items place blocks item inside walk got e =
     let same : length (reverse blocks) ≡ inside = length-reverse blocks ∙ sym e in
-    can_stand item (drop (suc place) items) inside
+    can_stand_at item inside
+    (can_stand item (drop (suc place) items) inside
     (subst (λ d. AreWhole (item ∷ drop (suc place) items) d) same
-    (subst (λ (is : List Item). AreWhole is (length (reverse blocks))) (drop_got items place item got) walk.whole))
+    (subst (λ (is : List Item). AreWhole is (length (reverse blocks))) (drop_got items place item got) walk.whole)))
 
 drop-none : (items : List Item) (place : ℕ) → None ≡ slice_get items place → drop place items ≡ []
 drop-none [] zero e = refl

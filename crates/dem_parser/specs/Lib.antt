@@ -2,10 +2,16 @@ pub mod Shifts
 pub mod Meanings
 pub mod Models
 pub mod Sums
-pub mod Walks
 pub mod Offsets
 pub mod Numbered
 pub mod Summed
 pub mod Marked
 pub mod Tables
+pub mod Standing
+pub mod Kept
+pub mod TableLines
 pub mod Placed
+pub mod Walks
+pub mod Unrolled
+pub mod ErrorTexts
+pub mod LinesRead

@@ -6,14 +6,13 @@ use Rattle.dem_lines.specs.contracts.operation.Operation as operation
 use Rattle.dem_lines.specs.contracts.target.Target as target
 use Rattle.dem_lines.specs.declared.operation.Operation.{Operation}
 use Rattle.dem_lines.specs.declared.target.Target.{Target}
-use Rattle.dem_lines.specs.Verdicts.{Instruction}
-use Rattle.dem_parser.specs.declared.counts.Extent.{Extent}
+use Rattle.dem_parser.specs.declared.table_line.TableLine.{TableLine}
 use Rattle.dem_parser.specs.Offsets.{HasRoom}
 use Rattle.dem_parser.specs.Shifts.{Placed, Shift}
-use Rattle.dem_parser.specs.Tables.{IsKnown}
+use Rattle.dem_parser.specs.TableLines.{IsTableLine}
 
-pub record IsPlaced (i : Instruction) (extent : Extent) (numbers : List ℤ) (s : Shift) : Type 0 where
-  pub known : IsKnown i extent numbers
+pub record IsPlaced (line : TableLine) (s : Shift) : Type 0 where
+  pub kept : IsTableLine line
   pub room : HasRoom s 1
 
 -- a line is stored as its fields

@@ -2,13 +2,11 @@
 -- the greatest observable that its own targets name, and the numbers that it states axis by axis. And what these are
 -- where detectors are shifted. (Stim's detector error model format, github.com/quantumlib/Stim,
 -- doc/file_format_dem_detector_error_model.md.)
-use Rattle.std.specs.Prelude.{⊤, ◌≡◌, ℕ, zero, suc, ◌+◌, false, ◌≤◌, ℤ, List, [], length, map, Option, Some}
+use Rattle.std.specs.Prelude.{◌≡◌, ℕ, zero, suc, ◌+◌, false, ◌≤◌, ℤ, List, [], length, map}
 use Rattle.stim_parser.specs.Numbers.{whole_value}
 use Rattle.dem_lines.specs.declared.operation.Operation.{Operation}
 use Rattle.dem_lines.specs.declared.operation.Operation.TheVariants.{Detects, Shifts}
-use Rattle.dem_lines.specs.Fitting.{Fits}
 use Rattle.dem_lines.specs.Limits.{has_target_beyond}
-use Rattle.dem_lines.specs.Texts.{Item, Does}
 use Rattle.dem_lines.specs.Verdicts.{Instruction}
 use Rattle.dem_parser.specs.declared.counts.Extent.{Extent}
 use Rattle.dem_parser.specs.Meanings.{detectors_to, greatest_of, observables_to}
@@ -37,30 +35,6 @@ pub record IsKnown (i : Instruction) (extent : Extent) (numbers : List ℤ) : Ty
   pub within : has_target_beyond i.targets ≡ false
   pub few : length numbers ≤ 16
   pub small : AreSmall numbers
-
--- ---- the same of all items
-
-abbrev pub FitsItem : Item → Type 0
-FitsItem (Does i) = Fits i
-FitsItem item = ⊤
-
--- the start and the end of a block name nothing and state nothing
-abbrev pub extent_of_item : Item → Extent
-extent_of_item (Does i) = extent_of i
-extent_of_item item = record { detectors = 0; observables = 0 }
-
-abbrev pub numbers_of_item : Item → List ℤ
-numbers_of_item (Does i) = numbers_of_line i
-numbers_of_item item = []
-
-pub record AreTables (items : List Item) (extents : List Extent) (numbers : List (List ℤ)) : Type 0 where
-  pub extents_are : extents ≡ map extent_of_item items
-  pub numbers_are : numbers ≡ map numbers_of_item items
-
--- no instruction stands where this was found
-abbrev pub HasNoLine : Option Item → Type 0
-HasNoLine (Some (Does i)) = ⊥
-HasNoLine found = ⊤
 
 -- ---- where detectors are shifted
 

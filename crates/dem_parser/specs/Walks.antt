@@ -9,27 +9,30 @@ use Rattle.dem_lines.specs.Texts.{Item, Does, Begins, Ends}
 use Rattle.dem_lines.specs.Trees.{Tree, Nothing, Then, Block}
 use Rattle.dem_lines.specs.Verdicts.{Instruction}
 use Rattle.dem_lines.proofs.PassLemmas.{AreWhole}
+use Rattle.dem_parser.specs.declared.table_line.Stand.{Stand}
+use Rattle.dem_parser.specs.declared.table_line.Stand.TheVariants as stand
 use Rattle.dem_parser.specs.declared.walk.Turns.{Turns}
 use Rattle.dem_parser.specs.Offsets.{HasRoom}
 use Rattle.dem_parser.specs.Shifts.{Placed, Shift, placed_from}
+use Rattle.dem_parser.specs.TableLines.{stand_of}
 
 -- ---- one step
 
-abbrev pub is_line : Item → Bool
-is_line (Does i) = true
-is_line item = false
+abbrev pub is_at_line : Stand → Bool
+is_at_line stand.Line = true
+is_at_line found = false
 
 -- the place and the open blocks, the innermost first, after a turn of a block that starts here
 abbrev pub after_turn : ℕ → ℕ → ℕ → List Turns → ℕ × List Turns
 after_turn start zero place blocks = (place + 1, blocks)
 after_turn start (suc left) place blocks = (start, record { start = start; left = left } ∷ blocks)
 
--- the same after an item
-abbrev pub after : Item → ℕ → List Turns → ℕ × List Turns
-after (Does i) place blocks = (place + 1, blocks)
-after (Begins line turns) place blocks = (place + 1, record { start = place + 1; left = turns - 1 } ∷ blocks)
-after Ends place [] = (place + 1, [])
-after Ends place (b ∷ blocks) = after_turn b.start b.left place blocks
+-- the same after what stands at a place
+abbrev pub after_stand : Stand → ℕ → List Turns → ℕ × List Turns
+after_stand stand.Line place blocks = (place + 1, blocks)
+after_stand (stand.Begins turns) place blocks = (place + 1, record { start = place + 1; left = turns - 1 } ∷ blocks)
+after_stand stand.Ends place [] = (place + 1, [])
+after_stand stand.Ends place (b ∷ blocks) = after_turn b.start b.left place blocks
 
 -- ---- what is left
 
@@ -83,7 +86,7 @@ pub record IsWalk (items : List Item) (place : ℕ) (blocks : List Turns) : Type
 
 abbrev pub IsAtLine : Option Item → Type 0
 IsAtLine None = ⊤
-IsAtLine (Some item) = is_line item ≡ true
+IsAtLine (Some item) = is_at_line (stand_of item) ≡ true
 
 -- the lines that are left, as they are reached from this shift on
 abbrev pub placed_left : List Item → Shift → ℕ → List Turns → List Placed

@@ -11,12 +11,14 @@ use crate::placed_line::PlacedLine;
 use crate::placed_model::PlacedModel;
 use crate::table::LineTable;
 use crate::walk::Walk;
+use dem_lines::Target;
 use dem_text::Model;
 use std::alloc::{AllocError, Allocator};
 
-/// Room for the numbers of a line's targets.
+/// Room for a line's targets and their numbers.
 #[derive(Drop)]
 struct Room<A: Allocator + Copy> {
+    targets: Vec<Target, A>,
     numbers: Vec<u32, A>,
     kept: Vec<u32, A>,
 }
@@ -36,7 +38,8 @@ fn push_error<'a, A: Allocator + Copy>(
     if !line.is_error() {
         return Ok(());
     }
-    let (shift, targets) = line.targets();
+    let shift = line.read_targets(&mut room.targets)?;
+    let targets = room.targets.as_slice();
     read_flipped(&mut room.numbers, &mut room.kept, counts, shift, targets)?;
     model.push_line(line.text(), room.kept.as_slice())?;
     Ok(())
@@ -46,7 +49,7 @@ fn push_error<'a, A: Allocator + Copy>(
 fn push_errors<'a, A: Allocator + Copy>(
     alloc: A,
     model: &mut Model<'a, A>,
-    table: &LineTable<'_, 'a, A>,
+    table: &LineTable<'a, A>,
     counts: LineCounts,
 ) -> Result<(), AllocError>
     requires counts { AreCounts (placed_lines table.now) counts.detectors counts.observables counts.errors }
@@ -55,6 +58,7 @@ fn push_errors<'a, A: Allocator + Copy>(
     ensures { IfOk result (λ _. model.new ≡ record model.old { lines = model.old.lines ++ error_lines counts.detectors counts.observables (placed_lines table.now) }) }
 {
     let mut room = Room {
+        targets: Vec::new(alloc),
         numbers: Vec::new(alloc),
         kept: Vec::new(alloc),
     };
@@ -69,7 +73,7 @@ fn push_errors<'a, A: Allocator + Copy>(
 /// A model with its lines unrolled.
 pub(crate) fn model_of<'a, A: Allocator + Copy>(
     alloc: A,
-    placed: &PlacedModel<'_, 'a, A>,
+    placed: &PlacedModel<'a, A>,
 ) -> Result<Model<'a, A>, AllocError>
     ensures { IfOk result (λ model. model ≡ placed.now) }
 {

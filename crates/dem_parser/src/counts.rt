@@ -6,16 +6,22 @@ use dem_lines::{Operation, Target};
 
 /// One more than the greatest detector and the greatest observable that targets name, or 0.
 #[derive(Clone, Copy)]
-pub struct Extent {
+pub(crate) struct Extent {
     pub detectors: u32,
-    pub observables: u32,
+    pub observables: u16,
 }
+
+/// Of no targets.
+pub(crate) const NONE: Extent = Extent {
+    detectors: 0,
+    observables: 0,
+};
 
 /// How many detectors and observables lines name, up to the greatest, and how many of them are error lines.
 #[derive(Clone, Copy)]
 pub(crate) struct LineCounts {
     pub detectors: u32,
-    pub observables: u32,
+    pub observables: u16,
     pub errors: usize,
 }
 
@@ -31,19 +37,19 @@ fn detectors_to(target: Target) -> u32
 }
 
 /// One more than the observable that a target names, or 0.
-fn observables_to(target: Target) -> u32
+fn observables_to(target: Target) -> u16
     requires { is_target_beyond target ≡ false }
     ensures { result ≡ observables_to target }
 {
     match target {
-        Target::Observable(observable) => observable as u32 + 1,
+        Target::Observable(observable) => observable as u16 + 1,
         _ => 0,
     }
 }
 
 /// An extent raised to what a target names.
 #[inline(always)]
-pub fn raised_to(extent: Extent, target: Target) -> Extent
+pub(crate) fn raised_to(extent: Extent, target: Target) -> Extent
     requires { is_target_beyond target ≡ false }
     ensures detectors { result.detectors ≡ max extent.detectors (detectors_to target) }
     ensures observables { result.observables ≡ max extent.observables (observables_to target) }
@@ -54,13 +60,13 @@ pub fn raised_to(extent: Extent, target: Target) -> Extent
     }
 }
 
-/// An extent raised to what targets name.
-pub fn raised(extent: Extent, targets: &[Target]) -> Extent
+/// The extent of targets.
+pub(crate) fn extent_of(targets: &[Target]) -> Extent
     requires { has_target_beyond targets.now ≡ false }
-    ensures detectors { result.detectors ≡ max extent.detectors (greatest_of detectors_to targets.now) }
-    ensures observables { result.observables ≡ max extent.observables (greatest_of observables_to targets.now) }
+    ensures detectors { result.detectors ≡ greatest_of detectors_to targets.now }
+    ensures observables { result.observables ≡ greatest_of observables_to targets.now }
 {
-    let mut found = extent;
+    let mut found = NONE;
     for target in targets {
         found = raised_to(found, *target);
     }
@@ -68,7 +74,7 @@ pub fn raised(extent: Extent, targets: &[Target]) -> Extent
 }
 
 /// Whether a line is an error line.
-pub fn is_error(operation: Operation) -> bool
+pub(crate) fn is_error(operation: Operation) -> bool
     ensures { result ≡ is_error operation }
 {
     matches!(operation, Operation::Errs)

@@ -43,7 +43,7 @@ fn counts_past<A: Allocator + Copy>(
 /// that is then beyond its limit.
 pub(crate) fn counts_of<A: Allocator + Copy>(
     alloc: A,
-    table: &LineTable<'_, '_, A>,
+    table: &LineTable<'_, A>,
 ) -> Result<LineCounts, Fault>
     requires { length (reached table.now) < 2 ^ 64 }
     ensures counts { IfOk result (λ counts. AreCounts (placed_lines table.now) counts.detectors counts.observables counts.errors) }

@@ -3,20 +3,27 @@
 
 mod build;
 mod counts;
+mod entries;
+mod error_head;
+mod error_targets;
 mod flips;
 mod judging;
+mod kept_lines;
 pub mod laws;
+mod line_reader;
+mod line_text;
 mod marks;
 mod placed_line;
 mod placed_model;
 mod reader;
+mod reading;
 mod shifts;
 mod sums;
 mod table;
+mod table_line;
+mod unrolled;
 mod walk;
 
-pub use counts::{Extent, is_error, raised, raised_to};
-pub use dem_lines::{Instruction, Item, ModelLines, Operation, Target};
-pub use placed_model::{PlacedModel, named_end, turn_targets};
-pub use reader::{place, read, read_lines};
-pub use sums::{no_bits, symptom};
+pub use placed_model::PlacedModel;
+pub use reader::{place, read};
+pub use sums::symptom;

@@ -46,12 +46,13 @@ fn list_at<A: Allocator + Copy>(lists: &FlatLists<i64, A>, mark: usize) -> &[i64
 }
 
 /// The lists of coordinates given so far, each detector's mark, which is the number from 1 of the last list that it was
-/// given, or 0, and room for a line's coordinates.
+/// given, or 0, and room for a line's coordinates and targets.
 #[derive(Drop)]
 struct Marking<A: Allocator + Copy> {
     lists: FlatLists<i64, A>,
     marks: Vec<usize, A>,
     room: Vec<i64, A>,
+    targets: Vec<Target, A>,
 }
 
 impl<A: Allocator + Copy> Marking<A> {
@@ -64,8 +65,13 @@ impl<A: Allocator + Copy> Marking<A> {
         prove!(within);
         if !self.room.is_empty() {
             self.lists.push(self.room.as_slice())?;
-            let (shift, targets) = line.targets();
-            mark_all(&mut self.marks, self.lists.len(), shift, targets);
+            let shift = line.read_targets(&mut self.targets)?;
+            mark_all(
+                &mut self.marks,
+                self.lists.len(),
+                shift,
+                self.targets.as_slice(),
+            );
         }
         Ok(())
     }
@@ -96,7 +102,7 @@ fn stood_for<A: Allocator + Copy>(
 /// The coordinates of each of this many detectors: those of the last line that is reached and gives it any.
 pub(crate) fn coordinates_of<A: Allocator + Copy>(
     alloc: A,
-    table: &LineTable<'_, '_, A>,
+    table: &LineTable<'_, A>,
     detectors: usize,
 ) -> Result<FlatLists<i64, A>, AllocError>
     requires near { first_beyond (placed_lines table.now) ≡ None }
@@ -107,6 +113,7 @@ pub(crate) fn coordinates_of<A: Allocator + Copy>(
         lists: FlatLists::new(alloc),
         marks: no_marks(alloc, detectors)?,
         room: Vec::new(alloc),
+        targets: Vec::new(alloc),
     };
     let mut walk = Walk::new(table);
     while let Some(line) = walk.line() {

@@ -8,8 +8,8 @@ ghost use Rattle.dem_parser.specs.Shifts.{moved, target_at};
 ghost use Rattle.dem_parser.specs.Tables.{coordinates_from, count_at, most_detectors};
 
 use crate::counts::is_error;
-use crate::shifts::{Shift, first_text, sum_at};
-use crate::table::TableLine;
+use crate::shifts::{Shift, sum_at};
+use crate::table_line::TableLine;
 use dem_lines::{GREATEST_DETECTOR, GREATEST_NUMBER, Operation, Target};
 use std::alloc::{AllocError, Allocator};
 use std::marker::Model;
@@ -25,17 +25,17 @@ pub(crate) struct PlacedLine<'w, 'a> {
 }
 
 impl<'w, 'a> Model for PlacedLine<'w, 'a> {
-    ghost use Rattle.dem_lines.specs.Flat.{instruction_in};
     ghost use Rattle.dem_parser.specs.Placed.{IsPlaced, coded_placed};
     ghost use Rattle.dem_parser.specs.Shifts.{Placed, placed_at};
+    ghost use Rattle.dem_parser.specs.TableLines.{instruction_of};
 
     ghost Value = { Placed };
 
     ghost coded = { coded_placed };
 
-    ghost view = { λ l. placed_at l.shift.now (instruction_in l.line.instruction) };
+    ghost view = { λ l. placed_at l.shift.now (instruction_of l.line) };
 
-    ghost invariant = { λ l. IsPlaced (instruction_in l.line.instruction) l.line.extent l.line.numbers.now l.shift.now };
+    ghost invariant = { λ l. IsPlaced l.line l.shift.now };
 }
 
 /// How many detectors there are up to the greatest that is named, where these are shifted; none where it is then beyond
@@ -120,7 +120,8 @@ impl<'w, 'a> PlacedLine<'w, 'a> {
     pub(crate) fn number(&self) -> u64
         ensures { result ≡ self.now.line }
     {
-        self.line.instruction.line
+        let line = self.line;
+        line.number()
     }
 
     /// Whether it is an error line.
@@ -128,23 +129,29 @@ impl<'w, 'a> PlacedLine<'w, 'a> {
     pub(crate) fn is_error(&self) -> bool
         ensures { result ≡ is_error self.now.operation }
     {
-        is_error(self.line.instruction.operation)
+        is_error(self.line.operation)
     }
 
     /// The text of its first argument, empty where it has none.
     pub(crate) fn text(&self) -> &'a [u8]
         ensures { result.now ≡ self.now.text }
     {
-        first_text(self.line.instruction.arguments)
+        let line = self.line;
+        line.argument()
     }
 
-    /// By how much its detectors are shifted, and the targets that are shifted so.
-    #[inline(always)]
-    pub(crate) fn targets(&self) -> (u128, &'w [Target])
-        ensures { map (target_at result.0) result.1.now ≡ self.now.targets }
+    /// Puts the targets that are shifted so into `targets`, in place of what it held, and answers by how much detectors are
+    /// shifted.
+    pub(crate) fn read_targets<A: Allocator + Copy>(
+        &self,
+        targets: &mut Vec<Target, A>,
+    ) -> Result<u128, AllocError>
+        ensures { IfOk result (λ shift. map (target_at shift) targets.new.items ≡ self.now.targets) }
     {
+        let line = self.line;
         let shift = self.shift;
-        (shift.detectors, self.line.instruction.targets)
+        line.read_targets(targets)?;
+        Ok(shift.detectors)
     }
 
     /// How many detectors there are up to the greatest that the line names; none where that is beyond its limit.
@@ -157,7 +164,7 @@ impl<'w, 'a> PlacedLine<'w, 'a> {
     }
 
     /// How many observables there are up to the greatest that the line names.
-    pub(crate) fn observables(&self) -> u32
+    pub(crate) fn observables(&self) -> u16
         ensures { result ≡ greatest_of observables_to self.now.targets }
     {
         self.line.extent.observables
@@ -174,7 +181,7 @@ impl<'w, 'a> PlacedLine<'w, 'a> {
             (list_any is_far self.now.coordinates ≡ true)) }
     {
         let shift = self.shift;
-        let operation = self.line.instruction.operation;
+        let operation = self.line.operation;
         move_stated(found, shift.offset.as_slice(), operation, self.line.numbers)
     }
 }

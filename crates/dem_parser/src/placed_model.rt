@@ -16,12 +16,12 @@ use std::marker::Model;
 /// An error model whose lines stay as they were read. What a line flips is worked out only where the line is named, and
 /// most are not.
 #[derive(Drop)]
-pub struct PlacedModel<'c, 'a, A: Allocator + Copy> {
-    pub(crate) table: LineTable<'c, 'a, A>,
+pub struct PlacedModel<'a, A: Allocator + Copy> {
+    pub(crate) table: LineTable<'a, A>,
     pub(crate) counts: LineCounts,
 }
 
-impl<'c, 'a, A: Allocator + Copy> Model for PlacedModel<'c, 'a, A> {
+impl<'a, A: Allocator + Copy> Model for PlacedModel<'a, A> {
     ghost use Rattle.step_model.specs.ErrorModels.{ErrorModel};
     ghost use Rattle.dem_parser.specs.Meanings.{meaning_of};
     ghost use Rattle.dem_parser.specs.Models.{placed_lines};
@@ -35,7 +35,7 @@ impl<'c, 'a, A: Allocator + Copy> Model for PlacedModel<'c, 'a, A> {
 }
 
 /// One more than the number of the last line that is named, or 0 where none is.
-pub fn named_end(named: &[bool]) -> usize
+fn named_end(named: &[bool]) -> usize
     ensures within { result ≤ length named.now }
     ensures last { (k : ℕ) → result ≡ 1 + k → slice_index_or named.now k false ≡ true }
     ensures none { (k : ℕ) → result ≤ k → slice_index_or named.now k false ≡ false }
@@ -71,7 +71,7 @@ fn turn_target(bits: &mut [bool], detectors: u32, shift: u128, target: Target)
 }
 
 /// The same for targets, one after another.
-fn turn_shifted(bits: &mut [bool], detectors: u32, shift: u128, targets: &[Target])
+fn turn_targets(bits: &mut [bool], detectors: u32, shift: u128, targets: &[Target])
     ensures { bits.new ≡ turned bits.old (numbers_of detectors (map (target_at shift) targets.now)) }
 {
     for target in targets {
@@ -79,37 +79,31 @@ fn turn_shifted(bits: &mut [bool], detectors: u32, shift: u128, targets: &[Targe
     }
 }
 
-/// The same where detectors aren't shifted.
-pub fn turn_targets(bits: &mut [bool], detectors: u32, targets: &[Target])
-    ensures { bits.new ≡ turned bits.old (numbers_of detectors targets.now) }
-{
-    turn_shifted(bits, detectors, 0, targets);
-}
-
 /// Goes past a line that comes after `passed` error lines, and answers how many there are after it. An error line that
-/// is named flips the truth values of its targets.
-fn pass_line(
+/// is named flips the truth values of its targets, which are read into `room`.
+fn pass_line<A: Allocator + Copy>(
     bits: &mut [bool],
+    room: &mut Vec<Target, A>,
     named: &[bool],
     passed: usize,
     detectors: u32,
     line: &PlacedLine<'_, '_>,
-) -> usize
+) -> Result<usize, AllocError>
     requires { passed + 1 < 2 ^ 64 }
-    ensures bits { bits.new ≡ turned_past detectors named.now passed line.now bits.old }
-    ensures passed { result ≡ passed_after passed line.now }
+    ensures bits { IfOk result (λ after. bits.new ≡ turned_past detectors named.now passed line.now bits.old) }
+    ensures passed { IfOk result (λ after. after ≡ passed_after passed line.now) }
 {
     if !line.is_error() {
-        return passed;
+        return Ok(passed);
     }
     if is_named(named, passed) {
-        let (shift, targets) = line.targets();
-        turn_shifted(bits, detectors, shift, targets);
+        let shift = line.read_targets(room)?;
+        turn_targets(bits, detectors, shift, room.as_slice());
     }
-    passed + 1
+    Ok(passed + 1)
 }
 
-impl<'c, 'a, A: Allocator + Copy> PlacedModel<'c, 'a, A> {
+impl<'a, A: Allocator + Copy> PlacedModel<'a, A> {
     /// How many error lines there are.
     pub fn line_count(&self) -> usize
         ensures { result ≡ length self.now.lines }
@@ -126,6 +120,7 @@ impl<'c, 'a, A: Allocator + Copy> PlacedModel<'c, 'a, A> {
         let detectors = self.counts.detectors;
         let observables = self.counts.observables;
         let mut bits = no_bits(alloc, detectors as usize, observables as usize)?;
+        let mut room = Vec::new(alloc);
         let end = named_end(named);
         let mut passed = 0;
         let mut walk = Walk::new(&self.table);
@@ -133,7 +128,7 @@ impl<'c, 'a, A: Allocator + Copy> PlacedModel<'c, 'a, A> {
             let Some(line) = walk.line() else {
                 return Ok(bits);
             };
-            passed = pass_line(&mut bits, named, passed, detectors, &line);
+            passed = pass_line(&mut bits, &mut room, named, passed, detectors, &line)?;
             walk.pass();
         }
         Ok(bits)

@@ -1,16 +1,16 @@
-ghost use Rattle.std.specs.Prelude.{◌≡◌, ◌≤◌, ◌<◌, ◌+◌, ◌^◌, ◌+ℤ◌, pos, [], All, length, map, nat_abs, slice_index_or};
+ghost use Rattle.std.specs.Prelude.{◌≡◌, ◌≤◌, ◌<◌, ◌+◌, ◌^◌, ◌+ℤ◌, pos, All, length, map, nat_abs};
 ghost use Rattle.stim_parser.specs.Arguments.{arguments_in};
 ghost use Rattle.stim_parser.specs.Numbers.{whole_value};
-ghost use Rattle.dem_lines.specs.Flat.{instruction_in};
 ghost use Rattle.dem_parser.specs.Offsets.{AreSmall, HasRoom, beyond_stated, number_at};
 ghost use Rattle.dem_parser.specs.Shifts.{both_offsets, shift_after};
-ghost use Rattle.dem_parser.specs.Tables.{IsKnown};
+ghost use Rattle.dem_parser.specs.TableLines.{IsTableLine, instruction_of};
+ghost use Rattle.dem_parser.specs.Tables.{numbers_stated};
 
-use crate::table::TableLine;
+use crate::table_line::TableLine;
 use arrayvec::ArrayVec;
-use dem_lines::{Operation, number_in};
+use dem_lines::Operation;
 use std::marker::Model;
-use stim_parser::{MOST_ARGUMENTS, first_argument, read_arguments, whole_values};
+use stim_parser::{MOST_ARGUMENTS, read_arguments, whole_values};
 
 /// By how much the detectors of a line are shifted as it is reached, and its coordinates, axis by axis.
 #[derive(Drop)]
@@ -27,24 +27,29 @@ impl Model for Shift {
     ghost view = { λ s. record { detectors = s.detectors; offset = s.offset.items } };
 }
 
-/// The text of the first argument, empty where there is none.
-pub(crate) fn first_text(arguments: &[u8]) -> &[u8]
-    ensures { result.now ≡ slice_index_or (arguments_in arguments.now) 0 [] }
-{
-    match first_argument(arguments) {
-        Some(text) => text,
-        None => &[],
-    }
-}
-
 /// Arguments as coordinates.
-pub(crate) fn coordinates_read(arguments: &[u8]) -> ArrayVec<i64, MOST_ARGUMENTS>
+fn coordinates_read(arguments: &[u8]) -> ArrayVec<i64, MOST_ARGUMENTS>
     requires { length (arguments_in arguments.now) ≤ MOST_ARGUMENTS }
     ensures { result.items ≡ map whole_value (arguments_in arguments.now) }
 {
     match read_arguments(arguments) {
         Some(found) => whole_values(found.as_slice()),
         None => ArrayVec::new(),
+    }
+}
+
+/// The numbers that a line of this kind states.
+pub(crate) fn numbers_stated(
+    operation: Operation,
+    arguments: &[u8],
+) -> ArrayVec<i64, MOST_ARGUMENTS>
+    requires { length (arguments_in arguments.now) ≤ MOST_ARGUMENTS }
+    ensures { result.items ≡ numbers_stated operation (arguments_in arguments.now) }
+{
+    match operation {
+        Operation::Detects => coordinates_read(arguments),
+        Operation::Shifts => coordinates_read(arguments),
+        _ => ArrayVec::new(),
     }
 }
 
@@ -97,14 +102,14 @@ fn both_offsets(offset: &[i128], stated: &[i64]) -> ArrayVec<i128, MOST_ARGUMENT
 impl Shift {
     /// Takes the shift past a line.
     pub(crate) fn pass(&mut self, line: TableLine<'_, '_>)
-        requires known { IsKnown (instruction_in line.instruction) line.extent line.numbers.now }
+        requires kept { IsTableLine line }
         requires room { HasRoom self.old 1 }
-        ensures { self.new ≡ shift_after (instruction_in line.entry.instruction) self.old }
+        ensures { self.new ≡ shift_after (instruction_of line.entry) self.old }
     {
-        match line.instruction.operation {
+        match line.operation {
             Operation::Shifts => {
                 self.offset = both_offsets(self.offset.as_slice(), line.numbers);
-                self.detectors += number_in(line.instruction.targets) as u128;
+                self.detectors += line.amount as u128;
             }
             _ => {}
         }

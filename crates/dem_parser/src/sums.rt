@@ -33,7 +33,7 @@ fn turn_if(named: bool, bits: &mut [bool], targets: &[u32])
 }
 
 /// A truth value for each detector and each observable, none of them set.
-pub fn no_bits<A: Allocator + Copy>(
+pub(crate) fn no_bits<A: Allocator + Copy>(
     alloc: A,
     detectors: usize,
     observables: usize,

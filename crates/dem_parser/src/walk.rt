@@ -1,19 +1,19 @@
 ghost use Rattle.std.specs.Prelude.{◌≡◌, ◌≤◌, ◌<◌, ◌-◌, ◌^◌, [], ◌∷◌, List, MatchOption, drop, length, reverse, slice_get};
 ghost use Rattle.arrayvec.specs.ArrayVec.{array_vec_len};
-ghost use Rattle.dem_lines.specs.Flat.{item_in};
-ghost use Rattle.dem_lines.specs.Passes.{CanStand};
 ghost use Rattle.dem_lines.specs.Reached.{reached};
-ghost use Rattle.dem_lines.specs.Texts.{Ends};
 ghost use Rattle.dem_lines.specs.Trees.{items_of};
 ghost use Rattle.dem_parser.specs.Models.{placed_lines};
 ghost use Rattle.dem_parser.specs.Shifts.{Placed};
-ghost use Rattle.dem_parser.specs.Walks.{IsAtLine, IsWalk, after, is_line, lines_left};
+ghost use Rattle.dem_parser.specs.TableLines.{CanStandAt};
+ghost use Rattle.dem_parser.specs.declared.table_line.Stand.TheVariants.{Ends};
+ghost use Rattle.dem_parser.specs.Walks.{IsAtLine, IsWalk, after_stand, is_at_line, lines_left};
 
 use crate::placed_line::PlacedLine;
 use crate::shifts::Shift;
 use crate::table::LineTable;
+use crate::table_line::Stand;
 use arrayvec::ArrayVec;
-use dem_lines::{Item, LEVELS};
+use dem_lines::LEVELS;
 use std::alloc::Allocator;
 use std::marker::Model;
 
@@ -31,33 +31,32 @@ struct Place {
     blocks: ArrayVec<Turns, LEVELS>,
 }
 
-/// Whether an item is an instruction.
 #[inline(always)]
-fn is_line(item: Item<'_, '_>) -> bool
-    ensures { result ≡ is_line (item_in item.entry) }
+fn is_at_line(stand: Stand) -> bool
+    ensures { result ≡ is_at_line stand }
 {
-    matches!(item, Item::Does(_))
+    matches!(stand, Stand::Line)
 }
 
 impl Place {
-    /// Goes past the item that stands here, or back to the next turn of the block that it ends.
+    /// Goes past what stands here, or back to the next turn of the block that it ends.
     #[inline(always)]
-    fn pass(&mut self, item: Item<'_, '_>)
-        requires stands { CanStand (item_in item) (array_vec_len self.old.blocks) }
+    fn pass(&mut self, stand: Stand)
+        requires stands { CanStandAt stand (array_vec_len self.old.blocks) }
         requires room { array_vec_len self.old.blocks ≤ 32 }
         requires few { self.old.index < 2 ^ 64 - 1 }
-        ensures { after (item_in item.entry) self.old.index (reverse self.old.blocks.items) ≡ (self.new.index, reverse self.new.blocks.items) }
+        ensures { after_stand stand self.old.index (reverse self.old.blocks.items) ≡ (self.new.index, reverse self.new.blocks.items) }
     {
-        match item {
-            Item::Does(_) => self.index += 1,
-            Item::Begins { turns, .. } => {
+        match stand {
+            Stand::Line => self.index += 1,
+            Stand::Begins(turns) => {
                 self.index += 1;
                 self.blocks.push(Turns {
                     start: self.index,
                     left: turns - 1,
                 });
             }
-            Item::Ends => self.end_turn(),
+            Stand::Ends => self.end_turn(),
         }
     }
 
@@ -66,7 +65,7 @@ impl Place {
         requires open { 0 < array_vec_len self.old.blocks }
         requires room { array_vec_len self.old.blocks ≤ 32 }
         requires few { self.old.index < 2 ^ 64 - 1 }
-        ensures { after Ends self.old.index (reverse self.old.blocks.items) ≡ (self.new.index, reverse self.new.blocks.items) }
+        ensures { after_stand Ends self.old.index (reverse self.old.blocks.items) ≡ (self.new.index, reverse self.new.blocks.items) }
     {
         let block = self.blocks.pop().unwrap();
         if block.left == 0 {
@@ -82,17 +81,17 @@ impl Place {
 
     /// Goes on to the next instruction, if it doesn't stand at one.
     #[inline(always)]
-    fn go_to_line<A: Allocator + Copy>(&mut self, table: &LineTable<'_, '_, A>)
+    fn go_to_line<A: Allocator + Copy>(&mut self, table: &LineTable<'_, A>)
         requires { IsWalk (items_of table.now) self.old.index (reverse self.old.blocks.items) }
         ensures walk { IsWalk (items_of table.now) self.new.index (reverse self.new.blocks.items) }
         ensures same { lines_left (items_of table.now) self.new.index (reverse self.new.blocks.items) ≡ lines_left (items_of table.now) self.old.index (reverse self.old.blocks.items) }
         ensures line { IsAtLine (slice_get (items_of table.now) self.new.index) }
     {
-        while let Some(item) = table.item_at(self.index) {
-            if is_line(item) {
+        while let Some(stand) = table.stand_at(self.index) {
+            if is_at_line(stand) {
                 return;
             }
-            self.pass(item);
+            self.pass(stand);
         }
     }
 }
@@ -100,13 +99,13 @@ impl Place {
 /// A walk over the lines of a model in the order in which they are reached. It is seen as the lines that are left, each
 /// as it is reached.
 #[derive(Drop)]
-pub(crate) struct Walk<'t, 'c, 'a, A: Allocator + Copy> {
-    table: &'t LineTable<'c, 'a, A>,
+pub(crate) struct Walk<'t, 'a, A: Allocator + Copy> {
+    table: &'t LineTable<'a, A>,
     place: Place,
     shift: Shift,
 }
 
-impl<'t, 'c, 'a, A: Allocator + Copy> Model for Walk<'t, 'c, 'a, A> {
+impl<'t, 'a, A: Allocator + Copy> Model for Walk<'t, 'a, A> {
     ghost use Rattle.std.specs.Prelude.{List, reverse};
     ghost use Rattle.std.specs.Coded.{coded_list};
     ghost use Rattle.dem_lines.specs.Trees.{items_of};
@@ -123,9 +122,9 @@ impl<'t, 'c, 'a, A: Allocator + Copy> Model for Walk<'t, 'c, 'a, A> {
     ghost invariant = { λ w. IsPlacedWalk (items_of w.table.now) w.shift w.place.index (reverse w.place.blocks.items) };
 }
 
-impl<'t, 'c, 'a, A: Allocator + Copy> Walk<'t, 'c, 'a, A> {
+impl<'t, 'a, A: Allocator + Copy> Walk<'t, 'a, A> {
     /// Before the first line.
-    pub(crate) fn new(table: &'t LineTable<'c, 'a, A>) -> Self
+    pub(crate) fn new(table: &'t LineTable<'a, A>) -> Self
         requires { length (reached table.now) < 2 ^ 64 }
         ensures { result ≡ placed_lines table.now }
     {

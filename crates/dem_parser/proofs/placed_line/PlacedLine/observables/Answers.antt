@@ -1,5 +1,5 @@
 use Rattle.std.proofs.Common.{ap, ◌∙◌}
-use Rattle.dem_lines.specs.Flat.{instruction_in}
+use Rattle.dem_parser.specs.TableLines.{instruction_of}
 use Rattle.dem_parser.specs.Meanings.{greatest_of, observables_to}
 use Rattle.dem_parser.specs.Shifts.{Placed}
 use Rattle.dem_parser.proofs.TableLemmas.{observables-known}
@@ -7,5 +7,5 @@ use Rattle.dem_parser.proofs.placed_line.PlacedLine.observables.Goals as goal
 
 pub returns : goal.returns
 returns c =
-    observables-known c.self.inside.shift.now (instruction_in c.self.inside.line.instruction) _ _ c.self.invariant.known
+    observables-known c.self.inside.shift.now (instruction_of c.self.inside.line) _ _ c.self.invariant.kept.known
     ∙ ap (λ (p : Placed). greatest_of observables_to p.targets) c.self.view_is

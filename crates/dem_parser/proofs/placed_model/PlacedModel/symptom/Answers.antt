@@ -19,13 +19,13 @@ loop-passed-preserved g c =
     let named = c.args.named.now in
     let passed = c.loop-passed.passed in
     let old = c.loop-passed.bits.items in
-    let new = c.pass_line-passed.new.bits in
+    let new = c.pass_line.new.bits in
     let turns : new ≡ turned_past d named passed c.in-Some.line old =
-    c.pass_line-passed.ensures.bits ∙ ap (turned_past d named passed c.in-Some.line) c.deref_mut.ensures.value in
+    c.in_ok-passed.ensures.bits ∙ ap (turned_past d named passed c.in-Some.line) c.deref_mut.ensures.value in
     let long : length new ≡ d + o = ap length turns ∙ length-past d passed named old c.in-Some.line (d + o) h.long in
     let same : length new ≡ c.loop-passed.bits.len = long ∙ sym h.long ∙ sym c.loop-passed.bits.ok.0 in
     summing-next d o named old _ passed _ _ _ _ c.in-Some.line h (c.in-Some.ensures _ c.pass.ensures) (with_items_is c.loop-passed.bits new same ∙ turns)
-    c.pass_line-passed.ensures.passed
+    c.in_ok-passed.ensures.passed
 
 pub returns-in_default : goal.returns-in_default
 returns-in_default g c =

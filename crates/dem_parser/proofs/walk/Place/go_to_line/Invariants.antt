@@ -3,11 +3,11 @@ use Rattle.dem_lines.specs.Trees.{items_of}
 use Rattle.dem_parser.specs.Walks.{IsWalk, items_left, lines_left}
 use Rattle.dem_parser.proofs.walk.Place.go_to_line.Given as goal
 
-abbrev pub invariant-loop-item : goal.invariant-loop-item
-invariant-loop-item g l = record {
+abbrev pub invariant-loop-stand : goal.invariant-loop-stand
+invariant-loop-stand g l = record {
   walk : IsWalk (items_of l.table) l.self.index (reverse l.self.blocks.items);
   same : lines_left (items_of l.table) l.self.index (reverse l.self.blocks.items) ≡ lines_left (items_of l.table) l.fn.self.index (reverse l.fn.self.blocks.items);
 }
 
-abbrev pub decreases-loop-item : goal.decreases-loop-item
-decreases-loop-item g l = length (items_left (items_of l.table) l.self.index (reverse l.self.blocks.items))
+abbrev pub decreases-loop-stand : goal.decreases-loop-stand
+decreases-loop-stand g l = length (items_left (items_of l.table) l.self.index (reverse l.self.blocks.items))

@@ -1,5 +1,5 @@
 use Rattle.std.proofs.Common.{List, drop, length, reverse, ap, ap₂, subst, sym, ◌∙◌, arith}
-use Rattle.dem_lines.specs.Flat.{instruction_in}
+use Rattle.dem_parser.specs.TableLines.{instruction_of}
 use Rattle.dem_lines.specs.Trees.{items_of}
 use Rattle.dem_parser.specs.Offsets.{HasRoom}
 use Rattle.dem_parser.specs.Shifts.{Placed, Shift, placed_from, shift_after}
@@ -15,19 +15,19 @@ returns-in_default g c =
 
 pub pass-requires : goal.pass-requires
 pass-requires g c =
-    let next = passes (items_of c.self.inside.table.now) _ _ _ (instruction_in c.in-Some.line.instruction) c.self.invariant c.in-Some.ensures.line.0 in
-    record { known = c.in-Some.ensures.line.1; room = room-one _ _ c.self.invariant.room (omega (arith, next.long)) }
+    let next = passes (items_of c.self.inside.table.now) _ _ _ (instruction_of c.in-Some.line) c.self.invariant c.in-Some.ensures.line.0 in
+    record { kept = c.in-Some.ensures.line.1; room = room-one _ _ c.self.invariant.room (omega (arith, next.long)) }
 
 pub go_to_line-requires : goal.go_to_line-requires
 go_to_line-requires g c =
-    (passes (items_of c.self.inside.table.now) _ _ _ (instruction_in c.in-Some.line.instruction) c.self.invariant c.in-Some.ensures.line.0).walk
+    (passes (items_of c.self.inside.table.now) _ _ _ (instruction_of c.in-Some.line) c.self.invariant c.in-Some.ensures.line.0).walk
 
 pub invariant_of-self : goal.invariant_of-self
 invariant_of-self g c =
     let s = c.self.inside.shift in
-    let i = instruction_in c.in-Some.line.instruction in
+    let i = instruction_of c.in-Some.line in
     let next = passes (items_of c.self.inside.table.now) _ _ _ i c.self.invariant c.in-Some.ensures.line.0 in
-    let room = room-next i _ _ s _ c.in-Some.ensures.line.1 (subst (HasRoom s) next.long c.self.invariant.room) in
+    let room = room-next i _ _ s _ c.in-Some.ensures.line.1.known (subst (HasRoom s) next.long c.self.invariant.room) in
     let lines = lines_left (items_of c.self.inside.table.now) c.go_to_line.new.self.index (reverse c.go_to_line.new.self.blocks.items) in
     record {
       walk = c.go_to_line.ensures.walk;
@@ -37,5 +37,5 @@ invariant_of-self g c =
 
 pub returns : goal.returns
 returns g c =
-    let next = passes (items_of c.self.inside.table.now) _ _ _ (instruction_in c.in-Some.line.instruction) c.self.invariant c.in-Some.ensures.line.0 in
+    let next = passes (items_of c.self.inside.table.now) _ _ _ (instruction_of c.in-Some.line) c.self.invariant c.in-Some.ensures.line.0 in
     ap₂ placed_from c.pass.ensures c.go_to_line.ensures.same ∙ ap (λ (ps : List Placed). drop 1 ps) (sym next.first ∙ c.self.view_is)

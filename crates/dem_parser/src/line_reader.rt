@@ -1,0 +1,172 @@
+ghost use Rattle.std.specs.Prelude.{◌≡◌, [], false, length, IfOk};
+ghost use Rattle.std.specs.List.{list_any};
+ghost use Rattle.stim_lexer.specs.Bytes.{is_line_feed};
+ghost use Rattle.stim_lexer.specs.Cut.{cut_of};
+ghost use Rattle.stim_lexer.specs.Lexing.{cut_in};
+ghost use Rattle.stim_parser.specs.Arguments.{arguments_in};
+ghost use Rattle.stim_parser.specs.Judging.{reading_of};
+ghost use Rattle.dem_lines.specs.Fitting.{Fits};
+ghost use Rattle.dem_lines.specs.Texts.{Does};
+ghost use Rattle.dem_lines.specs.Verdicts.{model_table};
+ghost use Rattle.dem_parser.specs.Kept.{with_item};
+ghost use Rattle.dem_parser.specs.LinesRead.{HasRead, PassesLine};
+ghost use Rattle.dem_parser.specs.Standing.{Speaks, instruction_at, line_at, line_number};
+
+use crate::counts::{extent_of, is_error};
+use crate::entries::Rare;
+use crate::error_head::{Head, error_alike, error_anew};
+use crate::kept_lines::KeptLines;
+use crate::line_text::line_in;
+use crate::shifts::numbers_stated;
+use arrayvec::ArrayVec;
+use dem_lines::{LEVELS, Last, Operation, Said, Target, number_in, read_line};
+use std::alloc::{AllocError, Allocator};
+use step_model::Cause;
+use stim_lexer::Line;
+
+/// Reads the lines of an error model's text one after another.
+#[derive(Drop)]
+pub(crate) struct LineReader<'a, A: Allocator + Copy> {
+    pub lines: KeptLines<'a, A>,
+    // The lines of the open blocks, the outermost first.
+    pub opened: ArrayVec<u64, LEVELS>,
+    // Room for the targets of the line that is read.
+    targets: Vec<Target, A>,
+    last: Last<'a>,
+    head: Option<Head<'a>>,
+}
+
+impl<'a, A: Allocator + Copy> LineReader<'a, A> {
+    /// A reader that has read nothing of a text. Takes no memory.
+    pub(crate) fn new(alloc: A, text: &'a [u8]) -> Self
+        ensures lines { result.lines ≡ record { text = text.now; items = [] } }
+        ensures opened { result.opened.items ≡ [] }
+    {
+        LineReader {
+            lines: KeptLines::new(alloc, text),
+            opened: ArrayVec::new(),
+            targets: Vec::new(alloc),
+            last: Last::new(),
+            head: None,
+        }
+    }
+
+    /// Keeps the instruction that begins at this place, whose targets were read.
+    fn keep(&mut self, at: usize, operation: Operation, arguments: &[u8]) -> Result<(), AllocError>
+        requires speaks { Speaks (line_at self.old.lines.text at) }
+        requires fits { Fits (instruction_at self.old.lines.text at operation) }
+        requires arguments { arguments_in arguments.now ≡ (instruction_at self.old.lines.text at operation).arguments }
+        requires targets { self.old.targets.items ≡ (instruction_at self.old.lines.text at operation).targets }
+        ensures lines { IfOk result (λ _. self.new.lines ≡ with_item self.old.lines (Does (instruction_at self.old.lines.text at operation))) }
+        ensures opened { IfOk result (λ _. self.new.opened.items ≡ self.old.opened.items) }
+    {
+        let extent = extent_of(self.targets.as_slice());
+        if is_error(operation) {
+            return self.lines.push_error(at, extent);
+        }
+        let rare = Rare::Line {
+            operation,
+            extent,
+            at,
+            amount: number_in(self.targets.as_slice()),
+        };
+        let numbers = numbers_stated(operation, arguments);
+        self.lines.push_rare(rare, numbers.as_slice())
+    }
+
+    /// Reads the cut line that begins at this place. Answers the cause where it is refused.
+    fn take(&mut self, at: usize, line: Line<'a>) -> Result<Option<Cause>, AllocError>
+        requires speaks { Speaks (line_at self.old.lines.text at) }
+        requires number { line.number ≡ line_number self.old.lines.text at }
+        requires cut { cut_in line ≡ cut_of (line_at self.old.lines.text at) }
+        ensures { IfOk result (λ refused. HasRead (reading_of model_table (length self.old.opened.items) line.entry.number (cut_in line.entry)) line.entry.number refused
+            self.old.lines self.old.opened.items self.new.lines self.new.opened.items) }
+    {
+        let number = line.number;
+        match read_line(&mut self.last, &mut self.targets, self.opened.len(), line)? {
+            Said::Takes {
+                operation,
+                arguments,
+            } => self.keep(at, operation, arguments)?,
+            Said::Opens(turns) => {
+                self.lines.push_rare(
+                    Rare::Begins {
+                        line: number,
+                        turns,
+                    },
+                    &[],
+                )?;
+                self.opened.push(number);
+            }
+            Said::Closes => {
+                self.lines.push_rare(Rare::Ends, &[])?;
+                self.opened.pop();
+            }
+            Said::Refuses(cause) => return Ok(Some(cause)),
+        }
+        Ok(None)
+    }
+
+    /// Reads any line, as it stands.
+    fn pass_any(
+        &mut self,
+        at: usize,
+        number: u64,
+        text: &'a [u8],
+    ) -> Result<Option<Cause>, AllocError>
+        requires line { text.now ≡ line_at self.old.lines.text at }
+        requires one { list_any is_line_feed text.now ≡ false }
+        requires number { number ≡ line_number self.old.lines.text at }
+        ensures { IfOk result (λ refused. PassesLine text.now number refused self.old.lines self.old.opened.items self.new.lines self.new.opened.items) }
+    {
+        match line_in(text) {
+            Ok(Some(line)) => self.take(at, Line { number, ..line }),
+            Ok(None) => Ok(None),
+            Err(fault) => Ok(Some(fault.cause)),
+        }
+    }
+
+    /// Reads a line that may begin otherwise than those before it. It is never inlined, so that it takes no registers from
+    /// the reading of lines that begin as one before them.
+    #[inline(never)]
+    fn pass_anew(
+        &mut self,
+        at: usize,
+        number: u64,
+        text: &'a [u8],
+    ) -> Result<Option<Cause>, AllocError>
+        requires line { text.now ≡ line_at self.old.lines.text at }
+        requires one { list_any is_line_feed text.now ≡ false }
+        requires number { number ≡ line_number self.old.lines.text at }
+        ensures { IfOk result (λ refused. PassesLine text.now number refused self.old.lines self.old.opened.items self.new.lines self.new.opened.items) }
+    {
+        match error_anew(&mut self.head, &mut self.last.probability, text) {
+            Some(extent) => {
+                self.lines.push_error(at, extent)?;
+                Ok(None)
+            }
+            None => self.pass_any(at, number, text),
+        }
+    }
+
+    /// Reads the line of this number, which begins at this place. Answers the cause where it is refused. It fails only where
+    /// memory runs out.
+    #[inline(always)]
+    pub(crate) fn pass(
+        &mut self,
+        at: usize,
+        number: u64,
+        text: &'a [u8],
+    ) -> Result<Option<Cause>, AllocError>
+        requires line { text.now ≡ line_at self.old.lines.text at }
+        requires one { list_any is_line_feed text.now ≡ false }
+        requires number { number ≡ line_number self.old.lines.text at }
+        ensures { IfOk result (λ refused. PassesLine text.now number refused self.old.lines self.old.opened.items self.new.lines self.new.opened.items) }
+    {
+        if let Some(extent) = error_alike(self.head, text) {
+            self.lines.push_error(at, extent)?;
+            return Ok(None);
+        }
+        self.pass_anew(at, number, text)
+    }
+}

@@ -1,0 +1,39 @@
+ghost use Rattle.std.specs.Prelude.{◌≡◌, ◌<◌, ◌++◌, ◌∷◌, false, true, length, MatchOption, MatchResult};
+ghost use Rattle.std.specs.List.{before_first, list_any};
+ghost use Rattle.step_model.specs.declared.fault.Cause.TheVariants as cause;
+ghost use Rattle.stim_lexer.specs.Bytes.{is_line_feed};
+ghost use Rattle.stim_lexer.specs.Cut.{cut_of, has_bad_byte};
+ghost use Rattle.stim_lexer.specs.Lexing.{cut_in};
+ghost use Rattle.stim_lexer.specs.Lines.{lines_of, says_nothing};
+
+use step_model::Fault;
+use stim_lexer::{Lexer, Line, cut_at};
+
+/// The first line of a text, and what follows its line feed.
+#[inline(always)]
+pub(crate) fn first_line(text: &[u8]) -> (&[u8], &[u8])
+    requires { 0 < length text.now }
+    ensures lines { lines_of text.now ≡ result.0.now ∷ lines_of result.1.now }
+    ensures cut { result.0.now ≡ before_first is_line_feed text.now }
+    ensures line { list_any is_line_feed result.0.now ≡ false }
+    ensures parts { 0 < length result.1.now → text.now ≡ result.0.now ++ 10 ∷ result.1.now }
+    ensures len { length result.1.now < length text.now }
+{
+    let (line, rest) = cut_at(text, b'\n');
+    match rest {
+        [_, after @ ..] => (line, after),
+        [] => (line, rest),
+    }
+}
+
+/// A line, cut; none where it says nothing.
+pub(crate) fn line_in(text: &[u8]) -> Result<Option<Line<'_>>, Fault>
+    requires { list_any is_line_feed text.now ≡ false }
+    ensures { MatchResult result
+        (λ found. MatchOption found (says_nothing text.now ≡ true)
+        (λ line. (says_nothing text.now ≡ false) × (has_bad_byte text.now ≡ false) × (cut_in line ≡ cut_of text.now)))
+        (λ fault. (says_nothing text.now ≡ false) × (has_bad_byte text.now ≡ true) × (fault.cause ≡ cause.Byte)) }
+{
+    let mut lexer = Lexer::new(text);
+    lexer.next_line()
+}

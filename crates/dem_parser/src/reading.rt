@@ -1,0 +1,44 @@
+ghost use Rattle.std.specs.Prelude.{◌≡◌, ◌⊎◌, IfOk, IfErr};
+ghost use Rattle.step_model.specs.Faults.{memory_fault};
+ghost use Rattle.dem_lines.specs.Trees.{IsRefusedBy, Writes};
+
+use crate::line_reader::LineReader;
+use crate::line_text::first_line;
+use crate::table::LineTable;
+use std::alloc::Allocator;
+use step_model::{Cause, Fault};
+
+/// The lines of an error model that a text writes, or the first refusal of its lines, before blocks are unrolled. The cause
+/// is `Memory`, and the line 0, only where memory runs out.
+pub(crate) fn read_lines<'a, A: Allocator + Copy>(
+    alloc: A,
+    text: &'a [u8],
+) -> Result<LineTable<'a, A>, Fault>
+    ensures tree { IfOk result (λ lines. Writes text.now lines) }
+    ensures refusal { IfErr result (λ fault. (fault ≡ memory_fault) ⊎ IsRefusedBy text.now fault) }
+{
+    let mut reader = LineReader::new(alloc, text);
+    let mut rest = text;
+    let mut number: u64 = 0;
+    while !rest.is_empty() {
+        let (line, after) = first_line(rest);
+        number += 1;
+        match reader.pass(text.len() - rest.len(), number, line) {
+            Ok(None) => rest = after,
+            Ok(Some(cause)) => {
+                return Err(Fault {
+                    cause,
+                    line: number,
+                });
+            }
+            Err(_) => return Err(Fault::MEMORY),
+        }
+    }
+    match reader.opened.pop() {
+        Some(line) => Err(Fault {
+            cause: Cause::DemBlock,
+            line,
+        }),
+        None => Ok(LineTable::new(reader.lines)),
+    }
+}

@@ -1,5 +1,0 @@
-mod PlainLemmas
-mod CountedLemmas
-mod AlikeLemmas
-mod KeptLemmas
-pub mod StrippedLemmas

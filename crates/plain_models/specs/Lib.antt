@@ -1,4 +1,0 @@
-pub mod Stripped
-pub mod Kept
-pub mod PlainLines
-pub mod ErrorTexts
