@@ -7,9 +7,8 @@ ghost use Rattle.engine.specs.Output.{done, model_prediction, prediction_output,
 use crate::lines::symptom_line;
 use crate::order::Status;
 use crate::refusing::refuse;
-use dem_parser::{PlacedModel, place, read_lines};
+use dem_parser::{PlacedModel, place};
 use forward_sim::read_numbers;
-use plain_models::{PlainModel, read_plain};
 use std::alloc::Allocator;
 use step_model::{Fault, Sink, write_all};
 
@@ -37,8 +36,7 @@ pub(crate) fn answer_prediction<W: Sink, A: Allocator + Copy>(
     }
 }
 
-/// The line that a prediction writes for the model of a text, or why it is refused. Most texts have no block and no
-/// shift; these are read by a reader that keeps less.
+/// The line that a prediction writes for the model of a text, or why it is refused.
 fn prediction_text<A: Allocator + Copy>(
     alloc: A,
     lines: &[u8],
@@ -47,46 +45,14 @@ fn prediction_text<A: Allocator + Copy>(
     ensures ok { IfOk result (λ line. prediction_output lines.now text.now ≡ Ok (done line.items)) }
     ensures err { IfErr result (λ e. (e ≡ memory_fault) ⊎ (prediction_output lines.now text.now ≡ Err e)) }
 {
-    match read_plain(alloc, text)? {
-        Some(model) => predict_plain(alloc, &model, lines),
-        None => predict_placed(alloc, lines, text),
-    }
-}
-
-/// The same for any text.
-fn predict_placed<A: Allocator + Copy>(
-    alloc: A,
-    lines: &[u8],
-    text: &[u8],
-) -> Result<Vec<u8, A>, Fault>
-    ensures ok { IfOk result (λ line. prediction_output lines.now text.now ≡ Ok (done line.items)) }
-    ensures err { IfErr result (λ e. (e ≡ memory_fault) ⊎ (prediction_output lines.now text.now ≡ Err e)) }
-{
-    let read = read_lines(alloc, text)?;
-    let model = place(alloc, &read)?;
+    let model = place(alloc, text)?;
     predict(alloc, &model, lines)
 }
 
 /// The same for a model.
 fn predict<A: Allocator + Copy>(
     alloc: A,
-    model: &PlacedModel<'_, '_, A>,
-    lines: &[u8],
-) -> Result<Vec<u8, A>, Fault>
-    ensures ok { IfOk result (λ line. model_prediction lines.now model.now ≡ Ok (done line.items)) }
-    ensures err { IfErr result (λ e. (e ≡ memory_fault) ⊎ (model_prediction lines.now model.now ≡ Err e)) }
-{
-    let named = read_numbers(alloc, model.line_count(), lines)?;
-    match model.symptom(alloc, named.as_slice()) {
-        Ok(flipped) => symptom_line(alloc, flipped.as_slice()).map_err(|_| Fault::MEMORY),
-        Err(_) => Err(Fault::MEMORY),
-    }
-}
-
-/// The same for a model whose lines are kept as texts.
-fn predict_plain<A: Allocator + Copy>(
-    alloc: A,
-    model: &PlainModel<'_, A>,
+    model: &PlacedModel<'_, A>,
     lines: &[u8],
 ) -> Result<Vec<u8, A>, Fault>
     ensures ok { IfOk result (λ line. model_prediction lines.now model.now ≡ Ok (done line.items)) }

@@ -4,7 +4,6 @@ use super::lent::{CIRCUIT, Lent, MODEL, are_false};
 use dem_parser::PlacedModel;
 use dem_text::Model;
 use forward_sim::{read_coins, read_numbers};
-use plain_models::PlainModel;
 use programs::Program;
 use step_model::Fault;
 use stim_parser::Circuit;
@@ -15,24 +14,20 @@ pub(super) enum Reader {
     Circuit,
     Unrolled,
     Program,
-    ModelLines,
     Model,
     Symptom,
     Placed,
-    Plain,
     Coins,
     Numbers,
 }
 
-pub(super) const READERS: [Reader; 10] = [
+pub(super) const READERS: [Reader; 8] = [
     Reader::Circuit,
     Reader::Unrolled,
     Reader::Program,
-    Reader::ModelLines,
     Reader::Model,
     Reader::Symptom,
     Reader::Placed,
-    Reader::Plain,
     Reader::Coins,
     Reader::Numbers,
 ];
@@ -44,11 +39,9 @@ impl Call for Reader {
             Reader::Circuit => tree_is_right(memory),
             Reader::Unrolled => unrolled_is_right(memory, lent.circuit),
             Reader::Program => program_is_right(memory),
-            Reader::ModelLines => lines_are_right(memory),
             Reader::Model => model_is_right(memory),
             Reader::Symptom => symptom_is_right(memory, lent.model),
             Reader::Placed => placed_is_right(memory),
-            Reader::Plain => plain_is_right(memory),
             Reader::Coins => coins_are_right(memory, lent.program),
             Reader::Numbers => numbers_are_right(memory),
         }
@@ -67,11 +60,6 @@ impl Call for Reader {
 fn tree_is_right(memory: Memory<'_>) -> Result<bool, Fault> {
     let circuit = stim_parser::parse(memory, CIRCUIT.as_bytes())?;
     Ok(circuit.len() == 20)
-}
-
-fn lines_are_right(memory: Memory<'_>) -> Result<bool, Fault> {
-    let lines = dem_parser::read_lines(memory, MODEL.as_bytes())?;
-    Ok(lines.len() == 9)
 }
 
 fn is_program<'m>(program: &Program<'_, Memory<'m>>) -> bool {
@@ -108,10 +96,10 @@ fn symptom_is_right<'m>(memory: Memory<'m>, model: &Model<'_, Memory<'m>>) -> Re
     Ok(bits.as_slice() == [true, true, true, false, false, true, false].as_slice())
 }
 
-/// The same where the lines stay as they were read.
+/// The same where the lines stay in the text.
 fn is_placed<'m>(
     memory: Memory<'m>,
-    model: &PlacedModel<'_, '_, Memory<'m>>,
+    model: &PlacedModel<'_, Memory<'m>>,
 ) -> Result<bool, Fault> {
     let Ok(bits) = model.symptom(memory, &[true, true]) else {
         return Err(Fault::MEMORY);
@@ -123,25 +111,8 @@ fn is_placed<'m>(
 }
 
 fn placed_is_right(memory: Memory<'_>) -> Result<bool, Fault> {
-    let lines = dem_parser::read_lines(memory, MODEL.as_bytes())?;
-    let model = dem_parser::place(memory, &lines)?;
+    let model = dem_parser::place(memory, MODEL.as_bytes())?;
     is_placed(memory, &model)
-}
-
-/// Three lines, of which the first two flip detector 2 and the observable.
-fn is_plain<'m>(memory: Memory<'m>, model: &PlainModel<'_, Memory<'m>>) -> Result<bool, Fault> {
-    let Ok(bits) = model.symptom(memory, &[true, true]) else {
-        return Err(Fault::MEMORY);
-    };
-    Ok(model.line_count() == 3 && bits.as_slice() == [false, false, true, true].as_slice())
-}
-
-fn plain_is_right(memory: Memory<'_>) -> Result<bool, Fault> {
-    let text = b"error(0.1) D0 L0\nerror(0.2) D0 D2\nerror(0.2) D1\n";
-    match plain_models::read_plain(memory, text)? {
-        Some(model) => is_plain(memory, &model),
-        None => Ok(false),
-    }
 }
 
 fn coins_are_right<'m>(
