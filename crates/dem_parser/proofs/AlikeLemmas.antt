@@ -1,7 +1,7 @@
 -- An error line that begins as one before it, and whose targets were counted from their bytes, is taken.
-use Rattle.std.proofs.Common.{◌≡◌, ℕ, true, false, List, [], ◌∷◌, ◌++◌, Bor, Option, Some, length, refl, ap, ap₂, subst, sym, ◌∙◌, arith}
+use Rattle.std.proofs.Common.{◌≡◌, ℕ, true, false, List, [], ◌∷◌, ◌++◌, ◌<◌, Option, Some, length, length-append, refl, ap, ap₂, subst, sym, ◌∙◌, append_assoc, append-nil, ◌⊎◌, inl, inr, arith}
 use Rattle.std.specs.Prelude.{codes, unwrap_or}
-use Rattle.std.specs.List.{list_all}
+use Rattle.std.specs.List.{before_first, list_all, list_any}
 use Rattle.stim_lexer.specs.Cut.{Cut}
 use Rattle.stim_parser.specs.declared.forms.ArgumentForm.TheVariants.{OneProbability}
 use Rattle.stim_parser.specs.Arguments.{arguments_in}
@@ -15,11 +15,13 @@ use Rattle.dem_lines.specs.Limits.{are_of_form, has_target_beyond, is_effect}
 use Rattle.dem_lines.specs.Targets.{targets_in}
 use Rattle.dem_lines.specs.Verdicts.{model_table, read_targets}
 use Rattle.dem_parser.specs.declared.counts.Extent.{Extent}
-use Rattle.dem_parser.specs.ErrorTexts.{AreCounted}
-use Rattle.dem_parser.specs.LinesRead.{IsErrorLine}
+use Rattle.dem_parser.specs.ErrorTexts.{AreCounted, BeginsWithTargets}
+use Rattle.dem_parser.specs.LinesRead.{BeginsWithError, IsErrorLine, IsFirstLine}
 use Rattle.dem_parser.specs.Standing.{instruction_cut}
 use Rattle.dem_parser.specs.Tables.{IsKnown}
-use Rattle.dem_parser.proofs.QuietLemmas.{arguments_cut, cut_with, is_quiet}
+use Rattle.stim_lexer.specs.Bytes.{from_first, is_line_feed}
+use Rattle.stim_lexer.proofs.ScanLemmas.{lines_of-cut}
+use Rattle.dem_parser.proofs.QuietLemmas.{arguments_cut, before_first-append, before_first-none, cut_with, from_first-append, is_quiet}
 
 abbrev cut_line : List ℕ → List ℕ → Cut
 cut_line arguments text = cut_with (codes "error") false arguments text
@@ -46,16 +48,54 @@ known_found number arguments text extent h read =
     both : (e : Extent) (d o : ℕ) → e.detectors ≡ d → e.observables ≡ o → e ≡ record { detectors = d; observables = o }
     both e d o f g = ap₂ (λ (x y : ℕ). record { detectors = x; observables = y }) f g
 
-pub error_line : (line arguments : List ℕ) (text : Bor (List ℕ)) (extent : Extent) → line ≡ codes "error(" ++ (arguments ++ 41 ∷ text.now)
-    → list_all is_quiet arguments ≡ true → AreProbabilities OneProbability (arguments_in arguments) → AreCounted text.now (record { detectors = 0; observables = 0 }) extent
-    → IsErrorLine line extent
-error_line line arguments text extent e quiet right h =
-    let read : read_targets text.now ≡ h.targets = ap (λ (found : Option (List Target)). unwrap_or found []) h.read in
-    let cut = arguments_cut (codes "error") arguments text.now (refl, refl) quiet h.quiet in
+error_line : (arguments targets : List ℕ) (extent : Extent) → list_all is_quiet arguments ≡ true → AreProbabilities OneProbability (arguments_in arguments)
+    → (h : AreCounted targets (record { detectors = 0; observables = 0 }) extent) → IsErrorLine (codes "error(" ++ (arguments ++ 41 ∷ targets)) extent
+error_line arguments targets extent quiet right h =
+    let read : read_targets targets ≡ h.targets = ap (λ (found : Option (List Target)). unwrap_or found []) h.read in
+    let cut = arguments_cut (codes "error") arguments targets (refl, refl) quiet h.quiet in
     let good = cut.good in
-    subst (λ l. IsErrorLine l extent) (sym e)
-    (record {
+    record {
       speaks = record { speaks = cut.speaks; good = cut.good };
-      known = λ number. subst (λ (c : Cut). IsKnown (instruction_cut number Errs c) extent []) (sym cut.cut_is) (known_found number arguments text.now extent h read);
-      taken = λ number opened. rw (good, cut.cut_is) (reading_found (length opened) number arguments text.now h.targets right h.read h.effects h.within);
+      known = λ number. subst (λ (c : Cut). IsKnown (instruction_cut number Errs c) extent []) (sym cut.cut_is) (known_found number arguments targets extent h read);
+      taken = λ number opened. rw (good, cut.cut_is) (reading_found (length opened) number arguments targets h.targets right h.read h.effects h.within);
+    }
+
+-- the first line of a text that has no line feed, or one after it
+first_of : (text line after : List ℕ) → 0 < length line → list_any is_line_feed line ≡ false → ((text ≡ line) × (after ≡ [])) ⊎ (text ≡ line ++ 10 ∷ after) → IsFirstLine text line after
+first_of text line after some one (inl e) =
+    let cut : before_first is_line_feed line ≡ line = before_first-none is_line_feed line one in
+    let past : from_first is_line_feed line ≡ [] = ap (λ xs. from_first is_line_feed xs) (sym (append-nil line)) ∙ from_first-append is_line_feed line [] one in
+    rw (e.0, e.1)
+    (record {
+      lines = lines_of-cut line line [] [] some (sym cut) (sym past) refl;
+      cut = sym cut;
+      one = one;
+      parts = λ more. absurd (omega (arith, more));
+      less = some;
     })
+first_of text line after some one (inr e) =
+    let cut : before_first is_line_feed (line ++ 10 ∷ after) ≡ line = before_first-append is_line_feed line (10 ∷ after) one ∙ append-nil line in
+    let long = length-append line (10 ∷ after) in
+    rw e
+    (record {
+      lines = lines_of-cut (line ++ 10 ∷ after) line (10 ∷ after) after (omega (arith, long)) (sym cut) (sym (from_first-append is_line_feed line (10 ∷ after) one)) refl;
+      cut = sym cut;
+      one = one;
+      parts = λ more. refl;
+      less = omega (arith, long);
+    })
+
+pub begins_with_error : (text arguments rest after : List ℕ) (extent : Extent) → text ≡ codes "error(" ++ (arguments ++ 41 ∷ rest)
+    → list_all is_quiet arguments ≡ true → AreProbabilities OneProbability (arguments_in arguments) → BeginsWithTargets rest extent after → BeginsWithError text extent after
+begins_with_error text arguments rest after extent e quiet right h =
+    let line = codes "error(" ++ (arguments ++ 41 ∷ h.targets) in
+    record {
+      line = line;
+      first = first_of text line after (omega arith) (arguments_cut (codes "error") arguments h.targets (refl, refl) quiet h.counted.quiet).one (by h.parts);
+      error = error_line arguments h.targets extent quiet right h.counted;
+    }
+  where
+    by : ((rest ≡ h.targets) × (after ≡ [])) ⊎ (rest ≡ h.targets ++ 10 ∷ after)
+        → ((text ≡ codes "error(" ++ (arguments ++ 41 ∷ h.targets)) × (after ≡ [])) ⊎ (text ≡ (codes "error(" ++ (arguments ++ 41 ∷ h.targets)) ++ 10 ∷ after)
+    by (inl p) = inl (e ∙ ap (λ r. codes "error(" ++ (arguments ++ 41 ∷ r)) p.0, p.1)
+    by (inr p) = inr (e ∙ ap (λ r. codes "error(" ++ (arguments ++ 41 ∷ r)) p ∙ ap (λ r. codes "error(" ++ r) (sym (append_assoc arguments (41 ∷ h.targets) (10 ∷ after))))

@@ -1,5 +1,5 @@
 -- Targets of an error line read one after another from its bytes are those of its pieces, and raise counts as these do.
-use Rattle.std.proofs.Common.{◌≡◌, ℕ, ◌+◌, ◌<◌, ◌==◌, true, false, max, min, List, [], ◌∷◌, ◌++◌, length, length-append, Some, refl, ap, subst, sym, ◌∙◌, append_assoc, arith}
+use Rattle.std.proofs.Common.{◌≡◌, ℕ, ◌+◌, ◌<◌, ◌==◌, true, false, max, min, List, [], ◌∷◌, ◌++◌, length, length-append, drop, Some, refl, ap, ap₂, subst, sym, ◌∙◌, append_assoc, append-nil, ◌⊎◌, inl, inr, arith}
 use Rattle.std.specs.Prelude.{◌-◌, ◌*◌}
 use Rattle.std.specs.Char.{is_ascii_digit}
 use Rattle.std.specs.List.{list_all, list_any}
@@ -13,7 +13,7 @@ use Rattle.stim_parser.specs.Targets.{each_of}
 use Rattle.dem_parser.specs.declared.counts.Extent.{Extent}
 use Rattle.dem_lines.specs.declared.target.Target.{Target}
 use Rattle.dem_lines.specs.declared.target.Target.TheVariants.{Detector, Observable}
-use Rattle.dem_parser.specs.ErrorTexts.{AreCounted, IsNumberFront, IsTargetFront, is_word_byte}
+use Rattle.dem_parser.specs.ErrorTexts.{AreCounted, BeginsWithTargets, IsNumberFront, IsTargetFront, ends_line, is_word_byte}
 use Rattle.dem_lines.specs.Limits.{has_target_beyond, is_effect, is_target_beyond}
 use Rattle.dem_parser.specs.Meanings.{detectors_to, observables_to}
 use Rattle.dem_lines.specs.Targets.{target_of, targets_in}
@@ -74,6 +74,11 @@ target-front text inside rest letter n t e h few less byte effect read =
       effect = effect;
     }
 
+-- such a target before any other text
+pub before-any : (text rest more : List ℕ) (t : Target) (h : IsTargetFront text t rest) → IsTargetFront (32 ∷ (h.word ++ more)) t more
+before-any text rest more t h =
+    record { word = h.word; text_is = refl; some = h.some; bytes = h.bytes; target_is = h.target_is; effect = h.effect }
+
 -- ---- targets one after another
 
 word_is_quiet : (b : ℕ) → is_word_byte b ≡ true → is_quiet b ≡ true
@@ -119,3 +124,43 @@ counted-next text after t counts next found front near detectors observables h =
       detectors = h.detectors ∙ raised-next detectors_to counts.detectors next.detectors t (t ∷ h.targets) h.targets refl detectors;
       observables = h.observables ∙ raised-next observables_to counts.observables next.observables t (t ∷ h.targets) h.targets refl observables;
     })
+
+abbrev none : Extent
+none = record { detectors = 0; observables = 0 }
+
+-- some targets were read, and with any that follow they have the extent that these reach from there
+pub record AreRead (text rest : List ℕ) (counts : Extent) : Type 0 where
+  pub front : List ℕ
+  pub text_is : text ≡ front ++ rest
+  pub all : (more : List ℕ) (found : Extent) → AreCounted more counts found → AreCounted (front ++ more) none found
+
+pub read-none : (text : List ℕ) → AreRead text text none
+read-none text = record { front = []; text_is = refl; all = λ more found h. h }
+
+pub read-one : (text rest after : List ℕ) (t : Target) (counts next : Extent) → AreRead text rest counts → IsTargetFront rest t after → is_target_beyond t ≡ false
+    → next.detectors ≡ max counts.detectors (detectors_to t) → next.observables ≡ max counts.observables (observables_to t) → AreRead text after next
+read-one text rest after t counts next h front near detectors observables =
+    record {
+      front = h.front ++ (32 ∷ front.word);
+      text_is = h.text_is ∙ ap (λ r. h.front ++ r) front.text_is ∙ sym (append_assoc h.front (32 ∷ front.word) after);
+      all = λ more found k.
+          subst (λ x. AreCounted x none found) (sym (append_assoc h.front (32 ∷ front.word) more))
+          (h.all (32 ∷ (front.word ++ more)) found (counted-next _ more t counts next found (before-any rest after more t front) near detectors observables k));
+    }
+
+pub read-all : (text rest after : List ℕ) (counts : Extent) → AreRead text rest counts → ((rest ≡ []) × (after ≡ [])) ⊎ (rest ≡ 10 ∷ after) → BeginsWithTargets text counts after
+read-all text rest after counts h ends =
+    record {
+      targets = h.front;
+      counted = subst (λ x. AreCounted x none counts) (append-nil h.front) (h.all [] counts (counted-done [] counts refl));
+      parts = by ends;
+    }
+  where
+    by : ((rest ≡ []) × (after ≡ [])) ⊎ (rest ≡ 10 ∷ after) → ((text ≡ h.front) × (after ≡ [])) ⊎ (text ≡ h.front ++ 10 ∷ after)
+    by (inl e) = inl (h.text_is ∙ ap (λ r. h.front ++ r) e.0 ∙ append-nil h.front, e.1)
+    by (inr e) = inr (h.text_is ∙ ap (λ r. h.front ++ r) e)
+
+-- where a line ends with a line feed
+pub line-ended : (rest after : List ℕ) → ends_line rest ≡ true → 0 < length rest → after ≡ drop 1 rest → rest ≡ 10 ∷ after
+line-ended [] after ends some e = absurd (omega (arith, some))
+line-ended (b ∷ rest) after ends some e = let byte : b ≡ 10 = grind arith in ap₂ (λ x xs. x ∷ xs) byte (sym e)

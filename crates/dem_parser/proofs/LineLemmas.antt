@@ -3,6 +3,7 @@ use Rattle.std.proofs.Common.{◌≡◌, ℕ, suc, ◌+◌, ◌==◌, ◌<◌, l
 use Rattle.std.specs.Prelude.{MatchOption, MatchResult}
 use Rattle.std.specs.List.{before_first, list_any, onto_first, position_or_len}
 use Rattle.std.proofs.lemmas.Bool.{cases_Bool, or_parts}
+use Rattle.std.proofs.lemmas.List.{length-drop}
 use Rattle.step_model.specs.declared.fault.Cause.{Cause}
 use Rattle.step_model.specs.declared.fault.Cause.TheVariants as cause
 use Rattle.step_model.specs.declared.fault.Fault.{Fault}
@@ -13,6 +14,7 @@ use Rattle.stim_lexer.specs.Bytes.{from_first, is_empty, is_line_feed}
 use Rattle.stim_lexer.specs.Cut.{Cut, cut_of, has_bad_byte}
 use Rattle.stim_lexer.specs.Lexing.{Numbered, Unread, after_silent, answered, cut_in, first_found, next_found}
 use Rattle.stim_lexer.specs.Lines.{lines_of, says_nothing}
+use Rattle.stim_lexer.proofs.ScanLemmas.{lines_of-cut}
 use Rattle.block_text.specs.declared.said.Said.{Said}
 use Rattle.block_text.specs.declared.said.Said.TheVariants as said
 use Rattle.block_text.specs.Fitting.{ReadingFits}
@@ -28,6 +30,7 @@ use Rattle.dem_lines.specs.Fitting.{Fits}
 use Rattle.dem_lines.specs.Instructions.{keyword_named}
 use Rattle.dem_lines.specs.Verdicts.{Instruction, model_table}
 use Rattle.dem_lines.proofs.FitLemmas.{reading_fits}
+use Rattle.dem_parser.specs.LinesRead.{IsFirstLine}
 use Rattle.dem_parser.specs.Standing.{instruction_cut, line_at, line_number}
 
 -- ---- one line
@@ -98,6 +101,19 @@ cut_whole (c ∷ text) after b e =
 pub cut_rest : (text rest after : List ℕ) → rest ≡ from_first is_line_feed text → 0 < length rest → after ≡ drop 1 rest → text ≡ before_first is_line_feed text ++ 10 ∷ after
 cut_rest text [] after e some is = absurd (omega (arith, some))
 cut_rest text (b ∷ rest) after e some is = cut_whole text after b (sym e ∙ ap (λ xs. b ∷ xs) (sym is))
+
+-- the first line of a text, from what stands before its line feed, and from there on
+pub first_cut : (text line rest after : List ℕ) → 0 < length text → line ≡ before_first is_line_feed text → rest ≡ from_first is_line_feed text → after ≡ drop 1 rest → length line + length rest ≡ length text
+    → IsFirstLine text line after
+first_cut text line rest after some cut past is long =
+    let shorter = ap length is ∙ length-drop 1 rest in
+    record {
+      lines = lines_of-cut text line rest after some cut past is;
+      cut = cut;
+      one = rw cut (none_before is_line_feed text);
+      parts = λ more. rw cut (cut_rest text rest after past (omega (arith, more, shorter)) is);
+      less = omega (arith, some, shorter, long);
+    }
 
 -- ---- the instruction of a line that is taken
 

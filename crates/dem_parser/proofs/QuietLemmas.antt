@@ -84,7 +84,7 @@ pub before_first-none : (p : ℕ → Bool) (xs : List ℕ) → list_any p xs ≡
 before_first-none p xs h =
     ap (before_first p) (sym (append-nil xs)) ∙ before_first-append p xs [] h ∙ append-nil xs
 
-from_first-append : (p : ℕ → Bool) (xs ys : List ℕ) → list_any p xs ≡ false → from_first p (xs ++ ys) ≡ from_first p ys
+pub from_first-append : (p : ℕ → Bool) (xs ys : List ℕ) → list_any p xs ≡ false → from_first p (xs ++ ys) ≡ from_first p ys
 from_first-append p xs ys h =
     ap (λ n. drop n (xs ++ ys)) (passed p xs ys h) ∙ drop-append-add xs ys (position_or_len p ys)
 

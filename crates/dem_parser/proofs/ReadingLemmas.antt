@@ -1,11 +1,12 @@
 -- The lines of an error model's text read one after another: where each stands, and what those that were read make of the text.
-use Rattle.std.proofs.Common.{◌≡◌, ℕ, ◌+◌, ◌-◌, true, false, List, [], ◌∷◌, ◌++◌, length, drop, take, reverse, Option, None, Some, option_to_list, Result, Ok, Err, refl, ap, ap₂, sym, subst, ◌∙◌, append_assoc, append-nil, length-append, inl, inr, arith}
+use Rattle.std.proofs.Common.{◌<◌, ◌≡◌, ℕ, ◌+◌, ◌-◌, true, false, List, [], ◌∷◌, ◌++◌, length, drop, take, reverse, Option, None, Some, option_to_list, Result, Ok, Err, refl, ap, ap₂, sym, subst, ◌∙◌, append_assoc, append-nil, length-append, inl, inr, arith}
 use Rattle.std.specs.Prelude.{filter}
 use Rattle.std.specs.List.{before_first, list_any}
 use Rattle.std.proofs.lemmas.Bool.{or_parts}
 use Rattle.std.proofs.lemmas.List.{length-reverse, length-take, nil_from_length, reverse-append}
 use Rattle.std.proofs.lemmas.List.Elements.{filter-append}
 use Rattle.step_model.specs.declared.fault.Cause.{Cause}
+use Rattle.step_model.specs.declared.fault.Cause.TheVariants as cause
 use Rattle.stim_lexer.specs.Bytes.{is_line_feed}
 use Rattle.stim_lexer.specs.Cut.{cut_of, has_bad_byte}
 use Rattle.stim_lexer.specs.Lexing.{Unread}
@@ -18,8 +19,9 @@ use Rattle.dem_lines.specs.Texts.{Item, Does, Begins, Ends, items_in, models}
 use Rattle.dem_lines.specs.Verdicts.{Instruction, model_table}
 use Rattle.dem_lines.specs.declared.operation.Operation.TheVariants.{Errs}
 use Rattle.dem_parser.specs.declared.counts.Extent.{Extent}
-use Rattle.dem_parser.specs.Kept.{Kept, with_item}
-use Rattle.dem_parser.specs.LinesRead.{HasRead, HasSpoken, IsErrorLine, PassesLine, unfinished}
+use Rattle.dem_parser.specs.Kept.{IsKept, Kept, with_item}
+use Rattle.dem_parser.specs.LinesRead.{BeginsWithError, HasRead, HasSpoken, IsErrorLine, IsFirstLine, PassesFirst, PassesLine, unfinished}
+use Rattle.dem_parser.proofs.KeptLemmas.{error-read}
 use Rattle.dem_parser.specs.Standing.{instruction_at, instruction_cut, line_at, line_number}
 
 -- ---- where a line stands
@@ -226,3 +228,51 @@ none_open opened before popped parts rest none =
     let same : opened ≡ before = parts ∙ ap (λ o. before ++ option_to_list o) none ∙ append-nil before in
     let long = ap length rest ∙ length-take (length opened - 1) opened in
     nil_from_length opened (omega (arith, long, ap length same))
+
+-- ---- the first line of what is left
+
+pub first-read : (text rest later : List ℕ) (read : ℕ) (kept kept' : Kept) (opened opened' : List ℕ) → IsReadTo text kept opened read rest → PassesFirst rest later (read + 1) None kept opened kept' opened'
+    → IsReadTo text kept' opened' (read + 1) later
+first-read text rest later read kept kept' opened opened' h p = read-on text p.line rest later read kept kept' opened opened' h p.first.lines p.passes
+
+pub first-before : (text rest later : List ℕ) (number read : ℕ) (refused : Option Cause) (kept kept' : Kept) (opened opened' : List ℕ) → IsBefore text rest read → PassesFirst rest later number refused kept opened kept' opened'
+    → 0 < length later → IsBefore text later (read + 1)
+first-before text rest later number read refused kept kept' opened opened' h p some = before-next text rest p.line later read h p.first.one (p.first.parts some)
+
+pub first-refused : (text rest later : List ℕ) (read : ℕ) (c : Cause) (kept kept' : Kept) (opened opened' : List ℕ) → IsReadTo text kept opened read rest → PassesFirst rest later (read + 1) (Some c) kept opened kept' opened'
+    → IsRefusedBy models text (refused c (read + 1))
+first-refused text rest later read c kept kept' opened opened' h p = read-refused text p.line rest later read c kept kept' opened opened' h p.first.lines p.passes
+
+pub first-stands : (text rest : List ℕ) (read : ℕ) → IsBefore text rest read → before_first is_line_feed rest ≡ line_at text (length text - length rest)
+first-stands text rest read h = stands-at text rest (before_first is_line_feed rest) read h refl
+
+-- ---- a line that was read
+
+pub passes-error : (text after : List ℕ) (extent : Extent) (whole : List ℕ) (at number : ℕ) (kept kept' : Kept) (opened opened' : List ℕ) → BeginsWithError text extent after
+    → before_first is_line_feed text ≡ line_at whole at → number ≡ line_number whole at → kept' ≡ with_item kept (Does (instruction_at whole at Errs)) → opened' ≡ opened → PassesFirst text after number None kept opened kept' opened'
+passes-error text after extent whole at number kept kept' opened opened' h e n more same =
+    record {
+      line = h.line;
+      first = h.first;
+      passes = inr (spoken-error h.line extent whole at number kept kept' opened opened' h.error (h.first.cut ∙ e) n more same);
+    }
+
+pub error-begun : (text after : List ℕ) (extent : Extent) (whole : List ℕ) (at : ℕ) → BeginsWithError text extent after → before_first is_line_feed text ≡ line_at whole at → IsKept whole at Errs extent 0 []
+error-begun text after extent whole at h e = error-read h.line whole at extent (h.first.cut ∙ e) h.error
+
+pub passes-silent : (text line after : List ℕ) (number : ℕ) (kept : Kept) (opened : List ℕ) → IsFirstLine text line after → says_nothing line ≡ true → PassesFirst text after number None kept opened kept opened
+passes-silent text line after number kept opened first silent =
+    record { line = line; first = first; passes = inl (record { silent = silent; accepted = refl; kept_is = refl; opened_is = refl }) }
+
+pub passes-bad : (text line after : List ℕ) (number : ℕ) (kept : Kept) (opened : List ℕ) → IsFirstLine text line after → says_nothing line ≡ false → has_bad_byte line ≡ true → PassesFirst text after number (Some cause.Byte) kept opened kept opened
+passes-bad text line after number kept opened first speaks bad =
+    record {
+      line = line;
+      first = first;
+      passes = inr (record { speaks = speaks; read = read-refuses (line_reading models (reverse opened) number line) cause.Byte number kept kept opened opened (rw bad refl) refl refl });
+    }
+
+pub passes-cut : (text line after : List ℕ) (number : ℕ) (refused : Option Cause) (kept kept' : Kept) (opened opened' : List ℕ) → IsFirstLine text line after → says_nothing line ≡ false → has_bad_byte line ≡ false
+    → HasRead (reading_of model_table (length opened) number (cut_of line)) number refused kept opened kept' opened' → PassesFirst text after number refused kept opened kept' opened'
+passes-cut text line after number refused kept kept' opened opened' first speaks good h =
+    record { line = line; first = first; passes = inr (spoken-cut line number refused kept kept' opened opened' speaks good h) }

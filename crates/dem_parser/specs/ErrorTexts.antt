@@ -2,7 +2,7 @@
 -- digits. They are read straight from the bytes; the general reader, which reads all others, reads the same of these.
 -- (Stim's detector error model format, github.com/quantumlib/Stim, doc/file_format_dem_detector_error_model.md, "Target
 -- Types".)
-use Rattle.std.specs.Prelude.{◌≡◌, ℕ, ◌==◌, ◌||◌, max, Bool, true, false, List, ◌∷◌, ◌++◌, Some}
+use Rattle.std.specs.Prelude.{◌≡◌, ◌⊎◌, ℕ, ◌==◌, ◌||◌, max, Bool, true, false, List, [], ◌∷◌, ◌++◌, Some}
 use Rattle.std.specs.Char.{is_ascii_digit}
 use Rattle.std.specs.Int.{is_in_range}
 use Rattle.std.specs.List.{list_all}
@@ -39,7 +39,7 @@ pub record IsTargetFront (text : List ℕ) (target : Target) (rest : List ℕ) :
   pub target_is : target_of word ≡ Some target
   pub effect : is_effect target ≡ true
 
--- a text writes targets that an error may have, none beyond its limit, and by these `counts` become `found`
+-- targets that an error may have, none beyond its limit, and by these `counts` become `found`
 pub record AreCounted (text : List ℕ) (counts found : Extent) : Type 0 where
   pub apart : ends_here text ≡ true
   pub quiet : list_all is_quiet text ≡ true
@@ -49,3 +49,14 @@ pub record AreCounted (text : List ℕ) (counts found : Extent) : Type 0 where
   pub within : has_target_beyond targets ≡ false
   pub detectors : found.detectors ≡ max counts.detectors (greatest_of detectors_to targets)
   pub observables : found.observables ≡ max counts.observables (greatest_of observables_to targets)
+
+-- a line ends where a text begins
+abbrev pub ends_line : List ℕ → Bool
+ends_line [] = true
+ends_line (b ∷ text) = b == 10
+
+-- a text begins with such targets, and after them its line ends: this is their extent, and what follows the line
+pub record BeginsWithTargets (text : List ℕ) (extent : Extent) (after : List ℕ) : Type 0 where
+  pub targets : List ℕ
+  pub counted : AreCounted targets (record { detectors = 0; observables = 0 }) extent
+  pub parts : ((text ≡ targets) × (after ≡ [])) ⊎ (text ≡ targets ++ 10 ∷ after)

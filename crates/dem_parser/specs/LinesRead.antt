@@ -1,9 +1,11 @@
 -- What a reader of an error model's lines does at a line: one that says nothing changes nothing; any other adds its item, or
 -- is refused. (Stim's detector error model format, github.com/quantumlib/Stim,
 -- doc/file_format_dem_detector_error_model.md.)
-use Rattle.std.specs.Prelude.{◌≡◌, ◌⊎◌, ℕ, List, [], Option, None, reverse, true, false}
+use Rattle.std.specs.Prelude.{◌≡◌, ◌⊎◌, ℕ, ◌<◌, List, [], ◌∷◌, ◌++◌, Option, None, length, reverse, true, false}
+use Rattle.std.specs.List.{before_first, list_any}
 use Rattle.step_model.specs.declared.fault.Cause.{Cause}
-use Rattle.stim_lexer.specs.Lines.{says_nothing}
+use Rattle.stim_lexer.specs.Bytes.{is_line_feed}
+use Rattle.stim_lexer.specs.Lines.{lines_of, says_nothing}
 use Rattle.block_text.specs.Texts.{Reading, Takes, line_reading}
 use Rattle.block_text.specs.Unfinished.{Unfinished, after_line, cause_in}
 use Rattle.dem_lines.specs.declared.operation.Operation.TheVariants.{Errs}
@@ -41,8 +43,28 @@ abbrev pub PassesLine : List ℕ → ℕ → Option Cause → Kept → List ℕ 
 PassesLine line number refused kept opened kept' opened' =
     HasPassed line refused kept opened kept' opened' ⊎ HasSpoken line number refused kept opened kept' opened'
 
+-- the first line of a text, and what follows its line feed
+pub record IsFirstLine (text line after : List ℕ) : Type 0 where
+  pub lines : lines_of text ≡ line ∷ lines_of after
+  pub cut : line ≡ before_first is_line_feed text
+  pub one : list_any is_line_feed line ≡ false
+  pub parts : 0 < length after → text ≡ line ++ 10 ∷ after
+  pub less : length after < length text
+
+-- at the first line of a text, after which this follows
+pub record PassesFirst (text after : List ℕ) (number : ℕ) (refused : Option Cause) (kept : Kept) (opened : List ℕ) (kept' : Kept) (opened' : List ℕ) : Type 0 where
+  pub line : List ℕ
+  pub first : IsFirstLine text line after
+  pub passes : PassesLine line number refused kept opened kept' opened'
+
 -- a line is taken as an error line, whose targets have this extent
 pub record IsErrorLine (line : List ℕ) (extent : Extent) : Type 0 where
   pub speaks : Speaks line
   pub known : (number : ℕ) → IsKnown (instruction_cut number Errs (cut_of line)) extent []
   pub taken : (number : ℕ) (opened : List ℕ) → line_reading models opened number line ≡ Takes (instruction_cut number Errs (cut_of line))
+
+-- the first line of a text is one, and after it this follows
+pub record BeginsWithError (text : List ℕ) (extent : Extent) (after : List ℕ) : Type 0 where
+  pub line : List ℕ
+  pub first : IsFirstLine text line after
+  pub error : IsErrorLine line extent

@@ -4,7 +4,7 @@ ghost use Rattle.stim_parser.specs.Arguments.{arguments_in};
 ghost use Rattle.stim_parser.specs.declared.forms.ArgumentForm.TheVariants.{OneProbability};
 ghost use Rattle.stim_parser.specs.Limits.{AreProbabilities};
 ghost use Rattle.dem_parser.specs.ErrorTexts.{is_quiet};
-ghost use Rattle.dem_parser.specs.LinesRead.{IsErrorLine};
+ghost use Rattle.dem_parser.specs.LinesRead.{BeginsWithError};
 
 use crate::counts::Extent;
 use crate::error_targets::{behind_byte, extent_in};
@@ -72,16 +72,16 @@ fn head_in<'a>(last: &mut LastProbability<'a>, text: &'a [u8]) -> Option<Head<'a
     }
 }
 
-/// The extent of the targets of an error line that begins as one before it. There is none where the line begins otherwise,
-/// is written in a rare way, or is refused.
+/// The extent of the targets of the error line that a text begins with, and what follows the line, where it begins as one
+/// before it. There is none where the line begins otherwise, is written in a rare way, or is refused.
 #[inline(always)]
-pub(crate) fn error_alike(head: Option<Head<'_>>, text: &[u8]) -> Option<Extent>
-    ensures { IfSome result (λ extent. IsErrorLine text.now extent) }
+pub(crate) fn error_alike<'t>(head: Option<Head<'_>>, text: &'t [u8]) -> Option<(Extent, &'t [u8])>
+    ensures { IfSome result (λ found. BeginsWithError text.now found.0 found.1.now) }
 {
     let head = head?;
     let targets = behind_head(head.arguments, text)?;
-    let extent = extent_in(targets)?;
-    Some(extent)
+    let found = extent_in(targets)?;
+    Some(found)
 }
 
 /// The same for an error line whose beginning is read anew.
@@ -89,8 +89,8 @@ pub(crate) fn error_anew<'a>(
     head: &mut Option<Head<'a>>,
     last: &mut LastProbability<'a>,
     text: &'a [u8],
-) -> Option<Extent>
-    ensures { IfSome result (λ extent. IsErrorLine text.now extent) }
+) -> Option<(Extent, &'a [u8])>
+    ensures { IfSome result (λ found. BeginsWithError text.now found.0 found.1.now) }
 {
     let found = head_in(last, text)?;
     *head = Some(found);

@@ -1,6 +1,6 @@
 ghost use Rattle.std.specs.Prelude.{◌≡◌, ◌<◌, ◌∷◌, true, length, IfSome};
 ghost use Rattle.std.specs.Char.{is_ascii_digit};
-ghost use Rattle.dem_parser.specs.ErrorTexts.{AreCounted, IsNumberFront, IsTargetFront};
+ghost use Rattle.dem_parser.specs.ErrorTexts.{BeginsWithTargets, IsNumberFront, IsTargetFront, ends_line};
 
 use crate::counts::{Extent, NONE, raised_to};
 use dem_lines::{Target, is_target_beyond};
@@ -70,14 +70,23 @@ fn front_target(text: &[u8]) -> Option<(Target, &[u8])>
     Some((Target::Observable(number), rest))
 }
 
-/// The extent of the targets of an error line. There is none where a target is written in a rare way, or is refused.
+/// Whether a line ends where a text begins.
 #[inline(always)]
-pub(crate) fn extent_in(text: &[u8]) -> Option<Extent>
-    ensures { IfSome result (λ found. AreCounted text.now (record { detectors = 0; observables = 0 }) found) }
+fn ends_line(text: &[u8]) -> bool
+    ensures { result ≡ ends_line text.now }
+{
+    matches!(text, [] | [b'\n', ..])
+}
+
+/// The extent of the targets of an error line that a text begins with, and what follows the line. There is none where a
+/// target is written in a rare way, or is refused.
+#[inline(always)]
+pub(crate) fn extent_in(text: &[u8]) -> Option<(Extent, &[u8])>
+    ensures { IfSome result (λ found. BeginsWithTargets text.now found.0 found.1.now) }
 {
     let mut found = NONE;
     let mut rest = text;
-    while !rest.is_empty() {
+    while !ends_line(rest) {
         let (target, after) = front_target(rest)?;
         if is_target_beyond(target) {
             return None;
@@ -85,5 +94,8 @@ pub(crate) fn extent_in(text: &[u8]) -> Option<Extent>
         found = raised_to(found, target);
         rest = after;
     }
-    Some(found)
+    match rest {
+        [_, after @ ..] => Some((found, after)),
+        [] => Some((found, rest)),
+    }
 }

@@ -1,5 +1,5 @@
-ghost use Rattle.std.specs.Prelude.{◌≡◌, [], false, length, IfOk};
-ghost use Rattle.std.specs.List.{list_any};
+ghost use Rattle.std.specs.Prelude.{◌≡◌, ◌<◌, [], length, IfOk};
+ghost use Rattle.std.specs.List.{before_first};
 ghost use Rattle.stim_lexer.specs.Bytes.{is_line_feed};
 ghost use Rattle.stim_lexer.specs.Cut.{cut_of};
 ghost use Rattle.stim_lexer.specs.Lexing.{cut_in};
@@ -9,20 +9,27 @@ ghost use Rattle.dem_lines.specs.Fitting.{Fits};
 ghost use Rattle.dem_lines.specs.Texts.{Does};
 ghost use Rattle.dem_lines.specs.Verdicts.{model_table};
 ghost use Rattle.dem_parser.specs.Kept.{with_item};
-ghost use Rattle.dem_parser.specs.LinesRead.{HasRead, PassesLine};
+ghost use Rattle.dem_parser.specs.LinesRead.{HasRead, PassesFirst};
 ghost use Rattle.dem_parser.specs.Standing.{Speaks, instruction_at, line_at, line_number};
 
 use crate::counts::{extent_of, is_error};
 use crate::entries::Rare;
 use crate::error_head::{Head, error_alike, error_anew};
 use crate::kept_lines::KeptLines;
-use crate::line_text::line_in;
+use crate::line_text::{first_line, line_in};
 use crate::shifts::numbers_stated;
 use arrayvec::ArrayVec;
 use dem_lines::{LEVELS, Last, Operation, Said, Target, number_in, read_line};
 use std::alloc::{AllocError, Allocator};
 use step_model::Cause;
 use stim_lexer::Line;
+
+/// What follows a line that was read, and the cause where the line is refused.
+#[derive(Clone, Copy)]
+pub(crate) struct Passed<'a> {
+    pub after: &'a [u8],
+    pub refused: Option<Cause>,
+}
 
 /// Reads the lines of an error model's text one after another.
 #[derive(Drop)]
@@ -107,23 +114,20 @@ impl<'a, A: Allocator + Copy> LineReader<'a, A> {
         Ok(None)
     }
 
-    /// Reads any line, as it stands.
-    fn pass_any(
-        &mut self,
-        at: usize,
-        number: u64,
-        text: &'a [u8],
-    ) -> Result<Option<Cause>, AllocError>
-        requires line { text.now ≡ line_at self.old.lines.text at }
-        requires one { list_any is_line_feed text.now ≡ false }
+    /// Reads the first line of a text, however it is written.
+    fn pass_any(&mut self, at: usize, number: u64, text: &'a [u8]) -> Result<Passed<'a>, AllocError>
+        requires some { 0 < length text.now }
+        requires line { before_first is_line_feed text.now ≡ line_at self.old.lines.text at }
         requires number { number ≡ line_number self.old.lines.text at }
-        ensures { IfOk result (λ refused. PassesLine text.now number refused self.old.lines self.old.opened.items self.new.lines self.new.opened.items) }
+        ensures { IfOk result (λ passed. PassesFirst text.now passed.after.now number passed.refused self.old.lines self.old.opened.items self.new.lines self.new.opened.items) }
     {
-        match line_in(text) {
-            Ok(Some(line)) => self.take(at, Line { number, ..line }),
-            Ok(None) => Ok(None),
-            Err(fault) => Ok(Some(fault.cause)),
-        }
+        let (line, after) = first_line(text);
+        let refused = match line_in(line) {
+            Ok(Some(line)) => self.take(at, Line { number, ..line })?,
+            Ok(None) => None,
+            Err(fault) => Some(fault.cause),
+        };
+        Ok(Passed { after, refused })
     }
 
     /// Reads a line that may begin otherwise than those before it. It is never inlined, so that it takes no registers from
@@ -134,22 +138,25 @@ impl<'a, A: Allocator + Copy> LineReader<'a, A> {
         at: usize,
         number: u64,
         text: &'a [u8],
-    ) -> Result<Option<Cause>, AllocError>
-        requires line { text.now ≡ line_at self.old.lines.text at }
-        requires one { list_any is_line_feed text.now ≡ false }
+    ) -> Result<Passed<'a>, AllocError>
+        requires some { 0 < length text.now }
+        requires line { before_first is_line_feed text.now ≡ line_at self.old.lines.text at }
         requires number { number ≡ line_number self.old.lines.text at }
-        ensures { IfOk result (λ refused. PassesLine text.now number refused self.old.lines self.old.opened.items self.new.lines self.new.opened.items) }
+        ensures { IfOk result (λ passed. PassesFirst text.now passed.after.now number passed.refused self.old.lines self.old.opened.items self.new.lines self.new.opened.items) }
     {
         match error_anew(&mut self.head, &mut self.last.probability, text) {
-            Some(extent) => {
+            Some((extent, after)) => {
                 self.lines.push_error(at, extent)?;
-                Ok(None)
+                Ok(Passed {
+                    after,
+                    refused: None,
+                })
             }
             None => self.pass_any(at, number, text),
         }
     }
 
-    /// Reads the line of this number, which begins at this place. Answers the cause where it is refused. It fails only where
+    /// Reads the first line of a text, which has this number, and begins at this place of the whole. It fails only where
     /// memory runs out.
     #[inline(always)]
     pub(crate) fn pass(
@@ -157,15 +164,18 @@ impl<'a, A: Allocator + Copy> LineReader<'a, A> {
         at: usize,
         number: u64,
         text: &'a [u8],
-    ) -> Result<Option<Cause>, AllocError>
-        requires line { text.now ≡ line_at self.old.lines.text at }
-        requires one { list_any is_line_feed text.now ≡ false }
+    ) -> Result<Passed<'a>, AllocError>
+        requires some { 0 < length text.now }
+        requires line { before_first is_line_feed text.now ≡ line_at self.old.lines.text at }
         requires number { number ≡ line_number self.old.lines.text at }
-        ensures { IfOk result (λ refused. PassesLine text.now number refused self.old.lines self.old.opened.items self.new.lines self.new.opened.items) }
+        ensures { IfOk result (λ passed. PassesFirst text.now passed.after.now number passed.refused self.old.lines self.old.opened.items self.new.lines self.new.opened.items) }
     {
-        if let Some(extent) = error_alike(self.head, text) {
+        if let Some((extent, after)) = error_alike(self.head, text) {
             self.lines.push_error(at, extent)?;
-            return Ok(None);
+            return Ok(Passed {
+                after,
+                refused: None,
+            });
         }
         self.pass_anew(at, number, text)
     }

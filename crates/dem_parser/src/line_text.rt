@@ -1,23 +1,19 @@
-ghost use Rattle.std.specs.Prelude.{◌≡◌, ◌<◌, ◌++◌, ◌∷◌, false, true, length, MatchOption, MatchResult};
-ghost use Rattle.std.specs.List.{before_first, list_any};
+ghost use Rattle.std.specs.Prelude.{◌≡◌, ◌<◌, false, true, length, MatchOption, MatchResult};
+ghost use Rattle.std.specs.List.{list_any};
 ghost use Rattle.step_model.specs.declared.fault.Cause.TheVariants as cause;
 ghost use Rattle.stim_lexer.specs.Bytes.{is_line_feed};
 ghost use Rattle.stim_lexer.specs.Cut.{cut_of, has_bad_byte};
 ghost use Rattle.stim_lexer.specs.Lexing.{cut_in};
-ghost use Rattle.stim_lexer.specs.Lines.{lines_of, says_nothing};
+ghost use Rattle.stim_lexer.specs.Lines.{says_nothing};
+ghost use Rattle.dem_parser.specs.LinesRead.{IsFirstLine};
 
 use step_model::Fault;
 use stim_lexer::{Lexer, Line, cut_at};
 
 /// The first line of a text, and what follows its line feed.
-#[inline(always)]
 pub(crate) fn first_line(text: &[u8]) -> (&[u8], &[u8])
     requires { 0 < length text.now }
-    ensures lines { lines_of text.now ≡ result.0.now ∷ lines_of result.1.now }
-    ensures cut { result.0.now ≡ before_first is_line_feed text.now }
-    ensures line { list_any is_line_feed result.0.now ≡ false }
-    ensures parts { 0 < length result.1.now → text.now ≡ result.0.now ++ 10 ∷ result.1.now }
-    ensures len { length result.1.now < length text.now }
+    ensures { IsFirstLine text.now result.0.now result.1.now }
 {
     let (line, rest) = cut_at(text, b'\n');
     match rest {

@@ -3,7 +3,6 @@ ghost use Rattle.step_model.specs.Faults.{memory_fault};
 ghost use Rattle.dem_lines.specs.Trees.{IsRefusedBy, Writes};
 
 use crate::line_reader::LineReader;
-use crate::line_text::first_line;
 use crate::table::LineTable;
 use std::alloc::Allocator;
 use step_model::{Cause, Fault};
@@ -21,17 +20,18 @@ pub(crate) fn read_lines<'a, A: Allocator + Copy>(
     let mut rest = text;
     let mut number: u64 = 0;
     while !rest.is_empty() {
-        let (line, after) = first_line(rest);
         number += 1;
-        match reader.pass(text.len() - rest.len(), number, line) {
-            Ok(None) => rest = after,
-            Ok(Some(cause)) => {
+        let Ok(passed) = reader.pass(text.len() - rest.len(), number, rest) else {
+            return Err(Fault::MEMORY);
+        };
+        match passed.refused {
+            Some(cause) => {
                 return Err(Fault {
                     cause,
                     line: number,
                 });
             }
-            Err(_) => return Err(Fault::MEMORY),
+            None => rest = passed.after,
         }
     }
     match reader.opened.pop() {
