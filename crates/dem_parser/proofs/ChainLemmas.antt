@@ -1,32 +1,33 @@
 -- Instructions in no block and with no shift among them: the model of a text that writes them.
-use Rattle.std.proofs.Common.{◌≡◌, ℕ, Bool, true, false, if◌then◌else◌, ℤ, pos, nat_abs, neg_ℤ, zero, suc, List, [], ◌∷◌, map, None, Ok, refl, ap, ap₂, sym, ◌∙◌}
-use Rattle.std.specs.Prelude.{⊤, find}
+use Rattle.std.proofs.Common.{◌≡◌, ◌≤◌, ℕ, Bool, true, false, if◌then◌else◌, ℤ, pos, nat_abs, neg_ℤ, zero, suc, ◌+◌, List, [], ◌∷◌, length, drop, map, None, Some, Ok, refl, ap, ap₂, subst, sym, ◌∙◌, arith}
+use Rattle.std.specs.Prelude.{find, slice_get}
 use Rattle.std.specs.List.{list_any}
-use Rattle.std.proofs.lemmas.Bool.{or_from, or_parts}
+use Rattle.std.proofs.lemmas.Bool.{or_from, or_parts, true≢false}
+use Rattle.std.proofs.lemmas.List.{drop_all}
 use Rattle.stim_parser.specs.Numbers.{is_number_beyond, has_minus, magnitude_of, whole_value}
 use Rattle.dem_lines.specs.declared.operation.Operation.{Operation}
 use Rattle.dem_lines.specs.declared.operation.Operation.TheVariants.{Errs, Detects, Observes, Shifts}
 use Rattle.dem_lines.specs.declared.target.Target.{Target}
-use Rattle.dem_lines.specs.Fitting.{Fits, AllFit}
+use Rattle.dem_lines.specs.Fitting.{Fits, AllFit, IsAccepted}
+use Rattle.dem_lines.specs.Flat.{tree_of, tree_of-items}
 use Rattle.dem_lines.specs.Limits.{has_target_beyond}
 use Rattle.dem_lines.specs.Reached.{block_lines, has_many_lines}
-use Rattle.dem_lines.specs.Texts.{Does, items_in}
+use Rattle.dem_lines.specs.Texts.{Item, Does, items_in}
 use Rattle.dem_lines.specs.Trees.{Tree, Nothing, Then, Writes, items_of}
 use Rattle.dem_lines.specs.Verdicts.{Instruction}
+use Rattle.dem_lines.proofs.PassLemmas.{drop_got}
 use Rattle.dem_lines.proofs.TreeLemmas.{each_tree_is_accepted}
-use Rattle.dem_parser.specs.Meanings.{meaning_of}
+pub use Rattle.dem_parser.specs.Chains.{AllStay, placed}
+use Rattle.dem_parser.specs.declared.counts.Extent.{Extent}
+use Rattle.dem_parser.specs.declared.counts.LineCounts.{LineCounts}
+use Rattle.dem_parser.specs.Chains.{IsChain, counted_with, is_shift}
+use Rattle.dem_parser.specs.Meanings.{greatest_over, is_error, meaning_of}
+use Rattle.dem_parser.specs.Summed.{AreCounts, error_count}
+use Rattle.dem_parser.specs.Tables.{IsKnown}
 use Rattle.dem_parser.specs.Models.{first_beyond, is_beyond, is_far, model_in, placed_lines}
-use Rattle.dem_parser.specs.Shifts.{Placed, coordinates_given, moved, no_shift, placed_at, placed_from, shift_after}
+use Rattle.dem_parser.specs.Shifts.{Placed, coordinates_given, moved, no_shift, placed_at, placed_from, shifted_by}
 use Rattle.dem_parser.proofs.PlaceLemmas.{unmoved}
 use Rattle.dem_parser.proofs.ReadLemmas.{read-model, whole-model}
-
-abbrev pub AllStay : List Instruction → Type 0
-AllStay [] = ⊤
-AllStay (i ∷ is) = (shift_after i no_shift ≡ no_shift) × AllStay is
-
--- an instruction where nothing is shifted
-abbrev pub placed : Instruction → Placed
-placed i = record (placed_at no_shift i) { targets = i.targets }
 
 -- ---- their tree
 
@@ -96,3 +97,71 @@ chain_means text is still e =
     let few : has_many_lines t ≡ false = rw (no_block is) refl in
     let near : first_beyond (placed_lines t) ≡ None = rw (lines, none_beyond is (each_tree_is_accepted text t writes).fit) refl in
     read-model text t (meaning_of (map placed is)) writes (whole-model t (meaning_of (map placed is)) few near (ap meaning_of (sym lines)))
+
+-- ---- a chain that is counted from its end
+
+stays : (operation : Operation) (arguments : List (List ℕ)) (targets : List Target) → is_shift operation ≡ false → shifted_by operation arguments targets no_shift ≡ no_shift
+stays Errs arguments targets h = refl
+stays Detects arguments targets h = refl
+stays Observes arguments targets h = refl
+stays Shifts arguments targets h = absurd (true≢false h)
+
+pub chain-none : (items : List Item) → IsChain (drop (length items) items) (record { detectors = 0; observables = 0; errors = 0 })
+unfolding greatest_over
+chain-none items =
+    record {
+      instructions = [];
+      items_are = drop_all (length items) items (omega arith);
+      stay = tt;
+      counts_are = record { detectors_are = refl; observables_are = refl; errors_are = refl };
+    }
+
+one_error : (b : Bool) (n : ℕ) (p : Placed) (ps : List Placed) → is_error p.operation ≡ b → n ≡ error_count ps → (if b then n + 1 else n) ≡ error_count (p ∷ ps)
+one_error true n p ps e h = rw e (h' h)
+  where
+    h' : n ≡ error_count ps → n + 1 ≡ suc (error_count ps)
+    h' same = omega (arith, same)
+one_error false n p ps e h = rw e h
+
+pub chain-next : (items : List Item) (k : ℕ) (i : Instruction) (extent : Extent) (numbers : List ℤ) (counts : LineCounts) → IsChain (drop (k + 1) items) counts → Some (Does i) ≡ slice_get items k
+    → IsKnown i extent numbers → is_shift i.operation ≡ false → IsChain (drop k items) (counted_with counts i.operation extent)
+unfolding greatest_over
+chain-next items k i extent numbers counts h got known still =
+    let later : suc k ≡ k + 1 = omega arith in
+    let ps = map placed h.instructions in
+    let wide = known.extent_is in
+    record {
+      instructions = i ∷ h.instructions;
+      items_are = drop_got items k (Does i) got ∙ ap (λ n. Does i ∷ drop n items) later ∙ ap (λ is. Does i ∷ is) h.items_are;
+      stay = (stays i.operation i.arguments i.targets still, h.stay);
+      counts_are = record {
+        detectors_are = let d = ap (λ (e : Extent). e.detectors) wide in let c = h.counts_are.detectors_are in omega (arith, c, d);
+        observables_are = let o = ap (λ (e : Extent). e.observables) wide in let c = h.counts_are.observables_are in omega (arith, c, o);
+        errors_are = one_error (is_error i.operation) counts.errors (placed i) ps refl h.counts_are.errors_are;
+      };
+    }
+
+-- a chain is judged by its counts
+pub record IsJudgedChain (t : Tree) (counts : LineCounts) : Type 0 where
+  pub few : has_many_lines t ≡ false
+  pub within : first_beyond (placed_lines t) ≡ None
+  pub counts_are : AreCounts (placed_lines t) counts.detectors counts.observables counts.errors
+
+pub chain-judged : (t : Tree) (counts : LineCounts) → IsAccepted t → IsChain (items_of t) counts → IsJudgedChain t counts
+chain-judged t counts accepted h =
+    let is = h.instructions in
+    let same : chain is ≡ t = sym (tree_of-items (chain is)) ∙ ap tree_of (chain_items is ∙ sym h.items_are) ∙ tree_of-items t in
+    let fit : AllFit (chain is) = subst AllFit (sym same) accepted.fit in
+    subst (λ (u : Tree). IsJudgedChain u counts) same
+    (record {
+      few = rw (no_block is) refl;
+      within = rw (all_placed is h.stay, none_beyond is fit) refl;
+      counts_are = subst (λ ps. AreCounts ps counts.detectors counts.observables counts.errors) (sym (all_placed is h.stay)) h.counts_are;
+    })
+
+pub counted-few : (counts : LineCounts) (operation : Operation) (extent : Extent) → (counted_with counts operation extent).errors ≤ counts.errors + 1
+counted-few counts operation extent = by (is_error operation)
+  where
+    by : (b : Bool) → (if b then counts.errors + 1 else counts.errors) ≤ counts.errors + 1
+    by true = omega arith
+    by false = omega arith

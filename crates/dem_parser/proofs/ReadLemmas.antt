@@ -1,6 +1,6 @@
 -- The model of a text, put together from what was read of it.
-use Rattle.std.proofs.Common.{◌≡◌, ℕ, true, false, List, None, Some, Ok, Err, ◌⊎◌, inl, inr, ap, sym, ◌∙◌}
-use Rattle.std.specs.Prelude.{if◌then◌else◌, option_map}
+use Rattle.std.proofs.Common.{◌≡◌, ℕ, true, false, List, None, Some, Result, Ok, Err, ◌⊎◌, inl, inr, ap, sym, ◌∙◌}
+use Rattle.std.specs.Prelude.{if◌then◌else◌, option_map, IfOk}
 use Rattle.std.specs.Option.{option_or}
 use Rattle.step_model.specs.declared.fault.Cause.TheVariants as cause
 use Rattle.step_model.specs.declared.fault.Fault.{Fault}
@@ -60,3 +60,8 @@ refused-model text t f w (inr r) = inr (written-model text t w ∙ r)
 pub refused-lines : (text : List ℕ) (f : Fault) → (f ≡ memory_fault) ⊎ IsRefusedBy text f → (f ≡ memory_fault) ⊎ (model_in text ≡ Err f)
 refused-lines text f (inl m) = inl m
 refused-lines text f (inr r) = inr (refused-text text f r)
+
+-- what two clauses say of an answer together
+pub both-ok : {X E : Type 0} (P Q R : X → Type 0) → ((x : X) → P x → Q x → R x) → (r : Result X E) → IfOk r P → IfOk r Q → IfOk r R
+both-ok P Q R both (Ok x) p q = both x p q
+both-ok P Q R both (Err e) p q = tt

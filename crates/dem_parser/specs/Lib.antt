@@ -5,6 +5,7 @@ pub mod Sums
 pub mod Offsets
 pub mod Numbered
 pub mod Summed
+pub mod Chains
 pub mod Marked
 pub mod Tables
 pub mod Standing

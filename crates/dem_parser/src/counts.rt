@@ -1,5 +1,6 @@
-ghost use Rattle.std.specs.Prelude.{◌≡◌, false, max};
+ghost use Rattle.std.specs.Prelude.{◌≡◌, ◌+◌, ◌<◌, ◌^◌, false, max};
 ghost use Rattle.dem_lines.specs.Limits.{has_target_beyond, is_target_beyond};
+ghost use Rattle.dem_parser.specs.Chains.{counted_with, is_shift};
 ghost use Rattle.dem_parser.specs.Meanings.{detectors_to, greatest_of, is_error, observables_to};
 
 use dem_lines::{Operation, Target};
@@ -15,6 +16,13 @@ pub(crate) struct Extent {
 pub(crate) const NONE: Extent = Extent {
     detectors: 0,
     observables: 0,
+};
+
+/// Of no lines.
+pub(crate) const NO_LINES: LineCounts = LineCounts {
+    detectors: 0,
+    observables: 0,
+    errors: 0,
 };
 
 /// How many detectors and observables lines name, up to the greatest, and how many of them are error lines.
@@ -78,4 +86,31 @@ pub(crate) fn is_error(operation: Operation) -> bool
     ensures { result ≡ is_error operation }
 {
     matches!(operation, Operation::Errs)
+}
+
+/// Whether a line shifts those that follow.
+#[inline(always)]
+pub(crate) fn is_shift(operation: Operation) -> bool
+    ensures { result ≡ is_shift operation }
+{
+    matches!(operation, Operation::Shifts)
+}
+
+impl LineCounts {
+    /// These counts with those of a line of this kind, whose detectors aren't shifted.
+    #[inline(always)]
+    pub(crate) fn with(self, operation: Operation, extent: Extent) -> LineCounts
+        requires { self.errors + 1 < 2 ^ 64 }
+        ensures { result ≡ counted_with self operation extent }
+    {
+        let mut errors = self.errors;
+        if is_error(operation) {
+            errors += 1;
+        }
+        LineCounts {
+            detectors: self.detectors.max(extent.detectors),
+            observables: self.observables.max(extent.observables),
+            errors,
+        }
+    }
 }

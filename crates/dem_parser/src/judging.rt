@@ -6,7 +6,7 @@ ghost use Rattle.dem_lines.specs.Texts.{refused};
 ghost use Rattle.dem_parser.specs.Models.{first_beyond, is_beyond, placed_lines};
 ghost use Rattle.dem_parser.specs.Summed.{AreCounts, HasCounted};
 
-use crate::counts::LineCounts;
+use crate::counts::{LineCounts, NO_LINES};
 use crate::placed_line::PlacedLine;
 use crate::table::LineTable;
 use crate::walk::Walk;
@@ -51,11 +51,7 @@ pub(crate) fn counts_of<A: Allocator + Copy>(
     ensures err { IfErr result (λ fault. (fault ≡ memory_fault) ⊎ (option_map (refused cause.DemNumber) (first_beyond (placed_lines table.now)) ≡ Some fault)) }
 {
     let mut room = Vec::new(alloc);
-    let mut counts = LineCounts {
-        detectors: 0,
-        observables: 0,
-        errors: 0,
-    };
+    let mut counts = NO_LINES;
     let mut walk = Walk::new(table);
     while let Some(line) = walk.line() {
         match counts_past(&mut room, counts, &line) {

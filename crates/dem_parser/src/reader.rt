@@ -1,8 +1,10 @@
 ghost use Rattle.std.specs.Prelude.{◌≡◌, ◌⊎◌, IfOk, IfErr, Ok, Err};
 ghost use Rattle.step_model.specs.Faults.{memory_fault};
 ghost use Rattle.dem_parser.specs.Models.{model_in, model_of_tree};
+ghost use Rattle.dem_parser.specs.Summed.{IsJudged};
 
 use crate::build::model_of;
+use crate::counts::LineCounts;
 use crate::judging::counts_of;
 use crate::placed_model::PlacedModel;
 use crate::reading::read_lines;
@@ -12,25 +14,22 @@ use dem_text::Model;
 use std::alloc::Allocator;
 use step_model::{Cause, Fault};
 
-/// The error model of lines and blocks, or its refusal.
-fn place_lines<'a, A: Allocator + Copy>(
-    alloc: A,
-    table: LineTable<'a, A>,
-) -> Result<PlacedModel<'a, A>, Fault>
-    ensures ok { IfOk result (λ model. model_of_tree table.entry ≡ Ok model) }
-    ensures err { IfErr result (λ fault. (fault ≡ memory_fault) ⊎ (model_of_tree table.entry ≡ Err fault)) }
+/// The counts of the lines as they are reached, or the refusal of their numbers.
+fn judged<A: Allocator + Copy>(alloc: A, table: &LineTable<'_, A>) -> Result<LineCounts, Fault>
+    ensures ok { IfOk result (λ counts. IsJudged table.now counts.detectors counts.observables counts.errors) }
+    ensures err { IfErr result (λ fault. (fault ≡ memory_fault) ⊎ (model_of_tree table.now ≡ Err fault)) }
 {
-    if has_many_lines(&table) {
+    table.fits();
+    if let Some(counts) = table.chain_counts() {
+        return Ok(counts);
+    }
+    if has_many_lines(table) {
         return Err(Fault {
             cause: Cause::DemSteps,
             line: 0,
         });
     }
-    table.fits();
-    match counts_of(alloc, &table) {
-        Ok(counts) => Ok(PlacedModel { table, counts }),
-        Err(fault) => Err(fault),
-    }
+    counts_of(alloc, table)
 }
 
 /// The error model that a text writes, or its one refusal. The model's lines stay in the text. The cause is `Memory` only
@@ -40,7 +39,10 @@ pub fn place<'a, A: Allocator + Copy>(alloc: A, text: &'a [u8]) -> Result<Placed
     ensures err { IfErr result (λ fault. (fault ≡ memory_fault) ⊎ (model_in text.now ≡ Err fault)) }
 {
     match read_lines(alloc, text) {
-        Ok(table) => place_lines(alloc, table),
+        Ok(table) => match judged(alloc, &table) {
+            Ok(counts) => Ok(PlacedModel { table, counts }),
+            Err(fault) => Err(fault),
+        },
         Err(fault) => Err(fault),
     }
 }

@@ -3,8 +3,10 @@ ghost use Rattle.block_text.specs.Flat.{IsWritten};
 ghost use Rattle.dem_lines.specs.Fitting.{Fits, IsAccepted};
 ghost use Rattle.dem_lines.specs.Texts.{Does};
 ghost use Rattle.dem_lines.specs.Trees.{items_of};
+ghost use Rattle.dem_parser.specs.Chains.{IsChain};
 ghost use Rattle.dem_parser.specs.TableLines.{HasNoLine, IsTableLine, instruction_of, stand_of};
 
+use crate::counts::{LineCounts, NO_LINES, is_shift};
 use crate::kept_lines::KeptLines;
 use crate::table_line::{Stand, TableLine};
 use std::alloc::Allocator;
@@ -75,5 +77,22 @@ impl<'a, A: Allocator + Copy> LineTable<'a, A> {
             (λ line. (Some (Does (instruction_of line)) ≡ slice_get (items_of self.now) place) × IsTableLine line) }
     {
         self.lines.line_at(place)
+    }
+
+    /// The counts of all lines, where none of them shifts others or stands in a block: then they are reached as they stand.
+    pub(crate) fn chain_counts(&self) -> Option<LineCounts>
+        ensures { IfSome result (λ counts. IsChain (items_of self.now) counts) }
+    {
+        let mut counts = NO_LINES;
+        let mut place = self.len();
+        while place > 0 {
+            place -= 1;
+            let line = self.line_at(place)?;
+            if is_shift(line.operation) {
+                return None;
+            }
+            counts = counts.with(line.operation, line.extent);
+        }
+        Some(counts)
     }
 }
