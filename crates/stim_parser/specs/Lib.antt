@@ -7,6 +7,7 @@ pub mod Arguments
 pub mod Names
 pub mod Instructions
 pub mod Limits
+pub mod Parentheses
 pub mod Judging
 pub mod Verdicts
 pub mod Texts

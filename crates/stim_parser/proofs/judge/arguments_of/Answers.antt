@@ -7,7 +7,7 @@ use Rattle.stim_parser.proofs.judge.arguments_of.Goals as goal
 
 pub returns-then-are : goal.returns-then-are
 returns-then-are c =
-    right_probabilities c.args.causes c.args.greatest c.args.form (cut_in c.args.line) c.if-line.false (c.are.ensures c.if-are.true)
+    right_probabilities c.args.causes c.args.greatest c.args.form (cut_in c.args.line) c.if-line.false (c.are.ensures.right c.if-are.true)
 
 pub returns-then-is_empty : goal.returns-then-is_empty
 returns-then-is_empty c =
