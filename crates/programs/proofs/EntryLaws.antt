@@ -8,35 +8,6 @@ use Rattle.programs.specs.declared.entries.ChanceTable.{ChanceTable}
 use Rattle.programs.specs.declared.entries.EntryPart.{EntryPart}
 use Rattle.programs.specs.Entries.{chance_at, chance_of, entries_of, entry_from, Chance, IsNumbered, KeepsChances, TellsChances}
 
--- ---- parts
-pub chance_at-get_or : (parts : List EntryPart) (n : ℕ) (d : EntryPart) → n < length parts → chance_at parts n ≡ chance_of (get_or parts n d)
-chance_at-get_or [] n d h = absurd (omega (arith, h))
-chance_at-get_or (part ∷ parts) zero d h = refl
-chance_at-get_or (part ∷ parts) (suc n) d h = chance_at-get_or parts n d (omega (arith, h))
-
-chance_at-more : (parts more : List EntryPart) (n : ℕ) → n < length parts → chance_at (parts ++ more) n ≡ chance_at parts n
-chance_at-more [] more n h = absurd (omega (arith, h))
-chance_at-more (part ∷ parts) more zero h = refl
-chance_at-more (part ∷ parts) more (suc n) h = chance_at-more parts more n (omega (arith, h))
-
-length-one_more : (parts : List EntryPart) (part : EntryPart) → length (parts ++ part ∷ []) ≡ length parts + 1
-length-one_more [] part = refl
-length-one_more (other ∷ parts) part = ap suc (length-one_more parts part) ∙ (let e : suc (length parts + 1) ≡ suc (length parts) + 1 = omega arith in e)
-
-pub last_chance : (parts : List EntryPart) (part : EntryPart) → chance_at (parts ++ part ∷ []) (length parts) ≡ chance_of part
-last_chance [] part = refl
-last_chance (other ∷ parts) part = last_chance parts part
-
-pub keeps_same : (old new : List EntryPart) → new ≡ old → KeepsChances old new
-keeps_same old new is = λ n h. (omega (arith, h, ap length is), ap (λ (parts : List EntryPart). chance_at parts n) is)
-
-pub keeps_pushed : (old new : List EntryPart) (part : EntryPart) → new ≡ old ++ part ∷ [] → KeepsChances old new
-keeps_pushed old new part is =
-    λ n h. (omega (arith, h, ap length is, length-one_more old part), ap (λ (parts : List EntryPart). chance_at parts n) is ∙ chance_at-more old (part ∷ []) n h)
-
-pub pushed_within : (old new : List EntryPart) (part : EntryPart) → new ≡ old ++ part ∷ [] → length old < length new
-pushed_within old new part is = omega (arith, ap length is, length-one_more old part)
-
 -- ---- entries
 pub length-entries_of : (parts : List EntryPart) (numbers : List ℕ) (lists : List (List Term)) → length numbers ≡ length lists → length (entries_of parts numbers lists) ≡ length numbers
 length-entries_of parts [] lists h = refl
