@@ -1,17 +1,19 @@
 //! What was found last: lines that follow one another often have the same name, and the same in their parentheses.
-ghost use Rattle.std.specs.Prelude.{◌≡◌, ◌≢◌, [], true, false, if◌then◌else◌, MatchBool};
+ghost use Rattle.std.specs.Prelude.{◌≡◌, ◌≢◌, [], true, option_map, MatchBool};
 ghost use Rattle.step_model.specs.Probabilities.{probability_bound};
+ghost use Rattle.chances.specs.Chances.{chance_of};
 ghost use Rattle.stim_parser.specs.declared.forms.ArgumentForm.TheVariants.{ProbabilityAtWill};
 ghost use Rattle.stim_parser.specs.Arguments.{arguments_in};
 ghost use Rattle.stim_parser.specs.Instructions.{keyword_named};
-ghost use Rattle.stim_parser.specs.Limits.{AreProbabilities, has_wrong_arguments, has_wrong_probability, takes_probability};
+ghost use Rattle.stim_parser.specs.Limits.{AreProbabilities};
+ghost use Rattle.stim_parser.specs.Probabilities.{chance_in};
 
-use crate::argument_checks::takes_probability;
 use crate::forms::ArgumentForm;
 use crate::names::keyword_named;
 use crate::operation::Operation;
 use crate::probability::Probability;
 use crate::table::Keyword;
+use chances::ChanceText;
 use std::marker::Model;
 
 /// The name that was looked up last, and what it names. Contracts see the name.
@@ -115,18 +117,23 @@ impl<'a> LastProbability<'a> {
 pub struct LastParentheses<'a> {
     form: ArgumentForm,
     text: &'a [u8],
+    // The probability, where there is one.
+    chance: Option<ChanceText<'a>>,
 }
 
 impl<'a> Model for LastParentheses<'a> {
+    ghost use Rattle.std.specs.Prelude.{◌≡◌, option_map};
+    ghost use Rattle.chances.specs.Chances.{chance_of};
     ghost use Rattle.stim_parser.specs.Arguments.{arguments_in};
     ghost use Rattle.stim_parser.specs.Limits.{AreProbabilities};
     ghost use Rattle.stim_parser.specs.Parentheses.{Parentheses};
+    ghost use Rattle.stim_parser.specs.Probabilities.{chance_in};
 
     ghost Value = { Parentheses };
 
     ghost view = { λ last. record { form = last.form; text = last.text.now } };
 
-    ghost invariant = { λ last. AreProbabilities last.form (arguments_in last.text.now) };
+    ghost invariant = { λ last. (AreProbabilities last.form (arguments_in last.text.now)) × (option_map chance_of last.chance ≡ chance_in (arguments_in last.text.now)) };
 }
 
 impl<'a> LastParentheses<'a> {
@@ -137,6 +144,7 @@ impl<'a> LastParentheses<'a> {
         LastParentheses {
             form: ArgumentForm::ProbabilityAtWill,
             text: &[],
+            chance: None,
         }
     }
 
@@ -151,15 +159,25 @@ impl<'a> LastParentheses<'a> {
         self.form == form && self.text == text
     }
 
-    /// Keeps the arguments of a line with which nothing is wrong, where they are probabilities.
-    pub fn keep(&mut self, form: ArgumentForm, text: &'a [u8])
-        requires arguments { has_wrong_arguments form (arguments_in text.now) ≡ false }
-        requires probability { has_wrong_probability form (arguments_in text.now) ≡ false }
-        ensures { self.new ≡ (if takes_probability form then record { form = form; text = text.now } else self.old) }
+    /// The probability that stood there, where there was one.
+    pub(crate) fn chance(&self) -> Option<ChanceText<'a>>
+        ensures { option_map chance_of result ≡ chance_in (arguments_in self.now.text) }
     {
-        if takes_probability(form) {
-            *self = LastParentheses { form, text };
-        }
+        self.chance
+    }
+
+    /// Keeps the arguments of a line that are probabilities, with which nothing is wrong, and the first of them.
+    pub(crate) fn keep(
+        &mut self,
+        form: ArgumentForm,
+        text: &'a [u8],
+        chance: Option<ChanceText<'a>>,
+    )
+        requires right { AreProbabilities form (arguments_in text.now) }
+        requires chance { option_map chance_of chance ≡ chance_in (arguments_in text.now) }
+        ensures { self.new ≡ record { form = form; text = text.now } }
+    {
+        *self = LastParentheses { form, text, chance };
     }
 }
 
