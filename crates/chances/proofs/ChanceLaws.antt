@@ -1,7 +1,7 @@
 -- The texts of probabilities by their numbers, and one text more.
-use Rattle.std.proofs.Common.{◌≡◌, ℕ, zero, suc, ◌+◌, ◌<◌, List, [], ◌∷◌, ◌++◌, length, get_or, refl, ap, ◌∙◌, arith}
+use Rattle.std.proofs.Common.{◌≡◌, ℕ, zero, suc, ◌+◌, ◌<◌, List, [], ◌∷◌, ◌++◌, length, map, get_or, refl, ap, ◌∙◌, arith}
 use Rattle.chances.specs.declared.table.ChanceText.{ChanceText}
-use Rattle.chances.specs.Chances.{chance_at, chance_of, KeepsChances}
+use Rattle.chances.specs.Chances.{chance_at, chance_of, no_chance, KeepsChances}
 
 pub chance_at-get_or : (parts : List ChanceText) (n : ℕ) (d : ChanceText) → n < length parts → chance_at parts n ≡ chance_of (get_or parts n d)
 chance_at-get_or [] n d h = absurd (omega (arith, h))
@@ -30,3 +30,8 @@ keeps_pushed old new part is =
 
 pub pushed_within : (old new : List ChanceText) (part : ChanceText) → new ≡ old ++ part ∷ [] → length old < length new
 pushed_within old new part is = omega (arith, ap length is, length-one_more old part)
+
+pub chance_at-map : (parts : List ChanceText) (n : ℕ) → chance_at parts n ≡ get_or (map chance_of parts) n no_chance
+chance_at-map [] n = refl
+chance_at-map (part ∷ parts) zero = refl
+chance_at-map (part ∷ parts) (suc n) = chance_at-map parts n
