@@ -1,4 +1,4 @@
-ghost use Rattle.std.specs.Prelude.{◌≡◌, ◌<◌, ◌≤◌, ◌+◌, true, length, IfOk, IfSome};
+ghost use Rattle.std.specs.Prelude.{◌≡◌, ◌<◌, ◌≤◌, ◌+◌, true, length, IfOk, IfSome, OnErr};
 ghost use Rattle.chances.specs.Chances.{chance_at, chance_of, KeepsChances};
 
 use std::alloc::{AllocError, Allocator};
@@ -24,6 +24,7 @@ pub fn number_of<'a, A: Allocator + Copy>(
     ensures few { length texts.new.items ≤ length texts.old.items + 1 }
     ensures within { IfOk result (λ n. n < length texts.new.items) }
     ensures named { IfOk result (λ n. chance_at texts.new.items n ≡ record { text = text.now; bound = bound }) }
+    ensures err { OnErr result (texts.new.items ≡ texts.old.items) }
 {
     if let Some(number) = latest(texts.as_slice(), text, bound) {
         return Ok(number);

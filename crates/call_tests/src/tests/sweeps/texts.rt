@@ -7,13 +7,11 @@ use forward_sim::{read_coins, read_numbers};
 use plain_models::PlainModel;
 use programs::Program;
 use step_model::Fault;
-use stim_parser::Circuit;
-use unroll::{read_program, unroll};
+use unroll::read_program;
 
 #[derive(Clone, Copy, Debug)]
 pub(super) enum Reader {
     Circuit,
-    Unrolled,
     Program,
     ModelLines,
     Model,
@@ -24,9 +22,8 @@ pub(super) enum Reader {
     Numbers,
 }
 
-pub(super) const READERS: [Reader; 10] = [
+pub(super) const READERS: [Reader; 9] = [
     Reader::Circuit,
-    Reader::Unrolled,
     Reader::Program,
     Reader::ModelLines,
     Reader::Model,
@@ -42,7 +39,6 @@ impl Call for Reader {
         let memory = ration.begin();
         match self {
             Reader::Circuit => tree_is_right(memory),
-            Reader::Unrolled => unrolled_is_right(memory, lent.circuit),
             Reader::Program => program_is_right(memory),
             Reader::ModelLines => lines_are_right(memory),
             Reader::Model => model_is_right(memory),
@@ -80,14 +76,6 @@ fn is_program<'m>(program: &Program<'_, Memory<'m>>) -> bool {
 
 fn is_model<'m>(model: &Model<'_, Memory<'m>>) -> bool {
     model.line_count() == 10 && model.detector_count() == 5 && model.observable_count() == 2
-}
-
-fn unrolled_is_right<'m>(
-    memory: Memory<'m>,
-    circuit: &Circuit<'static, Memory<'m>>,
-) -> Result<bool, Fault> {
-    let program = unroll(memory, circuit)?;
-    Ok(is_program(&program))
 }
 
 fn program_is_right(memory: Memory<'_>) -> Result<bool, Fault> {
