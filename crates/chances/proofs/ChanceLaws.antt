@@ -21,15 +21,9 @@ pub last_chance : (parts : List ChanceText) (part : ChanceText) → chance_at (p
 last_chance [] part = refl
 last_chance (other ∷ parts) part = last_chance parts part
 
-pub keeps_same : (old new : List ChanceText) → new ≡ old → KeepsChances old new
-keeps_same old new is = λ n h. (omega (arith, h, ap length is), ap (λ (parts : List ChanceText). chance_at parts n) is)
-
 pub keeps_pushed : (old new : List ChanceText) (part : ChanceText) → new ≡ old ++ part ∷ [] → KeepsChances old new
 keeps_pushed old new part is =
     λ n h. (omega (arith, h, ap length is, length-one_more old part), ap (λ (parts : List ChanceText). chance_at parts n) is ∙ chance_at-more old (part ∷ []) n h)
-
-pub pushed_within : (old new : List ChanceText) (part : ChanceText) → new ≡ old ++ part ∷ [] → length old < length new
-pushed_within old new part is = omega (arith, ap length is, length-one_more old part)
 
 pub chance_at-map : (parts : List ChanceText) (n : ℕ) → chance_at parts n ≡ get_or (map chance_of parts) n no_chance
 chance_at-map [] n = refl

@@ -1,5 +1,5 @@
 -- Entries, by their number, and one entry more.
-use Rattle.std.proofs.Common.{◌≡◌, ℕ, zero, suc, ◌<◌, List, [], ◌∷◌, ◌++◌, length, get_or, Result, Ok, Err, OnErr, refl, subst, sym, ap, ap₂, ◌∙◌, arith}
+use Rattle.std.proofs.Common.{◌≡◌, ℕ, zero, suc, ◌<◌, List, [], ◌∷◌, ◌++◌, length, get_or, refl, subst, sym, ap, ap₂, ◌∙◌, arith}
 use Rattle.std.specs.Prelude.{All}
 use Rattle.std.proofs.Math.Nat.{suc_inj}
 use Rattle.step_model.specs.declared.step.Term.{Term}
@@ -73,8 +73,3 @@ tells parts numbers lists {entries} table view are numbers_are parts_are =
           ap₂ (λ (ps : List ChanceText) (ns : List ℕ). (get_or ps (get_or ns e d) other).bound) parts_are numbers_are
           ∙ (is_entry parts numbers lists e view are h).bound d other;
     }
-
--- what holds anyway holds where a call fails
-pub on_err_any : {V E P : Type 0} (r : Result V E) → P → OnErr r P
-on_err_any (Ok v) p = tt
-on_err_any (Err e) p = p

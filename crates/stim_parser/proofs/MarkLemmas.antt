@@ -11,8 +11,7 @@ use Rattle.block_text.specs.Said.{reading_in}
 use Rattle.block_text.specs.Trees.{Item, Does, Begins, Ends}
 use Rattle.block_text.specs.Unfinished.{line_items}
 use Rattle.stim_parser.specs.Judging.{Table}
-use Rattle.stim_parser.specs.Parentheses.{Parentheses}
-use Rattle.stim_parser.specs.Probabilities.{AreMarked, IsMarked, Keeps, Marks, Remembers, SaidMarked, TakesNothing, chance_taken, instruction_count, taken_count}
+use Rattle.stim_parser.specs.Probabilities.{AreMarked, IsMarked, Keeps, Marks, SaidMarked, chance_taken, instruction_count, taken_count}
 
 -- ---- more texts
 
@@ -90,14 +89,6 @@ begun-keeps {O} {T} table old new was is number said mark targets kept keeps few
     subst (λ (m : Marked (Instruction O T)). Keeps table new m)
     (sym (ap₂ (λ (xs : List (Item (Instruction O T))) (ms : List ℕ). let m : Marked (Instruction O T) = record { items = xs; marks = ms } in m) items marks))
     (line-keeps table old new was.items was.marks number said mark targets kept keeps few marked)
-
--- ---- what stood between the last parentheses
-
-pub nothing_remembered : {O T F : Type 0} (table : Table O T F) (said : Said O) (last : Parentheses) → TakesNothing said → Remembers table said last
-nothing_remembered table (said.Takes operation arguments) last h = absurd h
-nothing_remembered table (said.Opens turns) last h = tt
-nothing_remembered table said.Closes last h = tt
-nothing_remembered table (said.Refuses c) last h = tt
 
 -- ---- a mark is read
 

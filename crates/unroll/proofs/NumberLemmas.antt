@@ -1,15 +1,13 @@
 -- The mark of each instruction of an accepted circuit is the number of its probability.
-use Rattle.std.proofs.Common.{◌≡◌, ◌<◌, ◌≤◌, ◌^◌, ◌==◌, ℕ, not, true, false, List, [], ◌∷◌, ◌++◌, length, map, get_or, Option, None, Some, refl, sym, ap, subst, ◌∙◌, append-nil, arith}
+use Rattle.std.proofs.Common.{◌≡◌, ◌<◌, ◌≤◌, ◌^◌, ◌==◌, ℕ, not, true, List, [], ◌∷◌, length, map, get_or, Option, None, Some, refl, sym, ap, subst, ◌∙◌, arith}
 use Rattle.std.specs.Prelude.{is_some, slice_get, unwrap_or}
 use Rattle.std.specs.List.{list_all}
 use Rattle.std.proofs.lemmas.Bool.{and_parts, not-false, or_parts}
 use Rattle.std.proofs.lemmas.List.{length-map}
 use Rattle.chances.specs.declared.table.ChanceText.{ChanceText}
-use Rattle.chances.specs.Chances.{Chance, chance_at, chance_of}
+use Rattle.chances.specs.Chances.{Chance, chance_of}
 use Rattle.chances.proofs.ChanceLaws.{chance_at-map}
 use Rattle.block_text.specs.Marked.{Marked}
-use Rattle.programs.specs.Entries.{Gathered, with_entry}
-use Rattle.step_model.specs.Listing.{Kept}
 use Rattle.step_model.specs.Probabilities.{probability_bound}
 use Rattle.stim_parser.specs.declared.operation.Operation.{Operation}
 use Rattle.stim_parser.specs.declared.operation.Operation.TheVariants.{Measures, MeasuresAndResets, MeasuresProducts, Errs, ErrsTogether}
@@ -21,8 +19,8 @@ use Rattle.stim_parser.specs.Trees.{Tree, items_of}
 use Rattle.stim_parser.specs.Verdicts.{Instruction, circuit_table}
 use Rattle.stim_parser.proofs.MarkLemmas.{marked_at}
 use Rattle.unroll.specs.Items.{IsSound}
-use Rattle.unroll.specs.Kept.{first_argument, flip_entries}
-use Rattle.unroll.specs.Numbered.{IsFlipNumber, IsItemNumber, IsNumberOf, IsOperationNumber, chance_from, with_entries}
+use Rattle.unroll.specs.Kept.{first_argument}
+use Rattle.unroll.specs.Numbered.{IsFlipNumber, IsItemNumber, IsNumberOf, IsOperationNumber, chance_from}
 use Rattle.unroll.specs.Totals.{step_total}
 use Rattle.unroll.proofs.ItemLemmas.{fits_at}
 use Rattle.unroll.proofs.RoomLemmas.{counted_once, counted_once-tree}
@@ -89,18 +87,3 @@ number_at t texts read i item circuit steps same keeps got =
     omega (arith, keeps.few, few_instructions read.items, ap counted_once same, counted_once-tree t circuit.fit, steps) in
     item_number texts item (get_or read.marks i 0) (fits_at t i item circuit (got ∙ ap (λ (items : List Item). slice_get items i) same)) few
     (marked_at circuit_table texts read.items read.marks i item keeps.marked got)
-
--- ---- a measurement's entry
-
-pub flip_there : (chances : List Chance) (arguments : List (List ℕ)) (mark : ℕ) → is_some (slice_get arguments 0) ≡ true → IsFlipNumber chances arguments mark → mark < length chances
-flip_there chances [] mark h is = absurd cc
-flip_there chances (p ∷ rest) mark h is = is.there
-
-pub flip_kept : (g : Gathered) (arguments : List (List ℕ)) (mark : ℕ) → is_some (slice_get arguments 0) ≡ true → IsFlipNumber g.chances arguments mark → with_entry mark [] g ≡ with_entries (flip_entries arguments) g
-flip_kept g [] mark h is = absurd cc
-flip_kept g (p ∷ rest) mark h is =
-    ap (λ (chance : Chance). let made : Gathered = record { chances = g.chances; kept = g.kept ++ record { text = chance.text; bound = chance.bound; terms = [] } ∷ [] } in made) is.named
-
-pub no_flip : (g : Gathered) (arguments : List (List ℕ)) → is_some (slice_get arguments 0) ≡ false → g ≡ with_entries (flip_entries arguments) g
-no_flip g [] h = ap (λ (ks : List Kept). let made : Gathered = record { chances = g.chances; kept = ks } in made) (sym (append-nil g.kept))
-no_flip g (p ∷ rest) h = absurd cc

@@ -5,7 +5,7 @@ use Rattle.std.specs.Prelude.{◌≡◌}
 use Rattle.programs.specs.declared.program.Parts.{Parts}
 use Rattle.programs.specs.declared.step.Counts.{Counts}
 use Rattle.programs.specs.Made.{text_steps}
-use Rattle.programs.specs.Trees.{IsCircuit, tree_of, unrolled}
+use Rattle.programs.specs.Trees.{IsCircuit}
 use Rattle.stim_parser.specs.Trees.{Tree}
 use Rattle.unroll.specs.declared.assembly.Lists.{Lists}
 use Rattle.unroll.specs.Coordinates.{coordinates_of}

@@ -10,9 +10,11 @@ use Rattle.unroll.proofs.NumberLemmas.{number_at}
 use Rattle.unroll.proofs.writing.written_of.Goals as goal
 
 pub loop-i-init : goal.loop-i-init
-loop-i-init g c =
-    (subst (λ (d : Draft). IsDrafting c.args.circuit 0 d) (sym c.new-writing.ensures.draft)
-    (drafting-first c.args.circuit c.numbered-items.ensures.fits c.requires.near c.requires.few_records), refl)
+loop-i-init g c = (
+  subst (λ (d : Draft). IsDrafting c.args.circuit 0 d) (sym c.new-writing.ensures.draft)
+      (drafting-first c.args.circuit c.numbered-items.ensures.fits c.requires.near c.requires.few_records),
+  refl,
+)
 
 pub write_item-requires-clause-can : goal.write_item-requires-clause-can
 write_item-requires-clause-can g c =
@@ -28,10 +30,12 @@ write_item-requires-clause-number g c =
     (subst (λ mark. IsItemNumber (map chance_of read.texts.items) item mark) (sym c.get.ensures.mark) number)
 
 pub loop-i-preserved : goal.loop-i-preserved
-loop-i-preserved g c =
-    (drafting-next c.args.circuit c.loop-i.i (draft_of c.loop-i.writing) _ (item_in c.get.result) c.loop-i.invariant.0
-    (c.get.ensures.item ∙ ap (λ (items : List Item). slice_get items c.loop-i.i) c.numbered-items.ensures.items)
-    c.in_ok-write_item.ensures.writes, c.in_ok-write_item.ensures.chances ∙ c.loop-i.invariant.1)
+loop-i-preserved g c = (
+  drafting-next c.args.circuit c.loop-i.i (draft_of c.loop-i.writing) _ (item_in c.get.result) c.loop-i.invariant.0
+      (c.get.ensures.item ∙ ap (λ (items : List Item). slice_get items c.loop-i.i) c.numbered-items.ensures.items)
+      c.in_ok-write_item.ensures.writes,
+  c.in_ok-write_item.ensures.chances ∙ c.loop-i.invariant.1,
+)
 
 pub finish-requires : goal.finish-requires
 finish-requires g c =

@@ -1,5 +1,4 @@
-use Rattle.std.proofs.Common.{◌≡◌, map}
-use Rattle.chances.specs.Chances.{chance_of}
+use Rattle.std.proofs.Common.{◌≡◌}
 use Rattle.unroll.specs.Drafts.{draft_of}
 use Rattle.unroll.proofs.DraftLemmas.{IsDrafting}
 use Rattle.unroll.proofs.writing.written_of.Given as goal
