@@ -7,27 +7,27 @@ use Rattle.std.proofs.lemmas.Grind.{get_or_default_zero}
 use Rattle.std.proofs.Math.Seq.{get_or-append_seam}
 use Rattle.step_model.specs.Listing.{Listing, kept_at}
 use Rattle.programs.specs.declared.entries.ChanceTable.{ChanceTable}
-use Rattle.programs.specs.declared.entries.EntryPart.{EntryPart}
+use Rattle.chances.specs.declared.table.ChanceText.{ChanceText}
 use Rattle.dem_text.specs.ErrorLines.{text_at, KeepsTexts}
 use Rattle.dem_text.specs.HeldText.{Held}
 use Rattle.backward.specs.Numbered.{AreNumbers, IsTextFor}
 
-abbrev Names : List EntryPart → List (List ℕ) → EntryPart → ℕ → ℕ → Type 0
+abbrev Names : List ChanceText → List (List ℕ) → ChanceText → ℕ → ℕ → Type 0
 Names parts texts other k n = (n < length texts) × (text_at texts n ≡ (get_or parts k other).text.now)
 
 -- numbers stay where more texts are kept
-pub numbers_kept : (parts : List EntryPart) (old new : List (List ℕ)) (numbers : List ℕ) → KeepsTexts old new → AreNumbers parts old numbers → AreNumbers parts new numbers
+pub numbers_kept : (parts : List ChanceText) (old new : List (List ℕ)) (numbers : List ℕ) → KeepsTexts old new → AreNumbers parts old numbers → AreNumbers parts new numbers
 numbers_kept parts old new numbers keeps are k other h =
     let was = are k other h in
     let kept = keeps (get_or numbers k 0) was.0 in
     (kept.0, kept.1 ∙ was.1)
 
 -- the number of one part more
-pub numbers_more : (parts : List EntryPart) (texts : List (List ℕ)) (numbers : List ℕ) (n e : ℕ) → AreNumbers parts texts numbers → length numbers ≡ e → n < length texts → ((other : EntryPart) → text_at texts n ≡ (get_or parts e other).text.now) → AreNumbers parts texts (numbers ++ n ∷ [])
+pub numbers_more : (parts : List ChanceText) (texts : List (List ℕ)) (numbers : List ℕ) (n e : ℕ) → AreNumbers parts texts numbers → length numbers ≡ e → n < length texts → ((other : ChanceText) → text_at texts n ≡ (get_or parts e other).text.now) → AreNumbers parts texts (numbers ++ n ∷ [])
 numbers_more parts texts numbers n e are at within named =
     λ k other h. by_place k other (eq-or-lt_of_le (let le : k ≤ length numbers = omega (arith, h, length-append numbers (n ∷ [])) in le))
   where
-    by_place : (k : ℕ) (other : EntryPart) → (k ≡ length numbers) ⊎ (k < length numbers) → Names parts texts other k (get_or (numbers ++ n ∷ []) k 0)
+    by_place : (k : ℕ) (other : ChanceText) → (k ≡ length numbers) ⊎ (k < length numbers) → Names parts texts other k (get_or (numbers ++ n ∷ []) k 0)
     by_place k other (inl is) =
         let last : n ≡ get_or (numbers ++ n ∷ []) k 0 = sym (ap (λ i. get_or (numbers ++ n ∷ []) i 0) is ∙ get_or-append_seam numbers n [] 0) in
         let part : e ≡ k = sym at ∙ sym is in
@@ -36,7 +36,7 @@ numbers_more parts texts numbers n e are at within named =
         subst (λ i. Names parts texts other k i) (sym (get_or_append_left numbers (n ∷ []) 0 k lt)) (are k other lt)
 
 -- a part that is there
-part_at : (parts : List EntryPart) (k : ℕ) → k < length parts → EntryPart
+part_at : (parts : List ChanceText) (k : ℕ) → k < length parts → ChanceText
 part_at [] k h = absurd (omega (arith, h))
 part_at (part ∷ parts) zero h = part
 part_at (part ∷ parts) (suc k) h = part_at parts k (omega (arith, h))

@@ -2,7 +2,7 @@
 -- error lines. (How they are kept is this project's own.)
 use Rattle.std.specs.Prelude.{◌≡◌, ◌<◌, ℕ, List, length, slice_index_or}
 use Rattle.programs.specs.declared.entries.ChanceTable.{ChanceTable}
-use Rattle.programs.specs.declared.entries.EntryPart.{EntryPart}
+use Rattle.chances.specs.declared.table.ChanceText.{ChanceText}
 use Rattle.programs.specs.Entries.{TellsChances}
 use Rattle.step_model.specs.Listing.{Listing}
 use Rattle.step_model.specs.Targets.{targets_of}
@@ -10,9 +10,9 @@ use Rattle.dem_text.specs.ErrorLines.{text_at}
 use Rattle.dem_text.specs.HeldText.{Held}
 
 -- these are the numbers of the texts of the first parts
-abbrev pub AreNumbers : List EntryPart → List (List ℕ) → List ℕ → Type 0
+abbrev pub AreNumbers : List ChanceText → List (List ℕ) → List ℕ → Type 0
 AreNumbers parts texts numbers =
-    (k : ℕ) (other : EntryPart) → k < length numbers → (slice_index_or numbers k 0 < length texts) × (text_at texts (slice_index_or numbers k 0) ≡ (slice_index_or parts k other).text.now)
+    (k : ℕ) (other : ChanceText) → k < length numbers → (slice_index_or numbers k 0 < length texts) × (text_at texts (slice_index_or numbers k 0) ≡ (slice_index_or parts k other).text.now)
 
 -- each part of the table of a program's entries has a number, and the text is for the program's targets
 pub record IsTextFor (program : Listing) (table : ChanceTable) (numbers : List ℕ) (held : Held) : Type 0 where

@@ -7,8 +7,9 @@ ghost use Rattle.backward.specs.Numbered.{AreNumbers, IsTextFor};
 ghost use Rattle.dem_text.specs.HeldText.{HoldsLines};
 
 use crate::targets::target_count;
+use chances::ChanceText;
 use dem_text::{LinesText, Model};
-use programs::{ChanceTable, EntryPart, Program};
+use programs::{ChanceTable, Program};
 use std::alloc::{AllocError, Allocator};
 
 /// A store that lines are given to, one after another. After an error nothing is promised about what it holds.
@@ -85,7 +86,7 @@ impl<'p, 'a, A: Allocator + Copy> TextStore<'p, 'a, A> {
 // Keeps the text of each part, and answers its number for each.
 fn kept_numbers<'a, A: Allocator + Copy>(
     alloc: A,
-    parts: &[EntryPart<'a>],
+    parts: &[ChanceText<'a>],
     text: &mut LinesText<'a, A>,
 ) -> Result<Vec<usize, A>, AllocError>
     ensures numbers { IfOk result (λ numbers. AreNumbers parts.now text.new.texts numbers.items) }
@@ -101,7 +102,7 @@ fn kept_numbers<'a, A: Allocator + Copy>(
 
 // The same, with the numbers put in a list of none.
 fn keep_each<'a, A: Allocator + Copy>(
-    parts: &[EntryPart<'a>],
+    parts: &[ChanceText<'a>],
     text: &mut LinesText<'a, A>,
     numbers: &mut Vec<usize, A>,
 ) -> Result<(), AllocError>

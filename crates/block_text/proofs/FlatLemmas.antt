@@ -1,9 +1,10 @@
 -- Items kept flat: how many there are, which is at a place, and one more of them.
-use Rattle.std.proofs.Common.{◌≡◌, ℕ, zero, suc, ◌<◌, List, [], ◌∷◌, ◌++◌, length, get_or, Some, slice_get, refl, sym, ap, ◌∙◌, arith, length-append}
+use Rattle.std.proofs.Common.{◌≡◌, ℕ, zero, suc, ◌<◌, List, [], ◌∷◌, ◌++◌, length, map, get_or, Some, slice_get, refl, sym, ap, ◌∙◌, arith, length-append}
 use Rattle.std.proofs.Math.Nat.{suc_inj}
+use Rattle.std.proofs.lemmas.List.{map-append}
 use Rattle.block_text.specs.declared.items.Node.{Node}
 use Rattle.block_text.specs.Instructions.{Instruction}
-use Rattle.block_text.specs.Kept.{item_kept, items_kept}
+use Rattle.block_text.specs.Kept.{item_kept, items_kept, mark_kept}
 use Rattle.block_text.specs.Trees.{Item}
 
 pub length-items_kept : {O T : Type 0} (lists : List (List T)) (nodes : List (Node O)) → length nodes ≡ length lists → length (items_kept lists nodes) ≡ length nodes
@@ -33,7 +34,18 @@ item_at {O} {T} lists nodes {items} i n view same below is =
     ∙ slice_get-items_kept lists nodes i n same within
     ∙ ap (λ (m : Node O). Some (item_kept (get_or lists i []) m)) (sym is)
 
+marks-nodes : {O : Type 0} (nodes : List (Node O)) (i : ℕ) (n : Node O) → i < length nodes → n ≡ get_or nodes i n → get_or (map mark_kept nodes) i 0 ≡ mark_kept n
+marks-nodes [] i n below is = absurd (omega (arith, below))
+marks-nodes (other ∷ nodes) zero n below is = ap mark_kept (sym is)
+marks-nodes (other ∷ nodes) (suc i) n below is = marks-nodes nodes i n (omega (arith, below)) is
+
+-- its mark
+pub mark_at : {O T : Type 0} (lists : List (List T)) (nodes : List (Node O)) {items : List (Item (Instruction O T))} {marks : List ℕ} (i : ℕ) (n : Node O) → items_kept lists nodes ≡ items → map mark_kept nodes ≡ marks → length nodes ≡ length lists → i < length items → n ≡ get_or nodes i n → get_or marks i 0 ≡ mark_kept n
+mark_at lists nodes {items} {marks} i n view marked same below is =
+    let within : i < length nodes = omega (arith, length-items_kept lists nodes same, ap length view, below) in
+    ap (λ ms. get_or ms i 0) (sym marked) ∙ marks-nodes nodes i n within is
+
 -- what the methods' goals take
 pub ruleset counts = (length-items_kept)
 
-pub ruleset pushes = (length-append, items_kept-push)
+pub ruleset pushes = (length-append, items_kept-push, map-append)

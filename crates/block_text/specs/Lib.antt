@@ -8,3 +8,4 @@ pub mod Unfinished
 pub mod Passes
 pub mod Said
 pub mod Kept
+pub mod Marked

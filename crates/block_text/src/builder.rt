@@ -1,4 +1,5 @@
-ghost use Rattle.std.specs.Prelude.{◌≡◌, [], Some, length, IfOk, IfErr};
+ghost use Rattle.std.specs.Prelude.{◌≡◌, ◌++◌, [], Some, length, IfOk, IfErr};
+ghost use Rattle.block_text.specs.Marked.{line_marks};
 ghost use Rattle.block_text.specs.Said.{OpensFew, reading_in};
 ghost use Rattle.block_text.specs.Texts.{left_open};
 ghost use Rattle.block_text.specs.Unfinished.{after_line, cause_in};
@@ -22,17 +23,17 @@ pub struct Builder<'a, O: Copy, T: Copy, A: Allocator + Copy> {
 impl<'a, O: Copy, T: Copy, A: Allocator + Copy> Model for Builder<'a, O, T, A> {
     ghost use Rattle.std.specs.Prelude.{reverse};
     ghost use Rattle.block_text.specs.Instructions.{Instruction};
-    ghost use Rattle.block_text.specs.Unfinished.{Unfinished};
+    ghost use Rattle.block_text.specs.Marked.{Begun};
 
-    ghost Value = { Unfinished (Instruction O T) };
+    ghost Value = { Begun (Instruction O T) };
 
-    ghost view = { λ b. record { items = b.items; opened = reverse b.blocks.items } };
+    ghost view = { λ b. record { text = record { items = b.items.items; opened = reverse b.blocks.items }; marks = b.items.marks } };
 }
 
 impl<'a, O: Copy, T: Copy, A: Allocator + Copy> Builder<'a, O, T, A> {
     /// A text of which no line was read. Takes no memory.
     pub fn new(alloc: A) -> Self
-        ensures { result ≡ record { items = []; opened = [] } }
+        ensures { result ≡ record { text = record { items = []; opened = [] }; marks = [] } }
     {
         Builder {
             items: Items::new(alloc),
@@ -43,22 +44,24 @@ impl<'a, O: Copy, T: Copy, A: Allocator + Copy> Builder<'a, O, T, A> {
     /// How many blocks are open.
     #[inline(always)]
     pub fn depth(&self) -> usize
-        ensures { result ≡ length self.now.opened }
+        ensures { result ≡ length self.now.text.opened }
     {
         self.blocks.len()
     }
 
-    /// Adds what the line of a number says. Answers the cause where the line is refused. It fails only where memory runs
-    /// out; what was read before can't be used then.
+    /// Adds what the line of a number says, with a mark where it is an instruction. Answers the cause where the line is
+    /// refused. It fails only where memory runs out; what was read before can't be used then.
     pub fn take(
         &mut self,
         line: u64,
         said: Said<'a, O>,
+        mark: u32,
         targets: &[T],
     ) -> Result<Option<Cause>, AllocError>
-        requires { OpensFew (length self.old.opened) said }
+        requires { OpensFew (length self.old.text.opened) said }
         ensures refused { IfOk result (λ refused. refused ≡ cause_in (reading_in line said.entry targets.now)) }
-        ensures after { IfOk result (λ refused. self.new ≡ after_line line (reading_in line said.entry targets.now) self.old) }
+        ensures after { IfOk result (λ refused. self.new.text ≡ after_line line (reading_in line said.entry targets.now) self.old.text) }
+        ensures marks { IfOk result (λ refused. self.new.marks ≡ self.old.marks ++ line_marks said.entry mark) }
     {
         match said {
             Said::Takes {
@@ -69,6 +72,7 @@ impl<'a, O: Copy, T: Copy, A: Allocator + Copy> Builder<'a, O, T, A> {
                 operation,
                 arguments,
                 targets,
+                mark,
             })?,
             Said::Opens(turns) => {
                 self.items.begin(line, turns)?;
@@ -85,8 +89,9 @@ impl<'a, O: Copy, T: Copy, A: Allocator + Copy> Builder<'a, O, T, A> {
 
     /// The items that were read. Where a block is left open, the refusal for this cause, with the line of the innermost.
     pub fn finish(mut self, cause: Cause) -> Result<Items<'a, O, T, A>, Fault>
-        ensures ok { IfOk result (λ items. (self.entry.opened ≡ []) × (items ≡ self.entry.items)) }
-        ensures err { IfErr result (λ fault. left_open cause self.entry.opened ≡ Some fault) }
+        ensures opened { IfOk result (λ items. self.entry.text.opened ≡ []) }
+        ensures items { IfOk result (λ items. items ≡ record { items = self.entry.text.items; marks = self.entry.marks }) }
+        ensures err { IfErr result (λ fault. left_open cause self.entry.text.opened ≡ Some fault) }
     {
         match self.blocks.pop() {
             Some(line) => Err(Fault { cause, line }),

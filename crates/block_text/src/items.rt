@@ -1,5 +1,6 @@
-ghost use Rattle.std.specs.Prelude.{◌≡◌, ◌<◌, ◌++◌, [], ◌∷◌, Some, length, slice_get, OnOk, OnErr};
-ghost use Rattle.block_text.specs.Kept.{instruction_in, item_in, item_kept};
+ghost use Rattle.std.specs.Prelude.{◌≡◌, ◌<◌, [], Some, length, slice_get, slice_index_or, OnOk, OnErr};
+ghost use Rattle.block_text.specs.Kept.{instruction_in, item_in, item_kept, mark_in, mark_kept};
+ghost use Rattle.block_text.specs.Marked.{with_item};
 ghost use Rattle.block_text.specs.Trees.{Does, Begins, Ends};
 
 use flat_lists::FlatLists;
@@ -14,6 +15,8 @@ pub struct Instruction<'c, 'a, O, T> {
     /// Empty also where there are no parentheses.
     pub arguments: &'a [u8],
     pub targets: &'c [T],
+    /// What the reader of a format knows of the instruction by this number.
+    pub mark: u32,
 }
 
 /// What stands at a place of a text: an instruction, the start of a block with its line and turns, or the end of the
@@ -28,9 +31,10 @@ pub enum Item<'c, 'a, O, T> {
 /// What is kept of an item: all but the targets of an instruction.
 #[derive(Clone, Copy)]
 pub(crate) enum Node<'a, O> {
-    // An operation is small and stands first, beside the tag: so a node takes 32 bytes and not 40.
+    // An operation is small and stands first, beside the tag, and the mark beside both: so a node takes 32 bytes and not 40.
     Does {
         operation: O,
+        mark: u32,
         line: u64,
         arguments: &'a [u8],
     },
@@ -50,14 +54,14 @@ pub struct Items<'a, O: Copy, T: Copy, A: Allocator + Copy> {
 }
 
 impl<'a, O: Copy, T: Copy, A: Allocator + Copy> Model for Items<'a, O, T, A> {
-    ghost use Rattle.std.specs.Prelude.{◌≡◌, List, length};
+    ghost use Rattle.std.specs.Prelude.{◌≡◌, length, map};
     ghost use Rattle.block_text.specs.Instructions.{Instruction};
-    ghost use Rattle.block_text.specs.Kept.{items_kept};
-    ghost use Rattle.block_text.specs.Trees.{Item};
+    ghost use Rattle.block_text.specs.Kept.{items_kept, mark_kept};
+    ghost use Rattle.block_text.specs.Marked.{Marked};
 
-    ghost Value = { List (Item (Instruction O T)) };
+    ghost Value = { Marked (Instruction O T) };
 
-    ghost view = { λ i. items_kept i.targets i.nodes.items };
+    ghost view = { λ i. record { items = items_kept i.targets i.nodes.items; marks = map mark_kept i.nodes.items } };
 
     ghost invariant = { λ i. length i.nodes.items ≡ length i.targets };
 }
@@ -65,7 +69,7 @@ impl<'a, O: Copy, T: Copy, A: Allocator + Copy> Model for Items<'a, O, T, A> {
 impl<'a, O: Copy, T: Copy, A: Allocator + Copy> Items<'a, O, T, A> {
     /// No items. Takes no memory.
     pub(crate) fn new(alloc: A) -> Self
-        ensures { result ≡ [] }
+        ensures { result ≡ record { items = []; marks = [] } }
     {
         Items {
             nodes: Vec::new(alloc),
@@ -77,7 +81,7 @@ impl<'a, O: Copy, T: Copy, A: Allocator + Copy> Items<'a, O, T, A> {
     #[inline(always)]
     #[tactic(auto, using(crate::proofs::FlatLemmas::counts))]
     pub fn len(&self) -> usize
-        ensures { result ≡ length self.now }
+        ensures { result ≡ length self.now.items }
     {
         self.nodes.len()
     }
@@ -85,7 +89,7 @@ impl<'a, O: Copy, T: Copy, A: Allocator + Copy> Items<'a, O, T, A> {
     // Appends an item with a copy of its targets.
     #[tactic(auto, using(crate::proofs::FlatLemmas::pushes))]
     fn keep(&mut self, node: Node<'a, O>, targets: &[T]) -> Result<(), AllocError>
-        ensures ok { OnOk result (self.new ≡ self.old ++ item_kept targets.now node.entry ∷ []) }
+        ensures ok { OnOk result (self.new ≡ with_item (item_kept targets.now node.entry) (mark_kept node.entry) self.old) }
         ensures err { OnErr result (self.new ≡ self.old) }
     {
         // Room for the node first, so that nothing changes where memory runs out.
@@ -97,11 +101,12 @@ impl<'a, O: Copy, T: Copy, A: Allocator + Copy> Items<'a, O, T, A> {
 
     /// Appends an instruction with a copy of its targets. It fails only where memory runs out.
     pub(crate) fn push(&mut self, instruction: Instruction<'_, 'a, O, T>) -> Result<(), AllocError>
-        ensures ok { OnOk result (self.new ≡ self.old ++ Does (instruction_in instruction.entry) ∷ []) }
+        ensures ok { OnOk result (self.new ≡ with_item (Does (instruction_in instruction.entry)) instruction.entry.mark self.old) }
         ensures err { OnErr result (self.new ≡ self.old) }
     {
         let node = Node::Does {
             operation: instruction.operation,
+            mark: instruction.mark,
             line: instruction.line,
             arguments: instruction.arguments,
         };
@@ -110,7 +115,7 @@ impl<'a, O: Copy, T: Copy, A: Allocator + Copy> Items<'a, O, T, A> {
 
     /// Appends the start of a block. It fails only where memory runs out.
     pub(crate) fn begin(&mut self, line: u64, turns: u64) -> Result<(), AllocError>
-        ensures ok { OnOk result (self.new ≡ self.old ++ Begins line turns ∷ []) }
+        ensures ok { OnOk result (self.new ≡ with_item (Begins line turns) 0 self.old) }
         ensures err { OnErr result (self.new ≡ self.old) }
     {
         self.keep(Node::Begins { line, turns }, &[])
@@ -118,7 +123,7 @@ impl<'a, O: Copy, T: Copy, A: Allocator + Copy> Items<'a, O, T, A> {
 
     /// Appends the end of a block. It fails only where memory runs out.
     pub(crate) fn end(&mut self) -> Result<(), AllocError>
-        ensures ok { OnOk result (self.new ≡ self.old ++ Ends ∷ []) }
+        ensures ok { OnOk result (self.new ≡ with_item Ends 0 self.old) }
         ensures err { OnErr result (self.new ≡ self.old) }
     {
         self.keep(Node::Ends, &[])
@@ -128,12 +133,14 @@ impl<'a, O: Copy, T: Copy, A: Allocator + Copy> Items<'a, O, T, A> {
     #[inline(always)]
     #[tactic(auto, using(crate::proofs::FlatLemmas::counts))]
     pub fn get(&self, i: usize) -> Item<'_, 'a, O, T>
-        requires { i < length self.now }
-        ensures { Some (item_in result) ≡ slice_get self.now i }
+        requires { i < length self.now.items }
+        ensures item { Some (item_in result) ≡ slice_get self.now.items i }
+        ensures mark { mark_in result ≡ slice_index_or self.now.marks i 0 }
     {
         match self.nodes[i] {
             Node::Does {
                 operation,
+                mark,
                 line,
                 arguments,
             } => Item::Does(Instruction {
@@ -141,6 +148,7 @@ impl<'a, O: Copy, T: Copy, A: Allocator + Copy> Items<'a, O, T, A> {
                 operation,
                 arguments,
                 targets: self.targets.get(i),
+                mark,
             }),
             Node::Begins { line, turns } => Item::Begins { line, turns },
             Node::Ends => Item::Ends,

@@ -4,20 +4,23 @@ use Rattle.std.specs.List.{list_all}
 use Rattle.std.specs.Option.{unwrap_or}
 use Rattle.std.specs.Prelude.{All}
 use Rattle.std.proofs.lemmas.Bool.{and_from}
-use Rattle.std.proofs.lemmas.List.{take_more, take_all, map-append}
+use Rattle.std.proofs.lemmas.List.{get_or-map, take_more, take_all, map-append}
 use Rattle.std.proofs.lemmas.List.Folds.{list_all-append}
 use Rattle.std.proofs.lemmas.Option.{slice_get_within, get_or_from_slice_get}
 use Rattle.step_model.specs.declared.step.Term.{Term}
 use Rattle.step_model.specs.Probabilities.{probability_bound}
 use Rattle.step_model.specs.Listing.{Kept}
 use Rattle.step_model.specs.WellFormed.{ProductFits, CoordinatesFit}
+use Rattle.chances.specs.declared.table.ChanceText.{ChanceText}
+use Rattle.chances.specs.Chances.{Chance, chance_of, no_chance}
 use Rattle.programs.specs.declared.by_hand.Entry.{Entry}
 use Rattle.programs.specs.declared.by_hand.fit.Totals.{Totals}
 use Rattle.programs.specs.declared.place.Place.{Place}
 use Rattle.programs.specs.declared.program.Parts.{Parts}
 use Rattle.programs.specs.declared.step.Counts.{Counts}
 use Rattle.programs.specs.declared.step.TextStep.{TextStep}
-use Rattle.programs.specs.ByHand.{StepsFit, FitsUpTo, AllFit, kept_of}
+use Rattle.programs.specs.ByHand.{StepsFit, FitsUpTo, AllFit, chance_by_hand, kept_of}
+use Rattle.programs.specs.Entries.{entry_from}
 use Rattle.programs.specs.Fits.{text_fits, is_kept}
 use Rattle.programs.specs.Made.{text_steps, EntryFits, PartsFit}
 use Rattle.programs.specs.Numbering.{no_counts, counts_after, counts_over, feeds_back}
@@ -27,22 +30,27 @@ use Rattle.programs.proofs.Building.{FeedBack-append}
 use Rattle.programs.proofs.Numbers.{counts_over-more, few}
 use Rattle.programs.proofs.Places.{first_place}
 
--- one more entry is kept
-pub kept_more : (kept more : List Kept) (entries : List Entry) (i : ℕ) (d : Entry) (text : List ℕ) (bound : ℕ) (terms : List Term) → more ≡ kept ++ record { text = text; bound = bound; terms = terms } ∷ [] → kept ≡ map kept_of (take i entries) → i < length entries → text ≡ (get_or entries i d).text.now → probability_bound (get_or entries i d).text.now ≡ Some bound → terms ≡ (get_or entries i d).terms.now → more ≡ map kept_of (take (i + 1) entries)
-kept_more kept more entries i d text bound terms pushed here below text_is bound_is terms_are =
-    pushed
-    ∙ ap₂ (λ (xs : List Kept) (x : Kept). xs ++ x ∷ []) here one
+-- the text of one entry more
+pub chances_more : (texts more : List ChanceText) (entries : List Entry) (i : ℕ) (d : Entry) (text : ChanceText) → more ≡ texts ++ text ∷ [] → map chance_of texts ≡ map chance_by_hand (take i entries) → i < length entries → text.text.now ≡ (get_or entries i d).text.now → probability_bound (get_or entries i d).text.now ≡ Some text.bound → map chance_of more ≡ map chance_by_hand (take (i + 1) entries)
+chances_more texts more entries i d text pushed here below text_is bound_is =
+    ap (map chance_of) pushed
+    ∙ map-append chance_of texts (text ∷ [])
+    ∙ ap₂ (λ (xs : List Chance) (x : Chance). xs ++ x ∷ []) here one
+    ∙ sym (map-append chance_by_hand (take i entries) (get_or entries i d ∷ []))
+    ∙ sym (ap (map chance_by_hand) (take_more entries i d below))
+  where
+    one : chance_of text ≡ chance_by_hand (get_or entries i d)
+    one =
+        ap₂ (λ (t : List ℕ) (b : ℕ). let x : Chance = record { text = t; bound = b } in x) text_is
+        (sym (ap (λ o. unwrap_or o 0) bound_is))
+
+-- one entry more is kept
+pub kept_more : (kept : List Kept) (entries : List Entry) (i : ℕ) (d : Entry) (terms : List Term) → kept ≡ map kept_of (take i entries) → i < length entries → terms ≡ (get_or entries i d).terms.now → kept ++ entry_from (get_or (map chance_by_hand entries) i no_chance) terms ∷ [] ≡ map kept_of (take (i + 1) entries)
+kept_more kept entries i d terms here below terms_are =
+    ap₂ (λ (xs : List Kept) (x : Kept). xs ++ x ∷ []) here
+    (ap₂ entry_from (get_or-map chance_by_hand entries i d no_chance below) terms_are)
     ∙ sym (map-append kept_of (take i entries) (get_or entries i d ∷ []))
     ∙ sym (ap (map kept_of) (take_more entries i d below))
-  where
-    found : bound ≡ unwrap_or (probability_bound (get_or entries i d).text.now) 0
-    found = sym (ap (λ o. unwrap_or o 0) bound_is)
-
-    one : record { text = text; bound = bound; terms = terms } ≡ kept_of (get_or entries i d)
-    one =
-        ap (λ (t : List ℕ). record { text = t; bound = bound; terms = terms }) text_is
-        ∙ ap (λ (b : ℕ). record { text = (get_or entries i d).text.now; bound = b; terms = terms }) found
-        ∙ ap (λ (ts : List Term). record { text = (get_or entries i d).text.now; bound = unwrap_or (probability_bound (get_or entries i d).text.now) 0; terms = ts }) terms_are
 
 -- a test of one more
 one_more : {X : Type 0} (test : X → Bool) (xs : List X) (x : X) → list_all test xs ≡ true → test x ≡ true → list_all test (xs ++ x ∷ []) ≡ true

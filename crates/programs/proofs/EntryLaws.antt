@@ -1,71 +1,33 @@
 -- Entries, by their number, and one entry more.
-use Rattle.std.proofs.Common.{◌≡◌, ℕ, zero, suc, ◌+◌, ◌<◌, List, [], ◌∷◌, ◌++◌, length, get_or, Result, Ok, Err, OnErr, refl, subst, sym, ap, ap₂, ◌∙◌, arith}
+use Rattle.std.proofs.Common.{◌≡◌, ℕ, zero, suc, ◌<◌, List, [], ◌∷◌, ◌++◌, length, get_or, refl, subst, sym, ap, ap₂, ◌∙◌, arith}
 use Rattle.std.specs.Prelude.{All}
 use Rattle.std.proofs.Math.Nat.{suc_inj}
 use Rattle.step_model.specs.declared.step.Term.{Term}
 use Rattle.step_model.specs.Listing.{Kept, none_kept}
+use Rattle.chances.specs.declared.table.ChanceText.{ChanceText}
+use Rattle.chances.specs.Chances.{Chance, chance_at}
+use Rattle.chances.proofs.ChanceLaws.{chance_at-get_or}
 use Rattle.programs.specs.declared.entries.ChanceTable.{ChanceTable}
-use Rattle.programs.specs.declared.entries.EntryPart.{EntryPart}
-use Rattle.programs.specs.Entries.{chance_at, chance_of, entries_of, entry_from, Chance, IsNumbered, KeepsChances, TellsChances}
-
--- ---- parts
-pub chance_at-get_or : (parts : List EntryPart) (n : ℕ) (d : EntryPart) → n < length parts → chance_at parts n ≡ chance_of (get_or parts n d)
-chance_at-get_or [] n d h = absurd (omega (arith, h))
-chance_at-get_or (part ∷ parts) zero d h = refl
-chance_at-get_or (part ∷ parts) (suc n) d h = chance_at-get_or parts n d (omega (arith, h))
-
-chance_at-more : (parts more : List EntryPart) (n : ℕ) → n < length parts → chance_at (parts ++ more) n ≡ chance_at parts n
-chance_at-more [] more n h = absurd (omega (arith, h))
-chance_at-more (part ∷ parts) more zero h = refl
-chance_at-more (part ∷ parts) more (suc n) h = chance_at-more parts more n (omega (arith, h))
-
-length-one_more : (parts : List EntryPart) (part : EntryPart) → length (parts ++ part ∷ []) ≡ length parts + 1
-length-one_more [] part = refl
-length-one_more (other ∷ parts) part = ap suc (length-one_more parts part) ∙ (let e : suc (length parts + 1) ≡ suc (length parts) + 1 = omega arith in e)
-
-pub last_chance : (parts : List EntryPart) (part : EntryPart) → chance_at (parts ++ part ∷ []) (length parts) ≡ chance_of part
-last_chance [] part = refl
-last_chance (other ∷ parts) part = last_chance parts part
-
-pub keeps_same : (old new : List EntryPart) → new ≡ old → KeepsChances old new
-keeps_same old new is = λ n h. (omega (arith, h, ap length is), ap (λ (parts : List EntryPart). chance_at parts n) is)
-
-pub keeps_pushed : (old new : List EntryPart) (part : EntryPart) → new ≡ old ++ part ∷ [] → KeepsChances old new
-keeps_pushed old new part is =
-    λ n h. (omega (arith, h, ap length is, length-one_more old part), ap (λ (parts : List EntryPart). chance_at parts n) is ∙ chance_at-more old (part ∷ []) n h)
-
-pub pushed_within : (old new : List EntryPart) (part : EntryPart) → new ≡ old ++ part ∷ [] → length old < length new
-pushed_within old new part is = omega (arith, ap length is, length-one_more old part)
+use Rattle.programs.specs.Entries.{entries_of, entry_from, IsNumbered, TellsChances}
 
 -- ---- entries
-pub length-entries_of : (parts : List EntryPart) (numbers : List ℕ) (lists : List (List Term)) → length numbers ≡ length lists → length (entries_of parts numbers lists) ≡ length numbers
+pub length-entries_of : (parts : List ChanceText) (numbers : List ℕ) (lists : List (List Term)) → length numbers ≡ length lists → length (entries_of parts numbers lists) ≡ length numbers
 length-entries_of parts [] lists h = refl
 length-entries_of parts (n ∷ numbers) [] h = cc
 length-entries_of parts (n ∷ numbers) (ts ∷ lists) h = ap suc (length-entries_of parts numbers lists (suc_inj h))
 
-get_or-entries_of : (parts : List EntryPart) (numbers : List ℕ) (lists : List (List Term)) (e d : ℕ) → length numbers ≡ length lists → e < length numbers → get_or (entries_of parts numbers lists) e none_kept ≡ entry_from (chance_at parts (get_or numbers e d)) (get_or lists e [])
+get_or-entries_of : (parts : List ChanceText) (numbers : List ℕ) (lists : List (List Term)) (e d : ℕ) → length numbers ≡ length lists → e < length numbers → get_or (entries_of parts numbers lists) e none_kept ≡ entry_from (chance_at parts (get_or numbers e d)) (get_or lists e [])
 get_or-entries_of parts [] lists e d h k = absurd (omega (arith, k))
 get_or-entries_of parts (n ∷ numbers) [] e d h k = cc
 get_or-entries_of parts (n ∷ numbers) (ts ∷ lists) zero d h k = refl
 get_or-entries_of parts (n ∷ numbers) (ts ∷ lists) (suc e) d h k = get_or-entries_of parts numbers lists e d (suc_inj h) (omega (arith, k))
 
-pub entries_of-kept : (old new : List EntryPart) (numbers : List ℕ) (lists : List (List Term)) → KeepsChances old new → All (λ n. n < length old) numbers → entries_of new numbers lists ≡ entries_of old numbers lists
-entries_of-kept old new [] lists keeps named = refl
-entries_of-kept old new (n ∷ numbers) [] keeps named = refl
-entries_of-kept old new (n ∷ numbers) (ts ∷ lists) keeps named =
-    ap₂ (λ (chance : Chance) (entries : List Kept). entry_from chance ts ∷ entries) (keeps n (named 0 0 (omega arith))).1
-    (entries_of-kept old new numbers lists keeps (λ k d lt. named (suc k) d (omega (arith, lt))))
-
-pub entries_of-push : (parts : List EntryPart) (numbers : List ℕ) (lists : List (List Term)) (n : ℕ) (ts : List Term) → length numbers ≡ length lists → entries_of parts (numbers ++ n ∷ []) (lists ++ ts ∷ []) ≡ entries_of parts numbers lists ++ entry_from (chance_at parts n) ts ∷ []
+pub entries_of-push : (parts : List ChanceText) (numbers : List ℕ) (lists : List (List Term)) (n : ℕ) (ts : List Term) → length numbers ≡ length lists → entries_of parts (numbers ++ n ∷ []) (lists ++ ts ∷ []) ≡ entries_of parts numbers lists ++ entry_from (chance_at parts n) ts ∷ []
 entries_of-push parts [] [] n ts h = refl
 entries_of-push parts [] (us ∷ lists) n ts h = cc
 entries_of-push parts (m ∷ numbers) [] n ts h = cc
 entries_of-push parts (m ∷ numbers) (us ∷ lists) n ts h =
     ap (λ (entries : List Kept). entry_from (chance_at parts m) us ∷ entries) (entries_of-push parts numbers lists n ts (suc_inj h))
-
--- the numbers stay those of parts
-pub named_kept : (old new : List EntryPart) (numbers : List ℕ) → KeepsChances old new → All (λ n. n < length old) numbers → All (λ n. n < length new) numbers
-named_kept old new numbers keeps named = λ k d lt. (keeps (get_or numbers k d) (named k d lt)).0
 
 pub counted_pushed : (numbers : List ℕ) (lists : List (List Term)) (n : ℕ) (ts : List Term) → length numbers ≡ length lists → length (numbers ++ n ∷ []) ≡ length (lists ++ ts ∷ [])
 counted_pushed [] [] n ts h = refl
@@ -74,19 +36,19 @@ counted_pushed (m ∷ numbers) [] n ts h = cc
 counted_pushed (m ∷ numbers) (us ∷ lists) n ts h = ap suc (counted_pushed numbers lists n ts (suc_inj h))
 
 -- what is read of the entry at e
-pub record IsEntry (parts : List EntryPart) (numbers : List ℕ) (lists : List (List Term)) (entry : Kept) (e : ℕ) : Type 0 where
+pub record IsEntry (parts : List ChanceText) (numbers : List ℕ) (lists : List (List Term)) (entry : Kept) (e : ℕ) : Type 0 where
   pub number_there : e < length numbers
   pub terms_there : e < length lists
   pub part_there : (d : ℕ) → get_or numbers e d < length parts
-  pub text : (d : ℕ) (other : EntryPart) → (get_or parts (get_or numbers e d) other).text.now ≡ entry.text
-  pub bound : (d : ℕ) (other : EntryPart) → (get_or parts (get_or numbers e d) other).bound ≡ entry.bound
+  pub text : (d : ℕ) (other : ChanceText) → (get_or parts (get_or numbers e d) other).text.now ≡ entry.text
+  pub bound : (d : ℕ) (other : ChanceText) → (get_or parts (get_or numbers e d) other).bound ≡ entry.bound
   pub terms : get_or lists e [] ≡ entry.terms
 
-pub is_entry : (parts : List EntryPart) (numbers : List ℕ) (lists : List (List Term)) {entries : List Kept} (e : ℕ) → entries_of parts numbers lists ≡ entries → IsNumbered parts numbers lists → e < length entries → IsEntry parts numbers lists (get_or entries e none_kept) e
+pub is_entry : (parts : List ChanceText) (numbers : List ℕ) (lists : List (List Term)) {entries : List Kept} (e : ℕ) → entries_of parts numbers lists ≡ entries → IsNumbered parts numbers lists → e < length entries → IsEntry parts numbers lists (get_or entries e none_kept) e
 is_entry parts numbers lists {entries} e view are h =
     let there : e < length numbers = omega (arith, ap length view, length-entries_of parts numbers lists are.counted) in
     let same = λ (d : ℕ). sym (get_or-entries_of parts numbers lists e d are.counted there) ∙ ap (λ (ks : List Kept). get_or ks e none_kept) view in
-    let part = λ (d : ℕ) (other : EntryPart). sym (chance_at-get_or parts (get_or numbers e d) other (are.named e d there)) in
+    let part = λ (d : ℕ) (other : ChanceText). sym (chance_at-get_or parts (get_or numbers e d) other (are.named e d there)) in
     record {
       number_there = there;
       terms_there = omega (arith, there, are.counted);
@@ -97,22 +59,17 @@ is_entry parts numbers lists {entries} e view are h =
     }
 
 -- the numbers and the parts, as they are read
-pub tells : (parts : List EntryPart) (numbers : List ℕ) (lists : List (List Term)) {entries : List Kept} (table : ChanceTable) → entries_of parts numbers lists ≡ entries → IsNumbered parts numbers lists → table.numbers.now ≡ numbers → table.parts.now ≡ parts → TellsChances entries table
+pub tells : (parts : List ChanceText) (numbers : List ℕ) (lists : List (List Term)) {entries : List Kept} (table : ChanceTable) → entries_of parts numbers lists ≡ entries → IsNumbered parts numbers lists → table.numbers.now ≡ numbers → table.parts.now ≡ parts → TellsChances entries table
 tells parts numbers lists {entries} table view are numbers_are parts_are =
     record {
       counted = ap length numbers_are ∙ (sym (length-entries_of parts numbers lists are.counted) ∙ ap length view);
       within =
-          subst (λ (ps : List EntryPart). All (λ n. n < length ps) table.numbers.now) (sym parts_are)
+          subst (λ (ps : List ChanceText). All (λ n. n < length ps) table.numbers.now) (sym parts_are)
           (subst (All (λ n. n < length parts)) (sym numbers_are) are.named);
       text = λ e d other h.
-          ap₂ (λ (ps : List EntryPart) (ns : List ℕ). (get_or ps (get_or ns e d) other).text.now) parts_are numbers_are
+          ap₂ (λ (ps : List ChanceText) (ns : List ℕ). (get_or ps (get_or ns e d) other).text.now) parts_are numbers_are
           ∙ (is_entry parts numbers lists e view are h).text d other;
       bound = λ e d other h.
-          ap₂ (λ (ps : List EntryPart) (ns : List ℕ). (get_or ps (get_or ns e d) other).bound) parts_are numbers_are
+          ap₂ (λ (ps : List ChanceText) (ns : List ℕ). (get_or ps (get_or ns e d) other).bound) parts_are numbers_are
           ∙ (is_entry parts numbers lists e view are h).bound d other;
     }
-
--- what holds anyway holds where a call fails
-pub on_err_any : {V E P : Type 0} (r : Result V E) → P → OnErr r P
-on_err_any (Ok v) p = tt
-on_err_any (Err e) p = p

@@ -23,6 +23,7 @@ of_some P o x e h = subst (λ (u : Option _). IfSome u P) e h
 pub record AreOf {A : Type 0} (parts : Parts A) (n : ℕ) (pieces : List Piece) (lists : Lists) : Type 0 where
   pub qubits : parts.qubits ≡ n
   pub steps : text_steps parts ≡ written pieces [] []
+  pub entries : parts.entries ≡ map kept_of lists.entries.now
   pub keeps : Keeps parts lists
 
 module _ {A : Type 0} (parts : Parts A) (n : ℕ) (pieces : List Piece) (lists : Lists) (are : AreOf parts n pieces lists) (p : Listing) (e : p ≡ counted_listing parts) where
@@ -36,7 +37,7 @@ module _ {A : Type 0} (parts : Parts A) (n : ℕ) (pieces : List Piece) (lists :
       ∙ ap₂ (λ (products : List (List Term)) (xs : List TextStep). listed_steps n products no_counts xs) (sym (ap (λ (q : Listing). q.products) e)) are.steps)
 
   pub kept_are : p.kept ≡ map kept_of lists.entries.now
-  kept_are = ap (λ (q : Listing). q.kept) e ∙ are.keeps.entries
+  kept_are = ap (λ (q : Listing). q.kept) e ∙ are.entries
 
   pub faults_are : p.faults ≡ made_faults p.kept no_counts (written pieces [] [])
   faults_are =

@@ -7,6 +7,7 @@ use Rattle.step_model.specs.declared.step.Term.{Term}
 use Rattle.step_model.specs.Listing.{Listing, Kept}
 use Rattle.step_model.specs.Probabilities.{probability_bound}
 use Rattle.step_model.specs.WellFormed.{is_I}
+use Rattle.chances.specs.Chances.{Chance}
 use Rattle.programs.specs.declared.by_hand.Entry.{Entry}
 use Rattle.programs.specs.declared.by_hand.Piece.{Piece}
 use Rattle.programs.specs.declared.by_hand.Piece.TheVariants.{Do, Open, Close}
@@ -16,6 +17,7 @@ use Rattle.programs.specs.declared.program.Parts.{Parts}
 use Rattle.programs.specs.declared.step.Counts.{Counts}
 use Rattle.programs.specs.declared.step.TextStep.{TextStep}
 use Rattle.programs.specs.Builders.{OpenBlock, Building}
+use Rattle.programs.specs.Entries.{entry_from}
 use Rattle.programs.specs.Fits.{text_fits, is_kept}
 use Rattle.programs.specs.Made.{text_steps, listing_of}
 use Rattle.programs.specs.Numbering.{no_counts, counts_over, FeedBack}
@@ -37,9 +39,11 @@ Puts piece old new =
     (pieces : List Piece) → written (piece ∷ pieces) (reverse old.outer) old.here ≡ written pieces (reverse new.outer) new.here
 
 -- what is kept of a fault: its text, that text's bound and its letters
+abbrev pub chance_by_hand : Entry → Chance
+chance_by_hand entry = record { text = entry.text.now; bound = unwrap_or (probability_bound entry.text.now) 0 }
+
 abbrev pub kept_of : Entry → Kept
-kept_of entry =
-    record { text = entry.text.now; bound = unwrap_or (probability_bound entry.text.now) 0; terms = entry.terms.now }
+kept_of entry = entry_from (chance_by_hand entry) entry.terms.now
 
 -- the program that parts make, with the records and collapses of its steps counted
 abbrev pub counted_listing : {A : Type 0} → Parts A → Listing

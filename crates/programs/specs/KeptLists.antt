@@ -1,13 +1,11 @@
--- What parts keep besides their circuit: nothing, or lists just as they are given.
--- (Stim's circuit format: detectors, observables, coordinates, products and what faults apply.)
+-- What parts keep besides their circuit and their entries: nothing, or lists just as they are given.
+-- (Stim's circuit format: detectors, observables, coordinates and products.)
 use Rattle.std.specs.Prelude.{◌≡◌, [], map}
 use Rattle.programs.specs.declared.by_hand.Lists.{Lists}
 use Rattle.programs.specs.declared.program.Parts.{Parts}
-use Rattle.programs.specs.ByHand.{kept_of}
 
 -- parts that keep nothing yet
 pub record KeepsNothing {A : Type 0} (parts : Parts A) : Type 0 where
-  pub entries : parts.entries ≡ []
   pub detectors : parts.detectors ≡ []
   pub observables : parts.observables ≡ []
   pub coordinates : parts.coordinates ≡ []
@@ -15,7 +13,6 @@ pub record KeepsNothing {A : Type 0} (parts : Parts A) : Type 0 where
 
 -- parts that keep these lists
 pub record Keeps {A : Type 0} (parts : Parts A) (lists : Lists) : Type 0 where
-  pub entries : parts.entries ≡ map kept_of lists.entries.now
   pub detectors : parts.detectors ≡ map (λ list. list.now) lists.detectors.now
   pub observables : parts.observables ≡ map (λ list. list.now) lists.observables.now
   pub coordinates : parts.coordinates ≡ map (λ list. list.now) lists.coordinates.now

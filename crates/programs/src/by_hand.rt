@@ -1,7 +1,8 @@
 //! Programs written by hand, for tests: all that `Program::new` requires is checked here, over the unrolled steps.
 ghost use Rattle.std.specs.Prelude.{◌≡◌, [], map, true, IfOk, IfSome, OnOk, Some};
 ghost use Rattle.step_model.specs.Probabilities.{probability_bound};
-ghost use Rattle.programs.specs.ByHand.{written, kept_of, Puts};
+ghost use Rattle.chances.specs.Chances.{chance_of};
+ghost use Rattle.programs.specs.ByHand.{written, chance_by_hand, kept_of, Puts};
 ghost use Rattle.programs.specs.KeptLists.{Keeps, KeepsNothing};
 ghost use Rattle.programs.specs.Listed.{listed_steps, made_faults};
 ghost use Rattle.programs.specs.Numbering.{no_counts, counts_over};
@@ -11,10 +12,12 @@ mod fit;
 
 use crate::builder::CircuitBuilder;
 use crate::entries::Entries;
+use crate::entry_builder::EntryBuilder;
 use crate::node::Node;
 use crate::place::LEVELS;
 use crate::program::{Parts, Program};
 use crate::step::{Counts, TextStep};
+use chances::ChanceText;
 use fit::checked;
 use flat_lists::FlatLists;
 use std::alloc::{AllocError, Allocator};
@@ -67,17 +70,24 @@ pub fn program_of<'a, A: Allocator + Copy>(
     let Some(nodes) = nodes_of(alloc, pieces)? else {
         return Ok(None);
     };
-    let mut parts = bare(alloc, qubits, nodes);
-    if !keep(&mut parts, lists)? {
+    let Some(entries) = entries_of(alloc, lists.entries)? else {
         return Ok(None);
-    }
+    };
+    let mut parts = bare(alloc, qubits, nodes, entries);
+    keep(&mut parts, lists)?;
     Ok(checked(parts))
 }
 
-// Parts with nothing but their circuit.
-fn bare<'a, A: Allocator + Copy>(alloc: A, qubits: u32, nodes: Vec<Node, A>) -> Parts<'a, A>
+// Parts with nothing but their circuit and what is kept of faults.
+fn bare<'a, A: Allocator + Copy>(
+    alloc: A,
+    qubits: u32,
+    nodes: Vec<Node, A>,
+    entries: Entries<'a, A>,
+) -> Parts<'a, A>
     ensures qubits { result.qubits ≡ qubits }
     ensures nodes { result.nodes ≡ nodes }
+    ensures entries { result.entries ≡ entries.entry }
     ensures bare { KeepsNothing result }
 {
     Parts {
@@ -92,26 +102,26 @@ fn bare<'a, A: Allocator + Copy>(alloc: A, qubits: u32, nodes: Vec<Node, A>) -> 
         detectors: FlatLists::new(alloc),
         observables: FlatLists::new(alloc),
         coordinates: FlatLists::new(alloc),
-        entries: Entries::new(alloc),
+        entries,
         products: FlatLists::new(alloc),
     }
 }
 
-// Keeps these lists in parts without any, where all texts of the entries are among those that are read here.
+// Keeps these lists in parts without any.
 fn keep<'a, A: Allocator + Copy>(
     parts: &mut Parts<'a, A>,
     lists: Lists<'a>,
-) -> Result<bool, AllocError>
+) -> Result<(), AllocError>
     requires { KeepsNothing parts.old }
     ensures qubits { OnOk result (parts.new.qubits ≡ parts.old.qubits) }
     ensures nodes { OnOk result (parts.new.nodes ≡ parts.old.nodes) }
-    ensures lists { IfOk result (λ fits. fits ≡ true → Keeps parts.new lists.entry) }
+    ensures entries { OnOk result (parts.new.entries ≡ parts.old.entries) }
+    ensures lists { OnOk result (Keeps parts.new lists.entry) }
 {
     keep_lists(&mut parts.detectors, lists.detectors)?;
     keep_lists(&mut parts.observables, lists.observables)?;
     keep_lists(&mut parts.coordinates, lists.coordinates)?;
-    keep_lists(&mut parts.products, lists.products)?;
-    keep_entries(&mut parts.entries, lists.entries)
+    keep_lists(&mut parts.products, lists.products)
 }
 
 // The nodes of a circuit in pieces, where its blocks are whole, have a turn and aren't too deep.
@@ -163,21 +173,41 @@ fn put<A: Allocator + Copy>(
     }
 }
 
-// Keeps these entries, where their texts are among those that are read here.
-fn keep_entries<'a, A: Allocator + Copy>(
-    kept: &mut Entries<'a, A>,
+// These entries as they are kept, where their texts are among those that are read here.
+fn entries_of<'a, A: Allocator + Copy>(
+    alloc: A,
     entries: &'a [Entry<'a>],
-) -> Result<bool, AllocError>
-    requires { kept.old ≡ [] }
-    ensures { IfOk result (λ fits. fits ≡ true → kept.new ≡ map kept_of entries.now) }
+) -> Result<Option<Entries<'a, A>>, AllocError>
+    ensures { IfOk result (λ made. IfSome made (λ kept. kept ≡ map kept_of entries.now)) }
 {
+    let Some(texts) = texts_of(alloc, entries)? else {
+        return Ok(None);
+    };
+    let mut builder = EntryBuilder::new(alloc, texts);
+    for number in 0..entries.len() {
+        builder.push(number, entries[number].terms)?;
+    }
+    Ok(Some(builder.finish()))
+}
+
+// The text of each entry, where all are among those that are read here.
+fn texts_of<'a, A: Allocator + Copy>(
+    alloc: A,
+    entries: &'a [Entry<'a>],
+) -> Result<Option<Vec<ChanceText<'a>, A>>, AllocError>
+    ensures { IfOk result (λ texts. IfSome texts (λ v. map chance_of v.items ≡ map chance_by_hand entries.now)) }
+{
+    let mut texts = Vec::new(alloc);
     for entry in entries {
         let Some(bound) = bound_of(entry.text) else {
-            return Ok(false);
+            return Ok(None);
         };
-        kept.push(entry.text, bound, entry.terms)?;
+        texts.push(ChanceText {
+            text: entry.text,
+            bound,
+        })?;
     }
-    Ok(true)
+    Ok(Some(texts))
 }
 
 // Keeps these lists.

@@ -4,6 +4,7 @@
 mod builder;
 pub mod by_hand;
 mod entries;
+mod entry_builder;
 mod node;
 mod place;
 mod program;
@@ -11,7 +12,8 @@ mod step;
 mod walk;
 
 pub use builder::CircuitBuilder;
-pub use entries::{ChanceTable, Entries, EntryPart};
+pub use entries::{ChanceTable, Entries};
+pub use entry_builder::EntryBuilder;
 pub use node::Node;
 pub use program::{Parts, Program, Text};
 pub use step::{Counts, FaultName, Recording, Step, TextStep};

@@ -18,3 +18,4 @@ pub mod CoordinateArguments
 mod QubitSetLemmas
 mod ProductLemmas
 mod ProductSteps
+pub mod MarkLemmas

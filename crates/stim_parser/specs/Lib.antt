@@ -7,7 +7,9 @@ pub mod Arguments
 pub mod Names
 pub mod Instructions
 pub mod Limits
+pub mod Parentheses
 pub mod Judging
+pub mod Probabilities
 pub mod Verdicts
 pub mod Texts
 pub mod Trees

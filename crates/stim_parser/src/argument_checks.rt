@@ -1,13 +1,16 @@
-ghost use Rattle.std.specs.Prelude.{◌≡◌, length, nat_lt};
+ghost use Rattle.std.specs.Prelude.{◌≡◌, length, nat_lt, option_map};
 ghost use Rattle.std.specs.List.{list_all, list_any};
+ghost use Rattle.chances.specs.Chances.{chance_of};
 ghost use Rattle.stim_parser.specs.Limits.{has_argument_beyond, has_wrong_arguments, has_wrong_probability, is_argument, is_probability, is_wrong_count, takes_probability, texts_of};
 ghost use Rattle.stim_parser.specs.Numbers.{is_number_beyond, magnitude_of, value_of};
+ghost use Rattle.stim_parser.specs.Probabilities.{chance_in};
 
 use crate::arguments::MOST_ARGUMENTS;
 use crate::digits::{is_number, value_of};
 use crate::forms::ArgumentForm;
 use crate::last::LastProbability;
 use crate::numbers::{is_decimal, is_number_beyond, is_whole_number, magnitude_of};
+use chances::ChanceText;
 
 /// Whether this is a number of arguments that the form doesn't take.
 fn is_wrong_count(form: ArgumentForm, count: usize) -> bool
@@ -80,6 +83,22 @@ pub fn has_wrong_probability<'a>(
     ensures { result ≡ has_wrong_probability form (texts_of arguments.now) }
 {
     takes_probability(form) && !are_probabilities(last, arguments)
+}
+
+/// The first argument with its bound, where it is a probability.
+pub(crate) fn chance_of<'a>(
+    last: &mut LastProbability<'a>,
+    arguments: &[&'a [u8]],
+) -> Option<ChanceText<'a>>
+    ensures { option_map chance_of result ≡ chance_in (texts_of arguments.now) }
+{
+    match arguments {
+        [] => None,
+        [text, ..] => match last.bound(*text) {
+            Some(bound) => Some(ChanceText { text: *text, bound }),
+            None => None,
+        },
+    }
 }
 
 /// Whether one of the whole numbers is of a magnitude above the greatest one.

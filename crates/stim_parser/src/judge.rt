@@ -3,10 +3,14 @@ ghost use Rattle.stim_lexer.specs.Lexing.{cut_in};
 ghost use Rattle.block_text.specs.Said.{reading_in};
 ghost use Rattle.stim_parser.specs.declared.forms.ArgumentForm.TheVariants.{NoArguments};
 ghost use Rattle.stim_parser.specs.Arguments.{arguments_in};
-ghost use Rattle.stim_parser.specs.Limits.{has_argument_beyond};
+ghost use Rattle.stim_parser.specs.Limits.{has_argument_beyond, takes_probability};
+ghost use Rattle.stim_parser.specs.Parentheses.{Parentheses};
+ghost use Rattle.stim_parser.specs.Probabilities.{Remembers, TakesNothing};
 ghost use Rattle.stim_parser.specs.Judging.{accepted, closed_at, first_of, has_wrong_target, judged, misplaces_brace, opens_block, reading_of, read_targets, refusal_of, refusals_of_amounts, refusals_of_arguments, refusals_of_block, refusals_of_keyword};
 
-use crate::argument_checks::{has_argument_beyond, has_wrong_arguments, has_wrong_probability};
+use crate::argument_checks::{
+    chance_of, has_argument_beyond, has_wrong_arguments, has_wrong_probability, takes_probability,
+};
 use crate::arguments::read_arguments;
 use crate::forms::ArgumentForm;
 use crate::last::Last;
@@ -62,9 +66,10 @@ fn arguments_of<'a>(
     form: ArgumentForm,
     line: Line<'a>,
 ) -> Result<bool, Cause>
-    ensures { MatchResult result
+    ensures refusal { MatchResult result
         (λ beyond. (beyond ≡ has_argument_beyond greatest form (arguments_in line.entry.arguments.now)) × (first_of (refusals_of_arguments causes form (cut_in line.entry)) ≡ None))
         (λ refused. first_of (refusals_of_arguments causes form (cut_in line.entry)) ≡ Some refused) }
+    ensures last { IfOk result (λ beyond. takes_probability form ≡ true → last.new.parentheses.text ≡ line.entry.arguments.now) }
 {
     if line.stays_open {
         return Err(causes.arguments);
@@ -88,9 +93,10 @@ fn closed_arguments_of<'a>(
     line: Line<'a>,
 ) -> Result<bool, Cause>
     requires { line.stays_open ≡ false }
-    ensures { MatchResult result
+    ensures refusal { MatchResult result
         (λ beyond. (beyond ≡ has_argument_beyond greatest form (arguments_in line.entry.arguments.now)) × (first_of (refusals_of_arguments causes form (cut_in line.entry)) ≡ None))
         (λ refused. first_of (refusals_of_arguments causes form (cut_in line.entry)) ≡ Some refused) }
+    ensures last { IfOk result (λ beyond. takes_probability form ≡ true → last.new.parentheses.text ≡ line.entry.arguments.now) }
 {
     let Some(arguments) = read_arguments(line.arguments) else {
         return Err(causes.arguments);
@@ -101,7 +107,10 @@ fn closed_arguments_of<'a>(
     if has_wrong_probability(&mut last.probability, form, arguments.as_slice()) {
         return Err(causes.probability);
     }
-    last.parentheses.keep(form, line.arguments);
+    if takes_probability(form) {
+        let chance = chance_of(&mut last.probability, arguments.as_slice());
+        last.parentheses.keep(form, line.arguments, chance);
+    }
     Ok(has_argument_beyond(greatest, form, arguments.as_slice()))
 }
 
@@ -180,6 +189,7 @@ fn refusal_of<'a, O: Copy, T: Copy, F: Copy, J: Judge<O, T, F>, A: Allocator + C
 ) -> Result<Option<Cause>, AllocError>
     ensures refusal { IfOk result (λ refusal. refusal ≡ first_of (refusals_of_keyword J.table depth keyword (cut_in line.entry))) }
     ensures targets { IfOk result (λ refusal. refusal ≡ None → targets.new.items ≡ read_targets J.table (J.table.target_form keyword) line.entry.targets.now) }
+    ensures last { IfOk result (λ refusal. refusal ≡ None → takes_probability (J.table.argument_form keyword) ≡ true → last.new.parentheses.text ≡ line.entry.arguments.now) }
 {
     let asked = J::argument_form(keyword);
     let beyond = match arguments_of(last, J::causes(), J::greatest_coordinate(), asked, line) {
@@ -200,7 +210,8 @@ fn accepted<'a, O: Copy, T: Copy, F: Copy, J: Judge<O, T, F>>(
     targets: &[T],
 ) -> Said<'a, O>
     requires { targets.now ≡ read_targets J.table (J.table.target_form keyword) line.targets.now }
-    ensures { reading_in line.entry.number result targets.now ≡ accepted J.table line.entry.number (Some keyword) (cut_in line.entry) }
+    ensures reading { reading_in line.entry.number result targets.now ≡ accepted J.table line.entry.number (Some keyword) (cut_in line.entry) }
+    ensures last { (last : Parentheses) → (takes_probability (J.table.argument_form keyword) ≡ true → last.text ≡ line.entry.arguments.now) → Remembers J.table result last }
 {
     match keyword {
         Keyword::Repeats => Said::Opens(J::turns_of(targets)),
@@ -213,7 +224,8 @@ fn accepted<'a, O: Copy, T: Copy, F: Copy, J: Judge<O, T, F>>(
 
 /// What a line says that closes a block, where so many are open.
 fn closed_at<'a, O: Copy, T: Copy>(causes: Causes, depth: usize) -> Said<'a, O>
-    ensures { (number : ℕ) (targets : List T) → reading_in number result targets ≡ closed_at causes depth }
+    ensures reading { (number : ℕ) (targets : List T) → reading_in number result targets ≡ closed_at causes depth }
+    ensures nothing { TakesNothing result }
 {
     if depth == 0 {
         Said::Refuses(causes.block)
@@ -229,7 +241,8 @@ fn judged<'a, O: Copy, T: Copy, F: Copy, J: Judge<O, T, F>, A: Allocator + Copy>
     depth: usize,
     line: Line<'a>,
 ) -> Result<Said<'a, O>, AllocError>
-    ensures { IfOk result (λ said. reading_in line.entry.number said targets.new.items ≡ judged J.table depth line.entry.number (cut_in line.entry)) }
+    ensures reading { IfOk result (λ said. reading_in line.entry.number said targets.new.items ≡ judged J.table depth line.entry.number (cut_in line.entry)) }
+    ensures last { IfOk result (λ said. Remembers J.table said last.new.parentheses) }
 {
     let keyword = match keyword_of::<O, T, F, J>(last, line) {
         Ok(keyword) => keyword,
@@ -250,7 +263,8 @@ pub fn read_line<'a, O: Copy, T: Copy, F: Copy, J: Judge<O, T, F>, A: Allocator 
     depth: usize,
     line: Line<'a>,
 ) -> Result<Said<'a, O>, AllocError>
-    ensures { IfOk result (λ said. reading_in line.entry.number said targets.new.items ≡ reading_of J.table depth line.entry.number (cut_in line.entry)) }
+    ensures reading { IfOk result (λ said. reading_in line.entry.number said targets.new.items ≡ reading_of J.table depth line.entry.number (cut_in line.entry)) }
+    ensures last { IfOk result (λ said. Remembers J.table said last.new.parentheses) }
 {
     match line.braces {
         Braces::ClosingAlone => Ok(closed_at::<O, T>(J::causes(), depth)),

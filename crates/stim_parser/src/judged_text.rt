@@ -3,16 +3,26 @@ ghost use Rattle.block_text.specs.Fitting.{IsBuilt};
 ghost use Rattle.block_text.specs.Flat.{IsWritten};
 ghost use Rattle.block_text.specs.Kept.{item_in};
 ghost use Rattle.block_text.specs.Trees.{items_of};
+ghost use Rattle.stim_parser.specs.Probabilities.{Keeps};
 
 use crate::table::Judge;
 use block_text::{Item, Items};
+use chances::ChanceText;
 use std::alloc::Allocator;
 use std::marker::{Model, PhantomData};
+
+/// The items of a text, and the texts of their probabilities. The mark of an instruction that has a probability is the
+/// number of that among the texts, unless there are more than 2^32 of them.
+#[derive(Drop)]
+pub struct Numbered<'a, O: Copy, T: Copy, A: Allocator + Copy> {
+    pub items: Items<'a, O, T, A>,
+    pub texts: Vec<ChanceText<'a>, A>,
+}
 
 /// What a text writes that its judge accepts: its blocks stand among its instructions.
 #[derive(Drop)]
 pub struct JudgedText<'a, O: Copy, T: Copy, F: Copy, J: Judge<O, T, F>, A: Allocator + Copy> {
-    items: Items<'a, O, T, A>,
+    read: Numbered<'a, O, T, A>,
     judge: PhantomData<(F, J)>,
 }
 
@@ -26,9 +36,11 @@ impl<'a, O: Copy, T: Copy, F: Copy, J: Judge<O, T, F>, A: Allocator + Copy> Mode
 
     ghost coded = { coded_tree (coded_instruction O.code T.code) };
 
-    ghost view = { λ t. tree_of t.items };
+    ghost use Rattle.stim_parser.specs.Probabilities.{Keeps};
 
-    ghost invariant = { λ t. IsWritten J.Fits t.items };
+    ghost view = { λ t. tree_of t.read.items.items };
+
+    ghost invariant = { λ t. (IsWritten J.Fits t.read.items.items) × Keeps J.table t.read.texts.items t.read.items };
 }
 
 impl<'a, O: Copy, T: Copy, F: Copy, J: Judge<O, T, F>, A: Allocator + Copy> JudgedText<
@@ -40,12 +52,13 @@ impl<'a, O: Copy, T: Copy, F: Copy, J: Judge<O, T, F>, A: Allocator + Copy> Judg
     A,
 > {
     /// The text of these items.
-    pub(crate) fn new(items: Items<'a, O, T, A>) -> Self
-        requires { IsWritten J.Fits items }
-        ensures { items_of result ≡ items.entry }
+    pub(crate) fn new(read: Numbered<'a, O, T, A>) -> Self
+        requires written { IsWritten J.Fits read.items.items }
+        requires kept { Keeps J.table read.texts.items read.items }
+        ensures { items_of result ≡ read.entry.items.items }
     {
         JudgedText {
-            items,
+            read,
             judge: PhantomData,
         }
     }
@@ -55,7 +68,7 @@ impl<'a, O: Copy, T: Copy, F: Copy, J: Judge<O, T, F>, A: Allocator + Copy> Judg
     pub fn len(&self) -> usize
         ensures { result ≡ length (items_of self.now) }
     {
-        self.items.len()
+        self.read.items.len()
     }
 
     /// Whether there is no item.
@@ -71,7 +84,7 @@ impl<'a, O: Copy, T: Copy, F: Copy, J: Judge<O, T, F>, A: Allocator + Copy> Judg
         requires { i < length (items_of self.now) }
         ensures { Some (item_in result) ≡ slice_get (items_of self.now) i }
     {
-        self.items.get(i)
+        self.read.items.get(i)
     }
 
     /// The item at a place, where there is one.
@@ -93,6 +106,14 @@ impl<'a, O: Copy, T: Copy, F: Copy, J: Judge<O, T, F>, A: Allocator + Copy> Judg
         ensures { IsBuilt J.Fits self.now }
     {
         // The proof looks inside.
-        let _items = &self.items;
+        let _read = &self.read;
+    }
+    /// Its items, and the texts of their probabilities.
+    pub fn numbered(self) -> Numbered<'a, O, T, A>
+        ensures items { result.items.items ≡ items_of self.entry }
+        ensures kept { Keeps J.table result.texts.items result.items }
+        ensures fits { IsBuilt J.Fits self.entry }
+    {
+        self.read
     }
 }

@@ -39,7 +39,7 @@ pub use digits::number_of;
 pub use forms::{ArgumentForm, TargetForm};
 pub use halved::Number;
 pub use judge::read_line;
-pub use judged_text::JudgedText;
+pub use judged_text::{JudgedText, Numbered};
 pub use last::{Last, LastParentheses, LastProbability};
 pub use names::look_up;
 pub use numbers::magnitude_of;

@@ -1,50 +1,95 @@
-ghost use Rattle.std.specs.Prelude.{◌≡◌, ◌⊎◌, IfOk, IfErr, Ok};
+ghost use Rattle.std.specs.Prelude.{◌≡◌, ◌<◌, ◌≤◌, ◌+◌, ◌^◌, ◌⊎◌, length, IfOk, IfErr, Ok};
 ghost use Rattle.step_model.specs.Faults.{memory_fault};
 ghost use Rattle.stim_lexer.specs.Lexing.{cut_in};
 ghost use Rattle.block_text.specs.Fitting.{LinesFit};
 ghost use Rattle.block_text.specs.Texts.{IsRefusedBy, Writes, items_in};
 ghost use Rattle.block_text.specs.Unfinished.{after_line, cause_in, reading_at};
+ghost use Rattle.chances.specs.Chances.{KeepsChances};
 ghost use Rattle.stim_parser.specs.Judging.{format_of};
+ghost use Rattle.stim_parser.specs.Probabilities.{Keeps, Remembers, SaidMarked, marked_in, taken_count};
 
+use crate::argument_checks::takes_probability;
 use crate::judge::read_line;
-use crate::judged_text::JudgedText;
-use crate::last::Last;
-use crate::table::Judge;
-use block_text::{Builder, Items};
+use crate::judged_text::{JudgedText, Numbered};
+use crate::last::{Last, LastParentheses};
+use crate::table::{Judge, Keyword};
+use block_text::{Builder, Said};
+use chances::{ChanceText, number_of};
 use std::alloc::{AllocError, Allocator};
 use step_model::{Cause, Fault};
 use stim_lexer::{Lexer, Line};
 
+/// A number as a mark: what is beyond all marks has the greatest one.
+fn mark_from(number: usize) -> u32
+    ensures { number < 2 ^ 32 → result ≡ number }
+{
+    if number > u32::MAX as usize {
+        return u32::MAX;
+    }
+    number as u32
+}
+
+/// The mark of what a line says: where it is an instruction with a probability, the number of that among the texts.
+fn mark_of<'a, O: Copy, T: Copy, F: Copy, J: Judge<O, T, F>, A: Allocator + Copy>(
+    texts: &mut Vec<ChanceText<'a>, A>,
+    last: &LastParentheses<'a>,
+    said: &Said<'a, O>,
+) -> Result<u32, AllocError>
+    requires { Remembers J.table said.now last.now }
+    ensures kept { KeepsChances texts.old.items texts.new.items }
+    ensures few { length texts.new.items ≤ length texts.old.items + taken_count said.now }
+    ensures marked { IfOk result (λ mark. SaidMarked J.table texts.new.items said.now mark) }
+{
+    let Said::Takes { operation, .. } = *said else {
+        return Ok(0);
+    };
+    if !takes_probability(J::argument_form(Keyword::Does(operation))) {
+        return Ok(0);
+    }
+    let Some(chance) = last.chance() else {
+        return Ok(0);
+    };
+    let number = number_of(texts, chance.text, chance.bound)?;
+    Ok(mark_from(number))
+}
+
 /// Reads the next line. Answers the cause where it is refused.
 fn read_next<'a, O: Copy, T: Copy, F: Copy, J: Judge<O, T, F>, A: Allocator + Copy>(
     builder: &mut Builder<'a, O, T, A>,
+    texts: &mut Vec<ChanceText<'a>, A>,
     last: &mut Last<'a>,
     targets: &mut Vec<T, A>,
     line: Line<'a>,
 ) -> Result<Option<Cause>, AllocError>
-    ensures refused { IfOk result (λ refused. refused ≡ cause_in (reading_at (format_of J.table) builder.old line.entry.number (cut_in line.entry))) }
-    ensures after { IfOk result (λ refused. builder.new ≡ after_line line.entry.number (reading_at (format_of J.table) builder.old line.entry.number (cut_in line.entry)) builder.old) }
+    requires { Keeps J.table texts.old.items (marked_in builder.old) }
+    ensures refused { IfOk result (λ refused. refused ≡ cause_in (reading_at (format_of J.table) builder.old.text line.entry.number (cut_in line.entry))) }
+    ensures after { IfOk result (λ refused. builder.new.text ≡ after_line line.entry.number (reading_at (format_of J.table) builder.old.text line.entry.number (cut_in line.entry)) builder.old.text) }
+    ensures kept { IfOk result (λ refused. Keeps J.table texts.new.items (marked_in builder.new)) }
 {
     let number = line.number;
     let said = read_line::<O, T, F, J, A>(last, targets, builder.depth(), line)?;
-    builder.take(number, said, targets.as_slice())
+    let mark = mark_of::<O, T, F, J, A>(texts, &last.parentheses, &said)?;
+    builder.take(number, said, mark, targets.as_slice())
 }
 
-/// The items of a text in the format of a judge, or the text's refusal. The cause is `Memory` only where memory runs out.
+/// The items of a text in the format of a judge with the texts of their probabilities, or the text's refusal. The cause is
+/// `Memory` only where memory runs out.
 fn read_items<'a, O: Copy, T: Copy, F: Copy, J: Judge<O, T, F>, A: Allocator + Copy>(
     alloc: A,
     text: &'a [u8],
-) -> Result<Items<'a, O, T, A>, Fault>
-    ensures ok { IfOk result (λ items. items_in (format_of J.table) text.now ≡ Ok items) }
+) -> Result<Numbered<'a, O, T, A>, Fault>
+    ensures ok { IfOk result (λ read. items_in (format_of J.table) text.now ≡ Ok read.items.items) }
+    ensures kept { IfOk result (λ read. Keeps J.table read.texts.items read.items) }
     ensures err { IfErr result (λ fault. (fault ≡ memory_fault) ⊎ IsRefusedBy (format_of J.table) text.now fault) }
 {
     let mut lexer = Lexer::new(text);
     let mut builder = Builder::new(alloc);
+    let mut texts = Vec::new(alloc);
     let mut last = Last::new();
     let mut targets = Vec::new(alloc);
     while let Some(line) = lexer.next_line()? {
         let number = line.number;
-        match read_next::<O, T, F, J, A>(&mut builder, &mut last, &mut targets, line) {
+        match read_next::<O, T, F, J, A>(&mut builder, &mut texts, &mut last, &mut targets, line) {
             Ok(None) => {}
             Ok(Some(cause)) => {
                 return Err(Fault {
@@ -55,7 +100,8 @@ fn read_items<'a, O: Copy, T: Copy, F: Copy, J: Judge<O, T, F>, A: Allocator + C
             Err(_) => return Err(Fault::MEMORY),
         }
     }
-    builder.finish(J::causes().block)
+    let items = builder.finish(J::causes().block)?;
+    Ok(Numbered { items, texts })
 }
 
 /// What a text writes in the format of a judge, or the first refusal of its lines. The cause is `Memory`, and the line 0,
@@ -68,6 +114,6 @@ pub fn read_text<'a, O: Copy, T: Copy, F: Copy, J: Judge<O, T, F>, A: Allocator 
     ensures ok { IfOk result (λ read. Writes (format_of J.table) text.now read) }
     ensures err { IfErr result (λ fault. (fault ≡ memory_fault) ⊎ IsRefusedBy (format_of J.table) text.now fault) }
 {
-    let items = read_items::<O, T, F, J, A>(alloc, text)?;
-    Ok(JudgedText::new(items))
+    let read = read_items::<O, T, F, J, A>(alloc, text)?;
+    Ok(JudgedText::new(read))
 }

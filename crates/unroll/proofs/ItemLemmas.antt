@@ -1,5 +1,5 @@
 -- The instructions of a circuit's items are those of its text.
-use Rattle.std.proofs.Common.{◌≡◌, ℕ, suc, ◌+◌, ◌≤◌, List, [], ◌∷◌, ◌++◌, length, drop, Some, refl, sym, ap, ◌∙◌, subst, append_assoc, append-nil, arith}
+use Rattle.std.proofs.Common.{◌≡◌, ℕ, zero, suc, ◌+◌, ◌≤◌, List, [], ◌∷◌, ◌++◌, length, drop, Some, refl, sym, ap, ◌∙◌, subst, append_assoc, append-nil, arith}
 use Rattle.std.specs.Prelude.{slice_get, max}
 use Rattle.std.proofs.lemmas.List.{drop_all}
 use Rattle.stim_parser.specs.Circuits.{AllFit, Fits, IsCircuit}
@@ -62,6 +62,14 @@ drop_next t i item got =
 
 pub fits_next : (t : Tree) (i : ℕ) (item : Item) → FitsFrom t i → Some item ≡ slice_get (items_of t) i → FitsFrom t (i + 1)
 fits_next t i item h got = each-next Fits item (drop (i + 1) (items_of t)) (subst (EachDoes Fits) (drop_next t i item got) h)
+
+each_drop : (P : Instruction → Type 0) (items : List Item) (i : ℕ) → EachDoes P items → EachDoes P (drop i items)
+each_drop P items zero h = h
+each_drop P [] (suc i) h = h
+each_drop P (item ∷ items) (suc i) h = each_drop P items i (each-next P item items h)
+
+pub fits_at : (t : Tree) (i : ℕ) (item : Item) → IsCircuit t → Some item ≡ slice_get (items_of t) i → IsSound item
+fits_at t i item circuit got = sound_at t i item (each_drop Fits (items_of t) i (each_sound t circuit)) got
 
 -- ---- qubits
 

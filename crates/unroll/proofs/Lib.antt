@@ -42,3 +42,4 @@ pub mod BeyondLemmas
 pub mod CoordinateFits
 pub mod PlacingLoops
 pub mod StatedLemmas
+pub mod NumberLemmas

@@ -5,10 +5,9 @@ use Rattle.std.specs.Prelude.{◌≡◌}
 use Rattle.programs.specs.declared.program.Parts.{Parts}
 use Rattle.programs.specs.declared.step.Counts.{Counts}
 use Rattle.programs.specs.Made.{text_steps}
-use Rattle.programs.specs.Trees.{IsCircuit, tree_of, unrolled}
+use Rattle.programs.specs.Trees.{IsCircuit}
 use Rattle.stim_parser.specs.Trees.{Tree}
 use Rattle.unroll.specs.declared.assembly.Lists.{Lists}
-use Rattle.unroll.specs.declared.writing.Written.{Written}
 use Rattle.unroll.specs.Coordinates.{coordinates_of}
 use Rattle.unroll.specs.Detectors.{detectors_of}
 use Rattle.unroll.specs.Kept.{kept_entries, kept_products}
@@ -32,13 +31,6 @@ pub record ArePartsOf {A : Type 0} (tree : Tree) (parts : Parts A) : Type 0 wher
   pub coordinates : parts.coordinates ≡ coordinates_of tree
   pub kept : parts.entries ≡ kept_entries tree
   pub products : parts.products ≡ kept_products tree
-
--- these are the tree's steps with their blocks, and what is kept of them
-pub record IsWritten {A : Type 0} (tree : Tree) (written : Written A) : Type 0 where
-  pub circuit : IsCircuit written.nodes.items
-  pub steps : unrolled (tree_of written.nodes.items) ≡ steps_of tree
-  pub kept : written.entries ≡ kept_entries tree
-  pub products : written.products ≡ kept_products tree
 
 -- these are the tree's targets, and the coordinates of its detectors
 pub record HasLists {A : Type 0} (tree : Tree) (lists : Lists A) : Type 0 where

@@ -29,7 +29,7 @@ draft_of w =
     record {
       outer = w.builder.outer;
       here = w.builder.here;
-      entries = w.entries;
+      entries = w.entries.kept;
       products = w.products;
     }
 

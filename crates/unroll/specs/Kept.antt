@@ -23,6 +23,7 @@ use Rattle.unroll.specs.Made.{qubit_of, products_of}
 abbrev pub first_argument : List (List ℕ) → List ℕ
 first_argument arguments = slice_index_or arguments 0 []
 
+-- an entry of a probability and letters
 abbrev pub entry_of : List Term → List ℕ → Kept
 entry_of terms probability =
     record { text = probability; bound = unwrap_or (probability_bound probability) 0; terms = terms }

@@ -2,6 +2,7 @@ pub mod Flattened
 pub mod Made
 pub mod Totals
 pub mod Kept
+pub mod Numbered
 pub mod Steps
 pub mod Detectors
 pub mod Observables

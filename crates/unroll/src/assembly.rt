@@ -1,7 +1,7 @@
 ghost use Rattle.std.specs.Prelude.{◌≡◌, ◌⊎◌, None, Ok, Err, IfOk, IfErr};
 ghost use Rattle.step_model.specs.Faults.{memory_fault};
 ghost use Rattle.programs.specs.Made.{listing_of as made_of, PartsFit};
-ghost use Rattle.unroll.specs.Assembled.{ArePartsOf, HasLists, IsWritten};
+ghost use Rattle.unroll.specs.Assembled.{ArePartsOf, HasLists};
 ghost use Rattle.unroll.specs.Refusals.{refusal_of};
 ghost use Rattle.unroll.specs.Summed.{AreTotals};
 ghost use Rattle.unroll.specs.Unrolled.{listing_of, program_of};
@@ -12,7 +12,7 @@ use crate::observables::observables_of;
 use crate::qubits::qubit_total;
 use crate::refusals::refusal_of;
 use crate::totals::{Totals, totals_of};
-use crate::writing::{Written, written_of};
+use crate::writing::written_of;
 use flat_lists::FlatLists;
 use programs::{Counts, Parts, Program};
 use std::alloc::{AllocError, Allocator};
@@ -42,22 +42,22 @@ fn lists_of<A: Allocator + Copy>(alloc: A, circuit: &Circuit<'_, A>) -> Result<L
     })
 }
 
-/// The parts of a circuit's program, put together.
-fn assembled<'a, A: Allocator + Copy>(
-    circuit: &Circuit<'a, A>,
+/// The parts of the program of a circuit that has one.
+fn parts_of<'a, A: Allocator + Copy>(
+    alloc: A,
+    circuit: Circuit<'a, A>,
     totals: Totals,
-    written: Written<'a, A>,
-    lists: Lists<A>,
-) -> Parts<'a, A>
-    requires accepted { refusal_of circuit.now ≡ None }
-    requires totals { AreTotals circuit.now totals }
-    requires written { IsWritten circuit.now written }
-    requires lists { HasLists circuit.now lists }
-    ensures { ArePartsOf circuit.now result }
+) -> Result<Parts<'a, A>, AllocError>
+    requires accepted { refusal_of circuit ≡ None }
+    requires totals { AreTotals circuit totals }
+    ensures { IfOk result (ArePartsOf circuit.entry) }
 {
     circuit.fits();
-    Parts {
-        qubits: qubit_total(circuit),
+    let qubits = qubit_total(&circuit);
+    let lists = lists_of(alloc, &circuit)?;
+    let written = written_of(alloc, circuit)?;
+    Ok(Parts {
+        qubits,
         steps: totals.made as usize,
         counts: Counts {
             records: totals.records as u32,
@@ -70,36 +70,21 @@ fn assembled<'a, A: Allocator + Copy>(
         coordinates: lists.coordinates,
         entries: written.entries,
         products: written.products,
-    }
-}
-
-/// The parts of the program of a circuit that has one.
-fn parts_of<'a, A: Allocator + Copy>(
-    alloc: A,
-    circuit: &Circuit<'a, A>,
-    totals: Totals,
-) -> Result<Parts<'a, A>, AllocError>
-    requires accepted { refusal_of circuit.now ≡ None }
-    requires totals { AreTotals circuit.now totals }
-    ensures { IfOk result (ArePartsOf circuit.now) }
-{
-    let written = written_of(alloc, circuit)?;
-    let lists = lists_of(alloc, circuit)?;
-    Ok(assembled(circuit, totals, written, lists))
+    })
 }
 
 /// The program of a circuit, or why it has none. Time and memory grow with the text and with what detectors and
 /// observables list once blocks are unrolled; otherwise they don't grow with the turns of blocks.
 pub fn unroll<'a, A: Allocator + Copy>(
     alloc: A,
-    circuit: &Circuit<'a, A>,
+    circuit: Circuit<'a, A>,
 ) -> Result<Program<'a, A>, Fault>
-    ensures ok { IfOk result (λ program. program_of circuit.now ≡ Ok program) }
-    ensures err { IfErr result (λ fault. (fault ≡ memory_fault) ⊎ (program_of circuit.now ≡ Err fault)) }
+    ensures ok { IfOk result (λ program. program_of circuit.entry ≡ Ok program) }
+    ensures err { IfErr result (λ fault. (fault ≡ memory_fault) ⊎ (program_of circuit.entry ≡ Err fault)) }
 {
     circuit.fits();
-    let totals = totals_of(circuit);
-    if let Some(fault) = refusal_of(circuit, &totals) {
+    let totals = totals_of(&circuit);
+    if let Some(fault) = refusal_of(&circuit, &totals) {
         return Err(fault);
     }
     match parts_of(alloc, circuit, totals) {

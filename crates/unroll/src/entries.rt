@@ -1,26 +1,18 @@
-ghost use Rattle.std.specs.Prelude.{◌≡◌, ◌≤◌, ◌++◌, All, map, unwrap_or, OnOk};
+ghost use Rattle.std.specs.Prelude.{◌≡◌, ◌<◌, ◌≤◌, [], ◌∷◌, All, length, map, slice_index_or, OnOk};
+ghost use Rattle.chances.specs.Chances.{no_chance};
 ghost use Rattle.block_text.specs.Kept.{instruction_in};
-ghost use Rattle.unroll.specs.Kept.{entries_of as entries_made, entry_at, first_argument, flip_entries, letter_at, term_at, term_of};
+ghost use Rattle.programs.specs.Entries.{entry_from};
+ghost use Rattle.unroll.specs.Kept.{entries_of as entries_made, flip_entries, letter_at, term_at, term_of};
+ghost use Rattle.unroll.specs.Numbered.{IsFlipNumber, IsInstructionNumber, with_entries};
 ghost use Rattle.unroll.specs.Pushed.{IsSmall};
 ghost use Rattle.unroll.specs.Totals.{qubits_to};
-ghost use Rattle.step_model.specs.Probabilities.{probability_bound};
 
 use crate::targets::qubit_of;
 use pauli_word::Letter;
-use programs::Entries;
+use programs::EntryBuilder;
 use std::alloc::{AllocError, Allocator};
 use step_model::Term;
-use stim_parser::{Instruction, LastProbability, Operation, Target};
-
-/// Floor of a probability times 2^64; 0 where the text is no probability.
-fn bound_of<'a>(last: &mut LastProbability<'a>, text: &'a [u8]) -> u128
-    ensures { result ≡ unwrap_or (probability_bound text.now) 0 }
-{
-    match last.bound(text) {
-        Some(bound) => bound,
-        None => 0,
-    }
-}
+use stim_parser::{Instruction, Operation, Target, has_argument};
 
 /// The letter of a target.
 pub(crate) fn letter_at(target: Target) -> Letter
@@ -58,73 +50,57 @@ fn name_terms<A: Allocator + Copy>(
     Ok(())
 }
 
-/// Appends an entry of one letter for each target.
-fn push_entries<'a, A: Allocator + Copy>(
-    entries: &mut Entries<'a, A>,
-    last: &mut LastProbability<'a>,
+/// Appends an entry of one letter for each target, of the probability with a number.
+fn push_entries<A: Allocator + Copy>(
+    entries: &mut EntryBuilder<'_, A>,
+    number: usize,
     letter: Letter,
-    text: &'a [u8],
     targets: &[Target],
 ) -> Result<(), AllocError>
-    requires { All IsSmall targets.now }
-    ensures { OnOk result (entries.new ≡ entries.old ++ map (entry_at letter text.now) targets.now) }
+    requires small { All IsSmall targets.now }
+    requires there { number < length entries.old.chances }
+    ensures { OnOk result (entries.new ≡ with_entries (map (λ target. entry_from (slice_index_or entries.old.chances number no_chance) (term_at letter target ∷ [])) targets.now) entries.old) }
 {
-    let bound = bound_of(last, text);
     for target in targets {
-        entries.push(text, bound, &[term_at(letter, *target)])?;
+        entries.push(number, &[term_at(letter, *target)])?;
     }
     Ok(())
 }
 
-/// The first argument of an instruction, or nothing where there is none.
-fn first_argument<'a>(instruction: Instruction<'_, 'a>) -> &'a [u8]
-    ensures { result.now ≡ first_argument (instruction_in instruction.entry).arguments }
-{
-    match stim_parser::first_argument(instruction.arguments) {
-        Some(text) => text,
-        None => &[],
-    }
-}
-
 /// Appends the entry of a measurement, where it has a probability.
-fn push_flip<'a, A: Allocator + Copy>(
-    entries: &mut Entries<'a, A>,
-    last: &mut LastProbability<'a>,
-    instruction: Instruction<'_, 'a>,
+fn push_flip<A: Allocator + Copy>(
+    entries: &mut EntryBuilder<'_, A>,
+    instruction: Instruction<'_, '_>,
 ) -> Result<(), AllocError>
-    ensures { OnOk result (entries.new ≡ entries.old ++ flip_entries (instruction_in instruction.entry).arguments) }
+    requires { IsFlipNumber entries.old.chances (instruction_in instruction).arguments instruction.mark }
+    ensures { OnOk result (entries.new ≡ with_entries (flip_entries (instruction_in instruction.entry).arguments) entries.old) }
 {
-    match stim_parser::first_argument(instruction.arguments) {
-        Some(text) => entries.push(text, bound_of(last, text), &[]),
-        None => Ok(()),
+    if has_argument(instruction.arguments) {
+        entries.push(instruction.mark as usize, &[])
+    } else {
+        Ok(())
     }
 }
 
-/// Appends the entries of an instruction.
-pub(crate) fn push_instruction<'a, A: Allocator + Copy>(
-    entries: &mut Entries<'a, A>,
+/// Appends the entries of an instruction, whose mark is the number of its probability.
+pub(crate) fn push_instruction<A: Allocator + Copy>(
+    entries: &mut EntryBuilder<'_, A>,
     terms: &mut Vec<Term, A>,
-    last: &mut LastProbability<'a>,
-    instruction: Instruction<'_, 'a>,
+    instruction: Instruction<'_, '_>,
 ) -> Result<(), AllocError>
-    requires { All IsSmall instruction.targets.now }
-    ensures { OnOk result (entries.new ≡ entries.old ++ entries_made (instruction_in instruction.entry)) }
+    requires small { All IsSmall instruction.targets.now }
+    requires number { IsInstructionNumber entries.old.chances (instruction_in instruction) instruction.mark }
+    ensures { OnOk result (entries.new ≡ with_entries (entries_made (instruction_in instruction.entry)) entries.old) }
 {
+    let number = instruction.mark as usize;
     match instruction.operation {
         Operation::Measures(_) | Operation::MeasuresAndResets(_) | Operation::MeasuresProducts => {
-            push_flip(entries, last, instruction)
+            push_flip(entries, instruction)
         }
-        Operation::Errs(letter) => push_entries(
-            entries,
-            last,
-            letter,
-            first_argument(instruction),
-            instruction.targets,
-        ),
+        Operation::Errs(letter) => push_entries(entries, number, letter, instruction.targets),
         Operation::ErrsTogether => {
             name_terms(terms, instruction.targets)?;
-            let text = first_argument(instruction);
-            entries.push(text, bound_of(last, text), terms)
+            entries.push(number, terms)
         }
         _ => Ok(()),
     }

@@ -18,5 +18,5 @@ pub fn read_program<'a, A: Allocator + Copy>(
     ensures err { IfErr result (λ fault. (fault ≡ memory_fault) ⊎ (program_in text.now ≡ Err fault)) }
 {
     let circuit = parse(alloc, text)?;
-    unroll(alloc, &circuit)
+    unroll(alloc, circuit)
 }

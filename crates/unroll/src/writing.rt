@@ -1,9 +1,11 @@
-ghost use Rattle.std.specs.Prelude.{◌≡◌, ◌<◌, ◌^◌, [], None, IfOk, OnOk};
+ghost use Rattle.std.specs.Prelude.{◌≡◌, ◌<◌, ◌^◌, [], map, None, IfOk, OnOk};
+ghost use Rattle.chances.specs.Chances.{chance_of};
 ghost use Rattle.programs.specs.Trees.{IsCircuit, tree_of, unrolled};
-ghost use Rattle.block_text.specs.Kept.{instruction_in, item_in};
+ghost use Rattle.block_text.specs.Kept.{instruction_in, item_in, mark_in};
 ghost use Rattle.unroll.specs.Drafts.{CanWrite, HasRoom, Writes, draft_of, with_instruction};
 ghost use Rattle.unroll.specs.Kept.{kept_entries, kept_products};
 ghost use Rattle.unroll.specs.Made.{flip_of};
+ghost use Rattle.unroll.specs.Numbered.{IsInstructionNumber, IsItemNumber};
 ghost use Rattle.unroll.specs.Refusals.{first_far_line};
 ghost use Rattle.unroll.specs.Steps.{steps_of};
 ghost use Rattle.unroll.specs.Totals.{record_total, step_total};
@@ -11,11 +13,12 @@ ghost use Rattle.unroll.specs.Totals.{record_total, step_total};
 use crate::entries::push_instruction;
 use crate::products::push_kept_products;
 use crate::steps::push_steps;
+use chances::ChanceText;
 use flat_lists::FlatLists;
-use programs::{CircuitBuilder, Entries, Node};
+use programs::{CircuitBuilder, Entries, EntryBuilder, Node};
 use std::alloc::{AllocError, Allocator};
 use step_model::Term;
-use stim_parser::{Circuit, Instruction, Item, LastProbability, has_argument};
+use stim_parser::{Circuit, Instruction, Item, Numbered, has_argument};
 
 /// A circuit's steps with its blocks, and what is kept beside them.
 #[derive(Drop)]
@@ -29,11 +32,10 @@ pub(crate) struct Written<'a, A: Allocator + Copy> {
 #[derive(Drop)]
 struct Writing<'a, A: Allocator + Copy> {
     builder: CircuitBuilder<A>,
-    entries: Entries<'a, A>,
+    entries: EntryBuilder<'a, A>,
     products: FlatLists<Term, A>,
     // Letters are gathered here before they are kept.
     terms: Vec<Term, A>,
-    last: LastProbability<'a>,
 }
 
 /// The entry of the fault that flips an instruction's records, where the instruction has an argument.
@@ -48,23 +50,25 @@ fn flip_of(entry: u32, instruction: Instruction<'_, '_>) -> Option<u32>
 }
 
 impl<'a, A: Allocator + Copy> Writing<'a, A> {
-    /// Nothing so far.
-    fn new(alloc: A) -> Self
-        ensures { draft_of result ≡ record { outer = []; here = []; entries = []; products = [] } }
+    /// Nothing so far. The probabilities of all instructions are among these.
+    fn new(alloc: A, texts: Vec<ChanceText<'a>, A>) -> Self
+        ensures draft { draft_of result ≡ record { outer = []; here = []; entries = []; products = [] } }
+        ensures chances { result.entries.chances ≡ map chance_of texts.entry.items }
     {
         Writing {
             builder: CircuitBuilder::new(alloc),
-            entries: Entries::new(alloc),
+            entries: EntryBuilder::new(alloc, texts),
             products: FlatLists::new(alloc),
             terms: Vec::new(alloc),
-            last: LastProbability::new(),
         }
     }
 
     /// Writes down an instruction. What is kept of it is numbered from what is kept already.
     fn write_instruction(&mut self, instruction: Instruction<'_, 'a>) -> Result<(), AllocError>
-        requires { HasRoom (instruction_in instruction) (draft_of self.old) }
-        ensures { OnOk result (draft_of self.new ≡ with_instruction (instruction_in instruction.entry) (draft_of self.old)) }
+        requires room { HasRoom (instruction_in instruction) (draft_of self.old) }
+        requires number { IsInstructionNumber self.old.entries.chances (instruction_in instruction) instruction.mark }
+        ensures draft { OnOk result (draft_of self.new ≡ with_instruction (instruction_in instruction.entry) (draft_of self.old)) }
+        ensures chances { OnOk result (self.new.entries.chances ≡ self.old.entries.chances) }
     {
         let operation = instruction.operation;
         let targets = instruction.targets;
@@ -79,19 +83,16 @@ impl<'a, A: Allocator + Copy> Writing<'a, A> {
             flip,
             targets,
         )?;
-        push_instruction(
-            &mut self.entries,
-            &mut self.terms,
-            &mut self.last,
-            instruction,
-        )?;
+        push_instruction(&mut self.entries, &mut self.terms, instruction)?;
         push_kept_products(&mut self.products, &mut self.terms, operation, targets)
     }
 
     /// Writes down an item.
     fn write_item(&mut self, item: Item<'_, 'a>) -> Result<(), AllocError>
-        requires { CanWrite (item_in item) (draft_of self.old) }
-        ensures { OnOk result (Writes (item_in item.entry) (draft_of self.old) (draft_of self.new)) }
+        requires can { CanWrite (item_in item) (draft_of self.old) }
+        requires number { IsItemNumber self.old.entries.chances (item_in item) (mark_in item) }
+        ensures writes { OnOk result (Writes (item_in item.entry) (draft_of self.old) (draft_of self.new)) }
+        ensures chances { OnOk result (self.new.entries.chances ≡ self.old.entries.chances) }
     {
         match item {
             Item::Does(instruction) => self.write_instruction(instruction),
@@ -105,12 +106,12 @@ impl<'a, A: Allocator + Copy> Writing<'a, A> {
         requires { self.builder.outer ≡ [] }
         ensures circuit { IsCircuit result.nodes.items }
         ensures steps { unrolled (tree_of result.nodes.items) ≡ self.entry.builder.here }
-        ensures entries { result.entries ≡ self.entry.entries }
+        ensures entries { result.entries ≡ self.entry.entries.kept }
         ensures products { result.products ≡ self.entry.products }
     {
         Written {
             nodes: self.builder.finish(),
-            entries: self.entries,
+            entries: self.entries.finish(),
             products: self.products,
         }
     }
@@ -119,20 +120,20 @@ impl<'a, A: Allocator + Copy> Writing<'a, A> {
 /// A circuit's steps with its blocks, and what is kept beside them. Each instruction is gone over once.
 pub(crate) fn written_of<'a, A: Allocator + Copy>(
     alloc: A,
-    circuit: &Circuit<'a, A>,
+    circuit: Circuit<'a, A>,
 ) -> Result<Written<'a, A>, AllocError>
-    requires near { first_far_line 0 circuit.now ≡ None }
-    requires few_records { record_total circuit.now < 2 ^ 32 }
-    requires few_steps { step_total circuit.now < 2 ^ 32 }
+    requires near { first_far_line 0 circuit ≡ None }
+    requires few_records { record_total circuit < 2 ^ 32 }
+    requires few_steps { step_total circuit < 2 ^ 32 }
     ensures circuit { IfOk result (λ w. IsCircuit w.nodes.items) }
-    ensures steps { IfOk result (λ w. unrolled (tree_of w.nodes.items) ≡ steps_of circuit.now) }
-    ensures entries { IfOk result (λ w. w.entries ≡ kept_entries circuit.now) }
-    ensures products { IfOk result (λ w. w.products ≡ kept_products circuit.now) }
+    ensures steps { IfOk result (λ w. unrolled (tree_of w.nodes.items) ≡ steps_of circuit.entry) }
+    ensures entries { IfOk result (λ w. w.entries ≡ kept_entries circuit.entry) }
+    ensures products { IfOk result (λ w. w.products ≡ kept_products circuit.entry) }
 {
-    circuit.fits();
-    let mut writing = Writing::new(alloc);
-    for i in 0..circuit.len() {
-        writing.write_item(circuit.item(i))?;
+    let Numbered { items, texts } = circuit.numbered();
+    let mut writing = Writing::new(alloc, texts);
+    for i in 0..items.len() {
+        writing.write_item(items.get(i))?;
     }
     Ok(writing.finish())
 }

@@ -10,6 +10,7 @@ mod last_probabilities;
 mod lines;
 mod lists;
 mod long_streams;
+mod numbers;
 mod reader_ends;
 mod texts;
 mod walks;

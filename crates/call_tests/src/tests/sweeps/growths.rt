@@ -8,7 +8,6 @@ use std::fmt::Debug;
 use std::process::Abort;
 use std::test::Fail;
 use step_model::{Cause, Fault};
-use stim_parser::{Circuit, parse};
 use unroll::read_program;
 
 /// No call takes so many growths.
@@ -141,14 +140,12 @@ fn sweep_with_model<'m, C: Call>(
     rt: &impl Abort,
     alloc: Global,
     memory: Memory<'m>,
-    circuit: &Circuit<'static, Memory<'m>>,
     program: &Program<'static, Memory<'m>>,
     calls: &[C],
     some: bool,
 ) -> Result<(), Fault> {
     let model = dem_parser::read(memory, MODEL.as_bytes())?;
     let lent = Lent {
-        circuit,
         program,
         model: &model,
     };
@@ -160,23 +157,11 @@ fn sweep_with_program<'m, C: Call>(
     rt: &impl Abort,
     alloc: Global,
     memory: Memory<'m>,
-    circuit: &Circuit<'static, Memory<'m>>,
     calls: &[C],
     some: bool,
 ) -> Result<(), Fault> {
     let program = read_program(memory, CIRCUIT.as_bytes())?;
-    sweep_with_model(rt, alloc, memory, circuit, &program, calls, some)
-}
-
-fn sweep_with_circuit<'m, C: Call>(
-    rt: &impl Abort,
-    alloc: Global,
-    memory: Memory<'m>,
-    calls: &[C],
-    some: bool,
-) -> Result<(), Fault> {
-    let circuit = parse(memory, CIRCUIT.as_bytes())?;
-    sweep_with_program(rt, alloc, memory, &circuit, calls, some)
+    sweep_with_model(rt, alloc, memory, &program, calls, some)
 }
 
 /// Refuses each growth of each of these calls once, in memory that holds nothing afterwards.
@@ -187,7 +172,7 @@ pub(super) fn sweep<C: Call>(
     some: bool,
 ) -> Result<(), Fail> {
     let memory = Scarce::new(alloc);
-    sweep_with_circuit(rt, alloc, &memory, calls, some)?;
+    sweep_with_program(rt, alloc, &memory, calls, some)?;
     assert!(rt; memory.held() == 0);
     Ok(())
 }

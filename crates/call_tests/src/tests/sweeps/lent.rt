@@ -6,7 +6,6 @@ use dem_text::Model;
 use pauli_word::Word;
 use programs::Program;
 use std::alloc::AllocError;
-use stim_parser::Circuit;
 
 /// Every kind of step, on five qubits: 11 collapses, 8 records, 10 faults, 2 detectors and 2 observables. In the run without
 /// faults, with all coins 0, the records are 10010000: the first of each turn is inverted, and its feedback makes qubit 4 1 and
@@ -48,10 +47,9 @@ repeat 3 {
 }
 ";
 
-/// A circuit as a tree and as a program, and an error model.
+/// A program and an error model.
 #[derive(Clone, Copy)]
 pub(super) struct Lent<'l, 'm> {
-    pub circuit: &'l Circuit<'static, Memory<'m>>,
     pub program: &'l Program<'static, Memory<'m>>,
     pub model: &'l Model<'static, Memory<'m>>,
 }

@@ -4,11 +4,12 @@ ghost use Rattle.std.specs.Prelude.{◌≡◌, ◌<◌, ◌≤◌, [], length, I
 
 use super::growths::{Call, Memory, Ration, told};
 use super::lent::Lent;
+use chances::{ChanceText, number_of};
 use dem_text::{LinesText, Model, write_behind};
 use flat_lists::FlatLists;
 use gate_table::Gate;
 use pauli_word::Letter;
-use programs::{CircuitBuilder, Entries, TextStep};
+use programs::{CircuitBuilder, Entries, EntryBuilder, TextStep};
 use slow_ends::SlowSource;
 use std::alloc::{AllocError, Global};
 use step_model::{Fault, MemorySink, Term, read_all};
@@ -16,6 +17,7 @@ use step_model::{Fault, MemorySink, Term, read_all};
 #[derive(Clone, Copy, Debug)]
 pub(super) enum Growing {
     Lists,
+    Texts,
     Entries,
     ModelLines,
     HeldLines,
@@ -27,8 +29,9 @@ pub(super) enum Growing {
     Source,
 }
 
-pub(super) const GROWING: [Growing; 10] = [
+pub(super) const GROWING: [Growing; 11] = [
     Growing::Lists,
+    Growing::Texts,
     Growing::Entries,
     Growing::ModelLines,
     Growing::HeldLines,
@@ -44,6 +47,7 @@ impl Call for Growing {
     fn is_right<'m>(self, ration: Ration<'m>, _lent: &Lent<'_, 'm>) -> Result<bool, Fault> {
         match self {
             Growing::Lists => lists_are_right(ration.begin()),
+            Growing::Texts => texts_are_right(ration.begin()),
             Growing::Entries => entries_are_right(ration.begin()),
             Growing::ModelLines => model_is_right(ration.begin()),
             Growing::HeldLines => told(held_lines_are_made(ration.begin())),
@@ -93,13 +97,13 @@ fn x_at(qubit: u32) -> Term {
     }
 }
 
-/// Whether the entry with this number has that as its bound and its qubit.
+/// Whether the entry with this number has that as its qubit.
 fn is_numbered<'m>(entries: &Entries<'_, Memory<'m>>, n: u32) -> bool
     requires { n < length entries.now }
 {
     let e = n as usize;
     (entries.text(e) == b"0.5".as_slice())
-        & (entries.bound(e) == u128::from(n))
+        & (entries.bound(e) == 1 << 63)
         & (entries.terms(e) == [x_at(n)].as_slice())
 }
 
@@ -116,14 +120,36 @@ fn are_numbered<'m>(entries: &Entries<'_, Memory<'m>>, count: u32) -> bool {
     true
 }
 
-fn entries_are_right(memory: Memory<'_>) -> Result<bool, Fault> {
-    let mut entries = Entries::new(memory);
+fn texts_are_right(memory: Memory<'_>) -> Result<bool, Fault> {
+    let mut texts = Vec::new(memory);
     for n in 0..20u32 {
-        if entries.push(b"0.5", u128::from(n), &[x_at(n)]).is_err() {
-            return refused(are_numbered(&entries, n));
+        if number_of(&mut texts, b"0.5", u128::from(n)).is_err() {
+            return refused(texts.len() == n as usize);
         }
     }
-    Ok(are_numbered(&entries, 20))
+    Ok(texts.len() == 20)
+}
+
+/// One text of a probability.
+fn one_text<'m>(memory: Memory<'m>) -> Result<Vec<ChanceText<'static>, Memory<'m>>, AllocError>
+    ensures { IfOk result (λ texts. 0 < length texts.items) }
+{
+    let mut texts = Vec::new(memory);
+    number_of(&mut texts, b"0.5", 1 << 63)?;
+    Ok(texts)
+}
+
+fn entries_are_right(memory: Memory<'_>) -> Result<bool, Fault> {
+    let Ok(texts) = one_text(memory) else {
+        return Err(Fault::MEMORY);
+    };
+    let mut entries = EntryBuilder::new(memory, texts);
+    for n in 0..20u32 {
+        if entries.push(0, &[x_at(n)]).is_err() {
+            return refused(are_numbered(&entries.finish(), n));
+        }
+    }
+    Ok(are_numbered(&entries.finish(), 20))
 }
 
 /// Whether a model has so many lines, of which the last flips this target.

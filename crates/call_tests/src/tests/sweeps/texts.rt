@@ -6,13 +6,11 @@ use dem_text::Model;
 use forward_sim::{read_coins, read_numbers};
 use programs::Program;
 use step_model::Fault;
-use stim_parser::Circuit;
-use unroll::{read_program, unroll};
+use unroll::read_program;
 
 #[derive(Clone, Copy, Debug)]
 pub(super) enum Reader {
     Circuit,
-    Unrolled,
     Program,
     Model,
     Symptom,
@@ -21,9 +19,8 @@ pub(super) enum Reader {
     Numbers,
 }
 
-pub(super) const READERS: [Reader; 8] = [
+pub(super) const READERS: [Reader; 7] = [
     Reader::Circuit,
-    Reader::Unrolled,
     Reader::Program,
     Reader::Model,
     Reader::Symptom,
@@ -37,7 +34,6 @@ impl Call for Reader {
         let memory = ration.begin();
         match self {
             Reader::Circuit => tree_is_right(memory),
-            Reader::Unrolled => unrolled_is_right(memory, lent.circuit),
             Reader::Program => program_is_right(memory),
             Reader::Model => model_is_right(memory),
             Reader::Symptom => symptom_is_right(memory, lent.model),
@@ -68,14 +64,6 @@ fn is_program<'m>(program: &Program<'_, Memory<'m>>) -> bool {
 
 fn is_model<'m>(model: &Model<'_, Memory<'m>>) -> bool {
     model.line_count() == 10 && model.detector_count() == 5 && model.observable_count() == 2
-}
-
-fn unrolled_is_right<'m>(
-    memory: Memory<'m>,
-    circuit: &Circuit<'static, Memory<'m>>,
-) -> Result<bool, Fault> {
-    let program = unroll(memory, circuit)?;
-    Ok(is_program(&program))
 }
 
 fn program_is_right(memory: Memory<'_>) -> Result<bool, Fault> {

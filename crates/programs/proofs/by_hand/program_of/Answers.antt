@@ -13,10 +13,11 @@ returns g c =
     let are : AreOf parts n pieces lists =
     record {
       qubits = c.in_ok-keep.ensures.qubits ∙ c.bare-parts.ensures.qubits;
+      entries = c.in_ok-keep.ensures.entries ∙ c.bare-parts.ensures.entries ∙ of_some _ _ c.in-Some-2.entries c.in-Some-2.is c.in_ok-entries.ensures;
       steps =
           ap (λ nodes. unrolled (tree_of nodes.items)) (c.in_ok-keep.ensures.nodes ∙ c.bare-parts.ensures.nodes)
           ∙ of_some _ _ c.in-Some.nodes c.in-Some.is c.in_ok-nodes.ensures.steps;
-      keeps = c.in_ok-keep.ensures.lists c.if-not-branch.false;
+      keeps = c.in_ok-keep.ensures.lists;
     } in
     record {
       qubits = weaken _ _ c.checked.result (qubits_are parts n pieces lists are) c.checked.ensures;

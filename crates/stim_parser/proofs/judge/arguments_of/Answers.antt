@@ -5,11 +5,11 @@ use Rattle.stim_lexer.specs.Lexing.{cut_in}
 use Rattle.stim_parser.proofs.JudgeLemmas.{no_arguments, right_probabilities}
 use Rattle.stim_parser.proofs.judge.arguments_of.Goals as goal
 
-pub returns-then-are : goal.returns-then-are
-returns-then-are c =
-    right_probabilities c.args.causes c.args.greatest c.args.form (cut_in c.args.line) c.if-line.false (c.are.ensures c.if-are.true)
+pub returns-then-are-clause-refusal : goal.returns-then-are-clause-refusal
+returns-then-are-clause-refusal c =
+    right_probabilities c.args.causes c.args.greatest c.args.form (cut_in c.args.line) c.if-line.false (c.are.ensures.right c.if-are.true)
 
-pub returns-then-is_empty : goal.returns-then-is_empty
-returns-then-is_empty c =
+pub returns-then-is_empty-clause-refusal : goal.returns-then-is_empty-clause-refusal
+returns-then-is_empty-clause-refusal c =
     no_arguments c.args.causes c.args.greatest c.args.form (cut_in c.args.line) (c.takes_no_arguments.ensures c.if-takes_no_arguments.true) c.if-line.false
     (nil_from_length c.args.line.arguments.now (eqb-true _ _ (sym c.is_empty.ensures ∙ c.if-is_empty.true)))

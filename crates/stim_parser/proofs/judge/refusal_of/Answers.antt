@@ -9,5 +9,5 @@ returns-in-Err-clause-refusal g c =
     let table = g.J.Judge.table in
     let cut = cut_in c.args.line in
     let refused : first_of (refusals_of_arguments table.causes (table.argument_form c.args.keyword) cut) ≡ Some c.in-Err.cause =
-    sym (ap₂ (λ causes form. first_of (refusals_of_arguments causes form cut)) c.causes.ensures c.argument_form-asked.ensures) ∙ c.in-Err.ensures in
+    sym (ap₂ (λ causes form. first_of (refusals_of_arguments causes form cut)) c.causes.ensures c.argument_form-asked.ensures) ∙ c.in-Err.ensures.refusal in
     sym (keyword-arguments table c.args.depth c.args.keyword cut c.in-Err.cause refused)

@@ -1,16 +1,19 @@
-use Rattle.std.proofs.Common.{◌≡◌, Option, None, Some, Ok, ap, sym, ◌∙◌, inr}
+use Rattle.std.proofs.Common.{◌≡◌, Option, None, Some, Ok, Err, ap, subst, sym, ◌∙◌, inr}
 use Rattle.std.proofs.lemmas.Result.{err_from_is_err_and}
 use Rattle.stim_lexer.specs.declared.line.Line.{Line}
 use Rattle.stim_lexer.specs.Lexing.{Numbered, answered, cut_in, next_found}
+use Rattle.block_text.specs.Instructions.{Instruction}
+use Rattle.block_text.specs.Marked.{Marked}
 use Rattle.block_text.proofs.TextLemmas.{fewer, reads_on, refused_by_line, refused_by_byte, finished_reads, finished_refused}
 use Rattle.stim_parser.specs.Judging.{format_of}
+use Rattle.stim_parser.specs.Probabilities.{Keeps}
 use Rattle.stim_parser.proofs.reader.read_items.Goals as goal
 
 pub returns-in_err-line-clause-err : goal.returns-in_err-line-clause-err
 returns-in_err-line-clause-err g c =
     let text = c.args.text.now in
     let p = err_from_is_err_and c.from_residual.result c.from_residual.ensures.1 in
-    rw (p.1, p.2) (inr (refused_by_byte (format_of g.J.Judge.table) text c.loop-targets.builder c.loop-targets.lexer c.in_err-line.field-0.0 c.loop-targets.invariant c.in_err-line.ensures.line))
+    rw (p.1, p.2) (inr (refused_by_byte (format_of g.J.Judge.table) text c.loop-targets.builder.text c.loop-targets.lexer c.in_err-line.field-0.0 c.loop-targets.invariant.0 c.in_err-line.ensures.line))
 
 pub loop-targets-smaller : goal.loop-targets-smaller
 loop-targets-smaller g c =
@@ -25,9 +28,11 @@ loop-targets-preserved g c =
     let left = c.loop-targets.lexer in
     let n : Numbered = record { number = c.in-Some.line.number; cut = cut_in c.in-Some.line } in
     let next : Ok (Some n) ≡ next_found left =
-    sym (ap (λ (o : Option Line). answered (Ok o)) c.in-Some.is) ∙ c.in_ok-line.ensures.line in
-    reads_on (format_of g.J.Judge.table) c.args.text.now c.loop-targets.builder c.read_next.new.builder left c.next_line.new.self n c.loop-targets.invariant next c.next_line.ensures.rest
-    (sym c.in-Ok-None.field-0-is ∙ c.in-Ok-None.ensures.refused) c.in-Ok-None.ensures.after
+    sym (ap (λ (o : Option Line). answered (Ok o)) c.in-Some.is) ∙ c.in_ok-line.ensures.line in (
+      reads_on (format_of g.J.Judge.table) c.args.text.now c.loop-targets.builder.text c.read_next.new.builder.text left c.next_line.new.self n c.loop-targets.invariant.0 next c.next_line.ensures.rest
+          (sym c.in-Ok-None.field-0-is ∙ c.in-Ok-None.ensures.refused) c.in-Ok-None.ensures.after,
+      c.in-Ok-None.ensures.kept,
+    )
 
 pub returns-in-Ok-Some-clause-err : goal.returns-in-Ok-Some-clause-err
 returns-in-Ok-Some-clause-err g c =
@@ -35,18 +40,27 @@ returns-in-Ok-Some-clause-err g c =
     let n : Numbered = record { number = c.in-Some.line.number; cut = cut_in c.in-Some.line } in
     let next : Ok (Some n) ≡ next_found left =
     sym (ap (λ (o : Option Line). answered (Ok o)) c.in-Some.is) ∙ c.in_ok-line.ensures.line in
-    inr (refused_by_line (format_of g.J.Judge.table) c.args.text.now c.loop-targets.builder left n c.in-Ok-Some.cause c.loop-targets.invariant next
+    inr (refused_by_line (format_of g.J.Judge.table) c.args.text.now c.loop-targets.builder.text left n c.in-Ok-Some.cause c.loop-targets.invariant.0 next
     (sym c.in-Ok-Some.field-0-is ∙ c.in-Ok-Some.ensures.refused))
 
 pub returns-clause-ok : goal.returns-clause-ok
 returns-clause-ok g c =
     let next : Ok None ≡ next_found c.loop-targets.lexer =
     sym (ap (λ (o : Option Line). answered (Ok o)) c.in_default.is) ∙ c.in_ok-line.ensures.line in
-    finished_reads (format_of g.J.Judge.table) c.args.text.now c.loop-targets.builder c.loop-targets.lexer c.loop-targets.invariant next c.finish.result c.finish.ensures.ok
+    finished_reads (format_of g.J.Judge.table) c.args.text.now c.loop-targets.builder.text c.loop-targets.lexer c.loop-targets.invariant.0 next
+    (Ok c.in_ok-items.items.items)
+    (c.in_ok-items.ensures.opened, ap (λ (m : Marked (Instruction g.row.O.Denot g.row.T.Denot)). m.items) c.in_ok-items.ensures.items)
 
-pub returns-clause-err : goal.returns-clause-err
-returns-clause-err g c =
+pub returns-clause-kept : goal.returns-clause-kept
+returns-clause-kept g c =
+    subst (λ (m : Marked (Instruction g.row.O.Denot g.row.T.Denot)). Keeps g.J.Judge.table c.loop-targets.texts.items m) (sym c.in_ok-items.ensures.items)
+    c.loop-targets.invariant.1
+
+pub returns-in_err-items-clause-err : goal.returns-in_err-items-clause-err
+returns-in_err-items-clause-err g c =
     let next : Ok None ≡ next_found c.loop-targets.lexer =
     sym (ap (λ (o : Option Line). answered (Ok o)) c.in_default.is) ∙ c.in_ok-line.ensures.line in
-    finished_refused (format_of g.J.Judge.table) c.args.text.now c.loop-targets.builder c.loop-targets.lexer c.loop-targets.invariant next c.finish.result
-    (rw c.causes.ensures at c.finish.ensures.err)
+    let p = err_from_is_err_and c.from_residual-in_err-items.result c.from_residual-in_err-items.ensures.1 in
+    rw (p.1, p.2)
+    (finished_refused (format_of g.J.Judge.table) c.args.text.now c.loop-targets.builder.text c.loop-targets.lexer c.loop-targets.invariant.0 next
+    (Err _) (rw c.causes.ensures at c.in_err-items.ensures.err))

@@ -1,10 +1,14 @@
-use Rattle.std.proofs.Common.{ℕ, subst}
+use Rattle.std.proofs.Common.{ℕ, ap, subst}
 use Rattle.std.specs.Prelude.{⊤}
 use Rattle.stim_lexer.specs.Lexing.{cut_in}
+use Rattle.block_text.specs.Instructions.{Instruction}
 use Rattle.block_text.specs.Said.{OpensFew}
+use Rattle.block_text.specs.Unfinished.{Unfinished}
 use Rattle.block_text.proofs.SaidLemmas.{opens_few}
 use Rattle.stim_parser.specs.Judging.{reading_of}
+use Rattle.stim_parser.specs.Probabilities.{marked_in}
 use Rattle.stim_parser.proofs.FitLemmas.{readings_fit}
+use Rattle.stim_parser.proofs.MarkLemmas.{begun-keeps, ok_both}
 use Rattle.stim_parser.proofs.reader.read_next.Goals as goal
 
 pub take-requires : goal.take-requires
@@ -14,5 +18,14 @@ take-requires g c =
     let cut = cut_in c.args.line in
     let depth = c.depth.result in
     subst (λ (d : ℕ). OpensFew d c.in_ok-said.said) c.depth.ensures
-    (opens_few (λ _. ⊤) depth number c.in_ok-said.said c.read_line.new.targets.items (reading_of table depth number cut) c.in_ok-said.ensures
+    (opens_few (λ _. ⊤) depth number c.in_ok-said.said c.read_line.new.targets.items (reading_of table depth number cut) c.in_ok-said.ensures.reading
     (readings_fit table (λ _. ⊤) (λ depth number operation cut e h. tt) depth number cut))
+
+pub returns-clause-kept : goal.returns-clause-kept
+returns-clause-kept g c =
+    ok_both c.take.result
+    (λ text marks.
+    begun-keeps g.J.Judge.table c.args.texts.now.items c.mark_of.new.texts.items (marked_in c.args.builder.now) (marked_in c.take.new.self) c.args.line.number
+    c.in_ok-said.said c.in_ok-mark.mark c.as_slice.result.now c.requires c.in_ok-mark.ensures.kept c.in_ok-mark.ensures.few c.in_ok-mark.ensures.marked
+    (ap (λ (u : Unfinished (Instruction g.row.O.Denot g.row.T.Denot)). u.items) text) marks)
+    c.take.ensures.after c.take.ensures.marks

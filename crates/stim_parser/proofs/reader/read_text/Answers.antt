@@ -6,16 +6,16 @@ use Rattle.block_text.proofs.TreeLemmas.{items_are_written}
 use Rattle.stim_parser.specs.Judging.{format_of}
 use Rattle.stim_parser.proofs.reader.read_text.Goals as goal
 
-pub new-requires : goal.new-requires
-new-requires g c =
-    items_are_written g.J.Judge.Fits (format_of g.J.Judge.table) c.requires c.args.text.now c.in_ok-items.items c.in_ok-items.ensures.ok
+pub new-requires-clause-written : goal.new-requires-clause-written
+new-requires-clause-written g c =
+    items_are_written g.J.Judge.Fits (format_of g.J.Judge.table) c.requires c.args.text.now c.in_ok-read.read.items.items c.in_ok-read.ensures.ok
 
 pub returns-clause-ok : goal.returns-clause-ok
 returns-clause-ok g c =
-    c.in_ok-items.ensures.ok
+    c.in_ok-read.ensures.ok
     ∙ ap (λ (items : List (Item (Instruction g.row.O.Denot g.row.T.Denot))). Ok items) (sym c.new.ensures)
 
-pub returns-in_err-items-clause-err : goal.returns-in_err-items-clause-err
-returns-in_err-items-clause-err g c =
+pub returns-in_err-read-clause-err : goal.returns-in_err-read-clause-err
+returns-in_err-read-clause-err g c =
     let p = err_from_is_err_and c.from_residual.result c.from_residual.ensures.1 in
-    rw (p.1, p.2) c.in_err-items.ensures.err
+    rw (p.1, p.2) c.in_err-read.ensures.err

@@ -1,7 +1,10 @@
-use Rattle.std.proofs.Common.{◌≡◌, ◌++◌, map, take}
-use Rattle.unroll.specs.Kept.{entry_at}
+use Rattle.std.proofs.Common.{◌≡◌, ◌∷◌, [], map, take, get_or}
+use Rattle.chances.specs.Chances.{no_chance}
+use Rattle.programs.specs.Entries.{entry_from}
+use Rattle.unroll.specs.Kept.{term_at}
+use Rattle.unroll.specs.Numbered.{with_entries}
 use Rattle.unroll.proofs.entries.push_entries.Given as goal
 
 abbrev pub invariant-loop-target : goal.invariant-loop-target
 invariant-loop-target g l =
-    l.entries ≡ l.fn.entries ++ map (entry_at l.letter l.text) (take l.target-index l.targets)
+    l.entries ≡ with_entries (map (λ target. entry_from (get_or l.fn.entries.chances l.number no_chance) (term_at l.letter target ∷ [])) (take l.target-index l.targets)) l.fn.entries

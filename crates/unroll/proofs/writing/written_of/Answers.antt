@@ -1,37 +1,57 @@
-use Rattle.std.proofs.Common.{sym, ◌∙◌, subst, arith}
-use Rattle.block_text.specs.Kept.{item_in}
+use Rattle.std.proofs.Common.{List, map, length, ap, subst, refl, sym, ◌∙◌, arith}
+use Rattle.std.specs.Prelude.{slice_get}
+use Rattle.chances.specs.Chances.{Chance, chance_of}
+use Rattle.block_text.specs.Kept.{item_in, mark_in}
+use Rattle.stim_parser.specs.Texts.{Item}
 use Rattle.unroll.specs.Drafts.{Draft, draft_of}
+use Rattle.unroll.specs.Numbered.{IsItemNumber}
 use Rattle.unroll.proofs.DraftLemmas.{IsDrafting, drafting-can, drafting-done, drafting-first, drafting-next}
+use Rattle.unroll.proofs.NumberLemmas.{number_at}
 use Rattle.unroll.proofs.writing.written_of.Goals as goal
 
 pub loop-i-init : goal.loop-i-init
-loop-i-init g c =
-    subst (λ (d : Draft). IsDrafting c.args.circuit.now 0 d) (sym c.new-writing.ensures)
-    (drafting-first c.args.circuit.now c.fits.ensures c.requires.near c.requires.few_records)
+loop-i-init g c = (
+  subst (λ (d : Draft). IsDrafting c.args.circuit 0 d) (sym c.new-writing.ensures.draft)
+      (drafting-first c.args.circuit c.numbered-items.ensures.fits c.requires.near c.requires.few_records),
+  refl,
+)
 
-pub write_item-requires : goal.write_item-requires
-write_item-requires g c =
-    drafting-can c.args.circuit.now c.loop-i.i (draft_of c.loop-i.writing) (item_in c.item.result) c.requires.few_steps c.loop-i.invariant c.item.ensures
+pub write_item-requires-clause-can : goal.write_item-requires-clause-can
+write_item-requires-clause-can g c =
+    drafting-can c.args.circuit c.loop-i.i (draft_of c.loop-i.writing) (item_in c.get.result) c.requires.few_steps c.loop-i.invariant.0
+    (c.get.ensures.item ∙ ap (λ (items : List Item). slice_get items c.loop-i.i) c.numbered-items.ensures.items)
+
+pub write_item-requires-clause-number : goal.write_item-requires-clause-number
+write_item-requires-clause-number g c =
+    let read = c.numbered-items.result in
+    let item = item_in c.get.result in
+    let number = number_at c.args.circuit read.texts.items read.items c.loop-i.i item c.numbered-items.ensures.fits c.requires.few_steps c.numbered-items.ensures.items c.numbered-items.ensures.kept c.get.ensures.item in
+    subst (λ (chances : List Chance). IsItemNumber chances item (mark_in c.get.result)) (sym (c.loop-i.invariant.1 ∙ c.new-writing.ensures.chances))
+    (subst (λ mark. IsItemNumber (map chance_of read.texts.items) item mark) (sym c.get.ensures.mark) number)
 
 pub loop-i-preserved : goal.loop-i-preserved
-loop-i-preserved g c =
-    drafting-next c.args.circuit.now c.loop-i.i (draft_of c.loop-i.writing) _ (item_in c.item.result) c.loop-i.invariant c.item.ensures c.in_ok-write_item.ensures
+loop-i-preserved g c = (
+  drafting-next c.args.circuit c.loop-i.i (draft_of c.loop-i.writing) _ (item_in c.get.result) c.loop-i.invariant.0
+      (c.get.ensures.item ∙ ap (λ (items : List Item). slice_get items c.loop-i.i) c.numbered-items.ensures.items)
+      c.in_ok-write_item.ensures.writes,
+  c.in_ok-write_item.ensures.chances ∙ c.loop-i.invariant.1,
+)
 
 pub finish-requires : goal.finish-requires
 finish-requires g c =
-    (drafting-done c.args.circuit.now c.loop-i.i (draft_of c.loop-i.writing) c.loop-i.invariant (omega (arith, c.len-i-end.ensures))).outer
+    (drafting-done c.args.circuit c.loop-i.i (draft_of c.loop-i.writing) c.loop-i.invariant.0 (omega (arith, c.len-i-end.ensures, ap length c.numbered-items.ensures.items))).outer
 
 pub returns-clause-steps : goal.returns-clause-steps
 returns-clause-steps g c =
     c.finish.ensures.steps
-    ∙ (drafting-done c.args.circuit.now c.loop-i.i (draft_of c.loop-i.writing) c.loop-i.invariant (omega (arith, c.len-i-end.ensures))).here
+    ∙ (drafting-done c.args.circuit c.loop-i.i (draft_of c.loop-i.writing) c.loop-i.invariant.0 (omega (arith, c.len-i-end.ensures, ap length c.numbered-items.ensures.items))).here
 
 pub returns-clause-entries : goal.returns-clause-entries
 returns-clause-entries g c =
     c.finish.ensures.entries
-    ∙ (drafting-done c.args.circuit.now c.loop-i.i (draft_of c.loop-i.writing) c.loop-i.invariant (omega (arith, c.len-i-end.ensures))).entries
+    ∙ (drafting-done c.args.circuit c.loop-i.i (draft_of c.loop-i.writing) c.loop-i.invariant.0 (omega (arith, c.len-i-end.ensures, ap length c.numbered-items.ensures.items))).entries
 
 pub returns-clause-products : goal.returns-clause-products
 returns-clause-products g c =
     c.finish.ensures.products
-    ∙ (drafting-done c.args.circuit.now c.loop-i.i (draft_of c.loop-i.writing) c.loop-i.invariant (omega (arith, c.len-i-end.ensures))).products
+    ∙ (drafting-done c.args.circuit c.loop-i.i (draft_of c.loop-i.writing) c.loop-i.invariant.0 (omega (arith, c.len-i-end.ensures, ap length c.numbered-items.ensures.items))).products

@@ -1,5 +1,5 @@
 use Rattle.std.proofs.Common.{◌<◌, length, get_or, ap, subst, sym, ◌∙◌, arith}
-use Rattle.programs.specs.declared.entries.EntryPart.{EntryPart}
+use Rattle.chances.specs.declared.table.ChanceText.{ChanceText}
 use Rattle.programs.proofs.EntryLaws.{is_entry}
 use Rattle.programs.proofs.entries.Entries.part.Goals as goal
 
@@ -20,12 +20,12 @@ pub returns-clause-text : goal.returns-clause-text
 returns-clause-text g c =
     let inside = c.self.inside in
     let entry = is_entry inside.parts.items inside.numbers.items inside.terms c.args.e c.self.view_is c.self.invariant c.requires in
-    ap (λ (x : EntryPart). x.text.now) c.index-2.ensures
+    ap (λ (x : ChanceText). x.text.now) c.index-2.ensures
     ∙ (ap (λ n. (get_or inside.parts.items n c.index-2.result.now).text.now) c.index.ensures ∙ entry.text _ c.index-2.result.now)
 
 pub returns-clause-bound : goal.returns-clause-bound
 returns-clause-bound g c =
     let inside = c.self.inside in
     let entry = is_entry inside.parts.items inside.numbers.items inside.terms c.args.e c.self.view_is c.self.invariant c.requires in
-    ap (λ (x : EntryPart). x.bound) c.index-2.ensures
+    ap (λ (x : ChanceText). x.bound) c.index-2.ensures
     ∙ (ap (λ n. (get_or inside.parts.items n c.index-2.result.now).bound) c.index.ensures ∙ entry.bound _ c.index-2.result.now)

@@ -5,4 +5,4 @@ use Rattle.stim_parser.proofs.last.LastParentheses.new.Goals as goal
 
 pub invariant_of-result : goal.invariant_of-result
 unfolding arguments_in has_wrong_arguments has_wrong_probability
-invariant_of-result c = record { right = (refl, refl, refl) }
+invariant_of-result c = ((refl, refl, refl), refl)

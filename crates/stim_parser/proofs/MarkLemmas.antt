@@ -1,0 +1,109 @@
+-- The marks of items stay numbers of probabilities where more texts are kept, and those of one line more are such numbers.
+use Rattle.std.proofs.Common.{◌≡◌, ◌≤◌, ◌+◌, ℕ, zero, suc, List, [], ◌∷◌, ◌++◌, length, get_or, Option, None, Some, Result, Ok, Err, IfOk, slice_get, sym, ap₂, subst, ◌∙◌, append-nil, arith}
+use Rattle.chances.specs.declared.table.ChanceText.{ChanceText}
+use Rattle.chances.specs.Chances.{Chance, KeepsChances}
+use Rattle.block_text.specs.declared.said.Said.{Said}
+use Rattle.block_text.specs.declared.said.Said.TheVariants as said
+use Rattle.block_text.specs.Arguments.{arguments_in}
+use Rattle.block_text.specs.Instructions.{Instruction}
+use Rattle.block_text.specs.Marked.{Marked, line_marks}
+use Rattle.block_text.specs.Said.{reading_in}
+use Rattle.block_text.specs.Trees.{Item, Does, Begins, Ends}
+use Rattle.block_text.specs.Unfinished.{line_items}
+use Rattle.stim_parser.specs.Judging.{Table}
+use Rattle.stim_parser.specs.Probabilities.{AreMarked, IsMarked, Keeps, Marks, SaidMarked, chance_taken, instruction_count, taken_count}
+
+-- ---- more texts
+
+no_fewer : (old new : List ChanceText) → KeepsChances old new → length old ≤ length new
+no_fewer [] new keeps = omega arith
+no_fewer (text ∷ old) new keeps = omega (arith, (keeps (length old) (omega arith)).0)
+
+marks-kept : (old new : List ChanceText) (chance : Option Chance) (mark : ℕ) → KeepsChances old new → Marks old chance mark → Marks new chance mark
+marks-kept old new None mark keeps m = tt
+marks-kept old new (Some chance) mark keeps m =
+    λ few.
+    let was = m (omega (arith, few, no_fewer old new keeps)) in
+    let kept = keeps mark was.0 in
+    (kept.0, kept.1 ∙ was.1)
+
+item-kept : {O T F : Type 0} (table : Table O T F) (old new : List ChanceText) (item : Item (Instruction O T)) (mark : ℕ) → KeepsChances old new → IsMarked table old item mark → IsMarked table new item mark
+item-kept table old new (Does i) mark keeps m = marks-kept old new (chance_taken table i.operation i.arguments) mark keeps m
+item-kept table old new (Begins line turns) mark keeps m = tt
+item-kept table old new Ends mark keeps m = tt
+
+items-kept : {O T F : Type 0} (table : Table O T F) (old new : List ChanceText) (items : List (Item (Instruction O T))) (marks : List ℕ) → KeepsChances old new → AreMarked table old items marks → AreMarked table new items marks
+items-kept table old new [] [] keeps m = tt
+items-kept table old new [] (mark ∷ marks) keeps m = absurd m
+items-kept table old new (item ∷ items) [] keeps m = absurd m
+items-kept table old new (item ∷ items) (mark ∷ marks) keeps m =
+    (item-kept table old new item mark keeps m.0, items-kept table old new items marks keeps m.1)
+
+-- ---- one item more
+
+marked-push : {O T F : Type 0} (table : Table O T F) (texts : List ChanceText) (items : List (Item (Instruction O T))) (marks : List ℕ) (item : Item (Instruction O T)) (mark : ℕ)
+    → AreMarked table texts items marks → IsMarked table texts item mark → AreMarked table texts (items ++ item ∷ []) (marks ++ mark ∷ [])
+marked-push table texts [] [] item mark m is = (is, tt)
+marked-push table texts [] (other ∷ marks) item mark m is = absurd m
+marked-push table texts (first ∷ items) [] item mark m is = absurd m
+marked-push table texts (first ∷ items) (other ∷ marks) item mark m is = (m.0, marked-push table texts items marks item mark m.1 is)
+
+counted-push : {I : Type 0} (items : List (Item I)) (item : Item I) → instruction_count (items ++ item ∷ []) ≡ instruction_count items + instruction_count (item ∷ [])
+counted-push [] item = omega arith
+counted-push (Does i ∷ items) item = omega (arith, counted-push items item)
+counted-push (Begins line turns ∷ items) item = counted-push items item
+counted-push (Ends ∷ items) item = counted-push items item
+
+keeps-item : {O T F : Type 0} (table : Table O T F) (old new : List ChanceText) (items : List (Item (Instruction O T))) (marks : List ℕ) (item : Item (Instruction O T)) (mark : ℕ)
+    → Keeps table old (record { items = items; marks = marks }) → KeepsChances old new → length new ≤ length old + instruction_count (item ∷ []) → IsMarked table new item mark
+    → Keeps table new (record { items = items ++ item ∷ []; marks = marks ++ mark ∷ [] })
+keeps-item table old new items marks item mark was keeps few is =
+    record {
+      marked = marked-push table new items marks item mark (items-kept table old new items marks keeps was.marked) is;
+      few = omega (arith, counted-push items item, was.few, few);
+    }
+
+-- ---- one line more
+
+line-keeps : {O T F : Type 0} (table : Table O T F) (old new : List ChanceText) (items : List (Item (Instruction O T))) (marks : List ℕ) (number : ℕ) (said : Said O) (mark : ℕ) (targets : List T)
+    → Keeps table old (record { items = items; marks = marks }) → KeepsChances old new → length new ≤ length old + taken_count said → SaidMarked table new said mark
+    → Keeps table new (record { items = items ++ line_items number (reading_in number said targets); marks = marks ++ line_marks said mark })
+line-keeps table old new items marks number (said.Takes operation arguments) mark targets was keeps few is =
+    keeps-item table old new items marks
+    (Does (record { line = number; operation = operation; arguments = arguments_in arguments.now; targets = targets })) mark was keeps few is
+line-keeps table old new items marks number (said.Opens turns) mark targets was keeps few is =
+    keeps-item table old new items marks (Begins number turns) 0 was keeps few tt
+line-keeps table old new items marks number said.Closes mark targets was keeps few is =
+    keeps-item table old new items marks Ends 0 was keeps few tt
+line-keeps {O} {T} table old new items marks number (said.Refuses c) mark targets was keeps few is =
+    let same : Keeps table new (record { items = items; marks = marks }) =
+    record { marked = items-kept table old new items marks keeps was.marked; few = omega (arith, was.few, few) } in
+    subst (λ (m : Marked (Instruction O T)). Keeps table new m)
+    (sym (ap₂ (λ (is : List (Item (Instruction O T))) (ms : List ℕ). let m : Marked (Instruction O T) = record { items = is; marks = ms } in m) (append-nil items) (append-nil marks)))
+    same
+
+pub begun-keeps : {O T F : Type 0} (table : Table O T F) (old new : List ChanceText) (was is : Marked (Instruction O T)) (number : ℕ) (said : Said O) (mark : ℕ) (targets : List T)
+    → Keeps table old was → KeepsChances old new → length new ≤ length old + taken_count said → SaidMarked table new said mark
+    → is.items ≡ was.items ++ line_items number (reading_in number said targets) → is.marks ≡ was.marks ++ line_marks said mark → Keeps table new is
+begun-keeps {O} {T} table old new was is number said mark targets kept keeps few marked items marks =
+    subst (λ (m : Marked (Instruction O T)). Keeps table new m)
+    (sym (ap₂ (λ (xs : List (Item (Instruction O T))) (ms : List ℕ). let m : Marked (Instruction O T) = record { items = xs; marks = ms } in m) items marks))
+    (line-keeps table old new was.items was.marks number said mark targets kept keeps few marked)
+
+-- ---- a mark is read
+
+pub marked_at : {O T F : Type 0} (table : Table O T F) (texts : List ChanceText) (items : List (Item (Instruction O T))) (marks : List ℕ) (i : ℕ) (item : Item (Instruction O T))
+    → AreMarked table texts items marks → Some item ≡ slice_get items i → IsMarked table texts item (get_or marks i 0)
+marked_at table texts [] [] i item m got = cc
+marked_at table texts [] (mark ∷ marks) i item m got = absurd m
+marked_at table texts (first ∷ items) [] i item m got = absurd m
+marked_at {O} {T} table texts (first ∷ items) (mark ∷ marks) zero item m got =
+    let same : item ≡ first = cc in
+    subst (λ (x : Item (Instruction O T)). IsMarked table texts x mark) (sym same) m.0
+marked_at table texts (first ∷ items) (mark ∷ marks) (suc i) item m got = marked_at table texts items marks i item m.1 got
+
+-- ---- what a call that went well gives
+
+pub ok_both : {X E A B C : Type 0} (r : Result X E) → (A → B → C) → IfOk r (λ _. A) → IfOk r (λ _. B) → IfOk r (λ _. C)
+ok_both (Ok x) f a b = f a b
+ok_both (Err e) f a b = tt
