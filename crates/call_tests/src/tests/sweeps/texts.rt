@@ -85,10 +85,7 @@ fn symptom_is_right<'m>(memory: Memory<'m>, model: &Model<'_, Memory<'m>>) -> Re
 }
 
 /// The same where the lines stay in the text.
-fn is_placed<'m>(
-    memory: Memory<'m>,
-    model: &PlacedModel<'_, Memory<'m>>,
-) -> Result<bool, Fault> {
+fn is_placed<'m>(memory: Memory<'m>, model: &PlacedModel<'_, Memory<'m>>) -> Result<bool, Fault> {
     let Ok(bits) = model.symptom(memory, &[true, true]) else {
         return Err(Fault::MEMORY);
     };
