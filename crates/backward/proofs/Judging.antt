@@ -7,9 +7,9 @@ use Rattle.pauli_word.specs.declared.letter.Letter.{Letter}
 use Rattle.step_model.specs.declared.step.Place.{Place}
 use Rattle.step_model.specs.ErrorModels.{ErrorLine}
 use Rattle.step_model.specs.Listing.{Listing}
-use Rattle.step_model.specs.Sensitivities.{place_of, after_or_start, latest_place, lowest_X_or_Y, collapse_count}
+use Rattle.step_model.specs.Sensitivities.{place_of, after_or_start, latest_place, lowest_X_or_Y}
 use Rattle.step_model.specs.Targets.{targets_of, target_at}
-use Rattle.step_model.specs.WellFormed.{IsWellFormed}
+use Rattle.step_model.specs.WellFormed.{IsWellFormed, collapse_count}
 use Rattle.backward.specs.Passes.{sensitivity_before, latest_before, lowest_below, IsPassed, listing_sets}
 use Rattle.backward.specs.Places.{place_from, NoneIsRandom, IsLowestRandom}
 use Rattle.backward.specs.Tracked.{Tracked, fresh}

@@ -5,7 +5,8 @@ use Rattle.std.proofs.lemmas.List.{get_or_append_left}
 use Rattle.std.proofs.lemmas.List.Elements.{All-get_or}
 use Rattle.std.proofs.lemmas.Grind.{get_or_default_zero}
 use Rattle.std.proofs.Math.Seq.{get_or-append_seam}
-use Rattle.step_model.specs.Listing.{Listing, kept_at}
+use Rattle.step_model.specs.Listing.{Listing}
+use Rattle.programs.specs.Kept.{kept_at}
 use Rattle.programs.specs.declared.entries.ChanceTable.{ChanceTable}
 use Rattle.chances.specs.declared.table.ChanceText.{ChanceText}
 use Rattle.dem_text.specs.ErrorLines.{text_at, KeepsTexts}

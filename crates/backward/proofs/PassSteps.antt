@@ -11,10 +11,11 @@ use Rattle.pauli_word.specs.Words.{anticommute, no_letters, lone_letter}
 use Rattle.pauli_word.proofs.WordLaws.{anticommute_of_none}
 use Rattle.step_model.specs.declared.step.Term.{Term}
 use Rattle.step_model.specs.ErrorModels.{ErrorLine}
-use Rattle.step_model.specs.Listing.{Listing, ListedStep, One, Two, Collapse, Fault, Feedback, Measured, Word, Recorded, Effect, Applies, Flips, word_of_terms, effect_word, effect_terms, fault_word, fault_at, kept_at, no_effect}
-use Rattle.step_model.specs.Sensitivities.{collapse_word, is_collapse, latest_place, later_or_here, collapse_count}
+use Rattle.step_model.specs.Listing.{Listing, ListedStep, One, Two, Collapse, Fault, Feedback, Measured, Word, Recorded, Effect, Applies, Flips, word_of_terms, effect_word, fault_word, fault_at, no_effect, is_collapse}
+use Rattle.programs.specs.Kept.{effect_terms, kept_at}
+use Rattle.step_model.specs.Sensitivities.{collapse_word, latest_place, later_or_here}
 use Rattle.step_model.specs.Targets.{targets_of, target_at}
-use Rattle.step_model.specs.WellFormed.{IsWellFormed, step_fits}
+use Rattle.step_model.specs.WellFormed.{IsWellFormed, step_fits, collapse_count}
 use Rattle.programs.specs.declared.step.FaultName.{FaultName}
 use Rattle.programs.specs.declared.step.Step.{Step}
 use Rattle.programs.specs.Listed.{listed, measured, recorded}

@@ -5,11 +5,12 @@ use Rattle.std.specs.Prelude.{◌≡◌, ◌≢◌, ℕ, ◌+◌, ◌<◌, Bool,
 use Rattle.std.specs.List.{range_with_len, flat_map}
 use Rattle.step_model.specs.ErrorModels.{ErrorLine}
 use Rattle.step_model.specs.Hits.{hits_at}
-use Rattle.step_model.specs.Listing.{Listing, ListedStep, fault_at, kept_at}
+use Rattle.step_model.specs.Listing.{Listing, ListedStep, fault_at}
+use Rattle.programs.specs.Kept.{kept_at}
 use Rattle.programs.specs.declared.step.FaultName.{FaultName}
-use Rattle.step_model.specs.Sensitivities.{Sensitivity, sensitivity, collapse_count, latest_place, lowest_X_or_Y}
+use Rattle.step_model.specs.Sensitivities.{Sensitivity, sensitivity, latest_place, lowest_X_or_Y}
 use Rattle.step_model.specs.Targets.{targets_of, target_at, is_listed}
-use Rattle.step_model.specs.WellFormed.{step_faults}
+use Rattle.step_model.specs.WellFormed.{step_faults, collapse_count}
 use Rattle.backward.specs.Tracked.{Tracked}
 
 -- the sensitivity of a target before these steps, which are the last

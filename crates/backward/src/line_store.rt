@@ -1,7 +1,8 @@
 //! Where a pass puts the error lines that it finds, the last fault's first: into a model, or into its text.
 ghost use Rattle.std.specs.Prelude.{◌≡◌, ◌<◌, ◌++◌, ◌∷◌, [], List, length, All, IfOk, OnOk};
 ghost use Rattle.step_model.specs.ErrorModels.{ErrorLine};
-ghost use Rattle.step_model.specs.Listing.{Listing, kept_at};
+ghost use Rattle.step_model.specs.Listing.{Listing};
+ghost use Rattle.programs.specs.Kept.{kept_at};
 ghost use Rattle.step_model.specs.Targets.{targets_of};
 ghost use Rattle.backward.specs.Numbered.{AreNumbers, IsTextFor};
 ghost use Rattle.dem_text.specs.HeldText.{HoldsLines};

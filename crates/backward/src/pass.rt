@@ -1,7 +1,7 @@
 //! The pass over the steps of a program from the last to the first, and what it keeps beside the words.
 ghost use Rattle.std.specs.Prelude.{◌≡◌, ◌<◌, ◌≤◌, ◌-◌, ◌+◌, ◌∷◌, [], ◌==◌, ℕ, true, List, not, length, drop, All, IfOk, OnOk, IfSome, if◌then◌else◌, slice_index_or, slice_set};
 ghost use Rattle.step_model.specs.ErrorModels.{ErrorLine};
-ghost use Rattle.step_model.specs.Listing.{kept_at};
+ghost use Rattle.programs.specs.Kept.{kept_at};
 ghost use Rattle.step_model.specs.Targets.{targets_of};
 ghost use Rattle.programs.specs.Named.{IsRecord, IsNamedFlip};
 ghost use Rattle.backward.specs.Collapses.{IsOfSize, undone_collapse, members_at, noted, toggled_each};

@@ -11,10 +11,9 @@ use Rattle.pauli_word.specs.Words.{no_letters, with_sign_changed}
 use Rattle.pauli_word.proofs.Groups.{IsGroup-start}
 use Rattle.step_model.specs.declared.step.Term.{Term}
 use Rattle.step_model.specs.Frames.{Frame, zero_coins}
-use Rattle.step_model.specs.Listing.{Listing, ListedStep, One, Two, Collapse, Fault, Feedback, Measured, Recorded, measured_word}
+use Rattle.step_model.specs.Listing.{Listing, ListedStep, One, Two, Collapse, Fault, Feedback, Measured, Recorded, measured_word, step_records, is_collapse}
 use Rattle.step_model.specs.Runs.{RunState, next, next_coin, run_from, records_of, start}
-use Rattle.step_model.specs.Sensitivities.{is_collapse}
-use Rattle.step_model.specs.WellFormed.{step_fits, step_records, records_made}
+use Rattle.step_model.specs.WellFormed.{step_fits, records_made}
 use Rattle.run_laws.specs.Shifts.{flipped_by}
 use Rattle.run_laws.proofs.ShiftLists.{get_or-zeros}
 use Rattle.run_laws.proofs.ShiftWords.{anticommute-none}

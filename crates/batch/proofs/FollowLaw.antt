@@ -8,9 +8,9 @@ use Rattle.pauli_word.proofs.Parities.{exclusive_or-false}
 use Rattle.pauli_word.proofs.WordLaws.{anticommute_comm}
 use Rattle.step_model.specs.declared.step.Term.{Term}
 use Rattle.step_model.specs.Frames.{Frame}
-use Rattle.step_model.specs.Listing.{Listing, ListedStep, One, Two, Collapse, Fault, Feedback, Measured, Word, Reset, Recorded, measured_word, word_of_terms}
+use Rattle.step_model.specs.Listing.{Listing, ListedStep, One, Two, Collapse, Fault, Feedback, Measured, Word, Reset, Recorded, measured_word, word_of_terms, is_collapse}
 use Rattle.step_model.specs.Runs.{RunState, flip_happens, next, next_coin}
-use Rattle.step_model.specs.Sensitivities.{is_collapse, multiplied}
+use Rattle.step_model.specs.Sensitivities.{multiplied}
 use Rattle.step_model.specs.WellFormed.{step_fits}
 use Rattle.step_model.proofs.StateIsGroup.{length-measured}
 use Rattle.step_model.proofs.StepNumbers.{length-word_of_terms}

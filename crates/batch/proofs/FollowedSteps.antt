@@ -11,10 +11,9 @@ use Rattle.programs.specs.declared.step.FaultName.{FaultName}
 use Rattle.programs.specs.Listed.{measured, number_of, recorded}
 use Rattle.step_model.specs.declared.step.Term.{Term}
 use Rattle.step_model.specs.Frames.{Frame}
-use Rattle.step_model.specs.Listing.{Listing, Collapse, Measured, measured_word}
+use Rattle.step_model.specs.Listing.{Listing, Collapse, Measured, measured_word, step_records}
 use Rattle.step_model.specs.Runs.{flip_happens}
 use Rattle.step_model.specs.Sensitivities.{cleared}
-use Rattle.step_model.specs.WellFormed.{step_records}
 use Rattle.batch.specs.Followed.{Turns, followed, turned, turned_where}
 use Rattle.batch.specs.LaneFrames.{LaneFrames, frame_in, GoesTo, with_record}
 use Rattle.batch.specs.LaneLetters.{word_in}

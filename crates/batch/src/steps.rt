@@ -4,10 +4,10 @@ ghost use Rattle.pauli_word.specs.Parity.{exclusive_or};
 ghost use Rattle.pauli_word.specs.Words.{anticommute, lone_letter};
 ghost use Rattle.programs.specs.Listed.{listed, measured, number_of};
 ghost use Rattle.programs.specs.Named.{IsStepOf};
-ghost use Rattle.step_model.specs.Listing.{word_of_terms};
+ghost use Rattle.step_model.specs.Listing.{word_of_terms, step_records};
 ghost use Rattle.step_model.specs.Runs.{flip_happens};
 ghost use Rattle.step_model.specs.Sensitivities.{cleared};
-ghost use Rattle.step_model.specs.WellFormed.{TermsFit, step_records};
+ghost use Rattle.step_model.specs.WellFormed.{TermsFit};
 ghost use Rattle.batch.specs.Followed.{TurnsAt, Turns, followed, terms_of, terms_or_none, turned, turned_where};
 ghost use Rattle.batch.specs.LaneFrames.{GoesTo, frame_in};
 

@@ -1,7 +1,8 @@
 -- The text of what a fault does, by the record that it flips.
 use Rattle.std.proofs.Common.{◌≡◌, ℕ, refl, ap}
 use Rattle.std.specs.Prelude.{Some, None}
-use Rattle.step_model.specs.Listing.{Effect, Applies, Flips, effect_terms, flipped_record, word_of_terms}
+use Rattle.step_model.specs.Listing.{Effect, Applies, Flips, word_of_terms}
+use Rattle.programs.specs.Kept.{effect_terms, flipped_record}
 use Rattle.fault_list.specs.FaultLines.{effect_text, record_text, word_text}
 
 pub effect_text-flips : (n r : ℕ) (e : Effect) → flipped_record e ≡ Some r → effect_text n e ≡ record_text r

@@ -6,7 +6,7 @@ use Rattle.std.proofs.lemmas.List.Concat.{flat_map-append}
 use Rattle.pauli_word.specs.declared.letter.Letter.{Letter}
 use Rattle.pauli_word.specs.declared.letter.Letter.TheVariants.{I, X, Y, Z}
 use Rattle.pauli_word.specs.Words.{letter_at}
-use Rattle.step_model.specs.WellFormed.{is_I}
+use Rattle.step_model.specs.Listing.{is_I}
 use Rattle.fault_list.specs.FaultLines.{factor_text, factor_at, product_text}
 
 -- those of the qubits below one

@@ -13,8 +13,8 @@ use Rattle.pauli_word.specs.Letters.{letter_product}
 use Rattle.pauli_word.specs.Words.{letter_at}
 use Rattle.pauli_word.proofs.LetterLaws.{letter_product-I}
 use Rattle.step_model.specs.declared.step.Term.{Term}
-use Rattle.step_model.specs.Listing.{word_of_terms}
-use Rattle.step_model.specs.WellFormed.{TermsFit, is_I}
+use Rattle.step_model.specs.Listing.{word_of_terms, is_I}
+use Rattle.step_model.specs.WellFormed.{TermsFit}
 use Rattle.step_model.proofs.StepNumbers.{length-word_of_terms}
 use Rattle.fault_list.specs.FaultLines.{factor_text, factor_at, factors, product_text, word_text}
 use Rattle.fault_list.specs.TermLetters.{letter_in, is_ordered, starred_factors}

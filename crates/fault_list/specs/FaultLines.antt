@@ -9,8 +9,7 @@ use Rattle.std.specs.List.{flat_map, range_with_len}
 use Rattle.pauli_word.specs.declared.letter.Letter.{Letter}
 use Rattle.pauli_word.specs.declared.letter.Letter.TheVariants.{I, X, Y, Z}
 use Rattle.pauli_word.specs.Words.{letter_at}
-use Rattle.step_model.specs.Listing.{Listing, Effect, Applies, Flips, effect_at, fault_at, word_of_terms}
-use Rattle.step_model.specs.WellFormed.{is_I}
+use Rattle.step_model.specs.Listing.{Listing, Effect, Applies, Flips, effect_at, fault_at, word_of_terms, is_I}
 
 -- a letter
 abbrev pub letter_text : Letter → List ℕ

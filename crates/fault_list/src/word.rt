@@ -2,8 +2,8 @@
 ghost use Rattle.std.specs.Prelude.{◌≡◌, ◌≢◌, ◌<◌, ◌≤◌, ◌⊎◌, ◌++◌, [], codes, decimal, if◌then◌else◌, All, not};
 ghost use Rattle.pauli_word.specs.declared.letter.Letter.TheVariants.{I};
 ghost use Rattle.pieces.specs.Pushed.{Pushes};
-ghost use Rattle.step_model.specs.Listing.{word_of_terms};
-ghost use Rattle.step_model.specs.WellFormed.{TermsFit, is_I};
+ghost use Rattle.step_model.specs.Listing.{word_of_terms, is_I};
+ghost use Rattle.step_model.specs.WellFormed.{TermsFit};
 ghost use Rattle.fault_list.specs.FaultLines.{factor_text, letter_text, word_text};
 ghost use Rattle.fault_list.specs.TermLetters.{letter_in};
 

@@ -6,7 +6,8 @@ use Rattle.std.proofs.lemmas.Bool.{and_parts, lt-ltb, eqb-true}
 use Rattle.std.proofs.lemmas.List.{drop_more, drop_all}
 use Rattle.std.proofs.lemmas.Option.{slice_get_cases, slice_get_within, get_or_from_slice_get}
 use Rattle.step_model.specs.declared.step.Term.{Term}
-use Rattle.step_model.specs.Listing.{Listing, ListedStep, Effect, Applies, Flips, effect_at, flipped_record, no_effect, kept_at, word_of_terms}
+use Rattle.step_model.specs.Listing.{Listing, ListedStep, Effect, Applies, Flips, effect_at, no_effect, word_of_terms}
+use Rattle.programs.specs.Kept.{flipped_record, kept_at}
 use Rattle.step_model.specs.WellFormed.{IsWellFormed, step_fits, step_faults, faults_named, applies_word, flips_record, measured_fits, word_fits}
 use Rattle.programs.specs.declared.step.FaultName.{FaultName}
 use Rattle.programs.specs.declared.step.Step.{Step}

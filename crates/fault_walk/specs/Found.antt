@@ -1,7 +1,8 @@
 -- The faults of a program as a walk over its steps meets them. (Stim's circuit format: noise instructions, and the
 -- arguments of measurements.)
 use Rattle.std.specs.Prelude.{◌≡◌, ◌<◌, ℕ, List, length, drop, Option, None, Some}
-use Rattle.step_model.specs.Listing.{Listing, effect_at, effect_terms, fault_at, flipped_record, kept_at}
+use Rattle.step_model.specs.Listing.{Listing, effect_at, fault_at}
+use Rattle.programs.specs.Kept.{effect_terms, flipped_record, kept_at}
 use Rattle.step_model.specs.WellFormed.{faults_named}
 use Rattle.programs.specs.Walks.{Walked}
 use Rattle.programs.specs.declared.step.FaultName.{FaultName}

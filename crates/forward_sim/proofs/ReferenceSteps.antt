@@ -12,8 +12,7 @@ use Rattle.step_model.specs.declared.step.Term.{Term}
 use Rattle.step_model.specs.Frames.{zero_coins}
 use Rattle.step_model.specs.Listing.{Listing, ListedStep, One, Two, Collapse, Fault, Feedback, measured_word, word_of_terms}
 use Rattle.step_model.specs.Runs.{RunState, start, next, next_coin, after_collapse, corrected, correction, run_from}
-use Rattle.step_model.specs.Sensitivities.{collapse_count}
-use Rattle.step_model.specs.WellFormed.{IsWellFormed, step_fits}
+use Rattle.step_model.specs.WellFormed.{IsWellFormed, step_fits, collapse_count}
 use Rattle.step_model.proofs.StateIsGroup.{length-measured}
 use Rattle.step_model.proofs.StepNumbers.{length-word_of_terms}
 use Rattle.programs.specs.declared.step.FaultName.{FaultName}

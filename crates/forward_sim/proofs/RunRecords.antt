@@ -6,9 +6,9 @@ use Rattle.std.proofs.lemmas.Bool.{and_parts, lt-ltb}
 use Rattle.std.proofs.lemmas.List.{drop_more, drop_all}
 use Rattle.std.proofs.lemmas.List.FromFn.{length-range_with_len}
 use Rattle.std.proofs.lemmas.Option.{slice_get_cases, slice_get_within, get_or_from_slice_get}
-use Rattle.step_model.specs.Listing.{Listing, ListedStep, One, Two, Collapse, Fault, Feedback}
+use Rattle.step_model.specs.Listing.{Listing, ListedStep, One, Two, Collapse, Fault, Feedback, step_records}
 use Rattle.step_model.specs.Runs.{RunState, start, next, run_from, records_of}
-use Rattle.step_model.specs.WellFormed.{IsWellFormed, step_records, records_made, step_fits}
+use Rattle.step_model.specs.WellFormed.{IsWellFormed, records_made, step_fits}
 use Rattle.step_model.proofs.StateIsGroup.{list_all-pass}
 use Rattle.forward_sim.specs.SameRuns.{IsSameRun}
 use Rattle.forward_sim.proofs.SameStates.{same-run_from}

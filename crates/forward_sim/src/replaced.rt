@@ -1,5 +1,5 @@
 ghost use Rattle.std.specs.Prelude.{◌≡◌, ◌<◌, [], ◌∷◌, ◌++◌, None, length, not, option_map, slice_index_or, OnOk};
-ghost use Rattle.step_model.specs.WellFormed.{is_I};
+ghost use Rattle.step_model.specs.Listing.{is_I};
 ghost use Rattle.forward_sim.specs.Kept.{entry_of, term_here, terms_from};
 
 use flat_lists::FlatLists;

@@ -3,9 +3,8 @@ ghost use Rattle.pauli_word.specs.States.{applied};
 ghost use Rattle.pauli_word.specs.Words.{lone_letter};
 ghost use Rattle.programs.specs.Listed.{listed, measured, number_of};
 ghost use Rattle.programs.specs.Named.{IsNamed, IsStepOf};
-ghost use Rattle.step_model.specs.Listing.{Fault};
+ghost use Rattle.step_model.specs.Listing.{Fault, step_records};
 ghost use Rattle.step_model.specs.Runs.{after_collapse, correction, flip_happens, next};
-ghost use Rattle.step_model.specs.WellFormed.{step_records};
 ghost use Rattle.forward_sim.specs.Machines.{ComesTo, ended, qubit_count, run_of};
 
 use crate::letters::collapse_letter;

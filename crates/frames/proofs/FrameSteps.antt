@@ -9,8 +9,8 @@ use Rattle.pauli_word.specs.Words.{anticommute, letter_at, lone_letter}
 use Rattle.programs.specs.declared.step.FaultName.{FaultName}
 use Rattle.programs.specs.Listed.{measured, recorded}
 use Rattle.step_model.specs.Frames.{Frame, carried, flips_from, record_flip}
-use Rattle.step_model.specs.Listing.{ListedStep, Collapse, measured_word}
-use Rattle.step_model.specs.Sensitivities.{is_collapse, collapse_word}
+use Rattle.step_model.specs.Listing.{ListedStep, Collapse, measured_word, is_collapse}
+use Rattle.step_model.specs.Sensitivities.{collapse_word}
 use Rattle.frames.specs.Flips.{flip_of, recorded_flips}
 use Rattle.run_laws.proofs.ShiftWords.{anticommute-lone}
 

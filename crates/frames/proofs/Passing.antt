@@ -12,9 +12,9 @@ use Rattle.programs.specs.declared.step.Step.{Step}
 use Rattle.programs.specs.declared.step.Step.TheVariants as step
 use Rattle.programs.specs.Listed.{listed, measured, recorded, product_at}
 use Rattle.step_model.specs.Frames.{records_by_each, steps_after_each, words_collapsed}
-use Rattle.step_model.specs.Listing.{Listing, ListedStep, Measured, Word, Collapse, word_of_terms}
-use Rattle.step_model.specs.Sensitivities.{is_collapse, collapse_word}
-use Rattle.step_model.specs.WellFormed.{IsWellFormed, step_records, records_made}
+use Rattle.step_model.specs.Listing.{Listing, ListedStep, Measured, Word, Collapse, word_of_terms, step_records, is_collapse}
+use Rattle.step_model.specs.Sensitivities.{collapse_word}
+use Rattle.step_model.specs.WellFormed.{IsWellFormed, records_made}
 use Rattle.step_model.proofs.StepNumbers.{record_at}
 use Rattle.frames.specs.Passes.{made_with, made_after, made_at, word_at}
 

@@ -3,8 +3,8 @@
 use Rattle.std.specs.Prelude.{ℕ, Bool, if◌then◌else◌, List, [], ◌∷◌, Option, None, Some}
 use Rattle.pauli_word.specs.Words.{anticommute}
 use Rattle.step_model.specs.Frames.{Frame}
-use Rattle.step_model.specs.Listing.{ListedStep}
-use Rattle.step_model.specs.Sensitivities.{is_collapse, collapse_word}
+use Rattle.step_model.specs.Listing.{ListedStep, is_collapse}
+use Rattle.step_model.specs.Sensitivities.{collapse_word}
 
 -- whether a frame flips the outcome of a step, where the step is a collapse; n qubits
 abbrev pub flip_of : ℕ → Frame → ListedStep → Option Bool

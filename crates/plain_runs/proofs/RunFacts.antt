@@ -10,10 +10,9 @@ use Rattle.pauli_word.specs.States.{outcome}
 use Rattle.pauli_word.specs.Words.{Signed}
 use Rattle.pauli_word.proofs.Parities.{exclusive_or-false}
 use Rattle.step_model.specs.declared.step.Term.{Term}
-use Rattle.step_model.specs.Listing.{Listing, ListedStep, One, Two, Collapse, Fault, Feedback, Measured, Word, Recorded, measured_word}
+use Rattle.step_model.specs.Listing.{Listing, ListedStep, One, Two, Collapse, Fault, Feedback, Measured, Word, Recorded, measured_word, step_records, is_collapse}
 use Rattle.step_model.specs.Runs.{RunState, next, next_coin, record_changes, run_from, run_state_after, records_of, start}
-use Rattle.step_model.specs.Sensitivities.{is_collapse, collapse_count}
-use Rattle.step_model.specs.WellFormed.{IsWellFormed, step_records, records_made}
+use Rattle.step_model.specs.WellFormed.{IsWellFormed, records_made, collapse_count}
 use Rattle.run_laws.proofs.ConstancyRecords.{get_or-push, first_of_range, in_order-next}
 use Rattle.plain_runs.specs.declared.plain_step.Recording.{Recording}
 use Rattle.plain_runs.specs.declared.plain_step.PlainStep.{PlainStep}

@@ -7,7 +7,8 @@ use Rattle.pauli_word.specs.Words.{Signed, anticommute}
 use Rattle.pauli_word.proofs.WordLaws.{anticommute_of_none}
 use Rattle.step_model.specs.declared.step.Term.{Term}
 use Rattle.step_model.specs.Listing.{Listing, ListedStep, Fault}
-use Rattle.step_model.specs.Sensitivities.{sensitivity, sensitivity_before, collapse_word, collapse_count, later_or_here, latest_place, has_X_or_Y, lowest_X_or_Y}
+use Rattle.step_model.specs.Sensitivities.{sensitivity, sensitivity_before, collapse_word, later_or_here, latest_place, has_X_or_Y, lowest_X_or_Y}
+use Rattle.step_model.specs.WellFormed.{collapse_count}
 use Rattle.plain_runs.specs.declared.plain_step.Recording.{Recording}
 use Rattle.plain_runs.specs.declared.plain_step.PlainStep.{PlainStep}
 use Rattle.plain_runs.specs.declared.plain_step.PlainStep.TheVariants as plain

@@ -5,7 +5,8 @@ ghost use Rattle.pauli_word.specs.Parity.{exclusive_or};
 ghost use Rattle.pauli_word.specs.Words.{anticommute, product, signed};
 ghost use Rattle.step_model.specs.Runs.{correction, corrected, next_coin, flip_happens, record_changes, run_state_after, next, records_of};
 ghost use Rattle.step_model.specs.Listing as listing;
-ghost use Rattle.step_model.specs.Sensitivities.{collapse_count, is_collapse};
+ghost use Rattle.step_model.specs.WellFormed.{collapse_count};
+ghost use Rattle.step_model.specs.Listing.{is_collapse};
 ghost use Rattle.plain_runs.specs.declared.plain_step.Recording.{Recording};
 ghost use Rattle.plain_runs.specs.PlainSteps.{ResetFits, WordsFit, listed_step, measured, recorded, step_at};
 

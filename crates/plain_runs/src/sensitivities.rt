@@ -1,7 +1,8 @@
 //! The sensitivity and the place of a target, which is a detector or an observable.
 ghost use Rattle.std.specs.Prelude.{◌≡◌, ◌<◌, ◌≤◌, ◌+◌, [], length, take, drop, IfOk, OnOk, option_map};
 ghost use Rattle.pauli_word.specs.Words.{anticommute, letter_at};
-ghost use Rattle.step_model.specs.Sensitivities.{sensitivity, sensitivity_before, record_counts, cleared, multiplied, collapse_word, collapse_count, latest_place, has_X_or_Y, lowest_X_or_Y, place_of};
+ghost use Rattle.step_model.specs.Sensitivities.{sensitivity, sensitivity_before, record_counts, cleared, multiplied, collapse_word, latest_place, has_X_or_Y, lowest_X_or_Y, place_of};
+ghost use Rattle.step_model.specs.WellFormed.{collapse_count};
 ghost use Rattle.step_model.specs.Targets.{is_listed, targets_of};
 ghost use Rattle.plain_runs.specs.PlainSteps.{ResetFits, WordsFit, listed_step, measured, recorded, step_at};
 

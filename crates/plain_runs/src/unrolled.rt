@@ -1,5 +1,5 @@
 ghost use Rattle.std.specs.Prelude.{◌≡◌, ◌<◌, [], length, IfOk, slice_index_or};
-ghost use Rattle.step_model.specs.Listing.{kept_at};
+ghost use Rattle.programs.specs.Kept.{kept_at};
 ghost use Rattle.step_model.specs.Targets.{target_at, targets_of};
 ghost use Rattle.step_model.specs.WellFormed.{IsWellFormed};
 ghost use Rattle.programs.specs.Listed.{listed};

@@ -3,7 +3,7 @@ use Rattle.std.proofs.Common.{◌≡◌, ℕ, zero, suc, ◌<◌, List, [], ◌�
 use Rattle.std.specs.Prelude.{All}
 use Rattle.std.proofs.Math.Nat.{suc_inj}
 use Rattle.step_model.specs.declared.step.Term.{Term}
-use Rattle.step_model.specs.Listing.{Kept, none_kept}
+use Rattle.programs.specs.Kept.{Kept, none_kept}
 use Rattle.chances.specs.declared.table.ChanceText.{ChanceText}
 use Rattle.chances.specs.Chances.{Chance, chance_at}
 use Rattle.chances.proofs.ChanceLaws.{chance_at-get_or}

@@ -9,8 +9,9 @@ use Rattle.pauli_word.specs.declared.letter.Letter.{Letter}
 use Rattle.pauli_word.specs.Words.{lone_letter, no_letters}
 use Rattle.pauli_word.proofs.LoneLetters.{length-lone_letter}
 use Rattle.step_model.specs.declared.step.Term.{Term}
-use Rattle.step_model.specs.Listing.{Listing, ListedFault, Applies, Flips, Kept, effect_at, no_effect, word_of_terms}
-use Rattle.step_model.specs.WellFormed.{is_I, applies_word, flips_record, word_fits, flip_fits, record_fits, measured_fits, step_fits, ProductFits}
+use Rattle.step_model.specs.Listing.{ListedFault, Applies, Flips, effect_at, no_effect, word_of_terms, is_I}
+use Rattle.programs.specs.Kept.{Kept, KeptProgram}
+use Rattle.step_model.specs.WellFormed.{applies_word, flips_record, word_fits, flip_fits, record_fits, measured_fits, step_fits, ProductFits}
 use Rattle.programs.specs.declared.step.TextStep.{TextStep}
 use Rattle.programs.specs.declared.step.TextStep.TheVariants as text
 use Rattle.programs.specs.declared.step.Recording.{Recording}
@@ -42,25 +43,25 @@ fault_there before more f k e =
     let same : k ≡ length before + 0 = omega arith in
     ap (λ i. get_or (before ++ f ∷ more) i no_effect) same ∙ get_or-append-add before (f ∷ more) 0 no_effect
 
-in_range : (program : Listing) (before more : List ListedFault) (f : ListedFault) (k : ℕ) → program.faults ≡ before ++ f ∷ more → k ≡ length before → nat_lt k (length program.faults) ≡ true
-in_range program before more f k e h = lt-ltb k (length program.faults) (omega (arith, ap length e, length-append before (f ∷ more)))
+in_range : (program : KeptProgram) (before more : List ListedFault) (f : ListedFault) (k : ℕ) → program.listing.faults ≡ before ++ f ∷ more → k ≡ length before → nat_lt k (length program.listing.faults) ≡ true
+in_range program before more f k e h = lt-ltb k (length program.listing.faults) (omega (arith, ap length e, length-append before (f ∷ more)))
 
-effect_there : (program : Listing) (before more : List ListedFault) (f : ListedFault) (k : ℕ) → program.faults ≡ before ++ f ∷ more → k ≡ length before → effect_at program k ≡ f.effect
+effect_there : (program : KeptProgram) (before more : List ListedFault) (f : ListedFault) (k : ℕ) → program.listing.faults ≡ before ++ f ∷ more → k ≡ length before → effect_at program.listing k ≡ f.effect
 effect_there program before more f k e h = ap (λ (x : ListedFault). x.effect) (ap (λ fs. get_or fs k no_effect) e ∙ fault_there before more f k h)
 
-flip_is_fit : (program : Listing) (entries : List Kept) (before more : List ListedFault) (r k : ℕ) (flip : Option ℕ) → program.faults ≡ before ++ (flip_fault entries r flip ++ more) → k ≡ length before → flip_fits program r (option_map (λ e. k) flip) ≡ true
+flip_is_fit : (program : KeptProgram) (entries : List Kept) (before more : List ListedFault) (r k : ℕ) (flip : Option ℕ) → program.listing.faults ≡ before ++ (flip_fault entries r flip ++ more) → k ≡ length before → flip_fits program.listing r (option_map (λ e. k) flip) ≡ true
 flip_is_fit program entries before more r k None e h = refl
 flip_is_fit program entries before more r k (Some x) e h =
-    and_from (nat_lt k (length program.faults)) _
+    and_from (nat_lt k (length program.listing.faults)) _
     (in_range program before more (fault_of entries x (Flips r)) k e h)
     (ap (λ f. flips_record r f) (effect_there program before more (fault_of entries x (Flips r)) k e h) ∙ eq-eqb r r refl)
 
 -- what a collapse records is there
-record_is_fit : (program : Listing) (entries : List Kept) (c : Counts) (r : Option Recording) (before more : List ListedFault) → program.faults ≡ before ++ (recorded_faults entries c.records r ++ more) → c.faults ≡ length before → record_fits program (recorded (record_number c r) (is_inverted r) (flip_name c r)) ≡ true
+record_is_fit : (program : KeptProgram) (entries : List Kept) (c : Counts) (r : Option Recording) (before more : List ListedFault) → program.listing.faults ≡ before ++ (recorded_faults entries c.records r ++ more) → c.faults ≡ length before → record_fits program.listing (recorded (record_number c r) (is_inverted r) (flip_name c r)) ≡ true
 record_is_fit program entries c None before more e h = refl
 record_is_fit program entries c (Some r) before more e h = numbers r.flip ∙ flip_is_fit program entries before more c.records c.faults r.flip e h
   where
-    numbers : (flip : Option ℕ) → flip_fits program c.records (option_map number_of (option_map (named c.faults) flip)) ≡ flip_fits program c.records (option_map (λ e. c.faults) flip)
+    numbers : (flip : Option ℕ) → flip_fits program.listing c.records (option_map number_of (option_map (named c.faults) flip)) ≡ flip_fits program.listing c.records (option_map (λ e. c.faults) flip)
     numbers None = refl
     numbers (Some x) = refl
 
@@ -69,23 +70,23 @@ product_is_fit : (n : ℕ) (products : List (List Term)) (p : ℕ) → All (Prod
 product_is_fit n products p fits h = (fits p [] (ltb-true p (length products) h)).word
 
 -- one step that fits its text fits the program
-step_is_fit : (program : Listing) (entries : List Kept) → All (ProductFits program.qubits) program.products → (c : Counts) (s : TextStep) (before more : List ListedFault) → program.faults ≡ before ++ (step_made_faults entries c s ++ more) → c.faults ≡ length before → text_fits program.qubits s ≡ true → is_kept entries program.products s ≡ true → step_fits program (listed program.qubits program.products (numbered_step c s)) ≡ true
+step_is_fit : (program : KeptProgram) (entries : List Kept) → All (ProductFits program.listing.qubits) program.products → (c : Counts) (s : TextStep) (before more : List ListedFault) → program.listing.faults ≡ before ++ (step_made_faults entries c s ++ more) → c.faults ≡ length before → text_fits program.listing.qubits s ≡ true → is_kept entries program.products s ≡ true → step_fits program.listing (listed program.listing.qubits program.products (numbered_step c s)) ≡ true
 step_is_fit program entries products c (text.One gate q) before more e h fits kept = fits
 step_is_fit program entries products c (text.Two gate a b) before more e h fits kept = fits
 step_is_fit program entries products c (text.Collapse letter q reset r) before more e h fits kept =
-    and_from (measured_fits program.qubits (measured program.qubits reset letter q)) _
-    (measured_is_fit program.qubits reset letter q fits)
+    and_from (measured_fits program.listing.qubits (measured program.listing.qubits reset letter q)) _
+    (measured_is_fit program.listing.qubits reset letter q fits)
     (record_is_fit program entries c r before more e h)
 step_is_fit program entries products c (text.CollapseWord p r) before more e h fits kept =
-    and_from (word_fits program.qubits (word_of_terms program.qubits (product_at program.products p))) _
-    (product_is_fit program.qubits program.products p products (and_parts (nat_lt p (length program.products)) (recording_is_kept entries r) kept).0)
+    and_from (word_fits program.listing.qubits (word_of_terms program.listing.qubits (product_at program.products p))) _
+    (product_is_fit program.listing.qubits program.products p products (and_parts (nat_lt p (length program.products)) (recording_is_kept entries r) kept).0)
     (record_is_fit program entries c r before more e h)
 step_is_fit program entries products c (text.Fault x) before more e h fits kept =
     let fault = fault_of entries x (Applies (entry_at entries x).terms) in
-    and_from (nat_lt c.faults (length program.faults)) _
+    and_from (nat_lt c.faults (length program.listing.faults)) _
     (in_range program before more fault c.faults e h)
     (ap applies_word (effect_there program before more fault c.faults e h))
-step_is_fit program entries products c (text.Feedback letter q back) before more e h fits kept = lone_fits program.qubits q letter fits
+step_is_fit program entries products c (text.Feedback letter q back) before more e h fits kept = lone_fits program.listing.qubits q letter fits
 
 length-recorded_faults : (entries : List Kept) (k : ℕ) (r : Option Recording) → length (recorded_faults entries k r) ≡ (made_in_collapse r).faults
 length-recorded_faults entries k None = refl
@@ -103,13 +104,13 @@ length-step_made_faults entries c (text.CollapseWord p r) = length-recorded_faul
 length-step_made_faults entries c (text.Fault x) = refl
 length-step_made_faults entries c (text.Feedback letter q back) = refl
 
-pub steps_are_fit : (program : Listing) (entries : List Kept) → All (ProductFits program.qubits) program.products → (c : Counts) (steps : List TextStep) (before : List ListedFault) → program.faults ≡ before ++ made_faults entries c steps → c.faults ≡ length before → list_all (text_fits program.qubits) steps ≡ true → list_all (is_kept entries program.products) steps ≡ true → list_all (step_fits program) (listed_steps program.qubits program.products c steps) ≡ true
+pub steps_are_fit : (program : KeptProgram) (entries : List Kept) → All (ProductFits program.listing.qubits) program.products → (c : Counts) (steps : List TextStep) (before : List ListedFault) → program.listing.faults ≡ before ++ made_faults entries c steps → c.faults ≡ length before → list_all (text_fits program.listing.qubits) steps ≡ true → list_all (is_kept entries program.products) steps ≡ true → list_all (step_fits program.listing) (listed_steps program.listing.qubits program.products c steps) ≡ true
 steps_are_fit program entries products c [] before e h fits kept = refl
 steps_are_fit program entries products c (s ∷ steps) before e h fits kept =
-    let fit = and_parts (text_fits program.qubits s) (list_all (text_fits program.qubits) steps) fits in
+    let fit = and_parts (text_fits program.listing.qubits s) (list_all (text_fits program.listing.qubits) steps) fits in
     let there = and_parts (is_kept entries program.products s) (list_all (is_kept entries program.products) steps) kept in
     let now = step_made_faults entries c s in
-    and_from (step_fits program (listed program.qubits program.products (numbered_step c s))) (list_all (step_fits program) (listed_steps program.qubits program.products (counts_after c s) steps))
+    and_from (step_fits program.listing (listed program.listing.qubits program.products (numbered_step c s))) (list_all (step_fits program.listing) (listed_steps program.listing.qubits program.products (counts_after c s) steps))
     (step_is_fit program entries products c s before (made_faults entries (counts_after c s) steps) e h fit.0 there.0)
     (steps_are_fit program entries products (counts_after c s) steps (before ++ now)
     (e ∙ sym (append_assoc before now (made_faults entries (counts_after c s) steps)))

@@ -6,9 +6,9 @@ use Rattle.std.proofs.lemmas.Bool.{and_parts, ltb-true, eqb-true}
 use Rattle.std.proofs.lemmas.List.Elements.{All-from_recursion, All-append}
 use Rattle.std.proofs.lemmas.List.Sums.{AllPass-from_list_all}
 use Rattle.step_model.specs.declared.step.Term.{Term}
-use Rattle.step_model.specs.Listing.{Listing, ListedFault, Effect, Applies, Flips, Kept, none_kept, kept_at, effect_terms}
-use Rattle.step_model.specs.Sensitivities.{collapse_count}
-use Rattle.step_model.specs.WellFormed.{IsWellFormed, FaultFits, EffectFits, IsKept, step_fits}
+use Rattle.step_model.specs.Listing.{Listing, ListedFault, Effect, Applies, Flips}
+use Rattle.programs.specs.Kept.{Kept, KeptProgram, IsWellKept, none_kept}
+use Rattle.step_model.specs.WellFormed.{IsWellFormed, FaultFits, EffectFits, step_fits, collapse_count}
 use Rattle.programs.specs.declared.program.Parts.{Parts}
 use Rattle.programs.specs.declared.step.TextStep.{TextStep}
 use Rattle.programs.specs.declared.step.TextStep.TheVariants as text
@@ -17,7 +17,7 @@ use Rattle.programs.specs.declared.step.Recording.{Recording}
 use Rattle.programs.specs.Fits.{flip_is_kept, recording_is_kept, is_kept}
 use Rattle.programs.specs.Held.{Held}
 use Rattle.programs.specs.Listed.{entry_at, fault_of, flip_fault, recorded_faults, step_made_faults, made_faults, listed_steps}
-use Rattle.programs.specs.Made.{text_steps, listing_of, EntryFits, PartsFit}
+use Rattle.programs.specs.Made.{text_steps, listing_of, kept_program, EntryFits, PartsFit}
 use Rattle.programs.specs.Numbering.{no_counts, counts_after}
 use Rattle.programs.proofs.ListedLaws.{steps_are_fit}
 use Rattle.programs.proofs.NamedLaws.{steps_are_named}
@@ -27,83 +27,60 @@ use Rattle.programs.proofs.Orders.{records_are_in_order, faults_are_in_order, le
 entry-fits : (n : ℕ) (entries : List Kept) (e : ℕ) → All (EntryFits n) entries → nat_lt e (length entries) ≡ true → EntryFits n (entry_at entries e)
 entry-fits n entries e all h = all e none_kept (ltb-true e (length entries) h)
 
--- what is known of a fault that a step makes
-pub record IsMade (program : Listing) (fault : ListedFault) : Type 0 where
-  pub fits : FaultFits program.qubits fault
-  pub kept : IsKept program fault
+module _ (program : KeptProgram) (entries : List Kept) (all : All (EntryFits program.listing.qubits) entries) where
+  made-fault : (e : ℕ) (effect : Effect) → nat_lt e (length entries) ≡ true → EffectFits program.listing.qubits effect → FaultFits program.listing.qubits (fault_of entries e effect)
+  made-fault e effect h fits = record { bound = (entry-fits program.listing.qubits entries e all h).bound; effect = fits }
 
-no_terms : (terms : List Term) → (length terms == 0) ≡ true → terms ≡ []
-no_terms [] h = refl
-no_terms (x ∷ terms) h = absurd (omega (arith, eqb-true (suc (length terms)) 0 h))
+  one-fault : (f : ListedFault) → FaultFits program.listing.qubits f → All (FaultFits program.listing.qubits) (f ∷ [])
+  one-fault f h = All-from_recursion (FaultFits program.listing.qubits) (f ∷ []) (h, tt)
 
-module _ (program : Listing) (entries : List Kept) (kept_is : program.kept ≡ entries) (all : All (EntryFits program.qubits) entries) where
-  made-fault : (e : ℕ) (effect : Effect) → nat_lt e (length entries) ≡ true → EffectFits program.qubits effect → (entry_at entries e).terms ≡ effect_terms effect → IsMade program (fault_of entries e effect)
-  made-fault e effect h fits terms =
-      let inside : e < length entries = ltb-true e (length entries) h in
-      let found : kept_at program e ≡ entry_at entries e = ap (λ (ks : List Kept). get_or ks e none_kept) kept_is in
-      record {
-        fits = record { bound = (entry-fits program.qubits entries e all h).bound; effect = fits };
-        kept = record {
-          there = omega (arith, ap length kept_is);
-          text = sym (ap (λ (k : Kept). k.text) found);
-          bound = sym (ap (λ (k : Kept). k.bound) found);
-          terms = ap (λ (k : Kept). k.terms) found ∙ terms;
-        };
-      }
+  no-faults : All (FaultFits program.listing.qubits) []
+  no-faults = All-from_recursion (FaultFits program.listing.qubits) [] tt
 
-  one-fault : (f : ListedFault) → IsMade program f → All (IsMade program) (f ∷ [])
-  one-fault f h = All-from_recursion (IsMade program) (f ∷ []) (h, tt)
-
-  no-faults : All (IsMade program) []
-  no-faults = All-from_recursion (IsMade program) [] tt
-
-  flip-made : (r : ℕ) (flip : Option ℕ) → flip_is_kept entries flip ≡ true → All (IsMade program) (flip_fault entries r flip)
+  flip-made : (r : ℕ) (flip : Option ℕ) → flip_is_kept entries flip ≡ true → All (FaultFits program.listing.qubits) (flip_fault entries r flip)
   flip-made r None h = no-faults
   flip-made r (Some e) h =
       let parts = and_parts (nat_lt e (length entries)) (length (entry_at entries e).terms == 0) h in
-      one-fault _ (made-fault e (Flips r) parts.0 tt (no_terms (entry_at entries e).terms parts.1))
+      one-fault _ (made-fault e (Flips r) parts.0 tt)
 
-  recorded-made : (k : ℕ) (r : Option Recording) → recording_is_kept entries r ≡ true → All (IsMade program) (recorded_faults entries k r)
+  recorded-made : (k : ℕ) (r : Option Recording) → recording_is_kept entries r ≡ true → All (FaultFits program.listing.qubits) (recorded_faults entries k r)
   recorded-made k None h = no-faults
   recorded-made k (Some r) h = flip-made k r.flip h
 
-  step-faults-made : (c : Counts) (s : TextStep) → is_kept entries program.products s ≡ true → All (IsMade program) (step_made_faults entries c s)
+  step-faults-made : (c : Counts) (s : TextStep) → is_kept entries program.products s ≡ true → All (FaultFits program.listing.qubits) (step_made_faults entries c s)
   step-faults-made c (text.One gate q) h = no-faults
   step-faults-made c (text.Two gate a b) h = no-faults
   step-faults-made c (text.Collapse letter q reset r) h = recorded-made c.records r h
   step-faults-made c (text.CollapseWord p r) h =
       recorded-made c.records r (and_parts (nat_lt p (length program.products)) (recording_is_kept entries r) h).1
-  step-faults-made c (text.Fault e) h = one-fault _ (made-fault e (Applies (entry_at entries e).terms) h (entry-fits program.qubits entries e all h).terms refl)
+  step-faults-made c (text.Fault e) h = one-fault _ (made-fault e (Applies (entry_at entries e).terms) h (entry-fits program.listing.qubits entries e all h).terms)
   step-faults-made c (text.Feedback letter q back) h = no-faults
 
-  pub faults-made : (c : Counts) (steps : List TextStep) → list_all (is_kept entries program.products) steps ≡ true → All (IsMade program) (made_faults entries c steps)
+  pub faults-made : (c : Counts) (steps : List TextStep) → list_all (is_kept entries program.products) steps ≡ true → All (FaultFits program.listing.qubits) (made_faults entries c steps)
   faults-made c [] h = no-faults
   faults-made c (s ∷ steps) h =
       let parts = and_parts (is_kept entries program.products s) (list_all (is_kept entries program.products) steps) h in
-      All-append (IsMade program) (step_made_faults entries c s) (made_faults entries (counts_after c s) steps)
+      All-append (FaultFits program.listing.qubits) (step_made_faults entries c s) (made_faults entries (counts_after c s) steps)
       (step-faults-made c s parts.0) (faults-made (counts_after c s) steps parts.1)
 
 pub parts_make_well_formed : {A : Type 0} (parts : Parts A) → PartsFit parts → IsWellFormed (listing_of parts)
 parts_make_well_formed parts fit =
     let steps = text_steps parts in
     let entries = parts.entries in
-    let program = listing_of parts in
+    let program = kept_program parts in
     let listed = listed_steps parts.qubits parts.products no_counts steps in
     let records : parts.counts.records ≡ total_records steps = ap (λ (c : Counts). c.records) fit.counted ∙ records-total no_counts steps ∙ omega arith in
     let collapses : collapse_count listed ≡ parts.counts.collapses = omega (arith, ap (λ (c : Counts). c.collapses) fit.counted, collapses-total parts.qubits parts.products no_counts steps) in
-    let made : All (IsMade program) program.faults = faults-made program entries refl fit.entries_fit no_counts steps fit.all_kept in
+    let made : All (FaultFits program.listing.qubits) program.listing.faults = faults-made program entries fit.entries_fit no_counts steps fit.all_kept in
     record {
       steps_fit =
-          AllPass-from_list_all (step_fits program) listed
+          AllPass-from_list_all (step_fits program.listing) listed
           (steps_are_fit program entries fit.products_fit no_counts steps [] refl refl fit.texts_fit fit.all_kept);
       collapses_counted = collapses;
       records_in_order = records_are_in_order parts.qubits parts.products no_counts steps ∙ ap (range_with_len 0) (sym records);
       feedback_earlier = feedback_is_earlier parts.qubits parts.products no_counts steps fit.feedback;
       faults_in_order = faults_are_in_order parts.qubits parts.products no_counts steps ∙ ap (range_with_len 0) (sym (length-made_faults entries no_counts steps));
-      faults_fit = λ k d h. (made k d h).fits;
-      faults_kept = λ k d h. (made k d h).kept;
-      kept_fit = λ k d h. (fit.entries_fit k d h).terms;
-      products_fit = fit.products_fit;
+      faults_fit = λ k d h. made k d h;
       detectors_fit = fit.detectors_fit;
       observables_fit = fit.observables_fit;
       coordinates_given = fit.coordinates_given;
@@ -112,8 +89,12 @@ parts_make_well_formed parts fit =
       few_observables = fit.few_observables;
     }
 
+-- and what is kept of it fits
+pub parts_are_well_kept : {A : Type 0} (parts : Parts A) → PartsFit parts → IsWellKept (kept_program parts)
+parts_are_well_kept parts fit = record { kept_fit = λ k d h. (fit.entries_fit k d h).terms; products_fit = fit.products_fit }
+
 -- and its text is held
-pub text_is_held : {A : Type 0} (parts : Parts A) → PartsFit parts → Held (listing_of parts) parts.nodes.items parts.steps parts.counts
+pub text_is_held : {A : Type 0} (parts : Parts A) → PartsFit parts → Held (kept_program parts) parts.nodes.items parts.steps parts.counts
 text_is_held parts fit =
     record {
       circuit = fit.circuit;
@@ -122,5 +103,5 @@ text_is_held parts fit =
       steps_counted = fit.steps_counted;
       counted = fit.counted;
       steps = refl;
-      named = steps_are_named (listing_of parts) parts.entries refl no_counts (text_steps parts) [] refl refl (ap (λ (c : Counts). c.records) fit.counted) fit.feedback fit.texts_fit fit.all_kept;
+      named = steps_are_named (kept_program parts) parts.entries refl no_counts (text_steps parts) [] refl refl (ap (λ (c : Counts). c.records) fit.counted) fit.feedback fit.texts_fit fit.all_kept;
     }

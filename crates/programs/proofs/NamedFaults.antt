@@ -1,33 +1,32 @@
 -- What a fault that a step names is: what is kept at the entry that it is named with.
 use Rattle.std.proofs.Common.{◌≡◌, ℕ, true, nat_lt, length, Some, refl, sym, ap, ◌∙◌}
 use Rattle.std.proofs.lemmas.Bool.{and_parts, eqb-true}
-use Rattle.step_model.specs.Listing.{Listing, Fault, Collapse, Measured, Recorded, Effect, Applies, Flips, none_kept, kept_at, no_effect, fault_at, effect_at, effect_word, effect_terms, fault_word, word_of_terms}
-use Rattle.step_model.specs.WellFormed.{IsWellFormed, TermsFit, IsKept, step_fits, applies_word, flips_record, flip_fits, measured_fits, record_fits}
+use Rattle.step_model.specs.Listing.{Listing, Fault, Collapse, Measured, Recorded, Effect, Applies, Flips, no_effect, fault_at, effect_at, effect_word, fault_word, word_of_terms}
+use Rattle.programs.specs.Kept.{KeptProgram, IsWellKept, none_kept, kept_at, effect_terms}
+use Rattle.step_model.specs.WellFormed.{TermsFit, step_fits, applies_word, flips_record, flip_fits, measured_fits, record_fits}
 use Rattle.programs.specs.declared.step.FaultName.{FaultName}
 use Rattle.programs.specs.Named.{IsNamed}
 
 -- a fault that has a name
-pub record NamedFault (program : Listing) (name : FaultName) : Type 0 where
-  pub text : (fault_at program name.number).text ≡ (kept_at program name.entry).text
-  pub bound : (fault_at program name.number).bound ≡ (kept_at program name.entry).bound
-  pub terms : effect_terms (effect_at program name.number) ≡ (kept_at program name.entry).terms
-  pub word : fault_word program name.number ≡ word_of_terms program.qubits (kept_at program name.entry).terms
-  pub terms_fit : TermsFit program.qubits (kept_at program name.entry).terms
+pub record NamedFault (program : KeptProgram) (name : FaultName) : Type 0 where
+  pub text : (fault_at program.listing name.number).text ≡ (kept_at program name.entry).text
+  pub bound : (fault_at program.listing name.number).bound ≡ (kept_at program name.entry).bound
+  pub terms : effect_terms (effect_at program.listing name.number) ≡ (kept_at program name.entry).terms
+  pub word : fault_word program.listing name.number ≡ word_of_terms program.listing.qubits (kept_at program name.entry).terms
+  pub terms_fit : TermsFit program.listing.qubits (kept_at program name.entry).terms
 
 word_of_effect : (n : ℕ) (effect : Effect) → effect_word n effect ≡ word_of_terms n (effect_terms effect)
 word_of_effect n (Applies terms) = refl
 word_of_effect n (Flips r) = refl
 
-pub named_fault : (program : Listing) (name : FaultName) → IsWellFormed program → IsNamed program name → NamedFault program name
+pub named_fault : (program : KeptProgram) (name : FaultName) → IsWellKept program → IsNamed program name → NamedFault program name
 named_fault program name well named =
-    let kept : IsKept program (fault_at program name.number) = well.faults_kept name.number no_effect named.number in
-    let at_entry = ap (kept_at program) named.of_entry in
-    let terms = sym kept.terms ∙ ap (λ k. k.terms) at_entry in
+    let terms = sym named.terms in
     record {
-      text = kept.text ∙ ap (λ k. k.text) at_entry;
-      bound = kept.bound ∙ ap (λ k. k.bound) at_entry;
+      text = named.text;
+      bound = named.bound;
       terms = terms;
-      word = word_of_effect program.qubits (effect_at program name.number) ∙ ap (word_of_terms program.qubits) terms;
+      word = word_of_effect program.listing.qubits (effect_at program.listing name.number) ∙ ap (word_of_terms program.listing.qubits) terms;
       terms_fit = well.kept_fit name.entry none_kept named.entry;
     }
 

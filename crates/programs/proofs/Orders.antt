@@ -6,9 +6,9 @@ use Rattle.std.specs.Option.{option_to_list}
 use Rattle.std.proofs.lemmas.List.FromFn.{length-range_with_len}
 use Rattle.std.proofs.lemmas.Bool.{and_from, lt-ltb}
 use Rattle.step_model.specs.declared.step.Term.{Term}
-use Rattle.step_model.specs.Listing.{ListedStep, Measured, Word, Collapse, Kept, word_of_terms}
-use Rattle.step_model.specs.Sensitivities.{collapse_count}
-use Rattle.step_model.specs.WellFormed.{step_records, step_faults, records_made, faults_named, is_earlier, feeds_earlier}
+use Rattle.step_model.specs.Listing.{ListedStep, Measured, Word, Collapse, word_of_terms, step_records}
+use Rattle.programs.specs.Kept.{Kept}
+use Rattle.step_model.specs.WellFormed.{step_faults, records_made, faults_named, is_earlier, feeds_earlier, collapse_count}
 use Rattle.programs.specs.declared.step.TextStep.{TextStep}
 use Rattle.programs.specs.declared.step.TextStep.TheVariants as text
 use Rattle.programs.specs.declared.step.Recording.{Recording}

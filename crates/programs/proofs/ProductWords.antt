@@ -12,8 +12,8 @@ use Rattle.pauli_word.specs.Words.{lone_letter, no_letters, letter_at, letters_p
 use Rattle.pauli_word.proofs.LetterLaws.{letter_product-I}
 use Rattle.pauli_word.proofs.LoneLetters.{letters_product-lone_letter}
 use Rattle.step_model.specs.declared.step.Term.{Term}
-use Rattle.step_model.specs.Listing.{word_of_terms}
-use Rattle.step_model.specs.WellFormed.{is_I, TermsFit, ProductFits}
+use Rattle.step_model.specs.Listing.{word_of_terms, is_I}
+use Rattle.step_model.specs.WellFormed.{TermsFit, ProductFits}
 use Rattle.step_model.proofs.StepNumbers.{length-word_of_terms}
 use Rattle.programs.specs.ByHand.{BeginsApart}
 

@@ -15,16 +15,17 @@ use Rattle.programs.specs.Held.{Held}
 use Rattle.programs.specs.Named.{IsStepOf}
 use Rattle.programs.specs.Listed.{listed}
 use Rattle.programs.specs.declared.program.Text.{Text}
-use Rattle.step_model.specs.Listing.{Listing, ListedStep}
+use Rattle.step_model.specs.Listing.{ListedStep}
+use Rattle.programs.specs.Kept.{KeptProgram}
 use Rattle.std.proofs.lemmas.List.{length-map}
 use Rattle.programs.proofs.Numbers.{length-numbered, get-numbered, get-past, counts_over-more, FeedBack-at, few, goes_back}
 
-module _ (program : Listing) (text : Text) where
-  length-listed : Held program text.nodes.now text.steps text.counts → length program.steps ≡ length (unrolled (tree_of text.nodes.now))
-  length-listed held = ap length held.steps ∙ length-map (numbered no_counts (unrolled (tree_of text.nodes.now))) (listed program.qubits program.products) ∙ length-numbered no_counts (unrolled (tree_of text.nodes.now))
+module _ (program : KeptProgram) (text : Text) where
+  length-listed : Held program text.nodes.now text.steps text.counts → length program.listing.steps ≡ length (unrolled (tree_of text.nodes.now))
+  length-listed held = ap length held.steps ∙ length-map (numbered no_counts (unrolled (tree_of text.nodes.now))) (listed program.listing.qubits program.products) ∙ length-numbered no_counts (unrolled (tree_of text.nodes.now))
 
-  listed-at : Held program text.nodes.now text.steps text.counts → (k : ℕ) → slice_get program.steps k ≡ option_map (listed program.qubits program.products) (slice_get (numbered no_counts (unrolled (tree_of text.nodes.now))) k)
-  listed-at held k = ap (λ (xs : List ListedStep). slice_get xs k) held.steps ∙ slice_get-map (listed program.qubits program.products) (numbered no_counts (unrolled (tree_of text.nodes.now))) k
+  listed-at : Held program text.nodes.now text.steps text.counts → (k : ℕ) → slice_get program.listing.steps k ≡ option_map (listed program.listing.qubits program.products) (slice_get (numbered no_counts (unrolled (tree_of text.nodes.now))) k)
+  listed-at held k = ap (λ (xs : List ListedStep). slice_get xs k) held.steps ∙ slice_get-map (listed program.listing.qubits program.products) (numbered no_counts (unrolled (tree_of text.nodes.now))) k
 
   pub record Goes (new : Place) (counted : Counts) (k : ℕ) (step : TextStep) : Type 0 where
     pub feeds : feeds_back counted step
@@ -32,9 +33,9 @@ module _ (program : Listing) (text : Text) where
     pub collapses : counted.collapses + 1 < 2 ^ 32
     pub faults : counted.faults + 1 < 2 ^ 32
     pub few : k + 1 < 2 ^ 32
-    pub step_is : Some (listed program.qubits program.products (numbered_step counted step)) ≡ slice_get program.steps k
+    pub step_is : Some (listed program.listing.qubits program.products (numbered_step counted step)) ≡ slice_get program.listing.steps k
     pub named : IsStepOf program (numbered_step counted step)
-    pub below : k < length program.steps
+    pub below : k < length program.listing.steps
     pub walk : IsWalkOf program text new (counts_after counted step) (k + 1)
 
   pub goes : (old new : Place) (counted : Counts) (k : ℕ) (step : TextStep) → IsWalkOf program text old counted k → GoesOver text.nodes.now old new step k → Goes new counted k step
@@ -54,7 +55,7 @@ module _ (program : Listing) (text : Text) where
         collapses = omega (arith, few_now.collapses, walk.short);
         faults = omega (arith, few_now.faults, walk.short);
         few = omega (arith, walk.short);
-        step_is = sym (listed-at both.held k ∙ ap (option_map (listed program.qubits program.products)) found);
+        step_is = sym (listed-at both.held k ∙ ap (option_map (listed program.listing.qubits program.products)) found);
         named = both.held.named k (numbered_step counted step) found;
         below = omega (arith, length-listed both.held);
         walk = record {
@@ -70,15 +71,15 @@ module _ (program : Listing) (text : Text) where
       }
 
   pub record Ends (new : Place) (counted : Counts) (k : ℕ) : Type 0 where
-    pub none : None ≡ slice_get program.steps k
-    pub k_is : k ≡ length program.steps
+    pub none : None ≡ slice_get program.listing.steps k
+    pub k_is : k ≡ length program.listing.steps
     pub walk : IsWalkOf program text new counted k
 
   pub ends : (old new : Place) (counted : Counts) (k : ℕ) → IsWalkOf program text old counted k → StaysAtEnd text.nodes.now old new k → Ends new counted k
   ends old new counted k both stays =
       let walk = both.walk in
       record {
-        none = sym (listed-at both.held k ∙ ap (option_map (listed program.qubits program.products)) (get-past no_counts (unrolled (tree_of text.nodes.now)) k stays.k_is));
+        none = sym (listed-at both.held k ∙ ap (option_map (listed program.listing.qubits program.products)) (get-past no_counts (unrolled (tree_of text.nodes.now)) k stays.k_is));
         k_is = stays.k_is ∙ sym (length-listed both.held);
         walk = record {
           held = both.held;
@@ -92,7 +93,7 @@ module _ (program : Listing) (text : Text) where
     pub faults : (made_by step).faults ≤ counted.faults
     pub feeds : feeds_back (counts_before counted step) step
     pub some : 0 < k
-    pub step_is : Some (listed program.qubits program.products (numbered_step (counts_before counted step) step)) ≡ slice_get program.steps (k - 1)
+    pub step_is : Some (listed program.listing.qubits program.products (numbered_step (counts_before counted step) step)) ≡ slice_get program.listing.steps (k - 1)
     pub named : IsStepOf program (numbered_step (counts_before counted step) step)
     pub walk : IsWalkOf program text new (counts_before counted step) (k - 1)
 
@@ -112,7 +113,7 @@ module _ (program : Listing) (text : Text) where
         faults = b.faults;
         feeds = subst (λ (x : Counts). feeds_back x step) (sym b.same) (FeedBack-at no_counts steps (k - 1) step walk.feedback here);
         some = omega (arith, over.k_is);
-        step_is = sym (listed-at both.held (k - 1) ∙ ap (option_map (listed program.qubits program.products)) found);
+        step_is = sym (listed-at both.held (k - 1) ∙ ap (option_map (listed program.listing.qubits program.products)) found);
         named = both.held.named (k - 1) (numbered_step (counts_before counted step) step) found;
         walk = record {
           held = both.held;
@@ -135,17 +136,17 @@ not_less m n h = le-ltb m n (omega arith)
 not_zero : (k : ℕ) → 0 < k → (k == 0) ≡ false
 not_zero k h = ne_eqb k 0 (λ e. omega arith)
 
-pub taken : (k : ℕ) (program : Listing) (v : Walked) → ◌≡◌ {A = Walked} (record { program = program; place = k }) v → k < length program.steps → k + 1 ≡ (if nat_lt v.place (length v.program.steps) then v.place + 1 else v.place)
+pub taken : (k : ℕ) (program : KeptProgram) (v : Walked) → ◌≡◌ {A = Walked} (record { program = program; place = k }) v → k < length program.listing.steps → k + 1 ≡ (if nat_lt v.place (length v.program.listing.steps) then v.place + 1 else v.place)
 taken k program v e h =
-    sym (ap (λ b. if b then k + 1 else k) (less k (length program.steps) h))
-    ∙ ap (λ (w : Walked). if nat_lt w.place (length w.program.steps) then w.place + 1 else w.place) e
+    sym (ap (λ b. if b then k + 1 else k) (less k (length program.listing.steps) h))
+    ∙ ap (λ (w : Walked). if nat_lt w.place (length w.program.listing.steps) then w.place + 1 else w.place) e
 
-pub not_taken : (k : ℕ) (program : Listing) (v : Walked) → ◌≡◌ {A = Walked} (record { program = program; place = k }) v → k ≡ length program.steps → k ≡ (if nat_lt v.place (length v.program.steps) then v.place + 1 else v.place)
+pub not_taken : (k : ℕ) (program : KeptProgram) (v : Walked) → ◌≡◌ {A = Walked} (record { program = program; place = k }) v → k ≡ length program.listing.steps → k ≡ (if nat_lt v.place (length v.program.listing.steps) then v.place + 1 else v.place)
 not_taken k program v e h =
-    sym (ap (λ b. if b then k + 1 else k) (not_less k (length program.steps) h))
-    ∙ ap (λ (w : Walked). if nat_lt w.place (length w.program.steps) then w.place + 1 else w.place) e
+    sym (ap (λ b. if b then k + 1 else k) (not_less k (length program.listing.steps) h))
+    ∙ ap (λ (w : Walked). if nat_lt w.place (length w.program.listing.steps) then w.place + 1 else w.place) e
 
-pub stepped_back : (k : ℕ) (program : Listing) (v : Walked) → ◌≡◌ {A = Walked} (record { program = program; place = k }) v → 0 < k → slice_get program.steps (k - 1) ≡ (if v.place == 0 then None else slice_get v.program.steps (v.place - 1))
+pub stepped_back : (k : ℕ) (program : KeptProgram) (v : Walked) → ◌≡◌ {A = Walked} (record { program = program; place = k }) v → 0 < k → slice_get program.listing.steps (k - 1) ≡ (if v.place == 0 then None else slice_get v.program.listing.steps (v.place - 1))
 stepped_back k program v e h =
-    sym (ap (λ b. if b then None else slice_get program.steps (k - 1)) (not_zero k h))
-    ∙ ap (λ (w : Walked). if w.place == 0 then None else slice_get w.program.steps (w.place - 1)) e
+    sym (ap (λ b. if b then None else slice_get program.listing.steps (k - 1)) (not_zero k h))
+    ∙ ap (λ (w : Walked). if w.place == 0 then None else slice_get w.program.listing.steps (w.place - 1)) e

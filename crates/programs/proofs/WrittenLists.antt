@@ -1,18 +1,18 @@
 -- The program of parts whose circuit pieces write, and which keep given lists: field by field, from those.
 use Rattle.std.proofs.Common.{◌≡◌, ℕ, List, [], Option, None, Some, IfSome, map, sym, ap, ap₂, ◌∙◌, subst}
 use Rattle.step_model.specs.declared.step.Term.{Term}
-use Rattle.step_model.specs.Listing.{Listing, Kept}
+use Rattle.programs.specs.Kept.{Kept, KeptProgram}
 use Rattle.programs.specs.declared.by_hand.Lists.{Lists}
 use Rattle.programs.specs.declared.by_hand.Piece.{Piece}
 use Rattle.programs.specs.declared.program.Parts.{Parts}
 use Rattle.programs.specs.declared.step.TextStep.{TextStep}
-use Rattle.programs.specs.ByHand.{written, kept_of, counted_listing}
+use Rattle.programs.specs.ByHand.{written, kept_of, counted_program}
 use Rattle.programs.specs.KeptLists.{Keeps}
 use Rattle.programs.specs.Listed.{listed_steps, made_faults}
 use Rattle.programs.specs.Made.{text_steps}
 use Rattle.programs.specs.Numbering.{no_counts, counts_over}
 
-pub weaken : (P Q : Listing → Type 0) (o : Option Listing) → ((p : Listing) → P p → Q p) → IfSome o P → IfSome o Q
+pub weaken : (P Q : KeptProgram → Type 0) (o : Option KeptProgram) → ((p : KeptProgram) → P p → Q p) → IfSome o P → IfSome o Q
 weaken P Q None h k = tt
 weaken P Q (Some p) h k = h p k
 
@@ -26,26 +26,26 @@ pub record AreOf {A : Type 0} (parts : Parts A) (n : ℕ) (pieces : List Piece) 
   pub entries : parts.entries ≡ map kept_of lists.entries.now
   pub keeps : Keeps parts lists
 
-module _ {A : Type 0} (parts : Parts A) (n : ℕ) (pieces : List Piece) (lists : Lists) (are : AreOf parts n pieces lists) (p : Listing) (e : p ≡ counted_listing parts) where
-  pub qubits_are : p.qubits ≡ n
-  qubits_are = ap (λ (q : Listing). q.qubits) e ∙ are.qubits
+module _ {A : Type 0} (parts : Parts A) (n : ℕ) (pieces : List Piece) (lists : Lists) (are : AreOf parts n pieces lists) (p : KeptProgram) (e : p ≡ counted_program parts) where
+  pub qubits_are : p.listing.qubits ≡ n
+  qubits_are = ap (λ (q : KeptProgram). q.listing.qubits) e ∙ are.qubits
 
-  pub steps_are : p.steps ≡ listed_steps n p.products no_counts (written pieces [] [])
+  pub steps_are : p.listing.steps ≡ listed_steps n p.products no_counts (written pieces [] [])
   steps_are =
-      ap (λ (q : Listing). q.steps) e
+      ap (λ (q : KeptProgram). q.listing.steps) e
       ∙ (ap (λ (k : ℕ). listed_steps k parts.products no_counts (text_steps parts)) are.qubits
-      ∙ ap₂ (λ (products : List (List Term)) (xs : List TextStep). listed_steps n products no_counts xs) (sym (ap (λ (q : Listing). q.products) e)) are.steps)
+      ∙ ap₂ (λ (products : List (List Term)) (xs : List TextStep). listed_steps n products no_counts xs) (sym (ap (λ (q : KeptProgram). q.products) e)) are.steps)
 
   pub kept_are : p.kept ≡ map kept_of lists.entries.now
-  kept_are = ap (λ (q : Listing). q.kept) e ∙ are.entries
+  kept_are = ap (λ (q : KeptProgram). q.kept) e ∙ are.entries
 
-  pub faults_are : p.faults ≡ made_faults p.kept no_counts (written pieces [] [])
+  pub faults_are : p.listing.faults ≡ made_faults p.kept no_counts (written pieces [] [])
   faults_are =
-      ap (λ (q : Listing). q.faults) e
-      ∙ ap₂ (λ (kept : List Kept) (xs : List TextStep). made_faults kept no_counts xs) (sym (ap (λ (q : Listing). q.kept) e)) are.steps
+      ap (λ (q : KeptProgram). q.listing.faults) e
+      ∙ ap₂ (λ (kept : List Kept) (xs : List TextStep). made_faults kept no_counts xs) (sym (ap (λ (q : KeptProgram). q.kept) e)) are.steps
 
-  pub records_are : p.records ≡ (counts_over no_counts (written pieces [] [])).records
-  records_are = ap (λ (q : Listing). q.records) e ∙ ap (λ (xs : List TextStep). (counts_over no_counts xs).records) are.steps
+  pub records_are : p.listing.records ≡ (counts_over no_counts (written pieces [] [])).records
+  records_are = ap (λ (q : KeptProgram). q.listing.records) e ∙ ap (λ (xs : List TextStep). (counts_over no_counts xs).records) are.steps
 
-  pub collapses_are : p.collapses ≡ (counts_over no_counts (written pieces [] [])).collapses
-  collapses_are = ap (λ (q : Listing). q.collapses) e ∙ ap (λ (xs : List TextStep). (counts_over no_counts xs).collapses) are.steps
+  pub collapses_are : p.listing.collapses ≡ (counts_over no_counts (written pieces [] [])).collapses
+  collapses_are = ap (λ (q : KeptProgram). q.listing.collapses) e ∙ ap (λ (xs : List TextStep). (counts_over no_counts xs).collapses) are.steps

@@ -4,9 +4,9 @@ use Rattle.std.specs.Prelude.{◌≡◌, ◌≢◌, ◌≤◌, ℕ, true, false,
 use Rattle.std.specs.List.{list_all}
 use Rattle.std.specs.Option.{unwrap_or}
 use Rattle.step_model.specs.declared.step.Term.{Term}
-use Rattle.step_model.specs.Listing.{Listing, Kept}
+use Rattle.step_model.specs.Listing.{is_I}
+use Rattle.programs.specs.Kept.{Kept, KeptProgram}
 use Rattle.step_model.specs.Probabilities.{probability_bound}
-use Rattle.step_model.specs.WellFormed.{is_I}
 use Rattle.chances.specs.Chances.{Chance}
 use Rattle.programs.specs.declared.by_hand.Entry.{Entry}
 use Rattle.programs.specs.declared.by_hand.Piece.{Piece}
@@ -19,7 +19,7 @@ use Rattle.programs.specs.declared.step.TextStep.{TextStep}
 use Rattle.programs.specs.Builders.{OpenBlock, Building}
 use Rattle.programs.specs.Entries.{entry_from}
 use Rattle.programs.specs.Fits.{text_fits, is_kept}
-use Rattle.programs.specs.Made.{text_steps, listing_of}
+use Rattle.programs.specs.Made.{text_steps, listing_of, kept_program}
 use Rattle.programs.specs.Numbering.{no_counts, counts_over, FeedBack}
 use Rattle.programs.specs.Steps.{IsAt}
 use Rattle.programs.specs.Trees.{repeated}
@@ -46,10 +46,10 @@ abbrev pub kept_of : Entry → Kept
 kept_of entry = entry_from (chance_by_hand entry) entry.terms.now
 
 -- the program that parts make, with the records and collapses of its steps counted
-abbrev pub counted_listing : {A : Type 0} → Parts A → Listing
-counted_listing parts =
+abbrev pub counted_program : {A : Type 0} → Parts A → KeptProgram
+counted_program parts =
     let made = counts_over no_counts (text_steps parts) in
-    record (listing_of parts) { records = made.records; collapses = made.collapses }
+    record (kept_program parts) { listing = record (listing_of parts) { records = made.records; collapses = made.collapses } }
 
 -- these steps fit, and make this many records, collapses and faults
 pub record StepsFit {A : Type 0} (parts : Parts A) (steps : List TextStep) (made : Counts) : Type 0 where

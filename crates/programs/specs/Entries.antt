@@ -2,7 +2,7 @@
 -- number of its part, and letters at qubits. (This project's own.)
 use Rattle.std.specs.Prelude.{◌≡◌, ◌<◌, ℕ, List, [], ◌∷◌, ◌++◌, length, slice_index_or, All}
 use Rattle.step_model.specs.declared.step.Term.{Term}
-use Rattle.step_model.specs.Listing.{Kept, none_kept}
+use Rattle.programs.specs.Kept.{Kept, none_kept}
 use Rattle.chances.specs.declared.table.ChanceText.{ChanceText}
 use Rattle.chances.specs.Chances.{Chance, chance_at, no_chance}
 use Rattle.programs.specs.declared.entries.ChanceTable.{ChanceTable}

@@ -5,8 +5,8 @@ use Rattle.std.specs.Prelude.{ℕ, ◌==◌, nat_lt, Bool, true, not, ◌&&◌, 
 use Rattle.gate_table.specs.Images.{arity_of}
 use Rattle.pauli_word.specs.declared.letter.Letter.{Letter}
 use Rattle.step_model.specs.declared.step.Term.{Term}
-use Rattle.step_model.specs.Listing.{Kept}
-use Rattle.step_model.specs.WellFormed.{is_I}
+use Rattle.programs.specs.Kept.{Kept}
+use Rattle.step_model.specs.Listing.{is_I}
 use Rattle.programs.specs.declared.step.TextStep.{TextStep}
 use Rattle.programs.specs.declared.step.TextStep.TheVariants.{One, Two, Collapse, CollapseWord, Fault, Feedback}
 use Rattle.programs.specs.declared.step.Recording.{Recording}

@@ -1,7 +1,7 @@
 -- How a program's nodes stand for its steps.
 -- (Stim's circuit format, github.com/quantumlib/Stim, doc/file_format_stim_circuit.md; how it is kept is this project's own.)
 use Rattle.std.specs.Prelude.{◌≡◌, ◌<◌, ◌^◌, ℕ, List, length, slice_get, Some}
-use Rattle.step_model.specs.Listing.{Listing}
+use Rattle.programs.specs.Kept.{KeptProgram}
 use Rattle.programs.specs.declared.node.Node.{Node}
 use Rattle.programs.specs.declared.program.Text.{Text}
 use Rattle.programs.specs.declared.step.Counts.{Counts}
@@ -12,15 +12,15 @@ use Rattle.programs.specs.Numbering.{no_counts, numbered, counts_over, FeedBack}
 use Rattle.programs.specs.Trees.{IsCircuit, tree_of, unrolled}
 
 -- these nodes write the steps of a program: `count` of them, which make the records, collapses and faults of `made`
-pub record Held (program : Listing) (nodes : List Node) (count : ℕ) (made : Counts) : Type 0 where
+pub record Held (program : KeptProgram) (nodes : List Node) (count : ℕ) (made : Counts) : Type 0 where
   pub circuit : IsCircuit nodes
   pub feedback : FeedBack no_counts (unrolled (tree_of nodes))
   pub few_steps : length (unrolled (tree_of nodes)) < 2 ^ 32
   pub steps_counted : count ≡ length (unrolled (tree_of nodes))
   pub counted : made ≡ counts_over no_counts (unrolled (tree_of nodes))
-  pub steps : program.steps ≡ listed_steps program.qubits program.products no_counts (unrolled (tree_of nodes))
+  pub steps : program.listing.steps ≡ listed_steps program.listing.qubits program.products no_counts (unrolled (tree_of nodes))
   pub named : (k : ℕ) (s : Step) → slice_get (numbered no_counts (unrolled (tree_of nodes))) k ≡ Some s → IsStepOf program s
 
 -- so do the nodes of a text, with its counts
-abbrev pub HoldsText : Listing → Text → Type 0
+abbrev pub HoldsText : KeptProgram → Text → Type 0
 HoldsText program text = Held program text.nodes.now text.steps text.counts

@@ -14,3 +14,4 @@ pub mod Trees
 pub mod WalkStates
 pub mod Walks
 pub mod KeptLists
+pub mod Kept

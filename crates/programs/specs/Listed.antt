@@ -5,7 +5,8 @@ use Rattle.std.specs.Prelude.{ℕ, Bool, if◌then◌else◌, List, [], ◌∷�
 use Rattle.pauli_word.specs.declared.letter.Letter.{Letter}
 use Rattle.pauli_word.specs.Words.{lone_letter}
 use Rattle.step_model.specs.declared.step.Term.{Term}
-use Rattle.step_model.specs.Listing.{ListedStep, ListedFault, Measured, Recorded, Effect, Applies, Flips, Kept, none_kept, word_of_terms}
+use Rattle.step_model.specs.Listing.{ListedStep, ListedFault, Measured, Recorded, Effect, Applies, Flips, word_of_terms}
+use Rattle.programs.specs.Kept.{Kept, none_kept}
 use Rattle.step_model.specs.Listing as listing
 use Rattle.programs.specs.declared.step.TextStep.{TextStep}
 use Rattle.programs.specs.declared.step.TextStep.TheVariants as text
@@ -55,7 +56,7 @@ entry_at entries e = slice_index_or entries e none_kept
 -- a fault of an entry, with this effect
 abbrev pub fault_of : List Kept → ℕ → Effect → ListedFault
 fault_of entries e effect =
-    record { text = (entry_at entries e).text; bound = (entry_at entries e).bound; effect = effect; entry = e }
+    record { text = (entry_at entries e).text; bound = (entry_at entries e).bound; effect = effect }
 
 -- the fault that flips the record r, where there is one
 abbrev pub flip_fault : List Kept → ℕ → Option ℕ → List ListedFault

@@ -4,7 +4,8 @@
 -- (Stim's circuit format, github.com/quantumlib/Stim, doc/file_format_stim_circuit.md; how it is kept is this project's own.)
 use Rattle.std.specs.Prelude.{◌≡◌, ◌<◌, ◌≤◌, ◌^◌, ℕ, true, List, length, All, Some}
 use Rattle.std.specs.List.{list_all}
-use Rattle.step_model.specs.Listing.{Listing, Kept}
+use Rattle.step_model.specs.Listing.{Listing}
+use Rattle.programs.specs.Kept.{Kept, KeptProgram}
 use Rattle.step_model.specs.Probabilities.{probability_bound}
 use Rattle.step_model.specs.WellFormed.{TermsFit, ProductFits, CoordinatesFit}
 use Rattle.programs.specs.declared.program.Parts.{Parts}
@@ -30,9 +31,11 @@ listing_of parts =
       observables = parts.observables;
       coordinates = parts.coordinates;
       faults = made_faults parts.entries no_counts (text_steps parts);
-      kept = parts.entries;
-      products = parts.products;
     }
+
+-- the program with what parts keep of it
+abbrev pub kept_program : {A : Type 0} → Parts A → KeptProgram
+kept_program parts = record { listing = listing_of parts; kept = parts.entries; products = parts.products }
 
 -- an entry's bound is that of its text, and its letters are at the program's qubits
 pub record EntryFits (qubits : ℕ) (entry : Kept) : Type 0 where

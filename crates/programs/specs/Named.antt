@@ -4,34 +4,37 @@
 use Rattle.std.specs.Prelude.{⊤, ◌≡◌, ◌≢◌, ◌<◌, ℕ, length, Option, None, Some}
 use Rattle.gate_table.specs.Images.{arity_of}
 use Rattle.pauli_word.specs.declared.letter.Letter.TheVariants.{I}
-use Rattle.step_model.specs.Listing.{Listing, fault_at}
+use Rattle.step_model.specs.Listing.{fault_at, effect_at}
+use Rattle.programs.specs.Kept.{KeptProgram, kept_at, effect_terms}
 use Rattle.programs.specs.declared.step.FaultName.{FaultName}
 use Rattle.programs.specs.declared.step.Step.{Step}
 use Rattle.programs.specs.declared.step.Step.TheVariants.{One, Two, Collapse, CollapseWord, Fault, Feedback}
 
--- a fault exists, and so does what is kept of it
-pub record IsNamed (program : Listing) (name : FaultName) : Type 0 where
-  pub number : name.number < length program.faults
+-- a fault exists, and what is kept under its entry is its text, its bound and its letters
+pub record IsNamed (program : KeptProgram) (name : FaultName) : Type 0 where
+  pub number : name.number < length program.listing.faults
   pub entry : name.entry < length program.kept
-  pub of_entry : (fault_at program name.number).entry ≡ name.entry
+  pub text : (fault_at program.listing name.number).text ≡ (kept_at program name.entry).text
+  pub bound : (fault_at program.listing name.number).bound ≡ (kept_at program name.entry).bound
+  pub terms : (kept_at program name.entry).terms ≡ effect_terms (effect_at program.listing name.number)
 
 -- so it is of the fault that flips a record, where there is one
-abbrev pub IsNamedFlip : Listing → Option FaultName → Type 0
+abbrev pub IsNamedFlip : KeptProgram → Option FaultName → Type 0
 IsNamedFlip program None = ⊤
 IsNamedFlip program (Some name) = IsNamed program name
 
 -- a record, where there is one, is the program's
-abbrev pub IsRecord : Listing → Option ℕ → Type 0
+abbrev pub IsRecord : KeptProgram → Option ℕ → Type 0
 IsRecord program None = ⊤
-IsRecord program (Some r) = r < program.records
+IsRecord program (Some r) = r < program.listing.records
 
 -- all that a step names exists
-abbrev pub IsStepOf : Listing → Step → Type 0
-IsStepOf program (One gate q) = (arity_of gate ≡ 1) × (q < program.qubits)
-IsStepOf program (Two gate a b) = (arity_of gate ≡ 2) × (a < program.qubits) × (b < program.qubits) × (a ≢ b)
+abbrev pub IsStepOf : KeptProgram → Step → Type 0
+IsStepOf program (One gate q) = (arity_of gate ≡ 1) × (q < program.listing.qubits)
+IsStepOf program (Two gate a b) = (arity_of gate ≡ 2) × (a < program.listing.qubits) × (b < program.listing.qubits) × (a ≢ b)
 IsStepOf program (Collapse letter q rec reset inverted flip) =
-    (letter ≢ I) × (q < program.qubits) × IsRecord program rec × IsNamedFlip program flip
+    (letter ≢ I) × (q < program.listing.qubits) × IsRecord program rec × IsNamedFlip program flip
 IsStepOf program (CollapseWord p rec inverted flip) =
     (p < length program.products) × IsRecord program rec × IsNamedFlip program flip
 IsStepOf program (Fault name) = IsNamed program name
-IsStepOf program (Feedback letter q r) = (letter ≢ I) × (q < program.qubits) × (r < program.records)
+IsStepOf program (Feedback letter q r) = (letter ≢ I) × (q < program.listing.qubits) × (r < program.listing.records)

@@ -2,7 +2,7 @@
 -- (Stim's circuit format, github.com/quantumlib/Stim, doc/file_format_stim_circuit.md; how it is kept is this project's own.)
 use Rattle.std.specs.Prelude.{◌≡◌, ◌<◌, ◌^◌, ℕ, List, length, take}
 use Rattle.programs.specs.declared.node.Node.{Node}
-use Rattle.step_model.specs.Listing.{Listing}
+use Rattle.programs.specs.Kept.{KeptProgram}
 use Rattle.programs.specs.Held.{HoldsText}
 use Rattle.programs.specs.declared.program.Text.{Text}
 use Rattle.programs.specs.declared.place.Place.{Place}
@@ -20,6 +20,6 @@ pub record IsWalk (nodes : List Node) (at_place : Place) (counted : Counts) (k :
   pub counts : counted ≡ counts_over no_counts (take k (unrolled (tree_of nodes)))
 
 -- a walk over a program
-pub record IsWalkOf (program : Listing) (text : Text) (at_place : Place) (counted : Counts) (k : ℕ) : Type 0 where
+pub record IsWalkOf (program : KeptProgram) (text : Text) (at_place : Place) (counted : Counts) (k : ℕ) : Type 0 where
   pub held : HoldsText program text
   pub walk : IsWalk text.nodes.now at_place counted k

@@ -56,15 +56,15 @@ pub fn program_of<'a, A: Allocator + Copy>(
     pieces: &[Piece],
     lists: Lists<'a>,
 ) -> Result<Option<Program<'a, A>>, AllocError>
-    ensures qubits { IfOk result (λ o. IfSome o (λ p. p.qubits ≡ qubits)) }
-    ensures steps { IfOk result (λ o. IfSome o (λ p. p.steps ≡ listed_steps qubits p.products no_counts (written pieces.now [] []))) }
-    ensures detectors { IfOk result (λ o. IfSome o (λ p. p.detectors ≡ map (λ list. list.now) lists.entry.detectors.now)) }
-    ensures observables { IfOk result (λ o. IfSome o (λ p. p.observables ≡ map (λ list. list.now) lists.entry.observables.now)) }
-    ensures coordinates { IfOk result (λ o. IfSome o (λ p. p.coordinates ≡ map (λ list. list.now) lists.entry.coordinates.now)) }
+    ensures qubits { IfOk result (λ o. IfSome o (λ p. p.listing.qubits ≡ qubits)) }
+    ensures steps { IfOk result (λ o. IfSome o (λ p. p.listing.steps ≡ listed_steps qubits p.products no_counts (written pieces.now [] []))) }
+    ensures detectors { IfOk result (λ o. IfSome o (λ p. p.listing.detectors ≡ map (λ list. list.now) lists.entry.detectors.now)) }
+    ensures observables { IfOk result (λ o. IfSome o (λ p. p.listing.observables ≡ map (λ list. list.now) lists.entry.observables.now)) }
+    ensures coordinates { IfOk result (λ o. IfSome o (λ p. p.listing.coordinates ≡ map (λ list. list.now) lists.entry.coordinates.now)) }
     ensures kept { IfOk result (λ o. IfSome o (λ p. p.kept ≡ map kept_of lists.entry.entries.now)) }
-    ensures faults { IfOk result (λ o. IfSome o (λ p. p.faults ≡ made_faults p.kept no_counts (written pieces.now [] []))) }
-    ensures records { IfOk result (λ o. IfSome o (λ p. p.records ≡ (counts_over no_counts (written pieces.now [] [])).records)) }
-    ensures collapses { IfOk result (λ o. IfSome o (λ p. p.collapses ≡ (counts_over no_counts (written pieces.now [] [])).collapses)) }
+    ensures faults { IfOk result (λ o. IfSome o (λ p. p.listing.faults ≡ made_faults p.kept no_counts (written pieces.now [] []))) }
+    ensures records { IfOk result (λ o. IfSome o (λ p. p.listing.records ≡ (counts_over no_counts (written pieces.now [] [])).records)) }
+    ensures collapses { IfOk result (λ o. IfSome o (λ p. p.listing.collapses ≡ (counts_over no_counts (written pieces.now [] [])).collapses)) }
     ensures products { IfOk result (λ o. IfSome o (λ p. p.products ≡ map (λ list. list.now) lists.entry.products.now)) }
 {
     let Some(nodes) = nodes_of(alloc, pieces)? else {

@@ -1,6 +1,6 @@
 //! What is kept of faults: probabilities, and the letters that they apply.
 ghost use Rattle.std.specs.Prelude.{◌≡◌, ◌<◌, length, slice_index_or};
-ghost use Rattle.step_model.specs.Listing.{none_kept};
+ghost use Rattle.programs.specs.Kept.{none_kept};
 ghost use Rattle.programs.specs.Entries.{entries_of, IsNumbered, TellsChances};
 
 use chances::ChanceText;
@@ -27,7 +27,7 @@ pub struct Entries<'a, A: Allocator + Copy> {
 
 impl<'a, A: Allocator + Copy> Model for Entries<'a, A> {
     ghost use Rattle.std.specs.Prelude.{List};
-    ghost use Rattle.step_model.specs.Listing.{Kept};
+    ghost use Rattle.programs.specs.Kept.{Kept};
     ghost use Rattle.programs.specs.Entries.{entries_of, IsNumbered};
 
     ghost Value = { List Kept };

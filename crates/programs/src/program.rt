@@ -1,11 +1,12 @@
 ghost use Rattle.std.specs.Prelude.{◌≡◌, ◌<◌, ◌+◌, [], length, slice_index_or};
 ghost use Rattle.std.specs.List.{All};
-ghost use Rattle.step_model.specs.Listing.{none_kept, kept_at};
+ghost use Rattle.programs.specs.Kept.{none_kept, kept_at};
 ghost use Rattle.step_model.specs.Targets.{target_at};
 ghost use Rattle.step_model.specs.WellFormed.{IsWellFormed};
+ghost use Rattle.programs.specs.Kept.{IsWellKept};
 ghost use Rattle.programs.specs.Entries.{TellsChances};
 ghost use Rattle.programs.specs.Held.{HoldsText};
-ghost use Rattle.programs.specs.Made.{listing_of, PartsFit};
+ghost use Rattle.programs.specs.Made.{kept_program, PartsFit};
 
 use crate::entries::{ChanceTable, Entries};
 use crate::node::Node;
@@ -47,13 +48,13 @@ pub struct Program<'a, A: Allocator + Copy> {
 }
 
 impl<'a, A: Allocator + Copy> Model for Program<'a, A> {
-    ghost use Rattle.step_model.specs.Listing.{Listing};
+    ghost use Rattle.programs.specs.Kept.{KeptProgram};
 
-    ghost Value = { Listing };
+    ghost Value = { KeptProgram };
 
-    ghost use Rattle.programs.specs.Made.{listing_of, PartsFit};
+    ghost use Rattle.programs.specs.Made.{kept_program, PartsFit};
 
-    ghost view = { λ p. listing_of p.parts };
+    ghost view = { λ p. kept_program p.parts };
 
     ghost invariant = { λ p. PartsFit p.parts };
 }
@@ -62,7 +63,7 @@ impl<'a, A: Allocator + Copy> Program<'a, A> {
     /// The program that these parts make.
     pub fn new(parts: Parts<'a, A>) -> Self
         requires { PartsFit parts }
-        ensures { result ≡ listing_of parts.entry }
+        ensures { result ≡ kept_program parts.entry }
     {
         Program { parts }
     }
@@ -78,69 +79,70 @@ impl<'a, A: Allocator + Copy> Program<'a, A> {
         }
     }
 
-    /// Does nothing: every program is well formed.
+    /// Does nothing: every program is well formed, and so is what is kept of it.
     pub fn well_formed(&self)
-        ensures { IsWellFormed self.now }
+        ensures listing { IsWellFormed self.now.listing }
+        ensures kept { IsWellKept self.now }
     {
         // The proof looks inside.
         let _parts = &self.parts;
     }
 
     pub fn qubits(&self) -> u32
-        ensures { result ≡ self.now.qubits }
+        ensures { result ≡ self.now.listing.qubits }
     {
         self.parts.qubits
     }
 
     pub fn record_count(&self) -> u32
-        ensures { result ≡ self.now.records }
+        ensures { result ≡ self.now.listing.records }
     {
         self.parts.counts.records
     }
 
     pub fn collapse_count(&self) -> u32
-        ensures { result ≡ self.now.collapses }
+        ensures { result ≡ self.now.listing.collapses }
     {
         self.parts.counts.collapses
     }
 
     pub fn fault_count(&self) -> u32
-        ensures { result ≡ length self.now.faults }
+        ensures { result ≡ length self.now.listing.faults }
     {
         self.parts.counts.faults
     }
 
     pub fn detector_count(&self) -> usize
-        ensures { result ≡ length self.now.detectors }
+        ensures { result ≡ length self.now.listing.detectors }
     {
         self.parts.detectors.len()
     }
 
     pub fn observable_count(&self) -> usize
-        ensures { result ≡ length self.now.observables }
+        ensures { result ≡ length self.now.listing.observables }
     {
         self.parts.observables.len()
     }
 
     /// The records of a detector. One that the circuit lists twice stands here twice.
     pub fn detector(&self, d: usize) -> &[u32]
-        requires { d < length self.now.detectors }
-        ensures { result.now ≡ slice_index_or self.now.detectors d [] }
+        requires { d < length self.now.listing.detectors }
+        ensures { result.now ≡ slice_index_or self.now.listing.detectors d [] }
     {
         self.parts.detectors.get(d)
     }
 
     /// The records of an observable. One that the circuit lists twice stands here twice.
     pub fn observable(&self, k: usize) -> &[u32]
-        requires { k < length self.now.observables }
-        ensures { result.now ≡ slice_index_or self.now.observables k [] }
+        requires { k < length self.now.listing.observables }
+        ensures { result.now ≡ slice_index_or self.now.listing.observables k [] }
     {
         self.parts.observables.get(k)
     }
 
     /// How many detectors and observables there are.
     pub fn target_count(&self) -> usize
-        ensures { result ≡ length self.now.detectors + length self.now.observables }
+        ensures { result ≡ length self.now.listing.detectors + length self.now.listing.observables }
     {
         self.well_formed();
         self.detector_count() + self.observable_count()
@@ -148,9 +150,9 @@ impl<'a, A: Allocator + Copy> Program<'a, A> {
 
     /// The records of a target, which is a detector or an observable: detectors are numbered first, then observables.
     pub fn target(&self, number: usize) -> &[u32]
-        requires { number < length self.now.detectors + length self.now.observables }
-        ensures value { result.now ≡ target_at self.now number }
-        ensures within { All (λ r. r < self.now.records) result.now }
+        requires { number < length self.now.listing.detectors + length self.now.listing.observables }
+        ensures value { result.now ≡ target_at self.now.listing number }
+        ensures within { All (λ r. r < self.now.listing.records) result.now }
     {
         self.well_formed();
         let detectors = self.detector_count();
@@ -163,8 +165,8 @@ impl<'a, A: Allocator + Copy> Program<'a, A> {
 
     /// The coordinates of a detector.
     pub fn coordinates(&self, d: usize) -> &[i64]
-        requires { d < length self.now.detectors }
-        ensures { result.now ≡ slice_index_or self.now.coordinates d [] }
+        requires { d < length self.now.listing.detectors }
+        ensures { result.now ≡ slice_index_or self.now.listing.coordinates d [] }
     {
         self.parts.coordinates.get(d)
     }

@@ -1,7 +1,7 @@
 ghost use Rattle.std.specs.Prelude.{◌≡◌, ◌+◌, ◌<◌, ◌≤◌, ◌^◌, ℕ, List};
 ghost use Rattle.programs.specs.Listed.{listed};
 ghost use Rattle.programs.specs.Numbering.{record_number, is_inverted, named, flip_name, numbered_step, counts_after, counts_before, made_by, made_in_collapse, feeds_back};
-ghost use Rattle.step_model.specs.Sensitivities.{is_collapse};
+ghost use Rattle.step_model.specs.Listing.{is_collapse};
 ghost use Rattle.step_model.specs.declared.step.Term.{Term};
 
 use gate_table::Gate;

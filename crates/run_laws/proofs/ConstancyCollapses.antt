@@ -15,7 +15,7 @@ use Rattle.pauli_word.proofs.WordLaws.{length-letters_product, letters_product_a
 use Rattle.pauli_word.proofs.SignedLaws.{product_self}
 use Rattle.pauli_word.specs.States.{State, applied, is_decided, outcome, collapsed, correcting, IsGroup}
 use Rattle.step_model.specs.Sensitivities.{multiplied}
-use Rattle.step_model.specs.WellFormed.{is_I}
+use Rattle.step_model.specs.Listing.{is_I}
 use Rattle.pauli_word.proofs.LoneLetters.{length-lone_letter, letters_product_of_no_letters, anticommute-lone_letter, letters_product-cleared, letters_power-cleared}
 
 -- the collapsed word, with the outcome as its sign, is in the state after its collapse

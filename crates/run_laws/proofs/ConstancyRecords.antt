@@ -6,12 +6,11 @@ use Rattle.pauli_word.specs.Parity.{exclusive_or}
 use Rattle.pauli_word.specs.declared.letter.Letter.{Letter}
 use Rattle.pauli_word.specs.Words.{anticommute}
 use Rattle.pauli_word.proofs.Parities.{exclusive_or-false, same_truth, same_truth-true, at_six_truths}
-use Rattle.step_model.specs.Listing.{ListedStep, One, Two, Collapse, Fault, Feedback, measured_word, Listing}
+use Rattle.step_model.specs.Listing.{ListedStep, One, Two, Collapse, Fault, Feedback, measured_word, Listing, step_records}
 use Rattle.step_model.specs.Runs.{RunState, next, next_coin, record_changes}
 use Rattle.pauli_word.specs.States.{outcome}
 use Rattle.step_model.specs.Sensitivities.{Sensitivity, record_counts, sensitivity_before}
 use Rattle.step_model.specs.Targets.{parity, is_listed}
-use Rattle.step_model.specs.WellFormed.{step_records}
 
 -- no record gives every target the parity false
 pub parity-none : (named : List ℕ) → parity named [] ≡ false

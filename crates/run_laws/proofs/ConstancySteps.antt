@@ -11,11 +11,11 @@ use Rattle.pauli_word.proofs.Parities.{same_truth, same_truth-true, at_four_trut
 use Rattle.pauli_word.proofs.WordLaws.{length-letters_product}
 use Rattle.gate_table.specs.Images.{image1, image2, inverse_of}
 use Rattle.gate_table.specs.WordImages.{preimage_at, preimage_at_two}
-use Rattle.step_model.specs.Listing.{ListedStep, One, Two, Collapse, Fault, Feedback, Measured, Word, Reset, Recorded, measured_word, Listing, fault_word}
+use Rattle.step_model.specs.Listing.{ListedStep, One, Two, Collapse, Fault, Feedback, Measured, Word, Reset, Recorded, measured_word, Listing, fault_word, is_I}
 use Rattle.pauli_word.specs.States.{State, collapsed, outcome, IsGroup}
 use Rattle.step_model.specs.Runs.{RunState, next, next_coin, happens, record_changes}
 use Rattle.step_model.specs.Sensitivities.{Sensitivity, cleared, record_counts, multiplied, sensitivity_before, collapse_word}
-use Rattle.step_model.specs.WellFormed.{is_I, record_fits, step_fits}
+use Rattle.step_model.specs.WellFormed.{record_fits, step_fits}
 use Rattle.pauli_word.proofs.Groups.{IsGroup-collapsed}
 use Rattle.step_model.proofs.StateIsGroup.{length-measured}
 use Rattle.run_laws.specs.Constants.{sign_brought}

@@ -8,8 +8,8 @@ use Rattle.pauli_word.specs.Parity.{exclusive_or}
 use Rattle.pauli_word.specs.Words.{letters_power, anticommute, signed}
 use Rattle.pauli_word.proofs.Parities.{exclusive_or-false, exclusive_or_self, exclusive_or_middle, same_truth, same_truth-true, at_four_truths}
 use Rattle.run_laws.specs.Constants.{sign_brought, signs_brought}
-use Rattle.run_laws.specs.Duality.{AddsUp, OneFaultLaw}
-use Rattle.step_model.specs.Hits.{is_flip_of, hits_at, hits_among, is_hit, odd_hits_among}
+use Rattle.run_laws.specs.Duality.{AddsUp, OneFaultLaw, odd_hits_among}
+use Rattle.step_model.specs.Hits.{is_flip_of, hits_at, hits_among, is_hit}
 use Rattle.gate_table.specs.WordImages.{preimage_at, preimage_at_two}
 use Rattle.step_model.specs.Listing.{ListedStep, One, Two, Collapse, Fault, Feedback, Recorded, measured_word, Listing, fault_word, effect_at}
 use Rattle.step_model.specs.Runs.{happens, flip_happens, records_of}

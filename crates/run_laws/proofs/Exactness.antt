@@ -10,7 +10,8 @@ use Rattle.std.specs.List.Sorted.{IsStrictlyIncreasing}
 use Rattle.pauli_word.specs.Parity.{exclusive_or}
 use Rattle.step_model.specs.ErrorModels.{LinesFit, Fits, is_in_sum, IsExact}
 use Rattle.step_model.specs.HitModels.{targets_hit, hitting_faults, line_of, model_of}
-use Rattle.step_model.specs.Hits.{is_hit, odd_hits_among}
+use Rattle.step_model.specs.Hits.{is_hit}
+use Rattle.run_laws.specs.Duality.{odd_hits_among}
 use Rattle.step_model.specs.Listing.{Listing}
 use Rattle.step_model.specs.Runs.{happens, records_of}
 use Rattle.step_model.specs.Sensitivities.{place_of}

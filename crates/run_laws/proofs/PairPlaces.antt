@@ -2,9 +2,10 @@
 use Rattle.std.proofs.Common.{◌≡◌, ℕ, zero, suc, ◌+◌, ◌<◌, ◌⊎◌, inl, inr, if◌then◌else◌, Bool, true, false, List, [], ◌∷◌, ◌++◌, length, replicate, get_or, Option, None, Some, refl, ap, sym, ◌∙◌, arith}
 use Rattle.pauli_word.proofs.WordLaws.{anticommute_of_none}
 pub use Rattle.pauli_word.proofs.LowestLetters.{lowest-clash}
-use Rattle.step_model.specs.Listing.{ListedStep, One, Two, Collapse, Fault, Feedback}
+use Rattle.step_model.specs.Listing.{ListedStep, One, Two, Collapse, Fault, Feedback, is_collapse}
 use Rattle.step_model.specs.Frames.{Frame, flips_from, steps_after_each}
-use Rattle.step_model.specs.Sensitivities.{is_collapse, collapse_count, later_or_here, latest_place, sensitivity}
+use Rattle.step_model.specs.Sensitivities.{later_or_here, latest_place, sensitivity}
+use Rattle.step_model.specs.WellFormed.{collapse_count}
 
 pub option_either : {T : Type 0} → (o : Option T) → (o ≡ None) ⊎ ((x : T) × (o ≡ Some x))
 option_either None = inl refl

@@ -8,13 +8,13 @@ use Rattle.pauli_word.specs.Parity.{exclusive_or}
 use Rattle.pauli_word.specs.Words.{anticommute, no_letters}
 use Rattle.pauli_word.proofs.WordLaws.{anticommute_of_none}
 use Rattle.step_model.specs.Frames.{begun, flips_from, records_by_each, steps_after_each, words_collapsed}
-use Rattle.step_model.specs.Listing.{ListedStep, One, Two, Collapse, Fault, Feedback, Measured, Recorded, measured_word, Listing}
+use Rattle.step_model.specs.Listing.{ListedStep, One, Two, Collapse, Fault, Feedback, Measured, Recorded, measured_word, Listing, step_records}
 use Rattle.pauli_word.specs.States.{State, outcome, collapsed, IsGroup}
 use Rattle.step_model.specs.Runs.{RunState, correction, corrected, record_changes, next_coin, next, run_from}
 use Rattle.step_model.specs.Sensitivities.{Sensitivity, latest_place, sensitivity}
 use Rattle.run_laws.specs.Shifts.{flipped_by, flips_with, carried_over, IsShifted, DifferByFrame, IsShift}
 use Rattle.step_model.specs.Targets.{parity}
-use Rattle.step_model.specs.WellFormed.{step_fits, step_records, records_made}
+use Rattle.step_model.specs.WellFormed.{step_fits, records_made}
 use Rattle.step_model.proofs.StateIsGroup.{IsGroup-next, length-measured}
 use Rattle.run_laws.proofs.ConstancyRecords.{in_order-next}
 use Rattle.run_laws.proofs.PairParity.{Numbered, parity-carried}

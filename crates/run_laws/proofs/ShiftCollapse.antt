@@ -13,7 +13,7 @@ use Rattle.pauli_word.proofs.WordLaws.{anticommute_comm, anticommute-product, le
 use Rattle.pauli_word.proofs.SignedLaws.{product-sign_changed_left, product-sign_changed_right}
 use Rattle.pauli_word.specs.States.{State, outcome, is_decided, collapsed, applied, correcting, IsGroup}
 use Rattle.run_laws.specs.Shifts.{IsShifted}
-use Rattle.step_model.specs.WellFormed.{is_I}
+use Rattle.step_model.specs.Listing.{is_I}
 use Rattle.pauli_word.proofs.LoneLetters.{length-lone_letter}
 use Rattle.run_laws.proofs.ShiftWords.{anticommute-lone, anticommute-parts}
 

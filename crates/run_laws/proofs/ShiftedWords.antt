@@ -13,10 +13,9 @@ use Rattle.pauli_word.proofs.WordLaws.{length-letters_product}
 use Rattle.step_model.specs.declared.step.Place.{Place}
 use Rattle.step_model.specs.declared.step.Place.TheVariants.{Start, After}
 use Rattle.step_model.specs.Frames.{Frame, begun, flips_from, flips_of, records_by_each, steps_after_each}
-use Rattle.step_model.specs.Listing.{Listing, ListedStep, One, Two, Collapse, Fault, Feedback, measured_word}
+use Rattle.step_model.specs.Listing.{Listing, ListedStep, One, Two, Collapse, Fault, Feedback, measured_word, step_records, is_collapse}
 use Rattle.step_model.specs.Runs.{RunState, next, next_coin, run_from, start}
-use Rattle.step_model.specs.Sensitivities.{is_collapse, collapse_count}
-use Rattle.step_model.specs.WellFormed.{step_fits, step_records, records_made}
+use Rattle.step_model.specs.WellFormed.{step_fits, records_made, collapse_count}
 use Rattle.step_model.proofs.StateIsGroup.{IsGroup-next}
 use Rattle.run_laws.specs.ShiftedWords.{FlipsOutcomes, flips_between, steps_after, IsThere, WordShift, PlaceShift, ProductLaw}
 use Rattle.run_laws.specs.Shifts.{flipped_by, outcomes_from, flips_with, IsShifted, DifferByFrame, IsShift}

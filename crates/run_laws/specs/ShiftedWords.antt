@@ -10,8 +10,7 @@ use Rattle.step_model.specs.declared.step.Place.TheVariants.{Start, After}
 use Rattle.step_model.specs.Frames.{Frame, begun, flips_from, flips_of, steps_after_each}
 use Rattle.step_model.specs.Listing.{Listing, ListedStep}
 use Rattle.step_model.specs.Runs.{RunState, run_from, start}
-use Rattle.step_model.specs.Sensitivities.{collapse_count}
-use Rattle.step_model.specs.WellFormed.{IsWellFormed, records_made}
+use Rattle.step_model.specs.WellFormed.{IsWellFormed, records_made, collapse_count}
 use Rattle.run_laws.specs.Shifts.{flipped_by, outcomes_from, DifferByFrame}
 
 -- the outcomes of a run, one a collapse

@@ -11,10 +11,10 @@ use Rattle.pauli_word.specs.Parity.{exclusive_or}
 use Rattle.pauli_word.specs.declared.letter.Letter.{Letter}
 use Rattle.pauli_word.specs.Words.{Signed, anticommute, with_sign_changed}
 use Rattle.step_model.specs.Frames.{Frame, carried, flips_from}
-use Rattle.step_model.specs.Listing.{ListedStep, Collapse, Fault, Recorded, measured_word, Listing, fault_word}
+use Rattle.step_model.specs.Listing.{ListedStep, Collapse, Fault, Recorded, measured_word, Listing, fault_word, is_collapse}
 use Rattle.pauli_word.specs.States.{State, outcome, IsGroup}
 use Rattle.step_model.specs.Runs.{RunState, next_coin, happens, flip_happens, next, run_from}
-use Rattle.step_model.specs.Sensitivities.{cleared, multiplied, is_collapse, collapse_word}
+use Rattle.step_model.specs.Sensitivities.{cleared, multiplied, collapse_word}
 use Rattle.step_model.specs.WellFormed.{step_fits}
 
 -- truth values, each changed where its flip is 1: those past the flips stay, and those missing count as 0

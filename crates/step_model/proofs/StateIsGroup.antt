@@ -11,9 +11,9 @@ use Rattle.pauli_word.specs.States.{IsGroup, correcting, collapsed, outcome}
 use Rattle.pauli_word.specs.Words.{lone_letter}
 use Rattle.pauli_word.proofs.Groups.{IsGroup-start, IsGroup-applied, IsGroup-collapsed}
 use Rattle.pauli_word.proofs.LoneLetters.{length-lone_letter}
-use Rattle.step_model.specs.Listing.{ListedStep, One, Two, Collapse, Fault, Feedback, Measured, Word, Reset, Recorded, measured_word, Listing, fault_word}
+use Rattle.step_model.specs.Listing.{ListedStep, One, Two, Collapse, Fault, Feedback, Measured, Word, Reset, Recorded, measured_word, Listing, fault_word, is_I}
 use Rattle.step_model.specs.Runs.{RunState, next_coin, happens, next, run_from, start, run_state_after}
-use Rattle.step_model.specs.WellFormed.{IsWellFormed, is_I, word_fits, record_fits, step_fits}
+use Rattle.step_model.specs.WellFormed.{IsWellFormed, word_fits, record_fits, step_fits}
 
 -- what a fitting gate step names
 

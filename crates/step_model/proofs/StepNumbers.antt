@@ -11,8 +11,8 @@ use Rattle.pauli_word.specs.Words.{lone_letter}
 use Rattle.pauli_word.proofs.LoneLetters.{length-lone_letter}
 use Rattle.pauli_word.proofs.WordLaws.{length-letters_product}
 use Rattle.step_model.specs.declared.step.Term.{Term}
-use Rattle.step_model.specs.Listing.{Listing, ListedStep, One, Two, Collapse, Fault, Feedback, Measured, Recorded, word_of_terms}
-use Rattle.step_model.specs.WellFormed.{IsWellFormed, step_fits, step_records, records_made, is_earlier, feeds_earlier}
+use Rattle.step_model.specs.Listing.{Listing, ListedStep, One, Two, Collapse, Fault, Feedback, Measured, Recorded, word_of_terms, step_records}
+use Rattle.step_model.specs.WellFormed.{IsWellFormed, step_fits, records_made, is_earlier, feeds_earlier}
 
 -- each step fits
 pub fits_at : (program : Listing) (k : ℕ) (step : ListedStep) → IsWellFormed program → slice_get program.steps k ≡ Some step → step_fits program step ≡ true

@@ -5,16 +5,15 @@
 -- place, as the word collapsed there or as Z at a qubit of the start. (A collapse is the projective measurement inside a
 -- measurement or a reset; its coin is the outcome where that is random.) (Knill, Quantum computing with realistically
 -- noisy devices, Nature 434, 39 (2005): Pauli frames.)
-use Rattle.std.specs.Prelude.{ℕ, ◌+◌, suc, Option, None, Some, length, Bool, false, if◌then◌else◌, List, [], ◌∷◌, ◌++◌, replicate, slice_index_or}
+use Rattle.std.specs.Prelude.{ℕ, ◌+◌, ◌-◌, ◌==◌, Option, None, Some, length, Bool, false, not, if◌then◌else◌, List, [], ◌∷◌, ◌++◌, replicate, slice_index_or}
 use Rattle.pauli_word.specs.declared.letter.Letter.{Letter}
 use Rattle.pauli_word.specs.declared.letter.Letter.TheVariants.{Z}
 use Rattle.pauli_word.specs.Words.{anticommute, no_letters, lone_letter, signed}
 use Rattle.step_model.specs.declared.step.Place.{Place}
 use Rattle.step_model.specs.declared.step.Place.TheVariants.{Start, After}
 use Rattle.gate_table.specs.WordImages.{image_at, image_at_two}
-use Rattle.step_model.specs.Listing.{Listing, ListedStep, One, Two, Collapse, Fault, Feedback, Recorded, measured_word}
-use Rattle.step_model.specs.Sensitivities.{cleared, multiplied, is_collapse, collapse_word}
-use Rattle.step_model.specs.WellFormed.{step_records}
+use Rattle.step_model.specs.Listing.{Listing, ListedStep, One, Two, Collapse, Fault, Feedback, Recorded, measured_word, step_records, is_collapse}
+use Rattle.step_model.specs.Sensitivities.{cleared, multiplied, collapse_word}
 
 -- a frame: its word, and whether it flips each record so far
 pub record Frame : Type 0 where
@@ -41,21 +40,18 @@ flips_from n v [] = []
 flips_from n v (step ∷ steps) =
     (if is_collapse step then anticommute v.word (collapse_word n step) ∷ [] else []) ++ flips_from n (carried n step v) steps
 
--- for each collapse among these steps, how many records there are after it, where `made` were made before these steps
-abbrev pub records_by_each : ℕ → List ListedStep → List ℕ
-records_by_each made [] = []
-records_by_each made (step ∷ steps) =
-    (if is_collapse step then (made + length (step_records step)) ∷ [] else [])
-    ++ records_by_each (made + length (step_records step)) steps
-
 -- a frame that begins as a word, and flips none of the records made before
 abbrev pub begun : List Letter → ℕ → Frame
 begun v made = record { word = v; records = replicate made false }
 
--- for each collapse among these steps, the steps after it
-abbrev pub steps_after_each : List ListedStep → List (List ListedStep)
-steps_after_each [] = []
-steps_after_each (step ∷ steps) = (if is_collapse step then steps ∷ [] else []) ++ steps_after_each steps
+-- the same of a frame begun as the word v just after the collapse k of these steps, counted from 0, where this many records
+-- were made before them: up to and with that collapse the flips are 0
+abbrev pub flips_after : ℕ → List Letter → ℕ → ℕ → List ListedStep → List Bool
+flips_after n v k made [] = []
+flips_after n v k made (step ∷ steps) =
+    let so_far = made + length (step_records step) in
+    if not (is_collapse step) then flips_after n v k so_far steps
+    else false ∷ (if k == 0 then flips_from n (begun v so_far) steps else flips_after n v (k - 1) so_far steps)
 
 -- the words that these steps collapse
 abbrev pub words_collapsed : ℕ → List ListedStep → List (List Letter)
@@ -65,9 +61,7 @@ words_collapsed n (step ∷ steps) = (if is_collapse step then collapse_word n s
 -- the flips, one a collapse, of a frame begun at a place as the word v
 abbrev pub flips_of : Listing → Place → List Letter → List Bool
 flips_of program (Start q) v = flips_from program.qubits (begun v 0) program.steps
-flips_of program (After k) v =
-    replicate (suc k) false
-    ++ flips_from program.qubits (begun v (slice_index_or (records_by_each 0 program.steps) k 0)) (slice_index_or (steps_after_each program.steps) k [])
+flips_of program (After k) v = flips_after program.qubits v k 0 program.steps
 
 -- the word as which the frame of a coin pair begins
 abbrev pub first_word : Listing → Place → List Letter

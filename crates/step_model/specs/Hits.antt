@@ -22,11 +22,9 @@ is_recorded_flip f (Some r) = is_flip_of f r.flip
 
 -- whether a fault hits a target at a step, where s is the sensitivity after it
 abbrev pub hits_at : Listing → ℕ → ListedStep → Sensitivity → Bool
-hits_at program f (One gate q) s = false
-hits_at program f (Two gate a b) s = false
 hits_at program f (Collapse c r) s = is_recorded_flip f r && record_counts s.records r
 hits_at program f (Fault g) s = g == f && anticommute s.word (fault_word program f)
-hits_at program f (Feedback w r) s = false
+hits_at program f step s = false
 
 -- whether a fault hits the target with these records at an odd number of these steps, which are the program's last
 abbrev pub hits_among : Listing → List ℕ → ℕ → List ListedStep → Bool
@@ -37,13 +35,3 @@ hits_among program named f (step ∷ steps) =
 -- whether a fault hits a target
 abbrev pub is_hit : Listing → ℕ → ℕ → Bool
 is_hit program d f = hits_among program (target_at program d) f program.steps
-
--- whether an odd number of the faults with these numbers both happen and hit a target
-abbrev pub odd_hits_among : Listing → ℕ → List Bool → List ℕ → Bool
-odd_hits_among program d faults [] = false
-odd_hits_among program d faults (f ∷ numbers) =
-    exclusive_or (happens faults f && is_hit program d f) (odd_hits_among program d faults numbers)
-
--- the same of all faults of the program
-abbrev pub has_odd_hits : Listing → ℕ → List Bool → Bool
-has_odd_hits program d faults = odd_hits_among program d faults (range_with_len 0 (length program.faults))

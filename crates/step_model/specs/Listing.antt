@@ -1,10 +1,11 @@
 -- A program: the unrolled circuit, as a list of steps with what they name. A collapse is the projective measurement
 -- inside a measurement or a reset; its coin is the outcome where that is random. Faults, collapses and records are
 -- numbered from 0 in the order of the steps. (Stim's circuit format.)
-use Rattle.std.specs.Prelude.{ℕ, ℤ, List, [], ◌∷◌, Option, None, Some, Bool, slice_index_or}
+use Rattle.std.specs.Prelude.{ℕ, ℤ, List, [], ◌∷◌, Option, None, Some, Bool, true, false, slice_index_or}
 use Rattle.gate_table.specs.declared.gate.Gate.{Gate}
 use Rattle.step_model.specs.declared.step.Term.{Term}
 use Rattle.pauli_word.specs.declared.letter.Letter.{Letter}
+use Rattle.pauli_word.specs.declared.letter.Letter.TheVariants.{I}
 use Rattle.pauli_word.specs.Words.{letters_product, no_letters, lone_letter}
 
 -- what a fault does where it happens: it applies a product of letters at qubits, or it flips a record
@@ -12,19 +13,12 @@ pub data Effect : Type 0 where
   Applies : List Term → Effect
   Flips : ℕ → Effect
 
--- what is kept of a fault, once for each place of the text: the text of its probability, the floor of that probability
--- times 2^64, and the letters at qubits that it applies, none where it flips a record
-pub record Kept : Type 0 where
-  pub text : List ℕ
-  pub bound : ℕ
-  pub terms : List Term
-
--- a fault: the text of its probability, its bound, what it does, and the number of what is kept of it
+-- a fault: the text of its probability as it stands in the circuit, its bound, which is the floor of that probability
+-- times 2^64, and what it does
 pub record ListedFault : Type 0 where
   pub text : List ℕ
   pub bound : ℕ
   pub effect : Effect
-  pub entry : ℕ
 
 -- what a collapse measures: a word of sign plus, or a letter at a qubit, which it then resets
 pub data Measured : Type 0 where
@@ -58,9 +52,6 @@ pub record Listing : Type 0 where
   -- the coordinates of each detector
   pub coordinates : List (List ℤ)
   pub faults : List ListedFault
-  pub kept : List Kept
-  -- the products of letters that collapses measure, once for each place of the text
-  pub products : List (List Term)
 
 -- the word that a collapse measures, on n qubits
 abbrev pub measured_word : ℕ → Measured → List Letter
@@ -79,15 +70,7 @@ effect_word n (Flips r) = no_letters n
 
 -- a fault that does nothing, which a number stands for that no fault has
 abbrev pub no_effect : ListedFault
-no_effect = record { text = []; bound = 0; effect = Applies []; entry = 0 }
-
--- what is kept of such a fault
-abbrev pub none_kept : Kept
-none_kept = record { text = []; bound = 0; terms = [] }
-
--- what is kept under a number
-abbrev pub kept_at : Listing → ℕ → Kept
-kept_at program e = slice_index_or program.kept e none_kept
+no_effect = record { text = []; bound = 0; effect = Applies [] }
 
 -- the fault with a number
 abbrev pub fault_at : Listing → ℕ → ListedFault
@@ -101,12 +84,17 @@ effect_at program f = (fault_at program f).effect
 abbrev pub fault_word : Listing → ℕ → List Letter
 fault_word program f = effect_word program.qubits (effect_at program f)
 
--- the letters at qubits that a fault applies: none where it flips a record
-abbrev pub effect_terms : Effect → List Term
-effect_terms (Applies terms) = terms
-effect_terms (Flips r) = []
+-- whether a step is a collapse
+abbrev pub is_collapse : ListedStep → Bool
+is_collapse (Collapse c r) = true
+is_collapse step = false
 
--- the record that a fault flips
-abbrev pub flipped_record : Effect → Option ℕ
-flipped_record (Applies terms) = None
-flipped_record (Flips r) = Some r
+-- the records that a step makes: one or none
+abbrev pub step_records : ListedStep → List ℕ
+step_records (Collapse c (Some r)) = r.number ∷ []
+step_records step = []
+
+-- whether a letter is I
+abbrev pub is_I : Letter → Bool
+is_I I = true
+is_I letter = false

@@ -16,7 +16,7 @@ pub use Rattle.pauli_word.specs.Words.{has_X_or_Y, lowest_X_or_Y}
 use Rattle.step_model.specs.declared.step.Place.{Place}
 use Rattle.step_model.specs.declared.step.Place.TheVariants.{Start, After}
 use Rattle.gate_table.specs.WordImages.{preimage_at, preimage_at_two}
-use Rattle.step_model.specs.Listing.{Listing, ListedStep, One, Two, Collapse, Fault, Feedback, Measured, Word, Reset, Recorded, measured_word}
+use Rattle.step_model.specs.Listing.{Listing, ListedStep, One, Two, Collapse, Fault, Feedback, Measured, Word, Reset, Recorded, measured_word, is_collapse}
 use Rattle.step_model.specs.Targets.{is_listed, target_at}
 
 -- a sensitivity: its word, and its records. A record that is listed an even number of times doesn't count
@@ -52,26 +52,10 @@ abbrev pub sensitivity : ℕ → List ℕ → List ListedStep → Sensitivity
 sensitivity n named [] = record { word = no_letters n; records = named }
 sensitivity n named (step ∷ steps) = sensitivity_before n step (sensitivity n named steps)
 
--- whether a step is a collapse
-abbrev pub is_collapse : ListedStep → Bool
-is_collapse (One gate q) = false
-is_collapse (Two gate a b) = false
-is_collapse (Collapse c r) = true
-is_collapse (Fault f) = false
-is_collapse (Feedback w r) = false
-
 -- the word that a step collapses; the identity where it is no collapse
 abbrev pub collapse_word : ℕ → ListedStep → List Letter
-collapse_word n (One gate q) = no_letters n
-collapse_word n (Two gate a b) = no_letters n
 collapse_word n (Collapse c r) = measured_word n c
-collapse_word n (Fault f) = no_letters n
-collapse_word n (Feedback w r) = no_letters n
-
--- how many steps are collapses
-abbrev pub collapse_count : List ListedStep → ℕ
-collapse_count [] = 0
-collapse_count (step ∷ steps) = (if is_collapse step then 1 else 0) + collapse_count steps
+collapse_word n step = no_letters n
 
 -- the latest collapse from a step on whose word anticommutes with the sensitivity after it: one after the step where
 -- there is one, otherwise the step itself where it is such a collapse

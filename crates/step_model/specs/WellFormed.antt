@@ -3,23 +3,15 @@
 -- the order of the steps, each once; each probability text is accepted and has its bound; and the targets are within the
 -- limits.
 -- (Stim's circuit format: what an instruction may name.)
-use Rattle.std.specs.Prelude.{⊤, ◌≡◌, ◌≤◌, ◌<◌, ◌==◌, ◌^◌, nat_lt, ℕ, ℤ, nat_abs, Bool, true, false, not, ◌&&◌, List, [], ◌∷◌, ◌++◌, ◌+◌, length, All, Option, None, Some}
+use Rattle.std.specs.Prelude.{⊤, ◌≡◌, ◌≤◌, ◌<◌, ◌==◌, ◌^◌, nat_lt, ℕ, ℤ, nat_abs, Bool, true, false, not, ◌&&◌, if◌then◌else◌, List, [], ◌∷◌, ◌++◌, ◌+◌, length, All, Option, None, Some}
 use Rattle.std.specs.List.{range_with_len, AllPass, list_any}
 use Rattle.std.specs.Option.{option_to_list}
 use Rattle.gate_table.specs.Images.{arity_of}
 use Rattle.pauli_word.specs.declared.letter.Letter.{Letter}
-use Rattle.pauli_word.specs.declared.letter.Letter.TheVariants.{I, X, Y, Z}
-use Rattle.step_model.specs.Listing.{Listing, ListedStep, One, Two, Collapse, Fault, Feedback, Measured, Word, Reset, Recorded, ListedFault, Effect, Applies, Flips, effect_at, effect_terms, word_of_terms, kept_at}
+use Rattle.pauli_word.specs.declared.letter.Letter.TheVariants.{I}
+use Rattle.step_model.specs.Listing.{Listing, ListedStep, One, Two, Collapse, Fault, Feedback, Measured, Word, Reset, Recorded, ListedFault, Effect, Applies, Flips, effect_at, word_of_terms, is_I, is_collapse, step_records}
 use Rattle.step_model.specs.declared.step.Term.{Term}
 use Rattle.step_model.specs.Probabilities.{probability_bound}
-use Rattle.step_model.specs.Sensitivities.{collapse_count}
-
--- whether a letter is I
-abbrev pub is_I : Letter → Bool
-is_I I = true
-is_I X = false
-is_I Y = false
-is_I Z = false
 
 -- whether a fault applies a word
 abbrev pub applies_word : Effect → Bool
@@ -59,14 +51,10 @@ step_fits program (Collapse c r) = measured_fits program.qubits c && record_fits
 step_fits program (Fault f) = nat_lt f (length program.faults) && applies_word (effect_at program f)
 step_fits program (Feedback w r) = word_fits program.qubits w
 
--- the records that a step makes
-abbrev pub step_records : ListedStep → List ℕ
-step_records (One gate q) = []
-step_records (Two gate a b) = []
-step_records (Collapse c None) = []
-step_records (Collapse c (Some r)) = r.number ∷ []
-step_records (Fault f) = []
-step_records (Feedback w r) = []
+-- how many steps are collapses
+abbrev pub collapse_count : List ListedStep → ℕ
+collapse_count [] = 0
+collapse_count (step ∷ steps) = (if is_collapse step then 1 else 0) + collapse_count steps
 
 -- the records that steps make, in their order
 abbrev pub records_made : List ListedStep → List ℕ
@@ -121,13 +109,6 @@ pub record ProductFits (qubits : ℕ) (terms : List Term) : Type 0 where
   pub terms_fit : TermsFit qubits terms
   pub word : word_fits qubits (word_of_terms qubits terms) ≡ true
 
--- what is kept of a fault is its text and bound, and the letters at qubits that it applies
-pub record IsKept (program : Listing) (fault : ListedFault) : Type 0 where
-  pub there : fault.entry < length program.kept
-  pub text : fault.text ≡ (kept_at program fault.entry).text
-  pub bound : fault.bound ≡ (kept_at program fault.entry).bound
-  pub terms : (kept_at program fault.entry).terms ≡ effect_terms fault.effect
-
 -- all of this holds of a program
 pub record IsWellFormed (program : Listing) : Type 0 where
   pub steps_fit : AllPass (step_fits program) program.steps
@@ -136,9 +117,6 @@ pub record IsWellFormed (program : Listing) : Type 0 where
   pub feedback_earlier : feeds_earlier 0 program.steps ≡ true
   pub faults_in_order : faults_named program.steps ≡ range_with_len 0 (length program.faults)
   pub faults_fit : All (FaultFits program.qubits) program.faults
-  pub faults_kept : All (IsKept program) program.faults
-  pub kept_fit : All (λ kept. TermsFit program.qubits kept.terms) program.kept
-  pub products_fit : All (ProductFits program.qubits) program.products
   pub detectors_fit : All (All (λ r. r < program.records)) program.detectors
   pub observables_fit : All (All (λ r. r < program.records)) program.observables
   pub coordinates_given : length program.coordinates ≡ length program.detectors

@@ -5,7 +5,7 @@ use Rattle.std.specs.List.{list_all}
 use Rattle.std.specs.Str.{str_eq_ignore_ascii_case}
 use Rattle.std.specs.Option.{option_or}
 use Rattle.std.proofs.lemmas.Bool.{cases_Bool}
-use Rattle.step_model.specs.WellFormed.{is_I}
+use Rattle.step_model.specs.Listing.{is_I}
 use Rattle.pauli_word.specs.declared.letter.Letter.{Letter}
 use Rattle.gate_table.specs.declared.gate.Gate.{Gate}
 use Rattle.gate_table.specs.Names.{gate_named}

@@ -12,7 +12,8 @@ use Rattle.programs.specs.Made as made
 use Rattle.programs.specs.Numbering.{FeedBack, counts_over, no_counts}
 use Rattle.step_model.specs.declared.fault.Fault.{Fault}
 use Rattle.step_model.specs.declared.step.Term.{Term}
-use Rattle.step_model.specs.Listing.{Kept, Listing}
+use Rattle.step_model.specs.Listing.{Listing}
+use Rattle.programs.specs.Kept.{Kept}
 use Rattle.step_model.specs.WellFormed.{CoordinatesFit, ProductFits}
 use Rattle.stim_parser.specs.Circuits.{IsCircuit}
 use Rattle.stim_parser.specs.Trees.{Tree}

@@ -6,7 +6,7 @@ use Rattle.programs.specs.declared.step.TextStep.{TextStep}
 use Rattle.programs.specs.Builders.{OpenBlock}
 use Rattle.programs.specs.Trees.{repeated}
 use Rattle.step_model.specs.declared.step.Term.{Term}
-use Rattle.step_model.specs.Listing.{Kept}
+use Rattle.programs.specs.Kept.{Kept}
 use Rattle.stim_parser.specs.Circuits.{Fits, IsCircuit}
 use Rattle.stim_parser.specs.Texts.{Item, Does, Begins, Ends}
 use Rattle.stim_parser.specs.Trees.{Tree, items_of}

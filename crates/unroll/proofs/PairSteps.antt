@@ -7,7 +7,7 @@ use Rattle.gate_table.specs.declared.gate.Gate.{Gate}
 use Rattle.gate_table.specs.declared.gate.Gate.TheVariants as gate
 use Rattle.gate_table.specs.Images.{arity_of}
 use Rattle.programs.specs.Fits.{text_fits}
-use Rattle.step_model.specs.WellFormed.{is_I}
+use Rattle.step_model.specs.Listing.{is_I}
 use Rattle.stim_parser.specs.declared.target.Target.{Target}
 use Rattle.stim_parser.specs.declared.target.Target.TheVariants.{Plain, Back}
 use Rattle.stim_parser.specs.Limits.{are_pairs_one_record, are_pairs_record_first, has_pair_of_one, is_pair_of_one_record, is_plain, is_plain_or_back, is_same_qubit}

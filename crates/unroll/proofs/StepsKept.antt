@@ -12,7 +12,7 @@ use Rattle.programs.specs.declared.step.TextStep.{TextStep}
 use Rattle.programs.specs.Fits.{flip_is_kept, is_kept}
 use Rattle.programs.specs.Trees.{repeated}
 use Rattle.step_model.specs.declared.step.Term.{Term}
-use Rattle.step_model.specs.Listing.{Kept, none_kept}
+use Rattle.programs.specs.Kept.{Kept, none_kept}
 use Rattle.stim_parser.specs.declared.operation.Operation.{Operation}
 use Rattle.stim_parser.specs.declared.operation.Operation.TheVariants.{Applies, Measures, Resets, MeasuresAndResets, MeasuresProducts, Errs, ErrsTogether}
 use Rattle.stim_parser.specs.declared.target.Target.{Target}

@@ -10,7 +10,7 @@ use Rattle.gate_table.proofs.Arity.{two_unless_one}
 use Rattle.pauli_word.specs.declared.letter.Letter.{Letter}
 use Rattle.programs.specs.declared.step.TextStep.{TextStep}
 use Rattle.programs.specs.Fits.{text_fits}
-use Rattle.step_model.specs.WellFormed.{is_I}
+use Rattle.step_model.specs.Listing.{is_I}
 use Rattle.stim_parser.specs.declared.operation.Operation.{Operation}
 use Rattle.stim_parser.specs.declared.operation.Operation.TheVariants.{Applies, Measures, Resets, MeasuresAndResets, MeasuresProducts, Errs}
 use Rattle.stim_parser.specs.declared.target.Target.{Target}

@@ -3,7 +3,7 @@
 use Rattle.std.specs.Prelude.{◌≡◌, ◌<◌, ⊤, ℕ, List, [], ◌∷◌, ◌++◌, length, slice_index_or, unwrap_or}
 use Rattle.chances.specs.Chances.{Chance, no_chance}
 use Rattle.programs.specs.Entries.{Gathered}
-use Rattle.step_model.specs.Listing.{Kept}
+use Rattle.programs.specs.Kept.{Kept}
 use Rattle.step_model.specs.Probabilities.{probability_bound}
 use Rattle.stim_parser.specs.declared.operation.Operation.{Operation}
 use Rattle.stim_parser.specs.declared.operation.Operation.TheVariants.{Measures, MeasuresAndResets, MeasuresProducts, Errs, ErrsTogether}

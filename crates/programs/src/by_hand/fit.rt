@@ -1,8 +1,9 @@
 //! Whether parts make a program: their steps are walked over and counted.
 ghost use Rattle.std.specs.Prelude.{◌≡◌, ◌<◌, ◌^◌, nat_lt, nat_abs, length, true, All, IfSome, Some};
 ghost use Rattle.step_model.specs.Probabilities.{probability_bound};
-ghost use Rattle.step_model.specs.WellFormed.{TermsFit, ProductFits, CoordinatesFit, is_I};
-ghost use Rattle.programs.specs.ByHand.{AllFit, BeginsApart, counted_listing};
+ghost use Rattle.step_model.specs.WellFormed.{TermsFit, ProductFits, CoordinatesFit};
+ghost use Rattle.step_model.specs.Listing.{is_I};
+ghost use Rattle.programs.specs.ByHand.{AllFit, BeginsApart, counted_program};
 ghost use Rattle.programs.specs.Fits.{letter_fits, text_fits, flip_is_kept, recording_is_kept, is_kept};
 ghost use Rattle.programs.specs.Made.{EntryFits};
 ghost use Rattle.programs.specs.Numbering.{feeds_back};
@@ -28,7 +29,7 @@ struct Totals {
 // The program of these parts, once their steps are counted.
 pub(crate) fn checked<'a, A: Allocator + Copy>(parts: Parts<'a, A>) -> Option<Program<'a, A>>
     requires { IsCircuit parts.nodes.items }
-    ensures { IfSome result (λ p. p ≡ counted_listing parts.entry) }
+    ensures { IfSome result (λ p. p ≡ counted_program parts.entry) }
 {
     let Some(totals) = total_of(&parts) else {
         return None;

@@ -1,7 +1,7 @@
 use Rattle.std.proofs.Common.{◌<◌, length, ap, subst, sym, ◌∙◌}
 use Rattle.std.specs.Prelude.{All}
 use Rattle.std.proofs.lemmas.Result.{on_ok_weaker}
-use Rattle.step_model.specs.Listing.{kept_at}
+use Rattle.programs.specs.Kept.{kept_at}
 use Rattle.step_model.specs.Targets.{targets_of}
 use Rattle.backward.specs.Passes.{with_line}
 use Rattle.backward.specs.Tracked.{anticommuting}

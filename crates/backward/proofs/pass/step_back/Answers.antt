@@ -3,7 +3,7 @@ use Rattle.std.specs.Prelude.{All}
 use Rattle.step_model.specs.declared.step.Term.{Term}
 use Rattle.step_model.specs.Listing.{word_of_terms}
 use Rattle.step_model.specs.ErrorModels.{ErrorLine}
-use Rattle.step_model.specs.Listing.{kept_at}
+use Rattle.programs.specs.Kept.{kept_at}
 use Rattle.step_model.specs.Listing as listing
 use Rattle.programs.specs.declared.step.Step.TheVariants.{One, Two, Collapse, CollapseWord, Fault, Feedback}
 use Rattle.programs.specs.Listed.{listed, measured, recorded}

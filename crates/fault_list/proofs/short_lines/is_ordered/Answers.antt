@@ -1,7 +1,7 @@
 -- Each term is tested in its turn.
 use Rattle.std.proofs.Common.{◌≡◌, ◌<◌, false, inl, inr, sym, ◌∙◌}
 use Rattle.std.specs.Prelude.{◌⊎◌, not}
-use Rattle.step_model.specs.WellFormed.{is_I}
+use Rattle.step_model.specs.Listing.{is_I}
 use Rattle.fault_list.proofs.TermLemmas.{term_at}
 use Rattle.fault_list.proofs.ShortLineLemmas.{ordered_until, ordered_more}
 use Rattle.fault_list.proofs.short_lines.is_ordered.Goals as goal

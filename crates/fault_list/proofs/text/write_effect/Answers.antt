@@ -1,5 +1,6 @@
 use Rattle.std.proofs.Common.{◌∙◌}
-use Rattle.step_model.specs.Listing.{effect_at, none_kept}
+use Rattle.step_model.specs.Listing.{effect_at}
+use Rattle.programs.specs.Kept.{none_kept}
 use Rattle.fault_list.proofs.EffectLemmas.{effect_text-flips, effect_text-applies}
 use Rattle.fault_list.proofs.text.write_effect.Goals as goal
 

@@ -1,7 +1,7 @@
 use Rattle.std.proofs.Common.{◌≡◌, ◌+◌, ◌<◌, true, false, length, take, sym, ap, ◌∙◌, arith}
 use Rattle.programs.specs.Listed.{listed}
-use Rattle.step_model.specs.Sensitivities.{is_collapse}
-use Rattle.step_model.specs.WellFormed.{step_records, records_made}
+use Rattle.step_model.specs.WellFormed.{records_made}
+use Rattle.step_model.specs.Listing.{step_records, is_collapse}
 use Rattle.frames.proofs.Passing.{ahead-step, ahead-collapse, ahead-found, ahead-none, made_after-step, records_made-more}
 use Rattle.frames.proofs.Walking.{goes_over, rests}
 use Rattle.frames.proofs.collapses.go_past.Goals as goal

@@ -1,5 +1,5 @@
 use Rattle.std.proofs.Common.{◌≡◌, ◌≤◌, take}
-use Rattle.step_model.specs.Sensitivities.{collapse_count}
+use Rattle.step_model.specs.WellFormed.{collapse_count}
 use Rattle.plain_runs.proofs.runs.collapses_before.Given as goal
 
 abbrev pub invariant-loop-step : goal.invariant-loop-step

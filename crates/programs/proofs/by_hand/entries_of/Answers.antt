@@ -1,5 +1,5 @@
 use Rattle.std.proofs.Common.{List, map, take, refl, ap, ◌∙◌}
-use Rattle.step_model.specs.Listing.{Kept}
+use Rattle.programs.specs.Kept.{Kept}
 use Rattle.programs.specs.ByHand.{chance_by_hand, kept_of}
 use Rattle.programs.specs.Entries.{Gathered, with_entry}
 use Rattle.programs.proofs.ByHandLaws.{kept_more}

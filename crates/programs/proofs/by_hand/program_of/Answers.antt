@@ -1,5 +1,5 @@
 use Rattle.std.proofs.Common.{ap, ◌∙◌}
-use Rattle.step_model.specs.Listing.{Listing}
+use Rattle.programs.specs.Kept.{KeptProgram}
 use Rattle.programs.specs.Trees.{tree_of, unrolled}
 use Rattle.programs.proofs.WrittenLists.{AreOf, weaken, of_some, qubits_are, steps_are, kept_are, faults_are, records_are, collapses_are}
 use Rattle.programs.proofs.by_hand.program_of.Goals as goal
@@ -22,12 +22,12 @@ returns g c =
     record {
       qubits = weaken _ _ c.checked.result (qubits_are parts n pieces lists are) c.checked.ensures;
       steps = weaken _ _ c.checked.result (steps_are parts n pieces lists are) c.checked.ensures;
-      detectors = weaken _ _ c.checked.result (λ p e. ap (λ (q : Listing). q.detectors) e ∙ are.keeps.detectors) c.checked.ensures;
-      observables = weaken _ _ c.checked.result (λ p e. ap (λ (q : Listing). q.observables) e ∙ are.keeps.observables) c.checked.ensures;
-      coordinates = weaken _ _ c.checked.result (λ p e. ap (λ (q : Listing). q.coordinates) e ∙ are.keeps.coordinates) c.checked.ensures;
+      detectors = weaken _ _ c.checked.result (λ p e. ap (λ (q : KeptProgram). q.listing.detectors) e ∙ are.keeps.detectors) c.checked.ensures;
+      observables = weaken _ _ c.checked.result (λ p e. ap (λ (q : KeptProgram). q.listing.observables) e ∙ are.keeps.observables) c.checked.ensures;
+      coordinates = weaken _ _ c.checked.result (λ p e. ap (λ (q : KeptProgram). q.listing.coordinates) e ∙ are.keeps.coordinates) c.checked.ensures;
       kept = weaken _ _ c.checked.result (kept_are parts n pieces lists are) c.checked.ensures;
       faults = weaken _ _ c.checked.result (faults_are parts n pieces lists are) c.checked.ensures;
       records = weaken _ _ c.checked.result (records_are parts n pieces lists are) c.checked.ensures;
       collapses = weaken _ _ c.checked.result (collapses_are parts n pieces lists are) c.checked.ensures;
-      products = weaken _ _ c.checked.result (λ p e. ap (λ (q : Listing). q.products) e ∙ are.keeps.products) c.checked.ensures;
+      products = weaken _ _ c.checked.result (λ p e. ap (λ (q : KeptProgram). q.products) e ∙ are.keeps.products) c.checked.ensures;
     }

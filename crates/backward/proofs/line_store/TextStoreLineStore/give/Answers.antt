@@ -1,5 +1,5 @@
 use Rattle.std.proofs.lemmas.Result.{on_ok_weaker}
-use Rattle.step_model.specs.Listing.{kept_at}
+use Rattle.programs.specs.Kept.{kept_at}
 use Rattle.backward.proofs.HeldLines.{one_line_more}
 use Rattle.backward.proofs.NumberedLemmas.{number_of_entry, still_fits}
 use Rattle.backward.proofs.line_store.TextStoreLineStore.give.Goals as goal

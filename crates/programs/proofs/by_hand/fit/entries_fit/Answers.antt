@@ -1,6 +1,6 @@
 use Rattle.std.proofs.Common.{refl, below_more, get_or, sym, ap, subst, ◌∙◌, Some, arith}
 use Rattle.std.proofs.lemmas.List.Elements.{All-from_get_or}
-use Rattle.step_model.specs.Listing.{none_kept}
+use Rattle.programs.specs.Kept.{none_kept}
 use Rattle.step_model.specs.Probabilities.{probability_bound}
 use Rattle.step_model.specs.WellFormed.{TermsFit}
 use Rattle.programs.specs.Made.{EntryFits}

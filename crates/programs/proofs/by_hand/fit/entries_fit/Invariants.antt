@@ -1,5 +1,5 @@
 use Rattle.std.proofs.Common.{ℕ, ◌<◌, get_or}
-use Rattle.step_model.specs.Listing.{none_kept}
+use Rattle.programs.specs.Kept.{none_kept}
 use Rattle.programs.specs.Made.{EntryFits}
 use Rattle.programs.proofs.by_hand.fit.entries_fit.Given as goal
 

@@ -2,7 +2,7 @@ use Rattle.std.proofs.Common.{◌<◌, ◌++◌, ◌∷◌, List, [], length, ma
 use Rattle.std.specs.Prelude.{All}
 use Rattle.std.proofs.lemmas.List.{length-map}
 use Rattle.std.proofs.lemmas.List.Elements.{All-push}
-use Rattle.step_model.specs.Listing.{Kept}
+use Rattle.programs.specs.Kept.{Kept}
 use Rattle.chances.specs.Chances.{Chance, chance_of}
 use Rattle.chances.proofs.ChanceLaws.{chance_at-map}
 use Rattle.programs.specs.Entries.{Gathered, entries_of, entry_from, with_entry}

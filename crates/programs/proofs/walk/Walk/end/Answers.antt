@@ -27,4 +27,4 @@ pub returns-clause-place : goal.returns-clause-place
 returns-clause-place g c =
     let held = c.text-text.ensures in
     let steps = unrolled (tree_of c.text-text.result.nodes.now) in
-    held.steps_counted ∙ sym (ap length held.steps ∙ length-map (numbered no_counts steps) (listed c.args.program.now.qubits c.args.program.now.products) ∙ length-numbered no_counts steps)
+    held.steps_counted ∙ sym (ap length held.steps ∙ length-map (numbered no_counts steps) (listed c.args.program.now.listing.qubits c.args.program.now.products) ∙ length-numbered no_counts steps)

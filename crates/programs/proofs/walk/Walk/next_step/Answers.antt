@@ -12,7 +12,7 @@ use Rattle.programs.proofs.walk.Walk.next_step.Goals as goal
 pub returns-in-None-clause-step : goal.returns-in-None-clause-step
 returns-in-None-clause-step g c =
     let w = ends c.self.inside.program.now c.self.inside.text c.self.inside.place c.next.new.place c.self.inside.counts c.self.inside.steps c.self.invariant (c.in-None.ensures c.self.inside.steps c.self.invariant.walk.place) in
-    w.none ∙ ap (λ (v : Walked). slice_get v.program.steps v.place) c.self.view_is
+    w.none ∙ ap (λ (v : Walked). slice_get v.program.listing.steps v.place) c.self.view_is
 
 pub returns-in-None-clause-place : goal.returns-in-None-clause-place
 returns-in-None-clause-place g c =
@@ -52,9 +52,9 @@ invariant_of-self-2 g c =
 pub returns-clause-step : goal.returns-clause-step
 returns-clause-step g c =
     let w = goes c.self.inside.program.now c.self.inside.text c.self.inside.place c.next.new.place c.self.inside.counts c.self.inside.steps c.in-Some.step c.self.invariant (c.in-Some.ensures c.self.inside.steps c.self.invariant.walk.place) in
-    ap (λ (v : Walked). Some (listed v.program.qubits v.program.products c.number-numbered.result)) (sym c.self.view_is)
-    ∙ (ap (λ (s : Step). Some (listed c.self.inside.program.now.qubits c.self.inside.program.now.products s)) c.number-numbered.ensures ∙ w.step_is
-    ∙ ap (λ (v : Walked). slice_get v.program.steps v.place) c.self.view_is)
+    ap (λ (v : Walked). Some (listed v.program.listing.qubits v.program.products c.number-numbered.result)) (sym c.self.view_is)
+    ∙ (ap (λ (s : Step). Some (listed c.self.inside.program.now.listing.qubits c.self.inside.program.now.products s)) c.number-numbered.ensures ∙ w.step_is
+    ∙ ap (λ (v : Walked). slice_get v.program.listing.steps v.place) c.self.view_is)
 
 pub returns-clause-named : goal.returns-clause-named
 returns-clause-named g c =

@@ -38,8 +38,8 @@ pub returns-clause-step : goal.returns-clause-step
 returns-clause-step g c =
     let w = returns_over c.self.inside.program.now c.self.inside.text c.self.inside.place c.previous.new.place c.self.inside.counts c.self.inside.steps c.in-Some.step c.self.invariant (c.in-Some.ensures c.self.inside.steps c.self.invariant.walk.place) in
     let is = c.number.ensures ∙ ap (λ (x : Counts). numbered_step x c.in-Some.step) c.before-self-inside.ensures in
-    ap (λ (v : Walked). Some (listed v.program.qubits v.program.products c.number.result)) (sym c.self.view_is)
-    ∙ (ap (λ (s : Step). Some (listed c.self.inside.program.now.qubits c.self.inside.program.now.products s)) is ∙ w.step_is
+    ap (λ (v : Walked). Some (listed v.program.listing.qubits v.program.products c.number.result)) (sym c.self.view_is)
+    ∙ (ap (λ (s : Step). Some (listed c.self.inside.program.now.listing.qubits c.self.inside.program.now.products s)) is ∙ w.step_is
     ∙ stepped_back c.self.inside.steps c.self.inside.program.now c.args.self.now c.self.view_is w.some)
 
 pub returns-clause-named : goal.returns-clause-named
