@@ -9,3 +9,4 @@ pub mod Passes
 pub mod Said
 pub mod Kept
 pub mod Marked
+pub mod Reached

@@ -1,22 +1,9 @@
--- The instructions of an error model in the order in which they are reached, where a block of n turns is n copies of
--- its body, and how many lines its blocks unroll to: each turn counts 1, and so does each instruction in it.
+-- How many lines the blocks of an error model unroll to: each turn counts 1, and so does each instruction in it.
 -- Instructions in no block and `repeat` lines don't count. Blocks may unroll to at most 4,000,000 lines. (Stim's
 -- detector error model format, github.com/quantumlib/Stim, doc/file_format_dem_detector_error_model.md, "repeat"; what
 -- is counted is this project's choice.)
-use Rattle.std.specs.Prelude.{ℕ, zero, suc, ◌+◌, ◌*◌, nat_lt, Bool, List, [], ◌∷◌, ◌++◌}
+use Rattle.std.specs.Prelude.{ℕ, ◌+◌, ◌*◌, nat_lt, Bool}
 use Rattle.dem_lines.specs.Trees.{Tree, Nothing, Then, Block}
-use Rattle.dem_lines.specs.Verdicts.{Instruction}
-
--- this many copies of a list, one after another
-abbrev pub copies : {X : Type 0} → ℕ → List X → List X
-copies zero xs = []
-copies (suc n) xs = xs ++ copies n xs
-
--- each instruction each time that it is reached
-abbrev pub reached : Tree → List Instruction
-reached Nothing = []
-reached (Then instruction rest) = instruction ∷ reached rest
-reached (Block line turns body rest) = copies turns (reached body) ++ reached rest
 
 -- the lines of what stands in a block
 unfoldable pub lines_inside : Tree → ℕ

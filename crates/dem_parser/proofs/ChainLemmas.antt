@@ -25,7 +25,8 @@ use Rattle.dem_parser.specs.Meanings.{greatest_over, is_error, meaning_of}
 use Rattle.dem_parser.specs.Summed.{AreCounts, error_count}
 use Rattle.dem_parser.specs.Tables.{IsKnown}
 use Rattle.dem_parser.specs.Models.{first_beyond, is_beyond, is_far, model_in, placed_lines}
-use Rattle.dem_parser.specs.Shifts.{Placed, coordinates_given, moved, no_shift, placed_at, placed_from, shifted_by}
+use Rattle.dem_parser.specs.Shifts.{Placed, coordinates_given, no_shift, placed_at, placed_from, shifted_by}
+use Rattle.stim_parser.specs.Offsets.{moved}
 use Rattle.dem_parser.proofs.PlaceLemmas.{unmoved}
 use Rattle.dem_parser.proofs.ReadLemmas.{read-model, whole-model}
 

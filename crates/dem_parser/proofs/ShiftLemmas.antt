@@ -21,19 +21,20 @@ use Rattle.dem_lines.specs.Limits.{has_target_beyond, is_target_beyond}
 use Rattle.dem_lines.specs.Verdicts.{Instruction, number_in}
 use Rattle.dem_parser.specs.declared.counts.Extent.{Extent}
 use Rattle.dem_parser.specs.Offsets.{AreSmall, HasRoom, beyond_stated, number_at}
-use Rattle.dem_parser.specs.Shifts.{Shift, both_offsets, moved, shift_after, shifted_by}
+use Rattle.dem_parser.specs.Shifts.{Shift, shift_after, shifted_by}
+use Rattle.stim_parser.specs.Offsets.{shifted, moved}
 use Rattle.dem_parser.specs.Tables.{IsKnown, numbers_stated}
 
 -- ---- offsets
 
 -- number by number
-pub both-at : (offset more : List ℤ) (j : ℕ) → number_at offset j +ℤ number_at more j ≡ number_at (both_offsets offset more) j
+pub both-at : (offset more : List ℤ) (j : ℕ) → number_at offset j +ℤ number_at more j ≡ number_at (shifted offset more) j
 both-at [] more j = +ℤ_idl (number_at more j)
 both-at (o ∷ offset) [] j = +ℤ_idr (number_at (o ∷ offset) j)
 both-at (o ∷ offset) (m ∷ more) zero = refl
 both-at (o ∷ offset) (m ∷ more) (suc j) = both-at offset more j
 
-pub length-both : (offset more : List ℤ) → length (both_offsets offset more) ≡ max (length offset) (length more)
+pub length-both : (offset more : List ℤ) → length (shifted offset more) ≡ max (length offset) (length more)
 length-both [] more = omega arith
 length-both (o ∷ offset) [] = omega arith
 length-both (o ∷ offset) (m ∷ more) = let rest = length-both offset more in omega (arith, rest)
@@ -139,14 +140,14 @@ small-at numbers k small =
     ]
 
 room-both : (offset more : List ℤ) (n x : ℕ) → x + beyond_stated * suc n < 2 ^ 127 → All (λ o. nat_abs o + beyond_stated * suc n < 2 ^ 127) offset → AreSmall more
-    → All (λ o. nat_abs o + beyond_stated * n < 2 ^ 127) (both_offsets offset more)
+    → All (λ o. nat_abs o + beyond_stated * n < 2 ^ 127) (shifted offset more)
 room-both [] more n x few room small = λ k d below. let one = small k d below in omega (arith, one, few)
 room-both (o ∷ offset) [] n x few room small = λ k d below. let one = room k d below in omega (arith, one)
 room-both (o ∷ offset) (m ∷ more) n x few room small =
     let here = room 0 (pos 0) (omega arith) in
     let one = small 0 (pos 0) (omega arith) in
     let sum = abs-sum o m in
-    All-cons (λ o. nat_abs o + beyond_stated * n < 2 ^ 127) (o +ℤ m) (both_offsets offset more)
+    All-cons (λ o. nat_abs o + beyond_stated * n < 2 ^ 127) (o +ℤ m) (shifted offset more)
     (omega (arith, here, one, sum))
     (room-both offset more n x few (λ k d below. room (suc k) d (omega (arith, below))) (λ k d below. small (suc k) d (omega (arith, below))))
   where

@@ -9,7 +9,8 @@ use Rattle.dem_lines.specs.Passes.{CanStand}
 use Rattle.dem_parser.specs.declared.table_line.Stand.{Stand}
 use Rattle.dem_parser.specs.declared.table_line.Stand.TheVariants as stand
 use Rattle.dem_parser.specs.TableLines.{CanStandAt, HasNoLine, stand_of}
-use Rattle.dem_lines.specs.Reached.{block_lines, copies, has_many_lines, lines_inside, reached}
+use Rattle.dem_lines.specs.Reached.{block_lines, has_many_lines, lines_inside}
+use Rattle.block_text.specs.Reached.{copies, reached}
 use Rattle.dem_lines.specs.Texts.{Item, Does, Begins, Ends}
 use Rattle.dem_lines.specs.Trees.{Tree, Nothing, Then, Block, items_of}
 use Rattle.dem_lines.specs.Verdicts.{Instruction}

@@ -14,7 +14,8 @@ use Rattle.stim_parser.specs.Numbers.{is_number_beyond}
 use Rattle.dem_lines.specs.Flat.{tree_of}
 use Rattle.dem_lines.specs.Limits.{has_target_beyond}
 use Rattle.dem_parser.specs.Meanings.{meaning_of}
-use Rattle.dem_lines.specs.Reached.{reached, has_many_lines}
+use Rattle.dem_lines.specs.Reached.{has_many_lines}
+use Rattle.block_text.specs.Reached.{reached}
 use Rattle.dem_parser.specs.Shifts.{Placed, no_shift, placed_from}
 use Rattle.dem_lines.specs.Texts.{Item, items_in, refused}
 use Rattle.dem_lines.specs.Trees.{Tree}

@@ -4,8 +4,9 @@
 -- block goes on from the shift that the one before it left. All numbers are whole, and may be of any size. (Stim's
 -- detector error model format, github.com/quantumlib/Stim, doc/file_format_dem_detector_error_model.md,
 -- "shift_detectors".)
-use Rattle.std.specs.Prelude.{ℕ, ◌+◌, ℤ, ◌+ℤ◌, List, [], ◌∷◌, map, slice_index_or}
+use Rattle.std.specs.Prelude.{ℕ, ◌+◌, ℤ, List, [], ◌∷◌, map, slice_index_or}
 use Rattle.stim_parser.specs.Numbers.{whole_value}
+use Rattle.stim_parser.specs.Offsets.{shifted, moved}
 use Rattle.dem_lines.specs.declared.operation.Operation.{Operation}
 use Rattle.dem_lines.specs.declared.operation.Operation.TheVariants.{Detects, Shifts}
 use Rattle.dem_lines.specs.declared.target.Target.{Target}
@@ -22,15 +23,9 @@ no_shift = record { detectors = 0; offset = [] }
 
 -- ---- shifts
 
--- an offset with another added
-abbrev pub both_offsets : List ℤ → List ℤ → List ℤ
-both_offsets [] more = more
-both_offsets offset [] = offset
-both_offsets (o ∷ offset) (m ∷ more) = (o +ℤ m) ∷ both_offsets offset more
-
 abbrev pub shifted_by : Operation → List (List ℕ) → List Target → Shift → Shift
 shifted_by Shifts arguments targets s =
-    record { detectors = s.detectors + number_in targets; offset = both_offsets s.offset (map whole_value arguments) }
+    record { detectors = s.detectors + number_in targets; offset = shifted s.offset (map whole_value arguments) }
 shifted_by operation arguments targets s = s
 
 -- the shift after an instruction
@@ -38,12 +33,6 @@ abbrev pub shift_after : Instruction → Shift → Shift
 shift_after i s = shifted_by i.operation i.arguments i.targets s
 
 -- ---- lines as they are reached
-
--- coordinates that are stated, with the offset added
-abbrev pub moved : List ℤ → List ℤ → List ℤ
-moved offset [] = []
-moved [] stated = stated
-moved (o ∷ offset) (c ∷ stated) = (o +ℤ c) ∷ moved offset stated
 
 -- the coordinates that a line gives to the detectors that it names
 abbrev pub coordinates_given : Operation → List (List ℕ) → List ℤ → List ℤ

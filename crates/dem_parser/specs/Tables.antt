@@ -11,7 +11,7 @@ use Rattle.dem_lines.specs.Verdicts.{Instruction}
 use Rattle.dem_parser.specs.declared.counts.Extent.{Extent}
 use Rattle.dem_parser.specs.Meanings.{detectors_to, greatest_of, observables_to}
 use Rattle.dem_parser.specs.Offsets.{AreSmall}
-use Rattle.dem_parser.specs.Shifts.{moved}
+use Rattle.stim_parser.specs.Offsets.{moved}
 
 -- ---- what is worked out of an instruction
 

@@ -4,7 +4,7 @@
 -- github.com/quantumlib/Stim, doc/file_format_dem_detector_error_model.md, "repeat".)
 use Rattle.std.specs.Prelude.{◌≡◌, ⊤, ℕ, zero, suc, ◌+◌, ◌-◌, ◌≤◌, Bool, true, false, List, [], ◌∷◌, ◌++◌, drop, length, Option, None, Some, slice_get}
 use Rattle.block_text.specs.Flat.{first_tree, trees_of}
-use Rattle.dem_lines.specs.Reached.{copies}
+use Rattle.block_text.specs.Reached.{copies}
 use Rattle.dem_lines.specs.Texts.{Item, Does, Begins, Ends}
 use Rattle.dem_lines.specs.Trees.{Tree, Nothing, Then, Block}
 use Rattle.dem_lines.specs.Verdicts.{Instruction}

@@ -1,5 +1,5 @@
 ghost use Rattle.std.specs.Prelude.{◌≡◌, ◌+◌, ◌^◌, ◌<◌, ◌≤◌, ◌++◌, length, [], ◌∷◌, IfOk};
-ghost use Rattle.dem_lines.specs.Reached.{reached};
+ghost use Rattle.block_text.specs.Reached.{reached};
 ghost use Rattle.dem_parser.specs.Meanings.{detectors_to, error_lines, greatest_of, observables_to};
 ghost use Rattle.dem_parser.specs.Models.{placed_lines};
 ghost use Rattle.dem_parser.specs.Summed.{AreCounts};

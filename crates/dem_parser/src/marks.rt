@@ -1,6 +1,6 @@
 ghost use Rattle.std.specs.Prelude.{◌≡◌, ◌<◌, ◌^◌, false, [], length, map, replicate, IfOk};
 ghost use Rattle.std.specs.List.{range_with_len};
-ghost use Rattle.dem_lines.specs.Reached.{reached};
+ghost use Rattle.block_text.specs.Reached.{reached};
 ghost use Rattle.dem_parser.specs.Marked.{HasMarked, list_numbered, marked, marked_at};
 ghost use Rattle.dem_parser.specs.Meanings.{last_coordinates};
 ghost use Rattle.dem_parser.specs.Models.{first_beyond, is_beyond, placed_lines};

@@ -4,7 +4,8 @@ ghost use Rattle.dem_lines.specs.Limits.{has_target_beyond};
 ghost use Rattle.dem_parser.specs.Meanings.{detectors_to, greatest_of, is_error, observables_to};
 ghost use Rattle.dem_parser.specs.Models.{is_far};
 ghost use Rattle.dem_parser.specs.Offsets.{AreSmall, beyond_stated};
-ghost use Rattle.dem_parser.specs.Shifts.{moved, target_at};
+ghost use Rattle.dem_parser.specs.Shifts.{target_at};
+ghost use Rattle.stim_parser.specs.Offsets.{moved};
 ghost use Rattle.dem_parser.specs.Tables.{coordinates_from, count_at, most_detectors};
 
 use crate::counts::is_error;

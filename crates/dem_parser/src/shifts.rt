@@ -2,7 +2,8 @@ ghost use Rattle.std.specs.Prelude.{◌≡◌, ◌≤◌, ◌<◌, ◌+◌, ◌^
 ghost use Rattle.stim_parser.specs.Arguments.{arguments_in};
 ghost use Rattle.stim_parser.specs.Numbers.{whole_value};
 ghost use Rattle.dem_parser.specs.Offsets.{AreSmall, HasRoom, beyond_stated, number_at};
-ghost use Rattle.dem_parser.specs.Shifts.{both_offsets, shift_after};
+ghost use Rattle.dem_parser.specs.Shifts.{shift_after};
+ghost use Rattle.stim_parser.specs.Offsets.{shifted};
 ghost use Rattle.dem_parser.specs.TableLines.{IsTableLine, instruction_of};
 ghost use Rattle.dem_parser.specs.Tables.{numbers_stated};
 
@@ -85,12 +86,12 @@ pub(crate) fn sum_at(offset: &[i128], stated: &[i64], place: usize) -> i128
 }
 
 /// An offset with the numbers that a line states added.
-fn both_offsets(offset: &[i128], stated: &[i64]) -> ArrayVec<i128, MOST_ARGUMENTS>
+fn shifted(offset: &[i128], stated: &[i64]) -> ArrayVec<i128, MOST_ARGUMENTS>
     requires axes { length offset.now ≤ MOST_ARGUMENTS }
     requires few { length stated.now ≤ MOST_ARGUMENTS }
     requires room { All (λ o. nat_abs o + beyond_stated < 2 ^ 127) offset.now }
     requires small { AreSmall stated.now }
-    ensures { result.items ≡ both_offsets offset.now stated.now }
+    ensures { result.items ≡ shifted offset.now stated.now }
 {
     let mut sum = ArrayVec::new();
     for place in 0..offset.len().max(stated.len()) {
@@ -108,7 +109,7 @@ impl Shift {
     {
         match line.operation {
             Operation::Shifts => {
-                self.offset = both_offsets(self.offset.as_slice(), line.numbers);
+                self.offset = shifted(self.offset.as_slice(), line.numbers);
                 self.detectors += line.amount as u128;
             }
             _ => {}

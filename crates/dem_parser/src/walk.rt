@@ -1,6 +1,6 @@
 ghost use Rattle.std.specs.Prelude.{◌≡◌, ◌≤◌, ◌<◌, ◌-◌, ◌^◌, [], ◌∷◌, List, MatchOption, drop, length, reverse, slice_get};
 ghost use Rattle.arrayvec.specs.ArrayVec.{array_vec_len};
-ghost use Rattle.dem_lines.specs.Reached.{reached};
+ghost use Rattle.block_text.specs.Reached.{reached};
 ghost use Rattle.dem_lines.specs.Trees.{items_of};
 ghost use Rattle.dem_parser.specs.Models.{placed_lines};
 ghost use Rattle.dem_parser.specs.Shifts.{Placed};

@@ -24,9 +24,11 @@ use Rattle.dem_lines.specs.Flat.{tree_of}
 use Rattle.dem_lines.specs.Limits.{has_target_beyond, is_target_beyond}
 use Rattle.dem_parser.specs.Meanings.{detector_count, detectors_to, error_line, error_lines, flipped, gives_coordinates, greatest_of, greatest_over, is_error, last_coordinates, meaning_of, observable_count, observables_to}
 use Rattle.dem_parser.specs.Models.{first_beyond, is_beyond, is_far, model_in, model_of_items, model_of_tree, placed_lines, refusal_of_tree, unless_refused_by}
-use Rattle.dem_lines.specs.Reached.{copies, has_many_lines, reached}
+use Rattle.dem_lines.specs.Reached.{has_many_lines}
+use Rattle.block_text.specs.Reached.{copies, reached}
 use Rattle.dem_parser.specs.Numbered.{numbers_of, odd_below}
-use Rattle.dem_parser.specs.Shifts.{Placed, Shift, moved, no_shift, placed_at, placed_from, shift_after}
+use Rattle.dem_parser.specs.Shifts.{Placed, Shift, no_shift, placed_at, placed_from, shift_after}
+use Rattle.stim_parser.specs.Offsets.{moved}
 use Rattle.dem_lines.specs.Texts.{Item, items_in}
 use Rattle.dem_lines.specs.Trees.{Tree, Nothing, Then, Block}
 use Rattle.dem_lines.specs.Verdicts.{Instruction}

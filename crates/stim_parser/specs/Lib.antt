@@ -18,3 +18,4 @@ pub mod Halves
 pub mod Coordinates
 pub mod QubitSets
 pub mod Products
+pub mod Offsets

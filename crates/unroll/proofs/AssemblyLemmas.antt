@@ -25,8 +25,10 @@ use Rattle.unroll.specs.Observables.{observables_of}
 use Rattle.unroll.specs.Refusals.{refusal_of}
 use Rattle.unroll.specs.Steps.{steps_of}
 use Rattle.unroll.specs.Summed.{AreTotals, greatest}
-use Rattle.unroll.specs.Totals.{collapse_total, fault_total, made_total, qubit_total, record_total}
-use Rattle.unroll.specs.Unrolled.{listing_of, program_of, unless_refused}
+use Rattle.unroll.specs.Totals.{collapse_total, qubit_total, record_total}
+use Rattle.unroll.specs.MadeTotals.{fault_total, made_total}
+use Rattle.unroll.specs.Meaning.{listing_of}
+use Rattle.unroll.specs.Programs.{program_of, unless_refused}
 use Rattle.unroll.proofs.CoordinateFits.{coordinates_fit}
 use Rattle.unroll.proofs.EntriesFit.{entries_fit}
 use Rattle.unroll.proofs.ProductsFit.{products_fit}
@@ -36,15 +38,18 @@ use Rattle.unroll.proofs.StepsKept.{all_kept}
 use Rattle.unroll.proofs.ReachedCounts.{coordinates_counted, detectors_counted, observables_few}
 use Rattle.unroll.proofs.RecordsThere.{detectors_fit, observables_fit}
 use Rattle.unroll.proofs.FeedbackLemmas.{fed_back}
+use Rattle.unroll.proofs.MeaningLemmas.{kept_listing, stands_for}
 use Rattle.unroll.proofs.TextFits.{texts_fit}
 
 -- ---- the program that they make
 
-pub listing_is : {A : Type 0} (t : Tree) (parts : Parts A) → ArePartsOf t parts → made.listing_of parts ≡ listing_of t
-listing_is t parts p =
-    rw (p.qubits, p.counts, p.kept, p.products, p.detectors, p.observables, p.coordinates, p.unrolled) refl
+pub listing_is : {A : Type 0} (t : Tree) (parts : Parts A) → ArePartsOf t parts → (made.kept_program parts).listing ≡ listing_of t
+listing_is t parts p = kept_is ∙ stands_for t
+  where
+    kept_is : (made.kept_program parts).listing ≡ kept_listing t
+    kept_is = rw (p.qubits, p.counts, p.kept, p.products, p.detectors, p.observables, p.coordinates, p.unrolled) refl
 
-pub program_made : {A : Type 0} (t : Tree) (parts : Parts A) → refusal_of t ≡ None → ArePartsOf t parts → program_of t ≡ Ok (made.listing_of parts)
+pub program_made : {A : Type 0} (t : Tree) (parts : Parts A) → refusal_of t ≡ None → ArePartsOf t parts → program_of t ≡ Ok (made.kept_program parts).listing
 program_made t parts h p =
     ap (λ r. unless_refused r (listing_of t)) h ∙ ap (λ (l : Listing). Ok l) (sym (listing_is t parts p))
 

@@ -12,10 +12,10 @@ use Rattle.stim_parser.specs.Trees.{Tree, items_of}
 use Rattle.stim_parser.specs.Verdicts.{Instruction}
 use Rattle.stim_parser.proofs.NumberArguments.{NamesNumber, names_number}
 use Rattle.unroll.specs.Beyond.{line_beyond}
-use Rattle.unroll.specs.Flattened.{written}
+use Rattle.block_text.specs.Reached.{written}
 use Rattle.unroll.specs.Including.{named_to}
 use Rattle.unroll.specs.Items.{instructions_in}
-use Rattle.unroll.specs.Observables.{observables_to}
+use Rattle.unroll.specs.Totals.{observables_to}
 use Rattle.unroll.specs.Refusals.{first_beyond, most_observables}
 use Rattle.unroll.proofs.ItemLemmas.{drop_next, instructions_in-tree}
 

@@ -11,8 +11,10 @@ use Rattle.stim_parser.specs.Circuits.{AllFit, IsCircuit}
 use Rattle.stim_parser.specs.Numbers.{whole_value}
 use Rattle.stim_parser.specs.Trees.{Tree, Nothing, Then, Block}
 use Rattle.stim_parser.specs.Verdicts.{Instruction}
-use Rattle.unroll.specs.Coordinates.{coordinates_from, coordinates_of, offset_after, operation_coordinates, placed, shifted}
-use Rattle.unroll.specs.Flattened.{copies, reached}
+use Rattle.unroll.specs.Coordinates.{coordinates_from, coordinates_of}
+use Rattle.stim_parser.specs.Offsets.{moved, shifted}
+use Rattle.unroll.specs.TargetsMade.{offset_after, operation_coordinates}
+use Rattle.block_text.specs.Reached.{copies, reached}
 use Rattle.unroll.specs.Totals.{step_count, step_total, total}
 use Rattle.stim_parser.proofs.CoordinateArguments.{AreUpTo, HasCoordinates, has_coordinates, most}
 
@@ -79,16 +81,16 @@ shifted-up-to n (a ∷ o) (b ∷ s) h k =
     (sum-up-to a b n (All-head (IsUpTo n) a o h) (All-head (IsUpTo most) b s k))
     (shifted-up-to n o s (All-tail (IsUpTo n) a o h) (All-tail (IsUpTo most) b s k))
 
-placed-up-to : (n : ℕ) (o s : List ℤ) → AreUpTo n o → AreUpTo most s → AreUpTo (n + most) (placed o s)
+placed-up-to : (n : ℕ) (o s : List ℤ) → AreUpTo n o → AreUpTo most s → AreUpTo (n + most) (moved o s)
 placed-up-to n [] [] h k = All-nil (IsUpTo (n + most))
 placed-up-to n [] (b ∷ s) h k = widened n (b ∷ s) k
 placed-up-to n (a ∷ o) [] h k = All-nil (IsUpTo (n + most))
 placed-up-to n (a ∷ o) (b ∷ s) h k =
-    All-cons (IsUpTo (n + most)) (a +ℤ b) (placed o s)
+    All-cons (IsUpTo (n + most)) (a +ℤ b) (moved o s)
     (sum-up-to a b n (All-head (IsUpTo n) a o h) (All-head (IsUpTo most) b s k))
     (placed-up-to n o s (All-tail (IsUpTo n) a o h) (All-tail (IsUpTo most) b s k))
 
-length-placed : (o s : List ℤ) → length (placed o s) ≡ length s
+length-placed : (o s : List ℤ) → length (moved o s) ≡ length s
 length-placed [] [] = refl
 length-placed [] (b ∷ s) = refl
 length-placed (a ∷ o) [] = refl
@@ -108,10 +110,10 @@ pub record ArePlaced (n : ℕ) (zs : List ℤ) : Type 0 where
 placed-here : (n limit : ℕ) (o : List ℤ) (op : Operation) (arguments : List (List ℕ)) → HasCoordinates op arguments → AreUpTo n o → n + most ≤ limit → All (ArePlaced limit) (operation_coordinates o op arguments)
 placed-here n limit o Detects arguments has h le =
     let s = map whole_value arguments in
-    All-cons (ArePlaced limit) (placed o s) []
+    All-cons (ArePlaced limit) (moved o s) []
     (record {
       few = omega (arith, length-placed o s, length-map arguments whole_value, has.few);
-      within = All-weaker (IsUpTo (n + most)) (IsUpTo limit) (λ z k. omega (arith, k, le)) (placed o s) (placed-up-to n o s h has.within);
+      within = All-weaker (IsUpTo (n + most)) (IsUpTo limit) (λ z k. omega (arith, k, le)) (moved o s) (placed-up-to n o s h has.within);
     })
     (All-nil (ArePlaced limit))
 placed-here n limit o op arguments has h le = All-nil (ArePlaced limit)

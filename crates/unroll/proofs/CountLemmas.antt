@@ -10,7 +10,7 @@ use Rattle.stim_parser.specs.Trees.{Tree, items_of}
 use Rattle.stim_parser.specs.Verdicts.{Instruction}
 use Rattle.block_text.specs.declared.blocks.OpenBlock.{OpenBlock}
 use Rattle.unroll.specs.declared.marks.Mark.{Mark}
-use Rattle.unroll.specs.Flattened.{reached}
+use Rattle.block_text.specs.Reached.{reached}
 use Rattle.unroll.specs.Gathered.{Gathered, Gathering, gathering, given, later}
 use Rattle.unroll.specs.Passes.{behind, opened}
 use Rattle.unroll.specs.Refusals.{first_far_line}

@@ -11,8 +11,9 @@ use Rattle.stim_parser.specs.Verdicts.{Instruction}
 use Rattle.block_text.specs.declared.blocks.OpenBlock.{OpenBlock}
 use Rattle.unroll.specs.declared.marks.Mark.{Mark}
 use Rattle.unroll.specs.Detecting.{detecting, records_moved}
-use Rattle.unroll.specs.Detectors.{detectors_from, detectors_of, operation_detectors, record_named, records_named}
-use Rattle.unroll.specs.Flattened.{reached}
+use Rattle.unroll.specs.Detectors.{detectors_from, detectors_of}
+use Rattle.unroll.specs.TargetsMade.{operation_detectors, record_named, records_named}
+use Rattle.block_text.specs.Reached.{reached}
 use Rattle.unroll.specs.Gathered.{given}
 use Rattle.unroll.proofs.CountLemmas.{CountsRecords, IsCounting, counting-done}
 use Rattle.unroll.proofs.RecordLemmas.{AreBack, IsNear}

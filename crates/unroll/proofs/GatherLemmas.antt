@@ -9,7 +9,7 @@ use Rattle.stim_parser.specs.Trees.{Tree, Nothing, Then, Block, items_of}
 use Rattle.stim_parser.specs.Verdicts.{Instruction}
 use Rattle.block_text.specs.declared.blocks.OpenBlock.{OpenBlock}
 use Rattle.unroll.specs.declared.marks.Mark.{Mark}
-use Rattle.unroll.specs.Flattened.{copies, reached}
+use Rattle.block_text.specs.Reached.{copies, reached}
 use Rattle.unroll.specs.Gathered.{Gathered, Gathering, closed, gathering, given, later, mark_of, place_behind, stepped}
 use Rattle.unroll.specs.Passes.{behind, opened}
 use Rattle.unroll.proofs.PassLemmas.{AreWhole, can_stand, drop_got, whole-tree}

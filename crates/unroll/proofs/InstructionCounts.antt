@@ -10,9 +10,12 @@ use Rattle.stim_parser.specs.declared.operation.Operation.{Operation}
 use Rattle.stim_parser.specs.declared.operation.Operation.TheVariants.{Applies, Measures, Resets, MeasuresAndResets, MeasuresProducts, Errs, ErrsTogether}
 use Rattle.stim_parser.specs.declared.target.Target.{Target}
 use Rattle.stim_parser.specs.Verdicts.{Instruction}
-use Rattle.unroll.specs.Made.{flip_of, measure_step, operation_steps, pair_step, paired, products_of, record_back, reset_step}
+use Rattle.unroll.specs.Made.{measure_step, operation_steps, pair_step, paired, record_back, reset_step}
+use Rattle.unroll.specs.StepsMade.{flip_of}
+use Rattle.unroll.specs.Targets.{products_of}
 use Rattle.unroll.specs.Steps.{instruction_steps}
-use Rattle.unroll.specs.Totals.{collapse_count, collapses_made, fault_count, faults_made, has_argument, made_count, record_count, records_made, step_count, steps_made, target_count}
+use Rattle.unroll.specs.Totals.{collapse_count, collapses_made, record_count, records_made, step_count, target_count}
+use Rattle.unroll.specs.MadeTotals.{fault_count, faults_counted, has_argument, made_count, steps_made}
 use Rattle.unroll.proofs.StepSums.{collapses_by, faults_by, one_by, records_by, sum-each, sum-faults, sum-gates, sum-products}
 
 -- ---- gates make nothing
@@ -22,7 +25,7 @@ paired-none g a b (Some k) second = refl
 paired-none g a b None (Some k) = refl
 paired-none g a b None None = refl
 
-pair-none : (g : Gate) (a b : Target) → made_by (pair_step g a b) ≡ no_counts
+pub pair-none : (g : Gate) (a b : Target) → made_by (pair_step g a b) ≡ no_counts
 pair-none g a b = paired-none g a b (record_back a) (record_back b)
 
 -- ---- records
@@ -66,7 +69,7 @@ either-way : (b : Bool) (n : ℕ) → n ≡ (if b then n else n)
 either-way true n = refl
 either-way false n = refl
 
-operation-faults : (o : Operation) (e p : ℕ) (arguments : List (List ℕ)) (ts : List Target) → sum_by faults_by (operation_steps o e p (flip_of e arguments) ts) ≡ faults_made o (is_some (slice_get arguments 0)) (target_count o ts)
+operation-faults : (o : Operation) (e p : ℕ) (arguments : List (List ℕ)) (ts : List Target) → sum_by faults_by (operation_steps o e p (flip_of e arguments) ts) ≡ faults_counted o (is_some (slice_get arguments 0)) (target_count o ts)
 operation-faults (Applies g) e p arguments ts =
     let none : sum_by faults_by (operation_steps (Applies g) e p (flip_of e arguments) ts) ≡ 0 = omega (arith, sum-gates faults_by g 0 ts (λ t. refl) (λ a b. ap (λ (c : Counts). c.faults) (pair-none g a b))) in
     none ∙ either-way (is_some (slice_get arguments 0)) 0
@@ -124,7 +127,7 @@ few-records : (o : Operation) (n : ℕ) → records_made o n ≤ n
 few-records (Measures l) n = omega arith
 few-records o n = omega arith
 
-few-faults : (o : Operation) (flips : Bool) (n : ℕ) → faults_made o flips n ≤ 1 + n
+few-faults : (o : Operation) (flips : Bool) (n : ℕ) → faults_counted o flips n ≤ 1 + n
 few-faults (Errs l) flips n = omega arith
 few-faults ErrsTogether flips n = omega arith
 few-faults o flips n = few-flips flips (records_made o n) n (few-records o n)

@@ -6,7 +6,7 @@ use Rattle.stim_parser.specs.Circuits.{AllFit, Fits, IsCircuit}
 use Rattle.stim_parser.specs.Texts.{Item, Does, Begins, Ends}
 use Rattle.stim_parser.specs.Trees.{Tree, Nothing, Then, Block, items_of}
 use Rattle.stim_parser.specs.Verdicts.{Instruction}
-use Rattle.unroll.specs.Flattened.{written}
+use Rattle.block_text.specs.Reached.{written}
 use Rattle.unroll.specs.Items.{instructions_in, item_qubits, IsSound}
 use Rattle.unroll.specs.Totals.{qubits_over, qubit_total}
 use Rattle.unroll.proofs.FarLemmas.{EachDoes, EachOf, each-tree}

@@ -6,7 +6,7 @@ use Rattle.std.proofs.lemmas.List.Concat.{flat_map-append}
 use Rattle.std.proofs.lemmas.List.Elements.{All-append, All-nil}
 use Rattle.stim_parser.specs.Trees.{Tree, Nothing, Then, Block}
 use Rattle.stim_parser.specs.Verdicts.{Instruction}
-use Rattle.unroll.specs.Flattened.{written}
+use Rattle.block_text.specs.Reached.{written}
 use Rattle.unroll.proofs.FarLemmas.{EachOf}
 
 pub all_parts : {X : Type 0} (P : Instruction → Type 0) (Q : X → Type 0) (parts : Instruction → List X) → ((i : Instruction) → P i → All Q (parts i)) → (t : Tree) → EachOf P t → All Q (flat_map parts (written t))

@@ -43,3 +43,6 @@ pub mod CoordinateFits
 pub mod PlacingLoops
 pub mod StatedLemmas
 pub mod NumberLemmas
+pub mod MeaningSteps
+pub mod MeaningFaults
+pub mod MeaningLemmas

@@ -19,9 +19,8 @@ use Rattle.stim_parser.specs.Trees.{Tree, items_of}
 use Rattle.stim_parser.specs.Verdicts.{Instruction, circuit_table}
 use Rattle.stim_parser.proofs.MarkLemmas.{marked_at}
 use Rattle.unroll.specs.Items.{IsSound}
-use Rattle.unroll.specs.Kept.{first_argument}
 use Rattle.unroll.specs.Numbered.{IsFlipNumber, IsItemNumber, IsNumberOf, IsOperationNumber, chance_from}
-use Rattle.unroll.specs.Totals.{step_total}
+use Rattle.unroll.specs.Totals.{step_total, first_argument}
 use Rattle.unroll.proofs.ItemLemmas.{fits_at}
 use Rattle.unroll.proofs.RoomLemmas.{counted_once, counted_once-tree}
 

@@ -15,12 +15,12 @@ use Rattle.stim_parser.specs.Trees.{Tree, Nothing, Then, Block, items_of}
 use Rattle.stim_parser.specs.Verdicts.{Instruction}
 use Rattle.stim_parser.proofs.NumberArguments.{NamesNumber, names_number}
 use Rattle.unroll.specs.declared.inclusions.Inclusion.{Inclusion}
-use Rattle.unroll.specs.Detectors.{record_named, records_named}
-use Rattle.unroll.specs.Flattened.{copies, reached, written}
+use Rattle.unroll.specs.TargetsMade.{record_named, records_named}
+use Rattle.block_text.specs.Reached.{copies, reached, written}
 use Rattle.unroll.specs.Gathered.{given}
 use Rattle.unroll.specs.Including.{including, inclusion_of, observable_named, item_observables, named_to, operation_inclusions, places_of}
-use Rattle.unroll.specs.Kept.{first_argument}
-use Rattle.unroll.specs.Observables.{added_from, observable_total, observables_of, observables_over, observables_to}
+use Rattle.unroll.specs.Totals.{first_argument, observable_total, observables_over, observables_to}
+use Rattle.unroll.specs.Observables.{added_from, observables_of}
 use Rattle.unroll.proofs.PassLemmas.{drop_got}
 
 same-number : (v k : ℕ) → eqb (v + 1) (k + 1) ≡ eqb v k

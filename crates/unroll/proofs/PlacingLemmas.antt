@@ -11,8 +11,10 @@ use Rattle.stim_parser.specs.Trees.{Tree, Nothing, Then, Block}
 use Rattle.stim_parser.specs.Verdicts.{Instruction}
 use Rattle.stim_parser.proofs.FewArguments.{HasFewCoordinates, has_few_coordinates}
 use Rattle.unroll.specs.declared.offsets.Offset.{Offset}
-use Rattle.unroll.specs.Coordinates.{coordinates_from, coordinates_of, offset_after, operation_coordinates, placed, shifted}
-use Rattle.unroll.specs.Flattened.{copies, reached}
+use Rattle.unroll.specs.Coordinates.{coordinates_from, coordinates_of}
+use Rattle.stim_parser.specs.Offsets.{moved, shifted}
+use Rattle.unroll.specs.TargetsMade.{offset_after, operation_coordinates}
+use Rattle.block_text.specs.Reached.{copies, reached}
 use Rattle.unroll.specs.Gathered.{Gathered, gathering, given, place_behind}
 use Rattle.unroll.specs.Passes.{behind}
 use Rattle.unroll.specs.Placing.{added_by, down_of, downs, moved_down, moved_to, moved_up, numbers_of, operation_places, placing, raised_by, turned_by, unmoved, unplaced, up_of, ups}
@@ -168,7 +170,7 @@ are_steady p (Block line turns body rest) fit wide = (
 -- ---- the offset that is counted is the offset so far
 
 abbrev IsOffset : List ℤ → Offset → Type 0
-IsOffset o p = (xs : List ℤ) → length xs ≤ 16 → placed o xs ≡ moved_to p.up p.down xs
+IsOffset o p = (xs : List ℤ) → length xs ≤ 16 → moved o xs ≡ moved_to p.up p.down xs
 
 one-shifted : (o s c : ℤ) → (o +ℤ s) +ℤ c ≡ ((o +ℤ c) +ℤ pos (up_of s)) +ℤ neg_ℤ (pos (down_of s))
 one-shifted o (pos n) c = omega (arith, ints)
@@ -178,13 +180,13 @@ one-alone : (s c : ℤ) → s +ℤ c ≡ (c +ℤ pos (up_of s)) +ℤ neg_ℤ (po
 one-alone (pos n) c = omega (arith, ints)
 one-alone (negsuc n) c = omega (arith, ints)
 
-placed-alone : (s xs : List ℤ) → placed s xs ≡ moved_to (map up_of s) (map down_of s) xs
+placed-alone : (s xs : List ℤ) → moved s xs ≡ moved_to (map up_of s) (map down_of s) xs
 placed-alone [] [] = refl
 placed-alone [] (c ∷ xs) = refl
 placed-alone (n ∷ s) [] = refl
 placed-alone (n ∷ s) (c ∷ xs) = ap₂ (λ (y : ℤ) (ys : List ℤ). y ∷ ys) (one-alone n c) (placed-alone s xs)
 
-placed-shifted : (o s xs : List ℤ) → placed (shifted o s) xs ≡ moved_to (map up_of s) (map down_of s) (placed o xs)
+placed-shifted : (o s xs : List ℤ) → moved (shifted o s) xs ≡ moved_to (map up_of s) (map down_of s) (moved o xs)
 placed-shifted [] s [] = placed-alone s []
 placed-shifted [] s (c ∷ xs) = placed-alone s (c ∷ xs)
 placed-shifted (a ∷ o) [] xs = refl
@@ -227,7 +229,7 @@ zeros-down (suc n) (z ∷ xs) =
     let one : z +ℤ neg_ℤ (pos 0) ≡ z = omega (arith, ints) in
     ap₂ (λ (y : ℤ) (ys : List ℤ). y ∷ ys) one (zeros-down n xs)
 
-unmoved-placed : (xs : List ℤ) → placed [] xs ≡ xs
+unmoved-placed : (xs : List ℤ) → moved [] xs ≡ xs
 unmoved-placed [] = refl
 unmoved-placed (c ∷ xs) = refl
 

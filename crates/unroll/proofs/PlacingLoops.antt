@@ -17,7 +17,7 @@ use Rattle.block_text.specs.declared.blocks.OpenBlock.{OpenBlock}
 use Rattle.unroll.specs.declared.marks.Mark.{Mark}
 use Rattle.unroll.specs.declared.offsets.Offset.{Offset}
 use Rattle.unroll.specs.Coordinates.{coordinates_of}
-use Rattle.unroll.specs.Flattened.{reached}
+use Rattle.block_text.specs.Reached.{reached}
 use Rattle.unroll.specs.Gathered.{Gathered, closed, gathering, later, mark_of, place_behind, stepped}
 use Rattle.unroll.specs.Passes.{behind, opened}
 use Rattle.unroll.specs.Placing.{IsSmall, IsStated, added_by, down_of, downs, numbers_of, placing, raised_by, turned_by, turned_on, unmoved, unplaced, up_of, ups}

@@ -7,8 +7,8 @@ use Rattle.programs.specs.declared.step.TextStep.TheVariants as step
 use Rattle.stim_parser.specs.declared.target.Target.{Target}
 use Rattle.stim_parser.specs.declared.target.Target.TheVariants.{Star}
 use Rattle.step_model.specs.declared.step.Term.{Term}
-use Rattle.unroll.specs.Kept.{term_of}
-use Rattle.unroll.specs.Made.{is_inverted, is_product_inverted, product_steps, products_of, recording}
+use Rattle.unroll.specs.Made.{product_steps, recording}
+use Rattle.unroll.specs.Targets.{is_inverted, is_product_inverted, products_of, term_of}
 use Rattle.unroll.specs.Pushed.{FollowsFactor, carried_steps}
 
 -- ---- where there is a factor there is a product

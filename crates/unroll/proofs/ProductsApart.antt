@@ -12,8 +12,7 @@ use Rattle.stim_parser.specs.declared.target.Target.{Target}
 use Rattle.stim_parser.specs.declared.target.Target.TheVariants.{Pauli, Star}
 use Rattle.stim_parser.specs.Circuits.{target_is_written}
 use Rattle.stim_parser.specs.Limits.{are_factors, are_products, begins_with_factor, goes_on_with, has_product_of_one, is_factor, is_factor_at, is_joining, names_again}
-use Rattle.unroll.specs.Kept.{letter_at, term_of}
-use Rattle.unroll.specs.Made.{products_of, qubit_of}
+use Rattle.unroll.specs.Targets.{products_of, qubit_of, pauli_letter, term_of}
 use Rattle.unroll.specs.Totals.{qubits_named, qubits_to}
 use Rattle.unroll.proofs.ProductLemmas.{some_products}
 
@@ -29,7 +28,7 @@ pub record IsProduct (n : ℕ) (product : List Target) : Type 0 where
 record IsFirst (n : ℕ) (t : Target) : Type 0 where
   pub factor : is_factor t ≡ true
   pub within : qubits_to t ≤ n
-  pub letter : is_I (letter_at t) ≡ false
+  pub letter : is_I (pauli_letter t) ≡ false
 
 alone : (n : ℕ) (t : Target) → IsFirst n t → IsProduct n (t ∷ [])
 alone n t h =
@@ -96,7 +95,7 @@ record AreProducts (n : ℕ) (ts : List Target) : Type 0 where
   pub written : list_all target_is_written ts ≡ true
   pub within : qubits_named ts ≤ n
 
-letter_written : (t : Target) → is_factor t ≡ true → target_is_written t ≡ true → is_I (letter_at t) ≡ false
+letter_written : (t : Target) → is_factor t ≡ true → target_is_written t ≡ true → is_I (pauli_letter t) ≡ false
 letter_written (Pauli inverted l q) h k = not-true (is_I l) k
 letter_written t h k = absurd cc
 

@@ -4,7 +4,7 @@ use Rattle.std.specs.Prelude.{max}
 use Rattle.stim_parser.specs.Circuits.{AllFit, Fits, IsCircuit}
 use Rattle.stim_parser.specs.Trees.{Tree, Nothing, Then, Block}
 use Rattle.stim_parser.specs.Verdicts.{Instruction}
-use Rattle.unroll.specs.Flattened.{written}
+use Rattle.block_text.specs.Reached.{written}
 use Rattle.unroll.specs.Totals.{qubits_named, qubits_over, qubit_total}
 use Rattle.unroll.proofs.FarLemmas.{EachOf}
 

@@ -12,11 +12,12 @@ use Rattle.stim_parser.specs.declared.target.Target.TheVariants.{Back}
 use Rattle.stim_parser.specs.Circuits.{AllFit, Fits, IsCircuit, target_is_written}
 use Rattle.stim_parser.specs.Trees.{Tree, Nothing, Then, Block}
 use Rattle.stim_parser.specs.Verdicts.{Instruction}
-use Rattle.unroll.specs.Detectors.{detectors_from, detectors_of, operation_detectors, records_named}
-use Rattle.unroll.specs.Flattened.{copies, reached}
-use Rattle.unroll.specs.Observables.{added_from, instruction_adds, observable_total, observables_of, observables_to}
+use Rattle.unroll.specs.Detectors.{detectors_from, detectors_of}
+use Rattle.unroll.specs.TargetsMade.{operation_detectors, records_named}
+use Rattle.block_text.specs.Reached.{copies, reached}
+use Rattle.unroll.specs.Observables.{added_from, instruction_adds, observables_of}
 use Rattle.unroll.specs.Refusals.{first_far_line}
-use Rattle.unroll.specs.Totals.{record_count, record_total}
+use Rattle.unroll.specs.Totals.{record_count, record_total, observable_total, observables_to}
 use Rattle.unroll.proofs.ReachedCounts.{sum-reached}
 use Rattle.unroll.proofs.RecordLemmas.{AreBack, AreNear, IsNear, near-tree}
 

@@ -8,9 +8,9 @@ use Rattle.stim_parser.specs.Circuits.{AllFit}
 use Rattle.stim_parser.specs.Texts.{Item, Does, Begins, Ends}
 use Rattle.stim_parser.specs.Trees.{Tree, Nothing, Then, Block, items_of}
 use Rattle.stim_parser.specs.Verdicts.{Instruction}
-use Rattle.unroll.specs.Kept.{entries_of, entry_at, first_argument, flip_entries, operation_entries, operation_products, products_in, term_of}
-use Rattle.unroll.specs.Made.{products_of}
-use Rattle.unroll.specs.Totals.{step_count, step_total, target_count, total}
+use Rattle.unroll.specs.Kept.{entries_of, entry_at, flip_entries, operation_entries, operation_products, products_in}
+use Rattle.unroll.specs.Targets.{products_of, term_of}
+use Rattle.unroll.specs.Totals.{step_count, step_total, target_count, total, first_argument}
 
 -- ---- one instruction
 

@@ -17,9 +17,12 @@ use Rattle.stim_parser.specs.declared.operation.Operation.{Operation}
 use Rattle.stim_parser.specs.declared.operation.Operation.TheVariants.{Applies, Measures, Resets, MeasuresAndResets, MeasuresProducts, Errs, ErrsTogether}
 use Rattle.stim_parser.specs.declared.target.Target.{Target}
 use Rattle.stim_parser.specs.Trees.{Tree, Nothing, Then, Block}
-use Rattle.unroll.specs.Flattened.{written}
-use Rattle.unroll.specs.Kept.{entries_of, entry_at, entry_of, first_argument, flip_entries, kept_entries, kept_products, operation_entries, operation_products, products_in, term_of}
-use Rattle.unroll.specs.Made.{fault_steps, flip_of, gate_steps, measure_step, one_step, operation_steps, pair_step, pair_steps, paired, product_steps, products_of, record_back, reset_step}
+use Rattle.block_text.specs.Reached.{written}
+use Rattle.unroll.specs.Kept.{entries_of, entry_at, entry_of, flip_entries, kept_entries, kept_products, operation_entries, operation_products, products_in}
+use Rattle.unroll.specs.Totals.{first_argument}
+use Rattle.unroll.specs.Made.{fault_steps, gate_steps, measure_step, one_step, operation_steps, pair_step, pair_steps, paired, product_steps, record_back, reset_step}
+use Rattle.unroll.specs.StepsMade.{flip_of}
+use Rattle.unroll.specs.Targets.{products_of, term_of}
 use Rattle.unroll.specs.Steps.{instruction_steps, steps_from, steps_of}
 use Rattle.unroll.proofs.PartPlaces.{StandsAt, stands_before, stands_behind, stands_itself}
 use Rattle.unroll.proofs.StepTests.{both_pass, turns_pass}

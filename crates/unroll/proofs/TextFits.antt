@@ -20,7 +20,9 @@ use Rattle.stim_parser.specs.Instructions.{gate_targets}
 use Rattle.stim_parser.specs.Limits.{are_of_form, has_pair_of_one, has_same_qubit, is_plain, is_plain_or_inverted}
 use Rattle.stim_parser.specs.Trees.{Tree}
 use Rattle.stim_parser.specs.Verdicts.{Instruction}
-use Rattle.unroll.specs.Made.{fault_steps, flip_of, gate_steps, measure_step, one_step, operation_steps, pair_steps, product_steps, products_of, qubit_of, reset_step}
+use Rattle.unroll.specs.Made.{fault_steps, gate_steps, measure_step, one_step, operation_steps, pair_steps, product_steps, reset_step}
+use Rattle.unroll.specs.StepsMade.{flip_of}
+use Rattle.unroll.specs.Targets.{products_of, qubit_of}
 use Rattle.unroll.specs.Steps.{instruction_steps, steps_of}
 use Rattle.unroll.specs.Totals.{qubits_named, qubits_to, qubit_total}
 use Rattle.unroll.proofs.PairSteps.{from_plain, from_record_first, pairs_fit}

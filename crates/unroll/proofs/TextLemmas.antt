@@ -3,11 +3,10 @@ use Rattle.std.proofs.Common.{◌≡◌, ◌⊎◌, inl, inr, ℕ, List, Result,
 use Rattle.std.specs.Prelude.{IfOk, IfErr}
 use Rattle.step_model.specs.declared.fault.Fault.{Fault}
 use Rattle.step_model.specs.Faults.{memory_fault}
-use Rattle.step_model.specs.Listing.{Listing}
+use Rattle.programs.specs.Kept.{KeptProgram}
 use Rattle.block_text.specs.Flat.{tree_of-items}
 use Rattle.stim_parser.specs.Trees.{Tree, Writes, IsRefusedBy}
-use Rattle.unroll.specs.Programs.{program_in, program_of_items}
-use Rattle.unroll.specs.Unrolled.{program_of}
+use Rattle.unroll.specs.Programs.{program_in, program_of_items, program_of}
 
 pub program_of_text : (text : List ℕ) (tree : Tree) → Writes text tree → program_in text ≡ program_of tree
 program_of_text text tree written = ap program_of_items written ∙ ap program_of (tree_of-items tree)
@@ -16,11 +15,11 @@ pub refusal_of_text : (text : List ℕ) (fault : Fault) → IsRefusedBy text fau
 refusal_of_text text fault refused = ap program_of_items refused
 
 -- what is read of a tree is read of its text
-pub read-ok : (text : List ℕ) (tree : Tree) (r : Result Listing Fault) → Writes text tree → IfOk r (λ program. program_of tree ≡ Ok program) → IfOk r (λ program. program_in text ≡ Ok program)
+pub read-ok : (text : List ℕ) (tree : Tree) (r : Result KeptProgram Fault) → Writes text tree → IfOk r (λ program. program_of tree ≡ Ok program.listing) → IfOk r (λ program. program_in text ≡ Ok program.listing)
 read-ok text tree (Ok program) written h = program_of_text text tree written ∙ h
 read-ok text tree (Err fault) written h = tt
 
-pub read-err : (text : List ℕ) (tree : Tree) (r : Result Listing Fault) → Writes text tree → IfErr r (λ fault. (fault ≡ memory_fault) ⊎ (program_of tree ≡ Err fault)) → IfErr r (λ fault. (fault ≡ memory_fault) ⊎ (program_in text ≡ Err fault))
+pub read-err : (text : List ℕ) (tree : Tree) (r : Result KeptProgram Fault) → Writes text tree → IfErr r (λ fault. (fault ≡ memory_fault) ⊎ (program_of tree ≡ Err fault)) → IfErr r (λ fault. (fault ≡ memory_fault) ⊎ (program_in text ≡ Err fault))
 read-err text tree (Ok program) written h = tt
 read-err text tree (Err fault) written (inl memory) = inl memory
 read-err text tree (Err fault) written (inr h) = inr (program_of_text text tree written ∙ h)

@@ -8,29 +8,7 @@ use Rattle.stim_parser.specs.declared.operation.Operation.TheVariants.{Detects, 
 use Rattle.stim_parser.specs.Numbers.{whole_value}
 use Rattle.stim_parser.specs.Trees.{Tree}
 use Rattle.stim_parser.specs.Verdicts.{Instruction}
-use Rattle.unroll.specs.Flattened.{reached}
-
--- the offset with a shift added
-abbrev pub shifted : List ℤ → List ℤ → List ℤ
-shifted [] shift = shift
-shifted offset [] = offset
-shifted (o ∷ offset) (s ∷ shift) = (o +ℤ s) ∷ shifted offset shift
-
--- what is stated, with the offset added
-abbrev pub placed : List ℤ → List ℤ → List ℤ
-placed offset [] = []
-placed [] stated = stated
-placed (o ∷ offset) (c ∷ stated) = (o +ℤ c) ∷ placed offset stated
-
--- the offset after an operation with these arguments
-abbrev pub offset_after : List ℤ → Operation → List (List ℕ) → List ℤ
-offset_after offset ShiftsCoordinates arguments = shifted offset (map whole_value arguments)
-offset_after offset operation arguments = offset
-
--- the coordinates of an operation's detectors: of one or of none
-abbrev pub operation_coordinates : List ℤ → Operation → List (List ℕ) → List (List ℤ)
-operation_coordinates offset Detects arguments = placed offset (map whole_value arguments) ∷ []
-operation_coordinates offset operation arguments = []
+use Rattle.unroll.specs.TargetsMade.{offset_after, operation_coordinates}
 
 -- the coordinates of instructions' detectors, from this offset on
 unfoldable pub coordinates_from : List ℤ → List Instruction → List (List ℤ)

@@ -3,7 +3,7 @@
 -- too far. (Stim's gate reference, github.com/quantumlib/Stim, doc/gates.md, "DETECTOR".)
 use Rattle.std.specs.Prelude.{ℕ, ◌+◌, ◌-◌, ◌*◌, List, map}
 use Rattle.stim_parser.specs.Verdicts.{Instruction}
-use Rattle.unroll.specs.Detectors.{operation_detectors}
+use Rattle.unroll.specs.TargetsMade.{operation_detectors}
 use Rattle.unroll.specs.Gathered.{Gathering}
 use Rattle.unroll.specs.Totals.{record_count}
 

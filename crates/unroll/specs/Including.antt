@@ -11,7 +11,7 @@ use Rattle.stim_parser.specs.Coordinates.{first_number}
 use Rattle.stim_parser.specs.Texts.{Item, Does}
 use Rattle.unroll.specs.declared.inclusions.Inclusion.{Inclusion}
 use Rattle.unroll.specs.Detecting.{records_after, records_onward}
-use Rattle.unroll.specs.Detectors.{record_named}
+use Rattle.unroll.specs.TargetsMade.{record_named}
 use Rattle.unroll.specs.Gathered.{Gathering}
 
 -- the record that a target names after this many records, as it is added to an observable

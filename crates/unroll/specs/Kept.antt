@@ -16,28 +16,13 @@ use Rattle.stim_parser.specs.declared.target.Target.{Target}
 use Rattle.stim_parser.specs.declared.target.Target.TheVariants.{Pauli}
 use Rattle.stim_parser.specs.Trees.{Tree}
 use Rattle.stim_parser.specs.Verdicts.{Instruction}
-use Rattle.unroll.specs.Flattened.{written}
-use Rattle.unroll.specs.Made.{qubit_of, products_of}
-
--- the first argument of an instruction, or nothing
-abbrev pub first_argument : List (List ℕ) → List ℕ
-first_argument arguments = slice_index_or arguments 0 []
+use Rattle.unroll.specs.Targets.{products_of, term_at, term_of}
+use Rattle.unroll.specs.Totals.{first_argument}
 
 -- an entry of a probability and letters
 abbrev pub entry_of : List Term → List ℕ → Kept
 entry_of terms probability =
     record { text = probability; bound = unwrap_or (probability_bound probability) 0; terms = terms }
-
--- a letter at the qubit of a target, and a Pauli target as it is written
-abbrev pub term_at : Letter → Target → Term
-term_at l target = record { qubit = qubit_of target; letter = l }
-
-abbrev pub letter_at : Target → Letter
-letter_at (Pauli inverted l q) = l
-letter_at target = letter.I
-
-abbrev pub term_of : Target → Term
-term_of target = term_at (letter_at target) target
 
 -- the entry of one letter at a target
 abbrev pub entry_at : Letter → List ℕ → Target → Kept

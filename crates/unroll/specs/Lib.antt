@@ -1,4 +1,3 @@
-pub mod Flattened
 pub mod Made
 pub mod Totals
 pub mod Kept
@@ -8,7 +7,6 @@ pub mod Detectors
 pub mod Observables
 pub mod Coordinates
 pub mod Refusals
-pub mod Unrolled
 pub mod Programs
 pub mod Passes
 pub mod Summed
@@ -21,3 +19,10 @@ pub mod Placing
 pub mod Assembled
 pub mod Beyond
 pub mod Drafts
+pub mod Before
+pub mod FaultsMade
+pub mod MadeTotals
+pub mod Meaning
+pub mod StepsMade
+pub mod Targets
+pub mod TargetsMade

@@ -9,7 +9,7 @@ use Rattle.stim_parser.specs.declared.operation.Operation.{Operation}
 use Rattle.stim_parser.specs.declared.operation.Operation.TheVariants.{Measures, MeasuresAndResets, MeasuresProducts, Errs, ErrsTogether}
 use Rattle.stim_parser.specs.Texts.{Item, Does, Begins, Ends}
 use Rattle.stim_parser.specs.Verdicts.{Instruction}
-use Rattle.unroll.specs.Kept.{first_argument}
+use Rattle.unroll.specs.Totals.{first_argument}
 
 -- a probability with its bound
 abbrev pub chance_from : List ℕ → Chance

@@ -8,22 +8,9 @@ use Rattle.stim_parser.specs.declared.operation.Operation.TheVariants.{Observes}
 use Rattle.stim_parser.specs.Numbers.{value_of}
 use Rattle.stim_parser.specs.Trees.{Tree}
 use Rattle.stim_parser.specs.Verdicts.{Instruction}
-use Rattle.unroll.specs.Flattened.{written, reached}
-use Rattle.unroll.specs.Detectors.{records_named}
-use Rattle.unroll.specs.Kept.{first_argument}
-use Rattle.unroll.specs.Totals.{record_count}
-
--- how many observables there must be for an operation with these arguments: one more than the number that it names
-abbrev pub observables_to : Operation → List (List ℕ) → ℕ
-observables_to Observes arguments = value_of (first_argument arguments) + 1
-observables_to operation arguments = 0
-
-abbrev pub observables_over : List Instruction → ℕ
-observables_over [] = 0
-observables_over (i ∷ instructions) = max (observables_to i.operation i.arguments) (observables_over instructions)
-
-abbrev pub observable_total : Tree → ℕ
-observable_total tree = observables_over (written tree)
+use Rattle.block_text.specs.Reached.{written, reached}
+use Rattle.unroll.specs.TargetsMade.{records_named}
+use Rattle.unroll.specs.Totals.{record_count, first_argument}
 
 -- what an instruction adds to the observable k after this many records
 abbrev pub instruction_adds : ℕ → ℕ → Instruction → List ℕ

@@ -16,9 +16,8 @@ use Rattle.stim_parser.specs.declared.target.Target.TheVariants.{Back}
 use Rattle.stim_parser.specs.Texts.{refused}
 use Rattle.stim_parser.specs.Trees.{Tree, Nothing, Then, Block}
 use Rattle.stim_parser.specs.Verdicts.{Instruction}
-use Rattle.unroll.specs.Flattened.{written}
-use Rattle.unroll.specs.Observables.{observables_to}
-use Rattle.unroll.specs.Totals.{collapse_total, detector_total, record_count, record_total, step_total}
+use Rattle.block_text.specs.Reached.{written}
+use Rattle.unroll.specs.Totals.{collapse_total, detector_total, record_count, record_total, step_total, observables_to}
 
 -- ---- the limits
 

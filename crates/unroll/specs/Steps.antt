@@ -7,7 +7,8 @@ use Rattle.programs.specs.Trees.{repeated}
 use Rattle.stim_parser.specs.Trees.{Tree, Nothing, Then, Block}
 use Rattle.stim_parser.specs.Verdicts.{Instruction}
 use Rattle.unroll.specs.Kept.{entries_of, products_in, kept_entries, kept_products}
-use Rattle.unroll.specs.Made.{flip_of, operation_steps}
+use Rattle.unroll.specs.Made.{operation_steps}
+use Rattle.unroll.specs.StepsMade.{flip_of}
 
 -- the steps of an instruction, where this many entries and products are kept before it
 abbrev pub instruction_steps : ℕ → ℕ → Instruction → List TextStep

@@ -7,7 +7,8 @@ use Rattle.stim_parser.specs.Verdicts.{Instruction}
 use Rattle.unroll.specs.declared.totals.Totals.{Totals}
 use Rattle.unroll.specs.Passes.{Pass}
 use Rattle.unroll.specs.Refusals.{first_far_line, reaches_far}
-use Rattle.unroll.specs.Totals.{collapse_count, collapse_total, detector_count, detector_total, fault_count, fault_total, made_count, made_total, record_count, record_total, step_count, step_total}
+use Rattle.unroll.specs.Totals.{collapse_count, collapse_total, detector_count, detector_total, record_count, record_total, step_count, step_total}
+use Rattle.unroll.specs.MadeTotals.{fault_count, fault_total, made_count, made_total}
 
 abbrev pub greatest : ℕ
 greatest = 2 ^ 64 - 1

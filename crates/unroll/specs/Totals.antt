@@ -1,18 +1,18 @@
 -- What a circuit takes, counted on its tree without unrolling it. An instruction is a step, and each of its targets is
 -- one more (a record in a pair is a target, and a product is one target); each turn of a block is a step too. A
 -- measurement makes a record and a collapse (a projective measurement) for each target, MPP for each product; a reset
--- makes a collapse. The qubits are those up to the greatest that any instruction names. (Which of these have a limit is
--- this project's choice.)
-use Rattle.std.specs.Prelude.{ℕ, Bool, is_some, slice_get, ◌+◌, ◌*◌, ◌/◌, ◌==◌, max, if◌then◌else◌, List, [], ◌∷◌, length}
-use Rattle.gate_table.specs.Images.{arity_of}
+-- makes a collapse. The qubits are those up to the greatest that any instruction names, and so are the observables. (Which
+-- of these have a limit is this project's choice.)
+use Rattle.std.specs.Prelude.{ℕ, ◌+◌, ◌*◌, max, List, [], ◌∷◌, length, slice_index_or}
+use Rattle.block_text.specs.Reached.{written}
 use Rattle.stim_parser.specs.declared.operation.Operation.{Operation}
-use Rattle.stim_parser.specs.declared.operation.Operation.TheVariants.{Applies, Measures, Resets, MeasuresAndResets, MeasuresProducts, Errs, ErrsTogether, Detects}
+use Rattle.stim_parser.specs.declared.operation.Operation.TheVariants.{Measures, Resets, MeasuresAndResets, MeasuresProducts, Detects, Observes}
 use Rattle.stim_parser.specs.declared.target.Target.{Target}
-use Rattle.stim_parser.specs.declared.target.Target.TheVariants.{Plain, Inverted, Back, Pauli, Star}
+use Rattle.stim_parser.specs.declared.target.Target.TheVariants.{Plain, Inverted, Pauli}
 use Rattle.stim_parser.specs.Trees.{Tree, Nothing, Then, Block}
 use Rattle.stim_parser.specs.Verdicts.{Instruction}
-use Rattle.unroll.specs.Flattened.{written}
-use Rattle.unroll.specs.Made.{products_of}
+use Rattle.stim_parser.specs.Numbers.{value_of}
+use Rattle.unroll.specs.Targets.{products_of}
 
 -- ---- sums
 
@@ -57,34 +57,9 @@ collapse_count i = collapses_made i.operation (target_count i.operation i.target
 abbrev pub detector_count : Instruction → ℕ
 detector_count i = detectors_made i.operation
 
--- how many faults an operation makes of this many targets: a measurement one of each record, where it has a probability
-abbrev pub faults_made : Operation → Bool → ℕ → ℕ
-faults_made (Errs l) flips targets = targets
-faults_made ErrsTogether flips targets = 1
-faults_made operation flips targets = if flips then records_made operation targets else 0
-
--- whether an instruction has an argument
-abbrev pub has_argument : Instruction → Bool
-has_argument i = is_some (slice_get i.arguments 0)
-
-abbrev pub fault_count : Instruction → ℕ
-fault_count i = faults_made i.operation (has_argument i) (target_count i.operation i.targets)
-
--- how many steps of a program an operation makes of this many targets
-abbrev pub steps_made : Operation → ℕ → ℕ
-steps_made (Applies g) targets = if arity_of g == 1 then targets else targets / 2
-steps_made (Errs l) targets = targets
-steps_made ErrsTogether targets = 1
-steps_made operation targets = collapses_made operation targets
-
--- how many steps of a program an instruction makes
-abbrev pub made_count : Instruction → ℕ
-made_count i = steps_made i.operation (target_count i.operation i.targets)
-
 -- ---- totals of a tree
 
--- the steps of a tree as its limit counts them, each turn of a block being one more; its other counts; its program's
--- steps
+-- the steps of a tree as its limit counts them, each turn of a block being one more; its other counts
 abbrev pub step_total : Tree → ℕ
 step_total tree = total 1 step_count tree
 
@@ -97,12 +72,6 @@ collapse_total tree = total 0 collapse_count tree
 abbrev pub detector_total : Tree → ℕ
 detector_total tree = total 0 detector_count tree
 
-abbrev pub fault_total : Tree → ℕ
-fault_total tree = total 0 fault_count tree
-
-abbrev pub made_total : Tree → ℕ
-made_total tree = total 0 made_count tree
-
 -- ---- qubits
 
 -- one more than the qubit that a target names, and 0 where it names none
@@ -110,8 +79,7 @@ abbrev pub qubits_to : Target → ℕ
 qubits_to (Plain q) = q + 1
 qubits_to (Inverted q) = q + 1
 qubits_to (Pauli inverted l q) = q + 1
-qubits_to (Back k) = 0
-qubits_to Star = 0
+qubits_to target = 0
 
 -- one more than the greatest qubit that targets, instructions or a whole tree name, and 0 where they name none
 abbrev pub qubits_named : List Target → ℕ
@@ -124,3 +92,21 @@ qubits_over (instruction ∷ instructions) = max (qubits_named instruction.targe
 
 abbrev pub qubit_total : Tree → ℕ
 qubit_total tree = qubits_over (written tree)
+
+-- ---- observables
+
+-- the first argument of an instruction, or nothing
+abbrev pub first_argument : List (List ℕ) → List ℕ
+first_argument arguments = slice_index_or arguments 0 []
+
+-- how many observables there must be for an operation with these arguments: one more than the number that it names
+abbrev pub observables_to : Operation → List (List ℕ) → ℕ
+observables_to Observes arguments = value_of (first_argument arguments) + 1
+observables_to operation arguments = 0
+
+abbrev pub observables_over : List Instruction → ℕ
+observables_over [] = 0
+observables_over (i ∷ instructions) = max (observables_to i.operation i.arguments) (observables_over instructions)
+
+abbrev pub observable_total : Tree → ℕ
+observable_total tree = observables_over (written tree)

@@ -1,10 +1,11 @@
 ghost use Rattle.std.specs.Prelude.{◌≡◌, ◌⊎◌, None, Ok, Err, IfOk, IfErr};
 ghost use Rattle.step_model.specs.Faults.{memory_fault};
-ghost use Rattle.programs.specs.Made.{listing_of as made_of, PartsFit};
+ghost use Rattle.programs.specs.Made.{kept_program, PartsFit};
 ghost use Rattle.unroll.specs.Assembled.{ArePartsOf, HasLists};
 ghost use Rattle.unroll.specs.Refusals.{refusal_of};
 ghost use Rattle.unroll.specs.Summed.{AreTotals};
-ghost use Rattle.unroll.specs.Unrolled.{listing_of, program_of};
+ghost use Rattle.unroll.specs.Meaning.{listing_of};
+ghost use Rattle.unroll.specs.Programs.{program_of};
 
 use crate::coordinates::coordinates_of;
 use crate::detectors::detectors_of;
@@ -79,7 +80,7 @@ pub fn unroll<'a, A: Allocator + Copy>(
     alloc: A,
     circuit: Circuit<'a, A>,
 ) -> Result<Program<'a, A>, Fault>
-    ensures ok { IfOk result (λ program. program_of circuit.entry ≡ Ok program) }
+    ensures ok { IfOk result (λ program. program_of circuit.entry ≡ Ok program.listing) }
     ensures err { IfErr result (λ fault. (fault ≡ memory_fault) ⊎ (program_of circuit.entry ≡ Err fault)) }
 {
     circuit.fits();

@@ -1,5 +1,6 @@
 ghost use Rattle.std.specs.Prelude.{◌≡◌};
-ghost use Rattle.unroll.specs.Totals.{records_made, collapses_made, detectors_made, faults_made, steps_made};
+ghost use Rattle.unroll.specs.Totals.{records_made, collapses_made, detectors_made};
+ghost use Rattle.unroll.specs.MadeTotals.{faults_counted, steps_made};
 
 use stim_parser::Operation;
 
@@ -39,8 +40,8 @@ pub(crate) fn detectors_made(operation: Operation) -> usize
 
 /// How many faults an operation makes of this many targets; `flips` says whether its records may be flipped.
 #[inline(always)]
-pub(crate) fn faults_made(operation: Operation, flips: bool, targets: usize) -> usize
-    ensures { result ≡ faults_made operation flips targets }
+pub(crate) fn faults_counted(operation: Operation, flips: bool, targets: usize) -> usize
+    ensures { result ≡ faults_counted operation flips targets }
 {
     match operation {
         Operation::Errs(_) => targets,

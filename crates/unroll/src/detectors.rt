@@ -1,6 +1,7 @@
 ghost use Rattle.std.specs.Prelude.{◌≡◌, ◌+◌, ◌-◌, ◌*◌, ◌<◌, ◌≤◌, ◌^◌, ◌++◌, All, None, drop, length, map, slice_range, IfOk, OnOk};
 ghost use Rattle.unroll.specs.Detecting.{records_moved};
-ghost use Rattle.unroll.specs.Detectors.{detectors_of, operation_detectors, record_named, records_named};
+ghost use Rattle.unroll.specs.Detectors.{detectors_of};
+ghost use Rattle.unroll.specs.TargetsMade.{operation_detectors, record_named, records_named};
 ghost use Rattle.unroll.specs.Gathered.{later};
 ghost use Rattle.unroll.specs.Refusals.{first_far_line};
 ghost use Rattle.unroll.specs.Totals.{record_count, record_total};

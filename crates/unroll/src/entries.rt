@@ -2,7 +2,8 @@ ghost use Rattle.std.specs.Prelude.{◌≡◌, ◌<◌, ◌≤◌, [], ◌∷◌
 ghost use Rattle.chances.specs.Chances.{no_chance};
 ghost use Rattle.block_text.specs.Kept.{instruction_in};
 ghost use Rattle.programs.specs.Entries.{entry_from};
-ghost use Rattle.unroll.specs.Kept.{entries_of as entries_made, flip_entries, letter_at, term_at, term_of};
+ghost use Rattle.unroll.specs.Kept.{entries_of as entries_made, flip_entries};
+ghost use Rattle.unroll.specs.Targets.{pauli_letter, term_at, term_of};
 ghost use Rattle.unroll.specs.Numbered.{IsFlipNumber, IsInstructionNumber, with_entries};
 ghost use Rattle.unroll.specs.Pushed.{IsSmall};
 ghost use Rattle.unroll.specs.Totals.{qubits_to};
@@ -15,8 +16,8 @@ use step_model::Term;
 use stim_parser::{Instruction, Operation, Target, has_argument};
 
 /// The letter of a target.
-pub(crate) fn letter_at(target: Target) -> Letter
-    ensures { result ≡ letter_at target }
+pub(crate) fn pauli_letter(target: Target) -> Letter
+    ensures { result ≡ pauli_letter target }
 {
     match target {
         Target::Pauli(_, letter, _) => letter,
@@ -45,7 +46,7 @@ fn name_terms<A: Allocator + Copy>(
 {
     terms.clear();
     for target in targets {
-        terms.push(term_at(letter_at(*target), *target))?;
+        terms.push(term_at(pauli_letter(*target), *target))?;
     }
     Ok(())
 }

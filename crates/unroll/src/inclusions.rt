@@ -1,6 +1,6 @@
 ghost use Rattle.std.specs.Prelude.{◌≡◌, ◌+◌, ◌-◌, ◌*◌, ◌<◌, ◌≤◌, ◌^◌, ◌++◌, All, None, drop, length, map, slice_range, vec_len, IfOk, OnOk};
 ghost use Rattle.block_text.specs.Kept.{instruction_in};
-ghost use Rattle.unroll.specs.Flattened.{reached};
+ghost use Rattle.block_text.specs.Reached.{reached};
 ghost use Rattle.unroll.specs.Gathered.{given, later};
 ghost use Rattle.unroll.specs.Including.{including, inclusion_moved, inclusion_of};
 ghost use Rattle.unroll.specs.Refusals.{first_far_line};

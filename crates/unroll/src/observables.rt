@@ -1,9 +1,9 @@
 ghost use Rattle.std.specs.Prelude.{◌≡◌, ◌<◌, ◌^◌, [], None, map, IfOk, OnOk};
 ghost use Rattle.block_text.specs.Kept.{instruction_in, item_in};
 ghost use Rattle.unroll.specs.Including.{item_observables, named_to, told_apart, with_place};
-ghost use Rattle.unroll.specs.Observables.{observable_total, observables_of};
+ghost use Rattle.unroll.specs.Observables.{observables_of};
 ghost use Rattle.unroll.specs.Refusals.{first_far_line};
-ghost use Rattle.unroll.specs.Totals.{record_total};
+ghost use Rattle.unroll.specs.Totals.{record_total, observable_total};
 
 use crate::inclusions::{Inclusion, inclusions_of};
 use flat_lists::FlatLists;

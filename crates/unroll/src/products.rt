@@ -1,9 +1,9 @@
 ghost use Rattle.std.specs.Prelude.{◌≡◌, ◌++◌, All, map, OnOk};
-ghost use Rattle.unroll.specs.Kept.{operation_products, term_of};
-ghost use Rattle.unroll.specs.Made.{products_of};
+ghost use Rattle.unroll.specs.Kept.{operation_products};
+ghost use Rattle.unroll.specs.Targets.{products_of, term_of};
 ghost use Rattle.unroll.specs.Pushed.{IsSmall};
 
-use crate::entries::{letter_at, term_at};
+use crate::entries::{pauli_letter, term_at};
 use crate::targets::end_of_factor;
 use flat_lists::FlatLists;
 use std::alloc::{AllocError, Allocator};
@@ -22,7 +22,7 @@ fn push_each_product<A: Allocator + Copy>(
     terms.clear();
     let mut rest = targets;
     while let Some(parts) = rest.split_first() {
-        terms.push(term_at(letter_at(*parts.0), *parts.0))?;
+        terms.push(term_at(pauli_letter(*parts.0), *parts.0))?;
         let (joined, behind) = end_of_factor(parts.1);
         rest = behind;
         if joined {

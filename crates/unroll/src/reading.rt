@@ -14,7 +14,7 @@ pub fn read_program<'a, A: Allocator + Copy>(
     alloc: A,
     text: &'a [u8],
 ) -> Result<Program<'a, A>, Fault>
-    ensures ok { IfOk result (λ program. program_in text.now ≡ Ok program) }
+    ensures ok { IfOk result (λ program. program_in text.now ≡ Ok program.listing) }
     ensures err { IfErr result (λ fault. (fault ≡ memory_fault) ⊎ (program_in text.now ≡ Err fault)) }
 {
     let circuit = parse(alloc, text)?;

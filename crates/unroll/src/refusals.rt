@@ -1,7 +1,7 @@
 ghost use Rattle.std.specs.Prelude.{◌≡◌};
 ghost use Rattle.block_text.specs.Kept.{item_in};
 ghost use Rattle.unroll.specs.Beyond.{line_beyond};
-ghost use Rattle.unroll.specs.Flattened.{written};
+ghost use Rattle.block_text.specs.Reached.{written};
 ghost use Rattle.unroll.specs.Items.{IsSound};
 ghost use Rattle.unroll.specs.Refusals.{first_beyond, of_circuit, refusal_of};
 ghost use Rattle.unroll.specs.Summed.{AreTotals};

@@ -1,6 +1,8 @@
 ghost use Rattle.std.specs.Prelude.{◌≡◌, ◌+◌, ◌<◌, ◌^◌, ◌≤◌, All, length, map, OnOk};
 ghost use Rattle.pauli_word.specs.Parity.{exclusive_or};
-ghost use Rattle.unroll.specs.Made.{fault_steps, fed_letter, is_inverted, operation_steps, pair_step, pair_steps, product_steps, products_of, qubit_of, record_back};
+ghost use Rattle.unroll.specs.Made.{fault_steps, operation_steps, pair_step, pair_steps, product_steps, record_back};
+ghost use Rattle.unroll.specs.StepsMade.{fed_letter};
+ghost use Rattle.unroll.specs.Targets.{is_inverted, products_of, qubit_of};
 ghost use Rattle.unroll.specs.Pushed.{Adds, IsSmall, single_step};
 ghost use Rattle.unroll.specs.Totals.{qubits_to, target_count};
 

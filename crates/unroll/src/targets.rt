@@ -1,6 +1,6 @@
 ghost use Rattle.std.specs.Prelude.{◌≡◌, ◌≤◌, All, length};
 ghost use Rattle.stim_parser.specs.Limits.{is_joining};
-ghost use Rattle.unroll.specs.Made.{products_of, qubit_of};
+ghost use Rattle.unroll.specs.Targets.{products_of, qubit_of};
 ghost use Rattle.unroll.specs.Pushed.{FollowsFactor};
 ghost use Rattle.unroll.specs.Refusals.{is_far, reaches_far};
 ghost use Rattle.unroll.specs.Totals.{qubits_named, qubits_to, target_count};

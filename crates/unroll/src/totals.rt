@@ -4,9 +4,9 @@ ghost use Rattle.stim_parser.specs.Circuits.{Fits};
 ghost use Rattle.block_text.specs.Kept.{instruction_in, item_in};
 ghost use Rattle.unroll.specs.Passes.{CanStand, Passes};
 ghost use Rattle.unroll.specs.Summed.{AreTotals, capped_sum, far_line_after, nothing_summed, repeated_sum, summing, totals_after, totals_repeated};
-ghost use Rattle.unroll.specs.Totals.{fault_count, has_argument};
+ghost use Rattle.unroll.specs.MadeTotals.{fault_count, has_argument};
 
-use crate::counts::{collapses_made, detectors_made, faults_made, records_made, steps_made};
+use crate::counts::{collapses_made, detectors_made, faults_counted, records_made, steps_made};
 use crate::targets::{reaches_far, target_count};
 use arrayvec::ArrayVec;
 use block_text::{LEVELS, OpenBlock};
@@ -81,7 +81,7 @@ fn fault_count(instruction: Instruction<'_, '_>) -> usize
 {
     let targets = target_count(instruction.operation, instruction.targets);
     let flips = has_argument(instruction);
-    faults_made(instruction.operation, flips, targets)
+    faults_counted(instruction.operation, flips, targets)
 }
 
 impl Totals {

@@ -4,7 +4,7 @@ ghost use Rattle.programs.specs.Trees.{IsCircuit, tree_of, unrolled};
 ghost use Rattle.block_text.specs.Kept.{instruction_in, item_in, mark_in};
 ghost use Rattle.unroll.specs.Drafts.{CanWrite, HasRoom, Writes, draft_of, with_instruction};
 ghost use Rattle.unroll.specs.Kept.{kept_entries, kept_products};
-ghost use Rattle.unroll.specs.Made.{flip_of};
+ghost use Rattle.unroll.specs.StepsMade.{flip_of};
 ghost use Rattle.unroll.specs.Numbered.{IsInstructionNumber, IsItemNumber};
 ghost use Rattle.unroll.specs.Refusals.{first_far_line};
 ghost use Rattle.unroll.specs.Steps.{steps_of};

@@ -1,6 +1,6 @@
 use Rattle.std.proofs.Common.{drop}
 use Rattle.dem_parser.specs.Models.{is_far}
-use Rattle.dem_parser.specs.Shifts.{moved}
+use Rattle.stim_parser.specs.Offsets.{moved}
 use Rattle.dem_parser.proofs.FrontLemmas.{IsFront}
 use Rattle.dem_parser.proofs.placed_line.move_all.Given as goal
 

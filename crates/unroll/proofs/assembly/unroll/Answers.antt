@@ -1,4 +1,5 @@
 use Rattle.std.proofs.Common.{◌≡◌, None, Ok, ap, sym, ◌∙◌}
+use Rattle.programs.specs.Kept.{KeptProgram}
 use Rattle.unroll.specs.Refusals.{refusal_of}
 use Rattle.unroll.proofs.AssemblyLemmas.{parts_fit, program_made}
 use Rattle.unroll.proofs.assembly.unroll.Goals as goal
@@ -13,4 +14,4 @@ pub returns-in-Ok-clause-ok : goal.returns-in-Ok-clause-ok
 returns-in-Ok-clause-ok g c =
     let t = c.args.circuit in
     let accepted : refusal_of t ≡ None = sym c.refusal_of.ensures ∙ c.in_default.is in
-    program_made t c.in-Ok.parts accepted c.in-Ok.ensures ∙ ap (λ p. Ok p) (sym c.new.ensures)
+    program_made t c.in-Ok.parts accepted c.in-Ok.ensures ∙ ap (λ (p : KeptProgram). Ok p.listing) (sym c.new.ensures)

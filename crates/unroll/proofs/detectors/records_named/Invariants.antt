@@ -1,5 +1,5 @@
 use Rattle.std.proofs.Common.{◌≡◌, take}
-use Rattle.unroll.specs.Detectors.{records_named}
+use Rattle.unroll.specs.TargetsMade.{records_named}
 use Rattle.unroll.proofs.detectors.records_named.Given as goal
 
 abbrev pub invariant-loop-target : goal.invariant-loop-target

@@ -1,5 +1,5 @@
 use Rattle.std.proofs.Common.{◌≡◌, map, take}
-use Rattle.unroll.specs.Kept.{term_of}
+use Rattle.unroll.specs.Targets.{term_of}
 use Rattle.unroll.proofs.entries.name_terms.Given as goal
 
 abbrev pub invariant-loop-target : goal.invariant-loop-target

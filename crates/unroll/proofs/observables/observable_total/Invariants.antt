@@ -1,7 +1,7 @@
 use Rattle.std.proofs.Common.{◌≡◌, drop}
 use Rattle.std.specs.Prelude.{max}
 use Rattle.stim_parser.specs.Trees.{items_of}
-use Rattle.unroll.specs.Observables.{observable_total}
+use Rattle.unroll.specs.Totals.{observable_total}
 use Rattle.unroll.proofs.ObservableLemmas.{named_by}
 use Rattle.unroll.proofs.observables.observable_total.Given as goal
 

@@ -1,5 +1,5 @@
 use Rattle.std.proofs.Common.{◌≡◌}
-use Rattle.unroll.specs.Flattened.{written}
+use Rattle.block_text.specs.Reached.{written}
 use Rattle.unroll.specs.Refusals.{first_beyond}
 use Rattle.unroll.proofs.BeyondLemmas.{beyond_from}
 use Rattle.unroll.proofs.ItemLemmas.{FitsFrom}

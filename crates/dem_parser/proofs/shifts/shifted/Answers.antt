@@ -1,15 +1,15 @@
 use Rattle.std.proofs.Common.{◌≡◌, ◌++◌, ◌∷◌, [], List, ℤ, pos, to_z, of_z, ap₂, sym, ◌∙◌, rules, arith}
 use Rattle.std.proofs.lemmas.Int.{ints}
 use Rattle.std.proofs.lemmas.List.{take_all, take_more}
-use Rattle.dem_parser.specs.Shifts.{both_offsets}
+use Rattle.stim_parser.specs.Offsets.{shifted}
 use Rattle.dem_parser.proofs.ShiftLemmas.{both-at, length-both}
-use Rattle.dem_parser.proofs.shifts.both_offsets.Goals as goal
+use Rattle.dem_parser.proofs.shifts.shifted.Goals as goal
 
 pub loop-place-preserved : goal.loop-place-preserved
 loop-place-preserved c =
     let offset = c.args.offset.now in
     let stated = c.args.stated.now in
-    let both = both_offsets offset stated in
+    let both = shifted offset stated in
     let place = c.loop-place.place in
     let long = length-both offset stated in
     let raw : to_z mir.Syntax.w128 (of_z mir.Syntax.w128 c.sum_at.result) ≡ c.sum_at.result = search (arith, rules, ints) in
@@ -22,4 +22,4 @@ returns c =
     let offset = c.args.offset.now in
     let stated = c.args.stated.now in
     let long = length-both offset stated in
-    c.loop-place.invariant ∙ take_all c.loop-place.place (both_offsets offset stated) (omega (arith, long, c.loop-place-test.false, c.max-place-end.ensures))
+    c.loop-place.invariant ∙ take_all c.loop-place.place (shifted offset stated) (omega (arith, long, c.loop-place-test.false, c.max-place-end.ensures))
