@@ -9,7 +9,8 @@ use Rattle.step_model.specs.declared.fault.Cause.{Cause}
 use Rattle.stim_lexer.specs.Cut.{has_bad_byte}
 use Rattle.stim_lexer.specs.Lexing.{Unread, Numbered, after_silent, first_found, next_found, after_first_found, after_next}
 use Rattle.stim_lexer.specs.Lines.{says_nothing}
-use Rattle.block_text.specs.Texts.{Format, Reading, Takes, Opens, Closes, Refuses, items_in, items_from, at_end, before, followed, open_after, left_open, refused, IsRefusedBy}
+use Rattle.block_text.specs.Texts.{Format, Reading, Takes, Opens, Closes, Refuses, items_in, items_from, at_end, before, followed, open_after, refused}
+use Rattle.block_text.specs.Judged.{left_open, IsRefusedBy}
 use Rattle.block_text.specs.Trees.{Item}
 use Rattle.block_text.specs.Unfinished.{Unfinished, reading_at, cause_in, line_items, after_line}
 

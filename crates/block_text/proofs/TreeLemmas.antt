@@ -6,9 +6,11 @@ use Rattle.std.proofs.lemmas.Bool.{cases_Bool, false≢true}
 use Rattle.step_model.specs.declared.fault.Fault.{Fault}
 use Rattle.stim_lexer.specs.Cut.{cut_of, has_bad_byte}
 use Rattle.stim_lexer.specs.Lines.{lines_of, says_nothing}
-use Rattle.block_text.specs.Fitting.{IsBuilt, AllFit, LinesFit, ReadingFits, depth}
-use Rattle.block_text.specs.Flat.{IsWritten, tree_of, tree_of-items}
-use Rattle.block_text.specs.Texts.{Format, Reading, Takes, Opens, Closes, Refuses, items_in, items_from, followed, line_reading, open_after, Writes, IsRefusedBy}
+use Rattle.block_text.specs.Fitting.{IsBuilt, AllFit, LinesFit, ReadingFits, depth, IsWritten}
+use Rattle.block_text.specs.Flat.{tree_of}
+use Rattle.block_text.specs.Stored.{tree_of-items}
+use Rattle.block_text.specs.Texts.{Format, Reading, Takes, Opens, Closes, Refuses, items_in, items_from, followed, line_reading, open_after}
+use Rattle.block_text.specs.Judged.{Writes, IsRefusedBy}
 use Rattle.block_text.specs.Trees.{Item, Does, Begins, Ends, Tree, Nothing, Then, Block, items_of}
 
 -- ---- one tree

@@ -1,13 +1,10 @@
 -- What holds of the tree of an accepted text: each instruction has the arguments and targets that its format asks, each
 -- block has at least one turn, and blocks are nested no deeper than the limit. (The limit is this project's.)
-use Rattle.std.specs.Prelude.{⊤, ◌<◌, ◌≤◌, ℕ, suc, max}
+use Rattle.std.specs.Prelude.{⊤, ◌<◌, ◌≤◌, ℕ, suc, max, ◌≡◌, List}
 use Rattle.stim_lexer.specs.Cut.{Cut}
-use Rattle.block_text.specs.Trees.{Tree, Nothing, Then, Block}
+use Rattle.block_text.specs.Trees.{Tree, Nothing, Then, Block, Item, items_of, deepest}
 use Rattle.block_text.specs.Texts.{Format, Reading, Takes, Opens, Closes, Refuses}
-
--- the most blocks that may be open
-abbrev pub deepest : ℕ
-deepest = 32
+use Rattle.block_text.specs.Flat.{tree_of}
 
 -- how deep the blocks of a tree are nested
 abbrev pub depth : {I : Type 0} → Tree I → ℕ
@@ -35,3 +32,8 @@ ReadingFits Fits depth (Refuses c) = ⊤
 -- whatever a line says in a format fits
 abbrev pub LinesFit : {I : Type 0} → (I → Type 0) → Format I → Type 0
 LinesFit Fits format = (depth number : ℕ) (cut : Cut) → ReadingFits Fits depth (format.reading_of depth number cut)
+
+-- these are the items of the tree of an accepted text
+pub record IsWritten {I : Type 0} (Fits : I → Type 0) (items : List (Item I)) : Type 0 where
+  pub written : items_of (tree_of items) ≡ items
+  pub fits : IsBuilt Fits (tree_of items)

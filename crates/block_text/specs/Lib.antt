@@ -10,3 +10,5 @@ pub mod Said
 pub mod Kept
 pub mod Marked
 pub mod Reached
+pub mod Stored
+pub mod Judged

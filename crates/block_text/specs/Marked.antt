@@ -3,7 +3,7 @@ use Rattle.std.specs.Prelude.{ℕ, List, [], ◌∷◌, ◌++◌, refl}
 use Rattle.std.specs.Coded.{Coded, code_by, coded×, coded_ℕ, coded_list}
 use Rattle.block_text.specs.declared.said.Said.{Said}
 use Rattle.block_text.specs.declared.said.Said.TheVariants as said
-use Rattle.block_text.specs.Flat.{coded_items}
+use Rattle.block_text.specs.Stored.{coded_items}
 use Rattle.block_text.specs.Trees.{Item}
 use Rattle.block_text.specs.Unfinished.{Unfinished, coded_unfinished}
 

@@ -1,13 +1,13 @@
 -- What a whole text says: the items of its lines in their order, or its refusal. Lines that say nothing are passed over.
 -- The first line that is refused is the text's refusal. Where there is none but a block is left open, the text is refused
 -- by the line of the innermost open block. Lines are numbered from 1.
-use Rattle.std.specs.Prelude.{◌≡◌, ℕ, ◌+◌, if◌then◌else◌, List, [], ◌∷◌, length, drop, Option, None, Some, Result, Ok, Err}
+use Rattle.std.specs.Prelude.{ℕ, ◌+◌, if◌then◌else◌, List, [], ◌∷◌, length, drop, Result, Ok, Err}
 use Rattle.step_model.specs.declared.fault.Fault.{Fault}
 use Rattle.step_model.specs.declared.fault.Cause.{Cause}
 use Rattle.step_model.specs.declared.fault.Cause.TheVariants as cause
 use Rattle.stim_lexer.specs.Cut.{Cut, cut_of, has_bad_byte}
 use Rattle.stim_lexer.specs.Lines.{lines_of, says_nothing}
-use Rattle.block_text.specs.Trees.{Item, Does, Begins, Ends, Tree, items_of}
+use Rattle.block_text.specs.Trees.{Item, Does, Begins, Ends}
 
 -- what a line says: an instruction; the start of a block of this many turns; the end of a block; or a refusal
 pub data Reading (I : Type 0) : Type 0 where
@@ -43,11 +43,6 @@ followed number (Opens turns) rest = before (Begins number turns) rest
 followed number Closes rest = before Ends rest
 followed number (Refuses c) rest = Err (refused c number)
 
--- the refusal of a text that leaves blocks open
-abbrev pub left_open : Cause → List ℕ → Option Fault
-left_open c [] = None
-left_open c (line ∷ opened) = Some (refused c line)
-
 -- the end of a text
 abbrev pub at_end : {I : Type 0} → Format I → List ℕ → Result (List (Item I)) Fault
 at_end format [] = Ok []
@@ -70,10 +65,3 @@ items_from format opened read (line ∷ lines) =
 -- the items of a text, or its refusal
 abbrev pub items_in : {I : Type 0} → Format I → List ℕ → Result (List (Item I)) Fault
 items_in format text = items_from format [] 0 (lines_of text)
-
--- a text writes this tree; a text is refused by this fault
-abbrev pub Writes : {I : Type 0} → Format I → List ℕ → Tree I → Type 0
-Writes format text tree = items_in format text ≡ Ok (items_of tree)
-
-abbrev pub IsRefusedBy : {I : Type 0} → Format I → List ℕ → Fault → Type 0
-IsRefusedBy format text fault = items_in format text ≡ Err fault

@@ -20,3 +20,7 @@ abbrev pub items_of : {I : Type 0} → Tree I → List (Item I)
 items_of Nothing = []
 items_of (Then instruction rest) = Does instruction ∷ items_of rest
 items_of (Block line turns body rest) = Begins line turns ∷ (items_of body ++ Ends ∷ items_of rest)
+
+-- the most blocks that may be open
+abbrev pub deepest : ℕ
+deepest = 32

@@ -4,7 +4,7 @@ use Rattle.std.specs.Prelude.{ℕ, List, [], ◌∷◌, ◌++◌, length, Option
 use Rattle.std.specs.Coded.{Coded, code_by, coded×, coded_ℕ, coded_list}
 use Rattle.step_model.specs.declared.fault.Cause.{Cause}
 use Rattle.stim_lexer.specs.Cut.{Cut}
-use Rattle.block_text.specs.Flat.{coded_items}
+use Rattle.block_text.specs.Stored.{coded_items}
 use Rattle.block_text.specs.Texts.{Format, Reading, Takes, Opens, Closes, Refuses, open_after}
 use Rattle.block_text.specs.Trees.{Item, Does, Begins, Ends}
 

@@ -1,7 +1,7 @@
 ghost use Rattle.std.specs.Prelude.{◌≡◌, ◌++◌, [], Some, length, IfOk, IfErr};
 ghost use Rattle.block_text.specs.Marked.{line_marks};
 ghost use Rattle.block_text.specs.Said.{OpensFew, reading_in};
-ghost use Rattle.block_text.specs.Texts.{left_open};
+ghost use Rattle.block_text.specs.Judged.{left_open};
 ghost use Rattle.block_text.specs.Unfinished.{after_line, cause_in};
 
 use crate::blocks::LEVELS;

@@ -1,10 +1,11 @@
 -- The items of an accepted text are those of one tree, which is accepted.
 use Rattle.std.proofs.Common.{◌≡◌, ℕ, List, Ok}
-use Rattle.block_text.specs.Flat.{IsWritten}
+use Rattle.block_text.specs.Fitting.{IsWritten}
 use Rattle.block_text.proofs.TreeLemmas as trees
 use Rattle.dem_lines.specs.Fitting.{Fits, IsAccepted}
 use Rattle.dem_lines.specs.Texts.{Item, models, items_in}
-use Rattle.dem_lines.specs.Trees.{Tree, Writes}
+use Rattle.dem_lines.specs.Trees.{Tree}
+use Rattle.dem_lines.specs.Judged.{Writes}
 use Rattle.dem_lines.proofs.FitLemmas.{reading_fits}
 
 -- the items of a text that is accepted are those of an error model

@@ -2,9 +2,10 @@
 -- (Stim's detector error model format, github.com/quantumlib/Stim, doc/file_format_dem_detector_error_model.md,
 -- "repeat".)
 use Rattle.std.specs.Coded.{Coded}
-use Rattle.block_text.specs.Flat as flat
-pub use Rattle.block_text.specs.Flat.{tree_of, tree_of-items}
-use Rattle.block_text.specs.Instructions.{coded_instruction}
+use Rattle.block_text.specs.Stored as stored
+pub use Rattle.block_text.specs.Flat.{tree_of}
+pub use Rattle.block_text.specs.Stored.{tree_of-items}
+use Rattle.block_text.specs.Stored.{coded_instruction}
 pub use Rattle.block_text.specs.Kept.{instruction_in, item_in}
 use Rattle.dem_lines.specs.contracts.operation.Operation as operation
 use Rattle.dem_lines.specs.contracts.target.Target as target
@@ -16,4 +17,4 @@ abbrev pub coded_instructions : Coded Instruction
 coded_instructions = coded_instruction operation.the_row.coded target.the_row.coded
 
 abbrev pub coded_tree : Coded Tree
-coded_tree = flat.coded_tree coded_instructions
+coded_tree = stored.coded_tree coded_instructions

@@ -8,3 +8,4 @@ pub mod Fitting
 pub mod Flat
 pub mod Reached
 pub mod Passes
+pub mod Judged

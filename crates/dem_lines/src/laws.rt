@@ -3,7 +3,8 @@
 ghost use Rattle.std.specs.Prelude.{◌≡◌, ◌⊎◌, ℕ, List};
 ghost use Rattle.step_model.specs.declared.fault.Fault.{Fault};
 ghost use Rattle.dem_lines.specs.Fitting.{IsAccepted};
-ghost use Rattle.dem_lines.specs.Trees.{Tree, Writes, IsRefusedBy};
+ghost use Rattle.dem_lines.specs.Trees.{Tree};
+ghost use Rattle.dem_lines.specs.Judged.{Writes, IsRefusedBy};
 
 /// The lines of each text make exactly one tree, or are refused by exactly one fault, and never both.
 pub fn texts_are_judged_once()

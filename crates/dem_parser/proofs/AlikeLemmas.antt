@@ -7,7 +7,8 @@ use Rattle.stim_parser.specs.declared.forms.ArgumentForm.TheVariants.{OneProbabi
 use Rattle.stim_parser.specs.Arguments.{arguments_in}
 use Rattle.block_text.specs.Texts.{Takes}
 use Rattle.stim_parser.specs.Judging.{judged, reading_of, refusal_of}
-use Rattle.stim_parser.specs.Limits.{AreProbabilities, has_wrong_arguments, has_wrong_probability}
+use Rattle.stim_parser.specs.Limits.{has_wrong_arguments, has_wrong_probability}
+use Rattle.stim_parser.specs.Probabilities.{AreProbabilities}
 use Rattle.dem_lines.specs.declared.operation.Operation.TheVariants.{Errs}
 use Rattle.dem_lines.specs.declared.target.Target.{Target}
 use Rattle.dem_lines.specs.Instructions.{keyword_named}

@@ -13,7 +13,8 @@ use Rattle.dem_lines.specs.Flat.{tree_of, tree_of-items}
 use Rattle.dem_lines.specs.Limits.{has_target_beyond}
 use Rattle.dem_lines.specs.Reached.{block_lines, has_many_lines}
 use Rattle.dem_lines.specs.Texts.{Item, Does, items_in}
-use Rattle.dem_lines.specs.Trees.{Tree, Nothing, Then, Writes, items_of}
+use Rattle.dem_lines.specs.Trees.{Tree, Nothing, Then, items_of}
+use Rattle.dem_lines.specs.Judged.{Writes}
 use Rattle.dem_lines.specs.Verdicts.{Instruction}
 use Rattle.dem_lines.proofs.PassLemmas.{drop_got}
 use Rattle.dem_lines.proofs.TreeLemmas.{each_tree_is_accepted}

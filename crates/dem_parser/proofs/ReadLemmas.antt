@@ -11,7 +11,8 @@ use Rattle.dem_parser.specs.Meanings.{meaning_of}
 use Rattle.dem_parser.specs.Models.{first_beyond, model_in, model_of_items, model_of_tree, placed_lines, unless_refused_by}
 use Rattle.dem_lines.specs.Reached.{has_many_lines}
 use Rattle.dem_lines.specs.Texts.{refused}
-use Rattle.dem_lines.specs.Trees.{IsRefusedBy, Tree, Writes}
+use Rattle.dem_lines.specs.Trees.{Tree}
+use Rattle.dem_lines.specs.Judged.{IsRefusedBy, Writes}
 
 -- ---- the model of a tree
 

@@ -11,7 +11,8 @@ use Rattle.stim_lexer.specs.Bytes.{is_line_feed}
 use Rattle.stim_lexer.specs.Cut.{cut_of, has_bad_byte}
 use Rattle.stim_lexer.specs.Lexing.{Unread}
 use Rattle.stim_lexer.specs.Lines.{lines_of, says_nothing}
-use Rattle.block_text.specs.Texts.{Reading, Takes, Opens, Closes, Refuses, IsRefusedBy, at_end, followed, items_from, line_reading, open_after, refused}
+use Rattle.block_text.specs.Texts.{Reading, Takes, Opens, Closes, Refuses, at_end, followed, items_from, line_reading, open_after, refused}
+use Rattle.block_text.specs.Judged.{IsRefusedBy}
 use Rattle.block_text.specs.Unfinished.{Unfinished, cause_in, line_items}
 use Rattle.block_text.proofs.TextLemmas.{IsReading, after, after-append, after-err, after-ok}
 use Rattle.stim_parser.specs.Judging.{reading_of}

@@ -6,7 +6,8 @@ use Rattle.std.proofs.lemmas.Bool.{cases_lt, eq-eqb, ne_eqb}
 use Rattle.std.proofs.lemmas.List.{drop_all}
 use Rattle.pauli_word.specs.Parity.{exclusive_or}
 use Rattle.step_model.specs.ErrorModels.{ErrorLine, ErrorModel}
-use Rattle.dem_parser.specs.Sums.{is_flipped, is_in_symptom, symptom_of, turned, turned_at, turned_by}
+use Rattle.dem_parser.specs.Sums.{is_flipped, is_in_symptom, symptom_of}
+use Rattle.dem_parser.specs.Turned.{turned, turned_at, turned_by}
 
 -- ---- one truth value
 

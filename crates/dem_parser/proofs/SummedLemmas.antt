@@ -12,7 +12,8 @@ use Rattle.dem_parser.specs.Meanings.{detector_count, detectors_to, error_line, 
 use Rattle.dem_parser.specs.Numbered.{numbered, numbers_of, odd_below}
 use Rattle.dem_parser.specs.Shifts.{Placed}
 use Rattle.dem_parser.specs.Summed.{error_count, passed_after, turned_past}
-use Rattle.dem_parser.specs.Sums.{is_flipped, symptom_of, turned, turned_at, turned_by}
+use Rattle.dem_parser.specs.Sums.{is_flipped, symptom_of}
+use Rattle.dem_parser.specs.Turned.{turned, turned_at, turned_by}
 use Rattle.dem_parser.proofs.NumberLemmas.{flipped-numbers}
 use Rattle.dem_parser.proofs.SumLemmas.{length-turned_if, symptom-turned, turned-map}
 

@@ -3,7 +3,8 @@ use Rattle.std.proofs.Common.{◌≡◌, ℕ, zero, suc, ◌+◌, ◌-◌, ◌*�
 use Rattle.std.specs.Prelude.{option_map, slice_get}
 use Rattle.std.proofs.lemmas.List.{length-reverse, reverse-append}
 use Rattle.std.proofs.lemmas.Bool.Decides.{nat_tests}
-use Rattle.block_text.specs.Flat.{first_tree, onto, read_back, trees_of}
+use Rattle.block_text.specs.Flat.{first_tree, onto, trees_of}
+use Rattle.block_text.specs.Stored.{read_back}
 use Rattle.dem_lines.specs.Fitting.{IsAccepted}
 use Rattle.dem_lines.specs.Passes.{CanStand}
 use Rattle.dem_parser.specs.declared.table_line.Stand.{Stand}

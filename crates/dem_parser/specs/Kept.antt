@@ -3,7 +3,7 @@
 -- detector error model format, github.com/quantumlib/Stim, doc/file_format_dem_detector_error_model.md.)
 use Rattle.std.specs.Prelude.{◌≡◌, ⊤, ℕ, ◌<◌, ℤ, List, [], ◌∷◌, ◌++◌, All, length, slice_index_or, refl}
 use Rattle.std.specs.Coded.{Coded, code_by, coded×, coded_ℕ, coded_list}
-use Rattle.block_text.specs.Flat.{coded_items}
+use Rattle.block_text.specs.Stored.{coded_items}
 use Rattle.dem_lines.specs.Flat.{coded_instructions}
 use Rattle.dem_lines.specs.declared.operation.Operation.{Operation}
 use Rattle.dem_lines.specs.declared.operation.Operation.TheVariants.{Errs, Shifts}

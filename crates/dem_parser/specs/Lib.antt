@@ -16,3 +16,4 @@ pub mod Walks
 pub mod Unrolled
 pub mod ErrorTexts
 pub mod LinesRead
+pub mod Turned

@@ -11,7 +11,7 @@ use Rattle.step_model.specs.declared.fault.Cause.TheVariants as cause
 use Rattle.step_model.specs.ErrorModels.{ErrorModel}
 use Rattle.step_model.specs.Faults.{without_line}
 use Rattle.stim_parser.specs.Numbers.{is_number_beyond}
-use Rattle.dem_lines.specs.Flat.{tree_of}
+use Rattle.block_text.specs.Flat.{tree_of}
 use Rattle.dem_lines.specs.Limits.{has_target_beyond}
 use Rattle.dem_parser.specs.Meanings.{meaning_of}
 use Rattle.dem_lines.specs.Reached.{has_many_lines}

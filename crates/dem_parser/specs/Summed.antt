@@ -9,7 +9,7 @@ use Rattle.dem_parser.specs.Meanings.{detector_count, detectors_to, greatest_of,
 use Rattle.dem_parser.specs.Models.{first_beyond, placed_lines}
 use Rattle.dem_parser.specs.Numbered.{numbers_of}
 use Rattle.dem_parser.specs.Shifts.{Placed}
-use Rattle.dem_parser.specs.Sums.{turned}
+use Rattle.dem_parser.specs.Turned.{turned}
 
 -- how many of some lines are error lines
 abbrev pub error_count : List Placed → ℕ

@@ -1,7 +1,7 @@
 -- The symptom of the error lines that are named: a truth value for each target, detectors first, which says whether
 -- these lines list the target an odd number of times in all. (Stim's detector error model format,
 -- github.com/quantumlib/Stim, doc/file_format_dem_detector_error_model.md.)
-use Rattle.std.specs.Prelude.{ℕ, zero, suc, ◌+◌, ◌==◌, Bool, false, not, ◌&&◌, if◌then◌else◌, List, [], ◌∷◌, map}
+use Rattle.std.specs.Prelude.{ℕ, ◌+◌, ◌==◌, Bool, false, ◌&&◌, List, [], ◌∷◌, map}
 use Rattle.std.specs.List.{range_with_len}
 use Rattle.pauli_word.specs.Parity.{exclusive_or}
 use Rattle.step_model.specs.ErrorModels.{ErrorLine, ErrorModel}
@@ -21,19 +21,3 @@ abbrev pub symptom_of : ErrorModel → List Bool → List Bool
 symptom_of model named = map (is_in_symptom named model.lines) (range_with_len 0 (model.detectors + model.observables))
 
 -- ---- truth values flipped one after another
-
--- the one at this place flipped; none past the end
-abbrev pub turned_at : List Bool → ℕ → List Bool
-turned_at [] t = []
-turned_at (b ∷ bits) zero = not b ∷ bits
-turned_at (b ∷ bits) (suc t) = b ∷ turned_at bits t
-
--- those at these places flipped, each as often as its place is listed
-abbrev pub turned : List Bool → List ℕ → List Bool
-turned bits [] = bits
-turned bits (t ∷ targets) = turned (turned_at bits t) targets
-
--- those of the targets of the named lines flipped
-abbrev pub turned_by : List Bool → List Bool → List ErrorLine → List Bool
-turned_by bits (named ∷ rest) (line ∷ lines) = turned_by (if named then turned bits line.targets else bits) rest lines
-turned_by bits named lines = bits

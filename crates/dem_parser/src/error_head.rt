@@ -2,7 +2,7 @@ ghost use Rattle.std.specs.Prelude.{◌≡◌, ◌∷◌, ◌++◌, true, codes,
 ghost use Rattle.std.specs.List.{list_all};
 ghost use Rattle.stim_parser.specs.Arguments.{arguments_in};
 ghost use Rattle.stim_parser.specs.declared.forms.ArgumentForm.TheVariants.{OneProbability};
-ghost use Rattle.stim_parser.specs.Limits.{AreProbabilities};
+ghost use Rattle.stim_parser.specs.Probabilities.{AreProbabilities};
 ghost use Rattle.dem_parser.specs.ErrorTexts.{is_quiet};
 ghost use Rattle.dem_parser.specs.LinesRead.{BeginsWithError};
 

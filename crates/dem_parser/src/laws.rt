@@ -2,7 +2,8 @@
 
 ghost use Rattle.std.specs.Prelude.{◌≡◌, ℕ, List, Err};
 ghost use Rattle.step_model.specs.declared.fault.Fault.{Fault};
-ghost use Rattle.dem_lines.specs.Trees.{Tree, Writes, IsRefusedBy};
+ghost use Rattle.dem_lines.specs.Trees.{Tree};
+ghost use Rattle.dem_lines.specs.Judged.{Writes, IsRefusedBy};
 ghost use Rattle.dem_parser.specs.Models.{model_in, model_of_tree};
 
 pub use dem_lines::laws::{texts_are_judged_once, texts_write_accepted_trees};

@@ -2,7 +2,8 @@ ghost use Rattle.std.specs.Prelude.{◌≡◌, ◌≤◌, ◌+◌, ◌<◌, ◌^
 ghost use Rattle.dem_parser.specs.Numbered.{numbered, numbers_of};
 ghost use Rattle.dem_parser.specs.Shifts.{target_at};
 ghost use Rattle.dem_parser.specs.Summed.{passed_after, turned_past};
-ghost use Rattle.dem_parser.specs.Sums.{symptom_of, turned};
+ghost use Rattle.dem_parser.specs.Sums.{symptom_of};
+ghost use Rattle.dem_parser.specs.Turned.{turned};
 
 use crate::counts::LineCounts;
 use crate::placed_line::PlacedLine;

@@ -1,5 +1,5 @@
 ghost use Rattle.std.specs.Prelude.{◌≡◌, ◌<◌, ◌^◌, Some, length, option_map, slice_get, IfSome, MatchOption};
-ghost use Rattle.block_text.specs.Flat.{IsWritten};
+ghost use Rattle.block_text.specs.Fitting.{IsWritten};
 ghost use Rattle.dem_lines.specs.Fitting.{Fits, IsAccepted};
 ghost use Rattle.dem_lines.specs.Texts.{Does};
 ghost use Rattle.dem_lines.specs.Trees.{items_of};
@@ -19,7 +19,7 @@ pub(crate) struct LineTable<'a, A: Allocator + Copy> {
 }
 
 impl<'a, A: Allocator + Copy> Model for LineTable<'a, A> {
-    ghost use Rattle.block_text.specs.Flat.{IsWritten};
+    ghost use Rattle.block_text.specs.Fitting.{IsWritten};
     ghost use Rattle.dem_lines.specs.Fitting.{Fits};
     ghost use Rattle.dem_lines.specs.Flat.{coded_tree, tree_of};
     ghost use Rattle.dem_lines.specs.Trees.{Tree};

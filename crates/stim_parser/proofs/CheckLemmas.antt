@@ -4,7 +4,8 @@ use Rattle.std.specs.List.{list_all, list_any}
 use Rattle.std.proofs.lemmas.List.{length-map}
 use Rattle.std.proofs.lemmas.List.Folds.{list_all-map}
 use Rattle.stim_parser.specs.declared.forms.ArgumentForm.{ArgumentForm}
-use Rattle.stim_parser.specs.Limits.{has_wrong_arguments, has_wrong_probability, is_argument, is_probability, is_wrong_count, takes_probability, texts_of}
+use Rattle.stim_parser.specs.Limits.{has_wrong_arguments, has_wrong_probability, is_argument, is_probability, is_wrong_count, takes_probability}
+use Rattle.stim_parser.specs.Rows.{texts_of}
 
 pub wrong_count : (form : ArgumentForm) (lent : List (Bor (List ℕ))) → is_wrong_count form (length lent) ≡ true → has_wrong_arguments form (texts_of lent) ≡ true
 unfolding has_wrong_arguments

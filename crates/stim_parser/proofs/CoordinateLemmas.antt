@@ -5,7 +5,7 @@ use Rattle.std.specs.List.{list_all}
 use Rattle.std.proofs.lemmas.List.{length-map}
 use Rattle.std.proofs.lemmas.List.Folds.{list_all-map}
 use Rattle.stim_parser.specs.Coordinates.{are_coordinates, coordinates_in, is_coordinate}
-use Rattle.stim_parser.specs.Limits.{texts_of}
+use Rattle.stim_parser.specs.Rows.{texts_of}
 use Rattle.stim_parser.specs.Numbers.{whole_value}
 
 values_of : (lent : List (Bor (List ℕ))) → map whole_value (texts_of lent) ≡ map (λ text. whole_value text.now) lent

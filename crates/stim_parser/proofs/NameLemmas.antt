@@ -3,8 +3,8 @@ use Rattle.std.proofs.Common.{◌≡◌, refl, ap, ℕ, true, false, cond, List,
 use Rattle.std.specs.Prelude.{option_map, Some}
 use Rattle.std.specs.List.{list_any}
 use Rattle.std.specs.Str.{str_eq_ignore_ascii_case}
-use Rattle.stim_parser.specs.Instructions.{is_among_rows}
-use Rattle.stim_parser.specs.Names.{named_in, named_in_rows}
+use Rattle.stim_parser.specs.Names.{named_in}
+use Rattle.stim_parser.specs.Rows.{named_in_rows, is_among_rows}
 
 -- a row and its name
 abbrev pub entry_of : {K : Type 0} → Bor (List ℕ) × K → List ℕ × K

@@ -1,9 +1,9 @@
 -- What is read of an instruction's arguments: the number that the first one writes, and all of them as coordinates,
 -- which are whole numbers within their limit. An instruction has at most 16 of them. (Stim's gate reference,
 -- github.com/quantumlib/Stim, doc/gates.md, "DETECTOR" and "OBSERVABLE_INCLUDE"; the limits are this project's.)
-use Rattle.std.specs.Prelude.{ℕ, nat_le, Bool, not, ◌&&◌, if◌then◌else◌, ℤ, List, length, map, Option, None, Some, option_and_then, slice_get}
+use Rattle.std.specs.Prelude.{ℕ, nat_le, Bool, not, ◌&&◌, if◌then◌else◌, ℤ, List, length, map, Option, None, Some, option_and_then, slice_get, nat_lt}
 use Rattle.std.specs.List.{list_all}
-use Rattle.stim_parser.specs.Numbers.{is_coordinate_beyond, is_whole_number, number_of, whole_value}
+use Rattle.stim_parser.specs.Numbers.{is_whole_number, number_of, whole_value, greatest_coordinate, magnitude_of}
 
 -- the number that the first argument writes, where it is digits
 abbrev pub first_number : List (List ℕ) → Option ℕ
@@ -18,3 +18,6 @@ are_coordinates arguments = nat_le (length arguments) 16 && list_all is_coordina
 -- all arguments as coordinates, where they are at most 16 coordinates
 unfoldable pub coordinates_in : List (List ℕ) → Option (List ℤ)
 coordinates_in arguments = if are_coordinates arguments then Some (map whole_value arguments) else None
+
+abbrev pub is_coordinate_beyond : List ℕ → Bool
+is_coordinate_beyond text = nat_lt greatest_coordinate (magnitude_of text)

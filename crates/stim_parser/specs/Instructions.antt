@@ -3,7 +3,6 @@
 -- reference, github.com/quantumlib/Stim, doc/gates.md: the titles, "Alternate name", "Parens Arguments" and "Targets";
 -- which names are left out is this project's choice.)
 use Rattle.std.specs.Prelude.{ℕ, ◌==◌, Bool, if◌then◌else◌, List, [], ◌∷◌, Option, codes, option_map}
-use Rattle.std.specs.Borrow.{Bor}
 use Rattle.std.specs.Str.{str_eq_ignore_ascii_case}
 use Rattle.std.specs.List.{list_any}
 use Rattle.std.specs.Option.{option_or}
@@ -136,7 +135,3 @@ left_out_names =
 
 abbrev pub is_left_out : List ℕ → Bool
 is_left_out name = list_any (λ left_out. str_eq_ignore_ascii_case left_out name) left_out_names
-
--- the same in a list whose names are borrowed
-unfoldable pub is_among_rows : List (Bor (List ℕ)) → List ℕ → Bool
-is_among_rows rows name = list_any (λ row. str_eq_ignore_ascii_case row.now name) rows

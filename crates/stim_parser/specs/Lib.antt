@@ -19,3 +19,5 @@ pub mod Coordinates
 pub mod QubitSets
 pub mod Products
 pub mod Offsets
+pub mod Judged
+pub mod Rows

@@ -2,8 +2,7 @@
 -- answer by itself; their order is said elsewhere. An instruction fits where no question finds anything wrong. (Stim's
 -- circuit format, github.com/quantumlib/Stim, doc/file_format_stim_circuit.md, "Instruction Types", and doc/gates.md;
 -- the limits are this project's.)
-use Rattle.std.specs.Prelude.{◌≡◌, ℕ, ◌==◌, ◌%◌, nat_lt, Bool, true, false, not, ◌&&◌, ◌||◌, List, [], ◌∷◌, length, map, is_some}
-use Rattle.std.specs.Borrow.{Bor}
+use Rattle.std.specs.Prelude.{ℕ, ◌==◌, ◌%◌, nat_lt, Bool, true, false, not, ◌&&◌, ◌||◌, List, [], ◌∷◌, length, is_some}
 use Rattle.std.specs.List.{list_any, list_all}
 use Rattle.step_model.specs.Probabilities.{decimal_of, probability_bound}
 use Rattle.stim_lexer.specs.Bytes.{is_empty}
@@ -51,20 +50,11 @@ is_probability text = is_some (probability_bound text)
 unfoldable pub has_wrong_probability : ArgumentForm → List (List ℕ) → Bool
 has_wrong_probability form arguments = takes_probability form && not (list_all is_probability arguments)
 
--- these arguments have to be probabilities, and nothing is wrong with them
-abbrev pub AreProbabilities : ArgumentForm → List (List ℕ) → Type 0
-AreProbabilities form arguments =
-    (takes_probability form ≡ true) × (has_wrong_arguments form arguments ≡ false) × (has_wrong_probability form arguments ≡ false)
-
 -- an argument is beyond its limit: a coordinate of a magnitude above the greatest one, or another number
 abbrev pub has_argument_beyond : ℕ → ArgumentForm → List (List ℕ) → Bool
 has_argument_beyond greatest WholeNumbers arguments = list_any (λ text. nat_lt greatest (magnitude_of text)) arguments
 has_argument_beyond greatest OneNumber arguments = list_any (λ text. is_number_beyond (value_of text)) arguments
 has_argument_beyond greatest form arguments = false
-
--- borrowed texts
-abbrev pub texts_of : List (Bor (List ℕ)) → List (List ℕ)
-texts_of lent = map (λ text. text.now) lent
 
 -- ---- forms of targets
 

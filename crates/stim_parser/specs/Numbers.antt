@@ -57,6 +57,3 @@ is_qubit_beyond q = nat_lt greatest_qubit q
 
 abbrev pub is_number_beyond : ℕ → Bool
 is_number_beyond n = nat_lt greatest_number n
-
-abbrev pub is_coordinate_beyond : List ℕ → Bool
-is_coordinate_beyond text = nat_lt greatest_coordinate (magnitude_of text)

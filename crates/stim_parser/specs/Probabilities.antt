@@ -1,6 +1,6 @@
 -- The probabilities of a text's instructions, by their numbers among the texts that are kept of them. Each instruction has a
 -- mark, which is the number of its probability where all numbers fit 32 bits.
-use Rattle.std.specs.Prelude.{◌≡◌, ◌<◌, ◌≤◌, ◌+◌, ◌^◌, ⊤, ℕ, true, if◌then◌else◌, List, [], ◌∷◌, length, Option, None, Some, option_map}
+use Rattle.std.specs.Prelude.{◌≡◌, ◌<◌, ◌≤◌, ◌+◌, ◌^◌, ⊤, ℕ, true, if◌then◌else◌, List, [], ◌∷◌, length, Option, None, Some, option_map, false}
 use Rattle.step_model.specs.Probabilities.{probability_bound}
 use Rattle.chances.specs.declared.table.ChanceText.{ChanceText}
 use Rattle.chances.specs.Chances.{Chance, chance_at}
@@ -12,8 +12,9 @@ use Rattle.block_text.specs.Marked.{Begun, Marked}
 use Rattle.block_text.specs.Trees.{Item, Does, Begins, Ends}
 use Rattle.stim_parser.specs.declared.table.Keyword.TheVariants as keyword
 use Rattle.stim_parser.specs.Judging.{Table}
-use Rattle.stim_parser.specs.Limits.{takes_probability}
+use Rattle.stim_parser.specs.Limits.{takes_probability, has_wrong_arguments, has_wrong_probability}
 use Rattle.stim_parser.specs.Parentheses.{Parentheses}
+use Rattle.stim_parser.specs.declared.forms.ArgumentForm.{ArgumentForm}
 
 -- the first of some arguments and its bound, where it is a probability
 abbrev pub chance_in : List (List ℕ) → Option Chance
@@ -79,3 +80,8 @@ abbrev pub SaidMarked : {O T F : Type 0} → Table O T F → List ChanceText →
 SaidMarked table texts (said.Takes operation arguments) mark =
     Marks texts (chance_taken table operation (arguments_in arguments.now)) mark
 SaidMarked table texts said mark = ⊤
+
+-- these arguments have to be probabilities, and nothing is wrong with them
+abbrev pub AreProbabilities : ArgumentForm → List (List ℕ) → Type 0
+AreProbabilities form arguments =
+    (takes_probability form ≡ true) × (has_wrong_arguments form arguments ≡ false) × (has_wrong_probability form arguments ≡ false)

@@ -1,7 +1,8 @@
 ghost use Rattle.std.specs.Prelude.{◌≡◌, length, nat_lt, option_map};
 ghost use Rattle.std.specs.List.{list_all, list_any};
 ghost use Rattle.chances.specs.Chances.{chance_of};
-ghost use Rattle.stim_parser.specs.Limits.{has_argument_beyond, has_wrong_arguments, has_wrong_probability, is_argument, is_probability, is_wrong_count, takes_probability, texts_of};
+ghost use Rattle.stim_parser.specs.Limits.{has_argument_beyond, has_wrong_arguments, has_wrong_probability, is_argument, is_probability, is_wrong_count, takes_probability};
+ghost use Rattle.stim_parser.specs.Rows.{texts_of};
 ghost use Rattle.stim_parser.specs.Numbers.{is_number_beyond, magnitude_of, value_of};
 ghost use Rattle.stim_parser.specs.Probabilities.{chance_in};
 

@@ -1,6 +1,5 @@
 ghost use Rattle.std.specs.Prelude.{◌≡◌, ◌<◌, ◌==◌, Some, length, option_map, slice_get};
-ghost use Rattle.block_text.specs.Fitting.{IsBuilt};
-ghost use Rattle.block_text.specs.Flat.{IsWritten};
+ghost use Rattle.block_text.specs.Fitting.{IsBuilt, IsWritten};
 ghost use Rattle.block_text.specs.Kept.{item_in};
 ghost use Rattle.block_text.specs.Trees.{items_of};
 ghost use Rattle.stim_parser.specs.Probabilities.{Keeps};
@@ -28,8 +27,10 @@ pub struct JudgedText<'a, O: Copy, T: Copy, F: Copy, J: Judge<O, T, F>, A: Alloc
 
 impl<'a, O: Copy, T: Copy, F: Copy, J: Judge<O, T, F>, A: Allocator + Copy> Model
     for JudgedText<'a, O, T, F, J, A> {
-    ghost use Rattle.block_text.specs.Flat.{IsWritten, coded_tree, tree_of};
-    ghost use Rattle.block_text.specs.Instructions.{Instruction, coded_instruction};
+    ghost use Rattle.block_text.specs.Flat.{tree_of};
+    ghost use Rattle.block_text.specs.Fitting.{IsWritten};
+    ghost use Rattle.block_text.specs.Stored.{coded_tree, coded_instruction};
+    ghost use Rattle.block_text.specs.Instructions.{Instruction};
     ghost use Rattle.block_text.specs.Trees.{Tree};
 
     ghost Value = { Tree (Instruction O T) };

@@ -5,8 +5,7 @@ ghost use Rattle.chances.specs.Chances.{chance_of};
 ghost use Rattle.stim_parser.specs.declared.forms.ArgumentForm.TheVariants.{ProbabilityAtWill};
 ghost use Rattle.stim_parser.specs.Arguments.{arguments_in};
 ghost use Rattle.stim_parser.specs.Instructions.{keyword_named};
-ghost use Rattle.stim_parser.specs.Limits.{AreProbabilities};
-ghost use Rattle.stim_parser.specs.Probabilities.{chance_in};
+ghost use Rattle.stim_parser.specs.Probabilities.{chance_in, AreProbabilities};
 
 use crate::forms::ArgumentForm;
 use crate::names::keyword_named;
@@ -125,9 +124,8 @@ impl<'a> Model for LastParentheses<'a> {
     ghost use Rattle.std.specs.Prelude.{◌≡◌, option_map};
     ghost use Rattle.chances.specs.Chances.{chance_of};
     ghost use Rattle.stim_parser.specs.Arguments.{arguments_in};
-    ghost use Rattle.stim_parser.specs.Limits.{AreProbabilities};
     ghost use Rattle.stim_parser.specs.Parentheses.{Parentheses};
-    ghost use Rattle.stim_parser.specs.Probabilities.{chance_in};
+    ghost use Rattle.stim_parser.specs.Probabilities.{chance_in, AreProbabilities};
 
     ghost Value = { Parentheses };
 

@@ -3,7 +3,8 @@
 ghost use Rattle.std.specs.Prelude.{◌≡◌, ◌⊎◌, ℕ, List};
 ghost use Rattle.step_model.specs.declared.fault.Fault.{Fault};
 ghost use Rattle.stim_parser.specs.Circuits.{IsCircuit};
-ghost use Rattle.stim_parser.specs.Trees.{Tree, items_of, Writes, IsRefusedBy};
+ghost use Rattle.stim_parser.specs.Trees.{Tree};
+ghost use Rattle.stim_parser.specs.Judged.{items_of, Writes, IsRefusedBy};
 
 /// Each text writes exactly one tree, or is refused by exactly one fault, and never both.
 pub fn texts_are_judged_once()

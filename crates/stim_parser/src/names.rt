@@ -1,6 +1,6 @@
 ghost use Rattle.std.specs.Prelude.{◌≡◌};
-ghost use Rattle.stim_parser.specs.Instructions.{is_among_rows, is_left_out, keyword_named};
-ghost use Rattle.stim_parser.specs.Names.{named_in_rows};
+ghost use Rattle.stim_parser.specs.Instructions.{is_left_out, keyword_named};
+ghost use Rattle.stim_parser.specs.Rows.{named_in_rows, is_among_rows};
 
 use crate::operation::Operation;
 use crate::table::Keyword;

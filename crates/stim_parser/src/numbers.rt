@@ -1,6 +1,7 @@
 ghost use Rattle.std.specs.Prelude.{◌≡◌};
 ghost use Rattle.stim_parser.specs.Limits.{is_decimal};
-ghost use Rattle.stim_parser.specs.Numbers.{is_coordinate_beyond, is_number_beyond, is_qubit_beyond, is_whole_number, magnitude_of, without_minus};
+ghost use Rattle.stim_parser.specs.Numbers.{is_number_beyond, is_qubit_beyond, is_whole_number, magnitude_of, without_minus};
+ghost use Rattle.stim_parser.specs.Coordinates.{is_coordinate_beyond};
 
 use crate::decimal::decimal_of;
 use crate::digits::{is_number, value_of};

@@ -1,6 +1,6 @@
 ghost use Rattle.std.specs.Prelude.{◌≡◌, ◌⊎◌, IfOk, IfErr};
 ghost use Rattle.step_model.specs.Faults.{memory_fault};
-ghost use Rattle.stim_parser.specs.Trees.{Writes, IsRefusedBy};
+ghost use Rattle.stim_parser.specs.Judged.{Writes, IsRefusedBy};
 
 use crate::circuit::Circuit;
 use crate::circuit_judge::CircuitJudge;

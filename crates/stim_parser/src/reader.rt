@@ -2,7 +2,8 @@ ghost use Rattle.std.specs.Prelude.{◌≡◌, ◌<◌, ◌≤◌, ◌+◌, ◌^
 ghost use Rattle.step_model.specs.Faults.{memory_fault};
 ghost use Rattle.stim_lexer.specs.Lexing.{cut_in};
 ghost use Rattle.block_text.specs.Fitting.{LinesFit};
-ghost use Rattle.block_text.specs.Texts.{IsRefusedBy, Writes, items_in};
+ghost use Rattle.block_text.specs.Texts.{items_in};
+ghost use Rattle.block_text.specs.Judged.{IsRefusedBy, Writes};
 ghost use Rattle.block_text.specs.Unfinished.{after_line, cause_in, reading_at};
 ghost use Rattle.chances.specs.Chances.{KeepsChances};
 ghost use Rattle.stim_parser.specs.Judging.{format_of};

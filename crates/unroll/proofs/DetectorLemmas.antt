@@ -6,7 +6,8 @@ use Rattle.stim_parser.specs.declared.operation.Operation.{Operation}
 use Rattle.stim_parser.specs.declared.operation.Operation.TheVariants.{Detects}
 use Rattle.stim_parser.specs.declared.target.Target.{Target}
 use Rattle.stim_parser.specs.declared.target.Target.TheVariants.{Back}
-use Rattle.stim_parser.specs.Trees.{Tree, items_of}
+use Rattle.stim_parser.specs.Trees.{Tree}
+use Rattle.stim_parser.specs.Judged.{items_of}
 use Rattle.stim_parser.specs.Verdicts.{Instruction}
 use Rattle.block_text.specs.declared.blocks.OpenBlock.{OpenBlock}
 use Rattle.unroll.specs.declared.marks.Mark.{Mark}

@@ -9,7 +9,8 @@ use Rattle.step_model.specs.declared.step.Term.{Term}
 use Rattle.programs.specs.Kept.{Kept}
 use Rattle.stim_parser.specs.Circuits.{Fits, IsCircuit}
 use Rattle.stim_parser.specs.Texts.{Item, Does, Begins, Ends}
-use Rattle.stim_parser.specs.Trees.{Tree, items_of}
+use Rattle.stim_parser.specs.Trees.{Tree}
+use Rattle.stim_parser.specs.Judged.{items_of}
 use Rattle.stim_parser.specs.Verdicts.{Instruction}
 use Rattle.unroll.specs.Drafts.{CanWrite, Draft, Writes}
 use Rattle.unroll.specs.Kept.{entries_of, kept_entries, kept_products, products_in}

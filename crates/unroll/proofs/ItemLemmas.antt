@@ -4,7 +4,8 @@ use Rattle.std.specs.Prelude.{slice_get, max}
 use Rattle.std.proofs.lemmas.List.{drop_all}
 use Rattle.stim_parser.specs.Circuits.{AllFit, Fits, IsCircuit}
 use Rattle.stim_parser.specs.Texts.{Item, Does, Begins, Ends}
-use Rattle.stim_parser.specs.Trees.{Tree, Nothing, Then, Block, items_of}
+use Rattle.stim_parser.specs.Trees.{Tree, Nothing, Then, Block}
+use Rattle.stim_parser.specs.Judged.{items_of}
 use Rattle.stim_parser.specs.Verdicts.{Instruction}
 use Rattle.block_text.specs.Reached.{written}
 use Rattle.unroll.specs.Items.{instructions_in, item_qubits, IsSound}

@@ -15,7 +15,8 @@ use Rattle.stim_parser.specs.Circuits.{Fits, IsCircuit}
 use Rattle.stim_parser.specs.Limits.{has_wrong_arguments, has_wrong_probability, is_probability}
 use Rattle.stim_parser.specs.Probabilities.{IsMarked, Keeps, Marks, chance_in, chance_taken, instruction_count}
 use Rattle.stim_parser.specs.Texts.{Item, Does, Begins, Ends}
-use Rattle.stim_parser.specs.Trees.{Tree, items_of}
+use Rattle.stim_parser.specs.Trees.{Tree}
+use Rattle.stim_parser.specs.Judged.{items_of}
 use Rattle.stim_parser.specs.Verdicts.{Instruction, circuit_table}
 use Rattle.stim_parser.proofs.MarkLemmas.{marked_at}
 use Rattle.unroll.specs.Items.{IsSound}

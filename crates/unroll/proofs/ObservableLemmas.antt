@@ -11,7 +11,8 @@ use Rattle.stim_parser.specs.declared.target.Target.{Target}
 use Rattle.stim_parser.specs.Circuits.{AllFit}
 use Rattle.stim_parser.specs.Numbers.{is_number, value_of}
 use Rattle.stim_parser.specs.Texts.{Item, Ends}
-use Rattle.stim_parser.specs.Trees.{Tree, Nothing, Then, Block, items_of}
+use Rattle.stim_parser.specs.Trees.{Tree, Nothing, Then, Block}
+use Rattle.stim_parser.specs.Judged.{items_of}
 use Rattle.stim_parser.specs.Verdicts.{Instruction}
 use Rattle.stim_parser.proofs.NumberArguments.{NamesNumber, names_number}
 use Rattle.unroll.specs.declared.inclusions.Inclusion.{Inclusion}

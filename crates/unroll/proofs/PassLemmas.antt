@@ -5,7 +5,8 @@ use Rattle.block_text.proofs.PassLemmas as passes
 pub use Rattle.block_text.proofs.PassLemmas.{drop_got, passing-first, passing-can, passing-next, passing-done}
 use Rattle.stim_parser.specs.Circuits.{Fits, IsCircuit}
 use Rattle.stim_parser.specs.Texts.{Item}
-use Rattle.stim_parser.specs.Trees.{Tree, items_of}
+use Rattle.stim_parser.specs.Trees.{Tree}
+use Rattle.stim_parser.specs.Judged.{items_of}
 use Rattle.unroll.specs.Passes.{CanStand, Pass}
 
 -- items that stand where they may, with so many blocks open before them and none behind

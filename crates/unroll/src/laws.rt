@@ -2,7 +2,8 @@
 
 ghost use Rattle.std.specs.Prelude.{◌≡◌, ℕ, List, Err};
 ghost use Rattle.step_model.specs.declared.fault.Fault.{Fault};
-ghost use Rattle.stim_parser.specs.Trees.{Tree, Writes, IsRefusedBy};
+ghost use Rattle.stim_parser.specs.Trees.{Tree};
+ghost use Rattle.stim_parser.specs.Judged.{Writes, IsRefusedBy};
 ghost use Rattle.unroll.specs.Programs.{program_in, program_of};
 
 /// A text stands for the program of the tree that it writes; one that writes none is refused as its lines are.

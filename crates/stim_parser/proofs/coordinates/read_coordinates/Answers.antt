@@ -1,6 +1,6 @@
 use Rattle.std.proofs.Common.{◌≡◌, ℕ, ℤ, List, Bor, Some, ap, ◌∙◌}
 use Rattle.stim_parser.specs.Arguments.{arguments_in}
-use Rattle.stim_parser.specs.Limits.{texts_of}
+use Rattle.stim_parser.specs.Rows.{texts_of}
 use Rattle.stim_parser.proofs.CoordinateLemmas.{too_many, all_read, not_all_read}
 use Rattle.stim_parser.proofs.coordinates.read_coordinates.Goals as goal
 

@@ -1,6 +1,6 @@
 use Rattle.std.proofs.Common.{◌≡◌, drop}
 use Rattle.std.specs.Prelude.{max}
-use Rattle.stim_parser.specs.Trees.{items_of}
+use Rattle.stim_parser.specs.Judged.{items_of}
 use Rattle.unroll.specs.Totals.{observable_total}
 use Rattle.unroll.proofs.ObservableLemmas.{named_by}
 use Rattle.unroll.proofs.observables.observable_total.Given as goal
