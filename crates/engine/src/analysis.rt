@@ -48,15 +48,15 @@ fn write_finding<W: Sink, A: Allocator + Copy>(
     program: &Program<'_, A>,
     sink: &mut W,
 ) -> Result<Status, Fault>
-    ensures written { OnOk result (Takes (W.taken sink.old) (W.taken sink.new) (found_in program.now).bytes) }
-    ensures status { IfOk result (λ status. status ≡ (found_in program.now).status) }
+    ensures written { OnOk result (Takes (W.taken sink.old) (W.taken sink.new) (found_in program.now.listing).bytes) }
+    ensures status { IfOk result (λ status. status ≡ (found_in program.now.listing).status) }
     ensures exact { IfOk result (λ status. status ≡ Done →
-        (bytes : List ℕ) × Takes (W.taken sink.old) (W.taken sink.new) bytes × IsExactIn program.now bytes) }
+        (bytes : List ℕ) × Takes (W.taken sink.old) (W.taken sink.new) bytes × IsExactIn program.now.listing bytes) }
     ensures random { IfOk result (λ status. status ≡ Random →
-        (bytes : List ℕ) × Takes (W.taken sink.old) (W.taken sink.new) bytes × IsRandomIn program.now bytes) }
+        (bytes : List ℕ) × Takes (W.taken sink.old) (W.taken sink.new) bytes × IsRandomIn program.now.listing bytes) }
     ensures fault { IfErr result (λ e. (e ≡ memory_fault) ⊎ (e ≡ write_fault)) }
     ensures writes { W.failures sink.new ≡ write_failures result (W.failures sink.old) }
-    ensures beginning { OnErr result (TakesSome (W.taken sink.old) (W.taken sink.new) (found_in program.now).bytes) }
+    ensures beginning { OnErr result (TakesSome (W.taken sink.old) (W.taken sink.new) (found_in program.now.listing).bytes) }
 {
     program.well_formed();
     match analyse_to_text(alloc, program, fresh_words(&alloc, program)?)? {
@@ -77,7 +77,7 @@ fn fresh_words<'s, A: Allocator + Copy>(
     alloc: &'s A,
     program: &Program<'_, A>,
 ) -> Result<QubitSets<'s, A>, Fault>
-    ensures ok { IfOk result (λ words. words ≡ fresh program.now.qubits (length (targets_of program.now))) }
+    ensures ok { IfOk result (λ words. words ≡ fresh program.now.listing.qubits (length (targets_of program.now.listing))) }
     ensures err { IfErr result (λ e. e ≡ memory_fault) }
 {
     match Words::sparse_for(alloc, program) {
@@ -93,7 +93,7 @@ fn random_text<A: Allocator + Copy>(
     target: usize,
     place: Place,
 ) -> Result<Vec<u8, A>, Fault>
-    ensures ok { IfOk result (λ lines. lines.items ≡ output.random_lines program.now target place) }
+    ensures ok { IfOk result (λ lines. lines.items ≡ output.random_lines program.now.listing target place) }
     ensures err { IfErr result (λ e. e ≡ memory_fault) }
 {
     let (first, second) = coin_pair(alloc, program, place)?;

@@ -75,13 +75,13 @@ fn write_samples<W: Sink, A: Allocator + Copy>(
     sink: &mut W,
 ) -> Result<Status, Fault>
     ensures written { OnOk result (Takes (W.taken sink.old) (W.taken sink.new)
-        (refused_or (program_shots record_line shots seed program.now)).bytes) }
+        (refused_or (program_shots record_line shots seed program.now.listing)).bytes) }
     ensures status { IfOk result (λ status.
-        status ≡ (refused_or (program_shots record_line shots seed program.now)).status) }
+        status ≡ (refused_or (program_shots record_line shots seed program.now.listing)).status) }
     ensures fault { IfErr result (λ e. (e ≡ memory_fault) ⊎ (e ≡ write_fault)) }
     ensures writes { W.failures sink.new ≡ write_failures result (W.failures sink.old) }
     ensures beginning { OnErr result (TakesSome (W.taken sink.old) (W.taken sink.new)
-        (refused_or (program_shots record_line shots seed program.now)).bytes) }
+        (refused_or (program_shots record_line shots seed program.now.listing)).bytes) }
 {
     if shots > MOST_SHOTS {
         return refuse(alloc, TOO_MANY, sink);
@@ -99,13 +99,13 @@ fn write_detections<W: Sink, A: Allocator + Copy>(
     sink: &mut W,
 ) -> Result<Status, Fault>
     ensures written { OnOk result (Takes (W.taken sink.old) (W.taken sink.new)
-        (refused_or (program_shots detection_line shots seed program.now)).bytes) }
+        (refused_or (program_shots detection_line shots seed program.now.listing)).bytes) }
     ensures status { IfOk result (λ status.
-        status ≡ (refused_or (program_shots detection_line shots seed program.now)).status) }
+        status ≡ (refused_or (program_shots detection_line shots seed program.now.listing)).status) }
     ensures fault { IfErr result (λ e. (e ≡ memory_fault) ⊎ (e ≡ write_fault)) }
     ensures writes { W.failures sink.new ≡ write_failures result (W.failures sink.old) }
     ensures beginning { OnErr result (TakesSome (W.taken sink.old) (W.taken sink.new)
-        (refused_or (program_shots detection_line shots seed program.now)).bytes) }
+        (refused_or (program_shots detection_line shots seed program.now.listing)).bytes) }
 {
     if shots > MOST_SHOTS {
         return refuse(alloc, TOO_MANY, sink);

@@ -5,6 +5,9 @@ use Rattle.std.specs.Prelude.{ℕ, nat_le, Bool, not, ◌&&◌, if◌then◌else
 use Rattle.std.specs.List.{list_all}
 use Rattle.stim_parser.specs.Numbers.{is_whole_number, number_of, whole_value, greatest_coordinate, magnitude_of}
 
+abbrev pub is_coordinate_beyond : List ℕ → Bool
+is_coordinate_beyond text = nat_lt greatest_coordinate (magnitude_of text)
+
 -- the number that the first argument writes, where it is digits
 abbrev pub first_number : List (List ℕ) → Option ℕ
 first_number arguments = option_and_then number_of (slice_get arguments 0)
@@ -18,6 +21,3 @@ are_coordinates arguments = nat_le (length arguments) 16 && list_all is_coordina
 -- all arguments as coordinates, where they are at most 16 coordinates
 unfoldable pub coordinates_in : List (List ℕ) → Option (List ℤ)
 coordinates_in arguments = if are_coordinates arguments then Some (map whole_value arguments) else None
-
-abbrev pub is_coordinate_beyond : List ℕ → Bool
-is_coordinate_beyond text = nat_lt greatest_coordinate (magnitude_of text)

@@ -81,7 +81,7 @@ static LEFT_OUT_NAMES: [&'static [u8]; 29] = [
 ];
 
 /// What the first row names whose name is the text, in any case.
-#[tactic(auto, unfolding(crate::specs::Names::named_in_rows))]
+#[tactic(auto, unfolding(crate::specs::Rows::named_in_rows))]
 pub fn look_up<K: Copy>(rows: &[(&[u8], K)], text: &[u8]) -> Option<K>
     ensures { result ≡ named_in_rows rows.now text.now }
 {
@@ -91,7 +91,7 @@ pub fn look_up<K: Copy>(rows: &[(&[u8], K)], text: &[u8]) -> Option<K>
 }
 
 /// Whether a name is among rows, in any case.
-#[tactic(auto, unfolding(crate::specs::Instructions::is_among_rows))]
+#[tactic(auto, unfolding(crate::specs::Rows::is_among_rows))]
 fn is_among(rows: &[&[u8]], name: &[u8]) -> bool
     ensures { result ≡ is_among_rows rows.now name.now }
 {

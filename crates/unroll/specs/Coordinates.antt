@@ -2,10 +2,8 @@
 -- with the offset of its axis added. SHIFT_COORDS adds its numbers to the offsets, axis by axis; an axis that no shift
 -- names has the offset 0. Axes that a detector doesn't state are left out.
 -- (Stim's gate reference, github.com/quantumlib/Stim, doc/gates.md, "DETECTOR" and "SHIFT_COORDS".)
-use Rattle.std.specs.Prelude.{ℕ, ℤ, ◌+ℤ◌, List, [], ◌∷◌, ◌++◌, map}
-use Rattle.stim_parser.specs.declared.operation.Operation.{Operation}
-use Rattle.stim_parser.specs.declared.operation.Operation.TheVariants.{Detects, ShiftsCoordinates}
-use Rattle.stim_parser.specs.Numbers.{whole_value}
+use Rattle.std.specs.Prelude.{ℤ, List, [], ◌∷◌, ◌++◌}
+use Rattle.block_text.specs.Reached.{reached}
 use Rattle.stim_parser.specs.Trees.{Tree}
 use Rattle.stim_parser.specs.Verdicts.{Instruction}
 use Rattle.unroll.specs.TargetsMade.{offset_after, operation_coordinates}

@@ -1,11 +1,8 @@
 -- The detectors of a circuit, in the order in which they are reached: each lists the records that it names, as often
 -- and in the order in which it names them. `rec[-k]` is the kth last record at its place. (Stim's gate reference,
 -- github.com/quantumlib/Stim, doc/gates.md, "DETECTOR".)
-use Rattle.std.specs.Prelude.{ℕ, ◌+◌, ◌-◌, List, [], ◌∷◌, ◌++◌, map}
-use Rattle.stim_parser.specs.declared.operation.Operation.{Operation}
-use Rattle.stim_parser.specs.declared.operation.Operation.TheVariants.{Detects}
-use Rattle.stim_parser.specs.declared.target.Target.{Target}
-use Rattle.stim_parser.specs.declared.target.Target.TheVariants.{Back}
+use Rattle.std.specs.Prelude.{ℕ, ◌+◌, List, [], ◌∷◌, ◌++◌}
+use Rattle.block_text.specs.Reached.{reached}
 use Rattle.stim_parser.specs.Trees.{Tree}
 use Rattle.stim_parser.specs.Verdicts.{Instruction}
 use Rattle.unroll.specs.TargetsMade.{operation_detectors}

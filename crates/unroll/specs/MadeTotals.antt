@@ -1,6 +1,6 @@
 -- How many steps and faults a circuit's program has, counted on its tree. (Stim's gate reference,
 -- github.com/quantumlib/Stim, doc/gates.md.)
-use Rattle.std.specs.Prelude.{ℕ, Bool, is_some, slice_get, ◌/◌, ◌==◌, if◌then◌else◌, List}
+use Rattle.std.specs.Prelude.{ℕ, Bool, is_some, slice_get, ◌/◌, ◌==◌, if◌then◌else◌}
 use Rattle.gate_table.specs.Images.{arity_of}
 use Rattle.stim_parser.specs.declared.operation.Operation.{Operation}
 use Rattle.stim_parser.specs.declared.operation.Operation.TheVariants.{Applies, Errs, ErrsTogether}

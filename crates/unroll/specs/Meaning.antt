@@ -1,7 +1,7 @@
 -- The meaning of a circuit: one pass over its instructions as they are reached, each with what came before it. The
 -- program is what they make, appended. Records and faults are numbered from 0 in the order in which they are made,
 -- whatever blocks they stand in. (Stim's circuit format, github.com/quantumlib/Stim, doc/file_format_stim_circuit.md.)
-use Rattle.std.specs.Prelude.{ℕ, ◌+◌, List, [], ◌∷◌, ◌++◌, length, map}
+use Rattle.std.specs.Prelude.{◌+◌, List, [], ◌∷◌, ◌++◌, length, map}
 use Rattle.std.specs.List.{range_with_len}
 use Rattle.block_text.specs.Reached.{reached}
 use Rattle.step_model.specs.Listing.{Listing}

@@ -1,16 +1,13 @@
 -- The observables of a circuit: those from 0 to the highest number that an instruction names, and none where none is
 -- named. Each lists the records that its instructions add to it, in the order in which they are reached.
 -- (Stim's gate reference, github.com/quantumlib/Stim, doc/gates.md, "OBSERVABLE_INCLUDE".)
-use Rattle.std.specs.Prelude.{ℕ, ◌+◌, ◌==◌, max, if◌then◌else◌, List, [], ◌∷◌, ◌++◌, map}
+use Rattle.std.specs.Prelude.{ℕ, ◌+◌, ◌==◌, if◌then◌else◌, List, [], ◌∷◌, ◌++◌, map}
 use Rattle.std.specs.List.{range_with_len}
-use Rattle.stim_parser.specs.declared.operation.Operation.{Operation}
-use Rattle.stim_parser.specs.declared.operation.Operation.TheVariants.{Observes}
-use Rattle.stim_parser.specs.Numbers.{value_of}
 use Rattle.stim_parser.specs.Trees.{Tree}
 use Rattle.stim_parser.specs.Verdicts.{Instruction}
-use Rattle.block_text.specs.Reached.{written, reached}
+use Rattle.block_text.specs.Reached.{reached}
 use Rattle.unroll.specs.TargetsMade.{records_named}
-use Rattle.unroll.specs.Totals.{record_count, first_argument}
+use Rattle.unroll.specs.Totals.{observable_total, observables_to, record_count}
 
 -- what an instruction adds to the observable k after this many records
 abbrev pub instruction_adds : ℕ → ℕ → Instruction → List ℕ

@@ -13,7 +13,7 @@ use Rattle.gate_table.specs.Images.{arity_of}
 use Rattle.pauli_word.specs.declared.letter.Letter.{Letter}
 use Rattle.pauli_word.specs.declared.letter.Letter.TheVariants as letter
 use Rattle.pauli_word.specs.Words.{lone_letter}
-use Rattle.step_model.specs.Listing.{ListedStep, One, Two, Collapse, Fault, Feedback, Measured, Word, Reset, Recorded, word_of_terms}
+use Rattle.step_model.specs.Listing.{ListedStep, One, Two, Collapse, Fault, Feedback, Measured, Word, Reset, word_of_terms}
 use Rattle.stim_parser.specs.declared.operation.Operation.{Operation}
 use Rattle.stim_parser.specs.declared.operation.Operation.TheVariants.{Applies, Measures, Resets, MeasuresAndResets, MeasuresProducts, Errs, ErrsTogether}
 use Rattle.stim_parser.specs.declared.target.Target.{Target}

@@ -1,13 +1,13 @@
 -- What the targets of an instruction name: qubits, letters at qubits, and products, which are factors joined by stars.
 -- (Stim's circuit format, github.com/quantumlib/Stim, doc/file_format_stim_circuit.md, "Target Types".)
-use Rattle.std.specs.Prelude.{ℕ, Bool, false, List, [], ◌∷◌}
+use Rattle.std.specs.Prelude.{ℕ, Bool, true, false, List, [], ◌∷◌}
 use Rattle.std.specs.List.{onto_first}
 use Rattle.pauli_word.specs.declared.letter.Letter.{Letter}
 use Rattle.pauli_word.specs.declared.letter.Letter.TheVariants as letter
 use Rattle.pauli_word.specs.Parity.{exclusive_or}
 use Rattle.step_model.specs.declared.step.Term.{Term}
 use Rattle.stim_parser.specs.declared.target.Target.{Target}
-use Rattle.stim_parser.specs.declared.target.Target.TheVariants.{Plain, Inverted, Back, Pauli, Star}
+use Rattle.stim_parser.specs.declared.target.Target.TheVariants.{Plain, Inverted, Pauli, Star}
 
 -- the qubit that a target names
 abbrev pub qubit_of : Target → ℕ

@@ -59,7 +59,7 @@ pub(super) fn identity_of<'m>(
     memory: Memory<'m>,
     program: &Program<'_, Memory<'m>>,
 ) -> Result<Word<Memory<'m>>, AllocError>
-    ensures { IfOk result (λ word. length word.letters ≡ program.now.qubits) }
+    ensures { IfOk result (λ word. length word.letters ≡ program.now.listing.qubits) }
 {
     Word::identity(memory, program.qubits() as usize)
 }

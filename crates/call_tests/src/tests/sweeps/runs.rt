@@ -68,7 +68,7 @@ fn nothing_is_detected<'m>(
     program: &Program<'_, Memory<'m>>,
     records: &Records<Memory<'m>>,
 ) -> Result<bool, Fault>
-    requires { length records.now ≡ program.now.records }
+    requires { length records.now ≡ program.now.listing.records }
 {
     let answers = detections(memory, program, records, records)?;
     Ok(are_false(answers.as_slice(), 4))

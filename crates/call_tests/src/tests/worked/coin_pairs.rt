@@ -42,7 +42,7 @@ fn lone(
     program: &Program<'_, Global>,
     letter: Letter,
 ) -> Result<Word<Global>, AllocError>
-    ensures { IfOk result (λ word. length word.letters ≡ program.now.qubits) }
+    ensures { IfOk result (λ word. length word.letters ≡ program.now.listing.qubits) }
 {
     let mut word = Word::identity(alloc, program.qubits() as usize)?;
     if 0 < program.qubits() {
@@ -58,7 +58,7 @@ fn word_has_flips(
     word: &Word<Global>,
     row: &FlipRow,
 ) -> Result<bool, Fail>
-    requires { length word.now.letters ≡ program.now.qubits }
+    requires { length word.now.letters ≡ program.now.listing.qubits }
 {
     let flips = flips(alloc, program, row.place, word)?;
     Ok(flips.as_slice() == row.flips)

@@ -10,5 +10,5 @@ pub returns-in-Ok-clause-beginning : goal.returns-in-Ok-clause-beginning
 returns-in-Ok-clause-beginning g c =
     subst
     (λ output. OnErr c.write_samples.result (TakesSome (g.W.Sink.taken c.args.sink.now) (g.W.Sink.taken c.write_samples.new.sink) (refused_or output).bytes))
-    (sym (shots_of_text record_line c.args.shots c.args.seed c.args.text.now c.in-Ok.program c.in-Ok.ensures.ok))
+    (sym (shots_of_text record_line c.args.shots c.args.seed c.args.text.now c.in-Ok.program.listing c.in-Ok.ensures.ok))
     c.write_samples.ensures.beginning

@@ -27,7 +27,7 @@ fn records_of(
     faults: &[bool],
     coins: &[bool],
 ) -> Result<Records<Global>, Fault>
-    ensures { IfOk result (λ records. length records ≡ program.now.records) }
+    ensures { IfOk result (λ records. length records ≡ program.now.listing.records) }
 {
     run(alloc, program, faults, coins)
 }

@@ -145,7 +145,7 @@ fn records_of(
     program: &Program<'_, Global>,
     given: (&[bool], &[bool]),
 ) -> Result<Records<Global>, Fault>
-    ensures { IfOk result (λ records. length records ≡ program.now.records) }
+    ensures { IfOk result (λ records. length records ≡ program.now.listing.records) }
 {
     run(alloc, program, given.0, given.1)
 }
@@ -165,7 +165,7 @@ fn line_of_detections(
     program: &Program<'_, Global>,
     records: &Records<Global>,
 ) -> Result<Page, Fault>
-    requires { length records.now ≡ program.now.records }
+    requires { length records.now ≡ program.now.listing.records }
 {
     let reference = records_of(alloc, program, (&[], &[]))?;
     let differ = detections(alloc, program, records, &reference)?;
