@@ -1,5 +1,5 @@
 -- The coin pair of a place gives its target different parities, so the target is random.
-use Rattle.std.proofs.Common.{◌≡◌, ◌≢◌, ℕ, ◌<◌, refl, inl, inr, not, Bool, true, false, List, [], length, get_or, replicate, Option, None, Some, ap, sym, ◌∙◌, subst}
+use Rattle.std.proofs.Common.{◌≡◌, ◌≢◌, ℕ, ◌<◌, refl, inl, inr, not, Bool, true, false, List, [], length, replicate, Option, None, Some, ap, sym, ◌∙◌, subst}
 use Rattle.std.proofs.lemmas.List.{length-replicate}
 use Rattle.std.specs.Option.{option_map}
 use Rattle.pauli_word.specs.declared.letter.Letter.TheVariants.{Z}
@@ -17,7 +17,7 @@ use Rattle.step_model.specs.Targets.{target_at}
 use Rattle.step_model.specs.WellFormed.{IsWellFormed}
 use Rattle.pauli_word.proofs.Groups.{IsGroup-start}
 use Rattle.run_laws.proofs.ConstancyRuns.{length-sensitivity, parity_is_constant}
-use Rattle.run_laws.proofs.PairPlaces.{option_either, place_inside, length-flips_from, length-flips_after, lowest-clash}
+use Rattle.run_laws.proofs.PairPlaces.{option_either, length-flips_from, length-flips_after, lowest-clash}
 use Rattle.run_laws.proofs.PairRuns.{frame_disagrees, place_disagrees}
 use Rattle.run_laws.proofs.PairStates.{start-shifted, lone_letter-I_or_Z}
 use Rattle.run_laws.proofs.ShiftLists.{joined-zeros}
