@@ -4,10 +4,10 @@
 -- without faults under the second: the detectors and observables that differ are the exclusive or of those faults'
 -- targets in the model. So no target is random. Where its status is Random, the bytes name a random target and two coin
 -- lists under which the runs without faults differ in that target; no lower target is random, detectors being lower
--- than observables. (A coin is the outcome of a collapse, the projective measurement inside a measurement or a reset,
+-- than observables. So a text that stands for a program is answered Random exactly where some target is random. (A coin is the outcome of a collapse, the projective measurement inside a measurement or a reset,
 -- where that outcome is random.) (Detectors, observables and their error models are Stim's, github.com/quantumlib/Stim;
 -- the promise is this project's own.)
-use Rattle.std.specs.Prelude.{◌≡◌, ◌≢◌, ◌<◌, ◌∷◌, ◌++◌, ℕ, Bool, List, length, codes, Ok}
+use Rattle.std.specs.Prelude.{◌≡◌, ◌≢◌, ◌↔◌, ◌<◌, ◌∷◌, ◌++◌, ℕ, Bool, List, length, codes, Ok}
 use Rattle.step_model.specs.ErrorModels.{ErrorModel, Fits, IsExact}
 use Rattle.step_model.specs.Listing.{Listing}
 use Rattle.step_model.specs.Targets.{targets_of, noiseless_parity, AreCoins, IsRandom}
@@ -15,6 +15,8 @@ use Rattle.dem_text.specs.ModelText.{model_text, target_text}
 use Rattle.dem_parser.specs.Models.{model_in}
 use Rattle.unroll.specs.Programs.{program_in}
 use Rattle.sampling.specs.Lines.{line_of}
+use Rattle.engine.specs.declared.order.Status.{Status}
+use Rattle.engine.specs.declared.order.Status.TheVariants.{Random}
 
 -- the bytes are the text of a model of the program that is exact, and read as that model
 pub record IsExactIn (program : Listing) (bytes : List ℕ) : Type 0 where
@@ -48,3 +50,11 @@ pub record IsRandomFor (text bytes : List ℕ) : Type 0 where
   pub program : Listing
   pub stands_for : program_in text ≡ Ok program
   pub random : IsRandomIn program bytes
+
+-- some target of a program is random
+abbrev pub HasRandomTarget : Listing → Type 0
+HasRandomTarget program = (d : ℕ) × (d < length (targets_of program)) × IsRandom program d
+
+-- an analysis of a text that stands for a program is answered Random exactly where some target of the program is random
+abbrev pub IsDecided : List ℕ → Status → Type 0
+IsDecided text status = (program : Listing) → program_in text ≡ Ok program → (status ≡ Random) ↔ HasRandomTarget program

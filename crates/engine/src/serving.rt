@@ -4,7 +4,7 @@ ghost use Rattle.step_model.specs.Ends.{HandsOutSome, IsAtEnd, Takes, TakesSome,
 ghost use Rattle.step_model.specs.Faults.{memory_fault, read_fault, write_fault};
 ghost use Rattle.engine.specs.declared.order.Order.TheVariants.{Analyze};
 ghost use Rattle.engine.specs.declared.order.Status.TheVariants.{Done, Random};
-ghost use Rattle.engine.specs.Headline.{IsExactFor, IsRandomFor};
+ghost use Rattle.engine.specs.Headline.{IsDecided, IsExactFor, IsRandomFor};
 ghost use Rattle.engine.specs.Output.{output_of};
 
 use crate::analysis::answer_analysis;
@@ -38,6 +38,9 @@ pub fn serve<R: Source, W: Sink, A: Allocator + Copy>(
     // Its second half: a target that an analysis names as random differs under the two coin lists that it gives.
     ensures random { IfOk result (λ status. order.now ≡ Analyze → status ≡ Random → IfSome (R.left source.old) (λ text.
         (bytes : List ℕ) × Takes (W.taken sink.old) (W.taken sink.new) bytes × IsRandomFor text bytes)) }
+
+    // Which half it is: a text that stands for a program is answered Random exactly where some target is random.
+    ensures decided { IfOk result (λ status. order.now ≡ Analyze → IfSome (R.left source.old) (λ text. IsDecided text status)) }
 
     // The source failed, the sink failed, or there was no memory: a count goes up exactly where its source or sink failed.
     ensures fault { IfErr result (λ e. (e ≡ memory_fault) ⊎ (e ≡ read_fault) ⊎ (e ≡ write_fault)) }
