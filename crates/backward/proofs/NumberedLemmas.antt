@@ -5,8 +5,7 @@ use Rattle.std.proofs.lemmas.List.{get_or_append_left}
 use Rattle.std.proofs.lemmas.List.Elements.{All-get_or}
 use Rattle.std.proofs.lemmas.Grind.{get_or_default_zero}
 use Rattle.std.proofs.Math.Seq.{get_or-append_seam}
-use Rattle.step_model.specs.Listing.{Listing}
-use Rattle.programs.specs.Kept.{kept_at}
+use Rattle.programs.specs.Kept.{KeptProgram, kept_at}
 use Rattle.programs.specs.declared.entries.ChanceTable.{ChanceTable}
 use Rattle.chances.specs.declared.table.ChanceText.{ChanceText}
 use Rattle.dem_text.specs.ErrorLines.{text_at, KeepsTexts}
@@ -43,7 +42,7 @@ part_at (part ∷ parts) zero h = part
 part_at (part ∷ parts) (suc k) h = part_at parts k (omega (arith, h))
 
 -- the number of an entry's text
-pub number_of_entry : (program : Listing) (table : ChanceTable) (numbers : List ℕ) (held : Held) (e n : ℕ) → IsTextFor program table numbers held → e < length program.kept
+pub number_of_entry : (program : KeptProgram) (table : ChanceTable) (numbers : List ℕ) (held : Held) (e n : ℕ) → IsTextFor program table numbers held → e < length program.kept
     → n ≡ get_or numbers (get_or table.numbers.now e 0) n → (n < length held.texts) × (text_at held.texts n ≡ (kept_at program e).text)
 number_of_entry program table numbers held e n fits there is =
     let parts = table.parts.now in
@@ -56,7 +55,7 @@ number_of_entry program table numbers held e n fits there is =
     (subst (λ m. m < length held.texts) same named.0, subst (λ m. text_at held.texts m ≡ (kept_at program e).text) same (named.1 ∙ fits.tells.text e 0 other there))
 
 -- the same for a text with the same tables
-pub still_fits : (program : Listing) (table : ChanceTable) (numbers : List ℕ) (old new : Held) → IsTextFor program table numbers old → new.detectors ≡ old.detectors → new.targets ≡ old.targets → new.texts ≡ old.texts
+pub still_fits : (program : KeptProgram) (table : ChanceTable) (numbers : List ℕ) (old new : Held) → IsTextFor program table numbers old → new.detectors ≡ old.detectors → new.targets ≡ old.targets → new.texts ≡ old.texts
     → IsTextFor program table numbers new
 still_fits program table numbers old new fits detectors targets texts =
     record {

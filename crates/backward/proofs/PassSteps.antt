@@ -11,8 +11,8 @@ use Rattle.pauli_word.specs.Words.{anticommute, no_letters, lone_letter}
 use Rattle.pauli_word.proofs.WordLaws.{anticommute_of_none}
 use Rattle.step_model.specs.declared.step.Term.{Term}
 use Rattle.step_model.specs.ErrorModels.{ErrorLine}
-use Rattle.step_model.specs.Listing.{Listing, ListedStep, One, Two, Collapse, Fault, Feedback, Measured, Word, Recorded, Effect, Applies, Flips, word_of_terms, effect_word, fault_word, fault_at, no_effect, is_collapse}
-use Rattle.programs.specs.Kept.{effect_terms, kept_at}
+use Rattle.step_model.specs.Listing.{Listing, ListedStep, One, Two, Collapse, Fault, Feedback, Measured, Word, Recorded, word_of_terms, fault_at, is_collapse}
+use Rattle.programs.specs.Kept.{KeptProgram, IsWellKept, kept_at}
 use Rattle.step_model.specs.Sensitivities.{collapse_word, latest_place, later_or_here}
 use Rattle.step_model.specs.Targets.{targets_of, target_at}
 use Rattle.step_model.specs.WellFormed.{IsWellFormed, step_fits, collapse_count}
@@ -20,6 +20,7 @@ use Rattle.programs.specs.declared.step.FaultName.{FaultName}
 use Rattle.programs.specs.declared.step.Step.{Step}
 use Rattle.programs.specs.Listed.{listed, measured, recorded}
 use Rattle.programs.specs.Named.{IsNamed, IsNamedFlip, IsRecord, IsStepOf}
+use Rattle.programs.proofs.NamedFaults.{named_fault}
 use Rattle.backward.specs.Collapses.{IsOfSize, undone_collapse, members_at, noted, toggled_each}
 use Rattle.backward.specs.Passes.{sensitivity_before, listing_sets, line_for, with_line, with_flip, line_at, lines_found, latest_before, IsPassed, HeldOrNoted, IsPassedWith}
 use Rattle.backward.specs.Tracked.{Tracked, each_word, undone_one, undone_two, anticommuting}
@@ -94,114 +95,99 @@ latest_before-other program left step steps other word =
     (sym (ap (λ w. anticommute w (sensitivity_before program steps d).word) word ∙ anticommute_of_none program.qubits (sensitivity_before program steps d).word))))
     (range_with_len 0 (length (targets_of program)))
 
-module _ (program : Listing) (steps : List ListedStep) (t : Tracked) (sets : List (List Bool)) (lines : List ErrorLine) (places : List (Option ℕ)) (left : ℕ) (h : IsPassed program steps t sets lines places left) where
-  pub passed-one : (gate : Gate) (q : ℕ) (after : Tracked) → after ≡ each_word (undone_one gate q) t → IsPassed program (One gate q ∷ steps) after sets lines places left
+module _ (program : KeptProgram) (steps : List ListedStep) (t : Tracked) (sets : List (List Bool)) (lines : List ErrorLine) (places : List (Option ℕ)) (left : ℕ) (h : IsPassed program.listing steps t sets lines places left) where
+  pub passed-one : (gate : Gate) (q : ℕ) (after : Tracked) → after ≡ each_word (undone_one gate q) t → IsPassed program.listing (One gate q ∷ steps) after sets lines places left
   passed-one gate q after e =
       record {
-        words = e ∙ (ap (each_word (undone_one gate q)) h.words ∙ tracked_before-one program gate q steps);
+        words = e ∙ (ap (each_word (undone_one gate q)) h.words ∙ tracked_before-one program.listing gate q steps);
         sets = h.sets;
-        lines = h.lines ∙ sym (append-nil (lines_found program steps));
-        latest = h.latest ∙ latest_before-other program left (One gate q) steps refl refl;
+        lines = h.lines ∙ sym (append-nil (lines_found program.listing steps));
+        latest = h.latest ∙ latest_before-other program.listing left (One gate q) steps refl refl;
         counted = omega (arith, h.counted);
       }
 
-  pub passed-two : (gate : Gate) (a b : ℕ) (after : Tracked) → after ≡ each_word (undone_two gate a b) t → IsPassed program (Two gate a b ∷ steps) after sets lines places left
+  pub passed-two : (gate : Gate) (a b : ℕ) (after : Tracked) → after ≡ each_word (undone_two gate a b) t → IsPassed program.listing (Two gate a b ∷ steps) after sets lines places left
   passed-two gate a b after e =
       record {
-        words = e ∙ (ap (each_word (undone_two gate a b)) h.words ∙ tracked_before-two program gate a b steps);
+        words = e ∙ (ap (each_word (undone_two gate a b)) h.words ∙ tracked_before-two program.listing gate a b steps);
         sets = h.sets;
-        lines = h.lines ∙ sym (append-nil (lines_found program steps));
-        latest = h.latest ∙ latest_before-other program left (Two gate a b) steps refl refl;
+        lines = h.lines ∙ sym (append-nil (lines_found program.listing steps));
+        latest = h.latest ∙ latest_before-other program.listing left (Two gate a b) steps refl refl;
         counted = omega (arith, h.counted);
       }
 
-  -- the text of a fault is that of its entry, and so are the letters that it applies
-  text_of_name : IsWellFormed program → (name : FaultName) → IsNamed program name → (kept_at program name.entry).text ≡ (fault_at program name.number).text
-  text_of_name fits name named =
-      let kept = fits.faults_kept name.number no_effect named.number in
-      ap (λ e. (kept_at program e).text) (sym named.of_entry) ∙ sym kept.text
-
-  word_of_name : IsWellFormed program → (name : FaultName) → IsNamed program name → word_of_terms program.qubits (kept_at program name.entry).terms ≡ fault_word program name.number
-  word_of_name fits name named =
-      let kept = fits.faults_kept name.number no_effect named.number in
-      ap (λ e. word_of_terms program.qubits (kept_at program e).terms) (sym named.of_entry) ∙ (ap (word_of_terms program.qubits) kept.terms ∙ same (fault_at program name.number).effect)
-    where
-      same : (e : Effect) → word_of_terms program.qubits (effect_terms e) ≡ effect_word program.qubits e
-      same (Applies terms) = refl
-      same (Flips r) = refl
-
-  pub passed-fault : IsWellFormed program → (name : FaultName) (after : Tracked) (now : List (List Bool)) (made old : List ErrorLine) (noted_now : List (Option ℕ)) (left_now : ℕ) → IsNamed program name → old ≡ lines
+  pub passed-fault : IsWellKept program → (name : FaultName) (after : Tracked) (now : List (List Bool)) (made old : List ErrorLine) (noted_now : List (Option ℕ)) (left_now : ℕ) → IsNamed program name → old ≡ lines
       → after ≡ t → now ≡ sets → made ≡ with_line (kept_at program name.entry).text (anticommuting (kept_at program name.entry).terms t) old → noted_now ≡ places → left_now ≡ left
-      → IsPassed program (Fault name.number ∷ steps) after now made noted_now left_now
-  passed-fault fits name after now made old noted_now left_now named is e s m n l =
+      → IsPassed program.listing (Fault name.number ∷ steps) after now made noted_now left_now
+  passed-fault kept name after now made old noted_now left_now named is e s m n l =
       record {
         words = e ∙ h.words;
         sets = s ∙ h.sets;
         lines =
             m
-            ∙ (ap₂ (λ (found : List ErrorLine) text. found ++ line_for text (anticommuting (kept_at program name.entry).terms t)) (is ∙ h.lines) (text_of_name fits name named)
-            ∙ (ap (λ hit. lines_found program steps ++ line_for (fault_at program name.number).text hit)
-            (ap (anticommuting (kept_at program name.entry).terms) h.words ∙ hit_at-fault program name.number (kept_at program name.entry).terms steps (word_of_name fits name named))
-            ∙ ap (λ l. lines_found program steps ++ l) (sym (append-nil (line_at program (Fault name.number) steps name.number)))));
-        latest = n ∙ (h.latest ∙ (latest_before-other program left (Fault name.number) steps refl refl ∙ ap (λ k. latest_before program k (Fault name.number ∷ steps)) (sym l)));
+            ∙ (ap₂ (λ (found : List ErrorLine) text. found ++ line_for text (anticommuting (kept_at program name.entry).terms t)) (is ∙ h.lines) (sym named.text)
+            ∙ (ap (λ hit. lines_found program.listing steps ++ line_for (fault_at program.listing name.number).text hit)
+            (ap (anticommuting (kept_at program name.entry).terms) h.words ∙ hit_at-fault program.listing name.number (kept_at program name.entry).terms steps (sym (named_fault program name kept named).word))
+            ∙ ap (λ l. lines_found program.listing steps ++ l) (sym (append-nil (line_at program.listing (Fault name.number) steps name.number)))));
+        latest = n ∙ (h.latest ∙ (latest_before-other program.listing left (Fault name.number) steps refl refl ∙ ap (λ k. latest_before program.listing k (Fault name.number ∷ steps)) (sym l)));
         counted = omega (arith, h.counted, l);
       }
 
   -- the line of a recorded flip
-  flip_lines : IsWellFormed program → (c : Measured) (rec : Option ℕ) (inverted : Bool) (flip : Option FaultName) (old : List ErrorLine) → IsRecord program rec → IsNamedFlip program flip → old ≡ lines
-      → with_flip program flip (members_at sets rec) old ≡ lines_found program (Collapse c (recorded rec inverted flip) ∷ steps)
-  flip_lines fits c None inverted None old within named is = is ∙ (h.lines ∙ sym (append-nil (lines_found program steps)))
-  flip_lines fits c None inverted (Some name) old within named is = ap (λ (l : List ErrorLine). l ++ []) (is ∙ h.lines)
-  flip_lines fits c (Some r) inverted None old within named is = is ∙ (h.lines ∙ sym (append-nil (lines_found program steps)))
-  flip_lines fits c (Some r) inverted (Some name) old within named is =
+  flip_lines : (c : Measured) (rec : Option ℕ) (inverted : Bool) (flip : Option FaultName) (old : List ErrorLine) → IsRecord program rec → IsNamedFlip program flip → old ≡ lines
+      → with_flip program flip (members_at sets rec) old ≡ lines_found program.listing (Collapse c (recorded rec inverted flip) ∷ steps)
+  flip_lines c None inverted None old within named is = is ∙ (h.lines ∙ sym (append-nil (lines_found program.listing steps)))
+  flip_lines c None inverted (Some name) old within named is = ap (λ (l : List ErrorLine). l ++ []) (is ∙ h.lines)
+  flip_lines c (Some r) inverted None old within named is = is ∙ (h.lines ∙ sym (append-nil (lines_found program.listing steps)))
+  flip_lines c (Some r) inverted (Some name) old within named is =
       let record_is : Recorded = record { number = r; inverted = inverted; flip = Some name.number } in
-      ap₂ (λ (found : List ErrorLine) text. found ++ line_for text (members_at sets (Some r))) (is ∙ h.lines) (text_of_name fits name named)
-      ∙ (ap (λ hit. lines_found program steps ++ line_for (fault_at program name.number).text hit) (ap (λ s. members_at s (Some r)) h.sets ∙ hit_at-collapse program c record_is steps name.number refl within)
-      ∙ ap (λ l. lines_found program steps ++ l) (sym (append-nil (line_at program (Collapse c (Some record_is)) steps name.number))))
+      ap₂ (λ (found : List ErrorLine) text. found ++ line_for text (members_at sets (Some r))) (is ∙ h.lines) (sym named.text)
+      ∙ (ap (λ hit. lines_found program.listing steps ++ line_for (fault_at program.listing name.number).text hit) (ap (λ s. members_at s (Some r)) h.sets ∙ hit_at-collapse program.listing c record_is steps name.number refl within)
+      ∙ ap (λ l. lines_found program.listing steps ++ l) (sym (append-nil (line_at program.listing (Collapse c (Some record_is)) steps name.number))))
 
   number_is : (rec : Option ℕ) (inverted : Bool) (flip : Option FaultName) → recorded_number (recorded rec inverted flip) ≡ rec
   number_is None inverted flip = refl
   number_is (Some r) inverted flip = refl
 
-  record_within : (rec : Option ℕ) → IsRecord program rec → (n : ℕ) → rec ≡ Some n → n < program.records
+  record_within : (rec : Option ℕ) → IsRecord program rec → (n : ℕ) → rec ≡ Some n → n < program.listing.records
   record_within None within n e = cc
   record_within (Some r) within n e = let same : r ≡ n = cc in omega (arith, within, same)
 
-  pub passed-collapse : IsWellFormed program → AllPass (step_fits program) steps → (terms : List Term) (reset rec : Option ℕ) (inverted : Bool) (flip : Option FaultName) (c : Measured)
+  pub passed-collapse : AllPass (step_fits program.listing) steps → (terms : List Term) (reset rec : Option ℕ) (inverted : Bool) (flip : Option FaultName) (c : Measured)
       (after : Tracked) (now : List (List Bool)) (made old : List ErrorLine) (noted_now : List (Option ℕ)) (left_now : ℕ)
-      → IsMeasured program.qubits terms reset c → IsRecord program rec → IsNamedFlip program flip → 0 < left → old ≡ lines
+      → IsMeasured program.listing.qubits terms reset c → IsRecord program rec → IsNamedFlip program flip → 0 < left → old ≡ lines
       → after ≡ undone_collapse (members_at sets rec) terms reset t → now ≡ sets → made ≡ with_flip program flip (members_at sets rec) old → noted_now ≡ noted (left - 1) (anticommuting terms t) places → left_now ≡ left - 1
-      → IsPassed program (Collapse c (recorded rec inverted flip) ∷ steps) after now made noted_now left_now
-  passed-collapse fits fit terms reset rec inverted flip c after now made old noted_now left_now is within named some before e s m n l =
+      → IsPassed program.listing (Collapse c (recorded rec inverted flip) ∷ steps) after now made noted_now left_now
+  passed-collapse fits terms reset rec inverted flip c after now made old noted_now left_now is within named some before e s m n l =
       let next : left ≡ left - 1 + 1 = omega (arith, some) in
       record {
         words =
             e ∙ (ap₂ (λ record_sets words. undone_collapse (members_at record_sets rec) terms reset words) h.sets h.words
-            ∙ tracked_before-collapse program c (recorded rec inverted flip) steps terms reset rec is (number_is rec inverted flip) (record_within rec within) fit);
+            ∙ tracked_before-collapse program.listing c (recorded rec inverted flip) steps terms reset rec is (number_is rec inverted flip) (record_within rec within) fits);
         sets = s ∙ h.sets;
-        lines = m ∙ flip_lines fits c rec inverted flip old within named before;
+        lines = m ∙ flip_lines c rec inverted flip old within named before;
         latest =
-            n ∙ (ap₂ (λ words known. noted (left - 1) (anticommuting terms words) known) h.words (h.latest ∙ ap (λ k. latest_before program k steps) next)
-            ∙ (latest_before-collapse program (left - 1) terms c (recorded rec inverted flip) steps is.word_is
-            ∙ ap (λ k. latest_before program k (Collapse c (recorded rec inverted flip) ∷ steps)) (sym l)));
+            n ∙ (ap₂ (λ words known. noted (left - 1) (anticommuting terms words) known) h.words (h.latest ∙ ap (λ k. latest_before program.listing k steps) next)
+            ∙ (latest_before-collapse program.listing (left - 1) terms c (recorded rec inverted flip) steps is.word_is
+            ∙ ap (λ k. latest_before program.listing k (Collapse c (recorded rec inverted flip) ∷ steps)) (sym l)));
         counted = omega (arith, h.counted, l, some);
       }
 
-  pub passed-feedback : (letter : Letter) (q r : ℕ) (after : Tracked) (now : List (List Bool)) (made old : List ErrorLine) (noted_now : List (Option ℕ)) (left_now : ℕ) → r < program.records → old ≡ lines
+  pub passed-feedback : (letter : Letter) (q r : ℕ) (after : Tracked) (now : List (List Bool)) (made old : List ErrorLine) (noted_now : List (Option ℕ)) (left_now : ℕ) → r < program.listing.records → old ≡ lines
       → after ≡ t → now ≡ set sets r (toggled_each (anticommuting (record { qubit = q; letter = letter } ∷ []) t) (get_or sets r [])) → made ≡ old → noted_now ≡ places → left_now ≡ left
-      → IsPassed program (Feedback (lone_letter program.qubits q letter) r ∷ steps) after now made noted_now left_now
+      → IsPassed program.listing (Feedback (lone_letter program.listing.qubits q letter) r ∷ steps) after now made noted_now left_now
   passed-feedback letter q r after now made old noted_now left_now within before e s m n l =
       let term : Term = record { qubit = q; letter = letter } in
-      let w : List Letter = lone_letter program.qubits q letter in
+      let w : List Letter = lone_letter program.listing.qubits q letter in
       record {
         words = e ∙ h.words;
         sets =
             s ∙ (ap₂ (λ words (record_sets : List (List Bool)). set record_sets r (toggled_each (anticommuting (term ∷ []) words) (get_or record_sets r []))) h.words h.sets
-            ∙ (ap (λ hit. set (listing_sets program steps) r (toggled_each hit (get_or (listing_sets program steps) r [])))
-            (anticommuting-before program (term ∷ []) steps ∙ ap (λ v. filter (λ d. anticommute (sensitivity_before program steps d).word v) (range_with_len 0 (length (targets_of program)))) (word_of_one_term program.qubits term))
-            ∙ listing_sets-feedback program w r steps within));
-        lines = m ∙ (before ∙ (h.lines ∙ sym (append-nil (lines_found program steps))));
-        latest = n ∙ (h.latest ∙ (latest_before-other program left (Feedback w r) steps refl refl ∙ ap (λ k. latest_before program k (Feedback w r ∷ steps)) (sym l)));
+            ∙ (ap (λ hit. set (listing_sets program.listing steps) r (toggled_each hit (get_or (listing_sets program.listing steps) r [])))
+            (anticommuting-before program.listing (term ∷ []) steps ∙ ap (λ v. filter (λ d. anticommute (sensitivity_before program.listing steps d).word v) (range_with_len 0 (length (targets_of program.listing)))) (word_of_one_term program.listing.qubits term))
+            ∙ listing_sets-feedback program.listing w r steps within));
+        lines = m ∙ (before ∙ (h.lines ∙ sym (append-nil (lines_found program.listing steps))));
+        latest = n ∙ (h.latest ∙ (latest_before-other program.listing left (Feedback w r) steps refl refl ∙ ap (λ k. latest_before program.listing k (Feedback w r ∷ steps)) (sym l)));
         counted = omega (arith, h.counted, l);
       }
 
@@ -218,24 +204,24 @@ reset_within n q true o e h = subst (λ (o : Option ℕ). IfSome o (λ k. k < n)
 reset_within n q false o e h = subst (λ (o : Option ℕ). IfSome o (λ k. k < n)) (sym e) tt
 
 -- ---- a step of a walk
-pub walk_step : (walked program : Listing) (place : ℕ) (result : Option Step) (step : Step) → walked ≡ program → result ≡ Some step
-    → option_map (listed walked.qubits walked.products) result ≡ (if place == 0 then None else slice_get walked.steps (place - 1))
-    → IsBefore program.steps place (listed program.qubits program.products step)
+pub walk_step : (walked program : KeptProgram) (place : ℕ) (result : Option Step) (step : Step) → walked ≡ program → result ≡ Some step
+    → option_map (listed walked.listing.qubits walked.products) result ≡ (if place == 0 then None else slice_get walked.listing.steps (place - 1))
+    → IsBefore program.listing.steps place (listed program.listing.qubits program.products step)
 walk_step walked program place result step same is e =
-    stepped program.steps place (listed program.qubits program.products step)
-    (ap (option_map (listed program.qubits program.products)) (sym is)
-    ∙ subst (λ (w : Listing). option_map (listed w.qubits w.products) result ≡ (if place == 0 then None else slice_get w.steps (place - 1))) same e)
+    stepped program.listing.steps place (listed program.listing.qubits program.products step)
+    (ap (option_map (listed program.listing.qubits program.products)) (sym is)
+    ∙ subst (λ (w : KeptProgram). option_map (listed w.listing.qubits w.products) result ≡ (if place == 0 then None else slice_get w.listing.steps (place - 1))) same e)
 
-pub walk_named : (walked program : Listing) (result : Option Step) (step : Step) → walked ≡ program → result ≡ Some step → IfSome result (IsStepOf walked) → IsStepOf program step
+pub walk_named : (walked program : KeptProgram) (result : Option Step) (step : Step) → walked ≡ program → result ≡ Some step → IfSome result (IsStepOf walked) → IsStepOf program step
 walk_named walked program result step same is e =
-    subst (λ (o : Option Step). IfSome o (IsStepOf program)) is (subst (λ (w : Listing). IfSome result (IsStepOf w)) same e)
+    subst (λ (o : Option Step). IfSome o (IsStepOf program)) is (subst (λ (w : KeptProgram). IfSome result (IsStepOf w)) same e)
 
-pub walk_end : (walked program : Listing) (place : ℕ) (result : Option Step) → walked ≡ program → result ≡ None → place ≤ length program.steps
-    → option_map (listed walked.qubits walked.products) result ≡ (if place == 0 then None else slice_get walked.steps (place - 1)) → place ≡ 0
+pub walk_end : (walked program : KeptProgram) (place : ℕ) (result : Option Step) → walked ≡ program → result ≡ None → place ≤ length program.listing.steps
+    → option_map (listed walked.listing.qubits walked.products) result ≡ (if place == 0 then None else slice_get walked.listing.steps (place - 1)) → place ≡ 0
 walk_end walked program place result same is within e =
-    at_start program.steps place within
-    (ap (option_map (listed program.qubits program.products)) (sym is)
-    ∙ subst (λ (w : Listing). option_map (listed w.qubits w.products) result ≡ (if place == 0 then None else slice_get w.steps (place - 1))) same e)
+    at_start program.listing.steps place within
+    (ap (option_map (listed program.listing.qubits program.products)) (sym is)
+    ∙ subst (λ (w : KeptProgram). option_map (listed w.listing.qubits w.products) result ≡ (if place == 0 then None else slice_get w.listing.steps (place - 1))) same e)
 
 -- what is kept before the step is kept from the place before it on
 pub gone_over : (program : Listing) (place before : ℕ) (step : ListedStep) (t : Tracked) (sets : List (List Bool)) (lines : List ErrorLine) (places : List (Option ℕ)) (left : ℕ) → IsBefore program.steps place step → before ≡ place - 1

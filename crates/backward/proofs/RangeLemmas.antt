@@ -6,7 +6,7 @@ use Rattle.std.specs.List.Sorted.{IsStrictlyIncreasing}
 use Rattle.std.proofs.lemmas.List.Elements.{All-weaker, All-filter}
 use Rattle.std.proofs.lemmas.List.Kept.{IsStrictlyIncreasing-filter}
 use Rattle.backward.specs.Collapses.{members_at}
-use Rattle.step_model.specs.Listing.{Listing}
+use Rattle.programs.specs.Kept.{KeptProgram}
 use Rattle.programs.specs.Named.{IsRecord}
 use Rattle.std.proofs.lemmas.Bool.{cases_eq, eq-eqb, ne_eqb}
 use Rattle.std.proofs.lemmas.List.{map-id, append-nil}
@@ -132,6 +132,6 @@ pub record_has_set : (rec : Option ℕ) (records count : ℕ) → count ≡ reco
 record_has_set None records count e h = h
 record_has_set (Some r) records count e h = omega (arith, e, h)
 
-pub record_named : (program : Listing) (rec : Option ℕ) → IsRecord program rec → IfSome rec (λ r. r < program.records)
+pub record_named : (program : KeptProgram) (rec : Option ℕ) → IsRecord program rec → IfSome rec (λ r. r < program.listing.records)
 record_named program None h = tt
 record_named program (Some r) h = h

@@ -4,7 +4,7 @@ use Rattle.std.specs.Prelude.{◌≡◌, ◌<◌, ℕ, List, length, slice_index
 use Rattle.programs.specs.declared.entries.ChanceTable.{ChanceTable}
 use Rattle.chances.specs.declared.table.ChanceText.{ChanceText}
 use Rattle.programs.specs.Entries.{TellsChances}
-use Rattle.step_model.specs.Listing.{Listing}
+use Rattle.programs.specs.Kept.{KeptProgram}
 use Rattle.step_model.specs.Targets.{targets_of}
 use Rattle.dem_text.specs.ErrorLines.{text_at}
 use Rattle.dem_text.specs.HeldText.{Held}
@@ -15,9 +15,9 @@ AreNumbers parts texts numbers =
     (k : ℕ) (other : ChanceText) → k < length numbers → (slice_index_or numbers k 0 < length texts) × (text_at texts (slice_index_or numbers k 0) ≡ (slice_index_or parts k other).text.now)
 
 -- each part of the table of a program's entries has a number, and the text is for the program's targets
-pub record IsTextFor (program : Listing) (table : ChanceTable) (numbers : List ℕ) (held : Held) : Type 0 where
+pub record IsTextFor (program : KeptProgram) (table : ChanceTable) (numbers : List ℕ) (held : Held) : Type 0 where
   pub tells : TellsChances program.kept table
   pub counted : length numbers ≡ length table.parts.now
   pub numbered : AreNumbers table.parts.now held.texts numbers
-  pub detectors : held.detectors ≡ length program.detectors
-  pub targets : held.targets ≡ length (targets_of program)
+  pub detectors : held.detectors ≡ length program.listing.detectors
+  pub targets : held.targets ≡ length (targets_of program.listing)

@@ -6,7 +6,7 @@ use Rattle.std.specs.List.{range_with_len, flat_map}
 use Rattle.step_model.specs.ErrorModels.{ErrorLine}
 use Rattle.step_model.specs.Hits.{hits_at}
 use Rattle.step_model.specs.Listing.{Listing, ListedStep, fault_at}
-use Rattle.programs.specs.Kept.{kept_at}
+use Rattle.programs.specs.Kept.{KeptProgram, kept_at}
 use Rattle.programs.specs.declared.step.FaultName.{FaultName}
 use Rattle.step_model.specs.Sensitivities.{Sensitivity, sensitivity, latest_place, lowest_X_or_Y}
 use Rattle.step_model.specs.Targets.{targets_of, target_at, is_listed}
@@ -44,7 +44,7 @@ abbrev pub with_line : List ℕ → List ℕ → List ErrorLine → List ErrorLi
 with_line text targets lines = lines ++ line_for text targets
 
 -- the lines, and behind them that of the fault that flips a record, where there is one, for these targets
-abbrev pub with_flip : Listing → Option FaultName → List ℕ → List ErrorLine → List ErrorLine
+abbrev pub with_flip : KeptProgram → Option FaultName → List ℕ → List ErrorLine → List ErrorLine
 with_flip program None targets lines = lines
 with_flip program (Some name) targets lines = with_line (kept_at program name.entry).text targets lines
 

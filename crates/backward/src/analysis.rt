@@ -61,8 +61,8 @@ pub fn analyse<'a, A: Allocator + Copy, T: Tracker + Drop>(
     program: &Program<'a, A>,
     mut tracker: T,
 ) -> Result<Analysed<'a, A>, Fault>
-    requires { T.tracked tracker ≡ fresh program.now.qubits (length (targets_of program.now)) }
-    ensures ok { IfOk result (IsAnalysed program.now) }
+    requires { T.tracked tracker ≡ fresh program.now.listing.qubits (length (targets_of program.now.listing)) }
+    ensures ok { IfOk result (IsAnalysed program.now.listing) }
     ensures err { IfErr result (λ e. e ≡ memory_fault) }
 {
     match find_model(alloc, program, &mut tracker) {
@@ -78,8 +78,8 @@ pub fn analyse_to_text<'a, A: Allocator + Copy, T: Tracker + Drop>(
     program: &Program<'a, A>,
     mut tracker: T,
 ) -> Result<AnalysedText<'a, A>, Fault>
-    requires { T.tracked tracker ≡ fresh program.now.qubits (length (targets_of program.now)) }
-    ensures ok { IfOk result (IsAnalysedText program.now) }
+    requires { T.tracked tracker ≡ fresh program.now.listing.qubits (length (targets_of program.now.listing)) }
+    ensures ok { IfOk result (IsAnalysedText program.now.listing) }
     ensures err { IfErr result (λ e. e ≡ memory_fault) }
 {
     match find_text(alloc, program, &mut tracker) {
@@ -93,8 +93,8 @@ fn find_model<'a, A: Allocator + Copy, T: Tracker>(
     program: &Program<'a, A>,
     tracker: &mut T,
 ) -> Result<Analysed<'a, A>, AllocError>
-    requires { T.tracked tracker.old ≡ fresh program.now.qubits (length (targets_of program.now)) }
-    ensures { IfOk result (IsAnalysed program.now) }
+    requires { T.tracked tracker.old ≡ fresh program.now.listing.qubits (length (targets_of program.now.listing)) }
+    ensures { IfOk result (IsAnalysed program.now.listing) }
 {
     let none = ModelStore {
         program,
@@ -112,8 +112,8 @@ fn find_text<'a, A: Allocator + Copy, T: Tracker>(
     program: &Program<'a, A>,
     tracker: &mut T,
 ) -> Result<AnalysedText<'a, A>, AllocError>
-    requires { T.tracked tracker.old ≡ fresh program.now.qubits (length (targets_of program.now)) }
-    ensures { IfOk result (IsAnalysedText program.now) }
+    requires { T.tracked tracker.old ≡ fresh program.now.listing.qubits (length (targets_of program.now.listing)) }
+    ensures { IfOk result (IsAnalysedText program.now.listing) }
 {
     let none = TextStore::new(alloc, program)?;
     let judged = go_back_and_judge(&alloc, program, tracker, none)?;
@@ -134,13 +134,13 @@ fn go_back_and_judge<'s, 'a, A: Allocator + Copy, T: Tracker, L: LineStore + Dro
     tracker: &mut T,
     lines: L,
 ) -> Result<Judged<L>, AllocError>
-    requires tracked { T.tracked tracker.old ≡ fresh program.now.qubits (length (targets_of program.now)) }
+    requires tracked { T.tracked tracker.old ≡ fresh program.now.listing.qubits (length (targets_of program.now.listing)) }
     requires none { L.holds lines [] }
     requires store { L.program lines ≡ program.now }
-    ensures lines { IfOk result (λ judged. IfNone judged.lowest (L.holds judged.lines (reverse (model_of program.now).lines))) }
+    ensures lines { IfOk result (λ judged. IfNone judged.lowest (L.holds judged.lines (reverse (model_of program.now.listing).lines))) }
     ensures store { IfOk result (λ judged. L.program judged.lines ≡ L.program lines) }
-    ensures none { IfOk result (λ judged. IfNone judged.lowest (NoneIsRandom program.now)) }
-    ensures lowest { IfOk result (λ judged. IfSome judged.lowest (λ random. IsLowestRandom program.now random.0 random.1)) }
+    ensures none { IfOk result (λ judged. IfNone judged.lowest (NoneIsRandom program.now.listing)) }
+    ensures lowest { IfOk result (λ judged. IfSome judged.lowest (λ random. IsLowestRandom program.now.listing random.0 random.1)) }
 {
     program.well_formed();
     let mut found = nothing_found(alloc, program, lines)?;
@@ -159,7 +159,7 @@ fn nothing_found<'s, 'a, A: Allocator + Copy, L: LineStore + Drop>(
     lines: L,
 ) -> Result<Found<'s, A, L>, AllocError>
     requires { L.holds lines [] }
-    ensures passed { IfOk result (λ found. IsPassedWith found.wanted (L.holds found.lines) program.now [] (fresh program.now.qubits (length (targets_of program.now))) found.sets found.latest.items found.left) }
+    ensures passed { IfOk result (λ found. IsPassedWith found.wanted (L.holds found.lines) program.now.listing [] (fresh program.now.listing.qubits (length (targets_of program.now.listing))) found.sets found.latest.items found.left) }
     ensures lines { IfOk result (λ found. found.lines ≡ lines) }
 {
     let sets = RecordLists::new(alloc, program)?;
@@ -181,10 +181,10 @@ fn judge<'s, 'a, A: Allocator + Copy, T: Tracker, L: LineStore>(
     tracker: &mut T,
     found: &mut Found<'s, A, L>,
 ) -> Result<Option<(u32, Place)>, AllocError>
-    requires { IsPassedWith found.old.wanted (L.holds found.old.lines) program.now program.now.steps (T.tracked tracker.old) found.old.sets found.old.latest.items found.old.left }
-    ensures none { IfOk result (λ lowest. IfNone lowest (NoneIsRandom program.now)) }
-    ensures lowest { IfOk result (λ lowest. IfSome lowest (λ random. IsLowestRandom program.now random.0 random.1)) }
-    ensures lines { IfOk result (λ lowest. IfNone lowest (L.holds found.old.lines (lines_found program.now program.now.steps))) }
+    requires { IsPassedWith found.old.wanted (L.holds found.old.lines) program.now.listing program.now.listing.steps (T.tracked tracker.old) found.old.sets found.old.latest.items found.old.left }
+    ensures none { IfOk result (λ lowest. IfNone lowest (NoneIsRandom program.now.listing)) }
+    ensures lowest { IfOk result (λ lowest. IfSome lowest (λ random. IsLowestRandom program.now.listing random.0 random.1)) }
+    ensures lines { IfOk result (λ lowest. IfNone lowest (L.holds found.old.lines (lines_found program.now.listing program.now.listing.steps))) }
     ensures same { found.new.lines ≡ found.old.lines }
 {
     program.well_formed();
@@ -205,8 +205,8 @@ fn go_back<'s, 'a, A: Allocator + Copy, T: Tracker, L: LineStore>(
     found: &mut Found<'s, A, L>,
 ) -> Result<(), AllocError>
     requires store { L.program found.old.lines ≡ program.now }
-    requires passed { IsPassedWith found.old.wanted (L.holds found.old.lines) program.now [] (T.tracked tracker.old) found.old.sets found.old.latest.items found.old.left }
-    ensures passed { OnOk result (IsPassedWith found.new.wanted (L.holds found.new.lines) program.now program.now.steps (T.tracked tracker.new) found.new.sets found.new.latest.items found.new.left) }
+    requires passed { IsPassedWith found.old.wanted (L.holds found.old.lines) program.now.listing [] (T.tracked tracker.old) found.old.sets found.old.latest.items found.old.left }
+    ensures passed { OnOk result (IsPassedWith found.new.wanted (L.holds found.new.lines) program.now.listing program.now.listing.steps (T.tracked tracker.new) found.new.sets found.new.latest.items found.new.left) }
     ensures store { L.program found.new.lines ≡ L.program found.old.lines }
 {
     let mut walk = Walk::end(program);
@@ -220,8 +220,8 @@ fn model_from<'a, A: Allocator + Copy>(
     program: &Program<'a, A>,
     found: Model<'a, A>,
 ) -> Result<Model<'a, A>, AllocError>
-    requires { found.lines ≡ reverse (model_of program.now).lines }
-    ensures { IfOk result (λ model. model ≡ model_of program.now) }
+    requires { found.lines ≡ reverse (model_of program.now.listing).lines }
+    ensures { IfOk result (λ model. model ≡ model_of program.now.listing) }
 {
     let coordinates = coordinates_of(alloc, program)?;
     Ok(Model::in_reverse(found, coordinates, program.observable_count()))
@@ -232,7 +232,7 @@ fn without_lines<'a, A: Allocator + Copy>(
     alloc: A,
     program: &Program<'a, A>,
 ) -> Result<Model<'a, A>, AllocError>
-    ensures { IfOk result (λ model. model ≡ record (model_of program.now) { lines = [] }) }
+    ensures { IfOk result (λ model. model ≡ record (model_of program.now.listing) { lines = [] }) }
 {
     let coordinates = coordinates_of(alloc, program)?;
     Ok(Model::new(alloc, coordinates, program.observable_count()))
@@ -242,8 +242,8 @@ fn coordinates_of<'a, A: Allocator + Copy>(
     alloc: A,
     program: &Program<'a, A>,
 ) -> Result<FlatLists<i64, A>, AllocError>
-    ensures ok { IfOk result (λ lists. lists ≡ program.now.coordinates) }
-    ensures each { length program.now.coordinates ≡ length program.now.detectors }
+    ensures ok { IfOk result (λ lists. lists ≡ program.now.listing.coordinates) }
+    ensures each { length program.now.listing.coordinates ≡ length program.now.listing.detectors }
 {
     program.well_formed();
     let mut lists = FlatLists::new(alloc);

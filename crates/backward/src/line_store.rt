@@ -1,8 +1,7 @@
 //! Where a pass puts the error lines that it finds, the last fault's first: into a model, or into its text.
 ghost use Rattle.std.specs.Prelude.{◌≡◌, ◌<◌, ◌++◌, ◌∷◌, [], List, length, All, IfOk, OnOk};
 ghost use Rattle.step_model.specs.ErrorModels.{ErrorLine};
-ghost use Rattle.step_model.specs.Listing.{Listing};
-ghost use Rattle.programs.specs.Kept.{kept_at};
+ghost use Rattle.programs.specs.Kept.{KeptProgram, kept_at};
 ghost use Rattle.step_model.specs.Targets.{targets_of};
 ghost use Rattle.backward.specs.Numbered.{AreNumbers, IsTextFor};
 ghost use Rattle.dem_text.specs.HeldText.{HoldsLines};
@@ -16,7 +15,7 @@ use std::alloc::{AllocError, Allocator};
 /// A store that lines are given to, one after another. After an error nothing is promised about what it holds.
 pub(crate) trait LineStore {
     // The program whose faults the lines are of.
-    ghost program: { Self → Listing };
+    ghost program: { Self → KeptProgram };
 
     // These lines were given to it, in this order.
     ghost holds: { Self → List ErrorLine → Type 0 };
@@ -24,7 +23,7 @@ pub(crate) trait LineStore {
     /// Takes the line of a fault with this entry, which flips these targets.
     fn give(&mut self, entry: u32, targets: &[u32]) -> Result<(), AllocError>
         requires entry { entry < length (program self.old).kept }
-        requires named { All (λ t. t < length (targets_of (program self.old))) targets.now }
+        requires named { All (λ t. t < length (targets_of (program self.old).listing)) targets.now }
         ensures program { program self.new ≡ program self.old }
         ensures holds { OnOk result ((lines : List ErrorLine) → holds self.old lines → holds self.new (lines ++ record { text = (kept_at (program self.old) entry).text; targets = targets.now } ∷ [])) };
 }

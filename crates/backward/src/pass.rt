@@ -41,13 +41,13 @@ pub(crate) fn step_back<'s, 'p, 'a, A: Allocator + Copy, T: Tracker, L: LineStor
     found: &mut Found<'s, A, L>,
 ) -> Result<bool, AllocError>
     requires program { walk.old.program ≡ program.now }
-    requires within { walk.old.place ≤ length program.now.steps }
+    requires within { walk.old.place ≤ length program.now.listing.steps }
     requires store { L.program found.old.lines ≡ program.now }
-    requires passed { IsPassedWith found.old.wanted (L.holds found.old.lines) program.now (drop walk.old.place program.now.steps) (T.tracked tracker.old) found.old.sets found.old.latest.items found.old.left }
+    requires passed { IsPassedWith found.old.wanted (L.holds found.old.lines) program.now.listing (drop walk.old.place program.now.listing.steps) (T.tracked tracker.old) found.old.sets found.old.latest.items found.old.left }
     ensures program { walk.new.program ≡ walk.old.program }
     ensures place { walk.new.place ≡ walk.old.place - 1 }
     ensures more { IfOk result (λ more. more ≡ not (walk.old.place == 0)) }
-    ensures passed { OnOk result (IsPassedWith found.new.wanted (L.holds found.new.lines) program.now (drop walk.new.place program.now.steps) (T.tracked tracker.new) found.new.sets found.new.latest.items found.new.left) }
+    ensures passed { OnOk result (IsPassedWith found.new.wanted (L.holds found.new.lines) program.now.listing (drop walk.new.place program.now.listing.steps) (T.tracked tracker.new) found.new.sets found.new.latest.items found.new.left) }
     ensures store { L.program found.new.lines ≡ L.program found.old.lines }
 {
     program.well_formed();
@@ -112,9 +112,9 @@ fn collapse<'s, 'a, A: Allocator + Copy, T: Tracker, L: LineStore>(
     tracker: &mut T,
     found: &mut Found<'s, A, L>,
 ) -> Result<(), AllocError>
-    requires size { IsOfSize program.now (T.tracked tracker.old) found.old.sets found.old.latest.items }
-    requires terms { All (λ term. term.qubit < program.now.qubits) terms.now }
-    requires reset { IfSome reset (λ q. q < program.now.qubits) }
+    requires size { IsOfSize program.now.listing (T.tracked tracker.old) found.old.sets found.old.latest.items }
+    requires terms { All (λ term. term.qubit < program.now.listing.qubits) terms.now }
+    requires reset { IfSome reset (λ q. q < program.now.listing.qubits) }
     requires rec { IsRecord program.now rec }
     requires flip { IsNamedFlip program.now flip }
     requires left { 0 < found.old.left }
@@ -149,7 +149,7 @@ fn list_record<'s, 'a, A: Allocator + Copy>(
     hit: &mut Vec<u32, A>,
 ) -> Result<(), AllocError>
     requires rec { IfSome rec (λ r. r < length sets.now) }
-    requires long { All (λ set. length set ≡ length (targets_of program.now)) sets.now }
+    requires long { All (λ set. length set ≡ length (targets_of program.now.listing)) sets.now }
     ensures { OnOk result (hit.new.items ≡ members_at sets.now rec) }
 {
     let _few = target_count(program);
@@ -171,7 +171,7 @@ fn note_flip<'a, A: Allocator + Copy, L: LineStore>(
     lines: &mut L,
 ) -> Result<(), AllocError>
     requires flip { IsNamedFlip program.now flip }
-    requires named { All (λ t. t < length (targets_of program.now)) targets.now }
+    requires named { All (λ t. t < length (targets_of program.now.listing)) targets.now }
     requires store { L.program lines.old ≡ program.now }
     ensures lines { OnOk result ((given : List ErrorLine) → wanted ≡ true → L.holds lines.old given → L.holds lines.new (with_flip program.now flip targets.now given)) }
     ensures store { L.program lines.new ≡ L.program lines.old }
@@ -190,7 +190,7 @@ fn note_line<'a, A: Allocator + Copy, L: LineStore>(
     lines: &mut L,
 ) -> Result<(), AllocError>
     requires entry { entry < length program.now.kept }
-    requires named { All (λ t. t < length (targets_of program.now)) targets.now }
+    requires named { All (λ t. t < length (targets_of program.now.listing)) targets.now }
     requires store { L.program lines.old ≡ program.now }
     ensures lines { OnOk result ((given : List ErrorLine) → L.holds lines.old given → L.holds lines.new (with_line (kept_at program.now entry).text targets.now given)) }
     ensures store { L.program lines.new ≡ L.program lines.old }
@@ -210,8 +210,8 @@ fn fault<'s, 'a, A: Allocator + Copy, T: Tracker, L: LineStore>(
     found: &mut Found<'s, A, L>,
 ) -> Result<(), AllocError>
     requires entry { name.entry < length program.now.kept }
-    requires qubits { (T.tracked tracker.old).qubits ≡ program.now.qubits }
-    requires words { length (T.tracked tracker.old).words ≡ length (targets_of program.now) }
+    requires qubits { (T.tracked tracker.old).qubits ≡ program.now.listing.qubits }
+    requires words { length (T.tracked tracker.old).words ≡ length (targets_of program.now.listing) }
     requires store { L.program found.old.lines ≡ program.now }
     ensures words { OnOk result (T.tracked tracker.new ≡ T.tracked tracker.old) }
     ensures sets { OnOk result (found.new.sets ≡ found.old.sets) }
@@ -237,9 +237,9 @@ fn feedback<'s, 'a, A: Allocator + Copy, T: Tracker, L: LineStore>(
     tracker: &mut T,
     found: &mut Found<'s, A, L>,
 ) -> Result<(), AllocError>
-    requires size { IsOfSize program.now (T.tracked tracker.old) found.old.sets found.old.latest.items }
-    requires term { term.qubit < program.now.qubits }
-    requires rec { rec < program.now.records }
+    requires size { IsOfSize program.now.listing (T.tracked tracker.old) found.old.sets found.old.latest.items }
+    requires term { term.qubit < program.now.listing.qubits }
+    requires rec { rec < program.now.listing.records }
     ensures words { OnOk result (T.tracked tracker.new ≡ T.tracked tracker.old) }
     ensures sets { OnOk result (found.new.sets ≡ slice_set found.old.sets rec (toggled_each (anticommuting (term ∷ []) (T.tracked tracker.old)) (slice_index_or found.old.sets rec []))) }
     ensures lines { found.new.lines ≡ found.old.lines }

@@ -47,8 +47,8 @@ pub(crate) fn lowest_at_start<'a, A: Allocator + Copy, T: Tracker>(
     tracker: &mut T,
     hit: &mut Vec<u32, A>,
 ) -> Result<Vec<Option<u32>, A>, AllocError>
-    requires { T.tracked tracker.old ≡ tracked_before program.now program.now.steps }
-    ensures { IfOk result (λ lowest. lowest.items ≡ lowest_below program.now program.now.qubits) }
+    requires { T.tracked tracker.old ≡ tracked_before program.now.listing program.now.listing.steps }
+    ensures { IfOk result (λ lowest. lowest.items ≡ lowest_below program.now.listing program.now.listing.qubits) }
 {
     program.well_formed();
     let mut lowest = none_noted(alloc, target_count(program))?;

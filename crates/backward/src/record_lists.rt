@@ -64,7 +64,7 @@ impl<'s, A: Allocator + Copy> RecordLists<'s, A> {
     /// The sets of a program after its last step: each target is in those of the records that it lists an odd number
     /// of times.
     pub(crate) fn new<'a>(alloc: &'s A, program: &Program<'a, A>) -> Result<Self, AllocError>
-        ensures { IfOk result (λ lists. lists ≡ listing_sets program.now []) }
+        ensures { IfOk result (λ lists. lists ≡ listing_sets program.now.listing []) }
     {
         let targets = target_count(program);
         let mut links = Vec::with_capacity(*alloc, listed_count(program))?;
@@ -183,7 +183,7 @@ fn many_links(links: usize, records: usize) -> usize
 
 // How many records the targets list together, each as often as it is listed.
 fn listed_count<'a, A: Allocator + Copy>(program: &Program<'a, A>) -> usize
-    ensures { sum_by length (targets_of program.now) < 2 ^ 64 → result ≡ sum_by length (targets_of program.now) }
+    ensures { sum_by length (targets_of program.now.listing) < 2 ^ 64 → result ≡ sum_by length (targets_of program.now.listing) }
 {
     let mut count: usize = 0;
     for t in 0..target_count(program) {

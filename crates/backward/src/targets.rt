@@ -7,9 +7,9 @@ use std::alloc::Allocator;
 
 /// How many detectors and observables there are.
 pub(crate) fn target_count<'a, A: Allocator + Copy>(program: &Program<'a, A>) -> usize
-    ensures count { result ≡ length (targets_of program.now) }
+    ensures count { result ≡ length (targets_of program.now.listing) }
     ensures few { result ≤ 1001024 }
-    ensures records { All (All (λ r. r < program.now.records)) (targets_of program.now) }
+    ensures records { All (All (λ r. r < program.now.listing.records)) (targets_of program.now.listing) }
 {
     program.well_formed();
     program.detector_count() + program.observable_count()
@@ -20,8 +20,8 @@ pub(crate) fn target<'p, 'a, A: Allocator + Copy>(
     program: &'p Program<'a, A>,
     target: usize,
 ) -> &'p [u32]
-    requires { target < length (targets_of program.now) }
-    ensures { result.now ≡ target_at program.now target }
+    requires { target < length (targets_of program.now.listing) }
+    ensures { result.now ≡ target_at program.now.listing target }
 {
     let detectors = program.detector_count();
     if target < detectors {

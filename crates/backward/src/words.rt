@@ -64,7 +64,7 @@ impl<A: Allocator + Copy> Words<BitRow<A>, A> {
 
     /// An identity word for each target of a program, on its qubits. It fails only where memory runs out.
     pub fn dense_for(alloc: A, program: &Program<'_, A>) -> Result<Self, AllocError>
-        ensures { IfOk result (λ w. w ≡ fresh program.now.qubits (length (targets_of program.now))) }
+        ensures { IfOk result (λ w. w ≡ fresh program.now.listing.qubits (length (targets_of program.now.listing))) }
     {
         Words::dense(alloc, program.qubits() as usize, target_count(program))
     }
@@ -81,7 +81,7 @@ impl<'a, A: Allocator + Copy> Words<SparseSet<'a, A>, A> {
 
     /// An identity word for each target of a program, on its qubits. It fails only where memory runs out.
     pub fn sparse_for(alloc: &'a A, program: &Program<'_, A>) -> Result<Self, AllocError>
-        ensures { IfOk result (λ w. w ≡ fresh program.now.qubits (length (targets_of program.now))) }
+        ensures { IfOk result (λ w. w ≡ fresh program.now.listing.qubits (length (targets_of program.now.listing))) }
     {
         Words::sparse(alloc, program.qubits() as usize, target_count(program))
     }

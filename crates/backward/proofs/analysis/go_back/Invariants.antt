@@ -7,8 +7,8 @@ abbrev pub invariant-loop : goal.invariant-loop
 invariant-loop g l =
     record {
       program_is : l.walk.program ≡ l.program;
-      within : l.walk.place ≤ length l.program.steps;
-      passed : IsPassedWith l.found.wanted (g.L.LineStore.holds l.found.lines) l.program (drop l.walk.place l.program.steps) (g.T.Tracker.tracked l.tracker) l.found.sets l.found.latest.items l.found.left;
+      within : l.walk.place ≤ length l.program.listing.steps;
+      passed : IsPassedWith l.found.wanted (g.L.LineStore.holds l.found.lines) l.program.listing (drop l.walk.place l.program.listing.steps) (g.T.Tracker.tracked l.tracker) l.found.sets l.found.latest.items l.found.left;
       store : g.L.LineStore.program l.found.lines ≡ g.L.LineStore.program l.fn.found.lines;
     }
 

@@ -10,14 +10,14 @@ lowest_at_start-requires g c = c.requires.0.words
 
 pub lowest_random-requires-clause-few : goal.lowest_random-requires-clause-few
 lowest_random-requires-clause-few g c =
-    let program = c.args.program.now in
+    let program = c.args.program.now.listing in
     let long = ap length (c.as_slice.ensures.value ∙ c.requires.0.latest) ∙ length-latest_before program c.args.found.now.left program.steps in
     omega (arith, long, c.target_count-few.ensures.count, c.target_count-few.ensures.few)
 
 pub returns-in-Some-clause-lowest : goal.returns-in-Some-clause-lowest
 returns-in-Some-clause-lowest g c =
-    let program = c.args.program.now in
-    let fits = c.well_formed-2.ensures in
+    let program = c.args.program.now.listing in
+    let fits = c.well_formed-2.ensures.listing in
     let left = c.args.found.now.left in
     let is_latest = c.as_slice.ensures.value ∙ c.requires.0.latest in
     let long = ap length is_latest ∙ length-latest_before program left program.steps in
@@ -26,8 +26,8 @@ returns-in-Some-clause-lowest g c =
 
 pub returns-clause-none : goal.returns-clause-none
 returns-clause-none g c =
-    let program = c.args.program.now in
-    let fits = c.well_formed-2.ensures in
+    let program = c.args.program.now.listing in
+    let fits = c.well_formed-2.ensures.listing in
     let left = c.args.found.now.left in
     let is_latest = c.as_slice.ensures.value ∙ c.requires.0.latest in
     let long = ap length is_latest ∙ length-latest_before program left program.steps in
@@ -36,7 +36,7 @@ returns-clause-none g c =
 
 pub returns-clause-lines : goal.returns-clause-lines
 returns-clause-lines g c =
-    let program = c.args.program.now in
+    let program = c.args.program.now.listing in
     let found = c.args.found.now in
     held_at_last found.wanted found.latest.items (g.L.LineStore.holds found.lines) (lines_found program program.steps)
     (λ d lt. ap (λ (l : List (Option ℕ)). get_or l d None) (sym c.as_slice.ensures.value)

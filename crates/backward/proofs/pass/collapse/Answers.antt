@@ -16,16 +16,16 @@ note-requires g c =
     let program = c.args.program.now in
     let tracked = g.T.Tracker.tracked c.args.tracker.now in
     subst (λ n. All (λ t. t < n) c.as_slice.result.now) (sym c.requires.size.latest)
-    (subst (All (λ t. t < length (targets_of program))) (sym (c.as_slice.ensures.value ∙ c.in_ok-hit.ensures.hit))
-    (hit_in_range program c.args.terms.now tracked c.requires.size.words))
+    (subst (All (λ t. t < length (targets_of program.listing))) (sym (c.as_slice.ensures.value ∙ c.in_ok-hit.ensures.hit))
+    (hit_in_range program.listing c.args.terms.now tracked c.requires.size.words))
 
 pub note_flip-requires-clause-named : goal.note_flip-requires-clause-named
 note_flip-requires-clause-named g c =
     let program = c.args.program.now in
     let sets = c.args.found.now.sets in
-    subst (All (λ t. t < length (targets_of program))) (sym (c.as_slice-2.ensures.value ∙ c.in_ok-list_record.ensures))
-    (members_at-within sets c.args.rec (length (targets_of program))
-    (record_has_set c.args.rec program.records (length sets) c.requires.size.sets (record_named program c.args.rec c.requires.rec)) c.requires.size.sets_long)
+    subst (All (λ t. t < length (targets_of program.listing))) (sym (c.as_slice-2.ensures.value ∙ c.in_ok-list_record.ensures))
+    (members_at-within sets c.args.rec (length (targets_of program.listing))
+    (record_has_set c.args.rec program.listing.records (length sets) c.requires.size.sets (record_named program c.args.rec c.requires.rec)) c.requires.size.sets_long)
 
 pub undo_collapse-requires-clause-ascending : goal.undo_collapse-requires-clause-ascending
 undo_collapse-requires-clause-ascending g c =
@@ -37,9 +37,9 @@ undo_collapse-requires-clause-named g c =
     let sets = c.args.found.now.sets in
     let count = ap (λ t. length t.words) c.in_ok-hit.ensures.same ∙ c.requires.size.words in
     subst (λ n. All (λ t. t < n) c.as_slice-3.result.now) (sym count)
-    (subst (All (λ t. t < length (targets_of program))) (sym (c.as_slice-3.ensures.value ∙ c.in_ok-list_record.ensures))
-    (members_at-within sets c.args.rec (length (targets_of program))
-    (record_has_set c.args.rec program.records (length sets) c.requires.size.sets (record_named program c.args.rec c.requires.rec)) c.requires.size.sets_long))
+    (subst (All (λ t. t < length (targets_of program.listing))) (sym (c.as_slice-3.ensures.value ∙ c.in_ok-list_record.ensures))
+    (members_at-within sets c.args.rec (length (targets_of program.listing))
+    (record_has_set c.args.rec program.listing.records (length sets) c.requires.size.sets (record_named program c.args.rec c.requires.rec)) c.requires.size.sets_long))
 
 pub returns-clause-words : goal.returns-clause-words
 returns-clause-words g c =
@@ -60,7 +60,7 @@ returns-clause-lines g c =
     let targets = c.as_slice-2.ensures.value ∙ c.in_ok-list_record.ensures in
     let within : All (λ t. t < length f.latest.items) hit =
     subst (λ n. All (λ t. t < n) hit) (sym c.requires.size.latest)
-    (subst (All (λ t. t < length (targets_of program))) (sym c.in_ok-hit.ensures.hit) (hit_in_range program c.args.terms.now (g.T.Tracker.tracked c.args.tracker.now) c.requires.size.words)) in
+    (subst (All (λ t. t < length (targets_of program.listing))) (sym c.in_ok-hit.ensures.hit) (hit_in_range program.listing c.args.terms.now (g.T.Tracker.tracked c.args.tracker.now) c.requires.size.words)) in
     let long : vec_len c.hit.new.hit ≡ length hit = omega (arith, c.hit.new.hit.ok.0) in
     let still : c.if-found.found ≡ (f.wanted && (length hit == 0)) = elim c.if-found.branch as (λ _. c.if-found.found ≡ (f.wanted && (length hit == 0))) [
       | then-found w ↦ w.found-is ∙ (w.is_empty-found.ensures ∙ ap₂ (λ wanted n. wanted && (n == 0)) (sym w.if-found.true) long)

@@ -13,8 +13,8 @@ pub note_line-requires-clause-named : goal.note_line-requires-clause-named
 note_line-requires-clause-named g c =
     let program = c.args.program.now in
     let tracked = g.T.Tracker.tracked c.args.tracker.now in
-    subst (All (λ t. t < length (targets_of program))) (sym (c.as_slice.ensures.value ∙ c.in_ok-hit.ensures.hit))
-    (hit_in_range program _ tracked c.requires.words)
+    subst (All (λ t. t < length (targets_of program.listing))) (sym (c.as_slice.ensures.value ∙ c.in_ok-hit.ensures.hit))
+    (hit_in_range program.listing _ tracked c.requires.words)
 
 pub returns-clause-lines : goal.returns-clause-lines
 returns-clause-lines g c =

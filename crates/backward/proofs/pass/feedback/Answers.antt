@@ -7,7 +7,7 @@ use Rattle.backward.proofs.pass.feedback.Goals as goal
 
 pub toggle_each-requires-clause-targets : goal.toggle_each-requires-clause-targets
 toggle_each-requires-clause-targets g c =
-    let program = c.args.program.now in
+    let program = c.args.program.now.listing in
     let tracked = g.T.Tracker.tracked c.args.tracker.now in
     let terms : List Term = c.args.term ∷ [] in
     let within : c.args.rec < length c.args.found.now.sets = omega (arith, c.requires.rec, c.requires.size.sets) in
@@ -18,5 +18,5 @@ toggle_each-requires-clause-targets g c =
 
 pub toggle_each-requires-clause-long : goal.toggle_each-requires-clause-long
 toggle_each-requires-clause-long g c =
-    λ k d lt. let long : length (get_or c.args.found.now.sets k d) ≡ length (targets_of c.args.program.now) = c.requires.size.sets_long k d lt in
+    λ k d lt. let long : length (get_or c.args.found.now.sets k d) ≡ length (targets_of c.args.program.now.listing) = c.requires.size.sets_long k d lt in
     omega (arith, long, c.target_count-few.ensures.count, c.target_count-few.ensures.few)

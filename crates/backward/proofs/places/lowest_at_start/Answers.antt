@@ -14,12 +14,12 @@ pub loop-qubit-init : goal.loop-qubit-init
 loop-qubit-init g c =
     record {
       words = c.requires;
-      lowest = c.in_ok-lowest.ensures ∙ (ap (λ (n : ℕ). replicate n None) c.target_count.ensures.count ∙ lowest_below-none c.args.program.now);
+      lowest = c.in_ok-lowest.ensures ∙ (ap (λ (n : ℕ). replicate n None) c.target_count.ensures.count ∙ lowest_below-none c.args.program.now.listing);
     }
 
 pub note-requires : goal.note-requires
 note-requires g c =
-    let program = c.args.program.now in
+    let program = c.args.program.now.listing in
     let terms : List Term = record { qubit = c.loop-qubit.qubit; letter = Z } ∷ [] in
     let count : length c.loop-qubit.lowest.items ≡ length (targets_of program) = ap length c.loop-qubit.invariant.lowest ∙ length-lowest_below program c.loop-qubit.qubit in
     let hit = c.as_slice.ensures.value ∙ (c.in_ok-hit.ensures.hit ∙ ap (anticommuting terms) c.loop-qubit.invariant.words) in
@@ -28,7 +28,7 @@ note-requires g c =
 
 pub loop-qubit-preserved : goal.loop-qubit-preserved
 loop-qubit-preserved g c =
-    let program = c.args.program.now in
+    let program = c.args.program.now.listing in
     let qubit = c.loop-qubit.qubit in
     let terms : List Term = record { qubit = qubit; letter = Z } ∷ [] in
     let hit = c.as_slice.ensures.value ∙ (c.in_ok-hit.ensures.hit ∙ ap (anticommuting terms) c.loop-qubit.invariant.words) in
@@ -37,5 +37,5 @@ loop-qubit-preserved g c =
       lowest =
           c.note.ensures
           ∙ (ap₂ (noted qubit) hit c.loop-qubit.invariant.lowest
-          ∙ lowest_below-more program qubit c.well_formed-2.ensures.steps_fit (omega (arith, c.loop-qubit-test.true, c.qubits-qubit-end.ensures)));
+          ∙ lowest_below-more program qubit c.well_formed-2.ensures.listing.steps_fit (omega (arith, c.loop-qubit-test.true, c.qubits-qubit-end.ensures)));
     }

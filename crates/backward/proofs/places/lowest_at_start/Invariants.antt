@@ -5,6 +5,6 @@ use Rattle.backward.proofs.places.lowest_at_start.Given as goal
 abbrev pub invariant-loop-qubit : goal.invariant-loop-qubit
 invariant-loop-qubit g l =
     record {
-      words : g.T.Tracker.tracked l.tracker ≡ tracked_before l.program l.program.steps;
-      lowest : l.lowest.items ≡ lowest_below l.program l.qubit;
+      words : g.T.Tracker.tracked l.tracker ≡ tracked_before l.program.listing l.program.listing.steps;
+      lowest : l.lowest.items ≡ lowest_below l.program.listing l.qubit;
     }

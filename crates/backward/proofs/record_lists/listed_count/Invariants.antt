@@ -5,4 +5,4 @@ use Rattle.backward.proofs.record_lists.listed_count.Given as goal
 
 abbrev pub invariant-loop-t : goal.invariant-loop-t
 invariant-loop-t g l =
-    sum_by length (take l.t (targets_of l.program)) < 2 ^ 64 → l.count ≡ sum_by length (take l.t (targets_of l.program))
+    sum_by length (take l.t (targets_of l.program.listing)) < 2 ^ 64 → l.count ≡ sum_by length (take l.t (targets_of l.program.listing))

@@ -12,7 +12,7 @@ use Rattle.backward.proofs.record_lists.RecordLists.new.Goals as goal
 
 pub loop-t-init : goal.loop-t-init
 loop-t-init g c =
-    let program = c.args.program.now in
+    let program = c.args.program.now.listing in
     let records = program.records in
     let targets = c.target_count-targets.result in
     let none : c.in_ok-links.links.items ≡ [] = c.in_ok-links.ensures.items in
@@ -28,7 +28,7 @@ loop-t-init g c =
 
 pub put_in_each-requires-clause-named : goal.put_in_each-requires-clause-named
 put_in_each-requires-clause-named g c =
-    let program = c.args.program.now in
+    let program = c.args.program.now.listing in
     let links = c.loop-t.links.items in
     let places = c.loop-t.places.items in
     let t = c.loop-t.t in
@@ -38,7 +38,7 @@ put_in_each-requires-clause-named g c =
 
 pub loop-t-preserved : goal.loop-t-preserved
 loop-t-preserved g c =
-    let program = c.args.program.now in
+    let program = c.args.program.now.listing in
     let t = c.loop-t.t in
     let below = c.loop-t-test.true in
     record {
@@ -51,6 +51,6 @@ loop-t-preserved g c =
 
 pub returns : goal.returns
 returns g c =
-    let program = c.args.program.now in
+    let program = c.args.program.now.listing in
     let done : c.loop-t.t ≡ length (targets_of program) = omega (arith, c.loop-t-test.false, c.loop-t.auto.t-end, c.target_count-targets.ensures.count) in
     c.loop-t.invariant.rows ∙ (ap (listing_below program) done ∙ listing_below-all program)

@@ -7,5 +7,5 @@ abbrev pub invariant-loop-t : goal.invariant-loop-t
 invariant-loop-t g l =
     record {
       lists : AreLists l.t l.links.items l.places.items;
-      rows : rows_at l.targets l.links.items l.places.items ≡ listing_below l.program l.t;
+      rows : rows_at l.targets l.links.items l.places.items ≡ listing_below l.program.listing l.t;
     }
