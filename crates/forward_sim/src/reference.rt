@@ -39,6 +39,7 @@ impl<A: Allocator + Copy> Reference<A> {
     /// of qubits.
     pub fn of(alloc: A, program: &Program<'_, A>) -> Result<Self, Fault>
         ensures ok { IfOk result (IsReferenceOf program.now.listing) }
+        ensures records { IfOk result (λ reference. length reference.records ≡ program.now.listing.records) }
         ensures count { IfOk result (λ reference. length reference.replaced ≡ program.now.listing.collapses) }
         ensures err { IfErr result (λ fault. fault ≡ memory_fault) }
     {
@@ -75,6 +76,7 @@ fn follow<A: Allocator + Copy>(
     program: &Program<'_, A>,
 ) -> Result<Reference<A>, AllocError>
     ensures ok { IfOk result (IsReferenceOf program.now.listing) }
+    ensures records { IfOk result (λ reference. length reference.records ≡ program.now.listing.records) }
     ensures count { IfOk result (λ reference. length reference.replaced ≡ program.now.listing.collapses) }
 {
     let qubits = program.qubits() as usize;
@@ -96,6 +98,7 @@ fn follow_steps<A: Allocator + Copy>(
     requires starts { IsSameRun program.now.listing.qubits (run_of machine.old) (start []) }
     requires empty { replaced.old ≡ [] }
     ensures ok { OnOk result (IsReferenceOf program.now.listing (record { records = machine.new.records; replaced = replaced.new })) }
+    ensures records { OnOk result (length machine.new.records ≡ program.now.listing.records) }
     ensures count { OnOk result (length replaced.new ≡ program.now.listing.collapses) }
 {
     program.well_formed();

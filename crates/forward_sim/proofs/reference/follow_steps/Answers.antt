@@ -3,13 +3,14 @@ use Rattle.std.proofs.Common.{◌≡◌, ◌+◌, [], length, sym, ap, subst, �
 use Rattle.std.specs.Prelude.{Some, None, slice_get, nat_lt, if◌then◌else◌}
 use Rattle.programs.specs.Kept.{KeptProgram}
 use Rattle.programs.specs.Listed.{listed}
+use Rattle.step_model.specs.Frames.{zero_coins}
 use Rattle.step_model.specs.Listing.{ListedStep}
 use Rattle.step_model.specs.Runs.{next}
 use Rattle.forward_sim.specs.Machines.{run_of}
 use Rattle.forward_sim.specs.References.{IsReferenceOf}
 use Rattle.forward_sim.specs.SameRuns.{IsSameRun}
 use Rattle.forward_sim.proofs.ReferenceSteps.{KeepsRest, keeps_at_start, keeps_after_step, reference_at_end, length-replaced}
-use Rattle.forward_sim.proofs.RunRecords.{MakesRest, StepIsNext, rest_at_start, step_is_next, rest_after_step, place_after}
+use Rattle.forward_sim.proofs.RunRecords.{MakesRest, StepIsNext, rest_at_start, step_is_next, rest_after_step, place_after, length-records_of}
 use Rattle.forward_sim.proofs.reference.follow_steps.Given.{Over}
 use Rattle.forward_sim.proofs.reference.follow_steps.Goals as goal
 use Rattle.forward_sim.proofs.reference.follow_steps.Goals.{In-Some, In_default}
@@ -82,6 +83,12 @@ at_end g c =
 
 pub returns-clause-ok : goal.returns-clause-ok
 returns-clause-ok g c = at_end g (goal.at.returns-clause-ok g c).In_default
+
+pub returns-clause-records : goal.returns-clause-records
+returns-clause-records g c =
+    let program = c.args.program.now.listing in
+    ap length (at_end g (goal.at.returns-clause-records g c).In_default).records
+    ∙ length-records_of program [] (zero_coins program) c.well_formed-2.ensures.listing
 
 pub returns-clause-count : goal.returns-clause-count
 returns-clause-count g c =
