@@ -4,35 +4,36 @@ use Rattle.std.specs.Prelude.{slice_get, option_map, if◌then◌else◌}
 use Rattle.std.proofs.lemmas.Bool.{cases_Bool, lt-ltb, ltb-true}
 use Rattle.std.proofs.lemmas.Option.{none-some, slice_get_within, slice_get-get_or}
 use Rattle.programs.specs.declared.step.Step.{Step}
+use Rattle.programs.specs.Kept.{KeptProgram}
 use Rattle.programs.specs.Listed.{listed}
 use Rattle.programs.specs.Named.{IsStepOf}
 use Rattle.programs.specs.Walks.{Walked}
-use Rattle.step_model.specs.Listing.{Listing, ListedStep, Fault}
+use Rattle.step_model.specs.Listing.{ListedStep, Fault}
 use Rattle.frames.proofs.Passing.{drop-step, drop-no_step}
 
 -- a walk over a program went over a step
-pub record GoesOver (program : Listing) (old new : Walked) (s : Step) : Type 0 where
+pub record GoesOver (program : KeptProgram) (old new : Walked) (s : Step) : Type 0 where
   pub named : IsStepOf program s
-  pub here : slice_get program.steps old.place ≡ Some (listed program.qubits program.products s)
-  pub left : drop old.place program.steps ≡ listed program.qubits program.products s ∷ drop new.place program.steps
+  pub here : slice_get program.listing.steps old.place ≡ Some (listed program.listing.qubits program.products s)
+  pub left : drop old.place program.listing.steps ≡ listed program.listing.qubits program.products s ∷ drop new.place program.listing.steps
   pub place : new.place ≡ old.place + 1
   pub program_is : new.program ≡ program
-  pub smaller : length program.steps - new.place < length program.steps - old.place
+  pub smaller : length program.listing.steps - new.place < length program.listing.steps - old.place
 
-pub goes_over : (program : Listing) (old new : Walked) (s : Step) → old.program ≡ program
-    → option_map (listed old.program.qubits old.program.products) (Some s) ≡ slice_get old.program.steps old.place
+pub goes_over : (program : KeptProgram) (old new : Walked) (s : Step) → old.program ≡ program
+    → option_map (listed old.program.listing.qubits old.program.products) (Some s) ≡ slice_get old.program.listing.steps old.place
     → IsStepOf old.program s → new.program ≡ old.program
-    → new.place ≡ (if nat_lt old.place (length old.program.steps) then old.place + 1 else old.place)
+    → new.place ≡ (if nat_lt old.place (length old.program.listing.steps) then old.place + 1 else old.place)
     → GoesOver program old new s
 goes_over program old new s is step named program_is place =
-    let here : slice_get program.steps old.place ≡ Some (listed program.qubits program.products s) = sym (rw is at step) in
-    let within : old.place < length program.steps = slice_get_within program.steps old.place _ here in
-    let inside : nat_lt old.place (length program.steps) ≡ true = lt-ltb old.place (length program.steps) within in
+    let here : slice_get program.listing.steps old.place ≡ Some (listed program.listing.qubits program.products s) = sym (rw is at step) in
+    let within : old.place < length program.listing.steps = slice_get_within program.listing.steps old.place _ here in
+    let inside : nat_lt old.place (length program.listing.steps) ≡ true = lt-ltb old.place (length program.listing.steps) within in
     let next : new.place ≡ old.place + 1 = rw (is, inside) at place in
     record {
       named = rw is at named;
       here = here;
-      left = rw next (drop-step program.steps old.place _ here);
+      left = rw next (drop-step program.listing.steps old.place _ here);
       place = next;
       program_is = program_is ∙ is;
       smaller = omega arith;
@@ -46,20 +47,20 @@ past_end steps k none =
     ]
 
 -- a walk over a program found no step more
-pub record Rests (program : Listing) (old new : Walked) : Type 0 where
-  pub left : drop old.place program.steps ≡ []
+pub record Rests (program : KeptProgram) (old new : Walked) : Type 0 where
+  pub left : drop old.place program.listing.steps ≡ []
   pub place : new.place ≡ old.place
   pub program_is : new.program ≡ program
 
-pub rests : (program : Listing) (old new : Walked) → old.program ≡ program
-    → None ≡ slice_get old.program.steps old.place → new.program ≡ old.program
-    → new.place ≡ (if nat_lt old.place (length old.program.steps) then old.place + 1 else old.place)
+pub rests : (program : KeptProgram) (old new : Walked) → old.program ≡ program
+    → None ≡ slice_get old.program.listing.steps old.place → new.program ≡ old.program
+    → new.place ≡ (if nat_lt old.place (length old.program.listing.steps) then old.place + 1 else old.place)
     → Rests program old new
 rests program old new is none program_is place =
-    let here : None ≡ slice_get program.steps old.place = rw is at none in
-    let past : nat_lt old.place (length program.steps) ≡ false = past_end program.steps old.place here in
+    let here : None ≡ slice_get program.listing.steps old.place = rw is at none in
+    let past : nat_lt old.place (length program.listing.steps) ≡ false = past_end program.listing.steps old.place here in
     record {
-      left = drop-no_step program.steps old.place (sym here);
+      left = drop-no_step program.listing.steps old.place (sym here);
       place = rw (is, past) at place;
       program_is = program_is ∙ is;
     }

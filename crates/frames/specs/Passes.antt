@@ -1,17 +1,19 @@
 -- What is known once a walk has gone over a collapse (the projective measurement inside a measurement or a reset): the
--- step, and how many records there are then. Where the program has no collapse of that number there is no step, the
--- records are taken to be none, and the word that is measured is taken to be the identity. (Stim's circuit format:
--- records are numbered in the order of measurements.)
-use Rattle.std.specs.Prelude.{◌≡◌, ℕ, ◌+◌, List, Option, None, Some, slice_index_or}
+-- step, and how many records there are then, with which a frame is begun. Where the program has no collapse of that number
+-- there is no step, and a frame begun there flips nothing. (Stim's circuit format: records are numbered in the order of
+-- measurements.)
+use Rattle.std.specs.Prelude.{◌≡◌, ℕ, ◌+◌, false, List, [], ◌++◌, replicate, Option, None, Some}
 use Rattle.pauli_word.specs.declared.letter.Letter.{Letter}
 use Rattle.pauli_word.specs.Words.{no_letters}
 use Rattle.programs.specs.declared.step.Step.{Step}
 use Rattle.programs.specs.declared.step.Step.TheVariants.{One, Two, Collapse, CollapseWord, Fault, Feedback}
+use Rattle.programs.specs.Kept.{KeptProgram}
 use Rattle.programs.specs.Listed.{listed}
 use Rattle.programs.specs.Named.{IsStepOf}
-use Rattle.step_model.specs.Frames.{records_by_each, words_collapsed}
-use Rattle.step_model.specs.Listing.{Listing}
+use Rattle.step_model.specs.Frames.{begun, flips_from, flips_of, first_word, zero_coins}
+use Rattle.step_model.specs.Listing.{ListedStep}
 use Rattle.step_model.specs.Sensitivities.{collapse_word}
+use Rattle.step_model.specs.declared.step.Place.TheVariants.{After}
 use Rattle.frames.specs.declared.collapses.Passed.{Passed}
 
 -- how many records there are after a collapse that makes the record of this number; as many as before where it makes
@@ -29,25 +31,25 @@ made_after made (CollapseWord p rec inverted flip) = made_with made rec
 made_after made (Fault name) = made
 made_after made (Feedback letter q r) = made
 
--- how many records there are after the collapse k, and the word that it measures
-abbrev pub made_at : Listing → ℕ → ℕ
-made_at program k = slice_index_or (records_by_each 0 program.steps) k 0
-
-abbrev pub word_at : Listing → ℕ → List Letter
-word_at program k = slice_index_or (words_collapsed program.qubits program.steps) k (no_letters program.qubits)
-
--- the walk has gone over the collapse k of a program
-pub record IsPassed (program : Listing) (k : ℕ) (passed : Passed) : Type 0 where
+-- the walk has gone over the collapse k of a program, and these steps are left: a frame begun there flips none of the
+-- collapses so far
+pub record IsPassed (program : KeptProgram) (k : ℕ) (left : List ListedStep) (passed : Passed) : Type 0 where
   pub named : IsStepOf program passed.step
-  pub made : passed.made ≡ made_at program k
-  pub word : collapse_word program.qubits (listed program.qubits program.products passed.step) ≡ word_at program k
+  pub word :
+      collapse_word program.listing.qubits (listed program.listing.qubits program.products passed.step)
+      ≡ first_word program.listing (After k)
+  pub flips :
+      (v : List Letter)
+      → replicate (k + 1) false ++ flips_from program.listing.qubits (begun v passed.made) left
+      ≡ flips_of program.listing (After k) v
 
--- there is no collapse k
-pub record IsNotThere (program : Listing) (k : ℕ) : Type 0 where
-  pub made : made_at program k ≡ 0
-  pub word : word_at program k ≡ no_letters program.qubits
+-- there is no collapse k, and no step is left
+pub record IsNotThere (program : KeptProgram) (k : ℕ) (left : List ListedStep) : Type 0 where
+  pub ended : left ≡ []
+  pub word : first_word program.listing (After k) ≡ no_letters program.listing.qubits
+  pub flips : (v : List Letter) → flips_of program.listing (After k) v ≡ zero_coins program.listing
 
--- what is known of the collapse k, where there is one and where there is none
-abbrev pub Passes : Listing → ℕ → Option Passed → Type 0
-Passes program k None = IsNotThere program k
-Passes program k (Some passed) = IsPassed program k passed
+-- what is known of the collapse k, where there is one and where there is none, with these steps left
+abbrev pub Passes : KeptProgram → ℕ → List ListedStep → Option Passed → Type 0
+Passes program k left None = IsNotThere program k left
+Passes program k left (Some passed) = IsPassed program k left passed

@@ -12,18 +12,16 @@ use step_model::{Cause, Fault, Place};
 
 /// The flips of a Pauli frame, which begins as this word at this place: for each collapse whether the frame flips its
 /// outcome. A collapse is the projective measurement inside a measurement or a reset; those up to and with the place's
-/// own are not flipped. The word's sign plays no part, and no fault happens.
-///
-/// A place after collapse k gives k + 1 flips or more, even where the program has fewer collapses. It fails only where
-/// memory runs out.
+/// own are not flipped, and none is where the program has no such collapse. The word's sign plays no part, and no fault
+/// happens. It fails only where memory runs out.
 pub fn flips<A: Allocator + Copy>(
     alloc: A,
     program: &Program<'_, A>,
     place: Place,
     word: &Word<A>,
 ) -> Result<Vec<bool, A>, Fault>
-    requires { length word.now.letters ≡ program.now.qubits }
-    ensures ok { IfOk result (λ flips. flips.items ≡ flips_of program.now place word.now.letters) }
+    requires { length word.now.letters ≡ program.now.listing.qubits }
+    ensures ok { IfOk result (λ flips. flips.items ≡ flips_of program.now.listing place word.now.letters) }
     ensures err { IfErr result (λ e. e ≡ memory_fault) }
 {
     match flips_at(alloc, program, place, word) {
@@ -41,8 +39,8 @@ pub(crate) fn flips_at<A: Allocator + Copy>(
     place: Place,
     word: &Word<A>,
 ) -> Result<Vec<bool, A>, AllocError>
-    requires { length word.now.letters ≡ program.now.qubits }
-    ensures { IfOk result (λ flips. flips.items ≡ flips_of program.now place word.now.letters) }
+    requires { length word.now.letters ≡ program.now.listing.qubits }
+    ensures { IfOk result (λ flips. flips.items ≡ flips_of program.now.listing place word.now.letters) }
 {
     let mut walk = Walk::start(program);
     let mut flips = Vec::new(alloc);
@@ -63,16 +61,21 @@ fn go_to<A: Allocator + Copy>(
     requires start { walk.old.place ≡ 0 }
     requires none { flips.old.items ≡ [] }
     ensures program { OnOk result (walk.new.program ≡ program.now) }
-    ensures flips { IfOk result (λ made. (v : List Letter) → flips.new.items ++ flips_from program.now.qubits (begun v made) (drop walk.new.place program.now.steps) ≡ flips_of program.now place v) }
+    ensures flips { IfOk result (λ made. (v : List Letter) → flips.new.items ++ flips_from program.now.listing.qubits (begun v made) (drop walk.new.place program.now.listing.steps) ≡ flips_of program.now.listing place v) }
 {
-    let mut made = 0;
-    if let Place::After(collapse) = place {
-        flips.resize(collapse as usize + 1, false)?;
-        if let Some(passed) = go_past(program, walk, collapse) {
-            made = passed.made;
-        }
+    match place {
+        Place::Start(_) => Ok(0),
+        Place::After(collapse) => match go_past(program, walk, collapse) {
+            Some(passed) => {
+                flips.resize(collapse as usize + 1, false)?;
+                Ok(passed.made)
+            }
+            None => {
+                flips.resize(program.collapse_count() as usize, false)?;
+                Ok(0)
+            }
+        },
     }
-    Ok(made)
 }
 
 // Appends the flips of the collapses to come.
@@ -83,8 +86,8 @@ fn push_flips<A: Allocator + Copy>(
     flips: &mut Vec<bool, A>,
 ) -> Result<(), AllocError>
     requires program { walk.old.program ≡ program.now }
-    requires size { length frame.old.word ≡ program.now.qubits }
-    ensures { OnOk result (flips.new.items ≡ flips.old.items ++ flips_from program.now.qubits frame.old (drop walk.old.place program.now.steps)) }
+    requires size { length frame.old.word ≡ program.now.listing.qubits }
+    ensures { OnOk result (flips.new.items ≡ flips.old.items ++ flips_from program.now.listing.qubits frame.old (drop walk.old.place program.now.listing.steps)) }
 {
     program.well_formed();
     while let Some(step) = walk.next_step() {

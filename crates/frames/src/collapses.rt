@@ -1,7 +1,6 @@
 //! The way from the start of a program to a collapse, which is the projective measurement inside a measurement or a
 //! reset.
-ghost use Rattle.std.specs.Prelude.{◌≡◌, [], drop, slice_index_or};
-ghost use Rattle.step_model.specs.Frames.{steps_after_each};
+ghost use Rattle.std.specs.Prelude.{◌≡◌, drop};
 ghost use Rattle.frames.specs.Passes.{made_after, Passes};
 
 use programs::{Program, Step, Walk};
@@ -23,8 +22,7 @@ pub(crate) fn go_past<A: Allocator + Copy>(
     requires program { walk.old.program ≡ program.now }
     requires start { walk.old.place ≡ 0 }
     ensures program { walk.new.program ≡ program.now }
-    ensures rest { drop walk.new.place program.now.steps ≡ slice_index_or (steps_after_each program.now.steps) collapse [] }
-    ensures passed { Passes program.now collapse result }
+    ensures passed { Passes program.now collapse (drop walk.new.place program.now.listing.steps) result }
 {
     program.well_formed();
     let mut made = 0;

@@ -49,9 +49,9 @@ impl<A: Allocator + Copy> Frame<A> {
         step: Step,
     ) -> Result<Option<bool>, AllocError>
         requires named { IsStepOf program.now step }
-        requires size { length self.old.word ≡ program.now.qubits }
-        ensures flip { IfOk result (λ flip. flip ≡ flip_of program.now.qubits self.old (listed program.now.qubits program.now.products step)) }
-        ensures carried { OnOk result (self.new ≡ carried program.now.qubits (listed program.now.qubits program.now.products step) self.old) }
+        requires size { length self.old.word ≡ program.now.listing.qubits }
+        ensures flip { IfOk result (λ flip. flip ≡ flip_of program.now.listing.qubits self.old (listed program.now.listing.qubits program.now.products step)) }
+        ensures carried { OnOk result (self.new ≡ carried program.now.listing.qubits (listed program.now.listing.qubits program.now.products step) self.old) }
     {
         match step {
             Step::One { gate, q } => self.move_one(gate, q as usize),
@@ -104,8 +104,8 @@ impl<A: Allocator + Copy> Frame<A> {
     // Whether the frame anticommutes with a product of the program.
     fn meets(&self, program: &Program<'_, A>, product: u32) -> bool
         requires there { product < length program.now.products }
-        requires size { length self.now.word ≡ program.now.qubits }
-        ensures { result ≡ anticommute self.now.word (word_of_terms program.now.qubits (slice_index_or program.now.products product [])) }
+        requires size { length self.now.word ≡ program.now.listing.qubits }
+        ensures { result ≡ anticommute self.now.word (word_of_terms program.now.listing.qubits (slice_index_or program.now.products product [])) }
     {
         program.well_formed();
         anticommutes(&self.word, program.product(product))

@@ -24,9 +24,9 @@ pub fn coin_pair<A: Allocator + Copy>(
     program: &Program<'_, A>,
     place: Place,
 ) -> Result<(Vec<bool, A>, Vec<bool, A>), Fault>
-    ensures first { IfOk result (λ pair. pair.0.items ≡ zero_coins program.now) }
-    ensures second { IfOk result (λ pair. pair.1.items ≡ pair_coins program.now place) }
-    ensures differ { IfOk result (λ pair. (d : ℕ) → place_of program.now d ≡ Some place → PairDiffers program.now d pair.0.items pair.1.items) }
+    ensures first { IfOk result (λ pair. pair.0.items ≡ zero_coins program.now.listing) }
+    ensures second { IfOk result (λ pair. pair.1.items ≡ pair_coins program.now.listing place) }
+    ensures differ { IfOk result (λ pair. (d : ℕ) → place_of program.now.listing d ≡ Some place → PairDiffers program.now.listing d pair.0.items pair.1.items) }
     ensures err { IfErr result (λ e. e ≡ memory_fault) }
 {
     program.well_formed();
@@ -45,8 +45,8 @@ fn pair_at<A: Allocator + Copy>(
     program: &Program<'_, A>,
     place: Place,
 ) -> Result<(Vec<bool, A>, Vec<bool, A>), AllocError>
-    ensures first { IfOk result (λ pair. pair.0.items ≡ zero_coins program.now) }
-    ensures second { IfOk result (λ pair. pair.1.items ≡ pair_coins program.now place) }
+    ensures first { IfOk result (λ pair. pair.0.items ≡ zero_coins program.now.listing) }
+    ensures second { IfOk result (λ pair. pair.1.items ≡ pair_coins program.now.listing place) }
 {
     let mut zeros = Vec::new(alloc);
     zeros.resize(program.collapse_count() as usize, false)?;
@@ -61,8 +61,8 @@ fn word_at<A: Allocator + Copy>(
     program: &Program<'_, A>,
     place: Place,
 ) -> Result<Word<A>, AllocError>
-    ensures word { IfOk result (λ word. word.letters ≡ first_word program.now place) }
-    ensures size { IfOk result (λ word. length word.letters ≡ program.now.qubits) }
+    ensures word { IfOk result (λ word. word.letters ≡ first_word program.now.listing place) }
+    ensures size { IfOk result (λ word. length word.letters ≡ program.now.listing.qubits) }
 {
     let qubits = program.qubits() as usize;
     match place {
@@ -97,8 +97,8 @@ fn word_measured<A: Allocator + Copy>(
     step: Step,
 ) -> Result<Word<A>, AllocError>
     requires { IsStepOf program.now step }
-    ensures word { IfOk result (λ word. word.letters ≡ collapse_word program.now.qubits (listed program.now.qubits program.now.products step)) }
-    ensures size { IfOk result (λ word. length word.letters ≡ program.now.qubits) }
+    ensures word { IfOk result (λ word. word.letters ≡ collapse_word program.now.listing.qubits (listed program.now.listing.qubits program.now.products step)) }
+    ensures size { IfOk result (λ word. length word.letters ≡ program.now.listing.qubits) }
 {
     program.well_formed();
     let qubits = program.qubits() as usize;

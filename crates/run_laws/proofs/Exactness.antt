@@ -1,12 +1,10 @@
 -- The model of a program's hits fits the program, and is exact where no target has a place: its lines stand for the
 -- faults that hit something, and by duality the targets that differ are the exclusive sum of what the faults hit.
-use Rattle.std.proofs.Common.{◌≡◌, ◌≢◌, ◌<◌, ◌≤◌, ◌+◌, ℕ, zero, suc, Bool, true, false, not, ◌&&◌, ◌||◌, cond, eqb, List, [], ◌∷◌, length, get_or, map, None, inl, inr, refl, ap, ap₂, sym, ◌∙◌, arith, eqb-true, ne_eqb, eq-eqb}
-use Rattle.std.proofs.lemmas.Bool.{not-false, cases_eq}
-use Rattle.std.proofs.lemmas.List.FromFn.{get_or-range_with_len, length-range_with_len}
+use Rattle.std.proofs.Common.{◌≡◌, ◌≢◌, ◌<◌, ◌≤◌, ◌+◌, ℕ, zero, suc, Bool, true, false, not, ◌&&◌, cond, eqb, List, [], ◌∷◌, length, get_or, map, None, refl, ap, ap₂, sym, ◌∙◌, arith, eqb-true}
+use Rattle.std.proofs.lemmas.Bool.{not-false}
 use Rattle.std.proofs.lemmas.List.Kept.{IsStrictlyIncreasing-filter}
 use Rattle.std.proofs.lemmas.List.Elements.{All-from_recursion}
 use Rattle.std.specs.List.{range_with_len, list_any, filter, AllByRecursion}
-use Rattle.std.specs.List.Sorted.{IsStrictlyIncreasing}
 use Rattle.pauli_word.specs.Parity.{exclusive_or}
 use Rattle.step_model.specs.ErrorModels.{LinesFit, Fits, is_in_sum, IsExact}
 use Rattle.step_model.specs.HitModels.{targets_hit, hitting_faults, line_of, model_of}

@@ -15,10 +15,10 @@ measure w r inverted flip = Collapse (Word w) (Some (record { number = r; invert
 
 abbrev listing : ℕ → ℕ → List ListedStep → List (List ℕ) → List ListedFault → Listing
 listing n collapses steps detectors faults =
-    record { qubits = n; records = collapses; collapses = collapses; steps = steps; detectors = detectors; observables = []; coordinates = []; faults = faults; kept = []; products = [] }
+    record { qubits = n; records = collapses; collapses = collapses; steps = steps; detectors = detectors; observables = []; coordinates = []; faults = faults }
 
 abbrev flip_of : ℕ → ListedFault
-flip_of r = record { text = []; bound = 0; effect = Flips r; entry = 0 }
+flip_of r = record { text = []; bound = 0; effect = Flips r }
 
 -- H 0, M(0.1) 0, CX rec[-1] 0, M 0, DETECTOR rec[-1]
 abbrev returned : Listing

@@ -1,5 +1,5 @@
 -- The coin pair of a place gives its target different parities, so the target is random.
-use Rattle.std.proofs.Common.{◌≡◌, ◌≢◌, ℕ, ◌<◌, refl, inl, inr, not, Bool, true, false, List, [], length, get_or, replicate, Option, None, Some, ap, sym, ◌∙◌, subst}
+use Rattle.std.proofs.Common.{◌≡◌, ◌≢◌, ℕ, ◌<◌, refl, inl, inr, not, Bool, true, false, List, [], length, replicate, Option, None, Some, ap, sym, ◌∙◌, subst}
 use Rattle.std.proofs.lemmas.List.{length-replicate}
 use Rattle.std.specs.Option.{option_map}
 use Rattle.pauli_word.specs.declared.letter.Letter.TheVariants.{Z}
@@ -7,7 +7,7 @@ use Rattle.pauli_word.specs.Words.{lone_letter}
 use Rattle.pauli_word.proofs.WordLaws.{anticommute_comm}
 use Rattle.step_model.specs.declared.step.Place.{Place}
 use Rattle.step_model.specs.declared.step.Place.TheVariants.{Start, After}
-use Rattle.step_model.specs.Frames.{begun, records_by_each, flips_from, zero_coins, pair_coins, first_word}
+use Rattle.step_model.specs.Frames.{begun, flips_from, zero_coins, pair_coins, first_word}
 use Rattle.step_model.specs.Listing.{Listing}
 use Rattle.step_model.specs.Runs.{start}
 use Rattle.step_model.specs.Sensitivities.{after_or_start, latest_place, sensitivity, lowest_X_or_Y, place_of}
@@ -17,7 +17,7 @@ use Rattle.step_model.specs.Targets.{target_at}
 use Rattle.step_model.specs.WellFormed.{IsWellFormed}
 use Rattle.pauli_word.proofs.Groups.{IsGroup-start}
 use Rattle.run_laws.proofs.ConstancyRuns.{length-sensitivity, parity_is_constant}
-use Rattle.run_laws.proofs.PairPlaces.{option_either, place_inside, length-flips_from, length-flips_after, lowest-clash}
+use Rattle.run_laws.proofs.PairPlaces.{option_either, length-flips_from, length-flips_after, lowest-clash}
 use Rattle.run_laws.proofs.PairRuns.{frame_disagrees, place_disagrees}
 use Rattle.run_laws.proofs.PairStates.{start-shifted, lone_letter-I_or_Z}
 use Rattle.run_laws.proofs.ShiftLists.{joined-zeros}
@@ -39,7 +39,7 @@ after_disagrees : (program : Listing) (d k : ℕ) → IsWellFormed program → l
 after_disagrees program d k fit place =
     let coins = pair_coins program (After k) in
     let long : length coins ≡ program.collapses =
-    length-flips_after program.qubits (begun (first_word program (After k)) (get_or (records_by_each 0 program.steps) k 0)) program.steps k (place_inside program.qubits (target_at program d) program.steps k place)
+    length-flips_after program.qubits (first_word program (After k)) k 0 program.steps
     ∙ fit.collapses_counted in
     record {
       first = length-replicate program.collapses false;

@@ -1,10 +1,11 @@
--- Where the place of a target is, and how many flips the frame begun there has.
-use Rattle.std.proofs.Common.{◌≡◌, ℕ, zero, suc, ◌+◌, ◌<◌, ◌⊎◌, inl, inr, if◌then◌else◌, Bool, true, false, List, [], ◌∷◌, ◌++◌, length, replicate, get_or, Option, None, Some, refl, ap, sym, ◌∙◌, arith}
-use Rattle.pauli_word.proofs.WordLaws.{anticommute_of_none}
+-- Where the place of a target is, and how many flips a frame has.
+use Rattle.std.proofs.Common.{◌≡◌, ℕ, zero, suc, ◌+◌, ◌-◌, ◌==◌, ◌⊎◌, inl, inr, if◌then◌else◌, Bool, true, false, List, [], ◌∷◌, length, Option, None, Some, refl, ap, sym, ◌∙◌, arith}
+use Rattle.std.proofs.Math.Dec.{eqb-suc-zero}
+use Rattle.pauli_word.specs.declared.letter.Letter.{Letter}
 pub use Rattle.pauli_word.proofs.LowestLetters.{lowest-clash}
-use Rattle.step_model.specs.Listing.{ListedStep, One, Two, Collapse, Fault, Feedback, is_collapse}
-use Rattle.step_model.specs.Frames.{Frame, flips_from, steps_after_each}
-use Rattle.step_model.specs.Sensitivities.{later_or_here, latest_place, sensitivity}
+use Rattle.step_model.specs.Listing.{ListedStep, One, Two, Collapse, Fault, Feedback, step_records, is_collapse}
+use Rattle.step_model.specs.Frames.{Frame, begun, flips_from, flips_after}
+use Rattle.step_model.specs.Sensitivities.{later_or_here}
 use Rattle.step_model.specs.WellFormed.{collapse_count}
 
 pub option_either : {T : Type 0} → (o : Option T) → (o ≡ None) ⊎ ((x : T) × (o ≡ Some x))
@@ -39,6 +40,11 @@ later_or_this step (Some j) clashes k this e =
 later_or_this step None true k this e = inr (refl, refl, sym (some_injective _ _ e))
 later_or_this step None false k this e = cc
 
+-- what is said of 0, and otherwise of the number before
+pub after_first : {T : Type 0} (k : ℕ) (first : T) (later : ℕ → T) → (if suc k == 0 then first else later (suc k - 1)) ≡ later k
+after_first k first later = ap (λ b. if b then first else later (suc k - 1)) (eqb-suc-zero k) ∙ ap later (omega arith)
+
+-- a frame has a flip for each collapse to come
 pub length-flips_from : (n : ℕ) (v : Frame) (steps : List ListedStep) → length (flips_from n v steps) ≡ collapse_count steps
 length-flips_from n v [] = refl
 length-flips_from n v (One gate q ∷ steps) = length-flips_from n _ steps ∙ omega arith
@@ -47,33 +53,15 @@ length-flips_from n v (Collapse c r ∷ steps) = ap suc (length-flips_from n _ s
 length-flips_from n v (Fault f ∷ steps) = length-flips_from n _ steps ∙ omega arith
 length-flips_from n v (Feedback w r ∷ steps) = length-flips_from n _ steps ∙ omega arith
 
--- a collapse's place is one of the collapses
-pub place_inside : (n : ℕ) (named : List ℕ) (steps : List ListedStep) (k : ℕ) → latest_place n named steps ≡ Some k → k < collapse_count steps
-place_inside n named [] k h = cc
-place_inside n named (One gate q ∷ steps) k h =
-    let e = place_inside n named steps k (later_only (One gate q) _ _ k refl (anticommute_of_none n (sensitivity n named steps).word) h) in
-    omega arith
-place_inside n named (Two gate a b ∷ steps) k h =
-    let e = place_inside n named steps k (later_only (Two gate a b) _ _ k refl (anticommute_of_none n (sensitivity n named steps).word) h) in
-    omega arith
-place_inside n named (Collapse c r ∷ steps) k h =
-    elim (later_or_this (Collapse c r) (latest_place n named steps) _ k refl h) [
-      | inl x ↦ (let e : x.0 < collapse_count steps = place_inside n named steps x.0 x.1 in omega arith)
-      | inr x ↦ omega arith
-    ]
-place_inside n named (Fault f ∷ steps) k h =
-    let e = place_inside n named steps k (later_only (Fault f) _ _ k refl (anticommute_of_none n (sensitivity n named steps).word) h) in
-    omega arith
-place_inside n named (Feedback w r ∷ steps) k h =
-    let e = place_inside n named steps k (later_only (Feedback w r) _ _ k refl (anticommute_of_none n (sensitivity n named steps).word) h) in
-    omega arith
-
--- up to and with the place there are zeros, and after it the frame's flips
-pub length-flips_after : (n : ℕ) (v : Frame) (steps : List ListedStep) (k : ℕ) → k < collapse_count steps → length (replicate (suc k) false ++ flips_from n v (get_or (steps_after_each steps) k [])) ≡ collapse_count steps
-length-flips_after n v [] k h = absurd (omega arith)
-length-flips_after n v (One gate q ∷ steps) k h = length-flips_after n v steps k (omega arith) ∙ omega arith
-length-flips_after n v (Two gate a b ∷ steps) k h = length-flips_after n v steps k (omega arith) ∙ omega arith
-length-flips_after n v (Collapse c r ∷ steps) zero h = ap suc (length-flips_from n v steps) ∙ omega arith
-length-flips_after n v (Collapse c r ∷ steps) (suc k) h = ap suc (length-flips_after n v steps k (omega arith)) ∙ omega arith
-length-flips_after n v (Fault f ∷ steps) k h = length-flips_after n v steps k (omega arith) ∙ omega arith
-length-flips_after n v (Feedback w r ∷ steps) k h = length-flips_after n v steps k (omega arith) ∙ omega arith
+-- so has a frame that begins after one of the collapses, or after none of them
+pub length-flips_after : (n : ℕ) (v : List Letter) (k made : ℕ) (steps : List ListedStep) → length (flips_after n v k made steps) ≡ collapse_count steps
+length-flips_after n v k made [] = refl
+length-flips_after n v k made (One gate q ∷ steps) = length-flips_after n v k _ steps ∙ omega arith
+length-flips_after n v k made (Two gate a b ∷ steps) = length-flips_after n v k _ steps ∙ omega arith
+length-flips_after n v zero made (Collapse c r ∷ steps) = ap suc (length-flips_from n _ steps) ∙ omega arith
+length-flips_after n v (suc k) made (Collapse c r ∷ steps) =
+    let so_far = made + length (step_records (Collapse c r)) in
+    ap (λ flips. suc (length flips)) (after_first k (flips_from n (begun v so_far) steps) (λ j. flips_after n v j so_far steps))
+    ∙ (ap suc (length-flips_after n v k so_far steps) ∙ omega arith)
+length-flips_after n v k made (Fault f ∷ steps) = length-flips_after n v k _ steps ∙ omega arith
+length-flips_after n v k made (Feedback w r ∷ steps) = length-flips_after n v k _ steps ∙ omega arith

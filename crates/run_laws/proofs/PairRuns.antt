@@ -7,7 +7,7 @@ use Rattle.pauli_word.specs.declared.letter.Letter.{Letter}
 use Rattle.pauli_word.specs.Parity.{exclusive_or}
 use Rattle.pauli_word.specs.Words.{anticommute, no_letters}
 use Rattle.pauli_word.proofs.WordLaws.{anticommute_of_none}
-use Rattle.step_model.specs.Frames.{begun, flips_from, records_by_each, steps_after_each, words_collapsed}
+use Rattle.step_model.specs.Frames.{begun, flips_from, flips_after, words_collapsed}
 use Rattle.step_model.specs.Listing.{ListedStep, One, Two, Collapse, Fault, Feedback, Measured, Recorded, measured_word, Listing, step_records}
 use Rattle.pauli_word.specs.States.{State, outcome, collapsed, IsGroup}
 use Rattle.step_model.specs.Runs.{RunState, correction, corrected, record_changes, next_coin, next, run_from}
@@ -18,7 +18,7 @@ use Rattle.step_model.specs.WellFormed.{step_fits, records_made}
 use Rattle.step_model.proofs.StateIsGroup.{IsGroup-next, length-measured}
 use Rattle.run_laws.proofs.ConstancyRecords.{in_order-next}
 use Rattle.run_laws.proofs.PairParity.{Numbered, parity-carried}
-use Rattle.run_laws.proofs.PairPlaces.{later_only, later_or_this}
+use Rattle.run_laws.proofs.PairPlaces.{after_first, later_only, later_or_this}
 use Rattle.run_laws.proofs.PairStates.{collapse-shifted}
 use Rattle.run_laws.proofs.ShiftLists.{joined-no_flips, parity-joined, parity-zeros}
 use Rattle.run_laws.proofs.ShiftRuns.{frames_shift_runs, same-flips}
@@ -74,14 +74,12 @@ made-next program faults c None m made h = omega arith
 made-next program faults c (Some r) m made h = omega (arith, length-append m.records (exclusive_or (outcome m.state (measured_word program.qubits c) (next_coin m.coins)) (record_changes faults (Some r)) ∷ []))
 
 -- the coins of a pair, whose frame begins after collapse k of these steps, so many records being made before them
-abbrev flips_after : ℕ → ℕ → List ListedStep → ℕ → List Bool
-flips_after n made steps k =
-    replicate (suc k) false
-    ++ flips_from n (begun (get_or (words_collapsed n steps) k (no_letters n)) (get_or (records_by_each made steps) k 0)) (get_or (steps_after_each steps) k [])
+abbrev pair_flips : ℕ → ℕ → List ListedStep → ℕ → List Bool
+pair_flips n made steps k = flips_after n (get_or (words_collapsed n steps) k (no_letters n)) k made steps
 
 pub place_disagrees : (program : Listing) (named : List ℕ) (steps : List ListedStep) (k made : ℕ) (m : RunState) (coins : List Bool)
     → AllPass (step_fits program) steps → Numbered (length m.records) steps → IsGroup program.qubits m.state → made ≡ length m.records
-    → latest_place program.qubits named steps ≡ Some k → coins ≡ flipped_by (flips_after program.qubits made steps k) m.coins
+    → latest_place program.qubits named steps ≡ Some k → coins ≡ flipped_by (pair_flips program.qubits made steps k) m.coins
     → parity named (run_from program [] steps (with_coins m coins)).records ≡ not (parity named (run_from program [] steps m).records)
 place_disagrees program named [] k made m coins fit numbered group made_is place flipped = cc
 place_disagrees program named (One gate q ∷ steps) k made m coins fit numbered group made_is place flipped =
@@ -111,11 +109,16 @@ place_disagrees program named (Collapse c r ∷ steps) k made m coins fit number
     let after = λ (c : RunState). parity named (run_from program [] steps c).records in
     elim (later_or_this step (latest_place n named steps) (anticommute w (sensitivity n named steps).word) k refl place) [
       | inl x ↦
-          (let e : coins ≡ flipped_by (flips_after n made (step ∷ steps) (suc x.0)) m.coins = flipped ∙ ap (λ i. flipped_by (flips_after n made (step ∷ steps) i) m.coins) x.2 in
+          (let so_far = made + length (step_records step) in
+          let first = get_or (words_collapsed n steps) x.0 (no_letters n) in
+          let later : pair_flips n made (step ∷ steps) (suc x.0) ≡ false ∷ pair_flips n so_far steps x.0 =
+          ap (λ flips. false ∷ flips) (after_first x.0 (flips_from n (begun first so_far) steps) (λ j. flips_after n first j so_far steps)) in
+          let e : coins ≡ flipped_by (false ∷ pair_flips n so_far steps x.0) m.coins =
+          flipped ∙ ap (λ flips. flipped_by flips m.coins) (ap (pair_flips n made (step ∷ steps)) x.2 ∙ later) in
           ap after (same-collapse program [] c r m coins (ap next_coin e))
-          ∙ place_disagrees program named steps x.0 (made + length (step_records step)) (next program [] step m) (drop 1 coins) fit_after numbered_after group_after (made-next program [] c r m made made_is) x.1 (ap (drop 1) e))
+          ∙ place_disagrees program named steps x.0 so_far (next program [] step m) (drop 1 coins) fit_after numbered_after group_after (made-next program [] c r m made made_is) x.1 (ap (drop 1) e))
       | inr x ↦
-          (let e : coins ≡ flipped_by (flips_after n made (step ∷ steps) 0) m.coins = flipped ∙ ap (λ i. flipped_by (flips_after n made (step ∷ steps) i) m.coins) x.2 in
+          (let e : coins ≡ flipped_by (pair_flips n made (step ∷ steps) 0) m.coins = flipped ∙ ap (λ i. flipped_by (pair_flips n made (step ∷ steps) i) m.coins) x.2 in
           ap after (same-collapse program [] c r m coins (ap next_coin e))
           ∙ frame_disagrees program named steps w (made + length (step_records step)) (next program [] step m) (drop 1 coins) fit_after numbered_after (length-measured program c r fits) group_after
           (made-next program [] c r m made made_is)

@@ -1,6 +1,6 @@
 -- Words of a run's state as frames: by such a word the state differs from itself, so it may be begun anywhere as a frame,
 -- and any frame may be multiplied by it.
-use Rattle.std.proofs.Common.{◌≡◌, ℕ, zero, suc, ◌+◌, ◌<◌, ◌≤◌, inl, inr, if◌then◌else◌, Bool, true, false, List, [], ◌∷◌, ◌++◌, length, length-append, get_or, replicate, refl, ap, ap₂, sym, ◌∙◌, arith, subst}
+use Rattle.std.proofs.Common.{◌≡◌, ℕ, zero, suc, ◌+◌, ◌<◌, ◌≤◌, ◌-◌, ◌==◌, inl, inr, not, if◌then◌else◌, Bool, true, false, List, [], ◌∷◌, ◌++◌, length, length-append, replicate, refl, ap, ap₂, sym, ◌∙◌, arith, subst}
 use Rattle.std.proofs.lemmas.Bool.{cases_Bool}
 use Rattle.std.proofs.lemmas.List.{length-replicate}
 use Rattle.std.proofs.lemmas.List.Elements.{All-head, All-tail}
@@ -12,13 +12,14 @@ use Rattle.pauli_word.proofs.Groups.{IsGroup-start}
 use Rattle.pauli_word.proofs.WordLaws.{length-letters_product}
 use Rattle.step_model.specs.declared.step.Place.{Place}
 use Rattle.step_model.specs.declared.step.Place.TheVariants.{Start, After}
-use Rattle.step_model.specs.Frames.{Frame, begun, flips_from, flips_of, records_by_each, steps_after_each}
+use Rattle.step_model.specs.Frames.{Frame, begun, flips_from, flips_after, flips_of}
 use Rattle.step_model.specs.Listing.{Listing, ListedStep, One, Two, Collapse, Fault, Feedback, measured_word, step_records, is_collapse}
 use Rattle.step_model.specs.Runs.{RunState, next, next_coin, run_from, start}
 use Rattle.step_model.specs.WellFormed.{step_fits, records_made, collapse_count}
 use Rattle.step_model.proofs.StateIsGroup.{IsGroup-next}
-use Rattle.run_laws.specs.ShiftedWords.{FlipsOutcomes, flips_between, steps_after, IsThere, WordShift, PlaceShift, ProductLaw}
+use Rattle.run_laws.specs.ShiftedWords.{FlipsOutcomes, flips_between, steps_past, steps_after, IsThere, WordShift, PlaceShift, ProductLaw}
 use Rattle.run_laws.specs.Shifts.{flipped_by, outcomes_from, flips_with, IsShifted, DifferByFrame, IsShift}
+use Rattle.run_laws.proofs.PairPlaces.{after_first}
 use Rattle.run_laws.proofs.PairRuns.{with_coins, same-collapse, made-next}
 use Rattle.run_laws.proofs.PairStates.{shifted-times}
 use Rattle.run_laws.proofs.ShiftLists.{joined-no_flips}
@@ -123,52 +124,67 @@ no_front : (earlier steps : List ListedStep) → steps ≡ earlier ++ steps → 
 no_front [] steps e = refl
 no_front (step ∷ earlier) steps e = absurd (omega (arith, ap length e, length-append (step ∷ earlier) steps))
 
-within_step : (b : Bool) (steps : List ListedStep) (k : ℕ) → ((j : ℕ) → length (get_or (steps_after_each steps) j []) ≤ length steps)
-    → length (get_or ((if b then steps ∷ [] else []) ++ steps_after_each steps) k []) ≤ length steps
+within_step : (b : Bool) (steps : List ListedStep) (k : ℕ) → ((j : ℕ) → length (steps_past j steps) ≤ length steps)
+    → length (if not b then steps_past k steps else if k == 0 then steps else steps_past (k - 1) steps) ≤ length steps
 within_step false steps k rest = rest k
 within_step true steps zero rest = omega arith
-within_step true steps (suc k) rest = rest k
+within_step true steps (suc k) rest = subst (λ later. length later ≤ length steps) (sym (after_first k steps (λ j. steps_past j steps))) (rest k)
 
 -- what comes after a collapse of these steps is no longer than they are
-within : (steps : List ListedStep) (k : ℕ) → length (get_or (steps_after_each steps) k []) ≤ length steps
+within : (steps : List ListedStep) (k : ℕ) → length (steps_past k steps) ≤ length steps
 within [] k = omega arith
 within (step ∷ steps) k = omega (arith, within_step (is_collapse step) steps k (within steps))
-
--- how many collapses and records there are up to a collapse, of steps before which so many records were made
-record Counts (count records : ℕ) (k first : ℕ) (earlier : List ListedStep) : Type 0 where
-  collapses : count ≡ suc k
-  made : records ≡ first + length (records_made earlier)
-
-counts_at : (b : Bool) (steps earlier : List ListedStep) (k made : ℕ)
-    → steps ≡ earlier ++ get_or ((if b then steps ∷ [] else []) ++ steps_after_each steps) k []
-    → k < (if b then 1 else 0) + collapse_count steps
-    → ((j : ℕ) → steps ≡ earlier ++ get_or (steps_after_each steps) j [] → j < collapse_count steps → Counts (collapse_count earlier) (get_or (records_by_each made steps) j 0) j made earlier)
-    → Counts ((if b then 1 else 0) + collapse_count earlier) (get_or ((if b then made ∷ [] else []) ++ records_by_each made steps) k 0) k made earlier
-counts_at false steps earlier k made e inside rest =
-    let c : Counts (collapse_count earlier) (get_or (records_by_each made steps) k 0) k made earlier = rest k e (omega arith) in
-    record { collapses = omega (arith, c.collapses); made = c.made }
-counts_at true steps earlier zero made e inside rest =
-    subst (λ front. Counts (1 + collapse_count front) made 0 made front) (sym (no_front earlier steps e))
-    (record { collapses = refl; made = omega arith })
-counts_at true steps earlier (suc k) made e inside rest =
-    let c : Counts (collapse_count earlier) (get_or (records_by_each made steps) k 0) k made earlier = rest k e (omega arith) in
-    record { collapses = omega (arith, c.collapses); made = c.made }
 
 cons_parts : (x y : ListedStep) (xs ys : List ListedStep) → x ∷ xs ≡ y ∷ ys → (x ≡ y) × (xs ≡ ys)
 cons_parts x y xs ys e = (cc, cc)
 
-counts : (steps earlier : List ListedStep) (k made : ℕ) → steps ≡ earlier ++ get_or (steps_after_each steps) k [] → k < collapse_count steps
-    → Counts (collapse_count earlier) (get_or (records_by_each made steps) k 0) k made earlier
-counts [] earlier k made e inside = absurd (omega arith)
-counts (step ∷ steps) [] k made e inside =
-    absurd (omega (arith, ap length e, within_step (is_collapse step) steps k (within steps)))
-counts (step ∷ steps) (x ∷ earlier) k made e inside =
-    let parts = cons_parts step x steps _ e in
-    let c : Counts (collapse_count (step ∷ earlier)) (get_or (records_by_each made (step ∷ steps)) k 0) k (made + length (step_records step)) earlier =
-    counts_at (is_collapse step) steps earlier k (made + length (step_records step)) parts.1 inside
-    (λ j e' h. counts steps earlier j (made + length (step_records step)) e' h) in
-    subst (λ y. Counts (collapse_count (y ∷ earlier)) (get_or (records_by_each made (step ∷ steps)) k 0) k made (y ∷ earlier)) parts.0
-    (record { collapses = c.collapses; made = omega (arith, c.made, length-append (step_records step) (records_made earlier)) })
+-- a frame begun as v after the earlier of these steps, which are those up to the collapse k, where so many records were
+-- made before them
+module _ (n : ℕ) (v : List Letter) where
+  abbrev flips_past : ℕ → List ListedStep → List ListedStep → List Bool
+  flips_past made earlier later = replicate (collapse_count earlier) false ++ flips_from n (begun v (made + length (records_made earlier))) later
+
+  past_step : (b : Bool) (steps earlier : List ListedStep) (k made : ℕ)
+      → steps ≡ earlier ++ (if not b then steps_past k steps else if k == 0 then steps else steps_past (k - 1) steps)
+      → k < (if b then 1 else 0) + collapse_count steps
+      → ((j : ℕ) → steps ≡ earlier ++ steps_past j steps → j < collapse_count steps → flips_past made earlier (steps_past j steps) ≡ flips_after n v j made steps)
+      → (if b then false ∷ [] else []) ++ flips_past made earlier (if not b then steps_past k steps else if k == 0 then steps else steps_past (k - 1) steps)
+      ≡ (if not b then flips_after n v k made steps else false ∷ (if k == 0 then flips_from n (begun v made) steps else flips_after n v (k - 1) made steps))
+  past_step false steps earlier k made e inside rest = rest k e (omega arith)
+  past_step true steps earlier zero made e inside rest =
+      subst (λ front. false ∷ flips_past made front steps ≡ false ∷ flips_from n (begun v made) steps) (sym (no_front earlier steps e))
+      (ap (λ m. false ∷ flips_from n (begun v m) steps) (omega arith))
+  past_step true steps earlier (suc k) made e inside rest =
+      let later = after_first k steps (λ j. steps_past j steps) in
+      ap (λ flips. false ∷ flips)
+      (ap (flips_past made earlier) later
+      ∙ (rest k (e ∙ ap (λ behind. earlier ++ behind) later) (omega arith)
+      ∙ sym (after_first k (flips_from n (begun v made) steps) (λ j. flips_after n v j made steps))))
+
+  -- with one step more before it
+  past_front : (b : Bool) (count made made' : ℕ) (later : List ListedStep) → made ≡ made'
+      → replicate ((if b then 1 else 0) + count) false ++ flips_from n (begun v made) later
+      ≡ (if b then false ∷ [] else []) ++ (replicate count false ++ flips_from n (begun v made') later)
+  past_front false count made made' later e =
+      let c : 0 + count ≡ count = omega arith in
+      ap₂ (λ c m. replicate c false ++ flips_from n (begun v m) later) c e
+  past_front true count made made' later e =
+      let c : 1 + count ≡ suc count = omega arith in
+      ap₂ (λ c m. replicate c false ++ flips_from n (begun v m) later) c e
+
+  past : (steps earlier : List ListedStep) (k made : ℕ) → steps ≡ earlier ++ steps_past k steps → k < collapse_count steps
+      → flips_past made earlier (steps_past k steps) ≡ flips_after n v k made steps
+  past [] earlier k made e inside = absurd (omega arith)
+  past (step ∷ steps) [] k made e inside =
+      absurd (omega (arith, ap length e, within_step (is_collapse step) steps k (within steps)))
+  past (step ∷ steps) (x ∷ earlier) k made e inside =
+      let parts = cons_parts step x steps _ e in
+      let counted : made + length (records_made (step ∷ earlier)) ≡ (made + length (step_records step)) + length (records_made earlier) =
+      omega (arith, length-append (step_records step) (records_made earlier)) in
+      subst (λ y. flips_past made (y ∷ earlier) (steps_past k (step ∷ steps)) ≡ flips_after n v k made (step ∷ steps)) parts.0
+      (past_front (is_collapse step) (collapse_count earlier) _ _ (steps_past k (step ∷ steps)) counted
+      ∙ past_step (is_collapse step) steps earlier k (made + length (step_records step)) parts.1 inside
+      (λ j e' h. past steps earlier j (made + length (step_records step)) e' h))
 
 flips_at_place : (program : Listing) (place : Place) (v : List Letter) (earlier : List ListedStep)
     → collapse_count program.steps ≡ program.collapses → IsThere program place → program.steps ≡ earlier ++ steps_after program place
@@ -176,8 +192,8 @@ flips_at_place : (program : Listing) (place : Place) (v : List Letter) (earlier 
 flips_at_place program (Start q) v earlier count there split =
     ap (λ front. flips_between program.qubits v front program.steps) (no_front earlier program.steps split)
 flips_at_place program (After k) v earlier count there split =
-    let c : Counts (collapse_count earlier) (get_or (records_by_each 0 program.steps) k 0) k 0 earlier = counts program.steps earlier k 0 split (omega arith) in
-    ap₂ (λ zeros made. replicate zeros false ++ flips_from program.qubits (begun v made) (steps_after program (After k))) c.collapses (omega (arith, c.made))
+    ap (λ made. replicate (collapse_count earlier) false ++ flips_from program.qubits (begun v made) (steps_past k program.steps)) (omega arith)
+    ∙ past program.qubits v program.steps earlier k 0 split (omega arith)
 
 pub place_shift : PlaceShift
 place_shift program faults coins place v negative earlier fit there split size member =

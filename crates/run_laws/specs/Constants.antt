@@ -39,6 +39,14 @@ signs_brought program faults named (step ∷ earlier) later =
     (sign_brought program faults step (sensitivity program.qubits named (earlier ++ later)))
     (signs_brought program faults named earlier later)
 
+-- whatever faults happen and whatever the coins are, the parity of the target is what all the steps bring: after them its
+-- sensitivity is the identity, and minus the identity is in no state
+abbrev pub IsWhatStepsBring : Listing → ℕ → Type 0
+IsWhatStepsBring program d =
+    (faults coins : List Bool)
+    → parity (target_at program d) (records_of program faults coins)
+    ≡ signs_brought program faults (target_at program d) program.steps []
+
 -- between two parts of the steps, the sensitivity there of the target with these records is in the run's state, with its
 -- sign
 abbrev pub HasSensitivity : Listing → List Bool → List Bool → List ℕ → List ListedStep → List ListedStep → Type 0

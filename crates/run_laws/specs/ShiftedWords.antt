@@ -2,13 +2,13 @@
 -- differs from itself. So if the coins from there on are changed by that frame's flips, each outcome is changed exactly
 -- by its flip. And any frame by which two runs differ may be multiplied by such a word of the first. (Knill, Quantum
 -- computing with realistically noisy devices, Nature 434, 39 (2005): Pauli frames.)
-use Rattle.std.specs.Prelude.{◌≡◌, ◌<◌, ℕ, Bool, true, false, List, [], ◌++◌, length, replicate, slice_index_or}
+use Rattle.std.specs.Prelude.{◌≡◌, ◌<◌, ℕ, ◌-◌, ◌==◌, Bool, true, false, not, if◌then◌else◌, List, [], ◌∷◌, ◌++◌, length, replicate}
 use Rattle.pauli_word.specs.declared.letter.Letter.{Letter}
 use Rattle.pauli_word.specs.Words.{letters_product, signed}
 use Rattle.step_model.specs.declared.step.Place.{Place}
 use Rattle.step_model.specs.declared.step.Place.TheVariants.{Start, After}
-use Rattle.step_model.specs.Frames.{Frame, begun, flips_from, flips_of, steps_after_each}
-use Rattle.step_model.specs.Listing.{Listing, ListedStep}
+use Rattle.step_model.specs.Frames.{Frame, begun, flips_from, flips_of}
+use Rattle.step_model.specs.Listing.{Listing, ListedStep, is_collapse}
 use Rattle.step_model.specs.Runs.{RunState, run_from, start}
 use Rattle.step_model.specs.WellFormed.{IsWellFormed, records_made, collapse_count}
 use Rattle.run_laws.specs.Shifts.{flipped_by, outcomes_from, DifferByFrame}
@@ -39,10 +39,16 @@ WordShift =
     → IsInRun program faults coins earlier v negative
     → FlipsOutcomes program faults coins (flips_between program.qubits v earlier later)
 
+-- those of these steps that come after their collapse k, counted from 0; none where there is no such collapse
+abbrev pub steps_past : ℕ → List ListedStep → List ListedStep
+steps_past k [] = []
+steps_past k (step ∷ steps) =
+    if not (is_collapse step) then steps_past k steps else if k == 0 then steps else steps_past (k - 1) steps
+
 -- the steps after a place
 abbrev pub steps_after : Listing → Place → List ListedStep
 steps_after program (Start q) = program.steps
-steps_after program (After k) = slice_index_or (steps_after_each program.steps) k []
+steps_after program (After k) = steps_past k program.steps
 
 -- a place is one of the program's
 abbrev pub IsThere : Listing → Place → Type 0

@@ -12,14 +12,14 @@ use Rattle.frames.proofs.carry.push_flips.Goals as goal
 pub loop-step-preserved-in-Continue-branch-3 : goal.loop-step-preserved-in-Continue-branch-3
 loop-step-preserved-in-Continue-branch-3 g c =
     let program = c.args.program.now in
-    let n = program.qubits in
+    let n = program.listing.qubits in
     let v = c.loop-step.frame in
     let step = listed n program.products c.in-Some.step in
     let over = goes_over c.args.program.now c.loop-step.walk c.next_step.new.self c.in-Some.step c.loop-step.invariant.program c.in-Some.ensures.step c.in-Some.ensures.named c.in-Some.ensures.program c.in-Some.ensures.place in
-    let fits = fits_at program c.loop-step.walk.place step c.well_formed-2.ensures over.here in
+    let fits = fits_at program.listing c.loop-step.walk.place step c.well_formed-2.ensures.listing over.here in
     let size : length c.carry.new.self.word ≡ n =
-    ap (λ (f : Frame). length f.word) c.in_ok-flip.ensures.carried ∙ length-carried program step v fits c.loop-step.invariant.size in
-    let flips = flips-on n v step (drop c.next_step.new.self.place program.steps) (drop c.loop-step.walk.place program.steps) c.loop-step.flips.items _ over.left c.loop-step.invariant.flips in
+    ap (λ (f : Frame). length f.word) c.in_ok-flip.ensures.carried ∙ length-carried program.listing step v fits c.loop-step.invariant.size in
+    let flips = flips-on n v step (drop c.next_step.new.self.place program.listing.steps) (drop c.loop-step.walk.place program.listing.steps) c.loop-step.flips.items _ over.left c.loop-step.invariant.flips in
     let flip : option_to_list (flip_of n v step) ≡ c.in-Some-2.flip ∷ [] = ap option_to_list (sym c.in_ok-flip.ensures.flip ∙ c.in-Some-2.is) in
     record {
       program = over.program_is;
@@ -30,14 +30,14 @@ loop-step-preserved-in-Continue-branch-3 g c =
 pub loop-step-preserved : goal.loop-step-preserved
 loop-step-preserved g c =
     let program = c.args.program.now in
-    let n = program.qubits in
+    let n = program.listing.qubits in
     let v = c.loop-step.frame in
     let step = listed n program.products c.in-Some.step in
     let over = goes_over c.args.program.now c.loop-step.walk c.next_step.new.self c.in-Some.step c.loop-step.invariant.program c.in-Some.ensures.step c.in-Some.ensures.named c.in-Some.ensures.program c.in-Some.ensures.place in
-    let fits = fits_at program c.loop-step.walk.place step c.well_formed-2.ensures over.here in
+    let fits = fits_at program.listing c.loop-step.walk.place step c.well_formed-2.ensures.listing over.here in
     let size : length c.carry.new.self.word ≡ n =
-    ap (λ (f : Frame). length f.word) c.in_ok-flip.ensures.carried ∙ length-carried program step v fits c.loop-step.invariant.size in
-    let flips = flips-on n v step (drop c.next_step.new.self.place program.steps) (drop c.loop-step.walk.place program.steps) c.loop-step.flips.items _ over.left c.loop-step.invariant.flips in
+    ap (λ (f : Frame). length f.word) c.in_ok-flip.ensures.carried ∙ length-carried program.listing step v fits c.loop-step.invariant.size in
+    let flips = flips-on n v step (drop c.next_step.new.self.place program.listing.steps) (drop c.loop-step.walk.place program.listing.steps) c.loop-step.flips.items _ over.left c.loop-step.invariant.flips in
     let flip : option_to_list (flip_of n v step) ≡ [] = ap option_to_list (sym c.in_ok-flip.ensures.flip ∙ c.in_default-2.is) in
     record {
       program = over.program_is;
@@ -54,4 +54,4 @@ returns g c =
     let program = c.args.program.now in
     let r = rests c.args.program.now c.loop-step.walk c.next_step.new.self c.loop-step.invariant.program c.in_default.ensures.step c.in_default.ensures.program c.in_default.ensures.place in
     sym (append-nil c.loop-step.flips.items)
-    ∙ (ap (λ steps. c.loop-step.flips.items ++ flips_from program.qubits c.loop-step.frame steps) (sym r.left) ∙ c.loop-step.invariant.flips)
+    ∙ (ap (λ steps. c.loop-step.flips.items ++ flips_from program.listing.qubits c.loop-step.frame steps) (sym r.left) ∙ c.loop-step.invariant.flips)

@@ -7,9 +7,9 @@ abbrev pub invariant-loop-step : goal.invariant-loop-step
 invariant-loop-step g l = record {
   program : l.walk.program ≡ l.program;
   earlier : l.before ≤ l.collapse;
-  made : l.made ≡ length (records_made (take l.walk.place l.program.steps));
-  ahead : IsAhead l.program l.collapse l.before l.made (drop l.walk.place l.program.steps);
+  made : l.made ≡ length (records_made (take l.walk.place l.program.listing.steps));
+  ahead : IsAhead l.program.listing l.collapse l.before l.made (drop l.walk.place l.program.listing.steps);
 }
 
 abbrev pub decreases-loop-step : goal.decreases-loop-step
-decreases-loop-step g l = length l.program.steps - l.walk.place
+decreases-loop-step g l = length l.program.listing.steps - l.walk.place

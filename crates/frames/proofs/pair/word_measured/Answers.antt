@@ -6,6 +6,6 @@ use Rattle.frames.proofs.pair.word_measured.Goals as goal
 pub returns-in-Collapse-clause-word : goal.returns-in-Collapse-clause-word
 returns-in-Collapse-clause-word g c =
     let k = c.in-Collapse in
-    let n = c.args.program.now.qubits in
+    let n = c.args.program.now.listing.qubits in
     let whole = word_of_one n k.qubit k.letter ∙ sym (measured_word-measured n k.reset k.letter k.qubit) in
     rw k.is (rw (c.qubits-qubits.ensures, whole) at c.product_of.ensures.product)

@@ -9,7 +9,7 @@ use Rattle.frames.proofs.frame.Frame.carry.Goals as goal
 
 pub returns-then-reset-clause-flip : goal.returns-then-reset-clause-flip
 returns-then-reset-clause-flip g c =
-    let n = c.args.program.now.qubits in
+    let n = c.args.program.now.listing.qubits in
     let old = c.args.self.now in
     let k = c.in-Collapse in
     let clash : c.clashes-flip.result ≡ letters_clash (letter_at old.word k.qubit) k.letter =
@@ -21,7 +21,7 @@ returns-then-reset-clause-flip g c =
 
 pub returns-then-reset-clause-carried : goal.returns-then-reset-clause-carried
 returns-then-reset-clause-carried g c =
-    let n = c.args.program.now.qubits in
+    let n = c.args.program.now.listing.qubits in
     let old = c.args.self.now in
     let k = c.in-Collapse in
     let clash : c.clashes-flip.result ≡ letters_clash (letter_at old.word k.qubit) k.letter =
@@ -37,7 +37,7 @@ returns-then-reset-clause-carried g c =
 
 pub returns-else-reset-clause-flip : goal.returns-else-reset-clause-flip
 returns-else-reset-clause-flip g c =
-    let n = c.args.program.now.qubits in
+    let n = c.args.program.now.listing.qubits in
     let old = c.args.self.now in
     let k = c.in-Collapse in
     let clash : c.clashes-flip.result ≡ letters_clash (letter_at old.word k.qubit) k.letter =
@@ -49,7 +49,7 @@ returns-else-reset-clause-flip g c =
 
 pub returns-else-reset-clause-carried : goal.returns-else-reset-clause-carried
 returns-else-reset-clause-carried g c =
-    let n = c.args.program.now.qubits in
+    let n = c.args.program.now.listing.qubits in
     let old = c.args.self.now in
     let k = c.in-Collapse in
     let clash : c.clashes-flip.result ≡ letters_clash (letter_at old.word k.qubit) k.letter =
