@@ -35,7 +35,7 @@ impl<A: Allocator + Copy> Model for Batch<A> {
 impl<A: Allocator + Copy> Batch<A> {
     /// Makes the reference run, and takes the memory that `follow` needs.
     pub fn new(alloc: A, program: &Program<'_, A>) -> Result<Self, Fault>
-        ensures ok { IfOk result (IsBatchOf program.now) }
+        ensures ok { IfOk result (IsBatchOf program.now.listing) }
         ensures err { IfErr result (λ fault. fault ≡ memory_fault) }
     {
         let reference = Reference::of(alloc, program)?;
@@ -48,10 +48,10 @@ impl<A: Allocator + Copy> Batch<A> {
     /// Follows 64 runs from the start. `faults` has a word for each fault, which says in which runs it happens, and
     /// `coins` a word for each collapse. A missing word counts as 0. Allocates nothing.
     pub fn follow(&mut self, program: &Program<'_, A>, faults: &[u64], coins: &[u64])
-        requires { IsBatchOf program.now self.old }
-        ensures runs { AreRuns program.now faults.now coins.now self.new }
+        requires { IsBatchOf program.now.listing self.old }
+        ensures runs { AreRuns program.now.listing faults.now coins.now self.new }
         ensures reference { self.new.reference ≡ self.old.reference }
-        ensures batch { IsBatchOf program.now self.new }
+        ensures batch { IsBatchOf program.now.listing self.new }
     {
         self.frames.restart();
         follow_steps(&mut self.frames, program, &self.reference, faults, coins);
@@ -85,8 +85,8 @@ impl<A: Allocator + Copy> Batch<A> {
     /// In which runs the parity of a target differs from that in the reference run, a bit a run: detection events, and
     /// flips of observables. Detectors are numbered first, then observables.
     pub fn detections_word(&self, program: &Program<'_, A>, number: usize) -> u64
-        requires { number < length program.now.detectors + length program.now.observables }
-        ensures { (j : ℕ) → lane_bit j result ≡ slice_index_or (difference program.now (shot_records j self.now) self.now.reference.records) number false }
+        requires { number < length program.now.listing.detectors + length program.now.listing.observables }
+        ensures { (j : ℕ) → lane_bit j result ≡ slice_index_or (difference program.now.listing (shot_records j self.now) self.now.reference.records) number false }
     {
         self.frames.parity(program.target(number))
     }
@@ -94,8 +94,8 @@ impl<A: Allocator + Copy> Batch<A> {
 
 // Memory for the frames of a program.
 fn start<A: Allocator + Copy>(alloc: A, program: &Program<'_, A>) -> Result<Frames<A>, AllocError>
-    ensures qubits { IfOk result (λ f. length f.letters ≡ program.now.qubits) }
-    ensures room { IfOk result (λ f. f.room ≡ program.now.records) }
+    ensures qubits { IfOk result (λ f. length f.letters ≡ program.now.listing.qubits) }
+    ensures room { IfOk result (λ f. f.room ≡ program.now.listing.records) }
 {
     Frames::start(
         alloc,

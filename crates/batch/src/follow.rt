@@ -19,13 +19,13 @@ pub(crate) fn follow_steps<A: Allocator + Copy>(
     faults: &[u64],
     coins: &[u64],
 )
-    requires reference { IsReferenceOf program.now reference.now }
-    requires qubits { length frames.old.letters ≡ program.now.qubits }
-    requires room { frames.old.room ≡ program.now.records }
+    requires reference { IsReferenceOf program.now.listing reference.now }
+    requires qubits { length frames.old.letters ≡ program.now.listing.qubits }
+    requires room { frames.old.room ≡ program.now.listing.records }
     requires start { AreAtStart frames.old }
     ensures qubits { length frames.new.letters ≡ length frames.old.letters }
     ensures room { frames.new.room ≡ frames.old.room }
-    ensures runs { (j : ℕ) → flipped_by (lane j frames.new.flips) reference.now.records ≡ records_of program.now (lane j faults.now) (lane j coins.now) }
+    ensures runs { (j : ℕ) → flipped_by (lane j frames.new.flips) reference.now.records ≡ records_of program.now.listing (lane j faults.now) (lane j coins.now) }
 {
     program.well_formed();
     let _collapses = reference.collapse_count();

@@ -29,10 +29,10 @@ pub(crate) fn take_step<A: Allocator + Copy>(
     step: Step,
 )
     requires of_program { IsStepOf program.now step }
-    requires qubits { length frames.old.letters ≡ program.now.qubits }
-    requires room { length frames.old.flips + length (step_records (listed program.now.qubits program.now.products step)) ≤ frames.old.room }
-    requires turns { TurnsAt program.now.qubits (terms_of replaced) (listed program.now.qubits program.now.products step) }
-    ensures { GoesTo frames.old frames.new (λ j v. followed program.now (lane j faults.now) (terms_of replaced.entry) (lane_bit j coins) (listed program.now.qubits program.now.products step) v) }
+    requires qubits { length frames.old.letters ≡ program.now.listing.qubits }
+    requires room { length frames.old.flips + length (step_records (listed program.now.listing.qubits program.now.products step)) ≤ frames.old.room }
+    requires turns { TurnsAt program.now.listing.qubits (terms_of replaced) (listed program.now.listing.qubits program.now.products step) }
+    ensures { GoesTo frames.old frames.new (λ j v. followed program.now.listing (lane j faults.now) (terms_of replaced.entry) (lane_bit j coins) (listed program.now.listing.qubits program.now.products step) v) }
 {
     program.well_formed();
     match step {

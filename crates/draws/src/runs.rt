@@ -18,7 +18,7 @@ pub(crate) fn bound_runs<A: Allocator + Copy>(
     alloc: A,
     program: &Program<'_, A>,
 ) -> Result<Vec<BoundRun, A>, AllocError>
-    ensures { IfOk result (λ runs. bounds_in runs.items ≡ bounds_of program.now) }
+    ensures { IfOk result (λ runs. bounds_in runs.items ≡ bounds_of program.now.listing) }
 {
     program.well_formed();
     let mut runs = Vec::new(alloc);

@@ -33,9 +33,9 @@ impl<A: Allocator + Copy> Model for Shot<A> {
 impl<A: Allocator + Copy> Shot<A> {
     /// The shot in which no fault happens and all coins are 0. All memory is taken here.
     pub fn new(alloc: A, program: &Program<'_, A>) -> Result<Self, Fault>
-        ensures bounds { IfOk result (λ shot. shot.bounds ≡ bounds_of program.now) }
-        ensures faults { IfOk result (λ shot. shot.faults ≡ replicate (length program.now.faults) false) }
-        ensures coins { IfOk result (λ shot. shot.coins ≡ replicate program.now.collapses false) }
+        ensures bounds { IfOk result (λ shot. shot.bounds ≡ bounds_of program.now.listing) }
+        ensures faults { IfOk result (λ shot. shot.faults ≡ replicate (length program.now.listing.faults) false) }
+        ensures coins { IfOk result (λ shot. shot.coins ≡ replicate program.now.listing.collapses false) }
         ensures err { IfErr result (λ fault. fault ≡ memory_fault) }
     {
         Self::of_program(alloc, program).map_err(|_| Fault::MEMORY)
@@ -43,9 +43,9 @@ impl<A: Allocator + Copy> Shot<A> {
 
     // The same with the allocator's own error.
     fn of_program(alloc: A, program: &Program<'_, A>) -> Result<Self, AllocError>
-        ensures bounds { IfOk result (λ shot. shot.bounds ≡ bounds_of program.now) }
-        ensures faults { IfOk result (λ shot. shot.faults ≡ replicate (length program.now.faults) false) }
-        ensures coins { IfOk result (λ shot. shot.coins ≡ replicate program.now.collapses false) }
+        ensures bounds { IfOk result (λ shot. shot.bounds ≡ bounds_of program.now.listing) }
+        ensures faults { IfOk result (λ shot. shot.faults ≡ replicate (length program.now.listing.faults) false) }
+        ensures coins { IfOk result (λ shot. shot.coins ≡ replicate program.now.listing.collapses false) }
     {
         let bounds = fault_bounds(alloc, program)?;
         let faults = vec![in alloc; false; program.fault_count() as usize]?;
@@ -89,7 +89,7 @@ fn fault_bounds<A: Allocator + Copy>(
     alloc: A,
     program: &Program<'_, A>,
 ) -> Result<Vec<u128, A>, AllocError>
-    ensures { IfOk result (λ bounds. bounds.items ≡ bounds_of program.now) }
+    ensures { IfOk result (λ bounds. bounds.items ≡ bounds_of program.now.listing) }
 {
     program.well_formed();
     let mut bounds = Vec::with_capacity(alloc, program.fault_count() as usize)?;

@@ -35,9 +35,9 @@ impl<A: Allocator + Copy> Model for Shots<A> {
 impl<A: Allocator + Copy> Shots<A> {
     /// Shots in which no fault happens and all coins are 0. All memory is taken here.
     pub fn new(alloc: A, program: &Program<'_, A>) -> Result<Self, Fault>
-        ensures bounds { IfOk result (λ shots. shots.bounds ≡ bounds_of program.now) }
-        ensures faults { IfOk result (λ shots. shots.faults ≡ replicate (length program.now.faults) 0) }
-        ensures coins { IfOk result (λ shots. shots.coins ≡ replicate program.now.collapses 0) }
+        ensures bounds { IfOk result (λ shots. shots.bounds ≡ bounds_of program.now.listing) }
+        ensures faults { IfOk result (λ shots. shots.faults ≡ replicate (length program.now.listing.faults) 0) }
+        ensures coins { IfOk result (λ shots. shots.coins ≡ replicate program.now.listing.collapses 0) }
         ensures err { IfErr result (λ fault. fault ≡ memory_fault) }
     {
         Self::of_program(alloc, program).map_err(|_| Fault::MEMORY)
@@ -45,9 +45,9 @@ impl<A: Allocator + Copy> Shots<A> {
 
     // The same with the allocator's own error.
     fn of_program(alloc: A, program: &Program<'_, A>) -> Result<Self, AllocError>
-        ensures bounds { IfOk result (λ shots. shots.bounds ≡ bounds_of program.now) }
-        ensures faults { IfOk result (λ shots. shots.faults ≡ replicate (length program.now.faults) 0) }
-        ensures coins { IfOk result (λ shots. shots.coins ≡ replicate program.now.collapses 0) }
+        ensures bounds { IfOk result (λ shots. shots.bounds ≡ bounds_of program.now.listing) }
+        ensures faults { IfOk result (λ shots. shots.faults ≡ replicate (length program.now.listing.faults) 0) }
+        ensures coins { IfOk result (λ shots. shots.coins ≡ replicate program.now.listing.collapses 0) }
     {
         let runs = bound_runs(alloc, program)?;
         let faults = vec![in alloc; 0u64; program.fault_count() as usize]?;

@@ -3,14 +3,15 @@ use Rattle.std.proofs.Common.{◌≡◌, ℕ, ◌-◌, ◌≤◌, length, drop, 
 use Rattle.std.specs.List.{flat_map, range_with_len}
 use Rattle.step_model.specs.Listing.{Listing}
 use Rattle.step_model.specs.WellFormed.{IsWellFormed, faults_named}
+use Rattle.programs.specs.Kept.{KeptProgram}
 use Rattle.programs.specs.Walks.{Walked}
 use Rattle.fault_walk.specs.Found.{faults_left}
 use Rattle.fault_list.specs.FaultLines.{fault_line, fault_lines}
 
-pub left_at_start : (program : Listing) (walk : Walked) → IsWellFormed program → walk.program ≡ program → walk.place ≡ 0 → faults_left walk ≡ range_with_len 0 (length program.faults - 0)
+pub left_at_start : (program : KeptProgram) (walk : Walked) → IsWellFormed program.listing → walk.program ≡ program → walk.place ≡ 0 → faults_left walk ≡ range_with_len 0 (length program.listing.faults - 0)
 left_at_start program walk fits is place =
-    let whole : length program.faults ≡ length program.faults - 0 = omega arith in
-    ap₂ (λ k (p : Listing). faults_named (drop k p.steps)) place is
+    let whole : length program.listing.faults ≡ length program.listing.faults - 0 = omega arith in
+    ap₂ (λ k (p : KeptProgram). faults_named (drop k p.listing.steps)) place is
     ∙ (fits.faults_in_order ∙ ap (range_with_len 0) whole)
 
 pub lines_all : (program : Listing) (i : ℕ) → i ≤ length program.faults → length program.faults - i ≡ 0 → fault_lines program ≡ flat_map (fault_line program) (range_with_len 0 i)

@@ -35,7 +35,7 @@ pub(crate) fn line_before<'a, A: Allocator + Copy>(
     requires room { length buffer.old ≡ 256 }
     requires fault { IsFaultOf program.now fault }
     ensures within { IfSome result (λ start. start ≤ 256) }
-    ensures written { IfSome result (λ start. drop start buffer.new ≡ fault_line program.now fault.number) }
+    ensures written { IfSome result (λ start. drop start buffer.new ≡ fault_line program.now.listing fault.number) }
 {
     let text = program.entry_text(fault.entry);
     if text.len() > SHORT_TEXT {
@@ -59,7 +59,7 @@ fn effect_before<'a, A: Allocator + Copy>(
     requires fault { IsFaultOf program.now fault }
     ensures within { IfSome result (λ start. start ≤ end) }
     ensures least { IfSome result (λ start. end ≤ start + 192) }
-    ensures written { IfSome result (λ start. drop start buffer.new ≡ effect_text program.now.qubits (effect_at program.now fault.number) ++ drop end buffer.old) }
+    ensures written { IfSome result (λ start. drop start buffer.new ≡ effect_text program.now.listing.qubits (effect_at program.now.listing fault.number) ++ drop end buffer.old) }
 {
     program.well_formed();
     match fault.flips {

@@ -21,10 +21,10 @@ pub fn write<'a, A: Allocator + Copy, W: Sink>(
     program: &Program<'a, A>,
     sink: &mut W,
 ) -> Result<(), Fault>
-    ensures all { OnOk result (Takes (W.taken sink.old) (W.taken sink.new) (list_text program.now)) }
+    ensures all { OnOk result (Takes (W.taken sink.old) (W.taken sink.new) (list_text program.now.listing)) }
 
     ensures fault { IfErr result (λ e. e ≡ write_fault) }
-    ensures beginning { OnErr result (TakesBeginning (W.taken sink.old) (W.taken sink.new) (list_text program.now)) }
+    ensures beginning { OnErr result (TakesBeginning (W.taken sink.old) (W.taken sink.new) (list_text program.now.listing)) }
 
     // One more where the sink failed, otherwise as before.
     ensures count { W.failures sink.new ≡ write_failures result (W.failures sink.old) }
@@ -40,7 +40,7 @@ fn write_faults<'a, A: Allocator + Copy, W: Sink>(
     sink: &mut W,
     program: &Program<'a, A>,
 )
-    ensures { Pushes W.taken W.failures sink.old sink.new out.old out.new (fault_lines program.now) }
+    ensures { Pushes W.taken W.failures sink.old sink.new out.old out.new (fault_lines program.now.listing) }
 {
     program.well_formed();
     let mut buffer = [0; ROOM];
@@ -59,7 +59,7 @@ fn write_line<'a, A: Allocator + Copy, W: Sink>(
     fault: FoundFault,
 )
     requires { IsFaultOf program.now fault }
-    ensures { Pushes W.taken W.failures sink.old sink.new out.old out.new (fault_line program.now fault.number) }
+    ensures { Pushes W.taken W.failures sink.old sink.new out.old out.new (fault_line program.now.listing fault.number) }
 {
     match line_before(buffer, program, fault) {
         Some(start) => out.push(sink, &buffer[start..]),
@@ -74,7 +74,7 @@ fn write_long_line<'a, A: Allocator + Copy, W: Sink>(
     fault: FoundFault,
 )
     requires { IsFaultOf program.now fault }
-    ensures { Pushes W.taken W.failures sink.old sink.new out.old out.new (fault_line program.now fault.number) }
+    ensures { Pushes W.taken W.failures sink.old sink.new out.old out.new (fault_line program.now.listing fault.number) }
 {
     write_number(out, sink, fault.number);
     out.push(sink, b" ");
@@ -92,7 +92,7 @@ fn write_effect<'a, A: Allocator + Copy, W: Sink>(
     fault: FoundFault,
 )
     requires { IsFaultOf program.now fault }
-    ensures { Pushes W.taken W.failures sink.old sink.new out.old out.new (effect_text program.now.qubits (effect_at program.now fault.number)) }
+    ensures { Pushes W.taken W.failures sink.old sink.new out.old out.new (effect_text program.now.listing.qubits (effect_at program.now.listing fault.number)) }
 {
     program.well_formed();
     match fault.flips {

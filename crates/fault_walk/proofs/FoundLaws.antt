@@ -6,8 +6,8 @@ use Rattle.std.proofs.lemmas.Bool.{and_parts, lt-ltb, eqb-true}
 use Rattle.std.proofs.lemmas.List.{drop_more, drop_all}
 use Rattle.std.proofs.lemmas.Option.{slice_get_cases, slice_get_within, get_or_from_slice_get}
 use Rattle.step_model.specs.declared.step.Term.{Term}
-use Rattle.step_model.specs.Listing.{Listing, ListedStep, Effect, Applies, Flips, effect_at, no_effect, word_of_terms}
-use Rattle.programs.specs.Kept.{flipped_record, kept_at}
+use Rattle.step_model.specs.Listing.{Listing, ListedStep, Effect, Applies, Flips, effect_at, word_of_terms}
+use Rattle.programs.specs.Kept.{KeptProgram, flipped_record}
 use Rattle.step_model.specs.WellFormed.{IsWellFormed, step_fits, step_faults, faults_named, applies_word, flips_record, measured_fits, word_fits}
 use Rattle.programs.specs.declared.step.FaultName.{FaultName}
 use Rattle.programs.specs.declared.step.Step.{Step}
@@ -42,39 +42,38 @@ flips_it : (r : ℕ) (e : Effect) → flips_record r e ≡ true → flipped_reco
 flips_it r (Applies terms) h = cc
 flips_it r (Flips s) h = ap Some (sym (eqb-true r s h))
 
-is_fault : (program : Listing) → IsWellFormed program → (name : FaultName) (r : Option ℕ) → IsNamed program name → flipped_record (effect_at program name.number) ≡ r → IsFaultOf program (found name r)
-is_fault program fits name r named flips =
-    let kept = fits.faults_kept name.number no_effect named.number in
+is_fault : (program : KeptProgram) (name : FaultName) (r : Option ℕ) → IsNamed program name → flipped_record (effect_at program.listing name.number) ≡ r → IsFaultOf program (found name r)
+is_fault program name r named flips =
     record {
       there = named.number;
       entry = named.entry;
-      text = sym (kept.text ∙ ap (λ e. (kept_at program e).text) named.of_entry);
-      bound = sym (kept.bound ∙ ap (λ e. (kept_at program e).bound) named.of_entry);
-      terms = sym (ap (λ e. (kept_at program e).terms) named.of_entry) ∙ kept.terms;
+      text = sym named.text;
+      bound = sym named.bound;
+      terms = named.terms;
       flips = flips;
     }
 
-flip_of_step : (program : Listing) → IsWellFormed program → (r : ℕ) (name : FaultName) → nat_lt name.number (length program.faults) && flips_record r (effect_at program name.number) ≡ true → IsNamed program name → IsFaultOf program (found name (Some r))
-flip_of_step program fits r name flip named =
-    is_fault program fits name (Some r) named
-    (flips_it r (effect_at program name.number) (and_parts (nat_lt name.number (length program.faults)) (flips_record r (effect_at program name.number)) flip).1)
+flip_of_step : (program : KeptProgram) (r : ℕ) (name : FaultName) → nat_lt name.number (length program.listing.faults) && flips_record r (effect_at program.listing name.number) ≡ true → IsNamed program name → IsFaultOf program (found name (Some r))
+flip_of_step program r name flip named =
+    is_fault program name (Some r) named
+    (flips_it r (effect_at program.listing name.number) (and_parts (nat_lt name.number (length program.listing.faults)) (flips_record r (effect_at program.listing name.number)) flip).1)
 
 -- and it is a fault of the program
-pub fault_of_step : (program : Listing) → IsWellFormed program → (step : Step) → step_fits program (listed program.qubits program.products step) ≡ true → IsStepOf program step → IfSome (fault_in step) (IsFaultOf program)
-fault_of_step program fits (One gate q) h named = tt
-fault_of_step program fits (Two gate a b) h named = tt
-fault_of_step program fits (Collapse letter q None reset inverted flip) h named = tt
-fault_of_step program fits (Collapse letter q (Some r) reset inverted None) h named = tt
-fault_of_step program fits (Collapse letter q (Some r) reset inverted (Some name)) h named =
-    flip_of_step program fits r name (and_parts (measured_fits program.qubits (measured program.qubits reset letter q)) _ h).1 named.3
-fault_of_step program fits (CollapseWord p None inverted flip) h named = tt
-fault_of_step program fits (CollapseWord p (Some r) inverted None) h named = tt
-fault_of_step program fits (CollapseWord p (Some r) inverted (Some name)) h named =
-    flip_of_step program fits r name (and_parts (word_fits program.qubits (word_of_terms program.qubits (product_at program.products p))) _ h).1 named.2
-fault_of_step program fits (Fault name) h named =
-    is_fault program fits name None named
-    (flips_none (effect_at program name.number) (and_parts (nat_lt name.number (length program.faults)) (applies_word (effect_at program name.number)) h).1)
-fault_of_step program fits (Feedback letter q r) h named = tt
+pub fault_of_step : (program : KeptProgram) (step : Step) → step_fits program.listing (listed program.listing.qubits program.products step) ≡ true → IsStepOf program step → IfSome (fault_in step) (IsFaultOf program)
+fault_of_step program (One gate q) h named = tt
+fault_of_step program (Two gate a b) h named = tt
+fault_of_step program (Collapse letter q None reset inverted flip) h named = tt
+fault_of_step program (Collapse letter q (Some r) reset inverted None) h named = tt
+fault_of_step program (Collapse letter q (Some r) reset inverted (Some name)) h named =
+    flip_of_step program r name (and_parts (measured_fits program.listing.qubits (measured program.listing.qubits reset letter q)) _ h).1 named.3
+fault_of_step program (CollapseWord p None inverted flip) h named = tt
+fault_of_step program (CollapseWord p (Some r) inverted None) h named = tt
+fault_of_step program (CollapseWord p (Some r) inverted (Some name)) h named =
+    flip_of_step program r name (and_parts (word_fits program.listing.qubits (word_of_terms program.listing.qubits (product_at program.products p))) _ h).1 named.2
+fault_of_step program (Fault name) h named =
+    is_fault program name None named
+    (flips_none (effect_at program.listing name.number) (and_parts (nat_lt name.number (length program.listing.faults)) (applies_word (effect_at program.listing name.number)) h).1)
+fault_of_step program (Feedback letter q r) h named = tt
 
 -- the step at a place is the first that is left
 pub left_at : (steps : List ListedStep) (place : ℕ) (step : ListedStep) → Some step ≡ slice_get steps place → faults_named (drop place steps) ≡ step_faults step ++ faults_named (drop (place + 1) steps)

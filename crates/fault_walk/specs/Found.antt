@@ -1,8 +1,8 @@
 -- The faults of a program as a walk over its steps meets them. (Stim's circuit format: noise instructions, and the
 -- arguments of measurements.)
 use Rattle.std.specs.Prelude.{◌≡◌, ◌<◌, ℕ, List, length, drop, Option, None, Some}
-use Rattle.step_model.specs.Listing.{Listing, effect_at, fault_at}
-use Rattle.programs.specs.Kept.{effect_terms, flipped_record, kept_at}
+use Rattle.step_model.specs.Listing.{effect_at, fault_at}
+use Rattle.programs.specs.Kept.{KeptProgram, effect_terms, flipped_record, kept_at}
 use Rattle.step_model.specs.WellFormed.{faults_named}
 use Rattle.programs.specs.Walks.{Walked}
 use Rattle.programs.specs.declared.step.FaultName.{FaultName}
@@ -30,14 +30,14 @@ fault_in (Feedback letter q r) = None
 
 -- the numbers of the faults that a walk has still to meet
 abbrev pub faults_left : Walked → List ℕ
-faults_left walk = faults_named (drop walk.place walk.program.steps)
+faults_left walk = faults_named (drop walk.place walk.program.listing.steps)
 
 -- a fault of the program: it has this number; the entry of this number has its text, its bound and its letters; and it
 -- flips this record, if any
-pub record IsFaultOf (program : Listing) (fault : FoundFault) : Type 0 where
-  pub there : fault.number < length program.faults
+pub record IsFaultOf (program : KeptProgram) (fault : FoundFault) : Type 0 where
+  pub there : fault.number < length program.listing.faults
   pub entry : fault.entry < length program.kept
-  pub text : (kept_at program fault.entry).text ≡ (fault_at program fault.number).text
-  pub bound : (kept_at program fault.entry).bound ≡ (fault_at program fault.number).bound
-  pub terms : (kept_at program fault.entry).terms ≡ effect_terms (effect_at program fault.number)
-  pub flips : flipped_record (effect_at program fault.number) ≡ fault.flips
+  pub text : (kept_at program fault.entry).text ≡ (fault_at program.listing fault.number).text
+  pub bound : (kept_at program fault.entry).bound ≡ (fault_at program.listing fault.number).bound
+  pub terms : (kept_at program fault.entry).terms ≡ effect_terms (effect_at program.listing fault.number)
+  pub flips : flipped_record (effect_at program.listing fault.number) ≡ fault.flips

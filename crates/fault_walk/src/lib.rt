@@ -20,7 +20,7 @@ pub struct FoundFault {
 /// Goes forward over the next fault, and answers it; none where there is no further one.
 pub fn next_fault<'a, 'p, A: Allocator + Copy>(walk: &mut Walk<'a, 'p, A>) -> Option<FoundFault>
     // `Program::well_formed` gives this for each program.
-    requires { IsWellFormed walk.old.program }
+    requires { IsWellFormed walk.old.program.listing }
     ensures program { walk.new.program ≡ walk.old.program }
     ensures next { IfSome result (λ fault. faults_left walk.old ≡ fault.number ∷ faults_left walk.new) }
     ensures found { IfSome result (IsFaultOf walk.old.program) }

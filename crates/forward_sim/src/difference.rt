@@ -17,9 +17,9 @@ pub fn detections<A: Allocator + Copy>(
     records: &Records<A>,
     reference: &Records<A>,
 ) -> Result<Vec<bool, A>, Fault>
-    requires records_fit { length records.now ≡ program.now.records }
-    requires reference_fit { length reference.now ≡ program.now.records }
-    ensures ok { IfOk result (λ answers. answers.items ≡ difference program.now records.now reference.now) }
+    requires records_fit { length records.now ≡ program.now.listing.records }
+    requires reference_fit { length reference.now ≡ program.now.listing.records }
+    ensures ok { IfOk result (λ answers. answers.items ≡ difference program.now.listing records.now reference.now) }
     ensures err { IfErr result (λ fault. fault ≡ memory_fault) }
 {
     differences(alloc, program, records, reference).map_err(|_| Fault::MEMORY)
@@ -32,9 +32,9 @@ fn differences<A: Allocator + Copy>(
     records: &Records<A>,
     reference: &Records<A>,
 ) -> Result<Vec<bool, A>, AllocError>
-    requires records_fit { length records.now ≡ program.now.records }
-    requires reference_fit { length reference.now ≡ program.now.records }
-    ensures { IfOk result (λ answers. answers.items ≡ difference program.now records.now reference.now) }
+    requires records_fit { length records.now ≡ program.now.listing.records }
+    requires reference_fit { length reference.now ≡ program.now.listing.records }
+    ensures { IfOk result (λ answers. answers.items ≡ difference program.now.listing records.now reference.now) }
 {
     let targets = program.target_count();
     let mut answers = Vec::with_capacity(alloc, targets)?;

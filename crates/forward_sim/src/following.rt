@@ -32,10 +32,10 @@ pub(crate) fn follow_step<A: Allocator + Copy>(
     step: Step,
 ) -> Result<(), AllocError>
     requires of_program { IsStepOf program.now step }
-    requires qubits { qubit_count machine.old ≡ program.now.qubits }
-    requires room { length machine.old.records + length (step_records (listed program.now.qubits program.now.products step)) ≤ machine.old.room }
-    ensures run { OnOk result (ComesTo machine.old machine.new (next program.now [] (listed program.now.qubits program.now.products step) (run_of machine.old))) }
-    ensures kept { OnOk result (StepKeeps program.now.qubits (run_of machine.old).state (listed program.now.qubits program.now.products step) replaced.old replaced.new) }
+    requires qubits { qubit_count machine.old ≡ program.now.listing.qubits }
+    requires room { length machine.old.records + length (step_records (listed program.now.listing.qubits program.now.products step)) ≤ machine.old.room }
+    ensures run { OnOk result (ComesTo machine.old machine.new (next program.now.listing [] (listed program.now.listing.qubits program.now.products step) (run_of machine.old))) }
+    ensures kept { OnOk result (StepKeeps program.now.listing.qubits (run_of machine.old).state (listed program.now.listing.qubits program.now.products step) replaced.old replaced.new) }
 {
     program.well_formed();
     match step {
@@ -86,7 +86,7 @@ fn follow_letter<A: Allocator + Copy>(
     qubit: u32,
 ) -> Result<bool, AllocError>
     requires inside { qubit < qubit_count machine.old }
-    requires qubits { qubit_count machine.old ≡ program.now.qubits }
+    requires qubits { qubit_count machine.old ≡ program.now.listing.qubits }
     ensures outcome { IfOk result (λ seen. seen ≡ outcome (run_of machine.old).state (lone_letter (qubit_count machine.old) qubit letter) (next_coin machine.old.coins)) }
     ensures run { OnOk result (ComesTo machine.old machine.new (after_collapse (lone_letter (qubit_count machine.old) qubit letter) None false false (run_of machine.old))) }
     ensures kept { OnOk result (Keeps (qubit_count machine.old) (run_of machine.old).state (lone_letter (qubit_count machine.old) qubit letter) replaced.old replaced.new) }
@@ -104,7 +104,7 @@ fn follow_product<A: Allocator + Copy>(
     terms: &[Term],
 ) -> Result<bool, AllocError>
     requires fit { TermsFit (qubit_count machine.old) terms.now }
-    requires qubits { qubit_count machine.old ≡ program.now.qubits }
+    requires qubits { qubit_count machine.old ≡ program.now.listing.qubits }
     ensures outcome { IfOk result (λ seen. seen ≡ outcome (run_of machine.old).state (word_of_terms (qubit_count machine.old) terms.now) (next_coin machine.old.coins)) }
     ensures run { OnOk result (ComesTo machine.old machine.new (after_collapse (word_of_terms (qubit_count machine.old) terms.now) None false false (run_of machine.old))) }
     ensures kept { OnOk result (Keeps (qubit_count machine.old) (run_of machine.old).state (word_of_terms (qubit_count machine.old) terms.now) replaced.old replaced.new) }
@@ -122,7 +122,7 @@ fn keep_row<A: Allocator + Copy>(
     row: Option<usize>,
 ) -> Result<(), AllocError>
     requires inside { IfSome row (λ r. r < qubit_count machine.old) }
-    requires qubits { qubit_count machine.old ≡ program.now.qubits }
+    requires qubits { qubit_count machine.old ≡ program.now.listing.qubits }
     ensures machine { machine.new ≡ machine.old }
     ensures long { IfSome row (λ r. length (destabilizer_at machine.old.rows r).letters ≡ qubit_count machine.old) }
     ensures kept { OnOk result (replaced.new ≡ replaced.old ++ entry_for machine.old.rows row ∷ []) }

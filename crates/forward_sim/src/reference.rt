@@ -38,8 +38,9 @@ impl<A: Allocator + Copy> Reference<A> {
     /// The reference run of a program. It takes the time of one run, and for each random outcome time linear in the number
     /// of qubits.
     pub fn of(alloc: A, program: &Program<'_, A>) -> Result<Self, Fault>
-        ensures ok { IfOk result (IsReferenceOf program.now) }
-        ensures count { IfOk result (λ reference. length reference.replaced ≡ program.now.collapses) }
+        ensures ok { IfOk result (IsReferenceOf program.now.listing) }
+        ensures records { IfOk result (λ reference. length reference.records ≡ program.now.listing.records) }
+        ensures count { IfOk result (λ reference. length reference.replaced ≡ program.now.listing.collapses) }
         ensures err { IfErr result (λ fault. fault ≡ memory_fault) }
     {
         follow(alloc, program).map_err(|_| Fault::MEMORY)
@@ -74,8 +75,9 @@ fn follow<A: Allocator + Copy>(
     alloc: A,
     program: &Program<'_, A>,
 ) -> Result<Reference<A>, AllocError>
-    ensures ok { IfOk result (IsReferenceOf program.now) }
-    ensures count { IfOk result (λ reference. length reference.replaced ≡ program.now.collapses) }
+    ensures ok { IfOk result (IsReferenceOf program.now.listing) }
+    ensures records { IfOk result (λ reference. length reference.records ≡ program.now.listing.records) }
+    ensures count { IfOk result (λ reference. length reference.replaced ≡ program.now.listing.collapses) }
 {
     let qubits = program.qubits() as usize;
     let mut machine = Machine::start(alloc, qubits, program.record_count() as usize, &[])?;
@@ -91,12 +93,13 @@ fn follow_steps<A: Allocator + Copy>(
     program: &Program<'_, A>,
     replaced: &mut Replaced<A>,
 ) -> Result<(), AllocError>
-    requires qubits { qubit_count machine.old ≡ program.now.qubits }
-    requires room { machine.old.room ≡ program.now.records }
-    requires starts { IsSameRun program.now.qubits (run_of machine.old) (start []) }
+    requires qubits { qubit_count machine.old ≡ program.now.listing.qubits }
+    requires room { machine.old.room ≡ program.now.listing.records }
+    requires starts { IsSameRun program.now.listing.qubits (run_of machine.old) (start []) }
     requires empty { replaced.old ≡ [] }
-    ensures ok { OnOk result (IsReferenceOf program.now (record { records = machine.new.records; replaced = replaced.new })) }
-    ensures count { OnOk result (length replaced.new ≡ program.now.collapses) }
+    ensures ok { OnOk result (IsReferenceOf program.now.listing (record { records = machine.new.records; replaced = replaced.new })) }
+    ensures records { OnOk result (length machine.new.records ≡ program.now.listing.records) }
+    ensures count { OnOk result (length replaced.new ≡ program.now.listing.collapses) }
 {
     program.well_formed();
     let mut walk = Walk::start(program);

@@ -23,9 +23,9 @@ pub(crate) fn take_step<A: Allocator + Copy>(
     step: Step,
 )
     requires of_program { IsStepOf program.now step }
-    requires qubits { qubit_count machine.old ≡ program.now.qubits }
-    requires room { length machine.old.records + length (step_records (listed program.now.qubits program.now.products step)) ≤ machine.old.room }
-    ensures { ComesTo machine.old machine.new (next program.now faults.now (listed program.now.qubits program.now.products step) (run_of machine.old)) }
+    requires qubits { qubit_count machine.old ≡ program.now.listing.qubits }
+    requires room { length machine.old.records + length (step_records (listed program.now.listing.qubits program.now.products step)) ≤ machine.old.room }
+    ensures { ComesTo machine.old machine.new (next program.now.listing faults.now (listed program.now.listing.qubits program.now.products step) (run_of machine.old)) }
 {
     program.well_formed();
     match step {
@@ -103,8 +103,8 @@ fn take_fault<A: Allocator + Copy>(
     name: FaultName,
 )
     requires named { IsNamed program.now name }
-    requires qubits { qubit_count machine.old ≡ program.now.qubits }
-    ensures { ComesTo machine.old machine.new (next program.now faults.now (Fault name.number) (run_of machine.old)) }
+    requires qubits { qubit_count machine.old ≡ program.now.listing.qubits }
+    ensures { ComesTo machine.old machine.new (next program.now.listing faults.now (Fault name.number) (run_of machine.old)) }
 {
     program.well_formed();
     if value_at(faults, name.number) {

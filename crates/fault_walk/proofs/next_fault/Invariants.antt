@@ -11,4 +11,4 @@ invariant-loop-step g l =
     }
 
 abbrev pub decreases-loop-step : goal.decreases-loop-step
-decreases-loop-step g l = length l.fn.walk.program.steps - l.walk.place
+decreases-loop-step g l = length l.fn.walk.program.listing.steps - l.walk.place

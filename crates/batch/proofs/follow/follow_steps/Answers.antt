@@ -17,19 +17,19 @@ use Rattle.batch.proofs.follow.follow_steps.Goals.{In-Some}
 -- what the walk went over
 goes_over : (g : given.Over) (c : In-Some g) → Over c.args.program.now c.loop-step.walk c.next_step.new.self c.in-Some.step
 goes_over g c =
-    over c.args.program.now c.loop-step.walk c.next_step.new.self c.in-Some.step c.well_formed-2.ensures c.loop-step.invariant.program c.in-Some.ensures.step c.in-Some.ensures.named c.in-Some.ensures.program c.in-Some.ensures.place
+    over c.args.program.now c.loop-step.walk c.next_step.new.self c.in-Some.step c.well_formed-2.ensures.listing c.loop-step.invariant.program c.in-Some.ensures.step c.in-Some.ensures.named c.in-Some.ensures.program c.in-Some.ensures.place
 
 -- the step, as it is listed
 abbrev step_of : (g : given.Over) → In-Some g → ListedStep
-step_of g c = listed c.args.program.now.qubits c.args.program.now.products c.in-Some.step
+step_of g c = listed c.args.program.now.listing.qubits c.args.program.now.products c.in-Some.step
 
-before : (g : given.Over) (c : In-Some g) → Beside c.args.program.now c.args.reference.now c.args.faults.now c.args.coins.now (step_of g c ∷ drop c.next_step.new.self.place c.args.program.now.steps) c.loop-step.collapse c.loop-step.frames
+before : (g : given.Over) (c : In-Some g) → Beside c.args.program.now.listing c.args.reference.now c.args.faults.now c.args.coins.now (step_of g c ∷ drop c.next_step.new.self.place c.args.program.now.listing.steps) c.loop-step.collapse c.loop-step.frames
 before g c =
-    subst (λ steps. Beside c.args.program.now c.args.reference.now c.args.faults.now c.args.coins.now steps c.loop-step.collapse c.loop-step.frames) (goes_over g c).ahead c.loop-step.invariant.beside
+    subst (λ steps. Beside c.args.program.now.listing c.args.reference.now c.args.faults.now c.args.coins.now steps c.loop-step.collapse c.loop-step.frames) (goes_over g c).ahead c.loop-step.invariant.beside
 
 pub loop-step-init : goal.loop-step-init
 loop-step-init g c =
-    let program = c.args.program.now in
+    let program = c.args.program.now.listing in
     let f = c.args.frames.now in
     record {
       program = c.start-walk.ensures.program;
@@ -44,27 +44,27 @@ loop-step-init g c =
 pub replaced-replaced-requires : goal.replaced-replaced-requires
 replaced-replaced-requires g c =
     let here = (goal.at.replaced-replaced-requires g c).In-Some in
-    let collapse = sym (c.is_collapse.ensures c.args.program.now.qubits c.args.program.now.products) ∙ c.if-is_collapse.true in
-    (entry-next c.args.program.now c.args.reference.now c.args.faults.now c.args.coins.now (step_of g here) (drop c.next_step.new.self.place c.args.program.now.steps) c.loop-step.collapse c.loop-step.frames collapse (before g here)).below
+    let collapse = sym (c.is_collapse.ensures c.args.program.now.listing.qubits c.args.program.now.products) ∙ c.if-is_collapse.true in
+    (entry-next c.args.program.now.listing c.args.reference.now c.args.faults.now c.args.coins.now (step_of g here) (drop c.next_step.new.self.place c.args.program.now.listing.steps) c.loop-step.collapse c.loop-step.frames collapse (before g here)).below
 
 pub take_step-requires-clause-room : goal.take_step-requires-clause-room
 take_step-requires-clause-room g c =
     let here = (goal.at.take_step-requires-clause-room g c).In-Some in
-    let count = ap length c.requires.reference.records ∙ length-records_of c.args.program.now [] (zero_coins c.args.program.now) c.well_formed-2.ensures in
-    omega (arith, c.requires.room, c.loop-step.invariant.room, beside-room c.args.program.now c.args.reference.now c.args.faults.now c.args.coins.now (step_of g here) (drop c.next_step.new.self.place c.args.program.now.steps) c.loop-step.collapse c.loop-step.frames count (before g here))
+    let count = ap length c.requires.reference.records ∙ length-records_of c.args.program.now.listing [] (zero_coins c.args.program.now.listing) c.well_formed-2.ensures.listing in
+    omega (arith, c.requires.room, c.loop-step.invariant.room, beside-room c.args.program.now.listing c.args.reference.now c.args.faults.now c.args.coins.now (step_of g here) (drop c.next_step.new.self.place c.args.program.now.listing.steps) c.loop-step.collapse c.loop-step.frames count (before g here))
 
 pub take_step-requires-clause-turns : goal.take_step-requires-clause-turns
 take_step-requires-clause-turns g c =
     let here = (goal.at.take_step-requires-clause-turns g c).In-Some in
-    let collapse = sym (c.is_collapse.ensures c.args.program.now.qubits c.args.program.now.products) ∙ c.if-is_collapse.true in
-    subst (λ entry. TurnsAt c.args.program.now.qubits entry (step_of g here)) (sym c.replaced-replaced.ensures)
-    (entry-next c.args.program.now c.args.reference.now c.args.faults.now c.args.coins.now (step_of g here) (drop c.next_step.new.self.place c.args.program.now.steps) c.loop-step.collapse c.loop-step.frames collapse (before g here)).turns
+    let collapse = sym (c.is_collapse.ensures c.args.program.now.listing.qubits c.args.program.now.products) ∙ c.if-is_collapse.true in
+    subst (λ entry. TurnsAt c.args.program.now.listing.qubits entry (step_of g here)) (sym c.replaced-replaced.ensures)
+    (entry-next c.args.program.now.listing c.args.reference.now c.args.faults.now c.args.coins.now (step_of g here) (drop c.next_step.new.self.place c.args.program.now.listing.steps) c.loop-step.collapse c.loop-step.frames collapse (before g here)).turns
 
 pub overflow_add-collapse : goal.overflow_add-collapse
 overflow_add-collapse g c =
     let here = (goal.at.overflow_add-collapse g c).In-Some in
-    let collapse = sym (c.is_collapse.ensures c.args.program.now.qubits c.args.program.now.products) ∙ c.if-is_collapse.true in
-    let below = (entry-next c.args.program.now c.args.reference.now c.args.faults.now c.args.coins.now (step_of g here) (drop c.next_step.new.self.place c.args.program.now.steps) c.loop-step.collapse c.loop-step.frames collapse (before g here)).below in
+    let collapse = sym (c.is_collapse.ensures c.args.program.now.listing.qubits c.args.program.now.products) ∙ c.if-is_collapse.true in
+    let below = (entry-next c.args.program.now.listing c.args.reference.now c.args.faults.now c.args.coins.now (step_of g here) (drop c.next_step.new.self.place c.args.program.now.listing.steps) c.loop-step.collapse c.loop-step.frames collapse (before g here)).below in
     omega (arith, below, c.collapse_count-collapses.ensures)
 
 pub loop-step-smaller-then-is_collapse : goal.loop-step-smaller-then-is_collapse
@@ -74,9 +74,9 @@ pub loop-step-preserved-then-is_collapse : goal.loop-step-preserved-then-is_coll
 loop-step-preserved-then-is_collapse g c =
     let here = (goal.at.loop-step-preserved-then-is_collapse g c).In-Some in
     let walked = goes_over g here in
-    let program = c.args.program.now in
+    let program = c.args.program.now.listing in
     let reference = c.args.reference.now in
-    let collapse = sym (c.is_collapse.ensures program.qubits program.products) ∙ c.if-is_collapse.true in
+    let collapse = sym (c.is_collapse.ensures program.qubits c.args.program.now.products) ∙ c.if-is_collapse.true in
     record {
       program = walked.program_is;
       qubits = c.take_step.ensures.qubits ∙ c.loop-step.invariant.qubits;
@@ -90,8 +90,8 @@ loop-step-preserved-then-is_collapse g c =
 pub take_step-requires-else-is_collapse-clause-room : goal.take_step-requires-else-is_collapse-clause-room
 take_step-requires-else-is_collapse-clause-room g c =
     let here = (goal.at.take_step-requires-else-is_collapse-clause-room g c).In-Some in
-    let count = ap length c.requires.reference.records ∙ length-records_of c.args.program.now [] (zero_coins c.args.program.now) c.well_formed-2.ensures in
-    omega (arith, c.requires.room, c.loop-step.invariant.room, beside-room c.args.program.now c.args.reference.now c.args.faults.now c.args.coins.now (step_of g here) (drop c.next_step.new.self.place c.args.program.now.steps) c.loop-step.collapse c.loop-step.frames count (before g here))
+    let count = ap length c.requires.reference.records ∙ length-records_of c.args.program.now.listing [] (zero_coins c.args.program.now.listing) c.well_formed-2.ensures.listing in
+    omega (arith, c.requires.room, c.loop-step.invariant.room, beside-room c.args.program.now.listing c.args.reference.now c.args.faults.now c.args.coins.now (step_of g here) (drop c.next_step.new.self.place c.args.program.now.listing.steps) c.loop-step.collapse c.loop-step.frames count (before g here))
 
 pub loop-step-smaller : goal.loop-step-smaller
 loop-step-smaller g c = (goes_over g (goal.at.loop-step-smaller g c).In-Some).smaller
@@ -100,8 +100,8 @@ pub loop-step-preserved : goal.loop-step-preserved
 loop-step-preserved g c =
     let here = (goal.at.loop-step-preserved g c).In-Some in
     let walked = goes_over g here in
-    let program = c.args.program.now in
-    let other = sym (c.is_collapse.ensures program.qubits program.products) ∙ c.if-is_collapse.false in
+    let program = c.args.program.now.listing in
+    let other = sym (c.is_collapse.ensures program.qubits c.args.program.now.products) ∙ c.if-is_collapse.false in
     record {
       program = walked.program_is;
       qubits = c.take_step-else-is_collapse.ensures.qubits ∙ c.loop-step.invariant.qubits;
@@ -113,6 +113,6 @@ loop-step-preserved g c =
 
 pub returns-clause-runs : goal.returns-clause-runs
 returns-clause-runs g c =
-    beside-end c.args.program.now c.args.reference.now c.args.faults.now c.args.coins.now c.loop-step.collapse c.loop-step.frames
-    (subst (λ steps. Beside c.args.program.now c.args.reference.now c.args.faults.now c.args.coins.now steps c.loop-step.collapse c.loop-step.frames)
+    beside-end c.args.program.now.listing c.args.reference.now c.args.faults.now c.args.coins.now c.loop-step.collapse c.loop-step.frames
+    (subst (λ steps. Beside c.args.program.now.listing c.args.reference.now c.args.faults.now c.args.coins.now steps c.loop-step.collapse c.loop-step.frames)
     (at_end c.args.program.now c.loop-step.walk c.loop-step.invariant.program c.in_default.ensures.step) c.loop-step.invariant.beside)

@@ -9,8 +9,8 @@ invariant-loop-step g l =
       program : l.walk.program ≡ l.program;
       qubits : length l.frames.letters ≡ length l.fn.frames.letters;
       room : l.frames.room ≡ l.fn.frames.room;
-      beside : Beside l.program l.reference l.faults l.coins (drop l.walk.place l.program.steps) l.collapse l.frames;
+      beside : Beside l.program.listing l.reference l.faults l.coins (drop l.walk.place l.program.listing.steps) l.collapse l.frames;
     }
 
 abbrev pub decreases-loop-step : goal.decreases-loop-step
-decreases-loop-step g l = length l.program.steps - l.walk.place
+decreases-loop-step g l = length l.program.listing.steps - l.walk.place

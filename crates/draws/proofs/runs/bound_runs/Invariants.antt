@@ -10,6 +10,6 @@ abbrev pub invariant-loop-number : goal.invariant-loop-number
 invariant-loop-number g l =
     record {
       program : l.walk.program ≡ l.program;
-      left : faults_left l.walk ≡ range_with_len l._number (length l.program.faults - l._number);
-      bounds : bounds_in l.runs.items ++ bounds_of_run l.last ≡ take l._number (bounds_of l.program);
+      left : faults_left l.walk ≡ range_with_len l._number (length l.program.listing.faults - l._number);
+      bounds : bounds_in l.runs.items ++ bounds_of_run l.last ≡ take l._number (bounds_of l.program.listing);
     }

@@ -9,9 +9,9 @@ abbrev pub invariant-loop-fault : goal.invariant-loop-fault
 invariant-loop-fault g l =
     record {
       program : l.walk.program ≡ l.program;
-      room : vec_capacity l.bounds ≡ length l.program.faults;
-      left : faults_left l.walk ≡ range_with_len (length l.bounds.items) (length l.program.faults - length l.bounds.items);
-      so_far : l.bounds.items ≡ take (length l.bounds.items) (bounds_of l.program);
+      room : vec_capacity l.bounds ≡ length l.program.listing.faults;
+      left : faults_left l.walk ≡ range_with_len (length l.bounds.items) (length l.program.listing.faults - length l.bounds.items);
+      so_far : l.bounds.items ≡ take (length l.bounds.items) (bounds_of l.program.listing);
     }
 
 abbrev pub decreases-loop-fault : goal.decreases-loop-fault

@@ -7,7 +7,7 @@ use Rattle.fault_list.proofs.short_lines.line_before.Goals as goal
 
 pub returns-clause-written : goal.returns-clause-written
 returns-clause-written g c =
-    let program = c.args.program.now in
+    let program = c.args.program.now.listing in
     let number = c.args.fault.number in
     let effect = effect_text program.qubits (effect_at program number) in
     let text = (fault_at program number).text in

@@ -10,7 +10,7 @@ abbrev pub invariant-loop-fault : goal.invariant-loop-fault
 invariant-loop-fault g l =
     record {
       program : l.walk.program ≡ l.program;
-      rest : (i : ℕ) × (i ≤ length l.program.faults) × (faults_left l.walk ≡ range_with_len i (length l.program.faults - i)) × Pushes g.W.Sink.taken g.W.Sink.failures l.fn.sink l.sink l.fn.out l.out (flat_map (fault_line l.program) (range_with_len 0 i));
+      rest : (i : ℕ) × (i ≤ length l.program.listing.faults) × (faults_left l.walk ≡ range_with_len i (length l.program.listing.faults - i)) × Pushes g.W.Sink.taken g.W.Sink.failures l.fn.sink l.sink l.fn.out l.out (flat_map (fault_line l.program.listing) (range_with_len 0 i));
     }
 
 abbrev pub decreases-loop-fault : goal.decreases-loop-fault

@@ -8,7 +8,7 @@ use Rattle.forward_sim.proofs.difference.differences.Goals as goal
 
 pub returns : goal.returns
 returns g c =
-    let program = c.args.program.now in
+    let program = c.args.program.now.listing in
     let all : length (targets_of program) ≤ c.loop-number.number = omega (arith, length-append program.detectors program.observables, c.target_count-targets.ensures) in
     c.loop-number.invariant.answered
     ∙ ap (map (λ named. exclusive_or (parity named c.args.records.now) (parity named c.args.reference.now))) (take_all c.loop-number.number (targets_of program) all)

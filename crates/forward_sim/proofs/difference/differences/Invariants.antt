@@ -7,6 +7,6 @@ use Rattle.forward_sim.proofs.difference.differences.Given as goal
 abbrev pub invariant-loop-number : goal.invariant-loop-number
 invariant-loop-number g l =
     record {
-      answered : l.answers.items ≡ map (λ named. exclusive_or (parity named l.records) (parity named l.reference)) (take l.number (targets_of l.program));
+      answered : l.answers.items ≡ map (λ named. exclusive_or (parity named l.records) (parity named l.reference)) (take l.number (targets_of l.program.listing));
       room : vec_capacity l.answers ≡ l.targets;
     }

@@ -8,10 +8,10 @@ abbrev pub invariant-loop-step : goal.invariant-loop-step
 invariant-loop-step g l =
     record {
       program : l.walk.program ≡ l.program;
-      qubits : qubit_count l.machine ≡ l.program.qubits;
-      room : l.machine.room ≡ l.program.records;
-      rest : MakesRest l.program l.faults l.coins l.walk.place (run_of l.machine);
+      qubits : qubit_count l.machine ≡ l.program.listing.qubits;
+      room : l.machine.room ≡ l.program.listing.records;
+      rest : MakesRest l.program.listing l.faults l.coins l.walk.place (run_of l.machine);
     }
 
 abbrev pub decreases-loop-step : goal.decreases-loop-step
-decreases-loop-step g l = length l.program.steps - l.walk.place
+decreases-loop-step g l = length l.program.listing.steps - l.walk.place

@@ -9,11 +9,11 @@ abbrev pub invariant-loop-step : goal.invariant-loop-step
 invariant-loop-step g l =
     record {
       program : l.walk.program ≡ l.program;
-      qubits : qubit_count l.machine ≡ l.program.qubits;
-      room : l.machine.room ≡ l.program.records;
-      rest : MakesRest l.program [] [] l.walk.place (run_of l.machine);
-      kept : KeepsRest l.program l.walk.place (run_of l.machine) l.replaced;
+      qubits : qubit_count l.machine ≡ l.program.listing.qubits;
+      room : l.machine.room ≡ l.program.listing.records;
+      rest : MakesRest l.program.listing [] [] l.walk.place (run_of l.machine);
+      kept : KeepsRest l.program.listing l.walk.place (run_of l.machine) l.replaced;
     }
 
 abbrev pub decreases-loop-step : goal.decreases-loop-step
-decreases-loop-step g l = length l.program.steps - l.walk.place
+decreases-loop-step g l = length l.program.listing.steps - l.walk.place

@@ -8,7 +8,7 @@ use Rattle.batch.proofs.batch.Batch.detections_word.Goals as goal
 pub returns : goal.returns
 returns g c j =
     let b = c.self.inside in
-    let program = c.args.program.now in
+    let program = c.args.program.now.listing in
     subst (λ (seen : Followed). lane_bit j c.parity.result ≡ get_or (difference program (shot_records j seen) seen.reference.records) c.args.number false) c.self.view_is
     (c.parity.ensures j
     ∙ ap (λ named. parity named (lane j b.frames.flips)) c.target.ensures.value
