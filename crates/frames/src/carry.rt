@@ -50,7 +50,8 @@ pub(crate) fn flips_at<A: Allocator + Copy>(
     Ok(flips)
 }
 
-// Goes to a place, over collapses that aren't flipped, and answers how many records there are at it.
+// Goes to a place, over collapses that aren't flipped, and answers how many records there are at it; to the end, over all
+// collapses, where there is no such place.
 fn go_to<A: Allocator + Copy>(
     program: &Program<'_, A>,
     place: Place,

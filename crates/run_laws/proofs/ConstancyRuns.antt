@@ -11,7 +11,7 @@ use Rattle.pauli_word.specs.Parity.{exclusive_or}
 use Rattle.pauli_word.specs.Words.{anticommute, no_letters, signed}
 use Rattle.pauli_word.proofs.Parities.{same_truth, same_truth-true, at_six_truths}
 use Rattle.step_model.specs.declared.step.Place.TheVariants.{Start}
-use Rattle.run_laws.specs.Constants.{IsConstant, IsWhatStepsBring, sign_brought, signs_brought, HasSensitivity, SensitivityStays}
+use Rattle.run_laws.specs.Constants.{IsConstant, ParityIsWhatStepsBring, sign_brought, signs_brought, HasSensitivity, SensitivityStays}
 use Rattle.step_model.specs.Listing.{ListedStep, Listing}
 use Rattle.pauli_word.specs.States.{State, is_I_or_Z, IsGroup}
 use Rattle.step_model.specs.Runs.{RunState, next, run_from, start}
@@ -154,7 +154,7 @@ same false true h = cc
 same true false h = cc
 
 -- the parity of a target without a place is what the steps bring
-pub parity-brought : (program : Listing) (d : ℕ) → IsWellFormed program → place_of program d ≡ None → IsWhatStepsBring program d
+pub parity-brought : (program : Listing) (d : ℕ) → IsWellFormed program → place_of program d ≡ None → ParityIsWhatStepsBring program d
 parity-brought program d fit none faults coins =
     let m : RunState = run_from program faults program.steps (start coins) in
     let sign : Bool = exclusive_or (parity (target_at program d) m.records) (signs_brought program faults (target_at program d) program.steps []) in

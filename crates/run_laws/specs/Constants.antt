@@ -41,8 +41,8 @@ signs_brought program faults named (step ∷ earlier) later =
 
 -- whatever faults happen and whatever the coins are, the parity of the target is what all the steps bring: after them its
 -- sensitivity is the identity, and minus the identity is in no state
-abbrev pub IsWhatStepsBring : Listing → ℕ → Type 0
-IsWhatStepsBring program d =
+abbrev pub ParityIsWhatStepsBring : Listing → ℕ → Type 0
+ParityIsWhatStepsBring program d =
     (faults coins : List Bool)
     → parity (target_at program d) (records_of program faults coins)
     ≡ signs_brought program faults (target_at program d) program.steps []

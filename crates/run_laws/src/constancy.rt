@@ -4,7 +4,7 @@
 ghost use Rattle.std.specs.Prelude.{◌≡◌, ◌<◌, ℕ, None, length};
 ghost use Rattle.step_model.specs.ErrorModels.{Fits, IsExact};
 ghost use Rattle.step_model.specs.HitModels.{hitting_faults, model_of};
-ghost use Rattle.run_laws.specs.Constants.{IsConstant, IsWhatStepsBring, SensitivityStays};
+ghost use Rattle.run_laws.specs.Constants.{IsConstant, ParityIsWhatStepsBring, SensitivityStays};
 ghost use Rattle.run_laws.specs.Duality.{AddsUp, OneFaultLaw};
 ghost use Rattle.run_laws.specs.UniqueModels.{OneModelLaw};
 ghost use Rattle.step_model.specs.Listing.{Listing};
@@ -25,7 +25,7 @@ pub fn sensitivities_stay()
 /// commutes with the collapse's word, and has no X or Y at the start.
 pub fn parity_is_constant()
     ensures constant { (program : Listing) (d : ℕ) → IsWellFormed program → place_of program d ≡ None → IsConstant program d }
-    ensures brought { (program : Listing) (d : ℕ) → IsWellFormed program → place_of program d ≡ None → IsWhatStepsBring program d }
+    ensures brought { (program : Listing) (d : ℕ) → IsWellFormed program → place_of program d ≡ None → ParityIsWhatStepsBring program d }
 {}
 
 /// Such a target differs between a run with faults and one without, under any coins, exactly where an odd number
