@@ -1,4 +1,5 @@
 mod arguments;
+mod batches;
 mod bits;
 mod coin_pairs;
 mod drawn_shots;

@@ -16,7 +16,7 @@ loop-parts-preserved-then-joined g c =
     let e = c.end_of_factor-joined in
     let t = c.in-Some.parts.0.now in
     let after = c.in-Some.parts.1.now in
-    let term = c.term_at.ensures ∙ ap (λ (letter : Letter). term_at letter t) c.letter_at.ensures in
+    let term = c.term_at.ensures ∙ ap (λ (letter : Letter). term_at letter t) c.pauli_letter.ensures in
     let gathered : c.push.new.self.items ≡ l.terms.items ++ term_of t ∷ [] = c.in_ok-push.ensures.items ∙ ap (λ (x : Term). l.terms.items ++ x ∷ []) term in
     let all : All IsSmall (t ∷ after) = subst (All IsSmall) cut.0 l.invariant.small in
     record {
@@ -35,7 +35,7 @@ loop-parts-preserved g c =
     let e = c.end_of_factor-joined in
     let t = c.in-Some.parts.0.now in
     let after = c.in-Some.parts.1.now in
-    let term = c.term_at.ensures ∙ ap (λ (letter : Letter). term_at letter t) c.letter_at.ensures in
+    let term = c.term_at.ensures ∙ ap (λ (letter : Letter). term_at letter t) c.pauli_letter.ensures in
     let gathered : c.deref.result.now ≡ l.terms.items ++ term_of t ∷ [] = c.deref.ensures.value ∙ c.in_ok-push.ensures.items ∙ ap (λ (x : Term). l.terms.items ++ x ∷ []) term in
     let all : All IsSmall (t ∷ after) = subst (All IsSmall) cut.0 l.invariant.small in
     record {
