@@ -2,18 +2,18 @@
 use Rattle.std.proofs.Common.{◌≡◌, ℕ, List, sym, subst}
 use Rattle.block_text.specs.declared.said.Said.{Said}
 use Rattle.block_text.specs.declared.said.Said.TheVariants as said
-use Rattle.block_text.specs.Fitting.{ReadingFits}
+use Rattle.block_text.specs.Fitting.{ReadingAccords}
 use Rattle.block_text.specs.Instructions.{Instruction}
 use Rattle.block_text.specs.Said.{OpensFew, reading_in}
 use Rattle.block_text.specs.Texts.{Reading}
 
-few_said : {O T : Type 0} (Fits : Instruction O T → Type 0) (depth number : ℕ) (s : Said O) (targets : List T) → ReadingFits Fits depth (reading_in number s targets) → OpensFew depth s
-few_said Fits depth number (said.Takes operation arguments) targets h = tt
-few_said Fits depth number (said.Opens turns) targets h = h.1
-few_said Fits depth number said.Closes targets h = tt
-few_said Fits depth number (said.Refuses c) targets h = tt
+few_said : {O T : Type 0} (Fits : Instruction O T → Type 0) (TurnsFit : ℕ → Type 0) (depth number : ℕ) (s : Said O) (targets : List T) → ReadingAccords Fits TurnsFit depth (reading_in number s targets) → OpensFew depth s
+few_said Fits TurnsFit depth number (said.Takes operation arguments) targets h = tt
+few_said Fits TurnsFit depth number (said.Opens turns) targets h = h.1
+few_said Fits TurnsFit depth number said.Closes targets h = tt
+few_said Fits TurnsFit depth number (said.Refuses c) targets h = tt
 
-pub opens_few : {O T : Type 0} (Fits : Instruction O T → Type 0) (depth number : ℕ) (s : Said O) (targets : List T) (reading : Reading (Instruction O T))
-    → reading_in number s targets ≡ reading → ReadingFits Fits depth reading → OpensFew depth s
-opens_few Fits depth number s targets reading e fits =
-    few_said Fits depth number s targets (subst (ReadingFits Fits depth) (sym e) fits)
+pub opens_few : {O T : Type 0} (Fits : Instruction O T → Type 0) (TurnsFit : ℕ → Type 0) (depth number : ℕ) (s : Said O) (targets : List T) (reading : Reading (Instruction O T))
+    → reading_in number s targets ≡ reading → ReadingAccords Fits TurnsFit depth reading → OpensFew depth s
+opens_few Fits TurnsFit depth number s targets reading e fits =
+    few_said Fits TurnsFit depth number s targets (subst (ReadingAccords Fits TurnsFit depth) (sym e) fits)

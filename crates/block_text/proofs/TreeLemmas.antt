@@ -6,7 +6,7 @@ use Rattle.std.proofs.lemmas.Bool.{cases_Bool, false≢true}
 use Rattle.step_model.specs.declared.fault.Fault.{Fault}
 use Rattle.stim_lexer.specs.Cut.{cut_of, has_bad_byte}
 use Rattle.stim_lexer.specs.Lines.{lines_of, says_nothing}
-use Rattle.block_text.specs.Fitting.{IsBuilt, AllFit, LinesFit, ReadingFits, depth, IsWritten}
+use Rattle.block_text.specs.Fitting.{IsBuilt, IsTurns, AllFit, LinesFit, ReadingFits, TurnsWithin, depth, IsWritten}
 use Rattle.block_text.specs.Flat.{tree_of}
 use Rattle.block_text.specs.Stored.{tree_of-items}
 use Rattle.block_text.specs.Texts.{Format, Reading, Takes, Opens, Closes, Refuses, items_in, items_from, followed, line_reading, open_after}
@@ -26,6 +26,7 @@ record Level {I : Type 0} (Fits : I → Type 0) (around : ℕ) (items behind : L
   written : items ≡ items_of tree ++ behind
   fit : AllFit Fits tree
   shallow : depth tree + around ≤ 32
+  within : TurnsWithin tree
 
 abbrev Balanced : {I : Type 0} → (I → Type 0) → ℕ → List (Item I) → Type 0
 Balanced Fits zero items = Level Fits 0 items []
@@ -38,14 +39,15 @@ one_more {I} Fits k i items behind fits level =
       written = ap (λ (is : List (Item I)). Does i ∷ is) level.written;
       fit = (fits, level.fit);
       shallow = level.shallow;
+      within = level.within;
     }
 
 with_instruction : {I : Type 0} (Fits : I → Type 0) (k : ℕ) (i : I) (items : List (Item I)) → Fits i → Balanced Fits k items → Balanced Fits k (Does i ∷ items)
 with_instruction Fits zero i items fits b = one_more Fits 0 i items [] fits b
 with_instruction Fits (suc k) i items fits b = (b.0, one_more Fits (suc k) i items (Ends ∷ b.0) fits b.1, b.2)
 
-one_block : {I : Type 0} (Fits : I → Type 0) (k line turns : ℕ) (items rest behind : List (Item I)) → 0 < turns → Level Fits (suc k) items (Ends ∷ rest) → Level Fits k rest behind → Level Fits k (Begins line turns ∷ items) behind
-one_block {I} Fits k line turns items rest behind some body after =
+one_block : {I : Type 0} (Fits : I → Type 0) (k line turns : ℕ) (items rest behind : List (Item I)) → IsTurns turns → Level Fits (suc k) items (Ends ∷ rest) → Level Fits k rest behind → Level Fits k (Begins line turns ∷ items) behind
+one_block {I} Fits k line turns items rest behind right body after =
     let inside : depth body.tree + suc k ≤ 32 = body.shallow in
     let outside : depth after.tree + k ≤ 32 = after.shallow in
     record {
@@ -55,20 +57,21 @@ one_block {I} Fits k line turns items rest behind some body after =
           (body.written
           ∙ ap (λ (is : List (Item I)). items_of body.tree ++ Ends ∷ is) after.written
           ∙ sym (append_assoc (items_of body.tree) (Ends ∷ items_of after.tree) behind));
-      fit = (some, body.fit, after.fit);
+      fit = (right.0, body.fit, after.fit);
       shallow = omega arith;
+      within = (right.1, body.within, after.within);
     }
 
-with_block : {I : Type 0} (Fits : I → Type 0) (k line turns : ℕ) (items : List (Item I)) → 0 < turns → Balanced Fits (suc k) items → Balanced Fits k (Begins line turns ∷ items)
-with_block Fits zero line turns items some b = one_block Fits 0 line turns items b.0 [] some b.1 b.2
-with_block Fits (suc k) line turns items some b = (
+with_block : {I : Type 0} (Fits : I → Type 0) (k line turns : ℕ) (items : List (Item I)) → IsTurns turns → Balanced Fits (suc k) items → Balanced Fits k (Begins line turns ∷ items)
+with_block Fits zero line turns items right b = one_block Fits 0 line turns items b.0 [] right b.1 b.2
+with_block Fits (suc k) line turns items right b = (
   b.2.0,
-  one_block Fits (suc k) line turns items b.0 (Ends ∷ b.2.0) some b.1 b.2.1,
+  one_block Fits (suc k) line turns items b.0 (Ends ∷ b.2.0) right b.1 b.2.1,
   b.2.2,
 )
 
 nothing_before : {I : Type 0} (Fits : I → Type 0) (k : ℕ) (behind : List (Item I)) → k ≤ 32 → Level Fits k behind behind
-nothing_before Fits k behind few = record { tree = Nothing; written = refl; fit = tt; shallow = omega arith }
+nothing_before Fits k behind few = record { tree = Nothing; written = refl; fit = tt; shallow = omega arith; within = tt }
 
 -- ---- lines
 
@@ -104,7 +107,7 @@ either_way Fits false r s k h j = j
 
 balanced : {I : Type 0} (Fits : I → Type 0) (format : Format I) → LinesFit Fits format → (opened : List ℕ) (read : ℕ) (lines : List (List ℕ)) → length opened ≤ 32 → IfOk (items_from format opened read lines) (Balanced Fits (length opened))
 unfolding items_from
-balanced Fits format fit [] read [] few = record { tree = Nothing; written = refl; fit = tt; shallow = omega arith }
+balanced Fits format fit [] read [] few = record { tree = Nothing; written = refl; fit = tt; shallow = omega arith; within = tt }
 balanced Fits format fit (o ∷ opened) read [] few = tt
 balanced Fits format fit opened read (line ∷ lines) few =
     let reading = line_reading format opened (read + 1) line in
@@ -122,7 +125,7 @@ written_from {I} Fits items b =
     let shallow : depth b.tree ≤ 32 = omega (arith, b.shallow) in
     record {
       written = ap (λ (t : Tree I). items_of t) tree ∙ sym of_tree;
-      fits = subst (IsBuilt Fits) (sym tree) (record { fit = b.fit; shallow = shallow });
+      fits = subst (IsBuilt Fits) (sym tree) (record { fit = b.fit; shallow = shallow; turns_within = b.within });
     }
 
 accepted_from : {I : Type 0} (Fits : I → Type 0) (r : Result (List (Item I)) Fault) → IfOk r (Balanced Fits 0) → (items : List (Item I)) → r ≡ Ok items → IsWritten Fits items

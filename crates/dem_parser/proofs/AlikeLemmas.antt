@@ -16,16 +16,31 @@ use Rattle.dem_lines.specs.Limits.{are_of_form, has_target_beyond, is_effect}
 use Rattle.dem_lines.specs.Targets.{targets_in}
 use Rattle.dem_lines.specs.Verdicts.{model_table, read_targets}
 use Rattle.dem_parser.specs.declared.counts.Extent.{Extent}
-use Rattle.dem_parser.specs.ErrorTexts.{AreCounted, BeginsWithTargets}
+use Rattle.dem_parser.specs.ErrorTexts.{AreCounted, BeginsWithTargets, is_quiet}
 use Rattle.dem_parser.specs.LinesRead.{BeginsWithError, IsErrorLine, IsFirstLine}
 use Rattle.dem_parser.specs.Standing.{instruction_cut}
 use Rattle.dem_parser.specs.Tables.{IsKnown}
-use Rattle.stim_lexer.specs.Bytes.{from_first, is_line_feed}
+use Rattle.stim_lexer.specs.Bytes.{from_first, is_close_parenthesis, is_line_feed}
 use Rattle.stim_lexer.proofs.ScanLemmas.{lines_of-cut}
-use Rattle.dem_parser.proofs.QuietLemmas.{arguments_cut, before_first-append, before_first-none, cut_with, from_first-append, is_quiet}
+use Rattle.stim_parser.proofs.ByteLemmas.{all-where, none-where}
+use Rattle.stim_parser.proofs.CutLemmas.{before_first-append, before_first-none, from_first-append}
+use Rattle.stim_parser.proofs.LineCutLemmas.{IsCut, arguments_cut, cut_with, is_plain_byte}
 
 abbrev cut_line : List ℕ → List ℕ → Cut
 cut_line arguments text = cut_with (codes "error") false arguments text
+
+quiet_is_plain : (b : ℕ) → is_quiet b ≡ true → is_plain_byte b ≡ true
+quiet_is_plain b h = grind arith
+
+quiet_not_closing : (b : ℕ) → is_quiet b ≡ true → is_close_parenthesis b ≡ false
+quiet_not_closing b h = grind arith
+
+error_cut : (arguments targets : List ℕ) → list_all is_quiet arguments ≡ true → list_all is_quiet targets ≡ true → IsCut (codes "error(" ++ (arguments ++ 41 ∷ targets)) (cut_line arguments targets)
+error_cut arguments targets quiet h =
+    arguments_cut (codes "error") arguments targets (refl, refl)
+    (all-where is_plain_byte is_quiet arguments quiet_is_plain quiet)
+    (none-where is_close_parenthesis is_quiet arguments quiet_not_closing quiet)
+    (all-where is_plain_byte is_quiet targets quiet_is_plain h)
 
 reading_found : (depth number : ℕ) (arguments text : List ℕ) (targets : List Target) → AreProbabilities OneProbability (arguments_in arguments) → targets_in text ≡ Some targets
     → list_all is_effect targets ≡ true → has_target_beyond targets ≡ false → reading_of model_table depth number (cut_line arguments text) ≡ Takes (instruction_cut number Errs (cut_line arguments text))
@@ -53,7 +68,7 @@ error_line : (arguments targets : List ℕ) (extent : Extent) → list_all is_qu
     → (h : AreCounted targets (record { detectors = 0; observables = 0 }) extent) → IsErrorLine (codes "error(" ++ (arguments ++ 41 ∷ targets)) extent
 error_line arguments targets extent quiet right h =
     let read : read_targets targets ≡ h.targets = ap (λ (found : Option (List Target)). unwrap_or found []) h.read in
-    let cut = arguments_cut (codes "error") arguments targets (refl, refl) quiet h.quiet in
+    let cut = error_cut arguments targets quiet h.quiet in
     let good = cut.good in
     record {
       speaks = record { speaks = cut.speaks; good = cut.good };
@@ -92,7 +107,7 @@ begins_with_error text arguments rest after extent e quiet right h =
     let line = codes "error(" ++ (arguments ++ 41 ∷ h.targets) in
     record {
       line = line;
-      first = first_of text line after (omega arith) (arguments_cut (codes "error") arguments h.targets (refl, refl) quiet h.counted.quiet).one (by h.parts);
+      first = first_of text line after (omega arith) (error_cut arguments h.targets quiet h.counted.quiet).one (by h.parts);
       error = error_line arguments h.targets extent quiet right h.counted;
     }
   where

@@ -11,7 +11,6 @@ mod MarkLemmas
 mod BuildLemmas
 mod ReadLemmas
 pub mod ChainLemmas
-pub mod QuietLemmas
 mod TableLemmas
 mod WalkLemmas
 mod UnrolledLemmas

@@ -2,6 +2,7 @@
 -- its targets, each after one space.
 use Rattle.std.specs.Prelude.{ℕ, List, [], ◌∷◌, ◌++◌, codes, decimal}
 use Rattle.std.specs.List.{flat_map}
+use Rattle.stim_parser.specs.Written.{in_parentheses}
 use Rattle.dem_lines.specs.declared.operation.Operation.{Operation}
 use Rattle.dem_lines.specs.declared.operation.Operation.TheVariants.{Errs, Detects, Observes, Shifts}
 use Rattle.dem_lines.specs.declared.target.Target.{Target}
@@ -13,18 +14,6 @@ name_text Errs = codes "error"
 name_text Detects = codes "detector"
 name_text Observes = codes "logical_observable"
 name_text Shifts = codes "shift_detectors"
-
--- the arguments after the first, and all of them
-abbrev pub more_arguments : List (List ℕ) → List ℕ
-more_arguments arguments = flat_map (λ a. 44 ∷ 32 ∷ a) arguments
-
-abbrev pub inside : List (List ℕ) → List ℕ
-inside [] = []
-inside (a ∷ arguments) = a ++ more_arguments arguments
-
-abbrev pub in_parentheses : List (List ℕ) → List ℕ
-in_parentheses [] = []
-in_parentheses (a ∷ arguments) = 40 ∷ (inside (a ∷ arguments) ++ 41 ∷ [])
 
 abbrev pub target_word : Target → List ℕ
 target_word (Plain n) = decimal n

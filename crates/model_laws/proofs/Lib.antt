@@ -1,7 +1,3 @@
-mod CutLemmas
-mod WordLemmas
-mod NumberLemmas
-mod AcceptedLemmas
 mod InstructionTexts
 mod LineCutLemmas
 mod LineReadLemmas

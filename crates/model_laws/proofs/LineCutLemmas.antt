@@ -6,37 +6,32 @@ use Rattle.std.proofs.lemmas.Bool.{and_parts, false≢true}
 use Rattle.stim_lexer.specs.declared.line.Braces.TheVariants.{NoBrace}
 use Rattle.stim_lexer.specs.Bytes.{ends_name, is_open_bracket, is_open_parenthesis}
 use Rattle.stim_lexer.specs.Cut.{Cut, has_opening}
+use Rattle.stim_parser.specs.Written.{joined_arguments}
+use Rattle.stim_parser.proofs.ArgumentTexts.{AreWords, no_closing, plain_joined}
+use Rattle.stim_parser.proofs.ByteLemmas.{all-where, both_all}
+use Rattle.stim_parser.proofs.LineCutLemmas.{IsCut, IsName, arguments_cut, is_plain_byte, targets_cut}
+use Rattle.stim_parser.proofs.WordLemmas.{is_word, is_word_byte, no_blank, other_byte, word_bytes}
 use Rattle.dem_lines.specs.declared.operation.Operation.{Operation}
 use Rattle.dem_lines.specs.declared.operation.Operation.TheVariants.{Errs, Detects, Observes, Shifts}
 use Rattle.dem_lines.specs.declared.target.Target.{Target}
-use Rattle.dem_parser.proofs.QuietLemmas.{IsCut, IsName, all-where, arguments_cut, both_all, is_quiet, targets_cut}
-use Rattle.model_laws.proofs.InstructionTexts.{inside, instruction_line, more_arguments, name_text, target_word, target_words}
-use Rattle.model_laws.proofs.WordLemmas.{is_word, is_word_byte, no_blank, other_byte, word_bytes}
+use Rattle.model_laws.proofs.InstructionTexts.{instruction_line, name_text, target_word, target_words}
 
--- arguments and targets that are words
-abbrev pub AreWords : List (List ℕ) → Type 0
-AreWords [] = ⊤
-AreWords (a ∷ arguments) = (is_word a ≡ true) × AreWords arguments
-
+-- targets that are words
 abbrev pub AreTargetWords : List Target → Type 0
 AreTargetWords [] = ⊤
 AreTargetWords (t ∷ targets) = (is_word (target_word t) ≡ true) × AreTargetWords targets
 
--- ---- quiet texts
+-- ---- plain texts
 
-word_byte_is_quiet : (b : ℕ) → is_word_byte b ≡ true → is_quiet b ≡ true
-word_byte_is_quiet b h = grind arith
+word_byte_is_plain : (b : ℕ) → is_word_byte b ≡ true → is_plain_byte b ≡ true
+word_byte_is_plain b h = grind arith
 
-quiet_word : (w : List ℕ) → is_word w ≡ true → list_all is_quiet w ≡ true
-quiet_word w h = all-where is_quiet is_word_byte w word_byte_is_quiet (word_bytes w h)
+plain_word : (w : List ℕ) → is_word w ≡ true → list_all is_plain_byte w ≡ true
+plain_word w h = all-where is_plain_byte is_word_byte w word_byte_is_plain (word_bytes w h)
 
-quiet_more : (arguments : List (List ℕ)) → AreWords arguments → list_all is_quiet (more_arguments arguments) ≡ true
-quiet_more [] h = refl
-quiet_more (a ∷ arguments) h = both_all is_quiet a (more_arguments arguments) (quiet_word a h.0) (quiet_more arguments h.1)
-
-quiet_targets : (targets : List Target) → AreTargetWords targets → list_all is_quiet (target_words targets) ≡ true
-quiet_targets [] h = refl
-quiet_targets (t ∷ targets) h = both_all is_quiet (target_word t) (target_words targets) (quiet_word (target_word t) h.0) (quiet_targets targets h.1)
+plain_targets : (targets : List Target) → AreTargetWords targets → list_all is_plain_byte (target_words targets) ≡ true
+plain_targets [] h = refl
+plain_targets (t ∷ targets) h = both_all is_plain_byte (target_word t) (target_words targets) (plain_word (target_word t) h.0) (plain_targets targets h.1)
 
 -- ---- names, and targets behind them
 
@@ -66,7 +61,7 @@ line_cut o arguments targets =
     record {
       name = name_text o;
       stays_open = false;
-      arguments = inside arguments;
+      arguments = joined_arguments arguments;
       targets = target_words targets;
       braces = NoBrace;
     }
@@ -74,11 +69,10 @@ line_cut o arguments targets =
 pub line_is_cut : (o : Operation) (arguments : List (List ℕ)) (targets : List Target) → AreWords arguments → AreTargetWords targets
     → IsCut (instruction_line o arguments targets) (line_cut o arguments targets)
 line_is_cut o [] targets h k =
-    targets_cut (name_text o) (target_words targets) (is_name o) (quiet_targets targets k) (apart targets)
+    targets_cut (name_text o) (target_words targets) (is_name o) (plain_targets targets k) (apart targets)
     (none_opens is_open_bracket (λ b w. other_byte 91 b refl w) targets k)
     (none_opens is_open_parenthesis (λ b w. other_byte 40 b refl w) targets k)
 line_is_cut o (a ∷ arguments) targets h k =
-    let quiet = both_all is_quiet a (more_arguments arguments) (quiet_word a h.0) (quiet_more arguments h.1) in
     subst (λ text. IsCut (name_text o ++ 40 ∷ text) (line_cut o (a ∷ arguments) targets))
-    (sym (append_assoc (inside (a ∷ arguments)) (41 ∷ []) (target_words targets)))
-    (arguments_cut (name_text o) (inside (a ∷ arguments)) (target_words targets) (is_name o) quiet (quiet_targets targets k))
+    (sym (append_assoc (joined_arguments (a ∷ arguments)) (41 ∷ []) (target_words targets)))
+    (arguments_cut (name_text o) (joined_arguments (a ∷ arguments)) (target_words targets) (is_name o) (plain_joined (a ∷ arguments) h) (no_closing (a ∷ arguments) h) (plain_targets targets k))

@@ -1,9 +1,7 @@
 -- The line of an instruction that fits is read as that instruction.
-use Rattle.std.proofs.Common.{◌≡◌, ℕ, ◌==◌, ◌<◌, true, false, List, [], ◌∷◌, ◌++◌, map, Some, decimal, refl, ap, ap₂, ◌∙◌, append-nil, arith}
-use Rattle.std.specs.List.{list_any, slice_split}
-use Rattle.std.proofs.lemmas.Bool.{false≢true, ltb-false, or_from, or_parts}
-use Rattle.stim_lexer.specs.Bytes.{after_blanks, is_empty}
-use Rattle.stim_parser.specs.Arguments.{arguments_in, is_comma, trimmed}
+use Rattle.std.proofs.Common.{◌≡◌, ℕ, ◌<◌, true, false, List, [], ◌∷◌, ◌++◌, map, Some, decimal, refl, ap, ◌∙◌, arith}
+use Rattle.std.specs.List.{list_any}
+use Rattle.std.proofs.lemmas.Bool.{false≢true, ltb-false, or_parts}
 use Rattle.block_text.specs.Texts.{Takes}
 use Rattle.stim_parser.specs.Judging.{judged, reading_of, refusal_of}
 use Rattle.stim_parser.specs.Numbers.{greatest_number}
@@ -19,39 +17,13 @@ use Rattle.dem_lines.specs.Instructions.{keyword_named}
 use Rattle.dem_lines.specs.Limits.{has_target_beyond, is_target_beyond}
 use Rattle.dem_lines.specs.Targets.{target_of, targets_in}
 use Rattle.dem_lines.specs.Verdicts.{model_table}
-use Rattle.dem_parser.proofs.QuietLemmas.{first_piece, none-where}
-use Rattle.model_laws.proofs.CutLemmas.{slice_split-alone, slice_split-first}
-use Rattle.model_laws.proofs.InstructionTexts.{inside, instruction, more_arguments, name_text, target_word, target_words}
-use Rattle.model_laws.proofs.LineCutLemmas.{AreTargetWords, AreWords, line_cut}
-use Rattle.model_laws.proofs.NumberLemmas.{decimal_is_word, number_of-decimal}
-use Rattle.model_laws.proofs.WordLemmas.{after_blanks-word, is_word, is_word_byte, no_end_of_piece, other_byte, trimmed-space, trimmed-word, word_bytes}
-
--- ---- arguments
-
-no_comma : (a : List ℕ) → is_word a ≡ true → list_any is_comma a ≡ false
-no_comma a h = none-where is_comma is_word_byte a (λ b w. other_byte 44 b refl w) (word_bytes a h)
-
-parts_found : (x : List ℕ) (arguments : List (List ℕ)) → list_any is_comma x ≡ false → AreWords arguments → slice_split is_comma (x ++ more_arguments arguments) ≡ x ∷ map (λ a. 32 ∷ a) arguments
-parts_found x [] h k = ap (slice_split is_comma) (append-nil x) ∙ slice_split-alone is_comma x h
-parts_found x (a ∷ arguments) h k =
-    slice_split-first is_comma x 44 (32 ∷ (a ++ more_arguments arguments)) h refl
-    ∙ ap (λ ps. x ∷ ps) (parts_found (32 ∷ a) arguments (or_from (32 == 44) (list_any is_comma a) refl (no_comma a k.0)) k.1)
-
-all_trimmed : (arguments : List (List ℕ)) → AreWords arguments → map trimmed (map (λ a. 32 ∷ a) arguments) ≡ arguments
-all_trimmed [] k = refl
-all_trimmed (a ∷ arguments) k = ap₂ (λ x xs. x ∷ xs) (trimmed-space a k.0) (all_trimmed arguments k.1)
-
-word_some : (w text : List ℕ) → is_word w ≡ true → is_empty (w ++ text) ≡ false
-word_some [] text h = absurd (false≢true h)
-word_some (b ∷ w) text h = refl
-
-pub arguments_read : (arguments : List (List ℕ)) → AreWords arguments → arguments_in (inside arguments) ≡ arguments
-unfolding arguments_in
-arguments_read [] k = refl
-arguments_read (a ∷ arguments) k =
-    let some : is_empty (after_blanks (a ++ more_arguments arguments)) ≡ false =
-    ap is_empty (after_blanks-word a (more_arguments arguments) k.0) ∙ word_some a (more_arguments arguments) k.0 in
-    rw (some, parts_found a arguments (no_comma a k.0) k.1) (ap₂ (λ x xs. x ∷ xs) (trimmed-word a k.0) (all_trimmed arguments k.1))
+use Rattle.stim_parser.proofs.ArgumentTexts.{AreWords, arguments_read}
+use Rattle.stim_parser.proofs.ByteLemmas.{none-where}
+use Rattle.stim_parser.proofs.CutLemmas.{first_piece}
+use Rattle.stim_parser.proofs.NumberLemmas.{decimal_is_word, number_of-decimal}
+use Rattle.stim_parser.proofs.WordLemmas.{is_word, is_word_byte, no_end_of_piece, word_bytes}
+use Rattle.model_laws.proofs.InstructionTexts.{instruction, name_text, target_word, target_words}
+use Rattle.model_laws.proofs.LineCutLemmas.{AreTargetWords, line_cut}
 
 -- ---- targets
 

@@ -22,7 +22,7 @@ use Rattle.dem_parser.proofs.NumberLemmas.{flipped-numbers}
 use Rattle.model_laws.specs.Writable.{IsWritable, IsWritableLine}
 use Rattle.model_laws.proofs.AscendingLemmas.{odd_below-ascending}
 use Rattle.model_laws.proofs.ModelInstructions.{detector_instruction, detector_instructions, error_instruction, error_instructions, instructions_of, instructions_text, observable_instruction, observable_instructions, target_of_number}
-use Rattle.model_laws.proofs.NumberLemmas.{signed_decimal_is_whole}
+use Rattle.stim_parser.proofs.NumberLemmas.{signed_decimal_is_whole}
 use Rattle.model_laws.proofs.StandLemmas.{instructions_stand}
 use Rattle.model_laws.proofs.TextReadLemmas.{text_means}
 

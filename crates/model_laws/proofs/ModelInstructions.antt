@@ -11,7 +11,8 @@ use Rattle.dem_lines.specs.declared.operation.Operation.TheVariants.{Errs, Detec
 use Rattle.dem_lines.specs.declared.target.Target.{Target}
 use Rattle.dem_lines.specs.declared.target.Target.TheVariants.{Detector, Observable}
 use Rattle.dem_lines.specs.Verdicts.{Instruction}
-use Rattle.model_laws.proofs.InstructionTexts.{in_parentheses, instruction, instruction_line, more_arguments, target_word, target_words}
+use Rattle.stim_parser.specs.Written.{in_parentheses, more_arguments}
+use Rattle.model_laws.proofs.InstructionTexts.{instruction, instruction_line, target_word, target_words}
 use Rattle.model_laws.proofs.TextReadLemmas.{text_of}
 
 -- the target of a number, where there are so many detectors

@@ -12,12 +12,12 @@ use Rattle.stim_parser.specs.Numbers.{is_number_beyond, is_whole_number, magnitu
 use Rattle.dem_lines.specs.Limits.{are_of_form, has_target_beyond, is_effect, is_target_beyond}
 use Rattle.dem_lines.specs.Verdicts.{Instruction}
 use Rattle.model_laws.specs.Writable.{IsWritable, IsWritableLine}
-use Rattle.model_laws.proofs.AcceptedLemmas.{accepted_is_word}
-use Rattle.model_laws.proofs.LineCutLemmas.{AreWords}
+use Rattle.stim_parser.proofs.AcceptedLemmas.{accepted_is_word}
+use Rattle.stim_parser.proofs.ArgumentTexts.{AreWords}
 use Rattle.model_laws.proofs.ModelInstructions.{detector_instruction, detector_instructions, error_instruction, error_instructions, instructions_of, observable_instruction, observable_instructions, target_of_number}
-use Rattle.model_laws.proofs.NumberLemmas.{signed_decimal_is_whole}
+use Rattle.stim_parser.proofs.NumberLemmas.{signed_decimal_is_whole}
 use Rattle.model_laws.proofs.TextReadLemmas.{AllCanStand, CanStand}
-use Rattle.model_laws.proofs.WordLemmas.{is_word}
+use Rattle.stim_parser.proofs.WordLemmas.{is_word}
 
 -- ---- error lines
 

@@ -13,9 +13,10 @@ use Rattle.dem_parser.specs.Meanings.{detectors_to, observables_to, detector_cou
 use Rattle.dem_parser.specs.Models.{model_in}
 use Rattle.dem_parser.specs.Shifts.{Placed, no_shift, shift_after}
 use Rattle.dem_parser.proofs.ChainLemmas.{AllStay, chain_means, placed}
-use Rattle.model_laws.proofs.CutLemmas.{lines_of-line}
+use Rattle.stim_parser.proofs.ArgumentTexts.{AreWords}
+use Rattle.stim_parser.proofs.CutLemmas.{lines_of-line}
 use Rattle.model_laws.proofs.InstructionTexts.{instruction, instruction_line}
-use Rattle.model_laws.proofs.LineCutLemmas.{AreWords, line_is_cut}
+use Rattle.model_laws.proofs.LineCutLemmas.{line_is_cut}
 use Rattle.model_laws.proofs.LineReadLemmas.{reading_found, targets_are_words}
 
 -- ---- instructions that are written

@@ -1,14 +1,14 @@
--- What a line says that isn't refused: an instruction fits, a block has a turn and stands where one more may be open, and
--- a block is open where one is closed. Each question of the list was answered with no.
-use Rattle.std.proofs.Common.{◌≡◌, ℕ, ◌<◌, ◌==◌, Option, None, Some, refl, sym, inl, inr}
+-- What a line says that isn't refused: an instruction fits, a block has a turn, and as few as its targets may say, and stands
+-- where one more may be open, and a block is open where one is closed. Each question of the list was answered with no.
+use Rattle.std.proofs.Common.{◌≡◌, ℕ, ◌<◌, ◌==◌, false, List, Option, None, Some, refl, sym, inl, inr}
 use Rattle.std.proofs.lemmas.Bool.{cases_Bool, true≢false}
 use Rattle.step_model.specs.declared.fault.Cause.{Cause}
 use Rattle.stim_lexer.specs.declared.line.Braces.{Braces}
 use Rattle.stim_lexer.specs.declared.line.Braces.TheVariants.{NoBrace, OpeningLast, ClosingAlone, Misplaced}
 use Rattle.stim_lexer.specs.Cut.{Cut}
-use Rattle.block_text.specs.Fitting.{ReadingFits}
+use Rattle.block_text.specs.Fitting.{IsTurns, ReadingAccords, ReadingFits}
 use Rattle.block_text.specs.Instructions.{Instruction}
-use Rattle.block_text.proofs.QuestionLemmas.{NoneApplies, none_applies, none_behind, not_deep, not_zero}
+use Rattle.block_text.proofs.QuestionLemmas.{NoneApplies, neither, none_applies, none_behind, not_deep, not_zero}
 use Rattle.stim_parser.specs.declared.table.Causes.{Causes}
 use Rattle.stim_parser.specs.declared.table.Keyword.{Keyword}
 use Rattle.stim_parser.specs.declared.table.Keyword.TheVariants.{Does, Repeats}
@@ -20,38 +20,47 @@ TakesFitting {O} table Fits =
     (depth number : ℕ) (operation : O) (cut : Cut) → table.keyword_named cut.name ≡ Some (Does operation)
     → NoneApplies (refusals_of_keyword table depth (Does operation) cut) → ReadingFits Fits depth (accepted table number (Some (Does operation)) cut)
 
-named_fits : {O T F : Type 0} (table : Table O T F) (Fits : Instruction O T → Type 0) → TakesFitting table Fits → (depth number : ℕ) (named : Option (Keyword O)) (cut : Cut) → table.keyword_named cut.name ≡ named
-    → NoneApplies (refusals_of_name table depth named cut) → ReadingFits Fits depth (accepted table number named cut)
-named_fits table Fits fits depth number None cut e h = absurd (true≢false h.0)
-named_fits table Fits fits depth number (Some (Does operation)) cut e h = fits depth number operation cut e h
-named_fits table Fits fits depth number (Some Repeats) cut e h =
+-- turns fit that are some, by targets of which none is beyond its limit
+abbrev pub OpensFitting : {O T F : Type 0} → Table O T F → (ℕ → Type 0) → Type 0
+OpensFitting {O} {T} table TurnsFit =
+    (targets : List T) → table.has_target_beyond (table.target_form Repeats) targets ≡ false → 0 < table.turns_of targets → TurnsFit (table.turns_of targets)
+
+named_fits : {O T F : Type 0} (table : Table O T F) (Fits : Instruction O T → Type 0) (TurnsFit : ℕ → Type 0) → TakesFitting table Fits → OpensFitting table TurnsFit → (depth number : ℕ) (named : Option (Keyword O)) (cut : Cut) → table.keyword_named cut.name ≡ named
+    → NoneApplies (refusals_of_name table depth named cut) → ReadingAccords Fits TurnsFit depth (accepted table number named cut)
+named_fits table Fits TurnsFit fits opens depth number None cut e h = absurd (true≢false h.0)
+named_fits table Fits TurnsFit fits opens depth number (Some (Does operation)) cut e h = fits depth number operation cut e h
+named_fits table Fits TurnsFit fits opens depth number (Some Repeats) cut e h =
     let block = none_behind (table.refusals_of_targets (table.target_form Repeats) cut.targets (read_targets table (table.target_form Repeats) cut.targets)) _ h.1.1.1.1 in
-    (not_zero _ block.0, not_deep _ block.1.0)
+    (opens _ (neither _ _ h.1.1.1.0).1 (not_zero _ block.0), not_deep _ block.1.0)
 
-unless_fits : {O T F : Type 0} (table : Table O T F) (Fits : Instruction O T → Type 0) → TakesFitting table Fits → (depth number : ℕ) (cut : Cut) (refusal : Option Cause) → refusal ≡ refusal_of table depth cut
-    → ReadingFits Fits depth (unless_refused refusal (accepted table number (table.keyword_named cut.name) cut))
+unless_fits : {O T F : Type 0} (table : Table O T F) (Fits : Instruction O T → Type 0) (TurnsFit : ℕ → Type 0) → TakesFitting table Fits → OpensFitting table TurnsFit → (depth number : ℕ) (cut : Cut) (refusal : Option Cause) → refusal ≡ refusal_of table depth cut
+    → ReadingAccords Fits TurnsFit depth (unless_refused refusal (accepted table number (table.keyword_named cut.name) cut))
 unfolding refusal_of
-unless_fits table Fits fits depth number cut (Some c) h = tt
-unless_fits table Fits fits depth number cut None h =
-    named_fits table Fits fits depth number (table.keyword_named cut.name) cut refl (none_applies (refusals table depth cut) (sym h)).1
+unless_fits table Fits TurnsFit fits opens depth number cut (Some c) h = tt
+unless_fits table Fits TurnsFit fits opens depth number cut None h =
+    named_fits table Fits TurnsFit fits opens depth number (table.keyword_named cut.name) cut refl (none_applies (refusals table depth cut) (sym h)).1
 
-judged_fits : {O T F : Type 0} (table : Table O T F) (Fits : Instruction O T → Type 0) → TakesFitting table Fits → (depth number : ℕ) (cut : Cut) → ReadingFits Fits depth (judged table depth number cut)
+judged_fits : {O T F : Type 0} (table : Table O T F) (Fits : Instruction O T → Type 0) (TurnsFit : ℕ → Type 0) → TakesFitting table Fits → OpensFitting table TurnsFit → (depth number : ℕ) (cut : Cut) → ReadingAccords Fits TurnsFit depth (judged table depth number cut)
 unfolding judged
-judged_fits table Fits fits depth number cut = unless_fits table Fits fits depth number cut (refusal_of table depth cut) refl
+judged_fits table Fits TurnsFit fits opens depth number cut = unless_fits table Fits TurnsFit fits opens depth number cut (refusal_of table depth cut) refl
 
-closed_fits : {I : Type 0} (Fits : I → Type 0) (causes : Causes) (depth : ℕ) → ReadingFits Fits depth (closed_at {I = I} causes depth)
-closed_fits Fits causes depth =
+closed_fits : {I : Type 0} (Fits : I → Type 0) (TurnsFit : ℕ → Type 0) (causes : Causes) (depth : ℕ) → ReadingAccords Fits TurnsFit depth (closed_at {I = I} causes depth)
+closed_fits Fits TurnsFit causes depth =
     elim (cases_Bool (depth == 0)) [
       | inl e ↦ rw e tt
       | inr e ↦ let some : 0 < depth = not_zero depth e in rw e some
     ]
 
-said_fits : {O T F : Type 0} (table : Table O T F) (Fits : Instruction O T → Type 0) → TakesFitting table Fits → (braces : Braces) (depth number : ℕ) (cut : Cut) → ReadingFits Fits depth (said_by table braces depth number cut)
-said_fits table Fits fits ClosingAlone depth number cut = closed_fits Fits table.causes depth
-said_fits table Fits fits NoBrace depth number cut = judged_fits table Fits fits depth number cut
-said_fits table Fits fits OpeningLast depth number cut = judged_fits table Fits fits depth number cut
-said_fits table Fits fits Misplaced depth number cut = judged_fits table Fits fits depth number cut
+said_fits : {O T F : Type 0} (table : Table O T F) (Fits : Instruction O T → Type 0) (TurnsFit : ℕ → Type 0) → TakesFitting table Fits → OpensFitting table TurnsFit → (braces : Braces) (depth number : ℕ) (cut : Cut) → ReadingAccords Fits TurnsFit depth (said_by table braces depth number cut)
+said_fits table Fits TurnsFit fits opens ClosingAlone depth number cut = closed_fits Fits TurnsFit table.causes depth
+said_fits table Fits TurnsFit fits opens NoBrace depth number cut = judged_fits table Fits TurnsFit fits opens depth number cut
+said_fits table Fits TurnsFit fits opens OpeningLast depth number cut = judged_fits table Fits TurnsFit fits opens depth number cut
+said_fits table Fits TurnsFit fits opens Misplaced depth number cut = judged_fits table Fits TurnsFit fits opens depth number cut
 
-pub readings_fit : {O T F : Type 0} (table : Table O T F) (Fits : Instruction O T → Type 0) → TakesFitting table Fits → (depth number : ℕ) (cut : Cut) → ReadingFits Fits depth (reading_of table depth number cut)
+pub readings_accord : {O T F : Type 0} (table : Table O T F) (Fits : Instruction O T → Type 0) (TurnsFit : ℕ → Type 0) → TakesFitting table Fits → OpensFitting table TurnsFit → (depth number : ℕ) (cut : Cut) → ReadingAccords Fits TurnsFit depth (reading_of table depth number cut)
 unfolding reading_of
-readings_fit table Fits fits depth number cut = said_fits table Fits fits cut.braces depth number cut
+readings_accord table Fits TurnsFit fits opens depth number cut = said_fits table Fits TurnsFit fits opens cut.braces depth number cut
+
+-- turns are at most the greatest number
+pub readings_fit : {O T F : Type 0} (table : Table O T F) (Fits : Instruction O T → Type 0) → TakesFitting table Fits → OpensFitting table IsTurns → (depth number : ℕ) (cut : Cut) → ReadingFits Fits depth (reading_of table depth number cut)
+readings_fit table Fits fits opens depth number cut = readings_accord table Fits IsTurns fits opens depth number cut

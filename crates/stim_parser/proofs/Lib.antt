@@ -1,4 +1,16 @@
 mod ArgumentLemmas
+pub mod ByteLemmas
+pub mod CutLemmas
+pub mod LineCutLemmas
+pub mod ArgumentTexts
+mod NameTexts
+mod TargetTexts
+mod LineTexts
+mod CircuitTexts
+mod AlikeLemmas
+pub mod WordLemmas
+pub mod NumberLemmas
+pub mod AcceptedLemmas
 mod CheckLemmas
 mod DigitLemmas
 mod JudgeLemmas

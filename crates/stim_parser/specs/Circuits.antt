@@ -1,7 +1,7 @@
 -- What holds of a circuit's tree: each instruction has the arguments and targets that its operation takes, each block
--- has at least one turn, and blocks are nested no deeper than the limit. (Stim's circuit format; the limits are this
--- project's.)
-use Rattle.std.specs.Prelude.{◌≡◌, nat_le, Bool, false, true, not}
+-- has at least one turn and no more than the limit, and blocks are nested no deeper than the limit. (Stim's circuit format;
+-- the limits are this project's.)
+use Rattle.std.specs.Prelude.{◌≡◌, nat_le, Bool, false, true, not, []}
 use Rattle.std.specs.List.{list_all}
 use Rattle.step_model.specs.Listing.{is_I}
 use Rattle.block_text.specs.Fitting as fitting
@@ -14,7 +14,7 @@ use Rattle.stim_parser.specs.Instructions.{argument_form, target_form}
 use Rattle.stim_parser.specs.Limits.{has_wrong_arguments, has_wrong_probability, has_argument_beyond, are_of_form, has_target_beyond, has_wrong_count, has_same_qubit}
 use Rattle.stim_parser.specs.Numbers.{greatest_coordinate}
 use Rattle.stim_parser.specs.Trees.{Tree}
-use Rattle.stim_parser.specs.Verdicts.{Instruction}
+use Rattle.stim_parser.specs.Verdicts.{Instruction, takes_none}
 
 -- an operation and a target as a text can write them: no letter is I, and a record is at least one back
 abbrev pub operation_is_written : Operation → Bool
@@ -36,6 +36,7 @@ pub record Fits (i : Instruction) : Type 0 where
   pub arguments_within : has_argument_beyond greatest_coordinate (argument_form (Does i.operation)) i.arguments ≡ false
   pub targets : are_of_form (target_form (Does i.operation)) i.targets ≡ true
   pub targets_within : has_target_beyond (target_form (Does i.operation)) i.targets ≡ false
+  pub no_targets : takes_none (target_form (Does i.operation)) ≡ true → i.targets ≡ []
   pub count : has_wrong_count (target_form (Does i.operation)) i.targets ≡ false
   pub different : has_same_qubit (target_form (Does i.operation)) i.targets ≡ false
   pub operation_written : operation_is_written i.operation ≡ true
@@ -45,6 +46,6 @@ pub record Fits (i : Instruction) : Type 0 where
 abbrev pub AllFit : Tree → Type 0
 AllFit tree = fitting.AllFit Fits tree
 
--- a tree that is accepted: its instructions fit, its blocks have turns, and it is not too deep
+-- a tree that is accepted: its instructions fit, its blocks have turns and not too many, and it is not too deep
 abbrev pub IsCircuit : Tree → Type 0
 IsCircuit tree = fitting.IsBuilt Fits tree

@@ -14,6 +14,7 @@ pub mod Verdicts
 pub mod Texts
 pub mod Trees
 pub mod Circuits
+pub mod Written
 pub mod Halves
 pub mod Coordinates
 pub mod QubitSets

@@ -101,7 +101,7 @@ impl<'a, O: Copy, T: Copy, F: Copy, J: Judge<O, T, F>, A: Allocator + Copy> Judg
     }
 
     /// Does nothing. Its contract says that each instruction has the arguments and targets that its operation takes, that
-    /// each block has a turn, and that blocks are not nested too deep.
+    /// each block has a turn and not too many, and that blocks are not nested too deep.
     #[inline(always)]
     pub fn fits(&self)
         ensures { IsBuilt J.Fits self.now }

@@ -5,6 +5,7 @@ ghost use Rattle.step_model.specs.declared.fault.Fault.{Fault};
 ghost use Rattle.stim_parser.specs.Circuits.{IsCircuit};
 ghost use Rattle.stim_parser.specs.Trees.{Tree};
 ghost use Rattle.stim_parser.specs.Judged.{items_of, Writes, IsRefusedBy};
+ghost use Rattle.stim_parser.specs.Written.{AreAlike, circuit_text, with_lines};
 
 /// Each text writes exactly one tree, or is refused by exactly one fault, and never both.
 pub fn texts_are_judged_once()
@@ -15,7 +16,7 @@ pub fn texts_are_judged_once()
 {}
 
 /// In a tree that a text writes, each instruction has the arguments and targets that its operation takes, each block
-/// has a turn, and blocks are not nested too deep.
+/// has a turn and not too many, and blocks are not nested too deep.
 pub fn texts_write_circuits()
     ensures { (text : List ℕ) (tree : Tree) → Writes text tree → IsCircuit tree }
 {}
@@ -23,4 +24,13 @@ pub fn texts_write_circuits()
 /// Two trees with the same items are the same.
 pub fn trees_are_told_apart()
     ensures { (t u : Tree) → items_of t ≡ items_of u → t ≡ u }
+{}
+
+/// Each tree that fits has a text that writes it, but for the numbers of its lines: these are as they stand in the text. The
+/// text says all else of the tree: two trees have one text just where they are the same but for the numbers of their lines.
+pub fn circuits_are_written()
+    ensures written { (tree : Tree) → IsCircuit tree → Writes (circuit_text tree) (with_lines tree) }
+    ensures alike { (tree : Tree) → AreAlike tree (with_lines tree) }
+    ensures one_text { (t u : Tree) → AreAlike t u → circuit_text t ≡ circuit_text u }
+    ensures told_apart { (t u : Tree) → IsCircuit t → IsCircuit u → circuit_text t ≡ circuit_text u → AreAlike t u }
 {}

@@ -7,7 +7,7 @@ use Rattle.block_text.specs.Unfinished.{Unfinished}
 use Rattle.block_text.proofs.SaidLemmas.{opens_few}
 use Rattle.stim_parser.specs.Judging.{reading_of}
 use Rattle.stim_parser.specs.Probabilities.{marked_in}
-use Rattle.stim_parser.proofs.FitLemmas.{readings_fit}
+use Rattle.stim_parser.proofs.FitLemmas.{readings_accord}
 use Rattle.stim_parser.proofs.MarkLemmas.{begun-keeps, ok_both}
 use Rattle.stim_parser.proofs.reader.read_next.Goals as goal
 
@@ -18,8 +18,8 @@ take-requires g c =
     let cut = cut_in c.args.line in
     let depth = c.depth.result in
     subst (λ (d : ℕ). OpensFew d c.in_ok-said.said) c.depth.ensures
-    (opens_few (λ _. ⊤) depth number c.in_ok-said.said c.read_line.new.targets.items (reading_of table depth number cut) c.in_ok-said.ensures.reading
-    (readings_fit table (λ _. ⊤) (λ depth number operation cut e h. tt) depth number cut))
+    (opens_few (λ _. ⊤) (λ _. ⊤) depth number c.in_ok-said.said c.read_line.new.targets.items (reading_of table depth number cut) c.in_ok-said.ensures.reading
+    (readings_accord table (λ _. ⊤) (λ _. ⊤) (λ depth number operation cut e h. tt) (λ targets within some. tt) depth number cut))
 
 pub returns-clause-kept : goal.returns-clause-kept
 returns-clause-kept g c =

@@ -5,7 +5,7 @@ use Rattle.std.specs.Char.{is_ascii_digit}
 use Rattle.std.specs.List.{list_all, prefix_len}
 use Rattle.std.proofs.lemmas.Bool.{and_from, and_parts, cases_Bool, false≢true}
 use Rattle.step_model.specs.Probabilities.{after_digits, after_fraction, decimal_bound, decimal_of, exponent_amount, exponent_part, is_exponent, probability_bound, signed_exponent}
-use Rattle.model_laws.proofs.WordLemmas.{digit_is_word_byte, digits_are_word_bytes, is_word, is_word_byte}
+use Rattle.stim_parser.proofs.WordLemmas.{digit_is_word_byte, digits_are_word_bytes, is_word, is_word_byte}
 
 -- ---- the exponent
 
@@ -79,7 +79,7 @@ some_behind : {X : Type 0} (b : Bool) (o : Option X) → is_some (if b then None
 some_behind true o h = absurd (false≢true h)
 some_behind false o h = h
 
-bytes_of_decimal : (text : List ℕ) → is_some (decimal_of text) ≡ true → list_all is_word_byte text ≡ true
+pub bytes_of_decimal : (text : List ℕ) → is_some (decimal_of text) ≡ true → list_all is_word_byte text ≡ true
 bytes_of_decimal text h =
     digits_bytes text
     (fraction_bytes (after_digits text)

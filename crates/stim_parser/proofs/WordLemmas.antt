@@ -1,5 +1,5 @@
--- Bytes of words: letters, digits, `.`, `+`, `-` and others that neither end a word of an error model nor begin anything.
--- Names, numbers and targets are made of them.
+-- Bytes of words: letters, digits, `.`, `+`, `-` and others that neither end a word of a text nor begin anything. Numbers, and
+-- most targets, are made of them.
 use Rattle.std.proofs.Common.{◌≡◌, ℕ, ◌-◌, ◌==◌, nat_lt, Bool, true, false, not, ◌||◌, ◌&&◌, List, [], ◌∷◌, ◌++◌, length, get_or, subst, refl, arith}
 use Rattle.std.specs.Char.{is_ascii_digit}
 use Rattle.std.specs.List.{list_all, suffix_len}
@@ -9,7 +9,7 @@ use Rattle.std.proofs.lemmas.Bool.{and_parts, both_ways, false≢true, ne_eqb, o
 use Rattle.stim_lexer.specs.Bytes.{after_blanks, is_blank, is_empty}
 use Rattle.stim_parser.specs.Arguments.{before_blanks, trimmed}
 use Rattle.stim_parser.specs.Pieces.{ends_piece, is_star}
-use Rattle.dem_parser.proofs.QuietLemmas.{all-where}
+use Rattle.stim_parser.proofs.ByteLemmas.{all-where}
 
 abbrev pub is_word_byte : ℕ → Bool
 is_word_byte b = nat_lt 42 b && (nat_lt b 123 && not (b == 44 || b == 91 || b == 93))
