@@ -9,7 +9,8 @@ use bit_rows::BitRow;
 use std::alloc::{AllocError, Allocator};
 
 /// A set of some of a fixed number of targets. After an error in `toggle` or `add` that number stays, and nothing more
-/// is promised of the set. (`add` of a `SparseSet` may leave it empty.)
+/// is promised of the set. (`add` of a `SparseSet` may leave it empty.) After one in a call that lists, the sets are as
+/// they were, and nothing is promised of the list.
 pub trait TargetSet: Drop {
     // For each target whether it is in the set.
     ghost bits: { Self → List Bool };

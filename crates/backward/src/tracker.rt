@@ -1,4 +1,4 @@
-ghost use Rattle.std.specs.Prelude.{◌≡◌, ◌≢◌, ◌<◌, length, All, OnOk};
+ghost use Rattle.std.specs.Prelude.{◌≡◌, ◌≢◌, ◌<◌, [], length, All, OnErr, OnOk};
 ghost use Rattle.std.specs.List.Sorted.{IsStrictlyIncreasing};
 ghost use Rattle.gate_table.specs.Images.{arity_of};
 ghost use Rattle.backward.specs.Tracked.{Tracked, each_word, undone_one, undone_two, with_I_at, added, anticommuting};
@@ -11,7 +11,8 @@ use step_model::Term;
 /// An unsigned Pauli word for each target, taken back over the steps of a program: the words of the detectors, then
 /// those of the observables. Lists of targets ascend.
 ///
-/// After an error nothing is promised about the words, and the tracker is not used again.
+/// After an error in `undo1`, `undo2` or `add` nothing is promised about the words, and the tracker is not used again.
+/// After one in `hit` it is as it was.
 pub trait Tracker {
     // The words, in the order of their targets, and how many qubits they have.
     ghost tracked: { Self → Tracked };
@@ -43,7 +44,7 @@ pub trait Tracker {
         ensures { tracked self.new ≡ each_word (with_I_at q) (tracked self.old) };
 
     /// Puts into `hit`, in place of what it held, the targets whose words anticommute with the product of these
-    /// letters at qubits, ascending. The words stay.
+    /// letters at qubits, ascending. The words stay, after an error too. `hit` is empty then: what it held is lost.
     fn hit<B: Allocator + Copy>(
         &mut self,
         terms: &[Term],
@@ -51,5 +52,6 @@ pub trait Tracker {
     ) -> Result<(), AllocError>
         requires { All (λ term. term.qubit < (tracked self.old).qubits) terms.now }
         ensures hit { OnOk result (hit.new.items ≡ anticommuting terms.now (tracked self.old)) }
-        ensures same { OnOk result (tracked self.new ≡ tracked self.old) };
+        ensures empty { OnErr result (hit.new.items ≡ []) }
+        ensures same { tracked self.new ≡ tracked self.old };
 }

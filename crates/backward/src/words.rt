@@ -160,6 +160,37 @@ impl<S: TargetSet, A: Allocator + Copy> Words<S, A> {
         )
     }
 
+    // Lists the targets whose words anticommute with the product of these letters. After an error the list may hold
+    // some of them, or what it held.
+    #[inline(always)]
+    fn list_hit<B: Allocator + Copy>(
+        &mut self,
+        terms: &[Term],
+        hit: &mut Vec<u32, B>,
+    ) -> Result<(), AllocError>
+        requires { All (λ term. term.qubit < self.old.qubits) terms.now }
+        ensures hit { OnOk result (hit.new.items ≡ anticommuting terms.now self.old) }
+        ensures same { self.new ≡ self.old }
+    {
+        if let [term] = terms {
+            if let Some(set) = self.columns[term.qubit as usize].kept_clashing(term.letter) {
+                return set.list(hit);
+            }
+        }
+        if let [first, second] = terms {
+            if self.list_both(first, second, hit)? {
+                return Ok(());
+            }
+        }
+        clashing(
+            self.columns.as_slice(),
+            terms,
+            &mut self.set,
+            &mut self.spare,
+        )?;
+        self.set.list(hit)
+    }
+
     // Lists the targets whose words anticommute with the product of two letters, and answers whether it did: it need
     // not.
     #[inline(never)]
@@ -264,23 +295,11 @@ impl<S: TargetSet, A: Allocator + Copy> Tracker for Words<S, A> {
         terms: &[Term],
         hit: &mut Vec<u32, B>,
     ) -> Result<(), AllocError> {
-        if let [term] = terms {
-            if let Some(set) = self.columns[term.qubit as usize].kept_clashing(term.letter) {
-                return set.list(hit);
-            }
+        let listed = self.list_hit(terms, hit);
+        if listed.is_err() {
+            hit.clear();
         }
-        if let [first, second] = terms {
-            if self.list_both(first, second, hit)? {
-                return Ok(());
-            }
-        }
-        clashing(
-            self.columns.as_slice(),
-            terms,
-            &mut self.set,
-            &mut self.spare,
-        )?;
-        self.set.list(hit)
+        listed
     }
 }
 

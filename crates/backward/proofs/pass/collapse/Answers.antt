@@ -35,7 +35,7 @@ pub undo_collapse-requires-clause-named : goal.undo_collapse-requires-clause-nam
 undo_collapse-requires-clause-named g c =
     let program = c.args.program.now in
     let sets = c.args.found.now.sets in
-    let count = ap (λ t. length t.words) c.in_ok-hit.ensures.same ∙ c.requires.size.words in
+    let count = ap (λ t. length t.words) c.hit.ensures.same ∙ c.requires.size.words in
     subst (λ n. All (λ t. t < n) c.as_slice-3.result.now) (sym count)
     (subst (All (λ t. t < length (targets_of program.listing))) (sym (c.as_slice-3.ensures.value ∙ c.in_ok-list_record.ensures))
     (members_at-within sets c.args.rec (length (targets_of program.listing))
@@ -45,7 +45,7 @@ pub returns-clause-words : goal.returns-clause-words
 returns-clause-words g c =
     let targets = c.as_slice-3.ensures.value ∙ c.in_ok-list_record.ensures in
     on_ok_weaker c.undo_collapse.result
-    (λ h. h ∙ ap₂ (λ named tracked. undone_collapse named c.args.terms.now c.args.reset tracked) targets c.in_ok-hit.ensures.same)
+    (λ h. h ∙ ap₂ (λ named tracked. undone_collapse named c.args.terms.now c.args.reset tracked) targets c.hit.ensures.same)
     c.undo_collapse.ensures
 
 pub returns-clause-sets : goal.returns-clause-sets

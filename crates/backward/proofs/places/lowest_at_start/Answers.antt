@@ -33,7 +33,7 @@ loop-qubit-preserved g c =
     let terms : List Term = record { qubit = qubit; letter = Z } ∷ [] in
     let hit = c.as_slice.ensures.value ∙ (c.in_ok-hit.ensures.hit ∙ ap (anticommuting terms) c.loop-qubit.invariant.words) in
     record {
-      words = c.in_ok-hit.ensures.same ∙ c.loop-qubit.invariant.words;
+      words = c.hit.ensures.same ∙ c.loop-qubit.invariant.words;
       lowest =
           c.note.ensures
           ∙ (ap₂ (noted qubit) hit c.loop-qubit.invariant.lowest

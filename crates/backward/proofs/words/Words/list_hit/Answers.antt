@@ -13,7 +13,7 @@ use Rattle.backward.specs.Tracked.{anticommuting}
 use Rattle.backward.specs.Transposed.{word_at}
 use Rattle.backward.proofs.LoneTerms.{lone_clash, lone_term}
 use Rattle.backward.proofs.TransposedLemmas.{ones_are_hit}
-use Rattle.backward.proofs.words.WordsTracker.hit.Goals as goal
+use Rattle.backward.proofs.words.Words.list_hit.Goals as goal
 
 pub returns-in-Some-clause-hit : goal.returns-in-Some-clause-hit
 returns-in-Some-clause-hit g c =
