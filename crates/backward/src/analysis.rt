@@ -54,8 +54,7 @@ const NO_MEMORY: Fault = Fault {
     line: 0,
 };
 
-/// The error model of a program, or the lowest target that is random. It fails only where memory runs out, or where the
-/// records' lists of targets, to which feedback adds, would be 2^32 targets long in all.
+/// The error model of a program, or the lowest target that is random. It fails only where memory runs out.
 pub fn analyse<'a, A: Allocator + Copy, T: Tracker + Drop>(
     alloc: A,
     program: &Program<'a, A>,
