@@ -4,46 +4,47 @@ use Rattle.std.proofs.lemmas.Bool.{lt-ltb}
 use Rattle.std.proofs.lemmas.List.{take_all, take_more, map-append}
 use Rattle.std.proofs.lemmas.List.Elements.{All-append}
 use Rattle.std.proofs.lemmas.Option.{slice_get_cases, slice_get_within, get_or_from_slice_get}
-use Rattle.step_model.specs.Listing.{Listing, ListedStep, Fault}
+use Rattle.step_model.specs.Listing.{ListedStep, Fault}
 use Rattle.programs.specs.declared.step.Step.{Step}
+use Rattle.programs.specs.Kept.{KeptProgram}
 use Rattle.programs.specs.Listed.{listed}
 
 -- the steps so far and where the walk stands, after a step
-pub record GoesOn (program : Listing) (steps : List Step) (place : ℕ) : Type 0 where
-  pub within : place ≤ length program.steps
-  pub listed_so_far : map (listed program.qubits program.products) steps ≡ take place program.steps
+pub record GoesOn (program : KeptProgram) (steps : List Step) (place : ℕ) : Type 0 where
+  pub within : place ≤ length program.listing.steps
+  pub listed_so_far : map (listed program.listing.qubits program.products) steps ≡ take place program.listing.steps
 
-goes : (program : Listing) (steps : List Step) (step : Step) (found : Option Step) (place after : ℕ)
-    → map (listed program.qubits program.products) steps ≡ take place program.steps
+goes : (program : KeptProgram) (steps : List Step) (step : Step) (found : Option Step) (place after : ℕ)
+    → map (listed program.listing.qubits program.products) steps ≡ take place program.listing.steps
     → found ≡ Some step
-    → option_map (listed program.qubits program.products) found ≡ slice_get program.steps place
-    → after ≡ (if nat_lt place (length program.steps) then place + 1 else place)
+    → option_map (listed program.listing.qubits program.products) found ≡ slice_get program.listing.steps place
+    → after ≡ (if nat_lt place (length program.listing.steps) then place + 1 else place)
     → GoesOn program (steps ++ step ∷ []) after
 goes program steps step found place after before is e moves =
-    let f = listed program.qubits program.products in
-    let here : slice_get program.steps place ≡ Some (f step) = sym e ∙ ap (option_map f) is in
-    let inside : place < length program.steps = slice_get_within program.steps place (f step) here in
-    let next : after ≡ place + 1 = moves ∙ ap (λ b. if b then place + 1 else place) (lt-ltb place (length program.steps) inside) in
+    let f = listed program.listing.qubits program.products in
+    let here : slice_get program.listing.steps place ≡ Some (f step) = sym e ∙ ap (option_map f) is in
+    let inside : place < length program.listing.steps = slice_get_within program.listing.steps place (f step) here in
+    let next : after ≡ place + 1 = moves ∙ ap (λ b. if b then place + 1 else place) (lt-ltb place (length program.listing.steps) inside) in
     record {
       within = omega arith;
       listed_so_far =
           map-append f steps (step ∷ [])
-          ∙ (ap₂ (λ xs x. xs ++ x ∷ []) before (sym (get_or_from_slice_get program.steps place (f step) (Fault 0) here))
-          ∙ (sym (take_more program.steps place (Fault 0) inside) ∙ ap (λ k. take k program.steps) (sym next)));
+          ∙ (ap₂ (λ xs x. xs ++ x ∷ []) before (sym (get_or_from_slice_get program.listing.steps place (f step) (Fault 0) here))
+          ∙ (sym (take_more program.listing.steps place (Fault 0) inside) ∙ ap (λ k. take k program.listing.steps) (sym next)));
     }
 
-pub goes_on : (program walked : Listing) (steps steps' : List Step) (step : Step) (found : Option Step) (place after : ℕ)
+pub goes_on : (program walked : KeptProgram) (steps steps' : List Step) (step : Step) (found : Option Step) (place after : ℕ)
     → walked ≡ program → steps' ≡ steps ++ step ∷ []
-    → map (listed program.qubits program.products) steps ≡ take place program.steps
+    → map (listed program.listing.qubits program.products) steps ≡ take place program.listing.steps
     → found ≡ Some step
-    → option_map (listed walked.qubits walked.products) found ≡ slice_get walked.steps place
-    → after ≡ (if nat_lt place (length walked.steps) then place + 1 else place)
+    → option_map (listed walked.listing.qubits walked.products) found ≡ slice_get walked.listing.steps place
+    → after ≡ (if nat_lt place (length walked.listing.steps) then place + 1 else place)
     → GoesOn program steps' after
 goes_on program walked steps steps' step found place after same more before is e moves =
     subst (λ ss. GoesOn program ss after) (sym more)
     (goes program steps step found place after before is
-    (subst (λ (w : Listing). option_map (listed w.qubits w.products) found ≡ slice_get w.steps place) same e)
-    (subst (λ (w : Listing). after ≡ (if nat_lt place (length w.steps) then place + 1 else place)) same moves))
+    (subst (λ (w : KeptProgram). option_map (listed w.listing.qubits w.products) found ≡ slice_get w.listing.steps place) same e)
+    (subst (λ (w : KeptProgram). after ≡ (if nat_lt place (length w.listing.steps) then place + 1 else place)) same moves))
 
 -- where no step follows all are taken
 pub all_taken : (f : Step → ListedStep) (found : Option Step) (steps : List ListedStep) (place : ℕ) → ((s : Step) → found ≡ Some s → ⊥) → option_map f found ≡ slice_get steps place → take place steps ≡ steps

@@ -57,9 +57,9 @@ pub(crate) fn plain_step<A: Allocator + Copy>(
     program: &Unrolled<'_, '_, A>,
     index: usize,
 ) -> Result<PlainStep<A>, AllocError>
-    requires { index < length program.now.steps }
-    ensures step { IfOk result (λ step. listed_step step ≡ step_at program.now index) }
-    ensures words { IfOk result (WordsFit program.now) }
+    requires { index < length program.now.listing.steps }
+    ensures step { IfOk result (λ step. listed_step step ≡ step_at program.now.listing index) }
+    ensures words { IfOk result (WordsFit program.now.listing) }
 {
     program.well_formed();
     let qubits = program.qubits() as usize;
@@ -121,9 +121,9 @@ fn fault_word<A: Allocator + Copy>(
     name: FaultName,
 ) -> Result<Word<A>, AllocError>
     requires named { IsNamed program.now name }
-    requires applies { applies_word (effect_at program.now name.number) ≡ true }
-    ensures word { IfOk result (λ w. w ≡ signed (fault_word program.now name.number) false) }
-    ensures letters { IfOk result (λ w. length w.letters ≡ program.now.qubits) }
+    requires applies { applies_word (effect_at program.now.listing name.number) ≡ true }
+    ensures word { IfOk result (λ w. w ≡ signed (fault_word program.now.listing name.number) false) }
+    ensures letters { IfOk result (λ w. length w.letters ≡ program.now.listing.qubits) }
 {
     program.well_formed();
     word_of_terms(

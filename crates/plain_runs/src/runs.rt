@@ -28,7 +28,7 @@ pub fn records<A: Allocator + Copy>(
     faults: &[bool],
     coins: &[bool],
 ) -> Result<Vec<bool, A>, AllocError>
-    ensures { IfOk result (λ v. v.items ≡ records_of program.now faults.now coins.now) }
+    ensures { IfOk result (λ v. v.items ≡ records_of program.now.listing faults.now coins.now) }
 {
     let program = Unrolled::of(alloc, program)?;
     program.well_formed();
@@ -49,10 +49,10 @@ pub fn is_in_state<A: Allocator + Copy>(
     steps: usize,
     word: &Word<A>,
 ) -> Result<bool, AllocError>
-    requires within { steps ≤ length program.now.steps }
-    requires letters { length word.now.letters ≡ program.now.qubits }
+    requires within { steps ≤ length program.now.listing.steps }
+    requires letters { length word.now.letters ≡ program.now.listing.qubits }
     ensures { IfOk result
-        (λ is_in. is_in ≡ (run_state_after program.now faults.now coins.now steps).state word.now) }
+        (λ is_in. is_in ≡ (run_state_after program.now.listing faults.now coins.now steps).state word.now) }
 {
     let program = Unrolled::of(alloc, program)?;
     is_in(alloc, &program, faults, coins, steps, word)
@@ -68,10 +68,10 @@ fn is_in<A: Allocator + Copy>(
     steps: usize,
     word: &Word<A>,
 ) -> Result<bool, AllocError>
-    requires within { steps ≤ length program.now.steps }
-    requires letters { length word.now.letters ≡ program.now.qubits }
+    requires within { steps ≤ length program.now.listing.steps }
+    requires letters { length word.now.letters ≡ program.now.listing.qubits }
     ensures { IfOk result
-        (λ is_in. is_in ≡ (run_state_after program.now faults.now coins.now steps).state word.now) }
+        (λ is_in. is_in ≡ (run_state_after program.now.listing faults.now coins.now steps).state word.now) }
 {
     if steps == 0 {
         return Ok(is_in_start_state(program.qubits() as usize, word));
@@ -92,11 +92,11 @@ fn is_in_after<A: Allocator + Copy>(
     step: &PlainStep<A>,
     word: &Word<A>,
 ) -> Result<bool, AllocError>
-    requires within { steps ≤ length program.now.steps }
-    requires words { WordsFit program.now step.now }
-    requires letters { length word.now.letters ≡ program.now.qubits }
-    ensures { let before = run_state_after program.now faults.now coins.now steps in
-        IfOk result (λ is_in. is_in ≡ (next program.now faults.now (listed_step step.now) before).state word.now) }
+    requires within { steps ≤ length program.now.listing.steps }
+    requires words { WordsFit program.now.listing step.now }
+    requires letters { length word.now.letters ≡ program.now.listing.qubits }
+    ensures { let before = run_state_after program.now.listing faults.now coins.now steps in
+        IfOk result (λ is_in. is_in ≡ (next program.now.listing faults.now (listed_step step.now) before).state word.now) }
 {
     match step {
         PlainStep::One { gate, q } => {
@@ -141,10 +141,10 @@ fn is_in_applied<A: Allocator + Copy>(
     other: &Word<A>,
     word: &Word<A>,
 ) -> Result<bool, AllocError>
-    requires within { steps ≤ length program.now.steps }
-    requires other { length other.now.letters ≡ program.now.qubits }
-    requires letters { length word.now.letters ≡ program.now.qubits }
-    ensures { let before = run_state_after program.now faults.now coins.now steps in
+    requires within { steps ≤ length program.now.listing.steps }
+    requires other { length other.now.letters ≡ program.now.listing.qubits }
+    requires letters { length word.now.letters ≡ program.now.listing.qubits }
+    ensures { let before = run_state_after program.now.listing faults.now coins.now steps in
         IfOk result (λ is_in. is_in ≡ applied applies other.now.letters before.state word.now) }
 {
     let earlier = with_sign_changed(applies & anticommutes(word, other), word)?;
@@ -163,15 +163,15 @@ fn is_in_collapsed<A: Allocator + Copy>(
     reset: Option<Term>,
     word: &Word<A>,
 ) -> Result<bool, AllocError>
-    requires within { steps ≤ length program.now.steps }
-    requires other { length other.now.letters ≡ program.now.qubits }
+    requires within { steps ≤ length program.now.listing.steps }
+    requires other { length other.now.letters ≡ program.now.listing.qubits }
     requires plus { other.now.negative ≡ false }
-    requires reset { ResetFits program.now.qubits reset }
-    requires letters { length word.now.letters ≡ program.now.qubits }
-    ensures { let before = run_state_after program.now faults.now coins.now steps in
+    requires reset { ResetFits program.now.listing.qubits reset }
+    requires letters { length word.now.letters ≡ program.now.listing.qubits }
+    ensures { let before = run_state_after program.now.listing faults.now coins.now steps in
         let w = other.now.letters in
         let coin = next_coin before.coins in
-        let correcting_word = correction program.now.qubits (measured w reset) in
+        let correcting_word = correction program.now.listing.qubits (measured w reset) in
         IfOk result (λ is_in. is_in ≡ corrected correcting_word (outcome before.state w coin) (collapsed w coin before.state) word.now) }
 {
     let decided = decided_outcome(alloc, program, faults, coins, steps, other)?;
@@ -194,10 +194,10 @@ fn is_in_undecided<A: Allocator + Copy>(
     other: &Word<A>,
     word: &Word<A>,
 ) -> Result<bool, AllocError>
-    requires within { steps ≤ length program.now.steps }
-    requires other { length other.now.letters ≡ program.now.qubits }
-    requires letters { length word.now.letters ≡ program.now.qubits }
-    ensures { let before = run_state_after program.now faults.now coins.now steps in
+    requires within { steps ≤ length program.now.listing.steps }
+    requires other { length other.now.letters ≡ program.now.listing.qubits }
+    requires letters { length word.now.letters ≡ program.now.listing.qubits }
+    ensures { let before = run_state_after program.now.listing faults.now coins.now steps in
         let w = other.now.letters in
         IfOk result (λ is_in. is_in ≡ (not (anticommute word.now.letters w)
         && (before.state word.now || before.state (product (signed w (next_coin before.coins)) word.now)))) }
@@ -222,12 +222,12 @@ fn decided_outcome<A: Allocator + Copy>(
     steps: usize,
     word: &Word<A>,
 ) -> Result<Option<bool>, AllocError>
-    requires within { steps ≤ length program.now.steps }
-    requires letters { length word.now.letters ≡ program.now.qubits }
+    requires within { steps ≤ length program.now.listing.steps }
+    requires letters { length word.now.letters ≡ program.now.listing.qubits }
     requires plus { word.now.negative ≡ false }
-    ensures decided { let state = (run_state_after program.now faults.now coins.now steps).state in
+    ensures decided { let state = (run_state_after program.now.listing faults.now coins.now steps).state in
         IfOk result (λ decided. is_some decided ≡ is_decided state word.now.letters) }
-    ensures outcome { let state = (run_state_after program.now faults.now coins.now steps).state in
+    ensures outcome { let state = (run_state_after program.now.listing faults.now coins.now steps).state in
         IfOk result (λ decided. (coin : Bool) → unwrap_or decided coin ≡ outcome state word.now.letters coin) }
 {
     if is_in(alloc, program, faults, coins, steps, word)? {
@@ -251,10 +251,10 @@ fn record_made<A: Allocator + Copy>(
     word: &Word<A>,
     recording: Recording,
 ) -> Result<bool, AllocError>
-    requires within { steps ≤ length program.now.steps }
-    requires letters { length word.now.letters ≡ program.now.qubits }
+    requires within { steps ≤ length program.now.listing.steps }
+    requires letters { length word.now.letters ≡ program.now.listing.qubits }
     requires plus { word.now.negative ≡ false }
-    ensures { let before = run_state_after program.now faults.now coins.now steps in
+    ensures { let before = run_state_after program.now.listing faults.now coins.now steps in
         let seen = outcome before.state word.now.letters (next_coin before.coins) in
         IfOk result (λ made. made ≡ exclusive_or seen (record_changes faults.now (Some (recorded recording)))) }
 {
@@ -273,8 +273,8 @@ fn record_at<A: Allocator + Copy>(
     steps: usize,
     number: u32,
 ) -> Result<bool, AllocError>
-    requires { steps ≤ length program.now.steps }
-    ensures { let after = run_state_after program.now faults.now coins.now steps in
+    requires { steps ≤ length program.now.listing.steps }
+    ensures { let after = run_state_after program.now.listing faults.now coins.now steps in
         IfOk result (λ made. made ≡ slice_index_or after.records number false) }
 {
     if steps == 0 {
@@ -309,13 +309,13 @@ fn record_after<A: Allocator + Copy>(
     recording: Option<Recording>,
     number: u32,
 ) -> Result<bool, AllocError>
-    requires within { steps ≤ length program.now.steps }
-    requires letters { length word.now.letters ≡ program.now.qubits }
+    requires within { steps ≤ length program.now.listing.steps }
+    requires letters { length word.now.letters ≡ program.now.listing.qubits }
     requires plus { word.now.negative ≡ false }
-    requires numbered { (r : Recording) → recording ≡ Some r → r.number ≡ length (run_state_after program.now faults.now coins.now steps).records }
-    ensures { let before = run_state_after program.now faults.now coins.now steps in
+    requires numbered { (r : Recording) → recording ≡ Some r → r.number ≡ length (run_state_after program.now.listing faults.now coins.now steps).records }
+    ensures { let before = run_state_after program.now.listing faults.now coins.now steps in
         let collapse = listing.Collapse (listing.Word word.now.letters) (option_map recorded recording) in
-        IfOk result (λ made. made ≡ slice_index_or (next program.now faults.now collapse before).records number false) }
+        IfOk result (λ made. made ≡ slice_index_or (next program.now.listing faults.now collapse before).records number false) }
 {
     let Some(recording) = recording else {
         return record_at(alloc, program, faults, coins, steps, number);
@@ -351,8 +351,8 @@ fn coin_after<A: Allocator + Copy>(
     coins: &[bool],
     steps: usize,
 ) -> bool
-    requires { steps ≤ length program.now.steps }
-    ensures { (faults : List Bool) → result ≡ next_coin (run_state_after program.now faults coins.now steps).coins }
+    requires { steps ≤ length program.now.listing.steps }
+    ensures { (faults : List Bool) → result ≡ next_coin (run_state_after program.now.listing faults coins.now steps).coins }
 {
     truth_at(coins, collapses_before(program, steps))
 }
@@ -362,8 +362,8 @@ pub(crate) fn collapses_before<A: Allocator + Copy>(
     program: &Unrolled<'_, '_, A>,
     steps: usize,
 ) -> usize
-    requires { steps ≤ length program.now.steps }
-    ensures count { result ≡ collapse_count (take steps program.now.steps) }
+    requires { steps ≤ length program.now.listing.steps }
+    ensures count { result ≡ collapse_count (take steps program.now.listing.steps) }
     ensures few { result ≤ steps }
 {
     let mut count = 0;
@@ -376,8 +376,8 @@ pub(crate) fn collapses_before<A: Allocator + Copy>(
 }
 
 pub(crate) fn is_collapse<A: Allocator + Copy>(program: &Unrolled<'_, '_, A>, step: usize) -> bool
-    requires { step < length program.now.steps }
-    ensures { result ≡ is_collapse (step_at program.now step) }
+    requires { step < length program.now.listing.steps }
+    ensures { result ≡ is_collapse (step_at program.now.listing step) }
 {
     matches!(
         program.step(step),

@@ -55,8 +55,8 @@ pub fn sensitivity<A: Allocator + Copy>(
     named: &[u32],
     steps: usize,
 ) -> Result<TargetSensitivity<A>, AllocError>
-    requires { steps ≤ length program.now.steps }
-    ensures { IfOk result (λ s. s ≡ sensitivity program.now.qubits named.now (drop steps program.now.steps)) }
+    requires { steps ≤ length program.now.listing.steps }
+    ensures { IfOk result (λ s. s ≡ sensitivity program.now.listing.qubits named.now (drop steps program.now.listing.steps)) }
 {
     let program = Unrolled::of(alloc, program)?;
     sensitivity_after(alloc, &program, named, steps)
@@ -69,8 +69,8 @@ pub fn place_of<A: Allocator + Copy>(
     program: &Program<'_, A>,
     target: usize,
 ) -> Result<Option<Place>, AllocError>
-    requires { target < length (targets_of program.now) }
-    ensures { IfOk result (λ place. place ≡ place_of program.now target) }
+    requires { target < length (targets_of program.now.listing) }
+    ensures { IfOk result (λ place. place ≡ place_of program.now.listing target) }
 {
     let program = Unrolled::of(alloc, program)?;
     let named = program.target(target);
@@ -88,9 +88,9 @@ fn sensitivity_after<A: Allocator + Copy>(
     named: &[u32],
     steps: usize,
 ) -> Result<TargetSensitivity<A>, AllocError>
-    requires { steps ≤ length program.now.steps }
-    ensures sensitivity { IfOk result (λ s. s ≡ sensitivity program.now.qubits named.now (drop steps program.now.steps)) }
-    ensures letters { IfOk result (λ s. length s.word ≡ program.now.qubits) }
+    requires { steps ≤ length program.now.listing.steps }
+    ensures sensitivity { IfOk result (λ s. s ≡ sensitivity program.now.listing.qubits named.now (drop steps program.now.listing.steps)) }
+    ensures letters { IfOk result (λ s. length s.word ≡ program.now.listing.qubits) }
 {
     let mut left = program.len();
     let mut s = at_the_end(alloc, program.qubits(), named)?;
@@ -121,10 +121,10 @@ fn go_back_over<A: Allocator + Copy>(
     step: usize,
     s: &mut TargetSensitivity<A>,
 ) -> Result<(), AllocError>
-    requires within { step < length program.now.steps }
-    requires letters { length s.old.word ≡ program.now.qubits }
-    ensures before { OnOk result (s.new ≡ sensitivity_before program.now.qubits (step_at program.now step) s.old) }
-    ensures letters { OnOk result (length s.new.word ≡ program.now.qubits) }
+    requires within { step < length program.now.listing.steps }
+    requires letters { length s.old.word ≡ program.now.listing.qubits }
+    ensures before { OnOk result (s.new ≡ sensitivity_before program.now.listing.qubits (step_at program.now.listing step) s.old) }
+    ensures letters { OnOk result (length s.new.word ≡ program.now.listing.qubits) }
 {
     let plain = plain_step(alloc, program, step)?;
     go_back_over_plain(program, &plain, s)
@@ -136,10 +136,10 @@ fn go_back_over_plain<A: Allocator + Copy>(
     step: &PlainStep<A>,
     s: &mut TargetSensitivity<A>,
 ) -> Result<(), AllocError>
-    requires words { WordsFit program.now step.now }
-    requires letters { length s.old.word ≡ program.now.qubits }
-    ensures before { OnOk result (s.new ≡ sensitivity_before program.now.qubits (listed_step step.now) s.old) }
-    ensures letters { OnOk result (length s.new.word ≡ program.now.qubits) }
+    requires words { WordsFit program.now.listing step.now }
+    requires letters { length s.old.word ≡ program.now.listing.qubits }
+    ensures before { OnOk result (s.new ≡ sensitivity_before program.now.listing.qubits (listed_step step.now) s.old) }
+    ensures letters { OnOk result (length s.new.word ≡ program.now.listing.qubits) }
 {
     match step {
         PlainStep::One { gate, q } => {
@@ -213,7 +213,7 @@ fn latest_place<A: Allocator + Copy>(
     program: &Unrolled<'_, '_, A>,
     named: &[u32],
 ) -> Result<Option<u32>, AllocError>
-    ensures { IfOk result (λ place. place ≡ latest_place program.now.qubits named.now program.now.steps) }
+    ensures { IfOk result (λ place. place ≡ latest_place program.now.listing.qubits named.now program.now.listing.steps) }
 {
     program.well_formed();
     let mut left = program.len();
@@ -228,8 +228,8 @@ fn latest_place<A: Allocator + Copy>(
 
 // How many of the first steps are collapses.
 fn collapse_number<A: Allocator + Copy>(program: &Unrolled<'_, '_, A>, steps: usize) -> u32
-    requires { steps ≤ length program.now.steps }
-    ensures { result ≡ collapse_count (take steps program.now.steps) }
+    requires { steps ≤ length program.now.listing.steps }
+    ensures { result ≡ collapse_count (take steps program.now.listing.steps) }
 {
     program.well_formed();
     let _at_most = program.collapse_count();
@@ -243,9 +243,9 @@ fn clashes_after<A: Allocator + Copy>(
     named: &[u32],
     step: usize,
 ) -> Result<bool, AllocError>
-    requires { step < length program.now.steps }
-    ensures { IfOk result (λ clashes. clashes ≡ anticommute (collapse_word program.now.qubits (step_at program.now step))
-        (sensitivity program.now.qubits named.now (drop (step + 1) program.now.steps)).word) }
+    requires { step < length program.now.listing.steps }
+    ensures { IfOk result (λ clashes. clashes ≡ anticommute (collapse_word program.now.listing.qubits (step_at program.now.listing step))
+        (sensitivity program.now.listing.qubits named.now (drop (step + 1) program.now.listing.steps)).word) }
 {
     match plain_step(alloc, program, step)? {
         PlainStep::Collapse { word, .. } => {

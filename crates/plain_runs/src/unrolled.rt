@@ -1,5 +1,5 @@
 ghost use Rattle.std.specs.Prelude.{◌≡◌, ◌<◌, [], length, IfOk, slice_index_or};
-ghost use Rattle.programs.specs.Kept.{kept_at};
+ghost use Rattle.programs.specs.Kept.{IsWellKept, kept_at};
 ghost use Rattle.step_model.specs.Targets.{target_at, targets_of};
 ghost use Rattle.step_model.specs.WellFormed.{IsWellFormed};
 ghost use Rattle.programs.specs.Listed.{listed};
@@ -19,10 +19,10 @@ pub(crate) struct Unrolled<'a, 'p, A: Allocator + Copy> {
 }
 
 impl<'a, 'p, A: Allocator + Copy> Model for Unrolled<'a, 'p, A> {
-    ghost use Rattle.step_model.specs.Listing.{Listing};
+    ghost use Rattle.programs.specs.Kept.{KeptProgram};
     ghost use Rattle.plain_runs.specs.Unrolled.{AreSteps};
 
-    ghost Value = { Listing };
+    ghost Value = { KeptProgram };
 
     ghost view = { λ u. u.program.now };
 
@@ -42,41 +42,42 @@ impl<'a, 'p, A: Allocator + Copy> Unrolled<'a, 'p, A> {
         Ok(Unrolled { program, steps })
     }
 
-    /// Does nothing: the program is well formed.
+    /// Does nothing: the program is well formed, and so is what is kept of it.
     pub(crate) fn well_formed(&self)
-        ensures { IsWellFormed self.now }
+        ensures listing { IsWellFormed self.now.listing }
+        ensures kept { IsWellKept self.now }
     {
         self.program.well_formed();
     }
 
     pub(crate) fn len(&self) -> usize
-        ensures { result ≡ length self.now.steps }
+        ensures { result ≡ length self.now.listing.steps }
     {
         self.steps.len()
     }
 
     pub(crate) fn step(&self, index: usize) -> Step
-        requires { index < length self.now.steps }
-        ensures step { listed self.now.qubits self.now.products result ≡ step_at self.now index }
+        requires { index < length self.now.listing.steps }
+        ensures step { listed self.now.listing.qubits self.now.products result ≡ step_at self.now.listing index }
         ensures named { IsStepOf self.now result }
     {
         self.steps[index]
     }
 
     pub(crate) fn qubits(&self) -> u32
-        ensures { result ≡ self.now.qubits }
+        ensures { result ≡ self.now.listing.qubits }
     {
         self.program.qubits()
     }
 
     pub(crate) fn record_count(&self) -> u32
-        ensures { result ≡ self.now.records }
+        ensures { result ≡ self.now.listing.records }
     {
         self.program.record_count()
     }
 
     pub(crate) fn collapse_count(&self) -> u32
-        ensures { result ≡ self.now.collapses }
+        ensures { result ≡ self.now.listing.collapses }
     {
         self.program.collapse_count()
     }
@@ -98,8 +99,8 @@ impl<'a, 'p, A: Allocator + Copy> Unrolled<'a, 'p, A> {
 
     /// The records of a target: detectors are numbered first, then observables.
     pub(crate) fn target(&self, target: usize) -> &[u32]
-        requires { target < length (targets_of self.now) }
-        ensures { result.now ≡ target_at self.now target }
+        requires { target < length (targets_of self.now.listing) }
+        ensures { result.now ≡ target_at self.now.listing target }
     {
         let detectors = self.program.detector_count();
         if target < detectors {

@@ -27,15 +27,15 @@ impl<'b, 'p, A: Allocator + Copy> Model for DetectionRuns<'b, 'p, A> {
 
     ghost Value = { ShownRuns };
 
-    ghost view = { λ r. record { program = r.program.now; words = r.words.items } };
+    ghost view = { λ r. record { program = r.program.now.listing; words = r.words.items } };
 
-    ghost invariant = { λ r. IsBatchOf r.program.now r.batch × (length r.words.items ≡ length r.program.now.detectors + length r.program.now.observables) };
+    ghost invariant = { λ r. IsBatchOf r.program.now.listing r.batch × (length r.words.items ≡ length r.program.now.listing.detectors + length r.program.now.listing.observables) };
 }
 
 impl<'b, 'p, A: Allocator + Copy> DetectionRuns<'b, 'p, A> {
     /// Makes the reference run. All memory is taken here.
     pub(crate) fn new(alloc: A, program: &'b Program<'p, A>) -> Result<Self, Fault>
-        ensures program { IfOk result (λ runs. runs.program ≡ program.now) }
+        ensures program { IfOk result (λ runs. runs.program ≡ program.now.listing) }
         ensures err { IfErr result (λ fault. fault ≡ memory_fault) }
     {
         program.well_formed();
@@ -71,9 +71,9 @@ impl<'b, 'p, A: Allocator + Copy> SideRuns for DetectionRuns<'b, 'p, A> {
 
 // The detections of all runs, a word for each target.
 fn fill<A: Allocator + Copy>(words: &mut [u64], batch: &Batch<A>, program: &Program<'_, A>)
-    requires { length words.old ≡ length program.now.detectors + length program.now.observables }
+    requires { length words.old ≡ length program.now.listing.detectors + length program.now.listing.observables }
     ensures size { length words.new ≡ length words.old }
-    ensures filled { (index : ℕ) → index < length words.old → (j : ℕ) → lane_bit j (slice_index words.new index) ≡ slice_index_or (difference program.now (shot_records j batch.now) batch.now.reference.records) index false }
+    ensures filled { (index : ℕ) → index < length words.old → (j : ℕ) → lane_bit j (slice_index words.new index) ≡ slice_index_or (difference program.now.listing (shot_records j batch.now) batch.now.reference.records) index false }
 {
     for index in 0..words.len() {
         words[index] = batch.detections_word(program, index);

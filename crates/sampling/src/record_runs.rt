@@ -26,15 +26,15 @@ impl<'b, 'p, A: Allocator + Copy> Model for RecordRuns<'b, 'p, A> {
 
     ghost Value = { ShownRuns };
 
-    ghost view = { λ r. record { program = r.program.now; words = r.words.items } };
+    ghost view = { λ r. record { program = r.program.now.listing; words = r.words.items } };
 
-    ghost invariant = { λ r. IsBatchOf r.program.now r.batch × (length r.words.items ≡ r.program.now.records) };
+    ghost invariant = { λ r. IsBatchOf r.program.now.listing r.batch × (length r.words.items ≡ r.program.now.listing.records) };
 }
 
 impl<'b, 'p, A: Allocator + Copy> RecordRuns<'b, 'p, A> {
     /// Makes the reference run. All memory is taken here.
     pub(crate) fn new(alloc: A, program: &'b Program<'p, A>) -> Result<Self, Fault>
-        ensures program { IfOk result (λ runs. runs.program ≡ program.now) }
+        ensures program { IfOk result (λ runs. runs.program ≡ program.now.listing) }
         ensures err { IfErr result (λ fault. fault ≡ memory_fault) }
     {
         let Ok(words) = vec![in alloc; 0u64; program.record_count() as usize] else {

@@ -4,4 +4,4 @@ use Rattle.plain_runs.proofs.runs.coin_after.Goals as goal
 
 pub returns : goal.returns
 returns g c faults =
-    c.truth_at.ensures ∙ (ap (λ i. get_or c.args.coins.now i false) c.collapses_before.ensures.count ∙ sym (next_coin-after c.args.program.now faults c.args.coins.now c.args.steps))
+    c.truth_at.ensures ∙ (ap (λ i. get_or c.args.coins.now i false) c.collapses_before.ensures.count ∙ sym (next_coin-after c.args.program.now.listing faults c.args.coins.now c.args.steps))

@@ -5,7 +5,7 @@ use Rattle.plain_runs.proofs.runs.collapses_before.Goals.{then-is_collapse, else
 
 pub loop-step-preserved : goal.loop-step-preserved
 loop-step-preserved g c =
-    let program = c.args.program.now in
+    let program = c.args.program.now.listing in
     let i = c.loop-step.step in
     let inside : i < length program.steps = omega arith in
     elim c.if-is_collapse.branch [

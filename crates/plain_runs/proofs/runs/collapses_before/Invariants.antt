@@ -5,6 +5,6 @@ use Rattle.plain_runs.proofs.runs.collapses_before.Given as goal
 abbrev pub invariant-loop-step : goal.invariant-loop-step
 invariant-loop-step g l =
     record {
-      counted : l.count ≡ collapse_count (take l.step l.program.steps);
+      counted : l.count ≡ collapse_count (take l.step l.program.listing.steps);
       few : l.count ≤ l.step;
     }

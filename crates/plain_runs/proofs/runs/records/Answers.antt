@@ -1,25 +1,25 @@
 use Rattle.std.proofs.Common.{◌<◌, ◌≤◌, false, length, get_or, ap, subst, ◌∙◌, arith}
-use Rattle.step_model.specs.Listing.{Listing}
 use Rattle.step_model.specs.Runs.{run_state_after}
 use Rattle.step_model.specs.WellFormed.{IsWellFormed}
+use Rattle.programs.specs.Kept.{KeptProgram}
 use Rattle.plain_runs.proofs.RunFacts.{records-next, records-all}
 use Rattle.plain_runs.proofs.runs.records.Goals as goal
 
 pub loop-record-preserved : goal.loop-record-preserved
 loop-record-preserved g c =
-    let program = c.args.program.now in
+    let program = c.args.program.now.listing in
     let same = c.in_ok-program.ensures in
     let k = c.loop-record.«record» in
-    let inside : k < program.records = omega (arith, c.loop-record-test.true, c.record_count-record-end.ensures, ap (λ (p : Listing). p.records) same) in
+    let inside : k < program.records = omega (arith, c.loop-record-test.true, c.record_count-record-end.ensures, ap (λ (p : KeptProgram). p.listing.records) same) in
     c.in_ok-push.ensures.items
-    ∙ records-next program c.args.faults.now c.args.coins.now c.loop-record.records.items k c.len-steps.result c.in_ok-record_at.field-0 (subst IsWellFormed same c.well_formed-2.ensures) inside
-    c.loop-record.invariant (c.len-steps.ensures ∙ ap (λ (p : Listing). length p.steps) same)
-    (c.in_ok-record_at.ensures ∙ ap (λ p. get_or (run_state_after p c.args.faults.now c.args.coins.now c.len-steps.result).records k false) same)
+    ∙ records-next program c.args.faults.now c.args.coins.now c.loop-record.records.items k c.len-steps.result c.in_ok-record_at.field-0 (subst (λ (p : KeptProgram). IsWellFormed p.listing) same c.well_formed-2.ensures.listing) inside
+    c.loop-record.invariant (c.len-steps.ensures ∙ ap (λ (p : KeptProgram). length p.listing.steps) same)
+    (c.in_ok-record_at.ensures ∙ ap (λ (p : KeptProgram). get_or (run_state_after p.listing c.args.faults.now c.args.coins.now c.len-steps.result).records k false) same)
 
 pub returns : goal.returns
 returns g c =
-    let program = c.args.program.now in
+    let program = c.args.program.now.listing in
     let same = c.in_ok-program.ensures in
     let k = c.loop-record.«record» in
-    let past : program.records ≤ k = omega (arith, c.loop-record-test.false, c.record_count-record-end.ensures, ap (λ (p : Listing). p.records) same) in
-    records-all program c.args.faults.now c.args.coins.now c.loop-record.records.items k (subst IsWellFormed same c.well_formed-2.ensures) past c.loop-record.invariant
+    let past : program.records ≤ k = omega (arith, c.loop-record-test.false, c.record_count-record-end.ensures, ap (λ (p : KeptProgram). p.listing.records) same) in
+    records-all program c.args.faults.now c.args.coins.now c.loop-record.records.items k (subst (λ (p : KeptProgram). IsWellFormed p.listing) same c.well_formed-2.ensures.listing) past c.loop-record.invariant

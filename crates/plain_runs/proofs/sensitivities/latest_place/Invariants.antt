@@ -6,8 +6,8 @@ use Rattle.plain_runs.proofs.sensitivities.latest_place.Given as goal
 abbrev pub invariant-loop-left : goal.invariant-loop-left
 invariant-loop-left g l =
     record {
-      within : l.left ≤ length l.program.steps;
-      none : latest_place l.program.qubits l.named (drop l.left l.program.steps) ≡ None;
+      within : l.left ≤ length l.program.listing.steps;
+      none : latest_place l.program.listing.qubits l.named (drop l.left l.program.listing.steps) ≡ None;
     }
 
 abbrev pub decreases-loop-left : goal.decreases-loop-left

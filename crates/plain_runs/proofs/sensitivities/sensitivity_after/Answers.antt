@@ -6,7 +6,7 @@ use Rattle.plain_runs.proofs.sensitivities.sensitivity_after.Goals as goal
 
 pub loop-left-preserved : goal.loop-left-preserved
 loop-left-preserved g c =
-    let program = c.args.program.now in
+    let program = c.args.program.now.listing in
     let i = c.loop-left.left - 1 in
     let next : i + 1 ≡ c.loop-left.left = omega (arith, c.loop-left-test.true) in
     let inside : i < length program.steps = omega (arith, c.loop-left.invariant.within, c.loop-left-test.true) in

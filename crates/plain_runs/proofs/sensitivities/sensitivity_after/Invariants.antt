@@ -7,9 +7,9 @@ abbrev pub invariant-loop-left : goal.invariant-loop-left
 invariant-loop-left g l =
     record {
       above : l.steps ≤ l.left;
-      within : l.left ≤ length l.program.steps;
-      sensitivity : l.s ≡ sensitivity l.program.qubits l.named (drop l.left l.program.steps);
-      letters : length l.s.word ≡ l.program.qubits;
+      within : l.left ≤ length l.program.listing.steps;
+      sensitivity : l.s ≡ sensitivity l.program.listing.qubits l.named (drop l.left l.program.listing.steps);
+      letters : length l.s.word ≡ l.program.listing.qubits;
     }
 
 abbrev pub decreases-loop-left : goal.decreases-loop-left

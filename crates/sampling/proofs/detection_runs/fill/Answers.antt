@@ -16,7 +16,7 @@ pub loop-index-preserved : goal.loop-index-preserved
 loop-index-preserved g c =
     record {
       size = length-set _ _ _ ∙ c.loop-index.invariant.size;
-      filled = filled_more (λ i w. (j : ℕ) → lane_bit j w ≡ get_or (difference c.args.program.now (shot_records j c.args.batch.now) c.args.batch.now.reference.records) i false) c.loop-index.words c.loop-index.index c.detections_word.result
+      filled = filled_more (λ i w. (j : ℕ) → lane_bit j w ≡ get_or (difference c.args.program.now.listing (shot_records j c.args.batch.now) c.args.batch.now.reference.records) i false) c.loop-index.words c.loop-index.index c.detections_word.result
           (omega (arith, c.loop-index.invariant.size)) c.loop-index.invariant.filled c.detections_word.ensures;
     }
 

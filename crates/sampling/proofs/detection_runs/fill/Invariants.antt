@@ -9,5 +9,5 @@ abbrev pub invariant-loop-index : goal.invariant-loop-index
 invariant-loop-index g l =
     record {
       size : length l.words ≡ length l.fn.words;
-      filled : (i : ℕ) → i < l.index → (j : ℕ) → lane_bit j (get_or l.words i 0) ≡ get_or (difference l.program (shot_records j l.batch) l.batch.reference.records) i false;
+      filled : (i : ℕ) → i < l.index → (j : ℕ) → lane_bit j (get_or l.words i 0) ≡ get_or (difference l.program.listing (shot_records j l.batch) l.batch.reference.records) i false;
     }

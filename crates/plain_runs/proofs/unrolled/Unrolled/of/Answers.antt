@@ -1,5 +1,5 @@
 use Rattle.std.proofs.Common.{◌≡◌, option_map, slice_get, ◌∙◌, subst}
-use Rattle.step_model.specs.Listing.{Listing}
+use Rattle.programs.specs.Kept.{KeptProgram}
 use Rattle.programs.specs.Listed.{listed}
 use Rattle.programs.specs.Named.{IsStepOf}
 use Rattle.plain_runs.proofs.WalkFacts.{goes_on, All-push, all_taken}
@@ -26,7 +26,7 @@ invariant_of-result g c =
     record {
       listed =
           c.loop-step.invariant.listed
-          ∙ all_taken (listed program.qubits program.products) c.next_step.result program.steps c.loop-step.walk.place c.in_default.not-Some
-          (subst (λ (w : Listing). option_map (listed w.qubits w.products) c.next_step.result ≡ slice_get w.steps c.loop-step.walk.place) c.loop-step.invariant.program c.next_step.ensures.step);
+          ∙ all_taken (listed program.listing.qubits program.products) c.next_step.result program.listing.steps c.loop-step.walk.place c.in_default.not-Some
+          (subst (λ (w : KeptProgram). option_map (listed w.listing.qubits w.products) c.next_step.result ≡ slice_get w.listing.steps c.loop-step.walk.place) c.loop-step.invariant.program c.next_step.ensures.step);
       named = c.loop-step.invariant.named;
     }

@@ -26,7 +26,7 @@ returns-clause-size g c =
 
 pub returns-clause-shown : goal.returns-clause-shown
 returns-clause-shown g c j below =
-    let program = c.self.inside.program.now in
+    let program = c.self.inside.program.now.listing in
     let words = c.fill.new.words in
     let faults = lane j c.args.faults.now in
     let coins = lane j c.args.coins.now in

@@ -1,7 +1,6 @@
 -- The runs' records fill the words.
-use Rattle.std.proofs.Common.{◌≡◌, ℕ, ◌<◌, [], false, length, get_or, sym, ap, ◌∙◌, arith}
+use Rattle.std.proofs.Common.{◌≡◌, ℕ, ◌<◌, false, length, get_or, sym, ap, ◌∙◌, arith}
 use Rattle.lanes.specs.Lanes.{lane}
-use Rattle.step_model.specs.Frames.{zero_coins}
 use Rattle.step_model.specs.Runs.{records_of}
 use Rattle.forward_sim.proofs.RunRecords.{length-records_of}
 use Rattle.sampling.specs.ShownRuns.{ShownRuns}
@@ -10,10 +9,7 @@ use Rattle.sampling.proofs.record_runs.RecordRunsSideRuns.run.Goals as goal
 
 pub fill-requires : goal.fill-requires
 fill-requires g c =
-    let program = c.self.inside.program.now in
-    ap length c.deref_mut.ensures.value
-    ∙ (c.self.invariant.1
-    ∙ sym (ap length c.follow.ensures.batch.reference.records ∙ length-records_of program [] (zero_coins program) c.well_formed-2.ensures))
+    ap length c.deref_mut.ensures.value ∙ (c.self.invariant.1 ∙ sym c.follow.ensures.batch.records)
 
 pub invariant_of-self : goal.invariant_of-self
 invariant_of-self g c = (
@@ -29,14 +25,14 @@ returns-clause-size g c =
 
 pub returns-clause-shown : goal.returns-clause-shown
 returns-clause-shown g c j below =
-    let program = c.self.inside.program.now in
+    let program = c.self.inside.program.now.listing in
     let words = c.fill.new.words in
     let faults = lane j c.args.faults.now in
     let coins = lane j c.args.coins.now in
     let size : length words ≡ length (records_of program faults coins) =
     c.fill.ensures.size
     ∙ (ap length c.deref_mut.ensures.value
-    ∙ (c.self.invariant.1 ∙ sym (length-records_of program faults coins c.well_formed-2.ensures))) in
+    ∙ (c.self.invariant.1 ∙ sym (length-records_of program faults coins c.well_formed-2.ensures.listing))) in
     ap (lane j) (rewritten _ words _ (c.fill.ensures.size ∙ c.deref_mut.ensures.len))
     ∙ (lane_shows j words (records_of program faults coins) size
     (λ i within.
