@@ -53,7 +53,8 @@ names_and_comments : program_in (codes "H[a#b] 0\ncnot 0 1 # M 0\n\n# H 0\n  s_d
 unfolding on_texts
 names_and_comments = refl
 
--- blanks and carriage returns before line ends, zeros before numbers, and blanks beside commas and stars mean nothing
+-- blanks around arguments, targets and stars, carriage returns, zeros in front and the case of letters mean nothing; a
+-- probability's text stays as it stands
 spelled_otherwise : program_in (codes "H 00 \r\nE(0.50 )  x0\tz1\r\nmpp x0 *z1\r\n") ≡ Ok (record {
   qubits = 2;
   records = 1;
