@@ -46,3 +46,9 @@ pub mod NumberLemmas
 pub mod MeaningSteps
 pub mod MeaningFaults
 pub mod MeaningLemmas
+pub mod OnTexts
+pub mod WorkedTexts
+pub mod WorkedErrors
+pub mod WorkedRecords
+pub mod WorkedBlocks
+pub mod WorkedRefusals
