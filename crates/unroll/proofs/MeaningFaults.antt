@@ -1,7 +1,6 @@
 -- The faults of one instruction's steps, as they are kept, are those that it makes.
-use Rattle.std.proofs.Common.{◌≡◌, ℕ, suc, ◌+◌, ◌==◌, Bool, true, false, List, [], ◌∷◌, ◌++◌, map, get_or, length, Option, None, Some, refl, sym, ap, ap₂, ◌∙◌, arith}
+use Rattle.std.proofs.Common.{◌≡◌, ℕ, ◌+◌, ◌==◌, Bool, true, false, List, [], ◌∷◌, ◌++◌, map, length, Option, None, Some, refl, ap, ap₂, ◌∙◌, arith}
 use Rattle.std.specs.Prelude.{if◌then◌else◌, is_some, slice_get}
-use Rattle.std.specs.List.{range_with_len}
 use Rattle.std.proofs.lemmas.List.{length-map}
 use Rattle.std.proofs.lemmas.List.FromFn.{length-map-range_with_len}
 use Rattle.gate_table.specs.declared.gate.Gate.{Gate}
@@ -12,7 +11,7 @@ use Rattle.programs.specs.declared.step.TextStep.{TextStep}
 use Rattle.programs.specs.declared.step.TextStep.TheVariants as step
 use Rattle.programs.specs.Kept.{Kept, none_kept}
 use Rattle.programs.specs.Listed.{entry_at, fault_of, made_faults, step_made_faults}
-use Rattle.programs.specs.Numbering.{counts_after, made_by}
+use Rattle.programs.specs.Numbering.{counts_after}
 use Rattle.step_model.specs.Listing.{ListedFault, Effect, Applies, Flips}
 use Rattle.stim_parser.specs.declared.operation.Operation.{Operation}
 use Rattle.stim_parser.specs.declared.operation.Operation.TheVariants.{Applies as Gates, Measures, Resets, MeasuresAndResets, MeasuresProducts, Errs, ErrsTogether}
@@ -26,7 +25,6 @@ use Rattle.unroll.specs.MadeTotals.{fault_count, faults_counted}
 use Rattle.unroll.specs.StepsMade.{flip_of}
 use Rattle.unroll.specs.Targets.{is_product_inverted, products_of, term_at, term_of}
 use Rattle.unroll.specs.Totals.{first_argument, records_made, target_count}
-use Rattle.unroll.proofs.InstructionCounts.{pair-none}
 use Rattle.unroll.proofs.PartPlaces.{StandsAt, stands_behind}
 
 -- the collapse of a product, whose letters are kept at p

@@ -1,16 +1,15 @@
 -- What is kept of a circuit stands for its meaning: its steps, numbered as they are unrolled, and their faults are what
 -- its instructions make one after another as they are reached; and so are its detectors, observables and coordinates.
-use Rattle.std.proofs.Common.{◌≡◌, ◌≤◌, ℕ, ℤ, zero, suc, ◌+◌, ◌==◌, Bool, true, false, List, [], ◌∷◌, ◌++◌, map, length, refl, sym, ap, ap₂, ◌∙◌, subst, append_assoc, arith}
+use Rattle.std.proofs.Common.{◌≡◌, ℕ, zero, suc, ◌+◌, ◌==◌, List, [], ◌∷◌, ◌++◌, length, refl, sym, ap, ap₂, ◌∙◌, subst, append_assoc, arith}
 use Rattle.std.specs.Prelude.{if◌then◌else◌}
-use Rattle.std.specs.List.{range_with_len, sum_by}
-use Rattle.std.proofs.lemmas.List.{map-append}
+use Rattle.std.specs.List.{range_with_len}
 use Rattle.std.proofs.lemmas.List.Concat.{flat_map-append}
 use Rattle.block_text.specs.Reached.{copies, reached, written}
 use Rattle.programs.specs.Kept.{Kept}
 use Rattle.programs.specs.declared.step.Counts.{Counts}
 use Rattle.programs.specs.declared.step.TextStep.{TextStep}
 use Rattle.programs.specs.Listed.{listed, listed_steps, made_faults, step_made_faults}
-use Rattle.programs.specs.Numbering.{counts_after, counts_over, no_counts, numbered, numbered_step}
+use Rattle.programs.specs.Numbering.{counts_after, counts_over, no_counts, numbered_step}
 use Rattle.programs.specs.Trees.{repeated}
 use Rattle.step_model.specs.declared.step.Term.{Term}
 use Rattle.step_model.specs.Listing.{Listing, ListedFault, ListedStep}
@@ -25,17 +24,17 @@ use Rattle.unroll.specs.Detectors.{detectors_from, detectors_of}
 use Rattle.unroll.specs.FaultsMade.{faults_made}
 use Rattle.unroll.specs.Kept.{entries_of, kept_entries, kept_products, products_in}
 use Rattle.unroll.specs.Meaning.{after, at_start, listing_of, made_in, made_of}
-use Rattle.unroll.specs.Observables.{added_from, instruction_adds, observables_of}
+use Rattle.unroll.specs.Observables.{added_from, observables_of}
 use Rattle.unroll.specs.Steps.{instruction_steps, steps_from, steps_of}
 use Rattle.unroll.specs.StepsMade.{operation_made}
 use Rattle.unroll.specs.TargetsMade.{adds_to, operation_adds, operation_coordinates, operation_detectors, records_named}
-use Rattle.unroll.specs.Totals.{first_argument, observable_total, observables_to, qubit_total, record_count, collapse_total, record_total}
+use Rattle.unroll.specs.Totals.{first_argument, observable_total, observables_to, qubit_total, collapse_total, record_total}
 use Rattle.unroll.proofs.InstructionCounts.{instruction-faults, instruction-records}
 use Rattle.unroll.proofs.MeaningFaults.{faults-counted, faults-made}
 use Rattle.unroll.proofs.MeaningSteps.{steps-made}
 use Rattle.unroll.proofs.ObservableLemmas.{map-same, none-named, same-number}
 use Rattle.unroll.proofs.PartPlaces.{StandsAt, stands_before, stands_behind, stands_itself}
-use Rattle.unroll.proofs.StepSums.{counts-sum, faults_by, records_by}
+use Rattle.unroll.proofs.StepSums.{counts-sum}
 
 -- ---- what came before, over instructions
 

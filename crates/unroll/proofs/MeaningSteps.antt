@@ -1,25 +1,23 @@
 -- The steps of one instruction, as they are kept and numbered, are those that it makes.
-use Rattle.std.proofs.Common.{◌≡◌, ℕ, suc, ◌+◌, ◌*◌, ◌==◌, Bool, true, false, List, [], ◌∷◌, map, get_or, length, Option, None, Some, refl, sym, ap, ap₂, ◌∙◌, arith}
+use Rattle.std.proofs.Common.{◌≡◌, ℕ, ◌+◌, ◌*◌, ◌==◌, Bool, true, false, List, [], ◌∷◌, map, Option, None, Some, refl, ap, ap₂, ◌∙◌, arith}
 use Rattle.std.specs.Prelude.{if◌then◌else◌, option_map}
 use Rattle.gate_table.specs.declared.gate.Gate.{Gate}
 use Rattle.gate_table.specs.Images.{arity_of}
 use Rattle.pauli_word.specs.declared.letter.Letter.{Letter}
-use Rattle.pauli_word.specs.Words.{lone_letter}
 use Rattle.programs.specs.declared.step.Counts.{Counts}
-use Rattle.programs.specs.declared.step.TextStep.{TextStep}
 use Rattle.programs.specs.declared.step.TextStep.TheVariants as step
-use Rattle.programs.specs.Listed.{listed, listed_steps, measured, number_of, product_at, recorded}
-use Rattle.programs.specs.Numbering.{counts_after, made_by, made_by_flip, named, numbered_step}
+use Rattle.programs.specs.Listed.{listed, listed_steps, measured, product_at, recorded}
+use Rattle.programs.specs.Numbering.{counts_after, made_by_flip, named, numbered_step}
 use Rattle.step_model.specs.declared.step.Term.{Term}
-use Rattle.step_model.specs.Listing.{ListedStep, One, Collapse, Fault, Measured, Word, Reset, Recorded, word_of_terms}
+use Rattle.step_model.specs.Listing.{One, Collapse, Fault, Word, Reset, Recorded, word_of_terms}
 use Rattle.stim_parser.specs.declared.operation.Operation.{Operation}
 use Rattle.stim_parser.specs.declared.operation.Operation.TheVariants.{Applies, Measures, Resets, MeasuresAndResets, MeasuresProducts, Errs, ErrsTogether}
 use Rattle.stim_parser.specs.declared.target.Target.{Target}
 use Rattle.stim_parser.specs.declared.target.Target.TheVariants.{Plain, Inverted, Back, Pauli, Star}
 use Rattle.unroll.specs.Before.{Before}
 use Rattle.unroll.specs.Kept.{operation_products}
-use Rattle.unroll.specs.Made.{fault_steps, gate_steps, measure_step, one_step, operation_steps, pair_step, pair_steps, product_steps, recording, reset_step}
-use Rattle.unroll.specs.StepsMade.{collapses_made, flip_of, gate_made, numbered_from, operation_made, pair_made, pairs_made}
+use Rattle.unroll.specs.Made.{fault_steps, measure_step, one_step, operation_steps, pair_step, pair_steps, product_steps, recording, reset_step}
+use Rattle.unroll.specs.StepsMade.{flip_of, numbered_from, operation_made, pair_made, pairs_made}
 use Rattle.unroll.specs.Targets.{is_inverted, is_product_inverted, products_of, qubit_of, term_of}
 use Rattle.unroll.proofs.InstructionCounts.{pair-none}
 use Rattle.unroll.proofs.PartPlaces.{StandsAt, stands_behind}

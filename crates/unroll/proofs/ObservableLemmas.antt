@@ -20,7 +20,8 @@ use Rattle.unroll.specs.TargetsMade.{record_named, records_named}
 use Rattle.block_text.specs.Reached.{copies, reached, written}
 use Rattle.unroll.specs.Gathered.{given}
 use Rattle.unroll.specs.Including.{including, inclusion_of, observable_named, item_observables, named_to, operation_inclusions, places_of}
-use Rattle.unroll.specs.Totals.{first_argument, observable_total, observables_over, observables_to}
+use Rattle.unroll.specs.Totals.{first_argument, observable_total, observables_to}
+use Rattle.unroll.specs.MadeTotals.{observables_over}
 use Rattle.unroll.specs.Observables.{added_from, observables_of}
 use Rattle.unroll.proofs.PassLemmas.{drop_got}
 
