@@ -12,6 +12,7 @@ use Rattle.programs.specs.Made as made
 use Rattle.programs.specs.Numbering.{FeedBack, counts_over, no_counts}
 use Rattle.step_model.specs.declared.fault.Fault.{Fault}
 use Rattle.step_model.specs.declared.step.Term.{Term}
+use Rattle.step_model.specs.Faults.{unless}
 use Rattle.step_model.specs.Listing.{Listing}
 use Rattle.programs.specs.Kept.{Kept}
 use Rattle.step_model.specs.WellFormed.{CoordinatesFit, ProductFits}
@@ -28,7 +29,7 @@ use Rattle.unroll.specs.Summed.{AreTotals, greatest}
 use Rattle.unroll.specs.Totals.{collapse_total, qubit_total, record_total}
 use Rattle.unroll.specs.MadeTotals.{fault_total, made_total}
 use Rattle.unroll.specs.Meaning.{listing_of}
-use Rattle.unroll.specs.Programs.{program_of, unless_refused}
+use Rattle.unroll.specs.Programs.{program_of}
 use Rattle.unroll.proofs.CoordinateFits.{coordinates_fit}
 use Rattle.unroll.proofs.EntriesFit.{entries_fit}
 use Rattle.unroll.proofs.ProductsFit.{products_fit}
@@ -51,10 +52,10 @@ listing_is t parts p = kept_is ∙ stands_for t
 
 pub program_made : {A : Type 0} (t : Tree) (parts : Parts A) → refusal_of t ≡ None → ArePartsOf t parts → program_of t ≡ Ok (made.kept_program parts).listing
 program_made t parts h p =
-    ap (λ r. unless_refused r (listing_of t)) h ∙ ap (λ (l : Listing). Ok l) (sym (listing_is t parts p))
+    ap (λ r. unless r (listing_of t)) h ∙ ap (λ (l : Listing). Ok l) (sym (listing_is t parts p))
 
 pub program_refused : (t : Tree) (fault : Fault) → refusal_of t ≡ Some fault → program_of t ≡ Err fault
-program_refused t fault h = ap (λ r. unless_refused r (listing_of t)) h
+program_refused t fault h = ap (λ r. unless r (listing_of t)) h
 
 -- ---- they fit
 

@@ -13,7 +13,8 @@ use Rattle.stim_parser.specs.Verdicts.{Instruction}
 use Rattle.stim_parser.proofs.TargetNumbers.{none_passes}
 use Rattle.unroll.specs.Pushed.{back_of}
 use Rattle.unroll.specs.Refusals.{first_far_line, is_far, reaches_far}
-use Rattle.unroll.specs.Totals.{record_count, total}
+use Rattle.unroll.specs.Totals.{record_count}
+use Rattle.block_text.specs.Reached.{total}
 
 -- ---- what holds of each instruction of a tree, and of items
 

@@ -25,7 +25,8 @@ use Rattle.unroll.specs.StepsMade.{flip_of}
 use Rattle.unroll.specs.Targets.{products_of}
 use Rattle.unroll.specs.Refusals.{first_far_line, is_far, reaches_far}
 use Rattle.unroll.specs.Steps.{instruction_steps, steps_from, steps_of}
-use Rattle.unroll.specs.Totals.{record_count, total}
+use Rattle.unroll.specs.Totals.{record_count}
+use Rattle.block_text.specs.Reached.{total}
 use Rattle.unroll.proofs.InstructionCounts.{instruction-records}
 use Rattle.unroll.proofs.RefusalLemmas.{neither, not_first}
 use Rattle.unroll.proofs.StepCounts.{tree-records}

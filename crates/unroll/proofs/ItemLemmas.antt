@@ -9,7 +9,8 @@ use Rattle.stim_parser.specs.Judged.{items_of}
 use Rattle.stim_parser.specs.Verdicts.{Instruction}
 use Rattle.block_text.specs.Reached.{written}
 use Rattle.unroll.specs.Items.{instructions_in, item_qubits, IsSound}
-use Rattle.unroll.specs.Totals.{qubits_over, qubit_total}
+use Rattle.unroll.specs.Totals.{qubit_total}
+use Rattle.unroll.specs.MadeTotals.{qubits_over}
 use Rattle.unroll.proofs.FarLemmas.{EachDoes, EachOf, each-tree}
 use Rattle.unroll.proofs.PassLemmas.{drop_got}
 

@@ -1,16 +1,17 @@
 -- The faults of one instruction's steps, as they are kept, are those that it makes.
-use Rattle.std.proofs.Common.{◌≡◌, ℕ, suc, ◌+◌, ◌==◌, Bool, true, false, List, [], ◌∷◌, ◌++◌, map, get_or, length, Option, None, Some, refl, sym, ap, ap₂, ◌∙◌, arith}
+use Rattle.std.proofs.Common.{◌≡◌, ℕ, ◌+◌, ◌==◌, Bool, true, false, List, [], ◌∷◌, ◌++◌, map, length, Option, None, Some, refl, ap, ap₂, ◌∙◌, arith}
 use Rattle.std.specs.Prelude.{if◌then◌else◌, is_some, slice_get}
-use Rattle.std.specs.List.{range_with_len}
 use Rattle.std.proofs.lemmas.List.{length-map}
 use Rattle.std.proofs.lemmas.List.FromFn.{length-map-range_with_len}
 use Rattle.gate_table.specs.declared.gate.Gate.{Gate}
 use Rattle.gate_table.specs.Images.{arity_of}
 use Rattle.pauli_word.specs.declared.letter.Letter.{Letter}
 use Rattle.programs.specs.declared.step.Counts.{Counts}
+use Rattle.programs.specs.declared.step.TextStep.{TextStep}
+use Rattle.programs.specs.declared.step.TextStep.TheVariants as step
 use Rattle.programs.specs.Kept.{Kept, none_kept}
 use Rattle.programs.specs.Listed.{entry_at, fault_of, made_faults, step_made_faults}
-use Rattle.programs.specs.Numbering.{counts_after, made_by}
+use Rattle.programs.specs.Numbering.{counts_after}
 use Rattle.step_model.specs.Listing.{ListedFault, Effect, Applies, Flips}
 use Rattle.stim_parser.specs.declared.operation.Operation.{Operation}
 use Rattle.stim_parser.specs.declared.operation.Operation.TheVariants.{Applies as Gates, Measures, Resets, MeasuresAndResets, MeasuresProducts, Errs, ErrsTogether}
@@ -19,13 +20,16 @@ use Rattle.stim_parser.specs.Verdicts.{Instruction}
 use Rattle.unroll.specs.FaultsMade.{fault_with, faults_made, flips_made}
 use Rattle.unroll.specs.Kept.{entry_of, flip_entries, operation_entries}
 use Rattle.unroll.specs.Kept as kept
-use Rattle.unroll.specs.Made.{fault_steps, measure_step, one_step, operation_steps, pair_step, pair_steps, paired, product_steps, record_back, reset_step}
+use Rattle.unroll.specs.Made.{fault_steps, measure_step, one_step, operation_steps, pair_step, pair_steps, paired, product_steps, record_back, recording, reset_step}
 use Rattle.unroll.specs.MadeTotals.{fault_count, faults_counted}
 use Rattle.unroll.specs.StepsMade.{flip_of}
-use Rattle.unroll.specs.Targets.{products_of, term_at, term_of}
+use Rattle.unroll.specs.Targets.{is_product_inverted, products_of, term_at, term_of}
 use Rattle.unroll.specs.Totals.{first_argument, records_made, target_count}
-use Rattle.unroll.proofs.InstructionCounts.{pair-none}
 use Rattle.unroll.proofs.PartPlaces.{StandsAt, stands_behind}
+
+-- the collapse of a product, whose letters are kept at p
+abbrev word_step : ℕ → ℕ → List (List ℕ) → List Target → TextStep
+word_step e p arguments product = step.CollapseWord p (Some (recording (is_product_inverted product) (flip_of e arguments)))
 
 module _ (ks : List Kept) where
   -- the entry that stands at a place
@@ -63,12 +67,12 @@ module _ (ks : List Kept) where
 
   measures : (c : Counts) (r e : ℕ) (arguments : List (List ℕ)) (l : Letter) (reset : Bool) (ts : List Target) → StandsAt ks e (flip_entries arguments) → c.records ≡ r → made_faults ks c (map (measure_step l reset (flip_of e arguments)) ts) ≡ flips_made r arguments (length ts)
   measures c r e [] l reset [] stands h = refl
-  measures c r e [] l reset (t ∷ ts) stands h = measures (counts_after c _) (r + 1) e [] l reset ts stands (omega (arith, h))
+  measures c r e [] l reset (t ∷ ts) stands h = measures (counts_after c (measure_step l reset (flip_of e []) t)) (r + 1) e [] l reset ts stands (omega (arith, h))
   measures c r e (x ∷ xs) l reset [] stands h = refl
   measures c r e (x ∷ xs) l reset (t ∷ ts) stands h =
       ap₂ ◌∷◌
       (fault-here e (entry_of [] x) (Flips c.records) (entry-here e (entry_of [] x) [] stands) ∙ ap (λ k. fault_with (x ∷ xs) (Flips k)) h)
-      (measures (counts_after c _) (r + 1) e (x ∷ xs) l reset ts stands (omega (arith, h)))
+      (measures (counts_after c (measure_step l reset (flip_of e (x ∷ xs)) t)) (r + 1) e (x ∷ xs) l reset ts stands (omega (arith, h)))
 
   resets : (c : Counts) (l : Letter) (ts : List Target) → made_faults ks c (map (reset_step l) ts) ≡ []
   resets c l [] = refl
@@ -76,12 +80,12 @@ module _ (ks : List Kept) where
 
   words : (c : Counts) (r e p : ℕ) (arguments : List (List ℕ)) (products : List (List Target)) → StandsAt ks e (flip_entries arguments) → c.records ≡ r → made_faults ks c (product_steps (flip_of e arguments) p products) ≡ flips_made r arguments (length products)
   words c r e p [] [] stands h = refl
-  words c r e p [] (y ∷ ys) stands h = words (counts_after c _) (r + 1) e (p + 1) [] ys stands (omega (arith, h))
+  words c r e p [] (y ∷ ys) stands h = words (counts_after c (word_step e p [] y)) (r + 1) e (p + 1) [] ys stands (omega (arith, h))
   words c r e p (x ∷ xs) [] stands h = refl
   words c r e p (x ∷ xs) (y ∷ ys) stands h =
       ap₂ ◌∷◌
       (fault-here e (entry_of [] x) (Flips c.records) (entry-here e (entry_of [] x) [] stands) ∙ ap (λ k. fault_with (x ∷ xs) (Flips k)) h)
-      (words (counts_after c _) (r + 1) e (p + 1) (x ∷ xs) ys stands (omega (arith, h)))
+      (words (counts_after c (word_step e p (x ∷ xs) y)) (r + 1) e (p + 1) (x ∷ xs) ys stands (omega (arith, h)))
 
   -- ---- errors
 
@@ -93,7 +97,7 @@ module _ (ks : List Kept) where
       let here = entry-here e x xs stands in
       ap₂ ◌∷◌
       (fault-here e x (Applies (entry_at ks e).terms) here ∙ ap (λ (k : Kept). fault_with arguments (Applies k.terms)) here)
-      (errors (counts_after c _) (e + 1) arguments l ts (stands_behind ks e (x ∷ []) xs stands))
+      (errors (counts_after c (step.Fault e)) (e + 1) arguments l ts (stands_behind ks e (x ∷ []) xs stands))
 
   together : (e : ℕ) (arguments : List (List ℕ)) (ts : List Target) → StandsAt ks e (operation_entries ErrsTogether arguments ts) → fault_of ks e (Applies (entry_at ks e).terms) ≡ fault_with arguments (Applies (map term_of ts))
   together e arguments ts stands =

@@ -1,16 +1,15 @@
 -- What is kept of a circuit stands for its meaning: its steps, numbered as they are unrolled, and their faults are what
 -- its instructions make one after another as they are reached; and so are its detectors, observables and coordinates.
-use Rattle.std.proofs.Common.{◌≡◌, ◌≤◌, ℕ, ℤ, zero, suc, ◌+◌, ◌==◌, Bool, true, false, List, [], ◌∷◌, ◌++◌, map, length, refl, sym, ap, ap₂, ◌∙◌, subst, append_assoc, arith}
+use Rattle.std.proofs.Common.{◌≡◌, ℕ, zero, suc, ◌+◌, ◌==◌, List, [], ◌∷◌, ◌++◌, length, refl, sym, ap, ap₂, ◌∙◌, subst, append_assoc, arith}
 use Rattle.std.specs.Prelude.{if◌then◌else◌}
-use Rattle.std.specs.List.{range_with_len, sum_by}
-use Rattle.std.proofs.lemmas.List.{map-append, map-same}
+use Rattle.std.specs.List.{range_with_len}
 use Rattle.std.proofs.lemmas.List.Concat.{flat_map-append}
 use Rattle.block_text.specs.Reached.{copies, reached, written}
 use Rattle.programs.specs.Kept.{Kept}
 use Rattle.programs.specs.declared.step.Counts.{Counts}
 use Rattle.programs.specs.declared.step.TextStep.{TextStep}
 use Rattle.programs.specs.Listed.{listed, listed_steps, made_faults, step_made_faults}
-use Rattle.programs.specs.Numbering.{counts_after, counts_over, no_counts, numbered, numbered_step}
+use Rattle.programs.specs.Numbering.{counts_after, counts_over, no_counts, numbered_step}
 use Rattle.programs.specs.Trees.{repeated}
 use Rattle.step_model.specs.declared.step.Term.{Term}
 use Rattle.step_model.specs.Listing.{Listing, ListedFault, ListedStep}
@@ -25,21 +24,22 @@ use Rattle.unroll.specs.Detectors.{detectors_from, detectors_of}
 use Rattle.unroll.specs.FaultsMade.{faults_made}
 use Rattle.unroll.specs.Kept.{entries_of, kept_entries, kept_products, products_in}
 use Rattle.unroll.specs.Meaning.{after, at_start, listing_of, made_in, made_of}
-use Rattle.unroll.specs.Observables.{added_from, instruction_adds, observables_of}
+use Rattle.unroll.specs.Observables.{added_from, observables_of}
 use Rattle.unroll.specs.Steps.{instruction_steps, steps_from, steps_of}
 use Rattle.unroll.specs.StepsMade.{operation_made}
 use Rattle.unroll.specs.TargetsMade.{adds_to, operation_adds, operation_coordinates, operation_detectors, records_named}
-use Rattle.unroll.specs.Totals.{first_argument, observable_total, observables_to, qubit_total, record_count, collapse_total, record_total}
+use Rattle.unroll.specs.Totals.{first_argument, observable_total, observables_to, qubit_total, collapse_total, record_total}
 use Rattle.unroll.proofs.InstructionCounts.{instruction-faults, instruction-records}
 use Rattle.unroll.proofs.MeaningFaults.{faults-counted, faults-made}
 use Rattle.unroll.proofs.MeaningSteps.{steps-made}
+use Rattle.unroll.proofs.ObservableLemmas.{map-same, none-named, same-number}
 use Rattle.unroll.proofs.PartPlaces.{StandsAt, stands_before, stands_behind, stands_itself}
-use Rattle.unroll.proofs.StepSums.{counts-sum, faults_by, records_by}
+use Rattle.unroll.proofs.StepSums.{counts-sum}
 
 -- ---- what came before, over instructions
 
 -- what came before the instruction after these
-after_all : Before → List Instruction → Before
+abbrev after_all : Before → List Instruction → Before
 after_all b [] = b
 after_all b (i ∷ is) = after_all (after b i) is
 
@@ -77,10 +77,10 @@ module _ (n : ℕ) (ks : List Kept) (ps : List (List Term)) where
       ap (λ fs. step_made_faults ks c x ++ fs) (faults-append (counts_after c x) xs ys)
       ∙ sym (append_assoc (step_made_faults ks c x) (made_faults ks (counts_after c x) xs) (made_faults ks (counts_over (counts_after c x) xs) ys))
 
-  make_steps : Before → Instruction → List ListedStep
+  abbrev make_steps : Before → Instruction → List ListedStep
   make_steps b i = operation_made n b i.operation i.arguments i.targets
 
-  make_faults : Before → Instruction → List ListedFault
+  abbrev make_faults : Before → Instruction → List ListedFault
   make_faults b i = faults_made b.records i.operation i.arguments i.targets
 
   -- steps that are kept stand for what instructions make, whatever came before
@@ -90,10 +90,11 @@ module _ (n : ℕ) (ks : List Kept) (ps : List (List Term)) where
     later : (c : Counts) (b : Before) → Same c b → Same (counts_over c steps) (after_all b is)
 
   stand_none : StandFor [] []
+  unfolding made_of
   stand_none =
       record {
-        steps_are = λ c b same. unfolding made_of in refl;
-        faults_are = λ c b same. unfolding made_of in refl;
+        steps_are = λ c b same. refl;
+        faults_are = λ c b same. refl;
         later = λ c b same. same;
       }
 
@@ -174,12 +175,9 @@ coordinates-made b [] = refl
 coordinates-made b (i ∷ is) =
     ap (λ later. operation_coordinates b.offset i.operation i.arguments ++ later) (coordinates-made (after b i) is)
 
-next-same : (m k : ℕ) → (m + 1 == k + 1) ≡ (m == k)
-next-same m k = cc
-
 adds-same : (k : ℕ) (o : Operation) (arguments : List (List ℕ)) → (observables_to o arguments == k + 1) ≡ adds_to k o arguments
-adds-same k Observes arguments = next-same (value_of (first_argument arguments)) k
-adds-same k o arguments = cc
+adds-same k Observes arguments = same-number (value_of (first_argument arguments)) k
+adds-same k o arguments = none-named k
 
 added-made : (k : ℕ) (b : Before) (is : List Instruction) → added_from k b.records is ≡ made_of (λ b i. operation_adds k b.records i.operation i.arguments i.targets) b is
 unfolding added_from made_of
@@ -192,7 +190,7 @@ added-made k b (i ∷ is) =
 -- ---- the whole program
 
 -- what is kept of a circuit, as a program
-pub kept_listing : Tree → Listing
+abbrev pub kept_listing : Tree → Listing
 kept_listing t =
     record {
       qubits = qubit_total t;

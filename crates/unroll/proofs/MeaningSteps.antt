@@ -1,30 +1,29 @@
 -- The steps of one instruction, as they are kept and numbered, are those that it makes.
-use Rattle.std.proofs.Common.{◌≡◌, ℕ, suc, ◌+◌, ◌*◌, ◌==◌, Bool, true, false, List, [], ◌∷◌, map, get_or, length, Option, None, Some, refl, sym, ap, ap₂, ◌∙◌, arith}
+use Rattle.std.proofs.Common.{◌≡◌, ℕ, ◌+◌, ◌*◌, ◌==◌, Bool, true, false, List, [], ◌∷◌, map, Option, None, Some, refl, ap, ap₂, ◌∙◌, arith}
 use Rattle.std.specs.Prelude.{if◌then◌else◌, option_map}
 use Rattle.gate_table.specs.declared.gate.Gate.{Gate}
 use Rattle.gate_table.specs.Images.{arity_of}
 use Rattle.pauli_word.specs.declared.letter.Letter.{Letter}
-use Rattle.pauli_word.specs.Words.{lone_letter}
 use Rattle.programs.specs.declared.step.Counts.{Counts}
-use Rattle.programs.specs.declared.step.TextStep.{TextStep}
-use Rattle.programs.specs.Listed.{listed, listed_steps, measured, number_of, product_at, recorded}
-use Rattle.programs.specs.Numbering.{counts_after, made_by, made_by_flip, named, numbered_step}
+use Rattle.programs.specs.declared.step.TextStep.TheVariants as step
+use Rattle.programs.specs.Listed.{listed, listed_steps, measured, product_at, recorded}
+use Rattle.programs.specs.Numbering.{counts_after, made_by_flip, named, numbered_step}
 use Rattle.step_model.specs.declared.step.Term.{Term}
-use Rattle.step_model.specs.Listing.{ListedStep, One, Collapse, Fault, Measured, Word, Reset, Recorded, word_of_terms}
+use Rattle.step_model.specs.Listing.{One, Collapse, Fault, Word, Reset, Recorded, word_of_terms}
 use Rattle.stim_parser.specs.declared.operation.Operation.{Operation}
 use Rattle.stim_parser.specs.declared.operation.Operation.TheVariants.{Applies, Measures, Resets, MeasuresAndResets, MeasuresProducts, Errs, ErrsTogether}
 use Rattle.stim_parser.specs.declared.target.Target.{Target}
 use Rattle.stim_parser.specs.declared.target.Target.TheVariants.{Plain, Inverted, Back, Pauli, Star}
 use Rattle.unroll.specs.Before.{Before}
 use Rattle.unroll.specs.Kept.{operation_products}
-use Rattle.unroll.specs.Made.{fault_steps, gate_steps, measure_step, one_step, operation_steps, pair_step, pair_steps, product_steps, reset_step}
-use Rattle.unroll.specs.StepsMade.{collapses_made, flip_of, gate_made, numbered_from, operation_made, pair_made, pairs_made}
+use Rattle.unroll.specs.Made.{fault_steps, measure_step, one_step, operation_steps, pair_step, pair_steps, product_steps, recording, reset_step}
+use Rattle.unroll.specs.StepsMade.{flip_of, numbered_from, operation_made, pair_made, pairs_made}
 use Rattle.unroll.specs.Targets.{is_inverted, is_product_inverted, products_of, qubit_of, term_of}
 use Rattle.unroll.proofs.InstructionCounts.{pair-none}
 use Rattle.unroll.proofs.PartPlaces.{StandsAt, stands_behind}
 
 -- what became of the outcome of a collapse after these counts, which the fault of this number may flip
-record_made : ℕ → ℕ → List (List ℕ) → Bool → Option Recorded
+abbrev record_made : ℕ → ℕ → List (List ℕ) → Bool → Option Recorded
 record_made r f arguments inverted = Some (record { number = r; inverted = inverted; flip = flip_of f arguments })
 
 recorded-same : (r f e : ℕ) (arguments : List (List ℕ)) (inverted : Bool) → recorded (Some r) inverted (option_map (named f) (flip_of e arguments)) ≡ record_made r f arguments inverted
@@ -106,13 +105,13 @@ module _ (n : ℕ) (ps : List (List Term)) where
       let later = stands_behind ps p (map term_of x ∷ []) (map (map term_of) products) stands in
       ap₂ ◌∷◌
       (ap₂ Collapse (ap (λ terms. Word (word_of_terms n terms)) here) (made-same b c k e arguments (is_product_inverted x) records faults))
-      (words b (counts_after c _) (k + 1) e (p + 1) arguments products later (omega (arith, records)) (omega (arith, faults)))
+      (words b (counts_after c (step.CollapseWord p (Some (recording (is_product_inverted x) (flip_of e arguments))))) (k + 1) e (p + 1) arguments products later (omega (arith, records)) (omega (arith, faults)))
 
   -- ---- faults
 
   errors : (c : Counts) (f e : ℕ) (ts : List Target) → c.faults ≡ f → listed_steps n ps c (fault_steps e ts) ≡ numbered_from f (λ g target. Fault g) ts
   errors c f e [] h = refl
-  errors c f e (t ∷ ts) h = ap₂ ◌∷◌ (ap Fault h) (errors (counts_after c _) (f + 1) (e + 1) ts (omega (arith, h)))
+  errors c f e (t ∷ ts) h = ap₂ ◌∷◌ (ap Fault h) (errors (counts_after c (step.Fault e)) (f + 1) (e + 1) ts (omega (arith, h)))
 
   -- ---- instructions
 

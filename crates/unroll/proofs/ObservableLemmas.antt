@@ -20,18 +20,19 @@ use Rattle.unroll.specs.TargetsMade.{record_named, records_named}
 use Rattle.block_text.specs.Reached.{copies, reached, written}
 use Rattle.unroll.specs.Gathered.{given}
 use Rattle.unroll.specs.Including.{including, inclusion_of, observable_named, item_observables, named_to, operation_inclusions, places_of}
-use Rattle.unroll.specs.Totals.{first_argument, observable_total, observables_over, observables_to}
+use Rattle.unroll.specs.Totals.{first_argument, observable_total, observables_to}
+use Rattle.unroll.specs.MadeTotals.{observables_over}
 use Rattle.unroll.specs.Observables.{added_from, observables_of}
 use Rattle.unroll.proofs.PassLemmas.{drop_got}
 
-same-number : (v k : ℕ) → eqb (v + 1) (k + 1) ≡ eqb v k
+pub same-number : (v k : ℕ) → eqb (v + 1) (k + 1) ≡ eqb v k
 same-number v k =
     elim (cases_eq v k) as (λ _. eqb (v + 1) (k + 1) ≡ eqb v k) [
       | inl same ↦ eq-eqb (v + 1) (k + 1) (omega (arith, same)) ∙ sym (eq-eqb v k same)
       | inr other ↦ ne_eqb (v + 1) (k + 1) (λ e. other (omega (arith, e))) ∙ sym (ne_eqb v k other)
     ]
 
-none-named : (k : ℕ) → eqb 0 (k + 1) ≡ false
+pub none-named : (k : ℕ) → eqb 0 (k + 1) ≡ false
 none-named k = ne_eqb 0 (k + 1) (λ e. omega (arith, e))
 
 each-adds : (b : Bool) (v k r : ℕ) (ts : List Target) → eqb v k ≡ b → places_of k (map (inclusion_of v r) ts) ≡ cond b (records_named r ts) []
@@ -87,7 +88,7 @@ added k r (i ∷ is) h =
     places_of-append k (including.gives r i) (given including (including.next r i) is)
     ∙ ap₂ (λ xs ys. xs ++ ys) (one-adds k r i.operation i.arguments i.targets h.0) (added k (including.next r i) is h.1)
 
-map-same : (f g : ℕ → List ℕ) (ks : List ℕ) → ((k : ℕ) → f k ≡ g k) → map f ks ≡ map g ks
+pub map-same : (f g : ℕ → List ℕ) (ks : List ℕ) → ((k : ℕ) → f k ≡ g k) → map f ks ≡ map g ks
 map-same f g [] h = refl
 map-same f g (k ∷ ks) h = ap₂ (λ (x : List ℕ) (xs : List (List ℕ)). x ∷ xs) (h k) (map-same f g ks h)
 

@@ -13,7 +13,8 @@ use Rattle.stim_parser.specs.declared.target.Target.TheVariants.{Plain, Back}
 use Rattle.stim_parser.specs.Limits.{are_pairs_one_record, are_pairs_record_first, has_pair_of_one, is_pair_of_one_record, is_plain, is_plain_or_back, is_same_qubit}
 use Rattle.unroll.specs.Made.{pair_step, pair_steps}
 use Rattle.unroll.specs.StepsMade.{fed_letter}
-use Rattle.unroll.specs.Totals.{qubits_named, qubits_to}
+use Rattle.unroll.specs.Totals.{qubits_to}
+use Rattle.unroll.specs.MadeTotals.{qubits_named}
 
 -- ---- each form of pairs is one in which either one may be a record
 

@@ -13,7 +13,8 @@ use Rattle.stim_parser.specs.declared.target.Target.TheVariants.{Pauli, Star}
 use Rattle.stim_parser.specs.Circuits.{target_is_written}
 use Rattle.stim_parser.specs.Limits.{are_factors, are_products, begins_with_factor, goes_on_with, has_product_of_one, is_factor, is_factor_at, is_joining, names_again}
 use Rattle.unroll.specs.Targets.{products_of, qubit_of, pauli_letter, term_of}
-use Rattle.unroll.specs.Totals.{qubits_named, qubits_to}
+use Rattle.unroll.specs.Totals.{qubits_to}
+use Rattle.unroll.specs.MadeTotals.{qubits_named}
 use Rattle.unroll.proofs.ProductLemmas.{some_products}
 
 -- ---- one product

@@ -5,7 +5,8 @@ use Rattle.stim_parser.specs.Circuits.{AllFit, Fits, IsCircuit}
 use Rattle.stim_parser.specs.Trees.{Tree, Nothing, Then, Block}
 use Rattle.stim_parser.specs.Verdicts.{Instruction}
 use Rattle.block_text.specs.Reached.{written}
-use Rattle.unroll.specs.Totals.{qubits_named, qubits_over, qubit_total}
+use Rattle.unroll.specs.Totals.{qubit_total}
+use Rattle.unroll.specs.MadeTotals.{qubits_named, qubits_over}
 use Rattle.unroll.proofs.FarLemmas.{EachOf}
 
 -- an instruction fits, on so many qubits

@@ -14,10 +14,11 @@ use Rattle.stim_parser.specs.Verdicts.{Instruction}
 use Rattle.unroll.specs.Coordinates.{coordinates_from, coordinates_of}
 use Rattle.unroll.specs.Detectors.{detectors_from, detectors_of}
 use Rattle.unroll.specs.TargetsMade.{operation_detectors, offset_after, operation_coordinates}
-use Rattle.block_text.specs.Reached.{copies, reached, written}
+use Rattle.block_text.specs.Reached.{copies, reached, written, total}
 use Rattle.unroll.specs.Observables.{added_from, observables_of}
 use Rattle.unroll.specs.Refusals.{first_beyond, most_observables}
-use Rattle.unroll.specs.Totals.{detector_count, detector_total, detectors_made, record_count, total, observable_total, observables_over, observables_to}
+use Rattle.unroll.specs.Totals.{detector_count, detector_total, detectors_made, record_count, observable_total, observables_to}
+use Rattle.unroll.specs.MadeTotals.{observables_over}
 use Rattle.unroll.proofs.RefusalLemmas.{not_first}
 
 -- ---- a count summed over the instructions that are reached

@@ -15,10 +15,10 @@ use Rattle.stim_parser.specs.Limits.{is_back}
 use Rattle.stim_parser.specs.Trees.{Tree, Nothing, Then, Block}
 use Rattle.stim_parser.specs.Verdicts.{Instruction}
 use Rattle.stim_parser.proofs.RecordTargets.{NamesRecords, names_records}
-use Rattle.block_text.specs.Reached.{copies, reached}
+use Rattle.block_text.specs.Reached.{copies, reached, total}
 use Rattle.unroll.specs.Gathered.{Gathering, given, place_behind}
 use Rattle.unroll.specs.Refusals.{first_far_line, reaches_far}
-use Rattle.unroll.specs.Totals.{record_count, total}
+use Rattle.unroll.specs.Totals.{record_count}
 use Rattle.unroll.proofs.GatherLemmas.{AreSteady, IsSteady}
 
 -- ---- how many records instructions make

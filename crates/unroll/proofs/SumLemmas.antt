@@ -14,7 +14,8 @@ use Rattle.unroll.specs.declared.totals.Totals.{Totals}
 use Rattle.unroll.specs.Passes.{behind}
 use Rattle.unroll.specs.Refusals.{first_far_line, is_far, reaches_far}
 use Rattle.unroll.specs.Summed.{AreTotals, capped_sum, far_line_after, greatest, nothing_summed, repeated_sum, summing, totals_after, totals_repeated}
-use Rattle.unroll.specs.Totals.{collapse_count, detector_count, record_count, step_count, total}
+use Rattle.unroll.specs.Totals.{collapse_count, detector_count, record_count, step_count}
+use Rattle.block_text.specs.Reached.{total}
 use Rattle.unroll.specs.MadeTotals.{fault_count, made_count}
 use Rattle.unroll.specs.Pushed.{back_of}
 use Rattle.unroll.proofs.FitLemmas.{backs_within}

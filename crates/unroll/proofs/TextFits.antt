@@ -24,7 +24,8 @@ use Rattle.unroll.specs.Made.{fault_steps, gate_steps, measure_step, one_step, o
 use Rattle.unroll.specs.StepsMade.{flip_of}
 use Rattle.unroll.specs.Targets.{products_of, qubit_of}
 use Rattle.unroll.specs.Steps.{instruction_steps, steps_of}
-use Rattle.unroll.specs.Totals.{qubits_named, qubits_to, qubit_total}
+use Rattle.unroll.specs.Totals.{qubits_to, qubit_total}
+use Rattle.unroll.specs.MadeTotals.{qubits_named}
 use Rattle.unroll.proofs.PairSteps.{from_plain, from_record_first, pairs_fit}
 use Rattle.unroll.proofs.QubitsWithin.{FitsOn, circuit_fits_on}
 use Rattle.unroll.proofs.StepTests.{steps_pass}

@@ -4,7 +4,7 @@ use Rattle.std.specs.Prelude.{⊤, ℕ, List, [], ◌∷◌}
 use Rattle.stim_parser.specs.Circuits.{Fits}
 use Rattle.stim_parser.specs.Texts.{Item, Does, Begins, Ends}
 use Rattle.stim_parser.specs.Verdicts.{Instruction}
-use Rattle.unroll.specs.Totals.{qubits_named}
+use Rattle.unroll.specs.MadeTotals.{qubits_named}
 
 abbrev pub instructions_in : List Item → List Instruction
 instructions_in [] = []

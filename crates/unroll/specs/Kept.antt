@@ -6,7 +6,6 @@
 use Rattle.std.specs.Prelude.{ℕ, List, [], ◌∷◌, map, unwrap_or}
 use Rattle.std.specs.List.{flat_map}
 use Rattle.pauli_word.specs.declared.letter.Letter.{Letter}
-use Rattle.pauli_word.specs.declared.letter.Letter.TheVariants as letter
 use Rattle.step_model.specs.declared.step.Term.{Term}
 use Rattle.programs.specs.Kept.{Kept}
 use Rattle.step_model.specs.Probabilities.{probability_bound}

@@ -1,12 +1,14 @@
--- How many steps and faults a circuit's program has, counted on its tree. (Stim's gate reference,
+-- How many steps and faults a circuit's program has, counted on its tree; and its qubits and observables, over lists. (Stim's gate reference,
 -- github.com/quantumlib/Stim, doc/gates.md.)
-use Rattle.std.specs.Prelude.{ℕ, Bool, is_some, slice_get, ◌/◌, ◌==◌, if◌then◌else◌}
+use Rattle.std.specs.Prelude.{ℕ, Bool, List, is_some, slice_get, ◌/◌, ◌==◌, if◌then◌else◌}
 use Rattle.gate_table.specs.Images.{arity_of}
 use Rattle.stim_parser.specs.declared.operation.Operation.{Operation}
 use Rattle.stim_parser.specs.declared.operation.Operation.TheVariants.{Applies, Errs, ErrsTogether}
+use Rattle.stim_parser.specs.declared.target.Target.{Target}
 use Rattle.stim_parser.specs.Trees.{Tree}
 use Rattle.stim_parser.specs.Verdicts.{Instruction}
-use Rattle.unroll.specs.Totals.{collapses_made, records_made, target_count, total}
+use Rattle.unroll.specs.Totals.{collapses_made, observables_to, qubits_to, records_made, target_count}
+use Rattle.block_text.specs.Reached.{greatest_by, total}
 
 -- how many faults an operation makes of this many targets: a measurement one of each record, where it has a probability
 abbrev pub faults_counted : Operation → Bool → ℕ → ℕ
@@ -38,3 +40,13 @@ fault_total tree = total 0 fault_count tree
 
 abbrev pub made_total : Tree → ℕ
 made_total tree = total 0 made_count tree
+
+-- one more than the greatest qubit that targets or instructions name, and 0 where they name none; observables likewise
+abbrev pub qubits_named : List Target → ℕ
+qubits_named targets = greatest_by qubits_to targets
+
+abbrev pub qubits_over : List Instruction → ℕ
+qubits_over instructions = greatest_by (λ i. qubits_named i.targets) instructions
+
+abbrev pub observables_over : List Instruction → ℕ
+observables_over instructions = greatest_by (λ i. observables_to i.operation i.arguments) instructions

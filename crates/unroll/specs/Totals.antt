@@ -3,24 +3,16 @@
 -- measurement makes a record and a collapse (a projective measurement) for each target, MPP for each product; a reset
 -- makes a collapse. The qubits are those up to the greatest that any instruction names, and so are the observables. (Which
 -- of these have a limit is this project's choice.)
-use Rattle.std.specs.Prelude.{ℕ, ◌+◌, ◌*◌, max, List, [], ◌∷◌, length, slice_index_or}
-use Rattle.block_text.specs.Reached.{written}
+use Rattle.std.specs.Prelude.{ℕ, ◌+◌, List, [], length, slice_index_or}
+use Rattle.block_text.specs.Reached.{greatest_by, total, written}
 use Rattle.stim_parser.specs.declared.operation.Operation.{Operation}
 use Rattle.stim_parser.specs.declared.operation.Operation.TheVariants.{Measures, Resets, MeasuresAndResets, MeasuresProducts, Detects, Observes}
 use Rattle.stim_parser.specs.declared.target.Target.{Target}
 use Rattle.stim_parser.specs.declared.target.Target.TheVariants.{Plain, Inverted, Pauli}
-use Rattle.stim_parser.specs.Trees.{Tree, Nothing, Then, Block}
+use Rattle.stim_parser.specs.Trees.{Tree}
 use Rattle.stim_parser.specs.Verdicts.{Instruction}
 use Rattle.stim_parser.specs.Numbers.{value_of}
 use Rattle.unroll.specs.Targets.{products_of}
-
--- ---- sums
-
--- the sum of a count over the instructions that are reached, with this many more for each turn of a block
-unfoldable pub total : ℕ → (Instruction → ℕ) → Tree → ℕ
-total turn count Nothing = 0
-total turn count (Then instruction rest) = count instruction + total turn count rest
-total turn count (Block line turns body rest) = turns * (turn + total turn count body) + total turn count rest
 
 -- ---- counts of an instruction
 
@@ -81,17 +73,9 @@ qubits_to (Inverted q) = q + 1
 qubits_to (Pauli inverted l q) = q + 1
 qubits_to target = 0
 
--- one more than the greatest qubit that targets, instructions or a whole tree name, and 0 where they name none
-abbrev pub qubits_named : List Target → ℕ
-qubits_named [] = 0
-qubits_named (target ∷ targets) = max (qubits_to target) (qubits_named targets)
-
-abbrev pub qubits_over : List Instruction → ℕ
-qubits_over [] = 0
-qubits_over (instruction ∷ instructions) = max (qubits_named instruction.targets) (qubits_over instructions)
-
+-- one more than the greatest qubit that a tree names, and 0 where it names none
 abbrev pub qubit_total : Tree → ℕ
-qubit_total tree = qubits_over (written tree)
+qubit_total tree = greatest_by (λ i. greatest_by qubits_to i.targets) (written tree)
 
 -- ---- observables
 
@@ -104,9 +88,5 @@ abbrev pub observables_to : Operation → List (List ℕ) → ℕ
 observables_to Observes arguments = value_of (first_argument arguments) + 1
 observables_to operation arguments = 0
 
-abbrev pub observables_over : List Instruction → ℕ
-observables_over [] = 0
-observables_over (i ∷ instructions) = max (observables_to i.operation i.arguments) (observables_over instructions)
-
 abbrev pub observable_total : Tree → ℕ
-observable_total tree = observables_over (written tree)
+observable_total tree = greatest_by (λ i. observables_to i.operation i.arguments) (written tree)

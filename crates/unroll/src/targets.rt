@@ -3,7 +3,8 @@ ghost use Rattle.stim_parser.specs.Limits.{is_joining};
 ghost use Rattle.unroll.specs.Targets.{products_of, qubit_of};
 ghost use Rattle.unroll.specs.Pushed.{FollowsFactor};
 ghost use Rattle.unroll.specs.Refusals.{is_far, reaches_far};
-ghost use Rattle.unroll.specs.Totals.{qubits_named, qubits_to, target_count};
+ghost use Rattle.unroll.specs.Totals.{qubits_to, target_count};
+ghost use Rattle.unroll.specs.MadeTotals.{qubits_named};
 
 use stim_parser::{Operation, Target};
 
