@@ -22,7 +22,8 @@ use Rattle.unroll.specs.Kept as kept
 use Rattle.unroll.specs.Made.{fault_steps, measure_step, one_step, operation_steps, pair_step, pair_steps, paired, product_steps, record_back, reset_step}
 use Rattle.unroll.specs.MadeTotals.{fault_count, faults_counted}
 use Rattle.unroll.specs.StepsMade.{flip_of}
-use Rattle.unroll.specs.Targets.{products_of, term_at, term_of}
+use Rattle.stim_parser.specs.Limits.{products_of}
+use Rattle.unroll.specs.Targets.{term_at, term_of}
 use Rattle.unroll.specs.Totals.{first_argument, records_made, target_count}
 use Rattle.unroll.proofs.InstructionCounts.{pair-none}
 use Rattle.unroll.proofs.PartPlaces.{StandsAt, stands_behind}
