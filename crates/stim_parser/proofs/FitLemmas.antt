@@ -1,6 +1,6 @@
 -- What a line says that isn't refused: an instruction fits, a block has a turn, and as few as its targets may say, and stands
 -- where one more may be open, and a block is open where one is closed. Each question of the list was answered with no.
-use Rattle.std.proofs.Common.{◌≡◌, ℕ, ◌<◌, ◌==◌, false, List, Option, None, Some, refl, sym, inl, inr}
+use Rattle.std.proofs.Common.{◌≡◌, ℕ, ◌<◌, ◌==◌, false, if◌then◌else◌, List, ◌∷◌, Option, None, Some, refl, sym, inl, inr}
 use Rattle.std.proofs.lemmas.Bool.{cases_Bool, true≢false}
 use Rattle.step_model.specs.declared.fault.Cause.{Cause}
 use Rattle.stim_lexer.specs.declared.line.Braces.{Braces}
@@ -8,11 +8,12 @@ use Rattle.stim_lexer.specs.declared.line.Braces.TheVariants.{NoBrace, OpeningLa
 use Rattle.stim_lexer.specs.Cut.{Cut}
 use Rattle.block_text.specs.Fitting.{IsTurns, ReadingAccords, ReadingFits}
 use Rattle.block_text.specs.Instructions.{Instruction}
+use Rattle.block_text.specs.Texts.{Closes, Refuses}
 use Rattle.block_text.proofs.QuestionLemmas.{NoneApplies, neither, none_applies, none_behind, not_deep, not_zero}
 use Rattle.stim_parser.specs.declared.table.Causes.{Causes}
 use Rattle.stim_parser.specs.declared.table.Keyword.{Keyword}
 use Rattle.stim_parser.specs.declared.table.Keyword.TheVariants.{Does, Repeats}
-use Rattle.stim_parser.specs.Judging.{Table, accepted, closed_at, judged, read_targets, reading_of, refusal_of, refusals, refusals_of_keyword, refusals_of_name, said_by, unless_refused}
+use Rattle.stim_parser.specs.Judging.{Table, accepted, judged, misplaces_brace, read_targets, reading_of, refusal_of, refusals_of_keyword, refusals_of_name, said_by, unless_refused}
 
 -- an instruction fits where no question of its line applies
 abbrev pub TakesFitting : {O T F : Type 0} → Table O T F → (Instruction O T → Type 0) → Type 0
@@ -38,13 +39,13 @@ unless_fits : {O T F : Type 0} (table : Table O T F) (Fits : Instruction O T →
 unfolding refusal_of
 unless_fits table Fits TurnsFit fits opens depth number cut (Some c) h = tt
 unless_fits table Fits TurnsFit fits opens depth number cut None h =
-    named_fits table Fits TurnsFit fits opens depth number (table.keyword_named cut.name) cut refl (none_applies (refusals table depth cut) (sym h)).1
+    named_fits table Fits TurnsFit fits opens depth number (table.keyword_named cut.name) cut refl (none_applies ((misplaces_brace (table.keyword_named cut.name) cut.braces, table.causes.block) ∷ refusals_of_name table depth (table.keyword_named cut.name) cut) (sym h)).1
 
 judged_fits : {O T F : Type 0} (table : Table O T F) (Fits : Instruction O T → Type 0) (TurnsFit : ℕ → Type 0) → TakesFitting table Fits → OpensFitting table TurnsFit → (depth number : ℕ) (cut : Cut) → ReadingAccords Fits TurnsFit depth (judged table depth number cut)
 unfolding judged
 judged_fits table Fits TurnsFit fits opens depth number cut = unless_fits table Fits TurnsFit fits opens depth number cut (refusal_of table depth cut) refl
 
-closed_fits : {I : Type 0} (Fits : I → Type 0) (TurnsFit : ℕ → Type 0) (causes : Causes) (depth : ℕ) → ReadingAccords Fits TurnsFit depth (closed_at {I = I} causes depth)
+closed_fits : {I : Type 0} (Fits : I → Type 0) (TurnsFit : ℕ → Type 0) (causes : Causes) (depth : ℕ) → ReadingAccords Fits TurnsFit depth (if depth == 0 then Refuses causes.block else Closes)
 closed_fits Fits TurnsFit causes depth =
     elim (cases_Bool (depth == 0)) [
       | inl e ↦ rw e tt

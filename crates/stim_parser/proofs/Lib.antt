@@ -29,5 +29,6 @@ pub mod FewArguments
 pub mod CoordinateArguments
 mod QubitSetLemmas
 mod ProductLemmas
+pub mod ProductWords
 mod ProductSteps
 pub mod MarkLemmas

@@ -3,8 +3,8 @@ use Rattle.std.proofs.Common.{◌≡◌, ℕ, ◌-◌, ◌<◌, ◌≤◌, Bool,
 use Rattle.std.proofs.lemmas.List.{take_rest}
 use Rattle.stim_parser.specs.declared.forms.TargetForm.TheVariants.{Products}
 use Rattle.stim_parser.specs.declared.target.Target.{Target}
-use Rattle.stim_parser.specs.Limits.{goes_on_with, has_product_of_one, has_target_beyond, is_factor_at, is_joining, is_target_beyond}
-use Rattle.stim_parser.specs.Products.{goes_on_within, is_factor_within}
+use Rattle.stim_parser.specs.Limits.{has_target_beyond, is_target_beyond}
+use Rattle.stim_parser.specs.Products.{goes_on_with, goes_on_within, has_product_of_one, is_factor_at, is_factor_within, is_joining}
 use Rattle.stim_parser.proofs.ProductLemmas.{named-step, product-begins, product-goes_on, taken_out, unnamed-step}
 
 -- ---- a list cut behind its first targets

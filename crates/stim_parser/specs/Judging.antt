@@ -49,83 +49,48 @@ first_of asked = option_map (λ question. question.1) (find (λ question. questi
 
 -- ---- braces
 
-abbrev pub is_opening_last : Braces → Bool
-is_opening_last OpeningLast = true
-is_opening_last braces = false
-
-abbrev pub is_no_brace : Braces → Bool
-is_no_brace NoBrace = true
-is_no_brace braces = false
-
 -- a line that opens a block has one brace, at its end; another line has none
 abbrev pub misplaces_brace : {O : Type 0} → Option (Keyword O) → Braces → Bool
-misplaces_brace (Some Repeats) braces = not (is_opening_last braces)
-misplaces_brace keyword braces = not (is_no_brace braces)
+misplaces_brace (Some Repeats) OpeningLast = false
+misplaces_brace (Some Repeats) braces = true
+misplaces_brace keyword NoBrace = false
+misplaces_brace keyword braces = true
 
--- ---- arguments, targets and blocks
-
--- the questions of the arguments' number and form
-abbrev pub refusals_of_arguments : Causes → ArgumentForm → Cut → List (Bool × Cause)
-refusals_of_arguments causes form cut =
-    (cut.stays_open || has_wrong_arguments form (arguments_in cut.arguments), causes.arguments)
-    ∷ (has_wrong_probability form (arguments_in cut.arguments), causes.probability)
-    ∷ []
+-- ---- the questions in their order
 
 -- the targets of a line, of this form
 abbrev pub read_targets : {O T F : Type 0} → Table O T F → F → List ℕ → List T
 read_targets table form text = unwrap_or (table.line_targets form text) []
 
-abbrev pub has_wrong_target : {O T F : Type 0} → Table O T F → F → List ℕ → Bool
-has_wrong_target table form text =
-    is_none (table.line_targets form text) || not (table.are_of_form form (read_targets table form text))
-
-abbrev pub has_number_beyond : {O T F : Type 0} → Table O T F → Keyword O → Cut → Bool
-has_number_beyond table keyword cut =
-    let form = table.target_form keyword in
-    has_argument_beyond table.greatest_coordinate (table.argument_form keyword) (arguments_in cut.arguments)
-    || table.has_target_beyond form (read_targets table form cut.targets)
-
 abbrev pub opens_block : {O : Type 0} → Keyword O → Bool
 opens_block Repeats = true
 opens_block keyword = false
 
--- the questions of a block, by how often it is repeated
-abbrev pub refusals_of_block : {O : Type 0} → Causes → ℕ → Keyword O → ℕ → List (Bool × Cause)
-refusals_of_block causes depth keyword turns =
-    (opens_block keyword && turns == 0, causes.repeat_zero)
-    ∷ (opens_block keyword && nat_le deepest depth, causes.depth)
-    ∷ []
-
--- ---- the questions in their order
-
--- the questions of numbers and of how many targets there are, which are asked where each target is of its form
-abbrev pub refusals_of_amounts : {O T F : Type 0} → Table O T F → ℕ → Keyword O → Cut → List (Bool × Cause)
-refusals_of_amounts table depth keyword cut =
-    let form = table.target_form keyword in
-    let targets = read_targets table form cut.targets in
-    (has_number_beyond table keyword cut, table.causes.number)
-    ∷ (table.refusals_of_targets form cut.targets targets
-    ++ refusals_of_block table.causes depth keyword (table.turns_of targets))
-
--- the questions of a line with this keyword, of one with a keyword or none, and of any line
+-- the questions of a line with this keyword; of one with a keyword or none
 abbrev pub refusals_of_keyword : {O T F : Type 0} → Table O T F → ℕ → Keyword O → Cut → List (Bool × Cause)
 refusals_of_keyword table depth keyword cut =
-    refusals_of_arguments table.causes (table.argument_form keyword) cut
-    ++ (has_wrong_target table (table.target_form keyword) cut.targets, table.causes.target)
-    ∷ refusals_of_amounts table depth keyword cut
+    let asked = table.argument_form keyword in
+    let arguments = arguments_in cut.arguments in
+    let form = table.target_form keyword in
+    let targets = read_targets table form cut.targets in
+    (cut.stays_open || has_wrong_arguments asked arguments, table.causes.arguments)
+    ∷ (has_wrong_probability asked arguments, table.causes.probability)
+    ∷ (is_none (table.line_targets form cut.targets) || not (table.are_of_form form targets), table.causes.target)
+    ∷ (has_argument_beyond table.greatest_coordinate asked arguments || table.has_target_beyond form targets, table.causes.number)
+    ∷ (table.refusals_of_targets form cut.targets targets
+    ++ (opens_block keyword && table.turns_of targets == 0, table.causes.repeat_zero)
+    ∷ (opens_block keyword && nat_le deepest depth, table.causes.depth)
+    ∷ [])
 
 abbrev pub refusals_of_name : {O T F : Type 0} → Table O T F → ℕ → Option (Keyword O) → Cut → List (Bool × Cause)
 refusals_of_name table depth None cut = (true, table.refusal_of_name cut.name) ∷ []
 refusals_of_name table depth (Some keyword) cut = refusals_of_keyword table depth keyword cut
 
-abbrev pub refusals : {O T F : Type 0} → Table O T F → ℕ → Cut → List (Bool × Cause)
-refusals table depth cut =
-    (misplaces_brace (table.keyword_named cut.name) cut.braces, table.causes.block)
-    ∷ refusals_of_name table depth (table.keyword_named cut.name) cut
-
 -- the refusal of a line where `depth` blocks are open
 unfoldable pub refusal_of : {O T F : Type 0} → Table O T F → ℕ → Cut → Option Cause
-refusal_of table depth cut = first_of (refusals table depth cut)
+refusal_of table depth cut =
+    let named = table.keyword_named cut.name in
+    first_of ((misplaces_brace named cut.braces, table.causes.block) ∷ refusals_of_name table depth named cut)
 
 -- ---- what a line says
 
@@ -146,9 +111,6 @@ abbrev pub unless_refused : {I : Type 0} → Option Cause → Reading I → Read
 unless_refused None reading = reading
 unless_refused (Some c) reading = Refuses c
 
-abbrev pub closed_at : {I : Type 0} → Causes → ℕ → Reading I
-closed_at causes depth = if depth == 0 then Refuses causes.block else Closes
-
 -- what a line that doesn't close a block says
 unfoldable pub judged : {O T F : Type 0} → Table O T F → ℕ → ℕ → Cut → Reading (Instruction O T)
 judged table depth number cut =
@@ -156,7 +118,7 @@ judged table depth number cut =
 
 -- what the cut line of this number says where `depth` blocks are open
 abbrev pub said_by : {O T F : Type 0} → Table O T F → Braces → ℕ → ℕ → Cut → Reading (Instruction O T)
-said_by table ClosingAlone depth number cut = closed_at table.causes depth
+said_by table ClosingAlone depth number cut = if depth == 0 then Refuses table.causes.block else Closes
 said_by table braces depth number cut = judged table depth number cut
 
 -- what a cut line says

@@ -9,6 +9,7 @@ pub mod Instructions
 pub mod Limits
 pub mod Parentheses
 pub mod Judging
+pub mod Questions
 pub mod Probabilities
 pub mod Verdicts
 pub mod Texts

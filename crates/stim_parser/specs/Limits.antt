@@ -3,7 +3,7 @@
 -- circuit format, github.com/quantumlib/Stim, doc/file_format_stim_circuit.md, "Instruction Types", and doc/gates.md;
 -- the limits are this project's.)
 use Rattle.std.specs.Prelude.{ℕ, ◌==◌, ◌%◌, nat_lt, Bool, true, false, not, ◌&&◌, ◌||◌, List, [], ◌∷◌, length, is_some}
-use Rattle.std.specs.List.{list_any, list_all}
+use Rattle.std.specs.List.{list_any, list_all, onto_first}
 use Rattle.step_model.specs.Probabilities.{decimal_of, probability_bound}
 use Rattle.stim_lexer.specs.Bytes.{is_empty}
 use Rattle.stim_parser.specs.declared.forms.ArgumentForm.{ArgumentForm}
@@ -72,64 +72,39 @@ is_back (Back k) = true
 is_back target = false
 
 abbrev pub is_plain_or_back : Target → Bool
-is_plain_or_back (Plain n) = true
-is_plain_or_back (Back k) = true
-is_plain_or_back target = false
+is_plain_or_back target = is_plain target || is_back target
 
 -- a letter at a qubit, without a `!`
 abbrev pub is_pauli : Target → Bool
 is_pauli (Pauli inverted l q) = not inverted
 is_pauli target = false
 
--- pairs from the left, of which the first of each may be a record; a last target without a second is judged as the
--- first of a pair
-abbrev pub are_pairs_record_first : List Target → Bool
-are_pairs_record_first [] = true
-are_pairs_record_first (a ∷ []) = is_plain_or_back a
-are_pairs_record_first (a ∷ b ∷ rest) = is_plain_or_back a && is_plain b && are_pairs_record_first rest
+-- whether some pair from the left passes a test; a last target without a second is in none
+abbrev pub some_pair : (Target → Target → Bool) → List Target → Bool
+some_pair test (a ∷ b ∷ rest) = test a b || some_pair test rest
+some_pair test targets = false
 
--- two targets of which one may be a record
-abbrev pub is_pair_of_one_record : Target → Target → Bool
-is_pair_of_one_record a b = is_plain_or_back a && is_plain_or_back b && not (is_back a && is_back b)
+-- the products of targets: the factors that stars join
+abbrev pub products_of : List Target → List (List Target)
+products_of [] = []
+products_of (factor ∷ Star ∷ targets) = onto_first factor (products_of targets)
+products_of (factor ∷ targets) = (factor ∷ []) ∷ products_of targets
 
--- pairs from the left, of which either one may be a record, and not both
-abbrev pub are_pairs_one_record : List Target → Bool
-are_pairs_one_record [] = true
-are_pairs_one_record (a ∷ []) = is_plain_or_back a
-are_pairs_one_record (a ∷ b ∷ rest) = is_pair_of_one_record a b && are_pairs_one_record rest
-
--- a factor of a product, with a `!` or without
-abbrev pub is_factor : Target → Bool
-is_factor (Pauli inverted l q) = true
-is_factor target = false
-
-abbrev pub is_joining : Target → Bool
-is_joining Star = true
-is_joining target = false
-
-abbrev pub begins_with_factor : List Target → Bool
-begins_with_factor [] = false
-begins_with_factor (target ∷ rest) = is_factor target
-
--- factors and stars, each star before a factor
-abbrev pub are_factors : List Target → Bool
-are_factors [] = true
-are_factors (target ∷ rest) =
-    (is_factor target || (is_joining target && begins_with_factor rest)) && are_factors rest
-
--- factors and the stars that join them: none stands first
+-- factors, with a `!` or without, and the stars that join them: none stands first, and a factor follows each
 abbrev pub are_products : List Target → Bool
 are_products [] = true
-are_products (target ∷ rest) = is_factor target && are_factors rest
+are_products (Pauli inverted l q ∷ Star ∷ target ∷ rest) = are_products (target ∷ rest)
+are_products (Pauli inverted l q ∷ rest) = are_products rest
+are_products targets = false
 
--- targets of the form that an instruction takes
+-- targets of the form that an instruction takes: of a pair the second, or both, may be no records
 unfoldable pub are_of_form : TargetForm → List Target → Bool
 are_of_form NoTargets targets = true
 are_of_form Qubits targets = list_all is_plain targets
 are_of_form QubitsInvertedAtWill targets = list_all is_plain_or_inverted targets
 are_of_form QubitPairs targets = list_all is_plain targets
-are_of_form PairsRecordFirst targets = are_pairs_record_first targets
-are_of_form PairsOneRecord targets = are_pairs_one_record targets
+are_of_form PairsRecordFirst targets = list_all is_plain_or_back targets && not (some_pair (λ a b. is_back b) targets)
+are_of_form PairsOneRecord targets = list_all is_plain_or_back targets && not (some_pair (λ a b. is_back a && is_back b) targets)
 are_of_form Paulis targets = list_all is_pauli targets
 are_of_form Products targets = are_products targets
 are_of_form Records targets = list_all is_back targets
@@ -150,16 +125,16 @@ has_target_beyond form targets = list_any (is_target_beyond form) targets
 
 -- ---- how many targets
 
-abbrev pub is_odd : ℕ → Bool
-is_odd n = n % 2 == 1
+abbrev pub takes_pairs : TargetForm → Bool
+takes_pairs QubitPairs = true
+takes_pairs PairsRecordFirst = true
+takes_pairs PairsOneRecord = true
+takes_pairs form = false
 
 -- a number of targets that an instruction doesn't take; those that take none are judged elsewhere
 unfoldable pub has_wrong_count : TargetForm → List Target → Bool
-has_wrong_count QubitPairs targets = is_odd (length targets)
-has_wrong_count PairsRecordFirst targets = is_odd (length targets)
-has_wrong_count PairsOneRecord targets = is_odd (length targets)
 has_wrong_count Turns targets = not (length targets == 1)
-has_wrong_count form targets = false
+has_wrong_count form targets = takes_pairs form && length targets % 2 == 1
 
 -- ---- qubits named twice
 
@@ -167,34 +142,15 @@ abbrev pub is_same_qubit : Target → Target → Bool
 is_same_qubit (Plain p) (Plain q) = p == q
 is_same_qubit a b = false
 
--- a pair from the left that names one qubit twice
-abbrev pub has_pair_of_one : List Target → Bool
-has_pair_of_one [] = false
-has_pair_of_one (a ∷ []) = false
-has_pair_of_one (a ∷ b ∷ rest) = is_same_qubit a b || has_pair_of_one rest
-
-abbrev pub is_factor_at : ℕ → Target → Bool
-is_factor_at q (Pauli inverted l p) = q == p
-is_factor_at q target = false
-
--- what follows a factor in its product, a star and a factor each time, names this qubit
-abbrev pub goes_on_with : ℕ → List Target → Bool
-goes_on_with q [] = false
-goes_on_with q (a ∷ []) = false
-goes_on_with q (a ∷ b ∷ rest) = is_joining a && (is_factor_at q b || goes_on_with q rest)
-
-abbrev pub names_again : Target → List Target → Bool
-names_again (Pauli inverted l q) rest = goes_on_with q rest
-names_again target rest = false
+abbrev pub is_same_factor : Target → Target → Bool
+is_same_factor (Pauli inverted l p) (Pauli other_inverted k q) = p == q
+is_same_factor a b = false
 
 -- a product that names one qubit twice
-abbrev pub has_product_of_one : List Target → Bool
-has_product_of_one [] = false
-has_product_of_one (target ∷ rest) = names_again target rest || has_product_of_one rest
+abbrev pub names_twice : List Target → Bool
+names_twice [] = false
+names_twice (factor ∷ factors) = list_any (is_same_factor factor) factors || names_twice factors
 
 unfoldable pub has_same_qubit : TargetForm → List Target → Bool
-has_same_qubit QubitPairs targets = has_pair_of_one targets
-has_same_qubit PairsRecordFirst targets = has_pair_of_one targets
-has_same_qubit PairsOneRecord targets = has_pair_of_one targets
-has_same_qubit Products targets = has_product_of_one targets
-has_same_qubit form targets = false
+has_same_qubit Products targets = list_any names_twice (products_of targets)
+has_same_qubit form targets = takes_pairs form && some_pair is_same_qubit targets

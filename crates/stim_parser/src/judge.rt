@@ -1,12 +1,14 @@
-ghost use Rattle.std.specs.Prelude.{◌≡◌, ℕ, List, None, Some, not, true, false, IfOk, MatchResult};
+ghost use Rattle.std.specs.Prelude.{◌≡◌, ◌==◌, if◌then◌else◌, ℕ, List, None, Some, not, true, false, IfOk, MatchResult};
 ghost use Rattle.stim_lexer.specs.Lexing.{cut_in};
 ghost use Rattle.block_text.specs.Said.{reading_in};
+ghost use Rattle.block_text.specs.Texts.{Closes, Refuses};
 ghost use Rattle.stim_parser.specs.declared.forms.ArgumentForm.TheVariants.{NoArguments};
 ghost use Rattle.stim_parser.specs.Arguments.{arguments_in};
 ghost use Rattle.stim_parser.specs.Limits.{has_argument_beyond, takes_probability};
 ghost use Rattle.stim_parser.specs.Parentheses.{Parentheses};
 ghost use Rattle.stim_parser.specs.Probabilities.{Remembers, TakesNothing};
-ghost use Rattle.stim_parser.specs.Judging.{accepted, closed_at, first_of, has_wrong_target, judged, misplaces_brace, opens_block, reading_of, read_targets, refusal_of, refusals_of_amounts, refusals_of_arguments, refusals_of_block, refusals_of_keyword};
+ghost use Rattle.stim_parser.specs.Judging.{accepted, first_of, judged, misplaces_brace, opens_block, reading_of, read_targets, refusal_of, refusals_of_keyword};
+ghost use Rattle.stim_parser.specs.Questions.{has_wrong_target, refusals_of_amounts, refusals_of_arguments, refusals_of_block};
 
 use crate::argument_checks::{
     chance_of, has_argument_beyond, has_wrong_arguments, has_wrong_probability, takes_probability,
@@ -224,7 +226,7 @@ fn accepted<'a, O: Copy, T: Copy, F: Copy, J: Judge<O, T, F>>(
 
 /// What a line says that closes a block, where so many are open.
 fn closed_at<'a, O: Copy, T: Copy>(causes: Causes, depth: usize) -> Said<'a, O>
-    ensures reading { (number : ℕ) (targets : List T) → reading_in number result targets ≡ closed_at causes depth }
+    ensures reading { (number : ℕ) (targets : List T) → reading_in number result targets ≡ (if depth == 0 then Refuses causes.block else Closes) }
     ensures nothing { TakesNothing result }
 {
     if depth == 0 {

@@ -1,5 +1,5 @@
-ghost use Rattle.std.specs.Prelude.{◌≡◌};
-ghost use Rattle.stim_parser.specs.Limits.{are_pairs_one_record, are_pairs_record_first, has_pair_of_one, is_back, is_pair_of_one_record, is_plain, is_plain_or_back, is_same_qubit};
+ghost use Rattle.std.specs.Prelude.{◌≡◌, ◌&&◌};
+ghost use Rattle.stim_parser.specs.Limits.{is_back, is_plain, is_plain_or_back, is_same_qubit, some_pair};
 
 use crate::target::Target;
 
@@ -18,53 +18,38 @@ pub(crate) fn is_back(target: Target) -> bool
 }
 
 /// Whether a target is a number alone or a record.
-fn is_plain_or_back(target: Target) -> bool
+pub(crate) fn is_plain_or_back(target: Target) -> bool
     ensures { result ≡ is_plain_or_back target }
 {
     matches!(target, Target::Plain(_) | Target::Back(_))
 }
 
-/// Whether targets are pairs from the left, of which the first of each may be a record. A last target without a second
-/// is judged as the first of a pair.
-pub(crate) fn are_pairs_record_first(targets: &[Target]) -> bool
-    ensures { result ≡ are_pairs_record_first targets.now }
+/// Whether the second of a pair from the left is a record.
+pub(crate) fn has_record_second(targets: &[Target]) -> bool
+    ensures { result ≡ some_pair (λ a b. is_back b) targets.now }
 {
     let mut rest = targets;
-    while let [first, second, after @ ..] = rest {
-        if !is_plain_or_back(*first) || !is_plain(*second) {
-            return false;
+    while let [_, second, after @ ..] = rest {
+        if is_back(*second) {
+            return true;
         }
         rest = after;
     }
-    match rest {
-        [first, ..] => is_plain_or_back(*first),
-        [] => true,
-    }
+    false
 }
 
-/// Whether two targets are qubits or a qubit and a record.
-fn is_pair_of_one_record(first: Target, second: Target) -> bool
-    ensures { result ≡ is_pair_of_one_record first second }
-{
-    is_plain_or_back(first) && is_plain_or_back(second) && !(is_back(first) && is_back(second))
-}
-
-/// Whether targets are pairs from the left, of which either one may be a record, and not both. A last target without a
-/// second is judged as the first of a pair.
-pub(crate) fn are_pairs_one_record(targets: &[Target]) -> bool
-    ensures { result ≡ are_pairs_one_record targets.now }
+/// Whether both of a pair from the left are records.
+pub(crate) fn has_pair_of_records(targets: &[Target]) -> bool
+    ensures { result ≡ some_pair (λ a b. is_back a && is_back b) targets.now }
 {
     let mut rest = targets;
     while let [first, second, after @ ..] = rest {
-        if !is_pair_of_one_record(*first, *second) {
-            return false;
+        if is_back(*first) && is_back(*second) {
+            return true;
         }
         rest = after;
     }
-    match rest {
-        [first, ..] => is_plain_or_back(*first),
-        [] => true,
-    }
+    false
 }
 
 /// Whether a target is this qubit.
@@ -89,7 +74,7 @@ fn is_same_qubit(first: Target, second: Target) -> bool
 
 /// Whether a pair from the left names one qubit twice.
 pub(crate) fn has_pair_of_one(targets: &[Target]) -> bool
-    ensures { result ≡ has_pair_of_one targets.now }
+    ensures { result ≡ some_pair is_same_qubit targets.now }
 {
     let mut rest = targets;
     while let [first, second, after @ ..] = rest {

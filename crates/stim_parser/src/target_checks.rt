@@ -1,11 +1,11 @@
 ghost use Rattle.std.specs.Prelude.{◌≡◌, false, length};
 ghost use Rattle.std.specs.List.{list_all, list_any};
-ghost use Rattle.stim_parser.specs.Limits.{are_of_form, has_same_qubit, has_target_beyond, has_wrong_count, is_back, is_odd, is_pauli, is_plain, is_plain_or_inverted, is_target_beyond};
+ghost use Rattle.stim_parser.specs.Limits.{are_of_form, has_same_qubit, has_target_beyond, has_wrong_count, is_back, is_pauli, is_plain, is_plain_or_back, is_plain_or_inverted, takes_pairs, is_target_beyond};
 
 use crate::forms::TargetForm;
 use crate::numbers::{is_number_beyond, is_qubit_beyond};
 use crate::pairs::{
-    are_pairs_one_record, are_pairs_record_first, has_pair_of_one, is_back, is_plain,
+    has_pair_of_one, has_pair_of_records, has_record_second, is_back, is_plain, is_plain_or_back,
 };
 use crate::products::{are_products, has_product_of_one};
 use crate::target::Target;
@@ -36,6 +36,12 @@ fn are_plain_or_inverted(targets: &[Target]) -> bool
     targets.iter().all(|target| is_plain_or_inverted(*target))
 }
 
+fn are_plain_or_back(targets: &[Target]) -> bool
+    ensures { result ≡ list_all is_plain_or_back targets.now }
+{
+    targets.iter().all(|target| is_plain_or_back(*target))
+}
+
 fn are_paulis(targets: &[Target]) -> bool
     ensures { result ≡ list_all is_pauli targets.now }
 {
@@ -57,8 +63,12 @@ pub(crate) fn are_of_form(form: TargetForm, targets: &[Target]) -> bool
         TargetForm::NoTargets => true,
         TargetForm::Qubits | TargetForm::QubitPairs | TargetForm::Turns => are_plain(targets),
         TargetForm::QubitsInvertedAtWill => are_plain_or_inverted(targets),
-        TargetForm::PairsRecordFirst => are_pairs_record_first(targets),
-        TargetForm::PairsOneRecord => are_pairs_one_record(targets),
+        TargetForm::PairsRecordFirst => {
+            are_plain_or_back(targets) && !has_record_second(targets)
+        }
+        TargetForm::PairsOneRecord => {
+            are_plain_or_back(targets) && !has_pair_of_records(targets)
+        }
         TargetForm::Paulis => are_paulis(targets),
         TargetForm::Products => are_products(targets),
         TargetForm::Records => are_back(targets),
@@ -96,17 +106,24 @@ pub(crate) fn has_target_beyond(form: TargetForm, targets: &[Target]) -> bool
     targets.iter().any(|target| is_target_beyond(form, *target))
 }
 
+/// Whether targets stand in pairs.
+fn takes_pairs(form: TargetForm) -> bool
+    ensures { result ≡ takes_pairs form }
+{
+    matches!(
+        form,
+        TargetForm::QubitPairs | TargetForm::PairsRecordFirst | TargetForm::PairsOneRecord
+    )
+}
+
 /// Whether this is a number of targets that the form doesn't take. A form without targets is judged elsewhere.
 #[tactic(auto, unfolding(crate::specs::Limits::has_wrong_count))]
 pub(crate) fn has_wrong_count(form: TargetForm, targets: &[Target]) -> bool
     ensures { result ≡ has_wrong_count form targets.now }
 {
     match form {
-        TargetForm::QubitPairs | TargetForm::PairsRecordFirst | TargetForm::PairsOneRecord => {
-            targets.len() % 2 == 1
-        }
         TargetForm::Turns => targets.len() != 1,
-        _ => false,
+        _ => takes_pairs(form) && targets.len() % 2 == 1,
     }
 }
 
@@ -117,10 +134,7 @@ pub(crate) fn has_same_qubit(form: TargetForm, targets: &[Target]) -> bool
     ensures { result ≡ has_same_qubit form targets.now }
 {
     match form {
-        TargetForm::QubitPairs | TargetForm::PairsRecordFirst | TargetForm::PairsOneRecord => {
-            has_pair_of_one(targets)
-        }
         TargetForm::Products => has_product_of_one(targets),
-        _ => false,
+        _ => takes_pairs(form) && has_pair_of_one(targets),
     }
 }

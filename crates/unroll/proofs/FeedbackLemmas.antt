@@ -22,7 +22,7 @@ use Rattle.stim_parser.specs.Verdicts.{Instruction}
 use Rattle.unroll.specs.Kept.{entries_of, kept_entries, kept_products, products_in}
 use Rattle.unroll.specs.Made.{fault_steps, measure_step, one_step, operation_steps, pair_step, pair_steps, product_steps, reset_step}
 use Rattle.unroll.specs.StepsMade.{flip_of}
-use Rattle.unroll.specs.Targets.{products_of}
+use Rattle.stim_parser.specs.Limits.{products_of}
 use Rattle.unroll.specs.Refusals.{first_far_line, is_far, reaches_far}
 use Rattle.unroll.specs.Steps.{instruction_steps, steps_from, steps_of}
 use Rattle.unroll.specs.Totals.{record_count}

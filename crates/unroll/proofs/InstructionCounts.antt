@@ -12,7 +12,7 @@ use Rattle.stim_parser.specs.declared.target.Target.{Target}
 use Rattle.stim_parser.specs.Verdicts.{Instruction}
 use Rattle.unroll.specs.Made.{measure_step, operation_steps, pair_step, paired, record_back, reset_step}
 use Rattle.unroll.specs.StepsMade.{flip_of}
-use Rattle.unroll.specs.Targets.{products_of}
+use Rattle.stim_parser.specs.Limits.{products_of}
 use Rattle.unroll.specs.Steps.{instruction_steps}
 use Rattle.unroll.specs.Totals.{collapse_count, collapses_made, record_count, records_made, step_count, target_count}
 use Rattle.unroll.specs.MadeTotals.{fault_count, faults_counted, has_argument, made_count, steps_made}

@@ -23,7 +23,8 @@ use Rattle.unroll.specs.Kept as kept
 use Rattle.unroll.specs.Made.{fault_steps, measure_step, one_step, operation_steps, pair_step, pair_steps, paired, product_steps, record_back, recording, reset_step}
 use Rattle.unroll.specs.MadeTotals.{fault_count, faults_counted}
 use Rattle.unroll.specs.StepsMade.{flip_of}
-use Rattle.unroll.specs.Targets.{is_product_inverted, products_of, term_at, term_of}
+use Rattle.stim_parser.specs.Limits.{products_of}
+use Rattle.unroll.specs.Targets.{is_product_inverted, term_at, term_of}
 use Rattle.unroll.specs.Totals.{first_argument, records_made, target_count}
 use Rattle.unroll.proofs.PartPlaces.{StandsAt, stands_behind}
 

@@ -8,7 +8,8 @@ use Rattle.stim_parser.specs.declared.target.Target.{Target}
 use Rattle.stim_parser.specs.declared.target.Target.TheVariants.{Star}
 use Rattle.step_model.specs.declared.step.Term.{Term}
 use Rattle.unroll.specs.Made.{product_steps, recording}
-use Rattle.unroll.specs.Targets.{is_inverted, is_product_inverted, products_of, term_of}
+use Rattle.stim_parser.specs.Limits.{products_of}
+use Rattle.unroll.specs.Targets.{is_inverted, is_product_inverted, term_of}
 use Rattle.unroll.specs.Pushed.{FollowsFactor, carried_steps}
 
 -- ---- where there is a factor there is a product

@@ -2,7 +2,7 @@
 -- stands, where none names a qubit twice.
 use Rattle.std.proofs.Common.{◌≡◌, ◌≢◌, ℕ, ◌<◌, ◌≤◌, ◌==◌, ◌&&◌, ◌||◌, Bool, true, false, not, List, [], ◌∷◌, length, get_or, map, refl, sym, ap, ◌∙◌, arith}
 use Rattle.std.specs.Prelude.{All}
-use Rattle.std.specs.List.{list_all, onto_first}
+use Rattle.std.specs.List.{list_all, list_any, onto_first}
 use Rattle.std.proofs.lemmas.Bool.{and_from, and_parts, eqb-false, not-true, or_left, or_parts, not_from_false}
 use Rattle.std.proofs.lemmas.List.Elements.{All-cons, All-head, All-nil, All-tail}
 use Rattle.programs.specs.ByHand.{BeginsApart}
@@ -11,8 +11,10 @@ use Rattle.step_model.specs.Listing.{is_I}
 use Rattle.stim_parser.specs.declared.target.Target.{Target}
 use Rattle.stim_parser.specs.declared.target.Target.TheVariants.{Pauli, Star}
 use Rattle.stim_parser.specs.Circuits.{target_is_written}
-use Rattle.stim_parser.specs.Limits.{are_factors, are_products, begins_with_factor, goes_on_with, has_product_of_one, is_factor, is_factor_at, is_joining, names_again}
-use Rattle.unroll.specs.Targets.{products_of, qubit_of, pauli_letter, term_of}
+use Rattle.stim_parser.specs.Products.{are_factors, begins_with_factor, goes_on_with, has_product_of_one, is_factor, is_factor_at, is_joining, names_again}
+use Rattle.stim_parser.specs.Limits.{are_products, names_twice, products_of}
+use Rattle.stim_parser.proofs.ProductWords.{first-onto, first_product, products-first, twice}
+use Rattle.unroll.specs.Targets.{qubit_of, pauli_letter, term_of}
 use Rattle.unroll.specs.Totals.{qubits_to}
 use Rattle.unroll.specs.MadeTotals.{qubits_named}
 use Rattle.unroll.proofs.ProductLemmas.{some_products}
@@ -64,27 +66,20 @@ joined n t product h k others =
 
 -- ---- the first of products
 
-abbrev first_of_products : List (List Target) → List Target
-first_of_products products = get_or products 0 []
-
-onto_products : (n : ℕ) (t : Target) (products : List (List Target)) → IsFirst n t → 0 < length products → All (IsProduct n) products → list_all (is_away (qubit_of t)) (first_of_products products) ≡ true → All (IsProduct n) (onto_first t products)
+onto_products : (n : ℕ) (t : Target) (products : List (List Target)) → IsFirst n t → 0 < length products → All (IsProduct n) products → list_all (is_away (qubit_of t)) (first_product products) ≡ true → All (IsProduct n) (onto_first t products)
 onto_products n t [] h some all others = absurd (omega (arith, some))
 onto_products n t (product ∷ products) h some all others =
     All-cons (IsProduct n) (t ∷ product) products (joined n t product h (All-head (IsProduct n) product products all) others)
     (All-tail (IsProduct n) product products all)
 
-first-onto : (t : Target) (products : List (List Target)) → first_of_products (onto_first t products) ≡ t ∷ first_of_products products
-first-onto t [] = refl
-first-onto t (product ∷ products) = refl
-
 -- a product that doesn't go on with a qubit has no factor at it
-goes_on_away : (q : ℕ) (u : Target) (us : List Target) → goes_on_with q (Star ∷ u ∷ us) ≡ false → list_all (is_away q) (first_of_products (products_of (u ∷ us))) ≡ true
+goes_on_away : (q : ℕ) (u : Target) (us : List Target) → goes_on_with q (Star ∷ u ∷ us) ≡ false → list_all (is_away q) (first_product (products_of (u ∷ us))) ≡ true
 goes_on_away q u [] h = rw ((or_parts (is_factor_at q u) false h).0) refl
 goes_on_away q u (Star ∷ []) h = rw ((or_parts (is_factor_at q u) false h).0) refl
 goes_on_away q u (Star ∷ v ∷ vs) h =
     let parts = or_parts (is_factor_at q u) (goes_on_with q (Star ∷ v ∷ vs)) h in
     ap (list_all (is_away q)) (first-onto u (products_of (v ∷ vs)))
-    ∙ and_from (is_away q u) (list_all (is_away q) (first_of_products (products_of (v ∷ vs)))) (not_from_false (is_factor_at q u) parts.0) (goes_on_away q v vs parts.1)
+    ∙ and_from (is_away q u) (list_all (is_away q) (first_product (products_of (v ∷ vs)))) (not_from_false (is_factor_at q u) parts.0) (goes_on_away q v vs parts.1)
 goes_on_away q u (w ∷ vs) h = rw ((or_parts (is_factor_at q u) (goes_on_with q (w ∷ vs)) h).0) refl
 
 -- ---- products
@@ -150,16 +145,16 @@ each_apart n t (Pauli inverted l q ∷ us) h =
     (each_apart n (Pauli inverted l q) us (next_product n t (Pauli inverted l q) us h refl))
 each_apart n t (u ∷ us) h = absurd (no_factors t (u ∷ us) n h refl)
 
-pub all_apart : (n : ℕ) (ts : List Target) → are_products ts ≡ true → has_product_of_one ts ≡ false → list_all target_is_written ts ≡ true → qubits_named ts ≤ n → All (IsProduct n) (products_of ts)
+pub all_apart : (n : ℕ) (ts : List Target) → are_products ts ≡ true → list_any names_twice (products_of ts) ≡ false → list_all target_is_written ts ≡ true → qubits_named ts ≤ n → All (IsProduct n) (products_of ts)
 all_apart n [] form different written le = All-nil (IsProduct n)
 all_apart n (t ∷ ts) form different written le =
-    let parts = and_parts (is_factor t) (are_factors ts) form in
+    let parts = and_parts (is_factor t) (are_factors ts) (sym (products-first t ts) ∙ form) in
     each_apart n t ts (record {
       begins = parts.0;
       factors =
           and_from (is_factor t || (is_joining t && begins_with_factor ts)) (are_factors ts)
           (or_left (is_factor t) (is_joining t && begins_with_factor ts) parts.0) parts.1;
-      different = different;
+      different = sym (twice (t ∷ ts)) ∙ different;
       written = written;
       within = le;
     })

@@ -8,11 +8,11 @@ use Rattle.stim_parser.specs.declared.operation.Operation.{Operation}
 use Rattle.stim_parser.specs.declared.operation.Operation.TheVariants.{MeasuresProducts}
 use Rattle.stim_parser.specs.declared.target.Target.{Target}
 use Rattle.stim_parser.specs.Circuits.{IsCircuit}
-use Rattle.stim_parser.specs.Limits.{are_of_form, has_same_qubit}
+use Rattle.stim_parser.specs.Limits.{are_of_form, has_same_qubit, products_of}
 use Rattle.stim_parser.specs.Trees.{Tree}
 use Rattle.stim_parser.specs.Verdicts.{Instruction}
 use Rattle.unroll.specs.Kept.{kept_products, operation_products, products_in}
-use Rattle.unroll.specs.Targets.{products_of, term_of}
+use Rattle.unroll.specs.Targets.{term_of}
 use Rattle.unroll.specs.Totals.{qubit_total}
 use Rattle.unroll.proofs.EntriesFit.{factors_fit}
 use Rattle.unroll.proofs.KeptParts.{all_parts}

@@ -10,7 +10,8 @@ use Rattle.stim_parser.specs.Trees.{Tree, Nothing, Then, Block}
 use Rattle.stim_parser.specs.Judged.{items_of}
 use Rattle.stim_parser.specs.Verdicts.{Instruction}
 use Rattle.unroll.specs.Kept.{entries_of, entry_at, flip_entries, operation_entries, operation_products, products_in}
-use Rattle.unroll.specs.Targets.{products_of, term_of}
+use Rattle.stim_parser.specs.Limits.{products_of}
+use Rattle.unroll.specs.Targets.{term_of}
 use Rattle.unroll.specs.Totals.{step_count, step_total, target_count, first_argument}
 use Rattle.block_text.specs.Reached.{total}
 

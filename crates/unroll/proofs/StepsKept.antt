@@ -22,7 +22,8 @@ use Rattle.unroll.specs.Kept.{entries_of, entry_at, entry_of, flip_entries, kept
 use Rattle.unroll.specs.Totals.{first_argument}
 use Rattle.unroll.specs.Made.{fault_steps, gate_steps, measure_step, one_step, operation_steps, pair_step, pair_steps, paired, product_steps, record_back, reset_step}
 use Rattle.unroll.specs.StepsMade.{flip_of}
-use Rattle.unroll.specs.Targets.{products_of, term_of}
+use Rattle.stim_parser.specs.Limits.{products_of}
+use Rattle.unroll.specs.Targets.{term_of}
 use Rattle.unroll.specs.Steps.{instruction_steps, steps_from, steps_of}
 use Rattle.unroll.proofs.PartPlaces.{StandsAt, stands_before, stands_behind, stands_itself}
 use Rattle.unroll.proofs.StepTests.{both_pass, turns_pass}

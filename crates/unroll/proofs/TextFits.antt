@@ -17,16 +17,16 @@ use Rattle.stim_parser.specs.declared.target.Target.{Target}
 use Rattle.stim_parser.specs.declared.target.Target.TheVariants.{Plain, Inverted}
 use Rattle.stim_parser.specs.Circuits.{IsCircuit}
 use Rattle.stim_parser.specs.Instructions.{gate_targets}
-use Rattle.stim_parser.specs.Limits.{are_of_form, has_pair_of_one, has_same_qubit, is_plain, is_plain_or_inverted}
+use Rattle.stim_parser.specs.Limits.{are_of_form, has_same_qubit, is_plain, is_plain_or_inverted, is_same_qubit, products_of, some_pair}
 use Rattle.stim_parser.specs.Trees.{Tree}
 use Rattle.stim_parser.specs.Verdicts.{Instruction}
 use Rattle.unroll.specs.Made.{fault_steps, gate_steps, measure_step, one_step, operation_steps, pair_steps, product_steps, reset_step}
 use Rattle.unroll.specs.StepsMade.{flip_of}
-use Rattle.unroll.specs.Targets.{products_of, qubit_of}
+use Rattle.unroll.specs.Targets.{qubit_of}
 use Rattle.unroll.specs.Steps.{instruction_steps, steps_of}
 use Rattle.unroll.specs.Totals.{qubits_to, qubit_total}
 use Rattle.unroll.specs.MadeTotals.{qubits_named}
-use Rattle.unroll.proofs.PairSteps.{from_plain, from_record_first, pairs_fit}
+use Rattle.unroll.proofs.PairSteps.{from_plain, from_record_first, of_pairs, pairs_fit}
 use Rattle.unroll.proofs.QubitsWithin.{FitsOn, circuit_fits_on}
 use Rattle.unroll.proofs.StepTests.{steps_pass}
 
@@ -64,7 +64,7 @@ two_qubits : (g : Gate) → (arity_of g == 1) ≡ false → (arity_of g == 2) �
 two_qubits g h = eq-eqb (arity_of g) 2 (two_unless_one g (λ one. false≢true (let b : (arity_of g == 1) ≡ true = eq-eqb (arity_of g) 1 one in cc)))
 
 -- a gate none of whose targets may be a record
-qubit_gate_fits : (n : ℕ) (g : Gate) (ts : List Target) (one : Bool) → (arity_of g == 1) ≡ one → list_all is_plain ts ≡ true → (if one then false else has_pair_of_one ts) ≡ false → qubits_named ts ≤ n → list_all (text_fits n) (if one then map (one_step g) ts else pair_steps g ts) ≡ true
+qubit_gate_fits : (n : ℕ) (g : Gate) (ts : List Target) (one : Bool) → (arity_of g == 1) ≡ one → list_all is_plain ts ≡ true → (if one then false else some_pair is_same_qubit ts) ≡ false → qubits_named ts ≤ n → list_all (text_fits n) (if one then map (one_step g) ts else pair_steps g ts) ≡ true
 qubit_gate_fits n g ts true e form differ le =
     each_target n is_plain (one_step g) ts
     (λ t k lt. and_from (arity_of g == 1) (nat_lt (qubit_of t) n) e (plain_fits n t k lt)) form le
@@ -74,7 +74,7 @@ gate_fits : (n : ℕ) (g : Gate) (ts : List Target) → are_of_form (gate_target
 unfolding are_of_form has_same_qubit
 gate_fits n gate.CX ts form differ le = pairs_fit n gate.CX ts refl (from_record_first ts form) differ le
 gate_fits n gate.CY ts form differ le = pairs_fit n gate.CY ts refl (from_record_first ts form) differ le
-gate_fits n gate.CZ ts form differ le = pairs_fit n gate.CZ ts refl form differ le
+gate_fits n gate.CZ ts form differ le = pairs_fit n gate.CZ ts refl (of_pairs ts form) differ le
 gate_fits n g ts form differ le = qubit_gate_fits n g ts (arity_of g == 1) refl form differ le
 
 -- ---- products and faults

@@ -15,7 +15,8 @@ use Rattle.stim_parser.specs.declared.target.Target.{Target}
 use Rattle.block_text.specs.Reached.{written}
 use Rattle.stim_parser.specs.Trees.{Tree}
 use Rattle.stim_parser.specs.Verdicts.{Instruction}
-use Rattle.unroll.specs.Targets.{products_of, term_at, term_of}
+use Rattle.stim_parser.specs.Limits.{products_of}
+use Rattle.unroll.specs.Targets.{term_at, term_of}
 use Rattle.unroll.specs.Totals.{first_argument}
 
 -- an entry of a probability and letters

@@ -12,7 +12,8 @@ use Rattle.stim_parser.specs.declared.target.Target.TheVariants.{Back}
 use Rattle.unroll.specs.declared.steps.Single.{Single}
 use Rattle.unroll.specs.declared.steps.Single.TheVariants.{Applies, Measures, Resets}
 use Rattle.unroll.specs.Made.{measure_step, one_step, product_steps, recording, reset_step}
-use Rattle.unroll.specs.Targets.{is_product_inverted, products_of}
+use Rattle.stim_parser.specs.Limits.{products_of}
+use Rattle.unroll.specs.Targets.{is_product_inverted}
 use Rattle.unroll.specs.Totals.{qubits_to}
 
 -- the innermost open block, or the circuit where none is open, has these steps more

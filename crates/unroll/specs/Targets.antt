@@ -1,13 +1,12 @@
 -- What the targets of an instruction name: qubits, letters at qubits, and products, which are factors joined by stars.
 -- (Stim's circuit format, github.com/quantumlib/Stim, doc/file_format_stim_circuit.md, "Target Types".)
 use Rattle.std.specs.Prelude.{ℕ, Bool, true, false, List, [], ◌∷◌}
-use Rattle.std.specs.List.{onto_first}
 use Rattle.pauli_word.specs.declared.letter.Letter.{Letter}
 use Rattle.pauli_word.specs.declared.letter.Letter.TheVariants as letter
 use Rattle.pauli_word.specs.Parity.{exclusive_or}
 use Rattle.step_model.specs.declared.step.Term.{Term}
 use Rattle.stim_parser.specs.declared.target.Target.{Target}
-use Rattle.stim_parser.specs.declared.target.Target.TheVariants.{Plain, Inverted, Pauli, Star}
+use Rattle.stim_parser.specs.declared.target.Target.TheVariants.{Plain, Inverted, Pauli}
 
 -- the qubit that a target names
 abbrev pub qubit_of : Target → ℕ
@@ -33,12 +32,6 @@ term_at l target = record { qubit = qubit_of target; letter = l }
 
 abbrev pub term_of : Target → Term
 term_of target = term_at (pauli_letter target) target
-
--- the products of targets: the factors that stars join
-abbrev pub products_of : List Target → List (List Target)
-products_of [] = []
-products_of (factor ∷ Star ∷ targets) = onto_first factor (products_of targets)
-products_of (factor ∷ targets) = (factor ∷ []) ∷ products_of targets
 
 -- whether an odd number of factors has a `!`
 abbrev pub is_product_inverted : List Target → Bool

@@ -12,7 +12,7 @@ use Rattle.stim_parser.specs.declared.target.Target.TheVariants.{Plain, Inverted
 use Rattle.stim_parser.specs.Trees.{Tree}
 use Rattle.stim_parser.specs.Verdicts.{Instruction}
 use Rattle.stim_parser.specs.Numbers.{value_of}
-use Rattle.unroll.specs.Targets.{products_of}
+use Rattle.stim_parser.specs.Limits.{products_of}
 
 -- ---- counts of an instruction
 

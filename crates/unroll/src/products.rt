@@ -1,6 +1,7 @@
 ghost use Rattle.std.specs.Prelude.{◌≡◌, ◌++◌, All, map, OnOk};
 ghost use Rattle.unroll.specs.Kept.{operation_products};
-ghost use Rattle.unroll.specs.Targets.{products_of, term_of};
+ghost use Rattle.stim_parser.specs.Limits.{products_of};
+ghost use Rattle.unroll.specs.Targets.{term_of};
 ghost use Rattle.unroll.specs.Pushed.{IsSmall};
 
 use crate::entries::{pauli_letter, term_at};

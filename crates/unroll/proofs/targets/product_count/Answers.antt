@@ -1,6 +1,6 @@
 use Rattle.std.proofs.Common.{List, length, ap, ◌∙◌, arith}
 use Rattle.stim_parser.specs.declared.target.Target.{Target}
-use Rattle.unroll.specs.Targets.{products_of}
+use Rattle.stim_parser.specs.Limits.{products_of}
 use Rattle.unroll.proofs.ProductLemmas.{count-joined, count-ended}
 use Rattle.unroll.proofs.targets.product_count.Goals as goal
 

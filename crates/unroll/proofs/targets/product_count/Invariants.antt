@@ -1,5 +1,5 @@
 use Rattle.std.proofs.Common.{◌≡◌, ◌+◌, ◌≤◌, length}
-use Rattle.unroll.specs.Targets.{products_of}
+use Rattle.stim_parser.specs.Limits.{products_of}
 use Rattle.unroll.proofs.targets.product_count.Given as goal
 
 abbrev pub invariant-loop-parts : goal.invariant-loop-parts
