@@ -2,7 +2,8 @@
 use Rattle.std.proofs.Common.{append-nil, ◌≡◌, ℕ, ◌||◌, ◌&&◌, not, Bool, true, false, List, [], ◌∷◌, ◌++◌, length, drop, Option, None, Some, refl, ap, ap₂, sym, subst, ◌∙◌, if◌then◌else◌}
 use Rattle.pauli_word.specs.declared.letter.Letter.{Letter}
 use Rattle.pauli_word.specs.Parity.{exclusive_or}
-use Rattle.pauli_word.specs.States.{State, IsGroup, applied, collapsed, correcting, is_decided, outcome}
+use Rattle.pauli_word.specs.States.{State, applied, collapsed, correcting, is_decided, outcome}
+use Rattle.pauli_word.specs.Groups.{IsGroup}
 use Rattle.pauli_word.specs.Words.{Signed, anticommute, lone_letter, product, signed, with_sign_changed}
 use Rattle.pauli_word.proofs.Parities.{exclusive_or-false}
 use Rattle.pauli_word.proofs.WordLaws.{anticommute_comm}

@@ -3,17 +3,11 @@
 -- the outcome where that is random. A fault happens where its word is below its bound, which is floor of its
 -- probability times 2^64; a coin is its word's lowest bit. The generator goes on from shot to shot. (The order is this
 -- repository's own; the generator is Pcg64 of Rust's rand_pcg.)
-use Rattle.std.specs.Prelude.{ℕ, ◌%◌, ◌==◌, nat_lt, Bool, List, length, map, slice_index_or}
+use Rattle.std.specs.Prelude.{ℕ, ◌%◌, ◌==◌, nat_lt, Bool, List, length, map, slice_index_or, ◌+◌, ◌*◌}
 use Rattle.std.specs.List.{range_with_len}
 use Rattle.rand_pcg.specs.Lcg.{Lcg, advance}
 use Rattle.rand_pcg.specs.Pcg.{multiplier_128, pcg64}
 use Rattle.step_model.specs.Listing.{Listing}
-
--- a shot: the bounds of the faults, whether each fault happens, and the coins
-pub record ShotLists : Type 0 where
-  pub bounds : List ℕ
-  pub faults : List Bool
-  pub coins : List Bool
 
 -- the bounds of a program's faults
 abbrev pub bounds_of : Listing → List ℕ
@@ -35,3 +29,7 @@ drawn_faults bounds generator =
 -- the coins of this many collapses, by the next words
 abbrev pub drawn_coins : ℕ → Lcg → List Bool
 drawn_coins collapses generator = map (λ c. word_at generator c % 2 == 1) (range_with_len 0 collapses)
+
+-- a generator after this many shots of this many faults and collapses
+abbrev pub after_shots : ℕ → ℕ → ℕ → Lcg → Lcg
+after_shots faults collapses shots generator = after_words (shots * (faults + collapses)) generator

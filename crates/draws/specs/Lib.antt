@@ -2,4 +2,4 @@ pub mod BoundRuns
 pub mod Drawn
 pub mod LaneDraws
 pub mod PairDraws
-pub mod SideBySide
+pub mod Shots

@@ -21,7 +21,7 @@ pub struct Shot<A: Allocator + Copy> {
 
 impl<A: Allocator + Copy> Model for Shot<A> {
     ghost use Rattle.std.specs.Prelude.{◌≡◌, length};
-    ghost use Rattle.draws.specs.Drawn.{ShotLists};
+    ghost use Rattle.draws.specs.Shots.{ShotLists};
 
     ghost Value = { ShotLists };
 

@@ -1,7 +1,7 @@
 ghost use Rattle.std.specs.Prelude.{◌≡◌, ◌≤◌, length, replicate, IfOk, IfErr};
 ghost use Rattle.step_model.specs.Faults.{memory_fault};
-ghost use Rattle.draws.specs.Drawn.{bounds_of};
-ghost use Rattle.draws.specs.SideBySide.{AreDrawn, after_shots};
+ghost use Rattle.draws.specs.Drawn.{bounds_of, after_shots};
+ghost use Rattle.draws.specs.Shots.{AreDrawn};
 
 use crate::runs::{BoundRun, bound_runs};
 use crate::side_draws::draw_lanes;
@@ -23,7 +23,7 @@ pub struct Shots<A: Allocator + Copy> {
 impl<A: Allocator + Copy> Model for Shots<A> {
     ghost use Rattle.std.specs.Prelude.{◌≡◌, length};
     ghost use Rattle.draws.specs.BoundRuns.{bounds_in};
-    ghost use Rattle.draws.specs.SideBySide.{ShotWords};
+    ghost use Rattle.draws.specs.Shots.{ShotWords};
 
     ghost Value = { ShotWords };
 

@@ -1,7 +1,8 @@
 // Shots drawn side by side into the lanes of words.
 ghost use Rattle.std.specs.Prelude.{◌≡◌, ◌+◌, ◌*◌, ◌≤◌, length};
 ghost use Rattle.draws.specs.BoundRuns.{bounds_in};
-ghost use Rattle.draws.specs.SideBySide.{AreDrawn, after_shots};
+ghost use Rattle.draws.specs.Drawn.{after_shots};
+ghost use Rattle.draws.specs.Shots.{AreDrawn};
 
 use crate::copies::copy_of;
 use crate::lane_draws::{draw_coins, draw_faults};

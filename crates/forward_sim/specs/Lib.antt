@@ -3,3 +3,4 @@ pub mod Lists
 pub mod Machines
 pub mod References
 pub mod SameRuns
+pub mod Numbers

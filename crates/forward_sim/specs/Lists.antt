@@ -1,9 +1,10 @@
 -- What a user gives besides a circuit: a text of coins, one digit 0 or 1 for each collapse; and a list of numbers, which
 -- is empty or has numbers in decimal digits joined by single commas. Zeros in front of a number change nothing.
 -- (This project's own.)
-use Rattle.std.specs.Prelude.{ℕ, ◌+◌, ◌-◌, ◌*◌, ◌==◌, nat_lt, Bool, true, false, not, ◌&&◌, ◌||◌, if◌then◌else◌, List, [], ◌∷◌, length, map, fold, replicate, Option, None, Some}
+use Rattle.std.specs.Prelude.{ℕ, ◌==◌, nat_lt, Bool, true, false, not, ◌&&◌, ◌||◌, if◌then◌else◌, List, [], ◌∷◌, length, map, replicate, Option, None, Some}
 use Rattle.std.specs.Char.{is_ascii_digit}
 use Rattle.std.specs.List.{list_all, list_any, range_with_len, slice_split}
+use Rattle.step_model.specs.Probabilities.{digits_value}
 
 -- whether a byte is the digit 0 or 1
 abbrev pub is_zero_or_one : ℕ → Bool
@@ -18,22 +19,9 @@ abbrev pub coins_of : ℕ → List ℕ → Option (List Bool)
 coins_of collapses text =
     if length text == collapses && list_all is_zero_or_one text then Some (map is_one text) else None
 
--- whether a byte is a comma
-abbrev pub is_comma : ℕ → Bool
-is_comma byte = byte == 44
-
 -- whether a piece is one digit or more
 abbrev pub is_number : List ℕ → Bool
 is_number piece = nat_lt 0 (length piece) && list_all is_ascii_digit piece
-
--- the number that decimal digits write
-abbrev pub number_of : List ℕ → ℕ
-number_of digits = fold (λ n digit. 10 * n + (digit - 48)) 0 digits
-
--- the number that a piece writes, where it is one and below count
-abbrev pub number_below : ℕ → List ℕ → Option ℕ
-number_below count piece =
-    if is_number piece && nat_lt (number_of piece) count then Some (number_of piece) else None
 
 -- whether a number is among these
 abbrev pub is_among : List ℕ → ℕ → Bool
@@ -58,5 +46,5 @@ marks_of count numbers =
 abbrev pub numbers_of : ℕ → List ℕ → Option (List Bool)
 numbers_of count [] = Some (replicate count false)
 numbers_of count (byte ∷ text) =
-    let pieces = slice_split is_comma (byte ∷ text) in
-    if list_all is_number pieces then marks_of count (map number_of pieces) else None
+    let pieces = slice_split (λ b. b == 44) (byte ∷ text) in
+    if list_all is_number pieces then marks_of count (map digits_value pieces) else None

@@ -7,7 +7,8 @@ use Rattle.gate_table.specs.WordImages.{image_at, image_at_two, preimage_at, pre
 use Rattle.gate_table.proofs.WordImageLaws.{length-image_at, image_at-none, image_at-anticommute, image_at-product}
 use Rattle.gate_table.proofs.PairImageLaws.{length-image_at_two, image_at_two-none, image_at_two-anticommute, image_at_two-product}
 use Rattle.pauli_word.proofs.Groups.{IsGroup-moved}
-use Rattle.pauli_word.specs.States.{State, IsGroup}
+use Rattle.pauli_word.specs.States.{State}
+use Rattle.pauli_word.specs.Groups.{IsGroup}
 use Rattle.pauli_word.specs.WordMaps.{KeepsWords}
 
 pub image_at_keeps : (n : ℕ) (g : Gate) (q : ℕ) → q < n → KeepsWords n (image_at g q)

@@ -3,7 +3,8 @@ use Rattle.std.proofs.Common.{◌≡◌, refl, ℕ, true, false, cond, List, [],
 use Rattle.std.specs.Prelude.{option_map, Some}
 use Rattle.std.specs.Str.{str_eq_ignore_ascii_case}
 use Rattle.gate_table.specs.declared.gate.Gate.{Gate}
-use Rattle.gate_table.specs.Names.{named_in, named_in_rows}
+use Rattle.gate_table.specs.Names.{named_in}
+use Rattle.gate_table.specs.Rows.{named_in_rows}
 
 -- the name and the gate of a row
 abbrev pub entry_of : Bor (List ℕ) × Gate → List ℕ × Gate

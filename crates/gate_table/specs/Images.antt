@@ -11,14 +11,10 @@ use Rattle.pauli_word.specs.Letters.{Power, one, i, power_product, is_minus, sig
 use Rattle.gate_table.specs.declared.gate.Gate.{Gate}
 use Rattle.gate_table.specs.Table.{SignedLetter, SignedPair, plus, Row, one_qubit, controlled, two_qubit, row_of}
 
--- the product of two signs, as a power of i
-abbrev pub signs_power : Bool → Bool → Power
-signs_power a b = power_product (sign_power a) (sign_power b)
-
 -- the product of two signed letters, times a power of i: where all powers come to 1 or -1, a signed letter
 abbrev pub signed_product : Power → SignedLetter → SignedLetter → SignedLetter
 signed_product p a b =
-    let power = power_product p (power_product (signs_power a.1 b.1) (letter_power a.0 b.0))
+    let power = power_product p (power_product (power_product (sign_power a.1) (sign_power b.1)) (letter_power a.0 b.0))
     in (letter_product a.0 b.0, is_minus power)
 
 -- the power of i of the product of two pairs of letters
@@ -28,7 +24,7 @@ pair_power a b c d = power_product (letter_power a c) (letter_power b d)
 -- the product of two signed pairs, times a power of i
 abbrev pub signed_pair_product : Power → SignedPair → SignedPair → SignedPair
 signed_pair_product p a b =
-    let power = power_product p (power_product (signs_power a.2 b.2) (pair_power a.0 a.1 b.0 b.1))
+    let power = power_product p (power_product (power_product (sign_power a.2) (sign_power b.2)) (pair_power a.0 a.1 b.0 b.1))
     in (letter_product a.0 b.0, letter_product a.1 b.1, is_minus power)
 
 -- the image of a letter, from those of X and Z

@@ -3,3 +3,4 @@ pub mod Images
 pub mod Names
 pub mod Laws
 pub mod WordImages
+pub mod Rows

@@ -2,13 +2,12 @@
 -- (Stim's gate reference, github.com/quantumlib/Stim, doc/gates.md: the titles, and "Alternate name".)
 use Rattle.std.specs.Prelude.{ℕ, List, [], ◌∷◌, Option, codes, find, option_map}
 use Rattle.std.specs.Str.{str_eq_ignore_ascii_case}
-use Rattle.std.specs.Borrow.{Bor}
 use Rattle.gate_table.specs.declared.gate.Gate.{Gate}
 use Rattle.gate_table.specs.declared.gate.Gate.TheVariants as gate
 
 -- each name with the gate that it names
-abbrev pub names : List (List ℕ × Gate)
-names =
+abbrev pub gate_names : List (List ℕ × Gate)
+gate_names =
     (codes "I", gate.I)
     ∷ (codes "X", gate.X)
     ∷ (codes "Y", gate.Y)
@@ -51,14 +50,10 @@ names =
     ∷ (codes "ZCZ", gate.CZ)
     ∷ []
 
--- the gate that a text names in a list of names: that of the first name that equals the text, in any case
-abbrev pub named_in : List (List ℕ × Gate) → List ℕ → Option Gate
+-- what a text names in a table of names: that of the first name that equals the text, in any case
+abbrev pub named_in : {K : Type 0} → List (List ℕ × K) → List ℕ → Option K
 named_in entries text = option_map (λ entry. entry.1) (find (λ entry. str_eq_ignore_ascii_case entry.0 text) entries)
 
 -- the gate that a text names
 abbrev pub gate_named : List ℕ → Option Gate
-gate_named text = named_in names text
-
--- the same in a list whose names are borrowed
-unfoldable pub named_in_rows : List (Bor (List ℕ) × Gate) → List ℕ → Option Gate
-named_in_rows rows text = option_map (λ row. row.1) (find (λ row. str_eq_ignore_ascii_case row.0.now text) rows)
+gate_named text = named_in gate_names text

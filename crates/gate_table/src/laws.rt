@@ -1,6 +1,7 @@
 //! What holds of the images under every gate. Each function does nothing: its contract is the law, proved.
 ghost use Rattle.std.specs.Prelude.{◌≡◌, ◌≢◌, ◌<◌, ◌⊎◌, ℕ, false, length};
-ghost use Rattle.pauli_word.specs.States.{State, IsGroup};
+ghost use Rattle.pauli_word.specs.States.{State};
+ghost use Rattle.pauli_word.specs.Groups.{IsGroup};
 ghost use Rattle.pauli_word.specs.Words.{Signed, anticommute, product};
 ghost use Rattle.gate_table.specs.WordImages.{image_at, image_at_two, preimage_at, preimage_at_two};
 ghost use Rattle.pauli_word.specs.declared.letter.Letter.{Letter};

@@ -5,7 +5,8 @@ use Rattle.std.proofs.lemmas.Bool.{not-true}
 use Rattle.pauli_word.specs.declared.letter.Letter.{Letter}
 use Rattle.pauli_word.specs.Letters.{power_product, is_minus, sign_power}
 use Rattle.pauli_word.specs.Parity.{exclusive_or}
-use Rattle.pauli_word.specs.Words.{Signed, signed, with_sign_changed, letters_product, letters_power, anticommute, product, no_letters, identity_word}
+use Rattle.pauli_word.specs.Words.{Signed, signed, with_sign_changed, letters_product, letters_power, anticommute, product, no_letters}
+use Rattle.pauli_word.specs.Groups.{identity_word}
 use Rattle.pauli_word.proofs.Parities.{exclusive_or_assoc, exclusive_or_self, exclusive_or_comm, exclusive_or_left_comm, exclusive_or-false, same_truth, same_truth-true, at_six_truths}
 use Rattle.pauli_word.proofs.PowerLaws.{is_real, sign_power-is_minus, is_real-sign_power, is_minus-power_product}
 use Rattle.pauli_word.proofs.WordLaws.{letters_product_assoc, letters_product_comm, letters_product_self, letters_product_of_none, letters_power_cocycle, letters_power_self, letters_power_of_none, letters_power_swap, is_real-letters_power}

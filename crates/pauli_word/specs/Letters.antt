@@ -28,10 +28,9 @@ power_product minus_i p = times_i (times_i (times_i p))
 
 -- whether a power of i brings a minus sign: it does at -1 and at -i
 abbrev pub is_minus : Power → Bool
-is_minus one = false
-is_minus i = false
 is_minus minus_one = true
 is_minus minus_i = true
+is_minus p = false
 
 -- a sign as a power of i: true is minus
 abbrev pub sign_power : Bool → Power
@@ -41,15 +40,13 @@ sign_power true = minus_one
 -- the letter of the product of two letters
 abbrev pub letter_product : Letter → Letter → Letter
 letter_product I b = b
-letter_product X I = X
+letter_product a I = a
 letter_product X X = I
 letter_product X Y = Z
 letter_product X Z = Y
-letter_product Y I = Y
 letter_product Y X = Z
 letter_product Y Y = I
 letter_product Y Z = X
-letter_product Z I = Z
 letter_product Z X = Y
 letter_product Z Y = X
 letter_product Z Z = I

@@ -5,3 +5,4 @@ pub mod Parity
 pub mod States
 pub mod WordMaps
 pub mod Words
+pub mod Groups

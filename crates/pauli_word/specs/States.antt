@@ -6,11 +6,11 @@
 -- old one. After each of these the words of a state form a commutative group without minus the identity. (Aaronson and
 -- Gottesman, Phys. Rev. A 70, 052328 (2004), sections II and III; Gottesman, arXiv:quant-ph/9705052, chapter 3:
 -- stabilizer groups.)
-use Rattle.std.specs.Prelude.{◌≡◌, ℕ, Bool, true, false, not, ◌&&◌, ◌||◌, if◌then◌else◌, List, length}
+use Rattle.std.specs.Prelude.{Bool, true, false, not, ◌&&◌, ◌||◌, if◌then◌else◌, List}
 use Rattle.std.specs.List.{list_all}
 use Rattle.pauli_word.specs.declared.letter.Letter.{Letter}
 use Rattle.pauli_word.specs.declared.letter.Letter.TheVariants.{I, X, Y, Z}
-use Rattle.pauli_word.specs.Words.{Signed, signed, with_sign_changed, anticommute, product, no_letters}
+use Rattle.pauli_word.specs.Words.{Signed, signed, with_sign_changed, anticommute, product}
 
 -- a state: of each signed word, whether it leaves the state unchanged
 abbrev pub State : Type 0
@@ -18,10 +18,9 @@ State = Signed → Bool
 
 -- whether a letter is I or Z
 abbrev pub is_I_or_Z : Letter → Bool
-is_I_or_Z I = true
 is_I_or_Z X = false
 is_I_or_Z Y = false
-is_I_or_Z Z = true
+is_I_or_Z letter = true
 
 -- at the start all qubits are 0
 abbrev pub start_state : State
@@ -52,16 +51,3 @@ correcting Z = X
 correcting Y = X
 correcting X = Z
 correcting I = I
-
--- a word of n letters that is in a state
-pub record IsMember (n : ℕ) (s : State) (p : Signed) : Type 0 where
-  pub size : length p.letters ≡ n
-  pub member : s p ≡ true
-
--- plus the identity is in the state of n qubits and minus the identity is not, any two words in it commute, and the
--- product of two of them is in it
-pub record IsGroup (n : ℕ) (s : State) : Type 0 where
-  pub identity : s (signed (no_letters n) false) ≡ true
-  pub no_minus : s (signed (no_letters n) true) ≡ false
-  pub commuting : (p q : Signed) → IsMember n s p → IsMember n s q → anticommute p.letters q.letters ≡ false
-  pub closed : (p q : Signed) → IsMember n s p → IsMember n s q → s (product p q) ≡ true

@@ -5,7 +5,7 @@
 use Rattle.std.specs.Prelude.{Bool, true, false, if◌then◌else◌, ℕ, suc, List, [], ◌∷◌, Option, None, Some, option_map, replicate, slice_set, slice_index_or}
 use Rattle.pauli_word.specs.Parity.{exclusive_or}
 use Rattle.pauli_word.specs.declared.letter.Letter.{Letter}
-use Rattle.pauli_word.specs.declared.letter.Letter.TheVariants.{I, X, Y, Z}
+use Rattle.pauli_word.specs.declared.letter.Letter.TheVariants.{I, X, Y}
 use Rattle.pauli_word.specs.Letters.{Power, one, power_product, is_minus, letter_product, letter_power, letters_clash}
 
 -- a signed word: its letters, qubit 0 first, and whether its sign is minus
@@ -48,10 +48,6 @@ product p q =
 abbrev pub no_letters : ℕ → List Letter
 no_letters n = replicate n I
 
--- the identity on n qubits, of sign plus
-abbrev pub identity_word : ℕ → Signed
-identity_word n = signed (no_letters n) false
-
 -- the letter of a word at a qubit
 abbrev pub letter_at : List Letter → ℕ → Letter
 letter_at p q = slice_index_or p q I
@@ -62,10 +58,9 @@ lone_letter n q a = slice_set (no_letters n) q a
 
 -- whether a letter is X or Y
 abbrev pub has_X_or_Y : Letter → Bool
-has_X_or_Y I = false
 has_X_or_Y X = true
 has_X_or_Y Y = true
-has_X_or_Y Z = false
+has_X_or_Y letter = false
 
 -- the lowest qubit at which a word has X or Y
 abbrev pub lowest_X_or_Y : List Letter → Option ℕ

@@ -5,8 +5,9 @@ ghost use Rattle.std.specs.Prelude.{◌≡◌, Bool, false, ℕ, List, length};
 ghost use Rattle.pauli_word.specs.declared.letter.Letter.{Letter};
 ghost use Rattle.pauli_word.specs.Letters.{Power, one, power_product, is_minus, sign_power};
 ghost use Rattle.pauli_word.specs.Parity.{exclusive_or};
-ghost use Rattle.pauli_word.specs.States.{State, IsGroup, start_state, applied, collapsed};
-ghost use Rattle.pauli_word.specs.Words.{Signed, letters_product, letters_power, anticommute, product, no_letters, identity_word};
+ghost use Rattle.pauli_word.specs.States.{State, start_state, applied, collapsed};
+ghost use Rattle.pauli_word.specs.Groups.{IsGroup, identity_word};
+ghost use Rattle.pauli_word.specs.Words.{Signed, letters_product, letters_power, anticommute, product, no_letters};
 
 /// The powers of i form a commutative group, in which the fourth power of each is 1.
 pub fn powers_form_a_group()

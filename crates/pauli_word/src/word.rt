@@ -1,6 +1,7 @@
 ghost use Rattle.std.specs.Prelude.{◌≡◌, ◌<◌, length, false, slice_set, not, IfOk};
 ghost use Rattle.pauli_word.specs.Letters.{is_minus};
-ghost use Rattle.pauli_word.specs.Words.{identity_word, letter_at, anticommute, letters_power, product, lowest_X_or_Y};
+ghost use Rattle.pauli_word.specs.Words.{letter_at, anticommute, letters_power, product, lowest_X_or_Y};
+ghost use Rattle.pauli_word.specs.Groups.{identity_word};
 
 use crate::letter::Letter;
 use bit_rows::BitRow;

@@ -7,13 +7,14 @@ use Rattle.pauli_word.specs.declared.letter.Letter.{Letter}
 use Rattle.pauli_word.specs.declared.letter.Letter.TheVariants.{I, X, Y, Z}
 use Rattle.pauli_word.specs.Letters.{power_product, is_minus, letters_clash}
 use Rattle.pauli_word.specs.Parity.{exclusive_or}
-use Rattle.pauli_word.specs.Words.{Signed, letters_product, letters_power, anticommute, product, no_letters, identity_word, letter_at, lone_letter, signed}
+use Rattle.pauli_word.specs.Words.{Signed, letters_product, letters_power, anticommute, product, no_letters, letter_at, lone_letter, signed}
 use Rattle.pauli_word.proofs.Parities.{exclusive_or-false, exclusive_or_assoc, exclusive_or_comm, exclusive_or_left_comm}
 use Rattle.pauli_word.proofs.PowerLaws.{is_minus-power_product}
 use Rattle.pauli_word.proofs.LetterLaws.{letters_clash_comm, letters_clash_of_I}
 use Rattle.pauli_word.proofs.WordLaws.{length-letters_product, letters_product_assoc, letters_product_self, letters_power_cocycle, letters_power_self, letters_power_of_none, is_real-letters_power, anticommute_comm, anticommute_self, anticommute-product}
 use Rattle.pauli_word.proofs.SignedLaws.{product_self}
-use Rattle.pauli_word.specs.States.{State, applied, is_decided, outcome, collapsed, correcting, IsGroup}
+use Rattle.pauli_word.specs.States.{State, applied, is_decided, outcome, collapsed, correcting}
+use Rattle.pauli_word.specs.Groups.{IsGroup, identity_word}
 use Rattle.step_model.specs.Sensitivities.{multiplied}
 use Rattle.step_model.specs.Listing.{is_I}
 use Rattle.pauli_word.proofs.LoneLetters.{length-lone_letter, letters_product_of_no_letters, anticommute-lone_letter, letters_product-cleared, letters_power-cleared}

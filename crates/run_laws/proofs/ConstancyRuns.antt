@@ -13,7 +13,8 @@ use Rattle.pauli_word.proofs.Parities.{same_truth, same_truth-true, at_six_truth
 use Rattle.step_model.specs.declared.step.Place.TheVariants.{Start}
 use Rattle.run_laws.specs.Constants.{IsConstant, ParityIsWhatStepsBring, sign_brought, signs_brought, HasSensitivity, SensitivityStays}
 use Rattle.step_model.specs.Listing.{ListedStep, Listing}
-use Rattle.pauli_word.specs.States.{State, is_I_or_Z, IsGroup}
+use Rattle.pauli_word.specs.States.{State, is_I_or_Z}
+use Rattle.pauli_word.specs.Groups.{IsGroup}
 use Rattle.step_model.specs.Runs.{RunState, next, run_from, start}
 use Rattle.step_model.specs.Sensitivities.{Sensitivity, sensitivity, sensitivity_before, collapse_word, latest_place, later_or_here, lowest_X_or_Y, place_of, after_or_start}
 use Rattle.step_model.specs.Targets.{parity, target_at}

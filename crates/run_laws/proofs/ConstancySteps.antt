@@ -12,7 +12,8 @@ use Rattle.pauli_word.proofs.WordLaws.{length-letters_product}
 use Rattle.gate_table.specs.Images.{image1, image2, inverse_of}
 use Rattle.gate_table.specs.WordImages.{preimage_at, preimage_at_two}
 use Rattle.step_model.specs.Listing.{ListedStep, One, Two, Collapse, Fault, Feedback, Measured, Word, Reset, Recorded, measured_word, Listing, fault_word, is_I}
-use Rattle.pauli_word.specs.States.{State, collapsed, outcome, IsGroup}
+use Rattle.pauli_word.specs.States.{State, collapsed, outcome}
+use Rattle.pauli_word.specs.Groups.{IsGroup}
 use Rattle.step_model.specs.Runs.{RunState, next, next_coin, happens, record_changes}
 use Rattle.step_model.specs.Sensitivities.{Sensitivity, cleared, record_counts, multiplied, sensitivity_before, collapse_word}
 use Rattle.step_model.specs.WellFormed.{record_fits, step_fits}

@@ -9,7 +9,8 @@ use Rattle.pauli_word.specs.Words.{anticommute, no_letters}
 use Rattle.pauli_word.proofs.WordLaws.{anticommute_of_none}
 use Rattle.step_model.specs.Frames.{begun, flips_from, flips_after, words_collapsed}
 use Rattle.step_model.specs.Listing.{ListedStep, One, Two, Collapse, Fault, Feedback, Measured, Recorded, measured_word, Listing, step_records}
-use Rattle.pauli_word.specs.States.{State, outcome, collapsed, IsGroup}
+use Rattle.pauli_word.specs.States.{State, outcome, collapsed}
+use Rattle.pauli_word.specs.Groups.{IsGroup}
 use Rattle.step_model.specs.Runs.{RunState, correction, corrected, record_changes, next_coin, next, run_from}
 use Rattle.step_model.specs.Sensitivities.{Sensitivity, latest_place, sensitivity}
 use Rattle.run_laws.specs.Shifts.{flipped_by, flips_with, carried_over, IsShifted, DifferByFrame, IsShift}

@@ -10,7 +10,8 @@ use Rattle.pauli_word.specs.Words.{Signed, anticommute, letters_product, no_lett
 use Rattle.pauli_word.proofs.Parities.{same_truth, same_truth-true}
 use Rattle.pauli_word.proofs.LetterTests.{at_two_letters}
 use Rattle.step_model.specs.Listing.{Collapse, Measured, Word, Reset, Recorded, measured_word, Listing}
-use Rattle.pauli_word.specs.States.{State, is_I_or_Z, start_state, IsGroup}
+use Rattle.pauli_word.specs.States.{State, is_I_or_Z, start_state}
+use Rattle.pauli_word.specs.Groups.{IsGroup}
 use Rattle.step_model.specs.Runs.{RunState, next_coin, next}
 use Rattle.run_laws.specs.Shifts.{IsShifted}
 use Rattle.step_model.specs.WellFormed.{step_fits}

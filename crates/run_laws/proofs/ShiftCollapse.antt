@@ -11,7 +11,8 @@ use Rattle.pauli_word.proofs.Parities.{exclusive_or_assoc, same_truth, same_trut
 use Rattle.pauli_word.proofs.LetterTests.{at_three_letters}
 use Rattle.pauli_word.proofs.WordLaws.{anticommute_comm, anticommute-product, length-letters_product, letters_product_self, letters_power_self}
 use Rattle.pauli_word.proofs.SignedLaws.{product-sign_changed_left, product-sign_changed_right}
-use Rattle.pauli_word.specs.States.{State, outcome, is_decided, collapsed, applied, correcting, IsGroup}
+use Rattle.pauli_word.specs.States.{State, outcome, is_decided, collapsed, applied, correcting}
+use Rattle.pauli_word.specs.Groups.{IsGroup}
 use Rattle.run_laws.specs.Shifts.{IsShifted}
 use Rattle.step_model.specs.Listing.{is_I}
 use Rattle.pauli_word.proofs.LoneLetters.{length-lone_letter}

@@ -6,7 +6,8 @@ use Rattle.std.proofs.lemmas.List.{length-replicate}
 use Rattle.std.proofs.lemmas.List.Elements.{All-head, All-tail}
 use Rattle.std.specs.List.{AllPass}
 use Rattle.pauli_word.specs.declared.letter.Letter.{Letter}
-use Rattle.pauli_word.specs.States.{State, outcome, IsGroup}
+use Rattle.pauli_word.specs.States.{State, outcome}
+use Rattle.pauli_word.specs.Groups.{IsGroup}
 use Rattle.pauli_word.specs.Words.{Signed, anticommute, signed, with_sign_changed}
 use Rattle.pauli_word.proofs.Groups.{IsGroup-start}
 use Rattle.pauli_word.proofs.WordLaws.{length-letters_product}

@@ -12,7 +12,8 @@ use Rattle.pauli_word.specs.declared.letter.Letter.{Letter}
 use Rattle.pauli_word.specs.Words.{Signed, anticommute, with_sign_changed}
 use Rattle.step_model.specs.Frames.{Frame, carried, flips_from}
 use Rattle.step_model.specs.Listing.{ListedStep, Collapse, Fault, Recorded, measured_word, Listing, fault_word, is_collapse}
-use Rattle.pauli_word.specs.States.{State, outcome, IsGroup}
+use Rattle.pauli_word.specs.States.{State, outcome}
+use Rattle.pauli_word.specs.Groups.{IsGroup}
 use Rattle.step_model.specs.Runs.{RunState, next_coin, happens, flip_happens, next, run_from}
 use Rattle.step_model.specs.Sensitivities.{cleared, multiplied, collapse_word}
 use Rattle.step_model.specs.WellFormed.{step_fits}

@@ -7,7 +7,8 @@ use Rattle.std.proofs.lemmas.List.Elements.{recursion_from_All, All-from_recursi
 use Rattle.gate_table.specs.declared.gate.Gate.{Gate}
 use Rattle.gate_table.specs.Images.{arity_of}
 use Rattle.gate_table.proofs.GateGroups.{IsGroup-gate, IsGroup-gate_two}
-use Rattle.pauli_word.specs.States.{IsGroup, correcting, collapsed, outcome}
+use Rattle.pauli_word.specs.States.{correcting, collapsed, outcome}
+use Rattle.pauli_word.specs.Groups.{IsGroup}
 use Rattle.pauli_word.specs.Words.{lone_letter}
 use Rattle.pauli_word.proofs.Groups.{IsGroup-start, IsGroup-applied, IsGroup-collapsed}
 use Rattle.pauli_word.proofs.LoneLetters.{length-lone_letter}

@@ -1,6 +1,6 @@
 //! What holds of the states of runs. Each function does nothing: its contract is the law, proved.
 ghost use Rattle.std.specs.Prelude.{◌≡◌, ℕ, Bool, true, List};
-ghost use Rattle.pauli_word.specs.States.{IsGroup};
+ghost use Rattle.pauli_word.specs.Groups.{IsGroup};
 ghost use Rattle.step_model.specs.Listing.{Listing, ListedStep};
 ghost use Rattle.step_model.specs.Runs.{RunState, run_state_after, next};
 ghost use Rattle.step_model.specs.WellFormed.{IsWellFormed, step_fits};

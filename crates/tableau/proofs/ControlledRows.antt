@@ -9,7 +9,8 @@ use Rattle.gate_table.specs.Images.{factor}
 use Rattle.pauli_word.specs.declared.letter.Letter.{Letter}
 use Rattle.pauli_word.specs.declared.letter.Letter.TheVariants.{I, X, Y, Z}
 use Rattle.pauli_word.specs.Letters.{letters_clash}
-use Rattle.pauli_word.specs.Words.{Signed, anticommute, product, with_sign_changed, identity_word}
+use Rattle.pauli_word.specs.Words.{Signed, anticommute, product, with_sign_changed}
+use Rattle.pauli_word.specs.Groups.{identity_word}
 use Rattle.pauli_word.proofs.SignedLaws.{product_comm}
 use Rattle.pauli_word.proofs.WordLaws.{anticommute_comm}
 use Rattle.tableau.specs.ControlledSteps.{IsControlled, after_controlled, controlled_pair}

@@ -11,7 +11,8 @@ use Rattle.pauli_word.specs.declared.letter.Letter.{Letter}
 use Rattle.pauli_word.specs.declared.letter.Letter.TheVariants.{I, X, Y, Z}
 use Rattle.pauli_word.specs.Letters.{letters_clash}
 use Rattle.pauli_word.specs.Parity.{exclusive_or}
-use Rattle.pauli_word.specs.Words.{Signed, anticommute, identity_word, lone_letter, letter_at, signed, with_sign_changed}
+use Rattle.pauli_word.specs.Words.{Signed, anticommute, lone_letter, letter_at, signed, with_sign_changed}
+use Rattle.pauli_word.specs.Groups.{identity_word}
 use Rattle.pauli_word.proofs.Parities.{exclusive_or-false, exclusive_or_self, exclusive_or_left_comm}
 use Rattle.pauli_word.proofs.LetterLaws.{letters_clash_comm}
 use Rattle.pauli_word.proofs.WordLaws.{anticommute_comm}

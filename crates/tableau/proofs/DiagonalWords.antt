@@ -11,7 +11,8 @@ use Rattle.pauli_word.specs.declared.letter.Letter.{Letter}
 use Rattle.pauli_word.specs.declared.letter.Letter.TheVariants.{I, X, Y, Z}
 use Rattle.pauli_word.specs.Letters.{is_minus, letter_product, letter_power, letters_clash}
 use Rattle.pauli_word.specs.Parity.{exclusive_or}
-use Rattle.pauli_word.specs.States.{is_I_or_Z, start_state, is_decided, IsMember}
+use Rattle.pauli_word.specs.States.{is_I_or_Z, start_state, is_decided}
+use Rattle.pauli_word.specs.Groups.{IsMember}
 use Rattle.pauli_word.specs.Words.{signed, anticommute, product, no_letters, lone_letter, letter_at, has_X_or_Y, lowest_X_or_Y}
 use Rattle.pauli_word.proofs.LoneLetters.{length-lone_letter, anticommute-lone_letter, letters_product-lone_letter, letters_power-lone_letter}
 use Rattle.tableau.specs.EncodingSteps.{lone}

@@ -10,10 +10,11 @@ use Rattle.pauli_word.specs.declared.letter.Letter.{Letter}
 use Rattle.pauli_word.specs.declared.letter.Letter.TheVariants.{I, X, Z}
 use Rattle.pauli_word.specs.Letters.{letters_clash}
 use Rattle.pauli_word.specs.Parity.{exclusive_or}
-use Rattle.pauli_word.specs.Words.{Signed, anticommute, no_letters, identity_word, lone_letter, letter_at, signed, with_sign_changed}
+use Rattle.pauli_word.specs.Words.{Signed, anticommute, no_letters, lone_letter, letter_at, signed, with_sign_changed}
 use Rattle.pauli_word.proofs.Parities.{exclusive_or_assoc, exclusive_or_self}
 use Rattle.gate_table.specs.WordImages.{image_at, image_at_two, preimage_at, preimage_at_two}
-use Rattle.pauli_word.specs.States.{State, IsGroup, start_state}
+use Rattle.pauli_word.specs.States.{State, start_state}
+use Rattle.pauli_word.specs.Groups.{IsGroup, identity_word}
 use Rattle.gate_table.proofs.GateGroups.{image_at_keeps, image_at_two_keeps}
 use Rattle.gate_table.proofs.WordImageLaws.{letter_at-none, image_at-preimage_at, preimage_at-image_at}
 use Rattle.gate_table.proofs.PairImageLaws.{image_at_two-preimage_at_two, preimage_at_two-image_at_two}

@@ -5,7 +5,8 @@ use Rattle.pauli_word.specs.declared.letter.Letter.{Letter}
 use Rattle.pauli_word.specs.declared.letter.Letter.TheVariants.{X, Z}
 use Rattle.pauli_word.specs.Letters.{letters_clash}
 use Rattle.pauli_word.specs.States.{State, start_state, is_decided, outcome, collapsed}
-use Rattle.pauli_word.specs.Words.{Signed, signed, with_sign_changed, anticommute, identity_word, lone_letter, letter_at, lowest_X_or_Y}
+use Rattle.pauli_word.specs.Words.{Signed, signed, with_sign_changed, anticommute, lone_letter, letter_at, lowest_X_or_Y}
+use Rattle.pauli_word.specs.Groups.{identity_word}
 use Rattle.pauli_word.proofs.LetterLaws.{letters_clash_comm}
 use Rattle.pauli_word.proofs.LoneLetters.{length-lone_letter, anticommute-lone_letter}
 use Rattle.pauli_word.proofs.WordLaws.{anticommute_comm}

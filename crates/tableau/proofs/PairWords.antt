@@ -9,7 +9,8 @@ use Rattle.pauli_word.specs.declared.letter.Letter.{Letter}
 use Rattle.pauli_word.specs.declared.letter.Letter.TheVariants.{I, X, Y, Z}
 use Rattle.pauli_word.specs.Letters.{letters_clash}
 use Rattle.pauli_word.specs.Parity.{exclusive_or}
-use Rattle.pauli_word.specs.Words.{Signed, signed, with_sign_changed, anticommute, product, no_letters, identity_word, lone_letter, letter_at}
+use Rattle.pauli_word.specs.Words.{Signed, signed, with_sign_changed, anticommute, product, no_letters, lone_letter, letter_at}
+use Rattle.pauli_word.specs.Groups.{identity_word}
 use Rattle.pauli_word.proofs.LetterLaws.{letters_clash_comm, letters_clash_of_I}
 use Rattle.pauli_word.proofs.LoneLetters.{length-lone_letter, anticommute-lone_letter}
 use Rattle.pauli_word.proofs.Parities.{exclusive_or-false}

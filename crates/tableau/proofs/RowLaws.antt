@@ -9,8 +9,9 @@ use Rattle.pauli_word.specs.declared.letter.Letter.{Letter}
 use Rattle.pauli_word.specs.declared.letter.Letter.TheVariants.{I, X, Z}
 use Rattle.pauli_word.specs.Letters.{letters_clash}
 use Rattle.pauli_word.specs.Parity.{exclusive_or}
-use Rattle.pauli_word.specs.States.{State, is_I_or_Z, start_state, IsMember, IsGroup}
-use Rattle.pauli_word.specs.Words.{Signed, signed, with_sign_changed, anticommute, product, letters_product, no_letters, identity_word, lone_letter}
+use Rattle.pauli_word.specs.States.{State, is_I_or_Z, start_state}
+use Rattle.pauli_word.specs.Groups.{IsMember, IsGroup, identity_word}
+use Rattle.pauli_word.specs.Words.{Signed, signed, with_sign_changed, anticommute, product, letters_product, no_letters, lone_letter}
 use Rattle.pauli_word.proofs.LetterLaws.{letters_clash_comm, letters_clash_of_I}
 use Rattle.pauli_word.proofs.LoneLetters.{length-lone_letter, anticommute-lone_letter, letters_product_of_no_letters}
 use Rattle.pauli_word.proofs.WordLaws.{letters_product_assoc, letters_product_comm}

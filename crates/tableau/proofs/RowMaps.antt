@@ -7,7 +7,8 @@ use Rattle.pauli_word.specs.declared.letter.Letter.{Letter}
 use Rattle.pauli_word.specs.declared.letter.Letter.TheVariants.{I, X, Y, Z}
 use Rattle.pauli_word.specs.Letters.{power_product, is_minus, letter_power}
 use Rattle.pauli_word.specs.Parity.{exclusive_or}
-use Rattle.pauli_word.specs.Words.{Signed, letters_product, anticommute, product, no_letters, identity_word, lone_letter, signed, with_sign_changed}
+use Rattle.pauli_word.specs.Words.{Signed, letters_product, anticommute, product, no_letters, lone_letter, signed, with_sign_changed}
+use Rattle.pauli_word.specs.Groups.{identity_word}
 use Rattle.pauli_word.proofs.Parities.{exclusive_or-false}
 use Rattle.pauli_word.proofs.LetterLaws.{letter_product-I, letter_power-I}
 use Rattle.pauli_word.proofs.WordLaws.{letters_power_of_none}

@@ -8,7 +8,8 @@ use Rattle.pauli_word.specs.declared.letter.Letter.{Letter}
 use Rattle.pauli_word.specs.declared.letter.Letter.TheVariants.{X, Z}
 use Rattle.pauli_word.specs.Parity.{exclusive_or}
 use Rattle.pauli_word.specs.States.{State, is_I_or_Z, start_state, is_decided, outcome, collapsed}
-use Rattle.pauli_word.specs.Words.{Signed, signed, anticommute, product, identity_word}
+use Rattle.pauli_word.specs.Words.{Signed, signed, anticommute, product}
+use Rattle.pauli_word.specs.Groups.{identity_word}
 use Rattle.tableau.specs.Encoding.{Pair, word_of, letters_encoded, encoded, pair_at, IsTableau}
 use Rattle.tableau.specs.EncodingSteps.{lone}
 use Rattle.tableau.specs.Decoding.{decoded_letters, decoded, decoded_pairs, rows_of, rows_seen}

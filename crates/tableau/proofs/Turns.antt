@@ -5,11 +5,12 @@ use Rattle.std.proofs.Common.{◌≡◌, inl, inr, ℕ, Bool, true, false, not, 
 use Rattle.std.proofs.lemmas.Bool.{cases_Bool}
 use Rattle.pauli_word.specs.declared.letter.Letter.{Letter}
 use Rattle.pauli_word.specs.Parity.{exclusive_or}
-use Rattle.pauli_word.specs.Words.{Signed, anticommute, product, no_letters, identity_word, signed, with_sign_changed}
+use Rattle.pauli_word.specs.Words.{Signed, anticommute, product, no_letters, signed, with_sign_changed}
 use Rattle.pauli_word.proofs.Parities.{exclusive_or-false, exclusive_or_assoc}
 use Rattle.pauli_word.proofs.WordLaws.{length-letters_product, anticommute_comm, anticommute_self, anticommute_of_none, anticommute-product}
 use Rattle.pauli_word.proofs.SignedLaws.{product_comm, product_self, product_of_identity, product-sign_changed_right}
-use Rattle.pauli_word.specs.States.{State, is_decided, collapsed, IsMember, IsGroup}
+use Rattle.pauli_word.specs.States.{State, is_decided, collapsed}
+use Rattle.pauli_word.specs.Groups.{IsMember, IsGroup, identity_word}
 use Rattle.pauli_word.specs.WordMaps.{KeepsWords}
 use Rattle.tableau.specs.CliffordMaps.{IsClifford, turned}
 use Rattle.tableau.proofs.SignedAlgebra.{product_regrouped, product_swapped}

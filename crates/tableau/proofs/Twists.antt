@@ -2,7 +2,8 @@
 -- don't.
 use Rattle.std.proofs.Common.{◌≡◌, ℕ, Bool, true, false, ◌&&◌, if◌then◌else◌, length, refl, ap, ap₂, sym, ◌∙◌}
 use Rattle.pauli_word.specs.Parity.{exclusive_or}
-use Rattle.pauli_word.specs.Words.{Signed, product, identity_word, with_sign_changed}
+use Rattle.pauli_word.specs.Words.{Signed, product, with_sign_changed}
+use Rattle.pauli_word.specs.Groups.{identity_word}
 use Rattle.pauli_word.proofs.WordLaws.{anticommute_self}
 use Rattle.pauli_word.proofs.SignedLaws.{product_self, product_of_identity, product-sign_changed_right}
 use Rattle.tableau.specs.CliffordMaps.{IsClifford, turned, twisted}

@@ -4,7 +4,8 @@
 use Rattle.std.specs.Prelude.{◌≡◌, ◌<◌, ℕ, true, List, ◌∷◌, length, slice_index_or}
 use Rattle.pauli_word.specs.declared.letter.Letter.{Letter}
 use Rattle.pauli_word.specs.declared.letter.Letter.TheVariants.{I, X, Y, Z}
-use Rattle.pauli_word.specs.Words.{Signed, with_sign_changed, product, identity_word}
+use Rattle.pauli_word.specs.Words.{Signed, with_sign_changed, product}
+use Rattle.pauli_word.specs.Groups.{identity_word}
 use Rattle.tableau.specs.CliffordMaps.{IsClifford}
 
 -- the words of X and of Z at one qubit

@@ -9,7 +9,8 @@ use Rattle.std.specs.List.{list_all}
 use Rattle.pauli_word.specs.declared.letter.Letter.{Letter}
 use Rattle.pauli_word.specs.Parity.{exclusive_or}
 use Rattle.pauli_word.specs.States.{State}
-use Rattle.pauli_word.specs.Words.{Signed, anticommute, product, identity_word}
+use Rattle.pauli_word.specs.Words.{Signed, anticommute, product}
+use Rattle.pauli_word.specs.Groups.{identity_word}
 
 -- the rows of both kinds, one a qubit
 pub record Rows : Type 0 where

@@ -1,7 +1,8 @@
 //! The pair of words that X and Z at one qubit become under the inverse circuit, and the words of other letters there.
 ghost use Rattle.std.specs.Prelude.{◌≡◌, ◌<◌, length, true, false, IfOk};
 ghost use Rattle.pauli_word.specs.declared.letter.Letter.TheVariants.{Y};
-ghost use Rattle.pauli_word.specs.Words.{anticommute, product, identity_word, with_sign_changed};
+ghost use Rattle.pauli_word.specs.Words.{anticommute, product, with_sign_changed};
+ghost use Rattle.pauli_word.specs.Groups.{identity_word};
 ghost use Rattle.tableau.specs.Encoding.{HasLength, word_of};
 ghost use Rattle.tableau.specs.EncodingSteps.{pair_after, start_pair};
 

@@ -1,7 +1,7 @@
 //! What holds of the rows of every tableau. Each function does nothing: its contract is the law, proved.
 ghost use Rattle.std.specs.Prelude.{◌≡◌, ◌≢◌, ◌<◌, ◌||◌, ℕ, Bool, true, false, List, length};
 ghost use Rattle.pauli_word.specs.declared.letter.Letter.{Letter};
-ghost use Rattle.pauli_word.specs.States.{IsGroup};
+ghost use Rattle.pauli_word.specs.Groups.{IsGroup};
 ghost use Rattle.pauli_word.specs.Words.{Signed, with_sign_changed, anticommute, letters_product};
 ghost use Rattle.tableau.specs.Rows.{row_count, stabilizer_at, destabilizer_at, chosen_product, stabilizer_product, destabilizer_product, state_of};
 

@@ -2,8 +2,8 @@
 use Rattle.std.proofs.Common.{◌≡◌, ◌+◌, length, sym, ap, ap₂, subst, ◌∙◌}
 use Rattle.std.proofs.lemmas.List.{length-map}
 use Rattle.step_model.specs.Listing.{ListedFault}
-use Rattle.draws.specs.Drawn.{bounds_of}
-use Rattle.draws.specs.SideBySide.{AreDrawn, after_shots}
+use Rattle.draws.specs.Drawn.{bounds_of, after_shots}
+use Rattle.draws.specs.Shots.{AreDrawn}
 use Rattle.lanes.specs.Lanes.{lane}
 use Rattle.pieces.specs.Pushed.{Pushes}
 use Rattle.sampling.specs.LaneLines.{lane_lines}

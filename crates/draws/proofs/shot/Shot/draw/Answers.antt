@@ -1,5 +1,6 @@
 use Rattle.std.proofs.Common.{length, sym, ap, ap₂, ◌∙◌}
-use Rattle.draws.specs.Drawn.{ShotLists, after_words}
+use Rattle.draws.specs.Drawn.{after_words}
+use Rattle.draws.specs.Shots.{ShotLists}
 use Rattle.draws.proofs.WordLemmas.{after_words-add}
 use Rattle.draws.proofs.shot.Shot.draw.Goals as goal
 
