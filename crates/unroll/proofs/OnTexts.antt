@@ -12,7 +12,7 @@ use Rattle.stim_parser.specs.Targets.{target_of, targets_in}
 use Rattle.stim_parser.specs.Verdicts.{line_targets}
 use Rattle.unroll.specs.Meaning.{made_of}
 use Rattle.unroll.specs.Refusals.{first_far_line, first_beyond}
-use Rattle.unroll.specs.Totals.{total}
+use Rattle.block_text.specs.Reached.{total}
 
 unfoldable pub on_texts : ⊤
 unfolding
