@@ -9,7 +9,8 @@ use Rattle.stim_parser.specs.declared.operation.Operation.{Operation}
 use Rattle.stim_parser.specs.declared.operation.Operation.TheVariants.{Measures, Resets, MeasuresAndResets, MeasuresProducts, Detects, Observes}
 use Rattle.stim_parser.specs.declared.target.Target.{Target}
 use Rattle.stim_parser.specs.declared.target.Target.TheVariants.{Plain, Inverted, Pauli}
-use Rattle.stim_parser.specs.Trees.{Tree, Nothing, Then, Block}
+use Rattle.stim_parser.specs.Trees.{Tree}
+use Rattle.block_text.specs.Trees.{Nothing, Then, Block}
 use Rattle.stim_parser.specs.Verdicts.{Instruction}
 use Rattle.stim_parser.specs.Numbers.{value_of}
 use Rattle.stim_parser.specs.Limits.{products_of}
