@@ -8,7 +8,8 @@ use Rattle.step_model.specs.ErrorModels.{ErrorLine, ErrorModel}
 use Rattle.step_model.specs.WellFormed.{CoordinatesFit}
 use Rattle.stim_lexer.specs.Bytes.{is_empty}
 use Rattle.stim_parser.specs.Limits.{has_wrong_arguments, has_wrong_probability}
-use Rattle.stim_parser.specs.Numbers.{is_number_beyond, is_whole_number, magnitude_of}
+use Rattle.stim_parser.specs.Numbers.{is_number_beyond, magnitude_of}
+use Rattle.stim_parser.specs.Coordinates.{is_whole_number}
 use Rattle.dem_lines.specs.Limits.{are_of_form, has_target_beyond, is_effect, is_target_beyond}
 use Rattle.dem_lines.specs.Verdicts.{Instruction}
 use Rattle.model_laws.specs.Writable.{IsWritable, IsWritableLine}

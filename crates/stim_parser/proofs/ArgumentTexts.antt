@@ -9,8 +9,9 @@ use Rattle.block_text.proofs.QuestionLemmas.{neither, not_not}
 use Rattle.stim_parser.specs.declared.forms.ArgumentForm.{ArgumentForm}
 use Rattle.stim_parser.specs.declared.forms.ArgumentForm.TheVariants.{NoArguments, ProbabilityAtWill, OneProbability, WholeNumbers, Decimals, OneNumber}
 use Rattle.stim_parser.specs.Arguments.{arguments_in, is_comma, trimmed}
-use Rattle.stim_parser.specs.Limits.{has_wrong_arguments, has_wrong_probability, is_argument, is_decimal, is_probability}
-use Rattle.stim_parser.specs.Numbers.{is_number, is_whole_number, without_minus}
+use Rattle.stim_parser.specs.Limits.{has_wrong_arguments, has_wrong_probability, is_argument, is_probability}
+use Rattle.stim_parser.specs.Coordinates.{is_decimal, is_whole_number}
+use Rattle.stim_parser.specs.Numbers.{is_number, without_minus}
 use Rattle.stim_parser.specs.Written.{joined_arguments, more_arguments}
 use Rattle.stim_parser.proofs.AcceptedLemmas.{accepted_is_word, bytes_of_decimal}
 use Rattle.stim_parser.proofs.ByteLemmas.{all-where, both_all, none-where}

@@ -5,12 +5,12 @@ use Rattle.stim_lexer.specs.Cut.{Cut}
 use Rattle.stim_lexer.specs.Lines.{lines_of}
 use Rattle.block_text.specs.Fitting.{IsTurns, TurnsWithin, depth}
 use Rattle.block_text.specs.Texts.{Reading, Takes, Opens, Closes, before, followed, items_from, open_after}
-use Rattle.block_text.specs.Trees.{Does, Begins, Ends}
+use Rattle.block_text.specs.Trees.{Does, Begins, Ends, Nothing, Then, Block}
 use Rattle.block_text.proofs.TextLemmas.{after, after-append, after-ok}
 use Rattle.stim_parser.specs.Circuits.{AllFit, Fits, IsCircuit}
 use Rattle.stim_parser.specs.Judging.{reading_of}
 use Rattle.stim_parser.specs.Texts.{Item, circuits, items_in}
-use Rattle.stim_parser.specs.Trees.{Tree, Nothing, Then, Block}
+use Rattle.stim_parser.specs.Trees.{Tree}
 use Rattle.stim_parser.specs.Judged.{Writes, items_of}
 use Rattle.stim_parser.specs.Verdicts.{Instruction, circuit_table}
 use Rattle.stim_parser.specs.Written.{at_line, circuit_text, instruction_text, line_count, opening_text, with_lines, with_lines_after}

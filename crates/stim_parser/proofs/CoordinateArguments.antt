@@ -9,10 +9,10 @@ use Rattle.stim_parser.specs.declared.table.Keyword.TheVariants.{Does}
 use Rattle.stim_parser.specs.declared.operation.Operation.{Operation}
 use Rattle.stim_parser.specs.declared.operation.Operation.TheVariants.{Detects, ShiftsCoordinates}
 use Rattle.stim_parser.specs.Circuits.{Fits}
-use Rattle.stim_parser.specs.Coordinates.{coordinates_in, is_coordinate, is_coordinate_beyond}
+use Rattle.stim_parser.specs.Coordinates.{coordinates_in, is_coordinate, is_coordinate_beyond, is_whole_number}
 use Rattle.stim_parser.specs.Instructions.{argument_form}
 use Rattle.stim_parser.specs.Limits.{has_argument_beyond, has_wrong_arguments, is_argument}
-use Rattle.stim_parser.specs.Numbers.{greatest_coordinate, has_minus, is_whole_number, magnitude_of, whole_value}
+use Rattle.stim_parser.specs.Numbers.{greatest_coordinate, has_minus, magnitude_of, whole_value}
 use Rattle.stim_parser.specs.Verdicts.{Instruction}
 
 -- coordinates of magnitudes up to a number

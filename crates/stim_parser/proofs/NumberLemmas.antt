@@ -8,7 +8,8 @@ use Rattle.std.proofs.lemmas.Fmt.{decimal_by_steps}
 use Rattle.std.proofs.lemmas.List.Sums.{fold-append}
 use Rattle.step_model.specs.Probabilities.{digits_value}
 use Rattle.stim_lexer.specs.Bytes.{is_empty}
-use Rattle.stim_parser.specs.Numbers.{has_minus, is_whole_number, magnitude_of, number_of, value_of, whole_value, without_minus}
+use Rattle.stim_parser.specs.Numbers.{has_minus, magnitude_of, number_of, value_of, whole_value, without_minus}
+use Rattle.stim_parser.specs.Coordinates.{is_whole_number}
 use Rattle.stim_parser.proofs.ByteLemmas.{both_all}
 use Rattle.stim_parser.proofs.WordLemmas.{digits_are_word_bytes, is_word}
 

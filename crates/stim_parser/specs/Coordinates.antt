@@ -1,9 +1,17 @@
 -- What is read of an instruction's arguments: the number that the first one writes, and all of them as coordinates,
 -- which are whole numbers within their limit. An instruction has at most 16 of them. (Stim's gate reference,
 -- github.com/quantumlib/Stim, doc/gates.md, "DETECTOR" and "OBSERVABLE_INCLUDE"; the limits are this project's.)
-use Rattle.std.specs.Prelude.{ℕ, nat_le, Bool, not, ◌&&◌, if◌then◌else◌, ℤ, List, length, map, Option, None, Some, option_and_then, slice_get, nat_lt}
+use Rattle.std.specs.Prelude.{ℕ, nat_le, Bool, not, ◌&&◌, if◌then◌else◌, ℤ, List, length, map, Option, None, Some, option_and_then, slice_get, nat_lt, is_some}
 use Rattle.std.specs.List.{list_all}
-use Rattle.stim_parser.specs.Numbers.{is_whole_number, number_of, whole_value, greatest_coordinate, magnitude_of}
+use Rattle.step_model.specs.Probabilities.{decimal_of}
+use Rattle.stim_parser.specs.Numbers.{is_number, number_of, without_minus, whole_value, greatest_coordinate, magnitude_of}
+
+-- digits with a `-` before them or without, and such with a point and an exponent too
+abbrev pub is_whole_number : List ℕ → Bool
+is_whole_number text = is_number (without_minus text)
+
+abbrev pub is_decimal : List ℕ → Bool
+is_decimal text = is_some (decimal_of (without_minus text))
 
 abbrev pub is_coordinate_beyond : List ℕ → Bool
 is_coordinate_beyond text = nat_lt greatest_coordinate (magnitude_of text)

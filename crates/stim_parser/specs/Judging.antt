@@ -99,13 +99,8 @@ abbrev pub accepted : {O T F : Type 0} → Table O T F → ℕ → Option (Keywo
 accepted table number None cut = Refuses (table.refusal_of_name cut.name)
 accepted table number (Some Repeats) cut = Opens (table.turns_of (read_targets table (table.target_form Repeats) cut.targets))
 accepted table number (Some (Does operation)) cut =
-    Takes
-    (record {
-      line = number;
-      operation = operation;
-      arguments = arguments_in cut.arguments;
-      targets = read_targets table (table.target_form (Does operation)) cut.targets;
-    })
+    let targets = read_targets table (table.target_form (Does operation)) cut.targets in
+    Takes (record { line = number; operation = operation; arguments = arguments_in cut.arguments; targets = targets })
 
 abbrev pub unless_refused : {I : Type 0} → Option Cause → Reading I → Reading I
 unless_refused None reading = reading

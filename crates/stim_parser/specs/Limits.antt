@@ -12,7 +12,7 @@ use Rattle.stim_parser.specs.declared.forms.TargetForm.{TargetForm}
 use Rattle.stim_parser.specs.declared.forms.TargetForm.TheVariants.{NoTargets, Qubits, QubitsInvertedAtWill, QubitPairs, PairsRecordFirst, PairsOneRecord, Paulis, Products, Records, Turns}
 use Rattle.stim_parser.specs.declared.target.Target.{Target}
 use Rattle.stim_parser.specs.declared.target.Target.TheVariants.{Plain, Inverted, Back, Pauli, Star}
-use Rattle.stim_parser.specs.Numbers.{is_number, is_whole_number, without_minus, value_of, magnitude_of, is_number_beyond, is_qubit_beyond}
+use Rattle.stim_parser.specs.Numbers.{is_number, without_minus, value_of, magnitude_of, is_number_beyond, is_qubit_beyond}
 
 -- ---- arguments
 
@@ -20,18 +20,14 @@ use Rattle.stim_parser.specs.Numbers.{is_number, is_whole_number, without_minus,
 abbrev pub is_wrong_count : ArgumentForm → ℕ → Bool
 is_wrong_count NoArguments n = not (n == 0)
 is_wrong_count ProbabilityAtWill n = nat_lt 1 n
-is_wrong_count OneProbability n = not (n == 1)
 is_wrong_count WholeNumbers n = nat_lt 16 n
 is_wrong_count Decimals n = nat_lt 16 n
-is_wrong_count OneNumber n = not (n == 1)
-
-abbrev pub is_decimal : List ℕ → Bool
-is_decimal text = is_some (decimal_of (without_minus text))
+is_wrong_count form n = not (n == 1)
 
 -- an argument of the form that is asked; of a probability it is asked here only that it isn't empty, and its form later
 abbrev pub is_argument : ArgumentForm → List ℕ → Bool
-is_argument WholeNumbers text = is_whole_number text
-is_argument Decimals text = is_decimal text
+is_argument WholeNumbers text = is_number (without_minus text)
+is_argument Decimals text = is_some (decimal_of (without_minus text))
 is_argument OneNumber text = is_number text
 is_argument form text = not (is_empty text)
 
@@ -100,25 +96,27 @@ are_products targets = false
 -- targets of the form that an instruction takes: of a pair the second, or both, may be no records
 unfoldable pub are_of_form : TargetForm → List Target → Bool
 are_of_form NoTargets targets = true
-are_of_form Qubits targets = list_all is_plain targets
 are_of_form QubitsInvertedAtWill targets = list_all is_plain_or_inverted targets
-are_of_form QubitPairs targets = list_all is_plain targets
 are_of_form PairsRecordFirst targets = list_all is_plain_or_back targets && not (some_pair (λ a b. is_back b) targets)
 are_of_form PairsOneRecord targets = list_all is_plain_or_back targets && not (some_pair (λ a b. is_back a && is_back b) targets)
 are_of_form Paulis targets = list_all is_pauli targets
 are_of_form Products targets = are_products targets
 are_of_form Records targets = list_all is_back targets
-are_of_form Turns targets = list_all is_plain targets
+are_of_form form targets = list_all is_plain targets
 
 -- ---- limits of targets
 
+-- the qubit that a target names
+abbrev pub qubit_of : Target → ℕ
+qubit_of (Plain q) = q
+qubit_of (Inverted q) = q
+qubit_of (Pauli inverted l q) = q
+qubit_of target = 0
+
 abbrev pub is_target_beyond : TargetForm → Target → Bool
-is_target_beyond Turns (Plain n) = is_number_beyond n
-is_target_beyond form (Plain q) = is_qubit_beyond q
-is_target_beyond form (Inverted q) = is_qubit_beyond q
 is_target_beyond form (Back k) = is_number_beyond k
-is_target_beyond form (Pauli inverted l q) = is_qubit_beyond q
-is_target_beyond form Star = false
+is_target_beyond Turns (Plain n) = is_number_beyond n
+is_target_beyond form target = is_qubit_beyond (qubit_of target)
 
 unfoldable pub has_target_beyond : TargetForm → List Target → Bool
 has_target_beyond form targets = list_any (is_target_beyond form) targets

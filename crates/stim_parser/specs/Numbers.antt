@@ -12,13 +12,9 @@ use Rattle.stim_lexer.specs.Bytes.{is_empty}
 abbrev pub is_number : List ℕ → Bool
 is_number text = not (is_empty text) && list_all is_ascii_digit text
 
--- the least number that is beyond every limit
-abbrev pub beyond_all : ℕ
-beyond_all = 1_000_000_000_000_000_000
-
 -- the number that digits write; all from 10^18 on are taken as one
 abbrev pub value_of : List ℕ → ℕ
-value_of digits = min (digits_value digits) beyond_all
+value_of digits = min (digits_value digits) 1_000_000_000_000_000_000
 
 abbrev pub number_of : List ℕ → Option ℕ
 number_of text = if is_number text then Some (value_of text) else None
@@ -31,9 +27,6 @@ without_minus (b ∷ text) = if b == 45 then text else b ∷ text
 abbrev pub has_minus : List ℕ → Bool
 has_minus [] = false
 has_minus (b ∷ text) = b == 45
-
-abbrev pub is_whole_number : List ℕ → Bool
-is_whole_number text = is_number (without_minus text)
 
 -- the value of a whole number, without its sign and with it
 abbrev pub magnitude_of : List ℕ → ℕ

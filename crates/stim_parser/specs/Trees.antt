@@ -3,7 +3,6 @@
 -- (Stim's circuit format, github.com/quantumlib/Stim, doc/file_format_stim_circuit.md, "REPEAT blocks".)
 use Rattle.block_text.specs.Trees as trees
 use Rattle.stim_parser.specs.Verdicts.{Instruction}
-pub use Rattle.block_text.specs.Trees.{Nothing, Then, Block}
 
 -- what stands in a circuit or in a block, from the first on: nothing; an instruction and the rest; or a block, with its line,
 -- its turns and its body, and the rest

@@ -33,10 +33,6 @@ use Rattle.stim_parser.specs.Targets.{targets_in}
 abbrev pub Instruction : Type 0
 Instruction = lines.Instruction Operation Target
 
--- a name that names nothing
-abbrev pub refusal_of_name : List ℕ → Cause
-refusal_of_name name = if is_left_out name then cause.LeftOut else cause.Name
-
 abbrev pub takes_none : TargetForm → Bool
 takes_none NoTargets = true
 takes_none form = false
@@ -45,13 +41,12 @@ takes_none form = false
 unfoldable pub line_targets : TargetForm → List ℕ → Option (List Target)
 line_targets form text = if takes_none form then Some [] else targets_in text
 
--- a wrong number of targets, and any where none is taken
-abbrev pub has_wrong_number : TargetForm → List ℕ → List Target → Bool
-has_wrong_number form text targets = (takes_none form && not (is_empty (after_blanks text))) || has_wrong_count form targets
-
+-- a wrong number of targets, and any where none is taken; and a qubit that is named twice
 abbrev pub refusals_of_targets : TargetForm → List ℕ → List Target → List (Bool × Cause)
 refusals_of_targets form text targets =
-    (has_wrong_number form text targets, cause.Count) ∷ (has_same_qubit form targets, cause.SameQubit) ∷ []
+    ((takes_none form && not (is_empty (after_blanks text))) || has_wrong_count form targets, cause.Count)
+    ∷ (has_same_qubit form targets, cause.SameQubit)
+    ∷ []
 
 -- how often a block is repeated, by the targets of its line
 abbrev pub turns_of : List Target → ℕ
@@ -62,7 +57,7 @@ abbrev pub circuit_table : Table Operation Target TargetForm
 circuit_table =
     record {
       keyword_named = keyword_named;
-      refusal_of_name = refusal_of_name;
+      refusal_of_name = λ name. if is_left_out name then cause.LeftOut else cause.Name;
       argument_form = argument_form;
       greatest_coordinate = greatest_coordinate;
       target_form = target_form;

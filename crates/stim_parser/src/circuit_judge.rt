@@ -1,8 +1,9 @@
-ghost use Rattle.std.specs.Prelude.{◌≡◌, None, Some, false, IfOk, MatchBool};
+ghost use Rattle.std.specs.Prelude.{◌≡◌, ◌&&◌, ◌||◌, not, None, Some, false, IfOk, MatchBool};
+ghost use Rattle.stim_lexer.specs.Bytes.{after_blanks, is_empty};
 ghost use Rattle.stim_parser.specs.Circuits as circuits;
 ghost use Rattle.stim_parser.specs.Judging.{first_of};
-ghost use Rattle.stim_parser.specs.Limits.{has_target_beyond};
-ghost use Rattle.stim_parser.specs.Verdicts.{circuit_table, has_wrong_number, line_targets, refusal_of_name, refusals_of_targets, takes_none, turns_of};
+ghost use Rattle.stim_parser.specs.Limits.{has_target_beyond, has_wrong_count};
+ghost use Rattle.stim_parser.specs.Verdicts.{circuit_table, line_targets, refusals_of_targets, takes_none, turns_of};
 
 use crate::forms::{ArgumentForm, TargetForm, argument_form, target_form};
 use crate::last::Last;
@@ -42,7 +43,7 @@ fn read_line_targets<A: Allocator + Copy>(
 
 /// Whether there are targets where none is taken, or another number of them than is taken.
 fn has_wrong_number(form: TargetForm, text: &[u8], targets: &[Target]) -> bool
-    ensures { result ≡ has_wrong_number form text.now targets.now }
+    ensures { result ≡ ((takes_none form && not (is_empty (after_blanks text.now))) || has_wrong_count form targets.now) }
 {
     (takes_none(form) && !after_blanks(text).is_empty()) || has_wrong_count(form, targets)
 }

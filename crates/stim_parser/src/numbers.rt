@@ -1,7 +1,6 @@
 ghost use Rattle.std.specs.Prelude.{◌≡◌};
-ghost use Rattle.stim_parser.specs.Limits.{is_decimal};
-ghost use Rattle.stim_parser.specs.Numbers.{is_number_beyond, is_qubit_beyond, is_whole_number, magnitude_of, without_minus};
-ghost use Rattle.stim_parser.specs.Coordinates.{is_coordinate_beyond};
+ghost use Rattle.stim_parser.specs.Numbers.{is_number_beyond, is_qubit_beyond, magnitude_of, without_minus};
+ghost use Rattle.stim_parser.specs.Coordinates.{is_coordinate_beyond, is_decimal, is_whole_number};
 
 use crate::decimal::decimal_of;
 use crate::digits::{is_number, value_of};

@@ -7,7 +7,8 @@ use Rattle.std.proofs.lemmas.List.{drop_all}
 use Rattle.stim_parser.specs.declared.operation.Operation.{Operation}
 use Rattle.stim_parser.specs.declared.operation.Operation.TheVariants.{Observes}
 use Rattle.stim_parser.specs.Circuits.{Fits}
-use Rattle.stim_parser.specs.Texts.{Item, Does, Begins, Ends}
+use Rattle.stim_parser.specs.Texts.{Item}
+use Rattle.block_text.specs.Trees.{Does, Begins, Ends}
 use Rattle.stim_parser.specs.Trees.{Tree}
 use Rattle.stim_parser.specs.Judged.{items_of}
 use Rattle.stim_parser.specs.Verdicts.{Instruction}

@@ -9,7 +9,8 @@ use Rattle.stim_parser.specs.declared.operation.Operation.{Operation}
 use Rattle.stim_parser.specs.declared.operation.Operation.TheVariants.{Detects, ShiftsCoordinates}
 use Rattle.stim_parser.specs.Circuits.{AllFit, IsCircuit}
 use Rattle.stim_parser.specs.Numbers.{whole_value}
-use Rattle.stim_parser.specs.Trees.{Tree, Nothing, Then, Block}
+use Rattle.stim_parser.specs.Trees.{Tree}
+use Rattle.block_text.specs.Trees.{Nothing, Then, Block}
 use Rattle.stim_parser.specs.Verdicts.{Instruction}
 use Rattle.unroll.specs.Coordinates.{coordinates_from, coordinates_of}
 use Rattle.stim_parser.specs.Offsets.{moved, shifted}

@@ -5,7 +5,7 @@ use Rattle.std.specs.Prelude.{All, slice_get}
 use Rattle.std.specs.Option.{option_to_list}
 use Rattle.std.proofs.lemmas.List.Elements.{All-append, All-drop, All-map, All-nil, All-weaker}
 use Rattle.stim_parser.specs.Circuits.{AllFit, IsCircuit}
-use Rattle.stim_parser.specs.Texts.{Does, Begins, Ends}
+use Rattle.block_text.specs.Trees.{Does, Begins, Ends}
 use Rattle.stim_parser.specs.Trees.{Tree}
 use Rattle.stim_parser.specs.Judged.{items_of}
 use Rattle.stim_parser.specs.Verdicts.{Instruction}

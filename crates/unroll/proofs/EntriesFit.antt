@@ -16,11 +16,11 @@ use Rattle.stim_parser.specs.declared.target.Target.{Target}
 use Rattle.stim_parser.specs.declared.target.Target.TheVariants.{Plain, Pauli}
 use Rattle.stim_parser.specs.Circuits.{IsCircuit}
 use Rattle.stim_parser.specs.Products.{is_factor}
-use Rattle.stim_parser.specs.Limits.{are_of_form, has_wrong_arguments, has_wrong_probability, is_pauli, is_plain, is_probability}
+use Rattle.stim_parser.specs.Limits.{are_of_form, has_wrong_arguments, has_wrong_probability, is_pauli, is_plain, is_probability, qubit_of}
 use Rattle.stim_parser.specs.Trees.{Tree}
 use Rattle.stim_parser.specs.Verdicts.{Instruction}
 use Rattle.unroll.specs.Kept.{entries_of, entry_at, entry_of, flip_entries, kept_entries, operation_entries}
-use Rattle.unroll.specs.Targets.{qubit_of, term_at, term_of}
+use Rattle.unroll.specs.Targets.{term_at, term_of}
 use Rattle.unroll.specs.Totals.{qubits_to, qubit_total, first_argument}
 use Rattle.unroll.specs.MadeTotals.{qubits_named}
 use Rattle.unroll.proofs.KeptParts.{all_parts}

@@ -17,7 +17,8 @@ use Rattle.stim_parser.specs.declared.operation.Operation.TheVariants.{Applies, 
 use Rattle.stim_parser.specs.declared.target.Target.{Target}
 use Rattle.stim_parser.specs.declared.target.Target.TheVariants.{Back}
 use Rattle.stim_parser.specs.Circuits.{AllFit, Fits, IsCircuit, target_is_written}
-use Rattle.stim_parser.specs.Trees.{Tree, Nothing, Then, Block}
+use Rattle.stim_parser.specs.Trees.{Tree}
+use Rattle.block_text.specs.Trees.{Nothing, Then, Block}
 use Rattle.stim_parser.specs.Verdicts.{Instruction}
 use Rattle.unroll.specs.Kept.{entries_of, kept_entries, kept_products, products_in}
 use Rattle.unroll.specs.Made.{fault_steps, measure_step, one_step, operation_steps, pair_step, pair_steps, product_steps, reset_step}

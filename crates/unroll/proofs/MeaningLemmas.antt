@@ -16,7 +16,8 @@ use Rattle.step_model.specs.Listing.{Listing, ListedFault, ListedStep}
 use Rattle.stim_parser.specs.declared.operation.Operation.{Operation}
 use Rattle.stim_parser.specs.declared.operation.Operation.TheVariants.{Observes}
 use Rattle.stim_parser.specs.Numbers.{value_of}
-use Rattle.stim_parser.specs.Trees.{Tree, Nothing, Then, Block}
+use Rattle.stim_parser.specs.Trees.{Tree}
+use Rattle.block_text.specs.Trees.{Nothing, Then, Block}
 use Rattle.stim_parser.specs.Verdicts.{Instruction}
 use Rattle.unroll.specs.Before.{Before}
 use Rattle.unroll.specs.Coordinates.{coordinates_from, coordinates_of}

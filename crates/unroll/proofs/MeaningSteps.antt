@@ -18,8 +18,8 @@ use Rattle.unroll.specs.Before.{Before}
 use Rattle.unroll.specs.Kept.{operation_products}
 use Rattle.unroll.specs.Made.{fault_steps, measure_step, one_step, operation_steps, pair_step, pair_steps, product_steps, recording, reset_step}
 use Rattle.unroll.specs.StepsMade.{flip_of, numbered_from, operation_made, pair_made, pairs_made}
-use Rattle.unroll.specs.Targets.{is_inverted, is_product_inverted, qubit_of, term_of}
-use Rattle.stim_parser.specs.Limits.{products_of}
+use Rattle.unroll.specs.Targets.{is_inverted, is_product_inverted, term_of}
+use Rattle.stim_parser.specs.Limits.{products_of, qubit_of}
 use Rattle.unroll.proofs.InstructionCounts.{pair-none}
 use Rattle.unroll.proofs.PartPlaces.{StandsAt, stands_behind}
 

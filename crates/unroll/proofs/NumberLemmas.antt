@@ -14,7 +14,8 @@ use Rattle.stim_parser.specs.declared.operation.Operation.TheVariants.{Measures,
 use Rattle.stim_parser.specs.Circuits.{Fits, IsCircuit}
 use Rattle.stim_parser.specs.Limits.{has_wrong_arguments, has_wrong_probability, is_probability}
 use Rattle.stim_parser.specs.Probabilities.{IsMarked, Keeps, Marks, chance_in, chance_taken, instruction_count}
-use Rattle.stim_parser.specs.Texts.{Item, Does, Begins, Ends}
+use Rattle.stim_parser.specs.Texts.{Item}
+use Rattle.block_text.specs.Trees.{Does, Begins, Ends}
 use Rattle.stim_parser.specs.Trees.{Tree}
 use Rattle.stim_parser.specs.Judged.{items_of}
 use Rattle.stim_parser.specs.Verdicts.{Instruction, circuit_table}

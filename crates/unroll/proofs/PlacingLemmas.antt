@@ -7,7 +7,8 @@ use Rattle.stim_parser.specs.declared.operation.Operation.{Operation}
 use Rattle.stim_parser.specs.declared.operation.Operation.TheVariants.{Detects, ShiftsCoordinates}
 use Rattle.stim_parser.specs.Circuits.{AllFit}
 use Rattle.stim_parser.specs.Numbers.{whole_value}
-use Rattle.stim_parser.specs.Trees.{Tree, Nothing, Then, Block}
+use Rattle.stim_parser.specs.Trees.{Tree}
+use Rattle.block_text.specs.Trees.{Nothing, Then, Block}
 use Rattle.stim_parser.specs.Verdicts.{Instruction}
 use Rattle.stim_parser.proofs.FewArguments.{HasFewCoordinates, has_few_coordinates}
 use Rattle.unroll.specs.declared.offsets.Offset.{Offset}

@@ -2,7 +2,8 @@
 use Rattle.std.proofs.Common.{◌≡◌, ℕ, ◌≤◌, List, [], ◌∷◌, ◌++◌, arith}
 use Rattle.std.specs.Prelude.{max}
 use Rattle.stim_parser.specs.Circuits.{AllFit, Fits, IsCircuit}
-use Rattle.stim_parser.specs.Trees.{Tree, Nothing, Then, Block}
+use Rattle.stim_parser.specs.Trees.{Tree}
+use Rattle.block_text.specs.Trees.{Nothing, Then, Block}
 use Rattle.stim_parser.specs.Verdicts.{Instruction}
 use Rattle.block_text.specs.Reached.{written}
 use Rattle.unroll.specs.Totals.{qubit_total}

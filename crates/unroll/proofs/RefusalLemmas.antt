@@ -5,7 +5,7 @@ use Rattle.std.specs.Option.{option_or}
 use Rattle.std.proofs.lemmas.Bool.{ltb-false, or_parts}
 use Rattle.step_model.specs.declared.fault.Cause.{Cause}
 use Rattle.step_model.specs.declared.fault.Cause.TheVariants as cause
-use Rattle.stim_parser.specs.Texts.{refused}
+use Rattle.block_text.specs.Texts.{refused}
 use Rattle.stim_parser.specs.Trees.{Tree}
 use Rattle.block_text.specs.Reached.{written}
 use Rattle.unroll.specs.Refusals.{first_beyond, first_far_line, has_many_detectors, has_many_records, has_many_steps, most_collapses, most_detectors, most_records, most_steps, of_circuit, refusal_of}

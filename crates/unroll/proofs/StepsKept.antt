@@ -16,7 +16,8 @@ use Rattle.programs.specs.Kept.{Kept, none_kept}
 use Rattle.stim_parser.specs.declared.operation.Operation.{Operation}
 use Rattle.stim_parser.specs.declared.operation.Operation.TheVariants.{Applies, Measures, Resets, MeasuresAndResets, MeasuresProducts, Errs, ErrsTogether}
 use Rattle.stim_parser.specs.declared.target.Target.{Target}
-use Rattle.stim_parser.specs.Trees.{Tree, Nothing, Then, Block}
+use Rattle.stim_parser.specs.Trees.{Tree}
+use Rattle.block_text.specs.Trees.{Nothing, Then, Block}
 use Rattle.block_text.specs.Reached.{written}
 use Rattle.unroll.specs.Kept.{entries_of, entry_at, entry_of, flip_entries, kept_entries, kept_products, operation_entries, operation_products, products_in}
 use Rattle.unroll.specs.Totals.{first_argument}

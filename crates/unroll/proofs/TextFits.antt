@@ -17,12 +17,11 @@ use Rattle.stim_parser.specs.declared.target.Target.{Target}
 use Rattle.stim_parser.specs.declared.target.Target.TheVariants.{Plain, Inverted}
 use Rattle.stim_parser.specs.Circuits.{IsCircuit}
 use Rattle.stim_parser.specs.Instructions.{gate_targets}
-use Rattle.stim_parser.specs.Limits.{are_of_form, has_same_qubit, is_plain, is_plain_or_inverted, is_same_qubit, products_of, some_pair}
+use Rattle.stim_parser.specs.Limits.{are_of_form, has_same_qubit, is_plain, is_plain_or_inverted, is_same_qubit, products_of, some_pair, qubit_of}
 use Rattle.stim_parser.specs.Trees.{Tree}
 use Rattle.stim_parser.specs.Verdicts.{Instruction}
 use Rattle.unroll.specs.Made.{fault_steps, gate_steps, measure_step, one_step, operation_steps, pair_steps, product_steps, reset_step}
 use Rattle.unroll.specs.StepsMade.{flip_of}
-use Rattle.unroll.specs.Targets.{qubit_of}
 use Rattle.unroll.specs.Steps.{instruction_steps, steps_of}
 use Rattle.unroll.specs.Totals.{qubits_to, qubit_total}
 use Rattle.unroll.specs.MadeTotals.{qubits_named}

@@ -6,8 +6,9 @@ use Rattle.programs.specs.Builders.{OpenBlock}
 use Rattle.programs.specs.Trees.{repeated}
 use Rattle.step_model.specs.declared.step.Term.{Term}
 use Rattle.programs.specs.Kept.{Kept}
-use Rattle.stim_parser.specs.Texts.{Item, Does, Begins, Ends}
-use Rattle.stim_parser.specs.Trees.{Tree, Nothing, Then, Block}
+use Rattle.stim_parser.specs.Texts.{Item}
+use Rattle.stim_parser.specs.Trees.{Tree}
+use Rattle.block_text.specs.Trees.{Nothing, Then, Block, Does, Begins, Ends}
 use Rattle.stim_parser.specs.Judged.{items_of}
 use Rattle.block_text.specs.Reached.{written}
 use Rattle.unroll.specs.Kept.{entries_of, kept_entries, kept_products, products_in}

@@ -1,7 +1,8 @@
 -- The line of an item that names an observable beyond the limit, as a pass over a circuit's items looks for it.
 -- (Stim's gate reference, github.com/quantumlib/Stim, doc/gates.md, "OBSERVABLE_INCLUDE"; the limit is this project's.)
 use Rattle.std.specs.Prelude.{ℕ, nat_lt, if◌then◌else◌, Option, None, Some}
-use Rattle.stim_parser.specs.Texts.{Item, Does}
+use Rattle.stim_parser.specs.Texts.{Item}
+use Rattle.block_text.specs.Trees.{Does}
 use Rattle.unroll.specs.Totals.{observables_to}
 use Rattle.unroll.specs.Refusals.{most_observables}
 

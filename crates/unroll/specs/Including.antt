@@ -8,7 +8,8 @@ use Rattle.stim_parser.specs.declared.operation.Operation.{Operation}
 use Rattle.stim_parser.specs.declared.operation.Operation.TheVariants.{Observes}
 use Rattle.stim_parser.specs.declared.target.Target.{Target}
 use Rattle.stim_parser.specs.Coordinates.{first_number}
-use Rattle.stim_parser.specs.Texts.{Item, Does}
+use Rattle.stim_parser.specs.Texts.{Item}
+use Rattle.block_text.specs.Trees.{Does}
 use Rattle.unroll.specs.declared.inclusions.Inclusion.{Inclusion}
 use Rattle.unroll.specs.Detecting.{records_after, records_onward}
 use Rattle.unroll.specs.TargetsMade.{record_named}

@@ -2,7 +2,8 @@
 -- (Stim's circuit format, github.com/quantumlib/Stim, doc/file_format_stim_circuit.md.)
 use Rattle.std.specs.Prelude.{⊤, ℕ, List, [], ◌∷◌}
 use Rattle.stim_parser.specs.Circuits.{Fits}
-use Rattle.stim_parser.specs.Texts.{Item, Does, Begins, Ends}
+use Rattle.stim_parser.specs.Texts.{Item}
+use Rattle.block_text.specs.Trees.{Does, Begins, Ends}
 use Rattle.stim_parser.specs.Verdicts.{Instruction}
 use Rattle.unroll.specs.MadeTotals.{qubits_named}
 

@@ -13,8 +13,8 @@ use Rattle.stim_parser.specs.declared.operation.Operation.TheVariants.{Applies, 
 use Rattle.stim_parser.specs.declared.target.Target.{Target}
 use Rattle.stim_parser.specs.declared.target.Target.TheVariants.{Back}
 use Rattle.unroll.specs.StepsMade.{fed_letter}
-use Rattle.stim_parser.specs.Limits.{products_of}
-use Rattle.unroll.specs.Targets.{qubit_of, is_inverted, is_product_inverted}
+use Rattle.stim_parser.specs.Limits.{products_of, qubit_of}
+use Rattle.unroll.specs.Targets.{is_inverted, is_product_inverted}
 
 -- ---- targets
 

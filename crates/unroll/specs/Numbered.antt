@@ -7,7 +7,8 @@ use Rattle.programs.specs.Kept.{Kept}
 use Rattle.step_model.specs.Probabilities.{probability_bound}
 use Rattle.stim_parser.specs.declared.operation.Operation.{Operation}
 use Rattle.stim_parser.specs.declared.operation.Operation.TheVariants.{Measures, MeasuresAndResets, MeasuresProducts, Errs, ErrsTogether}
-use Rattle.stim_parser.specs.Texts.{Item, Does, Begins, Ends}
+use Rattle.stim_parser.specs.Texts.{Item}
+use Rattle.block_text.specs.Trees.{Does, Begins, Ends}
 use Rattle.stim_parser.specs.Verdicts.{Instruction}
 use Rattle.unroll.specs.Totals.{first_argument}
 

@@ -13,8 +13,9 @@ use Rattle.step_model.specs.declared.fault.Cause.TheVariants as cause
 use Rattle.step_model.specs.Faults.{without_line}
 use Rattle.stim_parser.specs.declared.target.Target.{Target}
 use Rattle.stim_parser.specs.declared.target.Target.TheVariants.{Back}
-use Rattle.stim_parser.specs.Texts.{refused}
-use Rattle.stim_parser.specs.Trees.{Tree, Nothing, Then, Block}
+use Rattle.block_text.specs.Texts.{refused}
+use Rattle.stim_parser.specs.Trees.{Tree}
+use Rattle.block_text.specs.Trees.{Nothing, Then, Block}
 use Rattle.stim_parser.specs.Verdicts.{Instruction}
 use Rattle.block_text.specs.Reached.{written}
 use Rattle.unroll.specs.Totals.{collapse_total, detector_total, record_count, record_total, step_total, observables_to}

@@ -19,8 +19,8 @@ use Rattle.stim_parser.specs.declared.operation.Operation.TheVariants.{Applies, 
 use Rattle.stim_parser.specs.declared.target.Target.{Target}
 use Rattle.stim_parser.specs.declared.target.Target.TheVariants.{Back}
 use Rattle.unroll.specs.Before.{Before}
-use Rattle.stim_parser.specs.Limits.{products_of}
-use Rattle.unroll.specs.Targets.{qubit_of, is_inverted, is_product_inverted, term_of}
+use Rattle.stim_parser.specs.Limits.{products_of, qubit_of}
+use Rattle.unroll.specs.Targets.{is_inverted, is_product_inverted, term_of}
 
 -- what a function makes of each element and its number, where the first has number k
 abbrev pub numbered_from : {X Y : Type 0} → ℕ → (ℕ → X → Y) → List X → List Y

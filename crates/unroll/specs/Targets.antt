@@ -1,19 +1,13 @@
 -- What the targets of an instruction name: qubits, letters at qubits, and products, which are factors joined by stars.
 -- (Stim's circuit format, github.com/quantumlib/Stim, doc/file_format_stim_circuit.md, "Target Types".)
-use Rattle.std.specs.Prelude.{ℕ, Bool, true, false, List, [], ◌∷◌}
+use Rattle.std.specs.Prelude.{Bool, true, false, List, [], ◌∷◌}
 use Rattle.pauli_word.specs.declared.letter.Letter.{Letter}
 use Rattle.pauli_word.specs.declared.letter.Letter.TheVariants as letter
 use Rattle.pauli_word.specs.Parity.{exclusive_or}
 use Rattle.step_model.specs.declared.step.Term.{Term}
 use Rattle.stim_parser.specs.declared.target.Target.{Target}
-use Rattle.stim_parser.specs.declared.target.Target.TheVariants.{Plain, Inverted, Pauli}
-
--- the qubit that a target names
-abbrev pub qubit_of : Target → ℕ
-qubit_of (Plain q) = q
-qubit_of (Inverted q) = q
-qubit_of (Pauli inverted l q) = q
-qubit_of target = 0
+use Rattle.stim_parser.specs.declared.target.Target.TheVariants.{Inverted, Pauli}
+use Rattle.stim_parser.specs.Limits.{qubit_of}
 
 -- whether a target has a `!`
 abbrev pub is_inverted : Target → Bool

@@ -2,8 +2,8 @@ ghost use Rattle.std.specs.Prelude.{◌≡◌, ◌+◌, ◌<◌, ◌^◌, ◌≤
 ghost use Rattle.pauli_word.specs.Parity.{exclusive_or};
 ghost use Rattle.unroll.specs.Made.{fault_steps, operation_steps, pair_step, pair_steps, product_steps, record_back};
 ghost use Rattle.unroll.specs.StepsMade.{fed_letter};
-ghost use Rattle.stim_parser.specs.Limits.{products_of};
-ghost use Rattle.unroll.specs.Targets.{is_inverted, qubit_of};
+ghost use Rattle.stim_parser.specs.Limits.{products_of, qubit_of};
+ghost use Rattle.unroll.specs.Targets.{is_inverted};
 ghost use Rattle.unroll.specs.Pushed.{Adds, IsSmall, single_step};
 ghost use Rattle.unroll.specs.Totals.{qubits_to, target_count};
 

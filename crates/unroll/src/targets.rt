@@ -1,7 +1,6 @@
 ghost use Rattle.std.specs.Prelude.{◌≡◌, ◌≤◌, All, length};
 ghost use Rattle.stim_parser.specs.Products.{is_joining};
-ghost use Rattle.stim_parser.specs.Limits.{products_of};
-ghost use Rattle.unroll.specs.Targets.{qubit_of};
+ghost use Rattle.stim_parser.specs.Limits.{products_of, qubit_of};
 ghost use Rattle.unroll.specs.Pushed.{FollowsFactor};
 ghost use Rattle.unroll.specs.Refusals.{is_far, reaches_far};
 ghost use Rattle.unroll.specs.Totals.{qubits_to, target_count};
