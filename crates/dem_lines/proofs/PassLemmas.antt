@@ -5,7 +5,8 @@ use Rattle.block_text.proofs.PassLemmas as passes
 pub use Rattle.block_text.proofs.PassLemmas.{drop_got, passing-first, passing-can, passing-next, passing-done}
 use Rattle.dem_lines.specs.Fitting.{Fits, IsAccepted}
 use Rattle.dem_lines.specs.Texts.{Item}
-use Rattle.dem_lines.specs.Trees.{Tree, items_of}
+use Rattle.dem_lines.specs.Trees.{Tree}
+use Rattle.block_text.specs.Trees.{items_of}
 use Rattle.dem_lines.specs.Passes.{CanStand, Pass}
 
 -- items that stand where they may, with so many blocks open before them and none behind

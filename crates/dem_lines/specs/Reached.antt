@@ -3,19 +3,15 @@
 -- detector error model format, github.com/quantumlib/Stim, doc/file_format_dem_detector_error_model.md, "repeat"; what
 -- is counted is this project's choice.)
 use Rattle.std.specs.Prelude.{ℕ, ◌+◌, ◌*◌, nat_lt, Bool}
-use Rattle.dem_lines.specs.Trees.{Tree, Nothing, Then, Block}
-
--- the lines of what stands in a block
-unfoldable pub lines_inside : Tree → ℕ
-lines_inside Nothing = 0
-lines_inside (Then instruction rest) = 1 + lines_inside rest
-lines_inside (Block line turns body rest) = turns * (1 + lines_inside body) + lines_inside rest
+use Rattle.block_text.specs.Reached.{total}
+use Rattle.block_text.specs.Trees.{Nothing, Then, Block}
+use Rattle.dem_lines.specs.Trees.{Tree}
 
 -- the lines of all blocks together
 unfoldable pub block_lines : Tree → ℕ
 block_lines Nothing = 0
 block_lines (Then instruction rest) = block_lines rest
-block_lines (Block line turns body rest) = turns * (1 + lines_inside body) + block_lines rest
+block_lines (Block line turns body rest) = turns * (1 + total 1 (λ i. 1) body) + block_lines rest
 
 -- how many lines blocks may unroll to
 abbrev pub most_lines : ℕ

@@ -6,8 +6,6 @@ use Rattle.std.specs.Prelude.{ℕ, List, Result}
 use Rattle.step_model.specs.declared.fault.Fault.{Fault}
 use Rattle.block_text.specs.Texts as text
 use Rattle.block_text.specs.Trees as trees
-pub use Rattle.block_text.specs.Texts.{refused}
-pub use Rattle.block_text.specs.Trees.{Does, Begins, Ends}
 use Rattle.stim_parser.specs.Judging.{format_of}
 use Rattle.dem_lines.specs.Verdicts.{Instruction, model_table}
 

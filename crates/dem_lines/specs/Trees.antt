@@ -4,7 +4,6 @@
 -- "repeat".)
 use Rattle.block_text.specs.Trees as trees
 use Rattle.dem_lines.specs.Verdicts.{Instruction}
-pub use Rattle.block_text.specs.Trees.{Nothing, Then, Block, items_of}
 
 -- what stands in a model or in a block, from the first on: nothing; an instruction and the rest; or a block, with its line,
 -- its turns and its body, and the rest

@@ -10,7 +10,7 @@
 --     DemDepth: a block inside as many as may be open.
 -- (Stim's detector error model format, github.com/quantumlib/Stim, doc/file_format_dem_detector_error_model.md; the causes
 -- and their order are this project's.)
-use Rattle.std.specs.Prelude.{ℕ, List, [], ◌∷◌, unwrap_or}
+use Rattle.std.specs.Prelude.{ℕ, List, [], ◌∷◌}
 use Rattle.step_model.specs.declared.fault.Cause.TheVariants as cause
 use Rattle.block_text.specs.Instructions as lines
 use Rattle.stim_parser.specs.Judging.{Table}
@@ -26,10 +26,6 @@ use Rattle.dem_lines.specs.Targets.{targets_in}
 -- an instruction of a line
 abbrev pub Instruction : Type 0
 Instruction = lines.Instruction Operation Target
-
--- the targets of a text, where each can be read
-abbrev pub read_targets : List ℕ → List Target
-read_targets text = unwrap_or (targets_in text) []
 
 -- how often a block is repeated, or by how much detectors shift, by the targets of the line
 abbrev pub number_in : List Target → ℕ

@@ -14,11 +14,11 @@ use Rattle.dem_lines.specs.declared.target.Target.{Target}
 use Rattle.dem_lines.specs.Instructions.{keyword_named}
 use Rattle.dem_lines.specs.Limits.{are_of_form, has_target_beyond, is_effect}
 use Rattle.dem_lines.specs.Targets.{targets_in}
-use Rattle.dem_lines.specs.Verdicts.{model_table, read_targets}
+use Rattle.dem_lines.specs.Verdicts.{model_table}
 use Rattle.dem_parser.specs.declared.counts.Extent.{Extent}
 use Rattle.dem_parser.specs.ErrorTexts.{AreCounted, BeginsWithTargets, is_quiet}
 use Rattle.dem_parser.specs.LinesRead.{BeginsWithError, IsErrorLine, IsFirstLine}
-use Rattle.dem_parser.specs.Standing.{instruction_cut}
+use Rattle.dem_parser.specs.Standing.{instruction_cut, read_targets}
 use Rattle.dem_parser.specs.Tables.{IsKnown}
 use Rattle.stim_lexer.specs.Bytes.{from_first, is_close_parenthesis, is_line_feed}
 use Rattle.stim_lexer.proofs.ScanLemmas.{lines_of-cut}

@@ -5,7 +5,8 @@ use Rattle.std.specs.List.{range_with_len}
 use Rattle.std.proofs.lemmas.List.{map-append}
 use Rattle.std.proofs.lemmas.List.FromFn.{length-map-range_with_len}
 use Rattle.step_model.specs.ErrorModels.{ErrorLine, ErrorModel}
-use Rattle.dem_parser.specs.Meanings.{detector_count, detectors_to, error_line, error_lines, greatest_of, greatest_over, is_error, last_coordinates, meaning_of, observable_count, observables_to}
+use Rattle.dem_parser.specs.Meanings.{detector_count, detectors_to, error_line, error_lines, is_error, last_coordinates, meaning_of, observable_count, observables_to}
+use Rattle.block_text.specs.Reached.{greatest_by}
 use Rattle.dem_parser.specs.Shifts.{Placed}
 use Rattle.dem_parser.specs.Summed.{AreCounts}
 
@@ -46,8 +47,7 @@ unrolling-first start all d o errors are =
 
 -- the line that is next names no more than all do
 pub unrolling-here : (d o : ℕ) (model : ErrorModel) (rest rest' : List Placed) (whole : ErrorModel) (p : Placed) → IsUnrolling d o model rest whole → rest ≡ p ∷ rest'
-    → (greatest_of detectors_to p.targets ≤ d) × (greatest_of observables_to p.targets ≤ o)
-unfolding greatest_over
+    → (greatest_by detectors_to p.targets ≤ d) × (greatest_by observables_to p.targets ≤ o)
 unrolling-here d o model rest rest' whole p h e =
     let detectors = ap (λ ps. detector_count ps) e in
     let observables = ap (λ ps. observable_count ps) e in
@@ -55,7 +55,6 @@ unrolling-here d o model rest rest' whole p h e =
 
 pub unrolling-next : (d o : ℕ) (model model' : ErrorModel) (rest rest' : List Placed) (whole : ErrorModel) (p : Placed)
     → IsUnrolling d o model rest whole → rest ≡ p ∷ rest' → model' ≡ with_lines model (error_lines d o (p ∷ [])) → IsUnrolling d o model' rest' whole
-unfolding greatest_over
 unrolling-next d o model model' rest rest' whole p h e more =
     let detectors = ap (λ ps. detector_count ps) e in
     let observables = ap (λ ps. observable_count ps) e in

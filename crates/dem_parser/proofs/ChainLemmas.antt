@@ -12,8 +12,9 @@ use Rattle.dem_lines.specs.Fitting.{Fits, AllFit, IsAccepted}
 use Rattle.dem_lines.specs.Flat.{tree_of, tree_of-items}
 use Rattle.dem_lines.specs.Limits.{has_target_beyond}
 use Rattle.dem_lines.specs.Reached.{block_lines, has_many_lines}
-use Rattle.dem_lines.specs.Texts.{Item, Does, items_in}
-use Rattle.dem_lines.specs.Trees.{Tree, Nothing, Then, items_of}
+use Rattle.dem_lines.specs.Texts.{Item, items_in}
+use Rattle.block_text.specs.Trees.{Does, Nothing, Then, items_of}
+use Rattle.dem_lines.specs.Trees.{Tree}
 use Rattle.dem_lines.specs.Judged.{Writes}
 use Rattle.dem_lines.specs.Verdicts.{Instruction}
 use Rattle.dem_lines.proofs.PassLemmas.{drop_got}
@@ -22,7 +23,7 @@ pub use Rattle.dem_parser.specs.Chains.{AllStay, placed}
 use Rattle.dem_parser.specs.declared.counts.Extent.{Extent}
 use Rattle.dem_parser.specs.declared.counts.LineCounts.{LineCounts}
 use Rattle.dem_parser.specs.Chains.{IsChain, counted_with, is_shift}
-use Rattle.dem_parser.specs.Meanings.{greatest_over, is_error, meaning_of}
+use Rattle.dem_parser.specs.Meanings.{is_error, meaning_of}
 use Rattle.dem_parser.specs.Summed.{AreCounts, error_count}
 use Rattle.dem_parser.specs.Tables.{IsKnown}
 use Rattle.dem_parser.specs.Models.{first_beyond, is_beyond, is_far, model_in, placed_lines}
@@ -109,7 +110,6 @@ stays Observes arguments targets h = refl
 stays Shifts arguments targets h = absurd (true≢false h)
 
 pub chain-none : (items : List Item) → IsChain (drop (length items) items) (record { detectors = 0; observables = 0; errors = 0 })
-unfolding greatest_over
 chain-none items =
     record {
       instructions = [];
@@ -127,7 +127,6 @@ one_error false n p ps e h = rw e h
 
 pub chain-next : (items : List Item) (k : ℕ) (i : Instruction) (extent : Extent) (numbers : List ℤ) (counts : LineCounts) → IsChain (drop (k + 1) items) counts → Some (Does i) ≡ slice_get items k
     → IsKnown i extent numbers → is_shift i.operation ≡ false → IsChain (drop k items) (counted_with counts i.operation extent)
-unfolding greatest_over
 chain-next items k i extent numbers counts h got known still =
     let later : suc k ≡ k + 1 = omega arith in
     let ps = map placed h.instructions in

@@ -3,7 +3,7 @@ use Rattle.std.proofs.Common.{◌≡◌, ℕ, false, List, [], ◌∷◌, ap, sy
 use Rattle.std.specs.Prelude.{max}
 use Rattle.dem_lines.specs.declared.target.Target.{Target}
 use Rattle.dem_lines.specs.Limits.{has_target_beyond, is_target_beyond}
-use Rattle.dem_parser.specs.Meanings.{greatest_of}
+use Rattle.block_text.specs.Reached.{greatest_by}
 use Rattle.dem_parser.proofs.ShiftLemmas.{left, right}
 
 pub max-none : (a : ℕ) → max a 0 ≡ a
@@ -14,14 +14,14 @@ max-more a b c = omega arith
 
 -- one target more
 pub raised-next : (count : Target → ℕ) (a b : ℕ) (t : Target) (rest rest' : List Target) → rest ≡ t ∷ rest' → b ≡ max a (count t)
-    → max b (greatest_of count rest') ≡ max a (greatest_of count rest)
+    → max b (greatest_by count rest') ≡ max a (greatest_by count rest)
 raised-next count a b t rest rest' e more =
-    ap (λ n. max n (greatest_of count rest')) more
-    ∙ max-more a (count t) (greatest_of count rest')
-    ∙ ap (λ ts. max a (greatest_of count ts)) (sym e)
+    ap (λ n. max n (greatest_by count rest')) more
+    ∙ max-more a (count t) (greatest_by count rest')
+    ∙ ap (λ ts. max a (greatest_by count ts)) (sym e)
 
-pub raised-done : (count : Target → ℕ) (a : ℕ) (rest : List Target) → rest ≡ [] → a ≡ max a (greatest_of count rest)
-raised-done count a rest e = sym (ap (λ ts. max a (greatest_of count ts)) e ∙ max-none a)
+pub raised-done : (count : Target → ℕ) (a : ℕ) (rest : List Target) → rest ≡ [] → a ≡ max a (greatest_by count rest)
+raised-done count a rest e = sym (ap (λ ts. max a (greatest_by count ts)) e ∙ max-none a)
 
 pub within-first : (t : Target) (ts : List Target) → has_target_beyond (t ∷ ts) ≡ false → (is_target_beyond t ≡ false) × (has_target_beyond ts ≡ false)
 unfolding has_target_beyond

@@ -10,7 +10,7 @@ use Rattle.std.proofs.lemmas.List.Elements.{All-filter, All-push, All-weaker}
 use Rattle.std.proofs.lemmas.List.FromFn.{filter_of_map_range_with_len_more, get_or-range_with_len, length-range_with_len}
 use Rattle.pauli_word.specs.Parity.{exclusive_or}
 use Rattle.dem_parser.specs.Numbered.{odd_below}
-use Rattle.dem_parser.specs.Sums.{is_flipped}
+use Rattle.step_model.specs.Targets.{is_listed}
 
 -- ---- a range that is filtered
 
@@ -54,14 +54,14 @@ swapped false true false = refl
 swapped false false true = refl
 swapped false false false = refl
 
-flipped-push : (t : ℕ) (xs : List ℕ) (x : ℕ) → is_flipped t (xs ++ x ∷ []) ≡ exclusive_or (t == x) (is_flipped t xs)
+flipped-push : (t : ℕ) (xs : List ℕ) (x : ℕ) → is_listed (xs ++ x ∷ []) t ≡ exclusive_or (x == t) (is_listed xs t)
 flipped-push t [] x = refl
-flipped-push t (y ∷ xs) x = ap (exclusive_or (t == y)) (flipped-push t xs x) ∙ swapped (t == y) (t == x) (is_flipped t xs)
+flipped-push t (y ∷ xs) x = ap (exclusive_or (y == t)) (flipped-push t xs x) ∙ swapped (y == t) (x == t) (is_listed xs t)
 
-flipped-above : (t : ℕ) (xs : List ℕ) → All (λ m. m < t) xs → is_flipped t xs ≡ false
+flipped-above : (t : ℕ) (xs : List ℕ) → All (λ m. m < t) xs → is_listed xs t ≡ false
 flipped-above t [] h = refl
 flipped-above t (x ∷ xs) h =
-    ap₂ exclusive_or (ne_eqb t x (λ e. absurd (omega (arith, e, h 0 x (omega arith)))))
+    ap₂ exclusive_or (ne_eqb x t (λ e. absurd (omega (arith, e, h 0 x (omega arith)))))
     (flipped-above t xs (λ k d below. h (suc k) d (omega (arith, below))))
 
 stays : (b : Bool) → exclusive_or false b ≡ b
@@ -86,24 +86,24 @@ pub odd-step : (kept kept' p : List ℕ) (x : ℕ) → All (λ m. m ≤ x) p →
     → (n : ℕ) → All (λ m. m < n) (p ++ x ∷ []) → kept' ≡ odd_below n (p ++ x ∷ [])
 odd-step kept kept' p x low before there absent n high =
     let q = odd_below x p in
-    let odd = is_flipped x p in
+    let odd = is_listed p x in
     let under : All (λ m. m < x + 1) p = All-weaker (λ m. m ≤ x) (λ m. m < x + 1) (λ m h. omega (arith, h)) p low in
-    let now : kept ≡ q ++ cond odd (x ∷ []) [] = before (x + 1) under ∙ filter-more (λ t. is_flipped t p) x in
+    let now : kept ≡ q ++ cond odd (x ∷ []) [] = before (x + 1) under ∙ filter-more (λ t. is_listed p t) x in
     let same : odd_below x (p ++ x ∷ []) ≡ q =
-    filter-agree (λ t. is_flipped t (p ++ x ∷ [])) (λ t. is_flipped t p) 0 x
-    (λ t a h. flipped-push t p x ∙ ap (λ b. exclusive_or b (is_flipped t p)) (ne_eqb t x (λ e. absurd (omega (arith, e, h)))) ∙ stays (is_flipped t p)) in
-    let here : is_flipped x (p ++ x ∷ []) ≡ not odd = flipped-push x p x ∙ ap (λ b. exclusive_or b odd) (eq-eqb x x refl) ∙ turns odd in
+    filter-agree (λ t. is_listed (p ++ x ∷ []) t) (λ t. is_listed p t) 0 x
+    (λ t a h. flipped-push t p x ∙ ap (λ b. exclusive_or b (is_listed p t)) (ne_eqb x t (λ e. absurd (omega (arith, e, h)))) ∙ stays (is_listed p t)) in
+    let here : is_listed (p ++ x ∷ []) x ≡ not odd = flipped-push x p x ∙ ap (λ b. exclusive_or b odd) (eq-eqb x x refl) ∙ turns odd in
     let next : odd_below (x + 1) (p ++ x ∷ []) ≡ q ++ cond (not odd) (x ∷ []) [] =
-    filter-more (λ t. is_flipped t (p ++ x ∷ [])) x ∙ ap₂ (λ xs b. xs ++ cond b (x ∷ []) []) same here in
+    filter-more (λ t. is_listed (p ++ x ∷ []) t) x ∙ ap₂ (λ xs b. xs ++ cond b (x ∷ []) []) same here in
     let last : x < n =
     subst (λ m. m < n) (get_or-append_seam p x [] 0) (high (length p) 0 (omega (arith, length-push p x))) in
     let more : n ≡ x + 1 + (n - (x + 1)) = omega (arith, last) in
     let past : odd_below n (p ++ x ∷ []) ≡ odd_below (x + 1) (p ++ x ∷ []) =
     ap (λ m. odd_below m (p ++ x ∷ [])) more
-    ∙ filter-past (λ t. is_flipped t (p ++ x ∷ [])) (x + 1) (n - (x + 1))
+    ∙ filter-past (λ t. is_listed (p ++ x ∷ []) t) (x + 1) (n - (x + 1))
     (λ t a. flipped-above t (p ++ x ∷ [])
     (All-push (λ m. m < t) p x (All-weaker (λ m. m ≤ x) (λ m. m < t) (λ m h. omega (arith, h, a)) p low) (omega (arith, a)))) in
-    chosen kept kept' q x odd now (All-filter (λ t. is_flipped t p) (λ t. t < x) (range_with_len 0 x) (all-below x)) there absent
+    chosen kept kept' q x odd now (All-filter (λ t. is_listed p t) (λ t. t < x) (range_with_len 0 x) (all-below x)) there absent
     ∙ sym next
     ∙ sym past
   where
@@ -127,6 +127,6 @@ none-above xs i d up h k e below =
 pub odd-none : (n : ℕ) → [] ≡ odd_below n []
 odd-none n = sym (none 0 n)
   where
-    none : (a n : ℕ) → filter (λ t. is_flipped t []) (range_with_len a n) ≡ []
+    none : (a n : ℕ) → filter (λ t. is_listed [] t) (range_with_len a n) ≡ []
     none a zero = refl
     none a (suc n) = none (a + 1) n

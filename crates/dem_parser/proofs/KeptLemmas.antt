@@ -17,7 +17,8 @@ use Rattle.dem_parser.specs.declared.entries.Rare.{Rare}
 use Rattle.dem_parser.specs.declared.entries.Rare.TheVariants as rare
 use Rattle.dem_parser.specs.Kept.{AreKept, IsAmount, IsEntryKept, IsKept, IsRareKept, item_of, item_of_rare}
 use Rattle.dem_parser.specs.LinesRead.{IsErrorLine}
-use Rattle.dem_parser.specs.Meanings.{detectors_to, greatest_of, observables_to}
+use Rattle.dem_parser.specs.Meanings.{detectors_to, observables_to}
+use Rattle.block_text.specs.Reached.{greatest_by}
 use Rattle.dem_parser.specs.Standing.{Speaks, instruction_at, line_at, line_number}
 use Rattle.dem_parser.specs.Tables.{numbers_stated}
 use Rattle.dem_parser.proofs.TableLemmas.{known-fitting}
@@ -100,13 +101,13 @@ amount-is Shifts amount targets e = e
 -- a line that was read
 pub read-kept : (text : List ℕ) (at : ℕ) (operation : Operation) (extent : Extent) (amount : ℕ) (numbers : List ℤ) (arguments : List (List ℕ)) (targets : List Target)
     → Speaks (line_at text at) → Fits (instruction_at text at operation) → arguments ≡ (instruction_at text at operation).arguments → targets ≡ (instruction_at text at operation).targets
-    → extent.detectors ≡ greatest_of detectors_to targets → extent.observables ≡ greatest_of observables_to targets → numbers ≡ numbers_stated operation arguments → amount ≡ number_in targets
+    → extent.detectors ≡ greatest_by detectors_to targets → extent.observables ≡ greatest_by observables_to targets → numbers ≡ numbers_stated operation arguments → amount ≡ number_in targets
     → IsKept text at operation extent amount numbers
 read-kept text at operation extent amount numbers arguments targets speaks fits args ts detectors observables ns is =
     let i = instruction_at text at operation in
     record {
       speaks = speaks;
-      known = known-fitting i extent numbers fits (detectors ∙ ap (greatest_of detectors_to) ts) (observables ∙ ap (greatest_of observables_to) ts) (ns ∙ ap (numbers_stated operation) args);
+      known = known-fitting i extent numbers fits (detectors ∙ ap (greatest_by detectors_to) ts) (observables ∙ ap (greatest_by observables_to) ts) (ns ∙ ap (numbers_stated operation) args);
       amount_is = amount-is operation amount i.targets (is ∙ ap number_in ts);
     }
 

@@ -10,7 +10,7 @@ use Rattle.stim_lexer.specs.Bytes.{is_empty}
 use Rattle.dem_lines.specs.declared.target.Target.{Target}
 use Rattle.dem_lines.specs.declared.target.Target.TheVariants.{Plain, Detector, Observable, Separator}
 use Rattle.dem_parser.specs.Marked.{HasMarked, list_numbered, marked}
-use Rattle.dem_parser.specs.Meanings.{is_detector_of, last_coordinates}
+use Rattle.dem_parser.specs.Meanings.{detectors_to, last_coordinates}
 use Rattle.dem_parser.specs.Shifts.{Placed}
 
 -- ---- marks of one line
@@ -34,21 +34,36 @@ set-got marks e d m h =
           ∙ ap (λ b. if b then m else get_or marks d 0) (sym (ne_eqb d e other))
     ]
 
+-- whether a target is this detector
+abbrev names : ℕ → Target → Bool
+names d target = detectors_to target == d + 1
+
+named-first : (d e : ℕ) → (d == e) ≡ (e + 1 == d + 1)
+named-first d e =
+    elim (cases_eq d e) as (λ _. (d == e) ≡ (e + 1 == d + 1)) [
+      | inl same ↦ eq-eqb d e same ∙ sym (eq-eqb (e + 1) (d + 1) (omega (arith, same)))
+      | inr other ↦ ne_eqb d e other ∙ sym (ne_eqb (e + 1) (d + 1) (λ n. other (omega (arith, n))))
+    ]
+
+passed : (d : ℕ) (b : Bool) (x y : ℕ) → (if b then x else y) ≡ (if (0 == d + 1) || b then x else y)
+passed d b x y = ap (λ c. if c || b then x else y) (sym (ne_eqb 0 (d + 1) (λ e. absurd (omega (arith, e)))))
+
 either : {X : Type 0} (b c : Bool) (x y : X) → (if c then x else (if b then x else y)) ≡ (if b || c then x else y)
 either true true x y = refl
 either true false x y = refl
 either false true x y = refl
 either false false x y = refl
 
-marked-got : (mark d : ℕ) (marks : List ℕ) (ts : List Target) → d < length marks → get_or (marked mark marks ts) d 0 ≡ (if list_any (is_detector_of d) ts then mark else get_or marks d 0)
+marked-got : (mark d : ℕ) (marks : List ℕ) (ts : List Target) → d < length marks → get_or (marked mark marks ts) d 0 ≡ (if list_any (names d) ts then mark else get_or marks d 0)
 marked-got mark d marks [] h = refl
-marked-got mark d marks (Plain m ∷ ts) h = marked-got mark d marks ts h
-marked-got mark d marks (Observable k ∷ ts) h = marked-got mark d marks ts h
-marked-got mark d marks (Separator ∷ ts) h = marked-got mark d marks ts h
+marked-got mark d marks (Plain m ∷ ts) h = marked-got mark d marks ts h ∙ passed d (list_any (names d) ts) mark (get_or marks d 0)
+marked-got mark d marks (Observable k ∷ ts) h = marked-got mark d marks ts h ∙ passed d (list_any (names d) ts) mark (get_or marks d 0)
+marked-got mark d marks (Separator ∷ ts) h = marked-got mark d marks ts h ∙ passed d (list_any (names d) ts) mark (get_or marks d 0)
 marked-got mark d marks (Detector e ∷ ts) h =
     marked-got mark d (set marks e mark) ts (let same = length-set marks e mark in omega (arith, same, h))
-    ∙ ap (λ m. if list_any (is_detector_of d) ts then mark else m) (set-got marks e d mark h)
-    ∙ either (d == e) (list_any (is_detector_of d) ts) mark (get_or marks d 0)
+    ∙ ap (λ m. if list_any (names d) ts then mark else m) (set-got marks e d mark h)
+    ∙ either (d == e) (list_any (names d) ts) mark (get_or marks d 0)
+    ∙ ap (λ c. if c || list_any (names d) ts then mark else get_or marks d 0) (named-first d e)
 
 -- ---- one line more
 
@@ -85,11 +100,11 @@ marking-first all marks n e =
 -- what stands for a detector's coordinates after a line
 chosen : (b : Bool) (d : ℕ) (p : Placed) (lists : List (List ℤ)) (marks : List ℕ) → not (is_empty p.coordinates) ≡ b → d < length marks → get_or marks d 0 ≤ length lists
     → list_numbered (if b then lists ++ p.coordinates ∷ [] else lists) (get_or (if b then marked (length lists + 1) marks p.targets else marks) d 0)
-    ≡ (if b && list_any (is_detector_of d) p.targets then p.coordinates else list_numbered lists (get_or marks d 0))
+    ≡ (if b && list_any (names d) p.targets then p.coordinates else list_numbered lists (get_or marks d 0))
 chosen false d p lists marks e h there = refl
 chosen true d p lists marks e h there =
     ap (list_numbered (lists ++ p.coordinates ∷ [])) (marked-got (length lists + 1) d marks p.targets h)
-    ∙ picked (list_any (is_detector_of d) p.targets)
+    ∙ picked (list_any (names d) p.targets)
   where
     picked : (c : Bool) → list_numbered (lists ++ p.coordinates ∷ []) (if c then length lists + 1 else get_or marks d 0) ≡ (if c then p.coordinates else list_numbered lists (get_or marks d 0))
     picked true = last-list lists p.coordinates
@@ -101,8 +116,8 @@ there-more false d p lists marks h there = there
 there-more true d p lists marks h there =
     let long = length-append lists (p.coordinates ∷ []) in
     let got = marked-got (length lists + 1) d marks p.targets h in
-    let one : (if list_any (is_detector_of d) p.targets then length lists + 1 else get_or marks d 0) ≤ length lists + 1 =
-    picked (list_any (is_detector_of d) p.targets) in
+    let one : (if list_any (names d) p.targets then length lists + 1 else get_or marks d 0) ≤ length lists + 1 =
+    picked (list_any (names d) p.targets) in
     omega (arith, long, got, one)
   where
     picked : (c : Bool) → (if c then length lists + 1 else get_or marks d 0) ≤ length lists + 1

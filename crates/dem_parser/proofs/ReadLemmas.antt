@@ -5,12 +5,13 @@ use Rattle.std.specs.Option.{option_or}
 use Rattle.step_model.specs.declared.fault.Cause.TheVariants as cause
 use Rattle.step_model.specs.declared.fault.Fault.{Fault}
 use Rattle.step_model.specs.ErrorModels.{ErrorModel}
-use Rattle.step_model.specs.Faults.{memory_fault, without_line}
-use Rattle.dem_lines.specs.Flat.{tree_of-items}
+use Rattle.step_model.specs.Faults.{memory_fault, unless, without_line, ◌>>=◌}
+use Rattle.dem_lines.specs.Flat.{tree_of, tree_of-items}
+use Rattle.dem_lines.specs.Texts.{Item}
 use Rattle.dem_parser.specs.Meanings.{meaning_of}
-use Rattle.dem_parser.specs.Models.{first_beyond, model_in, model_of_items, model_of_tree, placed_lines, unless_refused_by}
+use Rattle.dem_parser.specs.Models.{first_beyond, model_in, model_of_tree, placed_lines}
 use Rattle.dem_lines.specs.Reached.{has_many_lines}
-use Rattle.dem_lines.specs.Texts.{refused}
+use Rattle.block_text.specs.Texts.{refused}
 use Rattle.dem_lines.specs.Trees.{Tree}
 use Rattle.dem_lines.specs.Judged.{IsRefusedBy, Writes}
 
@@ -19,15 +20,15 @@ use Rattle.dem_lines.specs.Judged.{IsRefusedBy, Writes}
 pub many-lines : (t : Tree) → has_many_lines t ≡ true → model_of_tree t ≡ Err (without_line cause.DemSteps)
 many-lines t e =
     ap
-    (λ b. unless_refused_by
+    (λ b. unless
     (option_or (if b then Some (without_line cause.DemSteps) else None) (option_map (refused cause.DemNumber) (first_beyond (placed_lines t))))
     (meaning_of (placed_lines t)))
     e
 
-few-lines : (t : Tree) → has_many_lines t ≡ false → model_of_tree t ≡ unless_refused_by (option_map (refused cause.DemNumber) (first_beyond (placed_lines t))) (meaning_of (placed_lines t))
+few-lines : (t : Tree) → has_many_lines t ≡ false → model_of_tree t ≡ unless (option_map (refused cause.DemNumber) (first_beyond (placed_lines t))) (meaning_of (placed_lines t))
 few-lines t e =
     ap
-    (λ b. unless_refused_by
+    (λ b. unless
     (option_or (if b then Some (without_line cause.DemSteps) else None) (option_map (refused cause.DemNumber) (first_beyond (placed_lines t))))
     (meaning_of (placed_lines t)))
     e
@@ -35,21 +36,24 @@ few-lines t e =
 pub number-beyond : (t : Tree) (f : Fault) → has_many_lines t ≡ false
     → (f ≡ memory_fault) ⊎ (option_map (refused cause.DemNumber) (first_beyond (placed_lines t)) ≡ Some f) → (f ≡ memory_fault) ⊎ (model_of_tree t ≡ Err f)
 number-beyond t f e (inl m) = inl m
-number-beyond t f e (inr r) = inr (few-lines t e ∙ ap (λ o. unless_refused_by o (meaning_of (placed_lines t))) r)
+number-beyond t f e (inr r) = inr (few-lines t e ∙ ap (λ o. unless o (meaning_of (placed_lines t))) r)
 
 pub whole-model : (t : Tree) (m : ErrorModel) → has_many_lines t ≡ false → first_beyond (placed_lines t) ≡ None → m ≡ meaning_of (placed_lines t) → model_of_tree t ≡ Ok m
 whole-model t m e near is =
     few-lines t e
-    ∙ ap (λ o. unless_refused_by (option_map (refused cause.DemNumber) o) (meaning_of (placed_lines t))) near
+    ∙ ap (λ o. unless (option_map (refused cause.DemNumber) o) (meaning_of (placed_lines t))) near
     ∙ ap (λ (n : ErrorModel). Ok n) (sym is)
 
 -- ---- the model of a text
 
+abbrev model_of_read : Result (List Item) Fault → Result ErrorModel Fault
+model_of_read found = found >>= (λ items. model_of_tree (tree_of items))
+
 pub written-model : (text : List ℕ) (t : Tree) → Writes text t → model_in text ≡ model_of_tree t
-written-model text t w = ap model_of_items w ∙ ap (λ u. model_of_tree u) (tree_of-items t)
+written-model text t w = ap model_of_read w ∙ ap (λ u. model_of_tree u) (tree_of-items t)
 
 pub refused-text : (text : List ℕ) (f : Fault) → IsRefusedBy text f → model_in text ≡ Err f
-refused-text text f r = ap model_of_items r
+refused-text text f r = ap model_of_read r
 
 pub read-model : (text : List ℕ) (t : Tree) (m : ErrorModel) → Writes text t → model_of_tree t ≡ Ok m → model_in text ≡ Ok m
 read-model text t m w e = written-model text t w ∙ e

@@ -16,7 +16,8 @@ use Rattle.block_text.specs.Judged.{IsRefusedBy}
 use Rattle.block_text.specs.Unfinished.{Unfinished, cause_in, line_items}
 use Rattle.block_text.proofs.TextLemmas.{IsReading, after, after-append, after-err, after-ok}
 use Rattle.stim_parser.specs.Judging.{reading_of}
-use Rattle.dem_lines.specs.Texts.{Item, Does, Begins, Ends, items_in, models}
+use Rattle.dem_lines.specs.Texts.{Item, items_in, models}
+use Rattle.block_text.specs.Trees.{Does, Begins, Ends}
 use Rattle.dem_lines.specs.Verdicts.{Instruction, model_table}
 use Rattle.dem_lines.specs.declared.operation.Operation.TheVariants.{Errs}
 use Rattle.dem_parser.specs.declared.counts.Extent.{Extent}

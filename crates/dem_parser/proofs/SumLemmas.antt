@@ -1,12 +1,13 @@
 -- Truth values turned round by the lines named are the exclusive sum of these.
-use Rattle.std.proofs.Common.{◌≡◌, ◌≢◌, ℕ, zero, suc, ◌+◌, ◌==◌, ◌<◌, ◌≤◌, Bool, true, false, not, ◌&&◌, List, [], ◌∷◌, length, map, get_or, set, drop, replicate, refl, ap, ap₂, ◌∙◌, ◌⊎◌, inl, inr, arith}
+use Rattle.std.proofs.Common.{◌≡◌, ◌≢◌, ℕ, zero, suc, ◌+◌, ◌==◌, ◌<◌, ◌≤◌, Bool, true, false, not, ◌&&◌, List, [], ◌∷◌, length, map, get_or, set, drop, replicate, refl, ap, ap₂, sym, ◌∙◌, ◌⊎◌, inl, inr, arith}
 use Rattle.std.specs.Prelude.{if◌then◌else◌, min}
 use Rattle.std.specs.List.{range_with_len}
 use Rattle.std.proofs.lemmas.Bool.{cases_lt, eq-eqb, ne_eqb}
 use Rattle.std.proofs.lemmas.List.{drop_all}
 use Rattle.pauli_word.specs.Parity.{exclusive_or}
 use Rattle.step_model.specs.ErrorModels.{ErrorLine, ErrorModel}
-use Rattle.dem_parser.specs.Sums.{is_flipped, is_in_symptom, symptom_of}
+use Rattle.dem_parser.specs.Sums.{is_in_symptom, symptom_of}
+use Rattle.step_model.specs.Targets.{is_listed}
 use Rattle.dem_parser.specs.Turned.{turned, turned_at, turned_by}
 
 -- ---- one truth value
@@ -41,21 +42,21 @@ map-same f g a zero h = refl
 map-same f g a (suc n) h =
     ap₂ (λ (x : Bool) (xs : List Bool). x ∷ xs) (h a (omega arith)) (map-same f g (a + 1) n (λ t below. h t (omega (arith, below))))
 
-other : (f : ℕ → Bool) (t u : ℕ) → t ≢ u → f t ≡ exclusive_or (t == u) (f t)
-other f t u h = rw (ne_eqb t u h) refl
+other : (f : ℕ → Bool) (t u : ℕ) → t ≢ u → f t ≡ exclusive_or (u == t) (f t)
+other f t u h = rw (ne_eqb u t (λ e. h (sym e))) refl
 
-same : (f : ℕ → Bool) (t u : ℕ) → t ≡ u → not (f t) ≡ exclusive_or (t == u) (f t)
-same f t u h = rw (eq-eqb t u h) refl
+same : (f : ℕ → Bool) (t u : ℕ) → t ≡ u → not (f t) ≡ exclusive_or (u == t) (f t)
+same f t u h = rw (eq-eqb u t (sym h)) refl
 
-turned_at-map : (f : ℕ → Bool) (a n u : ℕ) → turned_at (map f (range_with_len a n)) u ≡ map (λ t. exclusive_or (t == a + u) (f t)) (range_with_len a n)
+turned_at-map : (f : ℕ → Bool) (a n u : ℕ) → turned_at (map f (range_with_len a n)) u ≡ map (λ t. exclusive_or (a + u == t) (f t)) (range_with_len a n)
 turned_at-map f a zero u = refl
 turned_at-map f a (suc n) zero =
     ap₂ (λ (x : Bool) (xs : List Bool). x ∷ xs) (same f a (a + 0) (omega arith))
-    (map-same f (λ t. exclusive_or (t == a + 0) (f t)) (a + 1) n (λ t above. other f t (a + 0) (λ e. absurd (omega (arith, e, above)))))
+    (map-same f (λ t. exclusive_or (a + 0 == t) (f t)) (a + 1) n (λ t above. other f t (a + 0) (λ e. absurd (omega (arith, e, above)))))
 turned_at-map f a (suc n) (suc u) =
     let at : a + 1 + u ≡ a + suc u = omega arith in
     ap₂ (λ (x : Bool) (xs : List Bool). x ∷ xs) (other f a (a + suc u) (λ e. absurd (omega (arith, e))))
-    (turned_at-map f (a + 1) n u ∙ ap (λ m. map (λ t. exclusive_or (t == m) (f t)) (range_with_len (a + 1) n)) at)
+    (turned_at-map f (a + 1) n u ∙ ap (λ m. map (λ t. exclusive_or (m == t) (f t)) (range_with_len (a + 1) n)) at)
 
 swapped : (a b c : Bool) → exclusive_or a (exclusive_or b c) ≡ exclusive_or (exclusive_or b a) c
 swapped true true true = refl
@@ -67,16 +68,16 @@ swapped false true false = refl
 swapped false false true = refl
 swapped false false false = refl
 
-pub turned-map : (f : ℕ → Bool) (n : ℕ) (targets : List ℕ) → turned (map f (range_with_len 0 n)) targets ≡ map (λ t. exclusive_or (is_flipped t targets) (f t)) (range_with_len 0 n)
+pub turned-map : (f : ℕ → Bool) (n : ℕ) (targets : List ℕ) → turned (map f (range_with_len 0 n)) targets ≡ map (λ t. exclusive_or (is_listed targets t) (f t)) (range_with_len 0 n)
 turned-map f n [] = refl
 turned-map f n (u ∷ targets) =
     let at : 0 + u ≡ u = omega arith in
-    ap (λ bits. turned bits targets) (turned_at-map f 0 n u ∙ ap (λ m. map (λ t. exclusive_or (t == m) (f t)) (range_with_len 0 n)) at)
-    ∙ turned-map (λ t. exclusive_or (t == u) (f t)) n targets
-    ∙ map-same _ _ 0 n (λ t above. swapped (is_flipped t targets) (t == u) (f t))
+    ap (λ bits. turned bits targets) (turned_at-map f 0 n u ∙ ap (λ m. map (λ t. exclusive_or (m == t) (f t)) (range_with_len 0 n)) at)
+    ∙ turned-map (λ t. exclusive_or (u == t) (f t)) n targets
+    ∙ map-same _ _ 0 n (λ t above. swapped (is_listed targets t) (u == t) (f t))
 
 named-map : (f : ℕ → Bool) (n : ℕ) (named : Bool) (targets : List ℕ) → (if named then turned (map f (range_with_len 0 n)) targets else map f (range_with_len 0 n))
-    ≡ map (λ t. exclusive_or (named && is_flipped t targets) (f t)) (range_with_len 0 n)
+    ≡ map (λ t. exclusive_or (named && is_listed targets t) (f t)) (range_with_len 0 n)
 named-map f n true targets = turned-map f n targets
 named-map f n false targets = refl
 
@@ -86,8 +87,8 @@ turned_by-map f n [] lines = refl
 turned_by-map f n (b ∷ named) [] = refl
 turned_by-map f n (b ∷ named) (line ∷ lines) =
     ap (λ bits. turned_by bits named lines) (named-map f n b line.targets)
-    ∙ turned_by-map (λ t. exclusive_or (b && is_flipped t line.targets) (f t)) n named lines
-    ∙ map-same _ _ 0 n (λ t above. swapped (is_in_symptom named lines t) (b && is_flipped t line.targets) (f t))
+    ∙ turned_by-map (λ t. exclusive_or (b && is_listed line.targets t) (f t)) n named lines
+    ∙ map-same _ _ 0 n (λ t above. swapped (is_in_symptom named lines t) (b && is_listed line.targets t) (f t))
 
 none-set : (a n : ℕ) → replicate n false ≡ map (λ t. false) (range_with_len a n)
 none-set a zero = refl

@@ -8,13 +8,13 @@ use Rattle.std.proofs.lemmas.List.FromFn.{get_or-map-range_with_len, length-map-
 use Rattle.pauli_word.specs.Parity.{exclusive_or}
 use Rattle.step_model.specs.ErrorModels.{ErrorLine, ErrorModel}
 use Rattle.dem_lines.specs.declared.target.Target.{Target}
-use Rattle.dem_parser.specs.Meanings.{detector_count, detectors_to, error_line, error_lines, flipped, greatest_of, is_error, meaning_of, observable_count}
-use Rattle.dem_parser.specs.Numbered.{numbered, numbers_of, odd_below}
+use Rattle.dem_parser.specs.Meanings.{detector_count, error_line, error_lines, flipped, is_error, meaning_of, observable_count, numbered}
+use Rattle.dem_parser.specs.Numbered.{odd_below, numbers_of}
 use Rattle.dem_parser.specs.Shifts.{Placed}
 use Rattle.dem_parser.specs.Summed.{error_count, passed_after, turned_past}
-use Rattle.dem_parser.specs.Sums.{is_flipped, symptom_of}
+use Rattle.dem_parser.specs.Sums.{symptom_of}
+use Rattle.step_model.specs.Targets.{is_listed}
 use Rattle.dem_parser.specs.Turned.{turned, turned_at, turned_by}
-use Rattle.dem_parser.proofs.NumberLemmas.{flipped-numbers}
 use Rattle.dem_parser.proofs.SumLemmas.{length-turned_if, symptom-turned, turned-map}
 
 -- ---- targets one after another
@@ -45,25 +45,25 @@ count-at errors p rest =
 
 -- ---- the same turned round
 
-flipped-before : (p : ℕ → Bool) (t a m : ℕ) → t < a → is_flipped t (filter p (range_with_len a m)) ≡ false
+flipped-before : (p : ℕ → Bool) (t a m : ℕ) → t < a → is_listed (filter p (range_with_len a m)) t ≡ false
 flipped-before p t a zero h = refl
 flipped-before p t a (suc m) h =
     let later = flipped-before p t (a + 1) m (omega (arith, h)) in
     let found = filter p (range_with_len (a + 1) m) in
-    elim (p a) as (λ b. is_flipped t (cond b (a ∷ found) found) ≡ false) [
-      | true ↦ rw (ne_eqb t a (λ e. absurd (omega (arith, e, h)))) later
+    elim (p a) as (λ b. is_listed (cond b (a ∷ found) found) t ≡ false) [
+      | true ↦ rw (ne_eqb a t (λ e. absurd (omega (arith, e, h)))) later
       | false ↦ later
     ]
 
-flipped-here : (b : Bool) (t : ℕ) (found : List ℕ) → is_flipped t found ≡ false → is_flipped t (cond b (t ∷ found) found) ≡ b
+flipped-here : (b : Bool) (t : ℕ) (found : List ℕ) → is_listed found t ≡ false → is_listed (cond b (t ∷ found) found) t ≡ b
 flipped-here true t found none = rw (eq-eqb t t refl, none) refl
 flipped-here false t found none = none
 
-flipped-later : (b : Bool) (t a : ℕ) (found : List ℕ) → a < t → is_flipped t (cond b (a ∷ found) found) ≡ is_flipped t found
-flipped-later true t a found h = rw (ne_eqb t a (λ e. absurd (omega (arith, e, h)))) refl
+flipped-later : (b : Bool) (t a : ℕ) (found : List ℕ) → a < t → is_listed (cond b (a ∷ found) found) t ≡ is_listed found t
+flipped-later true t a found h = rw (ne_eqb a t (λ e. absurd (omega (arith, e, h)))) refl
 flipped-later false t a found h = refl
 
-flipped-within : (p : ℕ → Bool) (t a m : ℕ) → a ≤ t → t < a + m → is_flipped t (filter p (range_with_len a m)) ≡ p t
+flipped-within : (p : ℕ → Bool) (t a m : ℕ) → a ≤ t → t < a + m → is_listed (filter p (range_with_len a m)) t ≡ p t
 flipped-within p t a zero h j = absurd (omega (arith, h, j))
 flipped-within p t a (suc m) h j =
     let found = filter p (range_with_len (a + 1) m) in
@@ -71,7 +71,7 @@ flipped-within p t a (suc m) h j =
       | inl above ↦ flipped-later (p a) t a found above ∙ flipped-within p t (a + 1) m (omega (arith, above)) (omega (arith, j))
       | inr below ↦
           let same : a ≡ t = omega (arith, h, below) in
-          ap (λ c. is_flipped t (cond (p c) (c ∷ found) found)) same
+          ap (λ c. is_listed (cond (p c) (c ∷ found) found) t) same
           ∙ flipped-here (p t) t found (flipped-before p t (a + 1) m (omega (arith, same)))
     ]
 
@@ -86,22 +86,21 @@ map-below f g a (suc n) h =
     ap (λ (x : Bool). x ∷ map f (range_with_len (a + 1) n)) (h a (omega arith) (omega arith))
     ∙ ap (λ (xs : List Bool). g a ∷ xs) (map-below f g (a + 1) n (λ t low below. h t (omega (arith, low)) (omega (arith, below))))
 
-turned-same : (bits : List Bool) (n : ℕ) (xs ys : List ℕ) → length bits ≡ n → ((t : ℕ) → t < n → is_flipped t xs ≡ is_flipped t ys) → turned bits xs ≡ turned bits ys
+turned-same : (bits : List Bool) (n : ℕ) (xs ys : List ℕ) → length bits ≡ n → ((t : ℕ) → t < n → is_listed xs t ≡ is_listed ys t) → turned bits xs ≡ turned bits ys
 turned-same bits n xs ys long same =
     let f : ℕ → Bool = λ t. get_or bits t false in
     let made : bits ≡ map f (range_with_len 0 n) = bits-map bits ∙ ap (λ m. map f (range_with_len 0 m)) long in
     ap (λ bs. turned bs xs) made
     ∙ turned-map f n xs
-    ∙ map-below (λ t. exclusive_or (is_flipped t xs) (f t)) (λ t. exclusive_or (is_flipped t ys) (f t)) 0 n
+    ∙ map-below (λ t. exclusive_or (is_listed xs t) (f t)) (λ t. exclusive_or (is_listed ys t) (f t)) 0 n
     (λ t low below. ap (λ b. exclusive_or b (f t)) (same t (omega (arith, below))))
     ∙ sym (ap (λ bs. turned bs ys) made ∙ turned-map f n ys)
 
-pub turned-flipped : (d o : ℕ) (bits : List Bool) (targets : List Target) → length bits ≡ d + o → greatest_of detectors_to targets ≤ d
+turned-flipped : (d o : ℕ) (bits : List Bool) (targets : List Target) → length bits ≡ d + o
     → turned bits (numbers_of d targets) ≡ turned bits (flipped d o targets)
-turned-flipped d o bits targets long low =
+turned-flipped d o bits targets long =
     turned-same bits (d + o) (numbers_of d targets) (odd_below (d + o) (numbers_of d targets)) long
-    (λ t below. sym (flipped-within (λ u. is_flipped u (numbers_of d targets)) t 0 (d + o) (omega arith) (omega (arith, below))))
-    ∙ ap (turned bits) (flipped-numbers d o targets low)
+    (λ t below. sym (flipped-within (λ u. is_listed (numbers_of d targets) u) t 0 (d + o) (omega arith) (omega (arith, below))))
 
 -- ---- lines one after another
 
@@ -112,21 +111,21 @@ named-next bits [] lines (suc k) line = refl
 named-next bits (n ∷ named) lines zero line = refl
 named-next bits (n ∷ named) lines (suc k) line = named-next bits named lines k line
 
-sum-error : (d o : ℕ) (named bits : List Bool) (passed : ℕ) (p : Placed) (rest : List Placed) → length bits ≡ d + o → greatest_of detectors_to p.targets ≤ d
+sum-error : (d o : ℕ) (named bits : List Bool) (passed : ℕ) (p : Placed) (rest : List Placed) → length bits ≡ d + o
     → turned_by (if get_or named passed false then turned bits (numbers_of d p.targets) else bits) (drop (passed + 1) named) (error_lines d o rest)
     ≡ turned_by bits (drop passed named) (error_line d o p ∷ error_lines d o rest)
-sum-error d o named bits passed p rest long low =
+sum-error d o named bits passed p rest long =
     let later : passed + 1 ≡ suc passed = omega arith in
     ap (λ k. turned_by (if get_or named passed false then turned bits (numbers_of d p.targets) else bits) (drop k named) (error_lines d o rest)) later
-    ∙ ap (λ bs. turned_by (if get_or named passed false then bs else bits) (drop (suc passed) named) (error_lines d o rest)) (turned-flipped d o bits p.targets long low)
+    ∙ ap (λ bs. turned_by (if get_or named passed false then bs else bits) (drop (suc passed) named) (error_lines d o rest)) (turned-flipped d o bits p.targets long)
     ∙ sym (named-next bits named (error_lines d o rest) passed (error_line d o p))
 
-pub sum-at : (d o : ℕ) (named bits : List Bool) (passed : ℕ) (p : Placed) (rest : List Placed) → length bits ≡ d + o → greatest_of detectors_to p.targets ≤ d
+pub sum-at : (d o : ℕ) (named bits : List Bool) (passed : ℕ) (p : Placed) (rest : List Placed) → length bits ≡ d + o
     → turned_by (turned_past d named passed p bits) (drop (passed_after passed p) named) (error_lines d o rest)
     ≡ turned_by bits (drop passed named) (error_lines d o (p ∷ rest))
-sum-at d o named bits passed p rest long low =
+sum-at d o named bits passed p rest long =
     let found = filter (λ q. is_error q.operation) rest in
-    let here = sum-error d o named bits passed p rest long low in
+    let here = sum-error d o named bits passed p rest long in
     elim (is_error p.operation) as (λ b. turned_by (if b && get_or named passed false then turned bits (numbers_of d p.targets) else bits) (drop (if b then passed + 1 else passed) named) (error_lines d o rest)
     ≡ turned_by bits (drop passed named) (map (error_line d o) (cond b (p ∷ found) found))) [
       | true ↦ here

@@ -17,7 +17,8 @@ use Rattle.dem_lines.specs.Fitting.{Fits}
 use Rattle.dem_lines.specs.Limits.{has_target_beyond, is_target_beyond}
 use Rattle.dem_lines.specs.Verdicts.{Instruction}
 use Rattle.dem_parser.specs.declared.counts.Extent.{Extent}
-use Rattle.dem_parser.specs.Meanings.{detectors_to, greatest_of, observables_to}
+use Rattle.dem_parser.specs.Meanings.{detectors_to, observables_to}
+use Rattle.block_text.specs.Reached.{greatest_by}
 use Rattle.dem_parser.specs.Shifts.{Shift, coordinates_given, placed_at, target_at}
 use Rattle.dem_parser.specs.Tables.{IsKnown, coordinates_from, count_at, most_detectors, numbers_of_line, numbers_stated}
 use Rattle.dem_parser.specs.Offsets.{AreSmall}
@@ -46,19 +47,19 @@ count-max s (suc a) (suc b) =
     let sum : max (suc a + s) (suc b + s) ≡ suc (max a b) + s = omega arith in
     sum ∙ ap (count_at s) (sym same)
 
-pub counted : (s : ℕ) (ts : List Target) → greatest_of detectors_to (map (target_at s) ts) ≡ count_at s (greatest_of detectors_to ts)
+pub counted : (s : ℕ) (ts : List Target) → greatest_by detectors_to (map (target_at s) ts) ≡ count_at s (greatest_by detectors_to ts)
 counted s [] = refl
-counted s (Plain n ∷ ts) = ap (max 0) (counted s ts) ∙ count-max s 0 (greatest_of detectors_to ts)
+counted s (Plain n ∷ ts) = ap (max 0) (counted s ts) ∙ count-max s 0 (greatest_by detectors_to ts)
 counted s (Detector d ∷ ts) =
     let same : suc d ≡ d + 1 = omega arith in
     let one : d + s + 1 ≡ suc d + s = omega arith in
-    ap (λ n. max n (greatest_of detectors_to (map (target_at s) ts))) (one ∙ ap (count_at s) same)
+    ap (λ n. max n (greatest_by detectors_to (map (target_at s) ts))) (one ∙ ap (count_at s) same)
     ∙ ap (max (count_at s (d + 1))) (counted s ts)
-    ∙ count-max s (d + 1) (greatest_of detectors_to ts)
-counted s (Observable k ∷ ts) = ap (max 0) (counted s ts) ∙ count-max s 0 (greatest_of detectors_to ts)
-counted s (Separator ∷ ts) = ap (max 0) (counted s ts) ∙ count-max s 0 (greatest_of detectors_to ts)
+    ∙ count-max s (d + 1) (greatest_by detectors_to ts)
+counted s (Observable k ∷ ts) = ap (max 0) (counted s ts) ∙ count-max s 0 (greatest_by detectors_to ts)
+counted s (Separator ∷ ts) = ap (max 0) (counted s ts) ∙ count-max s 0 (greatest_by detectors_to ts)
 
-pub observables-stay : (s : ℕ) (ts : List Target) → greatest_of observables_to (map (target_at s) ts) ≡ greatest_of observables_to ts
+pub observables-stay : (s : ℕ) (ts : List Target) → greatest_by observables_to (map (target_at s) ts) ≡ greatest_by observables_to ts
 observables-stay s [] = refl
 observables-stay s (Plain n ∷ ts) = ap (max 0) (observables-stay s ts)
 observables-stay s (Detector d ∷ ts) = ap (max 0) (observables-stay s ts)
@@ -72,7 +73,7 @@ one-more : (m d : ℕ) → nat_lt m d ≡ nat_lt (m + 1) (d + 1)
 one-more m d = grind (arith, nat_tests)
 
 far-targets : (s : ℕ) (ts : List Target) → list_any is_target_beyond ts ≡ false
-    → list_any is_target_beyond (map (target_at s) ts) ≡ nat_lt most_detectors (greatest_of detectors_to (map (target_at s) ts))
+    → list_any is_target_beyond (map (target_at s) ts) ≡ nat_lt most_detectors (greatest_by detectors_to (map (target_at s) ts))
 far-targets s [] h = refl
 far-targets s (Plain n ∷ ts) h =
     either-above most_detectors _ _ 0 _ (left (is_target_beyond (Plain n)) _ h) (far-targets s ts (right (is_target_beyond (Plain n)) _ h))
@@ -84,7 +85,7 @@ far-targets s (Separator ∷ ts) h = either-above most_detectors _ _ 0 _ refl (f
 
 -- ---- targets within their limits
 
-pub few-named : (ts : List Target) → has_target_beyond ts ≡ false → (greatest_of detectors_to ts ≤ 1_000_000) × (greatest_of observables_to ts ≤ 1024)
+pub few-named : (ts : List Target) → has_target_beyond ts ≡ false → (greatest_by detectors_to ts ≤ 1_000_000) × (greatest_by observables_to ts ≤ 1024)
 unfolding has_target_beyond
 few-named [] h = (omega arith, omega arith)
 few-named (Plain n ∷ ts) h =
@@ -124,23 +125,23 @@ coordinates-known s i e ns known =
     ap (λ stated. coordinates_from i.operation stated s.offset) known.numbers_are ∙ coordinates-same i.operation i.arguments s.offset
 
 detectors-known : (s : Shift) (i : Instruction) (e : Extent) (ns : List ℤ) → IsKnown i e ns
-    → count_at s.detectors e.detectors ≡ greatest_of detectors_to (placed_at s i).targets
+    → count_at s.detectors e.detectors ≡ greatest_by detectors_to (placed_at s i).targets
 detectors-known s i e ns known =
     ap (λ (x : Extent). count_at s.detectors x.detectors) known.extent_is ∙ sym (counted s.detectors i.targets)
 
 pub detectors-placed : (s : Shift) (i : Instruction) (e : Extent) (ns : List ℤ) → IsKnown i e ns → (found : Option ℕ)
     → MatchOption found (nat_lt most_detectors (count_at s.detectors e.detectors) ≡ true) (λ n. (n ≡ count_at s.detectors e.detectors) × (nat_lt most_detectors (count_at s.detectors e.detectors) ≡ false))
-    → MatchOption found (has_target_beyond (placed_at s i).targets ≡ true) (λ n. (n ≡ greatest_of detectors_to (placed_at s i).targets) × (has_target_beyond (placed_at s i).targets ≡ false))
+    → MatchOption found (has_target_beyond (placed_at s i).targets ≡ true) (λ n. (n ≡ greatest_by detectors_to (placed_at s i).targets) × (has_target_beyond (placed_at s i).targets ≡ false))
 detectors-placed s i e ns known None far = targets-beyond s i e ns known ∙ far
 detectors-placed s i e ns known (Some n) near = (near.0 ∙ detectors-known s i e ns known, targets-beyond s i e ns known ∙ near.1)
 
 pub observables-known : (s : Shift) (i : Instruction) (e : Extent) (ns : List ℤ) → IsKnown i e ns
-    → e.observables ≡ greatest_of observables_to (placed_at s i).targets
+    → e.observables ≡ greatest_by observables_to (placed_at s i).targets
 observables-known s i e ns known =
     ap (λ (x : Extent). x.observables) known.extent_is ∙ sym (observables-stay s.detectors i.targets)
 
 -- all is known of an instruction that fits, with what was worked out of it
-pub known-fitting : (i : Instruction) (e : Extent) (ns : List ℤ) → Fits i → e.detectors ≡ greatest_of detectors_to i.targets → e.observables ≡ greatest_of observables_to i.targets → ns ≡ numbers_of_line i
+pub known-fitting : (i : Instruction) (e : Extent) (ns : List ℤ) → Fits i → e.detectors ≡ greatest_by detectors_to i.targets → e.observables ≡ greatest_by observables_to i.targets → ns ≡ numbers_of_line i
     → IsKnown i e ns
 known-fitting i e ns fits detectors observables numbers =
     let right = numbers-right i fits in

@@ -4,13 +4,15 @@ use Rattle.std.specs.Prelude.{min, nat_lt}
 use Rattle.std.proofs.lemmas.Bool.{cases_lt, lt-ltb, le-ltb}
 use Rattle.dem_parser.specs.declared.unrolled.Unrolled.{Unrolled}
 use Rattle.dem_lines.specs.Fitting.{AllFit}
-use Rattle.dem_parser.specs.Unrolled.{greatest, capped_sum, repeated_sum, nothing_counted, counts_after, counts_repeated, counting, Counts}
-use Rattle.dem_lines.specs.Reached.{block_lines, has_many_lines, lines_inside, most_lines}
+use Rattle.dem_parser.specs.Unrolled.{greatest, lines_inside, capped_sum, repeated_sum, nothing_counted, counts_after, counts_repeated, counting, Counts}
+use Rattle.dem_lines.specs.Reached.{block_lines, has_many_lines, most_lines}
+use Rattle.block_text.specs.Reached.{total}
 use Rattle.block_text.specs.declared.blocks.OpenBlock.{OpenBlock}
 use Rattle.dem_lines.specs.Passes.{Passes, behind}
 use Rattle.dem_parser.specs.TableLines.{stand_of}
-use Rattle.dem_lines.specs.Texts.{Item, Does, Begins, Ends}
-use Rattle.dem_lines.specs.Trees.{Tree, Nothing, Then, Block, items_of}
+use Rattle.dem_lines.specs.Texts.{Item}
+use Rattle.block_text.specs.Trees.{Does, Begins, Ends, Nothing, Then, Block, items_of}
+use Rattle.dem_lines.specs.Trees.{Tree}
 
 -- ---- one count
 
@@ -49,7 +51,7 @@ outer (Then i rest) = 1 + outer rest
 outer (Block line turns body rest) = outer rest
 
 behind-inside : (t : Tree) (n : ℕ) (c : Unrolled) → AllFit t → c.inside ≡ min n greatest → (behind counting t c).inside ≡ min (n + lines_inside t) greatest
-unfolding lines_inside
+unfolding total
 behind-inside Nothing n c fit h = omega (arith, h)
 behind-inside (Then i rest) n c fit h =
     let next : min (c.inside + 1) greatest ≡ min (n + 1) greatest = omega (arith, h) in
@@ -70,7 +72,7 @@ behind-outside (Block line turns body rest) n c h =
     behind-outside rest n (counts_repeated turns c (behind counting body c)) h
 
 inside-parts : (t : Tree) → lines_inside t ≡ outer t + block_lines t
-unfolding lines_inside block_lines
+unfolding total block_lines
 inside-parts Nothing = refl
 inside-parts (Then i rest) = let r = inside-parts rest in omega (arith, r)
 inside-parts (Block line turns body rest) = let r = inside-parts rest in omega (arith, r)

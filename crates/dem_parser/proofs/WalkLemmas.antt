@@ -7,7 +7,8 @@ use Rattle.std.proofs.lemmas.List.{length-replicate}
 use Rattle.step_model.specs.ErrorModels.{ErrorModel}
 use Rattle.dem_lines.specs.Limits.{has_target_beyond}
 use Rattle.dem_parser.specs.declared.counts.LineCounts.{LineCounts}
-use Rattle.dem_parser.specs.Meanings.{detector_count, detectors_to, error_lines, greatest_of, greatest_over, meaning_of, observable_count, observables_to}
+use Rattle.dem_parser.specs.Meanings.{detector_count, detectors_to, error_lines, meaning_of, observable_count, observables_to}
+use Rattle.block_text.specs.Reached.{greatest_by}
 use Rattle.dem_parser.specs.Models.{first_beyond, is_beyond}
 use Rattle.dem_parser.specs.Shifts.{Placed}
 use Rattle.dem_parser.specs.Summed.{AreCounts, HasCounted, error_count, passed_after, turned_past}
@@ -39,7 +40,6 @@ pub near-next : (p : Placed) (rest rest' : List Placed) → first_beyond rest �
 near-next p rest rest' h e = near-first p rest' (sym (ap first_beyond e) ∙ h)
 
 pub few-counts : (ps : List Placed) → first_beyond ps ≡ None → (detector_count ps ≤ 1_000_000) × (observable_count ps ≤ 1024)
-unfolding greatest_over
 few-counts [] h = (omega arith, omega arith)
 few-counts (p ∷ ps) h =
     let near = near-first p ps h in
@@ -61,18 +61,17 @@ judging-first all = record { within = refl; detectors = omega arith; observables
 
 pub judging-next : (all rest rest' : List Placed) (counts counts' : LineCounts) (p : Placed) → IsJudging all rest counts → rest ≡ p ∷ rest'
     → is_beyond p ≡ false → HasCounted counts p counts' → IsJudging all rest' counts'
-unfolding greatest_over
 judging-next all rest rest' counts counts' p h e near more =
     record {
       within = h.within ∙ ap first_beyond e ∙ beyond_of p rest' false near;
       detectors =
           ap (λ n. max n (detector_count rest')) more.detectors_are
-          ∙ max-more counts.detectors (greatest_of detectors_to p.targets) (detector_count rest')
+          ∙ max-more counts.detectors (greatest_by detectors_to p.targets) (detector_count rest')
           ∙ ap (λ ps. max counts.detectors (detector_count ps)) (sym e)
           ∙ h.detectors;
       observables =
           ap (λ n. max n (observable_count rest')) more.observables_are
-          ∙ max-more counts.observables (greatest_of observables_to p.targets) (observable_count rest')
+          ∙ max-more counts.observables (greatest_by observables_to p.targets) (observable_count rest')
           ∙ ap (λ ps. max counts.observables (observable_count ps)) (sym e)
           ∙ h.observables;
       errors =
@@ -88,7 +87,6 @@ judging-beyond all rest rest' counts p h e far = h.within ∙ ap first_beyond e 
 
 pub judging-done : (all rest : List Placed) (counts : LineCounts) → IsJudging all rest counts → rest ≡ []
     → AreCounts all counts.detectors counts.observables counts.errors × (first_beyond all ≡ None)
-unfolding greatest_over
 judging-done all rest counts h e =
     let plain : counts.errors ≡ counts.errors + 0 = omega arith in (
       record {
@@ -105,7 +103,6 @@ judging-done all rest counts h e =
 pub record IsSumming (d o : ℕ) (named bits : List Bool) (passed : ℕ) (rest : List Placed) (whole : List Bool) : Type 0 where
   pub sum : turned_by bits (drop passed named) (error_lines d o rest) ≡ whole
   pub long : length bits ≡ d + o
-  pub low : detector_count rest ≤ d
 
 pub summing-first : (model : ErrorModel) (all : List Placed) (named bits : List Bool) (counts : LineCounts) → meaning_of all ≡ model
     → AreCounts all counts.detectors counts.observables counts.errors → bits ≡ replicate (counts.detectors + counts.observables) false
@@ -118,25 +115,19 @@ summing-first model all named bits counts is are e =
           ap₂ (λ m n. turned_by bits named (error_lines m n all)) d o
           ∙ sum-first model all named bits counts.detectors counts.observables is are.detectors_are are.observables_are e;
       long = ap length e ∙ length-replicate (counts.detectors + counts.observables) false;
-      low = let same = are.detectors_are in omega (arith, same);
     }
 
 pub summing-next : (d o : ℕ) (named bits bits' : List Bool) (passed passed' : ℕ) (rest rest' : List Placed) (whole : List Bool) (p : Placed)
     → IsSumming d o named bits passed rest whole → rest ≡ p ∷ rest' → bits' ≡ turned_past d named passed p bits → passed' ≡ passed_after passed p
     → IsSumming d o named bits' passed' rest' whole
-unfolding greatest_over
 summing-next d o named bits bits' passed passed' rest rest' whole p h e turns passes =
-    let count : detector_count rest ≡ max (greatest_of detectors_to p.targets) (detector_count rest') = ap (λ ps. detector_count ps) e in
-    let low = h.low in
-    let here : greatest_of detectors_to p.targets ≤ d = omega (arith, count, low) in
     record {
       sum =
           ap₂ (λ bs k. turned_by bs (drop k named) (error_lines d o rest')) turns passes
-          ∙ sum-at d o named bits passed p rest' h.long here
+          ∙ sum-at d o named bits passed p rest' h.long
           ∙ ap (λ ps. turned_by bits (drop passed named) (error_lines d o ps)) (sym e)
           ∙ h.sum;
       long = ap length turns ∙ length-past d passed named bits p (d + o) h.long;
-      low = omega (arith, count, low);
     }
 
 pub summing-done : (d o : ℕ) (named bits : List Bool) (passed : ℕ) (rest : List Placed) (whole : List Bool) → IsSumming d o named bits passed rest whole

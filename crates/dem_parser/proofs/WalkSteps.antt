@@ -10,10 +10,12 @@ use Rattle.dem_lines.specs.Passes.{CanStand}
 use Rattle.dem_parser.specs.declared.table_line.Stand.{Stand}
 use Rattle.dem_parser.specs.declared.table_line.Stand.TheVariants as stand
 use Rattle.dem_parser.specs.TableLines.{CanStandAt, HasNoLine, stand_of}
-use Rattle.dem_lines.specs.Reached.{block_lines, has_many_lines, lines_inside}
-use Rattle.block_text.specs.Reached.{copies, reached}
-use Rattle.dem_lines.specs.Texts.{Item, Does, Begins, Ends}
-use Rattle.dem_lines.specs.Trees.{Tree, Nothing, Then, Block, items_of}
+use Rattle.dem_parser.specs.Unrolled.{lines_inside}
+use Rattle.dem_lines.specs.Reached.{block_lines, has_many_lines}
+use Rattle.block_text.specs.Reached.{copies, reached, total}
+use Rattle.dem_lines.specs.Texts.{Item}
+use Rattle.block_text.specs.Trees.{Does, Begins, Ends, Nothing, Then, Block, items_of}
+use Rattle.dem_lines.specs.Trees.{Tree}
 use Rattle.dem_lines.specs.Verdicts.{Instruction}
 use Rattle.dem_lines.proofs.PassLemmas.{AreWhole, can_stand, drop_got, whole-tree}
 use Rattle.dem_parser.specs.declared.walk.Turns.{Turns}
@@ -347,7 +349,7 @@ few-copies (suc n) m xs few =
     omega (arith, long, rest, few)
 
 few-inside : (t : Tree) → length (reached t) ≤ lines_inside t
-unfolding lines_inside
+unfolding total
 few-inside Nothing = omega arith
 few-inside (Then i rest) = let r = few-inside rest in omega (arith, r)
 few-inside (Block line turns body rest) =

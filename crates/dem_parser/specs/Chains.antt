@@ -3,7 +3,8 @@
 use Rattle.std.specs.Prelude.{◌≡◌, ⊤, ◌+◌, max, Bool, true, false, if◌then◌else◌, List, [], ◌∷◌, map}
 use Rattle.dem_lines.specs.declared.operation.Operation.{Operation}
 use Rattle.dem_lines.specs.declared.operation.Operation.TheVariants.{Shifts}
-use Rattle.dem_lines.specs.Texts.{Item, Does}
+use Rattle.dem_lines.specs.Texts.{Item}
+use Rattle.block_text.specs.Trees.{Does}
 use Rattle.dem_lines.specs.Verdicts.{Instruction}
 use Rattle.dem_parser.specs.declared.counts.Extent.{Extent}
 use Rattle.dem_parser.specs.declared.counts.LineCounts.{LineCounts}

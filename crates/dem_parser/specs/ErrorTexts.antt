@@ -12,7 +12,8 @@ use Rattle.stim_parser.specs.Pieces.{ends_here}
 use Rattle.dem_parser.specs.declared.counts.Extent.{Extent}
 use Rattle.dem_lines.specs.declared.target.Target.{Target}
 use Rattle.dem_lines.specs.Limits.{has_target_beyond, is_effect}
-use Rattle.dem_parser.specs.Meanings.{detectors_to, greatest_of, observables_to}
+use Rattle.dem_parser.specs.Meanings.{detectors_to, observables_to}
+use Rattle.block_text.specs.Reached.{greatest_by}
 use Rattle.dem_lines.specs.Targets.{target_of, targets_in}
 
 -- the space and the bytes from `+` to `z`
@@ -47,8 +48,8 @@ pub record AreCounted (text : List ℕ) (counts found : Extent) : Type 0 where
   pub read : targets_in text ≡ Some targets
   pub effects : list_all is_effect targets ≡ true
   pub within : has_target_beyond targets ≡ false
-  pub detectors : found.detectors ≡ max counts.detectors (greatest_of detectors_to targets)
-  pub observables : found.observables ≡ max counts.observables (greatest_of observables_to targets)
+  pub detectors : found.detectors ≡ max counts.detectors (greatest_by detectors_to targets)
+  pub observables : found.observables ≡ max counts.observables (greatest_by observables_to targets)
 
 -- a line ends where a text begins
 abbrev pub ends_line : List ℕ → Bool

@@ -5,10 +5,11 @@
 -- detector are those of the last `detector` line that names it and gives any. (Stim's detector error model format,
 -- github.com/quantumlib/Stim, doc/file_format_dem_detector_error_model.md; which of several coordinates count is this
 -- project's choice.)
-use Rattle.std.specs.Prelude.{ℕ, ◌+◌, ◌==◌, max, Bool, true, false, not, ◌&&◌, if◌then◌else◌, ℤ, List, [], ◌∷◌, ◌++◌, map}
-use Rattle.std.specs.List.{filter, list_any, range_with_len}
+use Rattle.std.specs.Prelude.{ℕ, ◌+◌, ◌==◌, Bool, true, false, not, ◌&&◌, if◌then◌else◌, ℤ, List, [], ◌∷◌, map}
+use Rattle.std.specs.List.{filter, flat_map, list_any, range_with_len}
 use Rattle.stim_lexer.specs.Bytes.{is_empty}
-use Rattle.pauli_word.specs.Parity.{exclusive_or}
+use Rattle.step_model.specs.Targets.{is_listed}
+use Rattle.block_text.specs.Reached.{greatest_by}
 use Rattle.step_model.specs.ErrorModels.{ErrorLine, ErrorModel}
 use Rattle.dem_lines.specs.declared.operation.Operation.{Operation}
 use Rattle.dem_lines.specs.declared.operation.Operation.TheVariants.{Errs}
@@ -27,14 +28,9 @@ abbrev pub observables_to : Target → ℕ
 observables_to (Observable k) = k + 1
 observables_to target = 0
 
--- the greatest count of targets, or 0
-abbrev pub greatest_of : (Target → ℕ) → List Target → ℕ
-greatest_of count [] = 0
-greatest_of count (target ∷ targets) = max (count target) (greatest_of count targets)
-
-unfoldable pub greatest_over : (Target → ℕ) → List Placed → ℕ
-greatest_over count [] = 0
-greatest_over count (placed ∷ rest) = max (greatest_of count placed.targets) (greatest_over count rest)
+-- the greatest count of the targets of lines, or 0
+abbrev pub greatest_over : (Target → ℕ) → List Placed → ℕ
+greatest_over count lines = greatest_by (λ placed. greatest_by count placed.targets) lines
 
 -- one more than the greatest detector that lines name, or 0; and so for observables
 abbrev pub detector_count : List Placed → ℕ
@@ -45,31 +41,17 @@ observable_count lines = greatest_over observables_to lines
 
 -- ---- what an error flips
 
-abbrev pub is_detector_of : ℕ → Target → Bool
-is_detector_of d (Detector e) = d == e
-is_detector_of d target = false
+-- the number of a target in a model with this many detectors: these come first, and observable k is k more; a separator
+-- has none
+abbrev pub numbered : ℕ → Target → List ℕ
+numbered detectors (Detector d) = d ∷ []
+numbered detectors (Observable k) = (detectors + k) ∷ []
+numbered detectors target = []
 
-abbrev pub is_observable_of : ℕ → Target → Bool
-is_observable_of k (Observable l) = k == l
-is_observable_of k target = false
-
--- whether an odd number of targets pass
-abbrev pub is_odd_among : (Target → Bool) → List Target → Bool
-is_odd_among test [] = false
-is_odd_among test (target ∷ targets) = exclusive_or (test target) (is_odd_among test targets)
-
--- the detectors below a number that targets name an odd number of times, ascending; and so for observables
-abbrev pub flipped_detectors : ℕ → List Target → List ℕ
-flipped_detectors detectors targets = filter (λ d. is_odd_among (is_detector_of d) targets) (range_with_len 0 detectors)
-
-abbrev pub flipped_observables : ℕ → List Target → List ℕ
-flipped_observables observables targets =
-    filter (λ k. is_odd_among (is_observable_of k) targets) (range_with_len 0 observables)
-
--- detectors first, and observable k after all detectors and k more
+-- the numbers that targets name an odd number of times, ascending
 abbrev pub flipped : ℕ → ℕ → List Target → List ℕ
 flipped detectors observables targets =
-    flipped_detectors detectors targets ++ map (λ k. detectors + k) (flipped_observables observables targets)
+    filter (is_listed (flat_map (numbered detectors) targets)) (range_with_len 0 (detectors + observables))
 
 -- ---- error lines
 
@@ -90,7 +72,8 @@ error_lines detectors observables lines =
 
 -- whether a line gives coordinates to this detector
 abbrev pub gives_coordinates : ℕ → Placed → Bool
-gives_coordinates d placed = not (is_empty placed.coordinates) && list_any (is_detector_of d) placed.targets
+gives_coordinates d placed =
+    not (is_empty placed.coordinates) && list_any (λ target. detectors_to target == d + 1) placed.targets
 
 -- the coordinates of the last line that gives any to detector d; `found` where no line does
 unfoldable pub last_coordinates : ℕ → List ℤ → List Placed → List ℤ

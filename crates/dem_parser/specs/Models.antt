@@ -3,13 +3,13 @@
 -- lines are reached, that names a detector above 999,999 once shifted, or gives a coordinate of 10^18 or more in
 -- magnitude. (Stim's detector error model format, github.com/quantumlib/Stim,
 -- doc/file_format_dem_detector_error_model.md; the limits and the order of refusals are this project's.)
-use Rattle.std.specs.Prelude.{ℕ, nat_abs, Bool, ◌||◌, if◌then◌else◌, ℤ, List, Option, None, Some, option_map, find, Result, Ok, Err}
+use Rattle.std.specs.Prelude.{ℕ, nat_abs, Bool, ◌||◌, if◌then◌else◌, ℤ, List, Option, None, Some, option_map, find, Result}
 use Rattle.std.specs.List.{list_any}
 use Rattle.std.specs.Option.{option_or}
 use Rattle.step_model.specs.declared.fault.Fault.{Fault}
 use Rattle.step_model.specs.declared.fault.Cause.TheVariants as cause
 use Rattle.step_model.specs.ErrorModels.{ErrorModel}
-use Rattle.step_model.specs.Faults.{without_line}
+use Rattle.step_model.specs.Faults.{unless, without_line, ◌>>=◌}
 use Rattle.stim_parser.specs.Numbers.{is_number_beyond}
 use Rattle.block_text.specs.Flat.{tree_of}
 use Rattle.dem_lines.specs.Limits.{has_target_beyond}
@@ -17,7 +17,8 @@ use Rattle.dem_parser.specs.Meanings.{meaning_of}
 use Rattle.dem_lines.specs.Reached.{has_many_lines}
 use Rattle.block_text.specs.Reached.{reached}
 use Rattle.dem_parser.specs.Shifts.{Placed, no_shift, placed_from}
-use Rattle.dem_lines.specs.Texts.{Item, items_in, refused}
+use Rattle.dem_lines.specs.Texts.{items_in}
+use Rattle.block_text.specs.Texts.{refused}
 use Rattle.dem_lines.specs.Trees.{Tree}
 
 -- the lines of a tree as they are reached
@@ -42,19 +43,10 @@ refusal_of_tree tree =
     option_or (if has_many_lines tree then Some (without_line cause.DemSteps) else None)
     (option_map (refused cause.DemNumber) (first_beyond (placed_lines tree)))
 
-abbrev pub unless_refused_by : Option Fault → ErrorModel → Result ErrorModel Fault
-unless_refused_by None model = Ok model
-unless_refused_by (Some fault) model = Err fault
-
 -- the model of a tree, or its refusal
 abbrev pub model_of_tree : Tree → Result ErrorModel Fault
-model_of_tree tree = unless_refused_by (refusal_of_tree tree) (meaning_of (placed_lines tree))
-
--- the model of the items of a text, or the refusal of its lines
-abbrev pub model_of_items : Result (List Item) Fault → Result ErrorModel Fault
-model_of_items (Ok items) = model_of_tree (tree_of items)
-model_of_items (Err fault) = Err fault
+model_of_tree tree = unless (refusal_of_tree tree) (meaning_of (placed_lines tree))
 
 -- the model of a text, or its refusal
 abbrev pub model_in : List ℕ → Result ErrorModel Fault
-model_in text = model_of_items (items_in text)
+model_in text = items_in text >>= (λ items. model_of_tree (tree_of items))

@@ -1,13 +1,15 @@
 -- Where a line stands in the text of an error model, and what it says there: so a line can be read again that was accepted.
 -- (Stim's detector error model format, github.com/quantumlib/Stim, doc/file_format_dem_detector_error_model.md.)
-use Rattle.std.specs.Prelude.{◌≡◌, ℕ, ◌+◌, false, List, drop, length, filter, take}
+use Rattle.std.specs.Prelude.{◌≡◌, ℕ, ◌+◌, false, List, [], drop, length, filter, take, unwrap_or}
 use Rattle.std.specs.List.{before_first}
 use Rattle.stim_lexer.specs.Bytes.{is_line_feed}
 use Rattle.stim_lexer.specs.Cut.{Cut, cut_of, has_bad_byte}
 use Rattle.stim_lexer.specs.Lines.{says_nothing}
 use Rattle.stim_parser.specs.Arguments.{arguments_in}
 use Rattle.dem_lines.specs.declared.operation.Operation.{Operation}
-use Rattle.dem_lines.specs.Verdicts.{Instruction, read_targets}
+use Rattle.dem_lines.specs.declared.target.Target.{Target}
+use Rattle.dem_lines.specs.Targets.{targets_in}
+use Rattle.dem_lines.specs.Verdicts.{Instruction}
 
 -- the line that begins at a place of a text, and its number, from 1
 abbrev pub line_at : List ℕ → ℕ → List ℕ
@@ -15,6 +17,10 @@ line_at text at = before_first is_line_feed (drop at text)
 
 abbrev pub line_number : List ℕ → ℕ → ℕ
 line_number text at = length (filter is_line_feed (take at text)) + 1
+
+-- the targets of a text, where each can be read
+abbrev pub read_targets : List ℕ → List Target
+read_targets text = unwrap_or (targets_in text) []
 
 -- the instruction that a cut line of this number says, by its operation
 abbrev pub instruction_cut : ℕ → Operation → Cut → Instruction

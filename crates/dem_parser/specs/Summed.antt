@@ -2,12 +2,12 @@
 -- (Stim's detector error model format, github.com/quantumlib/Stim, doc/file_format_dem_detector_error_model.md.)
 use Rattle.std.specs.Prelude.{◌≡◌, ℕ, ◌+◌, ◌<◌, ◌^◌, max, None, Bool, false, ◌&&◌, if◌then◌else◌, List, length, filter, slice_index_or}
 use Rattle.dem_lines.specs.Reached.{has_many_lines}
-use Rattle.block_text.specs.Reached.{reached}
+use Rattle.block_text.specs.Reached.{reached, greatest_by}
 use Rattle.dem_lines.specs.Trees.{Tree}
 use Rattle.dem_parser.specs.declared.counts.LineCounts.{LineCounts}
-use Rattle.dem_parser.specs.Meanings.{detector_count, detectors_to, greatest_of, is_error, observable_count, observables_to}
-use Rattle.dem_parser.specs.Models.{first_beyond, placed_lines}
+use Rattle.dem_parser.specs.Meanings.{detector_count, detectors_to, is_error, observable_count, observables_to}
 use Rattle.dem_parser.specs.Numbered.{numbers_of}
+use Rattle.dem_parser.specs.Models.{first_beyond, placed_lines}
 use Rattle.dem_parser.specs.Shifts.{Placed}
 use Rattle.dem_parser.specs.Turned.{turned}
 
@@ -39,6 +39,6 @@ pub record IsJudged (tree : Tree) (detectors observables errors : ℕ) : Type 0 
 
 -- counts after one more line
 pub record HasCounted (counts : LineCounts) (line : Placed) (counts' : LineCounts) : Type 0 where
-  pub detectors_are : counts'.detectors ≡ max counts.detectors (greatest_of detectors_to line.targets)
-  pub observables_are : counts'.observables ≡ max counts.observables (greatest_of observables_to line.targets)
+  pub detectors_are : counts'.detectors ≡ max counts.detectors (greatest_by detectors_to line.targets)
+  pub observables_are : counts'.observables ≡ max counts.observables (greatest_by observables_to line.targets)
   pub errors_are : counts'.errors ≡ passed_after counts.errors line

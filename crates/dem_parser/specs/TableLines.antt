@@ -2,7 +2,8 @@
 -- worked out of it, or only what a place has. (Stim's detector error model format, github.com/quantumlib/Stim,
 -- doc/file_format_dem_detector_error_model.md.)
 use Rattle.std.specs.Prelude.{⊤, ℕ, ◌<◌, Option, Some}
-use Rattle.dem_lines.specs.Texts.{Item, Does, Begins, Ends}
+use Rattle.dem_lines.specs.Texts.{Item}
+use Rattle.block_text.specs.Trees.{Does, Begins, Ends}
 use Rattle.dem_lines.specs.Verdicts.{Instruction}
 use Rattle.dem_parser.specs.declared.table_line.Stand.{Stand}
 use Rattle.dem_parser.specs.declared.table_line.Stand.TheVariants as stand

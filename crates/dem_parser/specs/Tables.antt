@@ -9,7 +9,8 @@ use Rattle.dem_lines.specs.declared.operation.Operation.TheVariants.{Detects, Sh
 use Rattle.dem_lines.specs.Limits.{has_target_beyond}
 use Rattle.dem_lines.specs.Verdicts.{Instruction}
 use Rattle.dem_parser.specs.declared.counts.Extent.{Extent}
-use Rattle.dem_parser.specs.Meanings.{detectors_to, greatest_of, observables_to}
+use Rattle.dem_parser.specs.Meanings.{detectors_to, observables_to}
+use Rattle.block_text.specs.Reached.{greatest_by}
 use Rattle.dem_parser.specs.Offsets.{AreSmall}
 use Rattle.stim_parser.specs.Offsets.{moved}
 
@@ -17,7 +18,7 @@ use Rattle.stim_parser.specs.Offsets.{moved}
 
 abbrev pub extent_of : Instruction → Extent
 extent_of i =
-    record { detectors = greatest_of detectors_to i.targets; observables = greatest_of observables_to i.targets }
+    record { detectors = greatest_by detectors_to i.targets; observables = greatest_by observables_to i.targets }
 
 -- the numbers of a line of this kind: coordinates, or what is added to those of later lines
 abbrev pub numbers_stated : Operation → List (List ℕ) → List ℤ

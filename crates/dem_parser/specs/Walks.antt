@@ -5,8 +5,9 @@
 use Rattle.std.specs.Prelude.{◌≡◌, ⊤, ℕ, zero, suc, ◌+◌, ◌-◌, ◌≤◌, Bool, true, false, List, [], ◌∷◌, ◌++◌, drop, length, Option, None, Some, slice_get}
 use Rattle.block_text.specs.Flat.{first_tree, trees_of}
 use Rattle.block_text.specs.Reached.{copies}
-use Rattle.dem_lines.specs.Texts.{Item, Does, Begins, Ends}
-use Rattle.dem_lines.specs.Trees.{Tree, Nothing, Then, Block}
+use Rattle.dem_lines.specs.Texts.{Item}
+use Rattle.block_text.specs.Trees.{Does, Begins, Ends, Nothing, Then, Block}
+use Rattle.dem_lines.specs.Trees.{Tree}
 use Rattle.dem_lines.specs.Verdicts.{Instruction}
 use Rattle.dem_lines.proofs.PassLemmas.{AreWhole}
 use Rattle.dem_parser.specs.declared.table_line.Stand.{Stand}

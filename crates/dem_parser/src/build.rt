@@ -1,6 +1,6 @@
 ghost use Rattle.std.specs.Prelude.{◌≡◌, ◌+◌, ◌^◌, ◌<◌, ◌≤◌, ◌++◌, length, [], ◌∷◌, IfOk};
-ghost use Rattle.block_text.specs.Reached.{reached};
-ghost use Rattle.dem_parser.specs.Meanings.{detectors_to, error_lines, greatest_of, observables_to};
+ghost use Rattle.block_text.specs.Reached.{reached, greatest_by};
+ghost use Rattle.dem_parser.specs.Meanings.{detectors_to, error_lines, observables_to};
 ghost use Rattle.dem_parser.specs.Models.{placed_lines};
 ghost use Rattle.dem_parser.specs.Summed.{AreCounts};
 
@@ -30,8 +30,8 @@ fn push_error<'a, A: Allocator + Copy>(
     counts: LineCounts,
     line: &PlacedLine<'_, 'a>,
 ) -> Result<(), AllocError>
-    requires detectors { greatest_of detectors_to line.now.targets ≤ counts.detectors }
-    requires observables { greatest_of observables_to line.now.targets ≤ counts.observables }
+    requires detectors { greatest_by detectors_to line.now.targets ≤ counts.detectors }
+    requires observables { greatest_by observables_to line.now.targets ≤ counts.observables }
     requires few { counts.detectors + counts.observables ≤ 2 ^ 32 }
     ensures { IfOk result (λ _. model.new ≡ record model.old { lines = model.old.lines ++ error_lines counts.detectors counts.observables (line.now ∷ []) }) }
 {

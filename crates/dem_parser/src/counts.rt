@@ -1,7 +1,8 @@
 ghost use Rattle.std.specs.Prelude.{◌≡◌, ◌+◌, ◌<◌, ◌^◌, false, max};
 ghost use Rattle.dem_lines.specs.Limits.{has_target_beyond, is_target_beyond};
 ghost use Rattle.dem_parser.specs.Chains.{counted_with, is_shift};
-ghost use Rattle.dem_parser.specs.Meanings.{detectors_to, greatest_of, is_error, observables_to};
+ghost use Rattle.dem_parser.specs.Meanings.{detectors_to, is_error, observables_to};
+ghost use Rattle.block_text.specs.Reached.{greatest_by};
 
 use dem_lines::{Operation, Target};
 
@@ -71,8 +72,8 @@ pub(crate) fn raised_to(extent: Extent, target: Target) -> Extent
 /// The extent of targets.
 pub(crate) fn extent_of(targets: &[Target]) -> Extent
     requires { has_target_beyond targets.now ≡ false }
-    ensures detectors { result.detectors ≡ greatest_of detectors_to targets.now }
-    ensures observables { result.observables ≡ greatest_of observables_to targets.now }
+    ensures detectors { result.detectors ≡ greatest_by detectors_to targets.now }
+    ensures observables { result.observables ≡ greatest_by observables_to targets.now }
 {
     let mut found = NONE;
     for target in targets {

@@ -1,7 +1,8 @@
 ghost use Rattle.std.specs.Prelude.{◌≡◌, ◌+◌, ◌^◌, ◌<◌, ◌≤◌, ◌++◌, [], ◌∷◌, ℕ, List, map, All, IfOk, IsPermutation};
 ghost use Rattle.std.specs.List.Sorted.{IsNonDecreasing};
-ghost use Rattle.dem_parser.specs.Meanings.{detectors_to, flipped, greatest_of, observables_to};
-ghost use Rattle.dem_parser.specs.Numbered.{numbered, numbers_of, odd_below};
+ghost use Rattle.dem_parser.specs.Meanings.{detectors_to, flipped, observables_to, numbered};
+ghost use Rattle.block_text.specs.Reached.{greatest_by};
+ghost use Rattle.dem_parser.specs.Numbered.{odd_below, numbers_of};
 ghost use Rattle.dem_parser.specs.Shifts.{target_at};
 
 use crate::counts::LineCounts;
@@ -51,8 +52,8 @@ fn read_numbers<A: Allocator + Copy>(
     shift: u128,
     targets: &[Target],
 ) -> Result<(), AllocError>
-    requires detectors { greatest_of detectors_to (map (target_at shift) targets.now) ≤ 2 ^ 32 }
-    requires observables { detectors + greatest_of observables_to (map (target_at shift) targets.now) ≤ 2 ^ 32 }
+    requires detectors { greatest_by detectors_to (map (target_at shift) targets.now) ≤ 2 ^ 32 }
+    requires observables { detectors + greatest_by observables_to (map (target_at shift) targets.now) ≤ 2 ^ 32 }
     ensures { IfOk result (λ _. numbers.new.items ≡ numbers_of detectors (map (target_at shift) targets.now)) }
 {
     numbers.clear();
@@ -110,8 +111,8 @@ pub(crate) fn read_flipped<A: Allocator + Copy>(
     shift: u128,
     targets: &[Target],
 ) -> Result<(), AllocError>
-    requires detectors { greatest_of detectors_to (map (target_at shift) targets.now) ≤ counts.detectors }
-    requires observables { greatest_of observables_to (map (target_at shift) targets.now) ≤ counts.observables }
+    requires detectors { greatest_by detectors_to (map (target_at shift) targets.now) ≤ counts.detectors }
+    requires observables { greatest_by observables_to (map (target_at shift) targets.now) ≤ counts.observables }
     requires few { counts.detectors + counts.observables ≤ 2 ^ 32 }
     ensures { IfOk result (λ _. kept.new.items ≡ flipped counts.detectors counts.observables (map (target_at shift) targets.now)) }
 {

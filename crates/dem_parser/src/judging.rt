@@ -2,7 +2,7 @@ ghost use Rattle.std.specs.Prelude.{◌≡◌, ◌+◌, ◌<◌, ◌^◌, ◌⊎
 ghost use Rattle.step_model.specs.declared.fault.Cause.TheVariants as cause;
 ghost use Rattle.step_model.specs.Faults.{memory_fault};
 ghost use Rattle.block_text.specs.Reached.{reached};
-ghost use Rattle.dem_lines.specs.Texts.{refused};
+ghost use Rattle.block_text.specs.Texts.{refused};
 ghost use Rattle.dem_parser.specs.Models.{first_beyond, is_beyond, placed_lines};
 ghost use Rattle.dem_parser.specs.Summed.{AreCounts, HasCounted};
 

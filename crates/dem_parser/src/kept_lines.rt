@@ -1,6 +1,6 @@
 ghost use Rattle.std.specs.Prelude.{◌≡◌, ◌<◌, ◌^◌, [], Some, length, IfOk, IfSome, MatchOption, option_map, slice_get};
 ghost use Rattle.dem_lines.specs.declared.operation.Operation.TheVariants.{Errs};
-ghost use Rattle.dem_lines.specs.Texts.{Does};
+ghost use Rattle.block_text.specs.Trees.{Does};
 ghost use Rattle.dem_parser.specs.Kept.{IsKept, IsRareKept, item_of_rare, with_item};
 ghost use Rattle.dem_parser.specs.Standing.{instruction_at};
 ghost use Rattle.dem_parser.specs.TableLines.{HasNoLine, IsTableLine, instruction_of, stand_of};

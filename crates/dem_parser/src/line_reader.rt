@@ -6,7 +6,7 @@ ghost use Rattle.stim_lexer.specs.Lexing.{cut_in};
 ghost use Rattle.stim_parser.specs.Arguments.{arguments_in};
 ghost use Rattle.stim_parser.specs.Judging.{reading_of};
 ghost use Rattle.dem_lines.specs.Fitting.{Fits};
-ghost use Rattle.dem_lines.specs.Texts.{Does};
+ghost use Rattle.block_text.specs.Trees.{Does};
 ghost use Rattle.dem_lines.specs.Verdicts.{model_table};
 ghost use Rattle.dem_parser.specs.Kept.{with_item};
 ghost use Rattle.dem_parser.specs.LinesRead.{HasRead, PassesFirst};

@@ -1,7 +1,8 @@
 ghost use Rattle.std.specs.Prelude.{◌≡◌, ◌+◌, ◌<◌, ◌^◌, false, true, All, map, nat_abs, nat_lt, IfOk, MatchBool, MatchOption};
 ghost use Rattle.std.specs.List.{list_any};
 ghost use Rattle.dem_lines.specs.Limits.{has_target_beyond};
-ghost use Rattle.dem_parser.specs.Meanings.{detectors_to, greatest_of, is_error, observables_to};
+ghost use Rattle.dem_parser.specs.Meanings.{detectors_to, is_error, observables_to};
+ghost use Rattle.block_text.specs.Reached.{greatest_by};
 ghost use Rattle.dem_parser.specs.Models.{is_far};
 ghost use Rattle.dem_parser.specs.Offsets.{AreSmall, beyond_stated};
 ghost use Rattle.dem_parser.specs.Shifts.{target_at};
@@ -158,7 +159,7 @@ impl<'w, 'a> PlacedLine<'w, 'a> {
     /// How many detectors there are up to the greatest that the line names; none where that is beyond its limit.
     pub(crate) fn detectors(&self) -> Option<u32>
         ensures { MatchOption result (has_target_beyond self.now.targets ≡ true)
-            (λ found. (found ≡ greatest_of detectors_to self.now.targets) × (has_target_beyond self.now.targets ≡ false)) }
+            (λ found. (found ≡ greatest_by detectors_to self.now.targets) × (has_target_beyond self.now.targets ≡ false)) }
     {
         let shift = self.shift;
         shifted(shift.detectors, self.line.extent.detectors)
@@ -166,7 +167,7 @@ impl<'w, 'a> PlacedLine<'w, 'a> {
 
     /// How many observables there are up to the greatest that the line names.
     pub(crate) fn observables(&self) -> u16
-        ensures { result ≡ greatest_of observables_to self.now.targets }
+        ensures { result ≡ greatest_by observables_to self.now.targets }
     {
         self.line.extent.observables
     }

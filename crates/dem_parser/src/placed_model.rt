@@ -1,5 +1,6 @@
 ghost use Rattle.std.specs.Prelude.{◌≡◌, ◌≤◌, ◌+◌, ◌<◌, ◌^◌, ℕ, false, true, length, map, slice_index_or, IfOk};
-ghost use Rattle.dem_parser.specs.Numbered.{numbered, numbers_of};
+ghost use Rattle.dem_parser.specs.Meanings.{numbered};
+ghost use Rattle.dem_parser.specs.Numbered.{numbers_of};
 ghost use Rattle.dem_parser.specs.Shifts.{target_at};
 ghost use Rattle.dem_parser.specs.Summed.{passed_after, turned_past};
 ghost use Rattle.dem_parser.specs.Sums.{symptom_of};

@@ -1,8 +1,7 @@
 ghost use Rattle.std.specs.Prelude.{◌≡◌, ◌<◌, ◌^◌, Some, length, option_map, slice_get, IfSome, MatchOption};
 ghost use Rattle.block_text.specs.Fitting.{IsWritten};
 ghost use Rattle.dem_lines.specs.Fitting.{Fits, IsAccepted};
-ghost use Rattle.dem_lines.specs.Texts.{Does};
-ghost use Rattle.dem_lines.specs.Trees.{items_of};
+ghost use Rattle.block_text.specs.Trees.{Does, items_of};
 ghost use Rattle.dem_parser.specs.Chains.{IsChain};
 ghost use Rattle.dem_parser.specs.TableLines.{HasNoLine, IsTableLine, instruction_of, stand_of};
 

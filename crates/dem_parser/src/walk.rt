@@ -1,7 +1,7 @@
 ghost use Rattle.std.specs.Prelude.{◌≡◌, ◌≤◌, ◌<◌, ◌-◌, ◌^◌, [], ◌∷◌, List, MatchOption, drop, length, reverse, slice_get};
 ghost use Rattle.arrayvec.specs.ArrayVec.{array_vec_len};
 ghost use Rattle.block_text.specs.Reached.{reached};
-ghost use Rattle.dem_lines.specs.Trees.{items_of};
+ghost use Rattle.block_text.specs.Trees.{items_of};
 ghost use Rattle.dem_parser.specs.Models.{placed_lines};
 ghost use Rattle.dem_parser.specs.Shifts.{Placed};
 ghost use Rattle.dem_parser.specs.TableLines.{CanStandAt};
@@ -108,7 +108,7 @@ pub(crate) struct Walk<'t, 'a, A: Allocator + Copy> {
 impl<'t, 'a, A: Allocator + Copy> Model for Walk<'t, 'a, A> {
     ghost use Rattle.std.specs.Prelude.{List, reverse};
     ghost use Rattle.std.specs.Coded.{coded_list};
-    ghost use Rattle.dem_lines.specs.Trees.{items_of};
+    ghost use Rattle.block_text.specs.Trees.{items_of};
     ghost use Rattle.dem_parser.specs.Placed.{coded_placed};
     ghost use Rattle.dem_parser.specs.Shifts.{Placed};
     ghost use Rattle.dem_parser.specs.Walks.{IsPlacedWalk, placed_left};

@@ -13,12 +13,12 @@ use Rattle.stim_lexer.specs.Bytes.{is_empty}
 use Rattle.stim_parser.specs.Numbers.{whole_value}
 use Rattle.dem_text.specs.ModelText.{model_text}
 use Rattle.dem_lines.specs.declared.target.Target.{Target}
-use Rattle.dem_parser.specs.Meanings.{detector_count, detectors_to, error_line, error_lines, gives_coordinates, greatest_of, greatest_over, is_error, last_coordinates, meaning_of, observable_count, observables_to}
+use Rattle.dem_parser.specs.Meanings.{detector_count, detectors_to, error_line, error_lines, gives_coordinates, greatest_over, is_error, last_coordinates, meaning_of, observable_count, observables_to, numbered}
+use Rattle.block_text.specs.Reached.{greatest_by}
 use Rattle.dem_parser.specs.Models.{model_in}
-use Rattle.dem_parser.specs.Numbered.{numbered, numbers_of, odd_below}
+use Rattle.dem_parser.specs.Numbered.{odd_below, numbers_of}
 use Rattle.dem_parser.specs.Shifts.{Placed}
 use Rattle.dem_parser.proofs.ChainLemmas.{moved_by_nothing, placed}
-use Rattle.dem_parser.proofs.NumberLemmas.{flipped-numbers}
 use Rattle.model_laws.specs.Writable.{IsWritable, IsWritableLine}
 use Rattle.model_laws.proofs.AscendingLemmas.{odd_below-ascending}
 use Rattle.model_laws.proofs.ModelInstructions.{detector_instruction, detector_instructions, error_instruction, error_instructions, instructions_of, instructions_text, observable_instruction, observable_instructions, target_of_number}
@@ -46,13 +46,12 @@ none_greater : (n : ℕ) → n ≡ max 0 n
 none_greater n = omega arith
 
 greatest-append : (count : Target → ℕ) (xs ys : List Placed) → greatest_over count (xs ++ ys) ≡ max (greatest_over count xs) (greatest_over count ys)
-unfolding greatest_over
 greatest-append count [] ys = none_greater (greatest_over count ys)
 greatest-append count (p ∷ xs) ys =
-    ap (λ n. max (greatest_of count p.targets) n) (greatest-append count xs ys)
-    ∙ max_assoc (greatest_of count p.targets) (greatest_over count xs) (greatest_over count ys)
+    ap (λ n. max (greatest_by count p.targets) n) (greatest-append count xs ys)
+    ∙ max_assoc (greatest_by count p.targets) (greatest_over count xs) (greatest_over count ys)
 
-targets_reach : (detectors : ℕ) (targets : List ℕ) → greatest_of detectors_to (map (target_of_number detectors) targets) ≤ detectors
+targets_reach : (detectors : ℕ) (targets : List ℕ) → greatest_by detectors_to (map (target_of_number detectors) targets) ≤ detectors
 targets_reach detectors [] = omega arith
 targets_reach detectors (t ∷ targets) =
     let rest = targets_reach detectors targets in
@@ -61,7 +60,7 @@ targets_reach detectors (t ∷ targets) =
       | inr e ↦ rw e (omega (arith, rest))
     ]
 
-targets_reach_observables : (detectors observables : ℕ) (targets : List ℕ) → All (λ t. t < detectors + observables) targets → greatest_of observables_to (map (target_of_number detectors) targets) ≤ observables
+targets_reach_observables : (detectors observables : ℕ) (targets : List ℕ) → All (λ t. t < detectors + observables) targets → greatest_by observables_to (map (target_of_number detectors) targets) ≤ observables
 targets_reach_observables detectors observables [] h = omega arith
 targets_reach_observables detectors observables (t ∷ targets) h =
     let here = h 0 t (omega arith) in
@@ -72,35 +71,29 @@ targets_reach_observables detectors observables (t ∷ targets) h =
     ]
 
 errors_reach : (detectors : ℕ) (lines : List ErrorLine) → greatest_over detectors_to (errors_placed detectors lines) ≤ detectors
-unfolding greatest_over
 errors_reach detectors [] = omega arith
 errors_reach detectors (line ∷ lines) =
     let here = targets_reach detectors line.targets in let rest = errors_reach detectors lines in omega (arith, here, rest)
 
 errors_reach_observables : (detectors observables : ℕ) (lines : List ErrorLine) → All (IsWritableLine (detectors + observables)) lines → greatest_over observables_to (errors_placed detectors lines) ≤ observables
-unfolding greatest_over
 errors_reach_observables detectors observables [] h = omega arith
 errors_reach_observables detectors observables (line ∷ lines) h =
     let here = targets_reach_observables detectors observables line.targets (h 0 line (omega arith)).in_range in
     let rest = errors_reach_observables detectors observables lines (λ k d below. h (suc k) d (omega (arith, below))) in omega (arith, here, rest)
 
 detectors_reach : (coordinates : List (List ℤ)) (k n : ℕ) → max k (greatest_over detectors_to (detectors_placed coordinates (range_with_len k n))) ≡ k + n
-unfolding greatest_over
 detectors_reach coordinates k zero = omega arith
 detectors_reach coordinates k (suc n) = let rest = detectors_reach coordinates (k + 1) n in omega (arith, rest)
 
 detectors_reach_none : (coordinates : List (List ℤ)) (ds : List ℕ) → greatest_over observables_to (detectors_placed coordinates ds) ≡ 0
-unfolding greatest_over
 detectors_reach_none coordinates [] = refl
 detectors_reach_none coordinates (d ∷ ds) = let rest = detectors_reach_none coordinates ds in omega (arith, rest)
 
 observables_reach : (k n : ℕ) → max k (greatest_over observables_to (observables_placed (range_with_len k n))) ≡ k + n
-unfolding greatest_over
 observables_reach k zero = omega arith
 observables_reach k (suc n) = let rest = observables_reach (k + 1) n in omega (arith, rest)
 
 observables_reach_none : (ks : List ℕ) → greatest_over detectors_to (observables_placed ks) ≡ 0
-unfolding greatest_over
 observables_reach_none [] = refl
 observables_reach_none (k ∷ ks) = let rest = observables_reach_none ks in omega (arith, rest)
 
@@ -129,8 +122,7 @@ numbers_found detectors (t ∷ targets) = ap₂ (λ (xs ys : List ℕ). xs ++ ys
 line_found : (detectors observables : ℕ) (line : ErrorLine) → IsWritableLine (detectors + observables) line → error_line detectors observables (placed (error_instruction detectors line)) ≡ line
 line_found detectors observables line h =
     ap (λ (targets : List ℕ). record { text = line.text; targets = targets })
-    (sym (flipped-numbers detectors observables (map (target_of_number detectors) line.targets) (targets_reach detectors line.targets))
-    ∙ ap (odd_below (detectors + observables)) (numbers_found detectors line.targets)
+    (ap (odd_below (detectors + observables)) (numbers_found detectors line.targets)
     ∙ odd_below-ascending (detectors + observables) line.targets h.ascending h.in_range)
 
 lines_found : (detectors observables : ℕ) (lines : List ErrorLine) → All (IsWritableLine (detectors + observables)) lines → error_lines detectors observables (errors_placed detectors lines) ≡ lines
@@ -192,8 +184,8 @@ others_give_none : (d : ℕ) (found : List ℤ) (coordinates : List (List ℤ)) 
 unfolding last_coordinates
 others_give_none d found coordinates k zero h = refl
 others_give_none d found coordinates k (suc n) h =
-    let other : (d == k) ≡ false = ne_eqb d k (λ e. absurd (omega (arith, e, h))) in
-    ap (λ (now : List ℤ). last_coordinates d now (detectors_placed coordinates (range_with_len (k + 1) n))) (passed (d == k) (placed (detector_instruction coordinates k)).coordinates found other)
+    let other : (k + 1 == d + 1) ≡ false = ne_eqb (k + 1) (d + 1) (λ e. absurd (omega (arith, e, h))) in
+    ap (λ (now : List ℤ). last_coordinates d now (detectors_placed coordinates (range_with_len (k + 1) n))) (passed (k + 1 == d + 1) (placed (detector_instruction coordinates k)).coordinates found other)
     ∙ others_give_none d found coordinates (k + 1) n (omega (arith, h))
 
 detector_gives : (d : ℕ) (coordinates : List (List ℤ)) (k n : ℕ) → k ≤ d → d < k + n → CoordinatesFit (slice_index_or coordinates d []) → last_coordinates d [] (detectors_placed coordinates (range_with_len k n)) ≡ slice_index_or coordinates d []
@@ -202,12 +194,12 @@ detector_gives d coordinates k zero low high fit = absurd (omega (arith, low, hi
 detector_gives d coordinates k (suc n) low high fit =
     elim (cases_eq d k) [
       | inl e ↦
-          ap (λ (now : List ℤ). last_coordinates d now (detectors_placed coordinates (range_with_len (k + 1) n))) (taken (d == k) (placed (detector_instruction coordinates k)).coordinates (eq-eqb d k e))
+          ap (λ (now : List ℤ). last_coordinates d now (detectors_placed coordinates (range_with_len (k + 1) n))) (taken (k + 1 == d + 1) (placed (detector_instruction coordinates k)).coordinates (eq-eqb (k + 1) (d + 1) (omega (arith, e))))
           ∙ others_give_none d (placed (detector_instruction coordinates k)).coordinates coordinates (k + 1) n (omega (arith, e))
           ∙ ap (λ (m : ℕ). (placed (detector_instruction coordinates m)).coordinates) (sym e)
           ∙ coordinates_said coordinates d fit
       | inr differ ↦
-          ap (λ (now : List ℤ). last_coordinates d now (detectors_placed coordinates (range_with_len (k + 1) n))) (passed (d == k) (placed (detector_instruction coordinates k)).coordinates [] (ne_eqb d k differ))
+          ap (λ (now : List ℤ). last_coordinates d now (detectors_placed coordinates (range_with_len (k + 1) n))) (passed (k + 1 == d + 1) (placed (detector_instruction coordinates k)).coordinates [] (ne_eqb (k + 1) (d + 1) (λ n. differ (omega (arith, n)))))
           ∙ detector_gives d coordinates (k + 1) n (omega (arith, low, differ)) (omega (arith, high)) fit
     ]
 

@@ -2,7 +2,6 @@
 use Rattle.std.proofs.Common.{◌≡◌, ℕ, zero, suc, ◌+◌, ◌≤◌, ◌<◌, ◌^◌, nat_lt, Bool, true, false, cond, not, ◌&&◌, if◌then◌else◌, ℤ, nat_abs, List, [], ◌∷◌, ◌++◌, map, length, filter, find, Option, None, Some, Result, Ok, Err, option_map, refl, ap, subst, sym, arith, All}
 use Rattle.std.specs.Prelude.{⊤, slice_index_or}
 use Rattle.std.specs.List.{list_any, list_all, range_with_len}
-use Rattle.std.specs.List.Sorted.{IsStrictlyIncreasing}
 use Rattle.std.specs.Option.{option_or}
 use Rattle.std.proofs.lemmas.Bool.{false≢true, ltb-false, or_parts}
 use Rattle.std.proofs.lemmas.List.Elements.{All-cons, All-filter, All-nil}
@@ -10,6 +9,7 @@ use Rattle.std.proofs.lemmas.List.FromFn.{get_or-range_with_len, length-map-rang
 use Rattle.std.proofs.lemmas.List.Kept.{IsStrictlyIncreasing-filter}
 use Rattle.step_model.specs.declared.fault.Fault.{Fault}
 use Rattle.step_model.specs.ErrorModels.{ErrorModel}
+use Rattle.step_model.specs.Faults.{unless, ◌>>=◌}
 use Rattle.step_model.specs.WellFormed.{CoordinatesFit}
 use Rattle.step_model.proofs.RangeLemmas.{range_rises}
 use Rattle.stim_parser.specs.Limits.{has_wrong_arguments, has_wrong_probability, is_probability}
@@ -22,17 +22,16 @@ use Rattle.dem_lines.specs.declared.target.Target.TheVariants.{Plain, Detector, 
 use Rattle.dem_lines.specs.Fitting.{AllFit, Fits}
 use Rattle.dem_lines.specs.Flat.{tree_of}
 use Rattle.dem_lines.specs.Limits.{has_target_beyond, is_target_beyond}
-use Rattle.dem_parser.specs.Meanings.{detector_count, detectors_to, error_line, error_lines, flipped, gives_coordinates, greatest_of, greatest_over, is_error, last_coordinates, meaning_of, observable_count, observables_to}
-use Rattle.dem_parser.specs.Models.{first_beyond, is_beyond, is_far, model_in, model_of_items, model_of_tree, placed_lines, refusal_of_tree, unless_refused_by}
+use Rattle.dem_parser.specs.Meanings.{detector_count, detectors_to, error_line, error_lines, gives_coordinates, greatest_over, is_error, last_coordinates, meaning_of, observable_count, observables_to}
+use Rattle.dem_parser.specs.Models.{first_beyond, is_beyond, is_far, model_in, model_of_tree, placed_lines, refusal_of_tree}
 use Rattle.dem_lines.specs.Reached.{has_many_lines}
-use Rattle.block_text.specs.Reached.{copies, reached}
-use Rattle.dem_parser.specs.Numbered.{numbers_of, odd_below}
+use Rattle.block_text.specs.Reached.{copies, reached, greatest_by}
 use Rattle.dem_parser.specs.Shifts.{Placed, Shift, no_shift, placed_at, placed_from, shift_after}
 use Rattle.stim_parser.specs.Offsets.{moved}
 use Rattle.dem_lines.specs.Texts.{Item, items_in}
-use Rattle.dem_lines.specs.Trees.{Tree, Nothing, Then, Block}
+use Rattle.dem_lines.specs.Trees.{Tree}
+use Rattle.block_text.specs.Trees.{Nothing, Then, Block}
 use Rattle.dem_lines.specs.Verdicts.{Instruction}
-use Rattle.dem_parser.proofs.NumberLemmas.{flipped-numbers}
 use Rattle.dem_lines.proofs.TreeLemmas.{items_are_written}
 use Rattle.model_laws.specs.Writable.{IsWritable, IsWritableLine}
 use Rattle.model_laws.proofs.InstructionTexts.{instruction}
@@ -121,7 +120,7 @@ lines_kept s (i ∷ instructions) h k =
 
 -- where no target counts more than so many, none of the lines does
 targets_within : (count : Target → ℕ) (n : ℕ) → ((t : Target) → is_target_beyond t ≡ false → count t ≤ n)
-    → (targets : List Target) → list_any is_target_beyond targets ≡ false → greatest_of count targets ≤ n
+    → (targets : List Target) → list_any is_target_beyond targets ≡ false → greatest_by count targets ≤ n
 targets_within count n each [] h = omega arith
 targets_within count n each (t ∷ targets) h =
     let parts = or_parts (is_target_beyond t) (list_any is_target_beyond targets) h in
@@ -129,7 +128,7 @@ targets_within count n each (t ∷ targets) h =
 
 lines_within : (count : Target → ℕ) (n : ℕ) → ((t : Target) → is_target_beyond t ≡ false → count t ≤ n)
     → (lines : List Placed) → AreKept lines → greatest_over count lines ≤ n
-unfolding AreKept greatest_over has_target_beyond
+unfolding AreKept has_target_beyond
 lines_within count n each [] h = omega arith
 lines_within count n each (p ∷ lines) h =
     let near = (or_parts (has_target_beyond p.targets) (list_any is_far p.coordinates) h.1).0 in
@@ -154,27 +153,25 @@ range_below n k d h =
     let within : k < n = omega (arith, h, length-range_with_len 0 n) in
     let here = get_or-range_with_len 0 n k d within in omega (arith, here, within)
 
-line_kept : (detectors observables : ℕ) (p : Placed) → greatest_of detectors_to p.targets ≤ detectors → is_probability p.text ≡ true → IsWritableLine (detectors + observables) (error_line detectors observables p)
-line_kept detectors observables p few accepted =
-    let numbers = numbers_of detectors p.targets in
-    let same : odd_below (detectors + observables) numbers ≡ flipped detectors observables p.targets = flipped-numbers detectors observables p.targets few in
+line_kept : (detectors observables : ℕ) (p : Placed) → is_probability p.text ≡ true → IsWritableLine (detectors + observables) (error_line detectors observables p)
+line_kept detectors observables p accepted =
     record {
       accepted = accepted;
-      ascending = subst IsStrictlyIncreasing same (IsStrictlyIncreasing-filter _ (range_with_len 0 (detectors + observables)) (range_rises 0 (detectors + observables)));
-      in_range = subst (All (λ t. t < detectors + observables)) same (All-filter _ (λ t. t < detectors + observables) (range_with_len 0 (detectors + observables)) (range_below (detectors + observables)));
+      ascending = IsStrictlyIncreasing-filter _ (range_with_len 0 (detectors + observables)) (range_rises 0 (detectors + observables));
+      in_range = All-filter _ (λ t. t < detectors + observables) (range_with_len 0 (detectors + observables)) (range_below (detectors + observables));
     }
 
-lines_writable : (detectors observables : ℕ) (lines : List Placed) → greatest_over detectors_to lines ≤ detectors → AreKept lines → All (IsWritableLine (detectors + observables)) (error_lines detectors observables lines)
-unfolding AreKept greatest_over
-lines_writable detectors observables [] few h = All-nil (IsWritableLine (detectors + observables))
-lines_writable detectors observables (p ∷ lines) few h =
-    by (is_error p.operation) refl (lines_writable detectors observables lines (omega (arith, few)) h.2)
+lines_writable : (detectors observables : ℕ) (lines : List Placed) → AreKept lines → All (IsWritableLine (detectors + observables)) (error_lines detectors observables lines)
+unfolding AreKept
+lines_writable detectors observables [] h = All-nil (IsWritableLine (detectors + observables))
+lines_writable detectors observables (p ∷ lines) h =
+    by (is_error p.operation) refl (lines_writable detectors observables lines h.2)
   where
     by : (b : Bool) → is_error p.operation ≡ b → All (IsWritableLine (detectors + observables)) (error_lines detectors observables lines)
         → All (IsWritableLine (detectors + observables)) (map (error_line detectors observables) (cond b (p ∷ filter (λ q. is_error q.operation) lines) (filter (λ q. is_error q.operation) lines)))
     by true e rest =
         All-cons (IsWritableLine (detectors + observables)) (error_line detectors observables p) (error_lines detectors observables lines)
-        (line_kept detectors observables p (omega (arith, few)) (h.0.accepted e)) rest
+        (line_kept detectors observables p (h.0.accepted e)) rest
     by false e rest = rest
 
 -- ---- coordinates
@@ -211,14 +208,14 @@ each_fits f k (suc n) h = All-cons CoordinatesFit (f k) (map f (range_with_len (
 meaning_writable : (lines : List Placed) → AreKept lines → IsWritable (meaning_of lines)
 meaning_writable lines h =
     record {
-      lines = lines_writable (detector_count lines) (observable_count lines) lines (omega arith) h;
+      lines = lines_writable (detector_count lines) (observable_count lines) lines h;
       coordinates_given = length-map-range_with_len (λ d. last_coordinates d [] lines) 0 (detector_count lines);
       coordinates_fit = each_fits (λ d. last_coordinates d [] lines) 0 (detector_count lines) (λ d. last_kept d [] lines no_coordinates h);
       few_detectors = lines_within detectors_to 1000000 detector_within lines h;
       few_observables = lines_within observables_to 1024 observable_within lines h;
     }
 
-not_refused : (refusal : Option Fault) (meaning model : ErrorModel) → unless_refused_by refusal meaning ≡ Ok model → (refusal ≡ None) × (meaning ≡ model)
+not_refused : (refusal : Option Fault) (meaning model : ErrorModel) → unless refusal meaning ≡ Ok model → (refusal ≡ None) × (meaning ≡ model)
 not_refused None meaning model h = (refl, cc)
 not_refused (Some fault) meaning model h = absurd cc
 
@@ -236,7 +233,7 @@ tree_writable tree model fit h =
     let near = none_mapped _ (find is_beyond (placed_lines tree)) (none_mapped _ (first_beyond (placed_lines tree)) (none_second (has_many_lines tree) _ _ parts.0)) in
     subst IsWritable parts.1 (meaning_writable (placed_lines tree) (lines_kept no_shift (reached tree) (reached_fit tree fit) near))
 
-of_items : (text : List ℕ) (model : ErrorModel) (r : Result (List Item) Fault) → items_in text ≡ r → model_of_items r ≡ Ok model → IsWritable model
+of_items : (text : List ℕ) (model : ErrorModel) (r : Result (List Item) Fault) → items_in text ≡ r → (r >>= (λ items. model_of_tree (tree_of items))) ≡ Ok model → IsWritable model
 of_items text model (Ok items) e h = tree_writable (tree_of items) model (items_are_written text items e).fits.fit h
 of_items text model (Err fault) e h = absurd cc
 

@@ -7,9 +7,11 @@ use Rattle.stim_lexer.specs.Lines.{lines_of}
 use Rattle.block_text.specs.Texts.{before, items_from}
 use Rattle.dem_lines.specs.declared.target.Target.{Target}
 use Rattle.dem_lines.specs.Fitting.{Fits}
-use Rattle.dem_lines.specs.Texts.{Does, models}
+use Rattle.dem_lines.specs.Texts.{models}
+use Rattle.block_text.specs.Trees.{Does}
 use Rattle.dem_lines.specs.Verdicts.{Instruction}
-use Rattle.dem_parser.specs.Meanings.{detectors_to, observables_to, detector_count, error_line, error_lines, gives_coordinates, greatest_of, greatest_over, is_error, last_coordinates, meaning_of, observable_count}
+use Rattle.dem_parser.specs.Meanings.{detectors_to, observables_to, detector_count, error_line, error_lines, gives_coordinates, greatest_over, is_error, last_coordinates, meaning_of, observable_count}
+use Rattle.block_text.specs.Reached.{greatest_by}
 use Rattle.dem_parser.specs.Models.{model_in}
 use Rattle.dem_parser.specs.Shifts.{Placed, no_shift, shift_after}
 use Rattle.dem_parser.proofs.ChainLemmas.{AllStay, chain_means, placed}
@@ -85,9 +87,8 @@ items_read read (i ∷ instructions) h =
 -- ---- the numbers of lines say nothing
 
 greatest-numbered : (count : Target → ℕ) (read : ℕ) (instructions : List Instruction) → greatest_over count (map placed (numbered read instructions)) ≡ greatest_over count (map placed instructions)
-unfolding greatest_over
 greatest-numbered count read [] = refl
-greatest-numbered count read (i ∷ instructions) = ap (λ n. max (greatest_of count i.targets) n) (greatest-numbered count (read + 1) instructions)
+greatest-numbered count read (i ∷ instructions) = ap (λ n. max (greatest_by count i.targets) n) (greatest-numbered count (read + 1) instructions)
 
 errors-numbered : (detectors observables read : ℕ) (instructions : List Instruction) → error_lines detectors observables (map placed (numbered read instructions)) ≡ error_lines detectors observables (map placed instructions)
 errors-numbered detectors observables read [] = refl

@@ -4,7 +4,7 @@ use Rattle.std.specs.List.Sorted.{IsNonDecreasing}
 use Rattle.std.proofs.lemmas.List.Sorted.{All-permutation}
 use Rattle.dem_parser.specs.Numbered.{odd_below}
 use Rattle.dem_parser.specs.Shifts.{target_at}
-use Rattle.dem_parser.proofs.NumberLemmas.{all-numbers, flipped-numbers, same-odd}
+use Rattle.dem_parser.proofs.NumberLemmas.{all-numbers, same-odd}
 use Rattle.dem_parser.proofs.flips.read_flipped.Goals as goal
 
 pub keep_odd-requires : goal.keep_odd-requires
@@ -28,4 +28,3 @@ returns g c =
     ∙ ap (odd_below n) c.as_slice.ensures.value
     ∙ same-odd n read sorted c.in_ok-put_in_order.ensures.same
     ∙ ap (odd_below n) c.in_ok-read_numbers.ensures
-    ∙ flipped-numbers detectors observables targets c.requires.detectors

@@ -2,7 +2,7 @@ use Rattle.std.proofs.Common.{◌≡◌, false, Some, ap, inr, sym, ◌∙◌, l
 use Rattle.std.specs.Prelude.{option_map}
 use Rattle.step_model.specs.declared.fault.Cause.TheVariants as cause
 use Rattle.block_text.specs.Reached.{reached}
-use Rattle.dem_lines.specs.Texts.{refused}
+use Rattle.block_text.specs.Texts.{refused}
 use Rattle.dem_parser.specs.Models.{is_beyond, placed_lines}
 use Rattle.dem_parser.specs.Shifts.{no_shift}
 use Rattle.dem_parser.specs.Summed.{HasCounted}

@@ -1,5 +1,5 @@
 use Rattle.std.proofs.Common.{ap, sym, ◌∙◌, arith}
-use Rattle.dem_parser.specs.Numbered.{numbered}
+use Rattle.dem_parser.specs.Meanings.{numbered}
 use Rattle.dem_parser.specs.Shifts.{target_at}
 use Rattle.dem_parser.specs.Turned.{turned}
 use Rattle.dem_parser.proofs.SumLemmas.{turned_at-past}

@@ -1,7 +1,7 @@
 use Rattle.std.proofs.Common.{◌∙◌, ap, refl, subst, sym, arith}
 use Rattle.std.specs.Prelude.{nat_lt, slice_get}
 use Rattle.arrayvec.specs.ArrayVec.{array_vec_len}
-use Rattle.dem_lines.specs.Trees.{items_of}
+use Rattle.block_text.specs.Trees.{items_of}
 use Rattle.dem_lines.proofs.PassLemmas.{passing-first, passing-can, passing-next, passing-done}
 use Rattle.dem_parser.specs.declared.table_line.Stand.{Stand}
 use Rattle.dem_parser.specs.TableLines.{CanStandAt}

@@ -1,5 +1,5 @@
 use Rattle.std.proofs.Common.{◌-◌, length}
-use Rattle.dem_lines.specs.Trees.{items_of}
+use Rattle.block_text.specs.Trees.{items_of}
 use Rattle.dem_lines.proofs.PassLemmas.{IsPassing}
 use Rattle.dem_parser.specs.Unrolled.{counting, nothing_counted}
 use Rattle.dem_parser.proofs.unrolled.has_many_lines.Given as goal

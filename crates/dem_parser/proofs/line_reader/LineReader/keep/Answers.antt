@@ -1,6 +1,7 @@
 use Rattle.std.proofs.Common.{ℕ, List, ap, length, subst, sym, ◌≤◌, ◌∙◌}
 use Rattle.dem_lines.specs.Verdicts.{number_in}
-use Rattle.dem_parser.specs.Meanings.{detectors_to, greatest_of, observables_to}
+use Rattle.dem_parser.specs.Meanings.{detectors_to, observables_to}
+use Rattle.block_text.specs.Reached.{greatest_by}
 use Rattle.dem_parser.specs.Standing.{instruction_at}
 use Rattle.dem_parser.proofs.KeptLemmas.{read-kept}
 use Rattle.dem_parser.proofs.ShiftLemmas.{few_arguments}
@@ -14,7 +15,7 @@ numbers_stated-numbers-requires g c =
 pub push_rare-requires : goal.push_rare-requires
 push_rare-requires g c =
     read-kept c.args.self.now.lines.text c.args.at c.args.operation _ _ _ _ _ c.requires.speaks c.requires.fits c.requires.arguments c.requires.targets
-    (c.extent_of-extent.ensures.detectors ∙ ap (greatest_of detectors_to) c.as_slice.ensures.value)
-    (c.extent_of-extent.ensures.observables ∙ ap (greatest_of observables_to) c.as_slice.ensures.value)
+    (c.extent_of-extent.ensures.detectors ∙ ap (greatest_by detectors_to) c.as_slice.ensures.value)
+    (c.extent_of-extent.ensures.observables ∙ ap (greatest_by observables_to) c.as_slice.ensures.value)
     (c.as_slice-3.ensures.value ∙ c.numbers_stated-numbers.ensures)
     (c.number_in.ensures ∙ ap number_in c.as_slice-2.ensures.value)

@@ -2,7 +2,7 @@ use Rattle.std.proofs.Common.{ℕ, ap, ap₂, sym, ◌∙◌, arith}
 use Rattle.stim_lexer.specs.Cut.{Cut}
 use Rattle.stim_lexer.specs.Lexing.{cut_in}
 use Rattle.stim_parser.specs.Judging.{reading_of}
-use Rattle.dem_lines.specs.Texts.{Does}
+use Rattle.block_text.specs.Trees.{Does}
 use Rattle.dem_lines.specs.Verdicts.{Instruction, model_table}
 use Rattle.dem_parser.specs.Kept.{with_item}
 use Rattle.dem_parser.specs.Standing.{instruction_cut}

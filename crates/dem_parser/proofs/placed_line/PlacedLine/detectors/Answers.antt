@@ -2,7 +2,8 @@ use Rattle.std.proofs.Common.{◌≡◌, false, true, subst}
 use Rattle.std.specs.Prelude.{MatchOption, nat_lt}
 use Rattle.dem_parser.specs.TableLines.{instruction_of}
 use Rattle.dem_lines.specs.Limits.{has_target_beyond}
-use Rattle.dem_parser.specs.Meanings.{detectors_to, greatest_of}
+use Rattle.dem_parser.specs.Meanings.{detectors_to}
+use Rattle.block_text.specs.Reached.{greatest_by}
 use Rattle.dem_parser.specs.Shifts.{Placed, Shift}
 use Rattle.dem_parser.specs.Tables.{count_at, most_detectors}
 use Rattle.dem_parser.proofs.TableLemmas.{detectors-placed}
@@ -14,5 +15,5 @@ returns c =
     let extent = c.self.inside.line.extent in
     let within = subst (λ (s : Shift). MatchOption found (nat_lt most_detectors (count_at s.detectors extent.detectors) ≡ true) (λ n. (n ≡ count_at s.detectors extent.detectors) × (nat_lt most_detectors (count_at s.detectors extent.detectors) ≡ false)))
     c.shift.view_is c.shifted.ensures in
-    subst (λ (p : Placed). MatchOption found (has_target_beyond p.targets ≡ true) (λ n. (n ≡ greatest_of detectors_to p.targets) × (has_target_beyond p.targets ≡ false))) c.self.view_is
+    subst (λ (p : Placed). MatchOption found (has_target_beyond p.targets ≡ true) (λ n. (n ≡ greatest_by detectors_to p.targets) × (has_target_beyond p.targets ≡ false))) c.self.view_is
     (detectors-placed c.self.inside.shift.now (instruction_of c.self.inside.line) extent _ c.self.invariant.kept.known found within)

@@ -1,6 +1,7 @@
 use Rattle.std.proofs.Common.{ap, ◌∙◌}
 use Rattle.dem_parser.specs.TableLines.{instruction_of}
-use Rattle.dem_parser.specs.Meanings.{greatest_of, observables_to}
+use Rattle.dem_parser.specs.Meanings.{observables_to}
+use Rattle.block_text.specs.Reached.{greatest_by}
 use Rattle.dem_parser.specs.Shifts.{Placed}
 use Rattle.dem_parser.proofs.TableLemmas.{observables-known}
 use Rattle.dem_parser.proofs.placed_line.PlacedLine.observables.Goals as goal
@@ -8,4 +9,4 @@ use Rattle.dem_parser.proofs.placed_line.PlacedLine.observables.Goals as goal
 pub returns : goal.returns
 returns c =
     observables-known c.self.inside.shift.now (instruction_of c.self.inside.line) _ _ c.self.invariant.kept.known
-    ∙ ap (λ (p : Placed). greatest_of observables_to p.targets) c.self.view_is
+    ∙ ap (λ (p : Placed). greatest_by observables_to p.targets) c.self.view_is

@@ -1,5 +1,5 @@
 use Rattle.std.proofs.Common.{◌≡◌, ◌+◌, ◌-◌, ◌≤◌, drop, length, subst, sym, ◌∙◌, arith}
-use Rattle.dem_lines.specs.Trees.{items_of}
+use Rattle.block_text.specs.Trees.{items_of}
 use Rattle.dem_parser.specs.declared.counts.LineCounts.{LineCounts}
 use Rattle.dem_parser.specs.Chains.{IsChain}
 use Rattle.dem_parser.specs.TableLines.{instruction_of}
