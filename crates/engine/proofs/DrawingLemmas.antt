@@ -4,7 +4,8 @@ use Rattle.std.specs.Prelude.{Ok}
 use Rattle.rand_pcg.specs.Lcg.{Lcg}
 use Rattle.step_model.specs.Listing.{Listing}
 use Rattle.unroll.specs.Programs.{program_in}
-use Rattle.engine.specs.Output.{program_shots, shots_output, ◌>>=◌}
+use Rattle.step_model.specs.Faults.{◌>>=◌}
+use Rattle.engine.specs.Output.{program_shots, shots_output}
 
 pub shots_of_text : (line : Listing → Lcg → List ℕ) (shots seed : ℕ) (text : List ℕ) (program : Listing) → program_in text ≡ Ok program
     → shots_output line shots seed text ≡ program_shots line shots seed program

@@ -20,7 +20,8 @@ use Rattle.step_model.specs.Targets.{IsRandom}
 use Rattle.step_model.specs.WellFormed.{IsWellFormed}
 use Rattle.engine.specs.declared.order.Status.TheVariants.{Random}
 use Rattle.engine.specs.Headline.{IsExactIn, IsRandomIn}
-use Rattle.engine.specs.Output.{done, finding, found_in, random_lines, analysis_output, ◌>>=◌}
+use Rattle.step_model.specs.Faults.{◌>>=◌}
+use Rattle.engine.specs.Output.{done, finding, found_in, random_lines, analysis_output}
 use Rattle.engine.proofs.PlacedLemmas.{lowest_placed-none, lowest_placed-some}
 
 -- a target without a place isn't random

@@ -14,7 +14,7 @@ use Rattle.rand_pcg.specs.Lcg.{Lcg}
 use Rattle.step_model.specs.declared.fault.Fault.{Fault}
 use Rattle.step_model.specs.declared.fault.Cause.TheVariants.{CoinCount, FaultNumber, Shots}
 use Rattle.step_model.specs.declared.step.Place.{Place}
-use Rattle.step_model.specs.Faults.{cause_number, without_line}
+use Rattle.step_model.specs.Faults.{cause_number, without_line, ◌>>=◌}
 use Rattle.step_model.specs.ErrorModels.{ErrorModel}
 use Rattle.step_model.specs.Frames.{zero_coins, pair_coins}
 use Rattle.step_model.specs.HitModels.{model_of}
@@ -63,12 +63,6 @@ run_lines program faults coins =
     let records = records_of program faults coins in
     let reference = records_of program [] (zero_coins program) in
     line_of records ++ line_of (difference program records reference)
-
--- the next step, where none before it refused
-infixl 10 ◌>>=◌
-abbrev pub ◌>>=◌ : {T U : Type 0} → Result T Fault → (T → Result U Fault) → Result U Fault
-(Ok value) >>= next = next value
-(Err fault) >>= next = Err fault
 
 -- what a run of a program writes, or why it is refused: by its coins first, then by its faults
 abbrev pub program_output : Option (List ℕ) → List ℕ → Listing → Result Output Fault

@@ -3,7 +3,7 @@ use Rattle.std.proofs.Common.{◌≡◌, refl, ap, ℕ, true, false, cond, List,
 use Rattle.std.specs.Prelude.{option_map, Some}
 use Rattle.std.specs.List.{list_any}
 use Rattle.std.specs.Str.{str_eq_ignore_ascii_case}
-use Rattle.stim_parser.specs.Names.{named_in}
+use Rattle.gate_table.specs.Names.{named_in}
 use Rattle.stim_parser.specs.Rows.{named_in_rows, is_among_rows}
 
 -- a row and its name

@@ -10,7 +10,7 @@ use Rattle.pauli_word.specs.declared.letter.Letter.TheVariants.{X, Y, Z}
 use Rattle.gate_table.specs.declared.gate.Gate.{Gate}
 use Rattle.gate_table.specs.declared.gate.Gate.TheVariants as gate
 use Rattle.gate_table.specs.Images.{arity_of}
-use Rattle.gate_table.specs.Names.{gate_named}
+use Rattle.gate_table.specs.Names.{gate_named, named_in}
 use Rattle.stim_parser.specs.declared.operation.Operation.{Operation}
 use Rattle.stim_parser.specs.declared.operation.Operation.TheVariants.{Applies, Measures, Resets, MeasuresAndResets, MeasuresProducts, Errs, ErrsTogether, Detects, Observes, Ticks, PlacesQubits, ShiftsCoordinates}
 use Rattle.stim_parser.specs.declared.table.Keyword.{Keyword}
@@ -19,7 +19,6 @@ use Rattle.stim_parser.specs.declared.forms.ArgumentForm.{ArgumentForm}
 use Rattle.stim_parser.specs.declared.forms.ArgumentForm.TheVariants.{NoArguments, ProbabilityAtWill, OneProbability, WholeNumbers, Decimals, OneNumber}
 use Rattle.stim_parser.specs.declared.forms.TargetForm.{TargetForm}
 use Rattle.stim_parser.specs.declared.forms.TargetForm.TheVariants.{NoTargets, Qubits, QubitsInvertedAtWill, QubitPairs, PairsRecordFirst, PairsOneRecord, Paulis, Products, Records, Turns}
-use Rattle.stim_parser.specs.Names.{named_in}
 
 -- ---- the table
 

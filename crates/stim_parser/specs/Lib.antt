@@ -4,7 +4,6 @@ pub mod Decimals
 pub mod Pieces
 pub mod Targets
 pub mod Arguments
-pub mod Names
 pub mod Instructions
 pub mod Limits
 pub mod Parentheses
