@@ -28,16 +28,12 @@ abbrev pub observables_to : Target → ℕ
 observables_to (Observable k) = k + 1
 observables_to target = 0
 
--- the greatest count of the targets of lines, or 0
-abbrev pub greatest_over : (Target → ℕ) → List Placed → ℕ
-greatest_over count lines = greatest_by (λ placed. greatest_by count placed.targets) lines
-
 -- one more than the greatest detector that lines name, or 0; and so for observables
 abbrev pub detector_count : List Placed → ℕ
-detector_count lines = greatest_over detectors_to lines
+detector_count lines = greatest_by (λ placed. greatest_by detectors_to placed.targets) lines
 
 abbrev pub observable_count : List Placed → ℕ
-observable_count lines = greatest_over observables_to lines
+observable_count lines = greatest_by (λ placed. greatest_by observables_to placed.targets) lines
 
 -- ---- what an error flips
 

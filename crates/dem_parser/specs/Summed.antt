@@ -4,12 +4,17 @@ use Rattle.std.specs.Prelude.{◌≡◌, ℕ, ◌+◌, ◌<◌, ◌^◌, max, No
 use Rattle.dem_lines.specs.Reached.{has_many_lines}
 use Rattle.block_text.specs.Reached.{reached, greatest_by}
 use Rattle.dem_lines.specs.Trees.{Tree}
+use Rattle.dem_lines.specs.declared.target.Target.{Target}
 use Rattle.dem_parser.specs.declared.counts.LineCounts.{LineCounts}
 use Rattle.dem_parser.specs.Meanings.{detector_count, detectors_to, is_error, observable_count, observables_to}
 use Rattle.dem_parser.specs.Numbered.{numbers_of}
 use Rattle.dem_parser.specs.Models.{first_beyond, placed_lines}
 use Rattle.dem_parser.specs.Shifts.{Placed}
 use Rattle.dem_parser.specs.Turned.{turned}
+
+-- the greatest count of the targets of lines, or 0
+abbrev pub greatest_over : (Target → ℕ) → List Placed → ℕ
+greatest_over count lines = greatest_by (λ placed. greatest_by count placed.targets) lines
 
 -- how many of some lines are error lines
 abbrev pub error_count : List Placed → ℕ

@@ -22,7 +22,8 @@ use Rattle.dem_lines.specs.declared.target.Target.TheVariants.{Plain, Detector, 
 use Rattle.dem_lines.specs.Fitting.{AllFit, Fits}
 use Rattle.dem_lines.specs.Flat.{tree_of}
 use Rattle.dem_lines.specs.Limits.{has_target_beyond, is_target_beyond}
-use Rattle.dem_parser.specs.Meanings.{detector_count, detectors_to, error_line, error_lines, gives_coordinates, greatest_over, is_error, last_coordinates, meaning_of, observable_count, observables_to}
+use Rattle.dem_parser.specs.Meanings.{detector_count, detectors_to, error_line, error_lines, gives_coordinates, is_error, last_coordinates, meaning_of, observable_count, observables_to}
+use Rattle.dem_parser.specs.Summed.{greatest_over}
 use Rattle.dem_parser.specs.Models.{first_beyond, is_beyond, is_far, model_in, model_of_tree, placed_lines, refusal_of_tree}
 use Rattle.dem_lines.specs.Reached.{has_many_lines}
 use Rattle.block_text.specs.Reached.{copies, reached, greatest_by}

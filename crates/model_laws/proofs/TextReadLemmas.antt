@@ -10,7 +10,8 @@ use Rattle.dem_lines.specs.Fitting.{Fits}
 use Rattle.dem_lines.specs.Texts.{models}
 use Rattle.block_text.specs.Trees.{Does}
 use Rattle.dem_lines.specs.Verdicts.{Instruction}
-use Rattle.dem_parser.specs.Meanings.{detectors_to, observables_to, detector_count, error_line, error_lines, gives_coordinates, greatest_over, is_error, last_coordinates, meaning_of, observable_count}
+use Rattle.dem_parser.specs.Meanings.{detectors_to, observables_to, detector_count, error_line, error_lines, gives_coordinates, is_error, last_coordinates, meaning_of, observable_count}
+use Rattle.dem_parser.specs.Summed.{greatest_over}
 use Rattle.block_text.specs.Reached.{greatest_by}
 use Rattle.dem_parser.specs.Models.{model_in}
 use Rattle.dem_parser.specs.Shifts.{Placed, no_shift, shift_after}
