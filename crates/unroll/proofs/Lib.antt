@@ -45,4 +45,6 @@ pub mod StatedLemmas
 pub mod NumberLemmas
 pub mod MeaningSteps
 pub mod MeaningFaults
+pub mod MadeCounts
 pub mod MeaningLemmas
+pub mod FarLines
