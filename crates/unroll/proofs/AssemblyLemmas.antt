@@ -23,11 +23,12 @@ use Rattle.unroll.specs.Assembled.{ArePartsOf, counts_in}
 use Rattle.unroll.specs.Detectors.{detectors_of}
 use Rattle.unroll.specs.Kept.{kept_entries, kept_products}
 use Rattle.unroll.specs.Observables.{observables_of}
+use Rattle.unroll.specs.Counted.{refusal_counted}
 use Rattle.unroll.specs.Refusals.{refusal_of}
 use Rattle.unroll.specs.Steps.{steps_of}
 use Rattle.unroll.specs.Summed.{AreTotals, greatest}
-use Rattle.unroll.specs.Totals.{collapse_total, qubit_total, record_total}
-use Rattle.unroll.specs.MadeTotals.{fault_total, made_total}
+use Rattle.unroll.specs.Totals.{qubit_total}
+use Rattle.unroll.specs.MadeTotals.{fault_total, made_total, collapse_total, record_total}
 use Rattle.unroll.specs.Meaning.{listing_of}
 use Rattle.unroll.specs.Programs.{program_of}
 use Rattle.unroll.proofs.CoordinateFits.{coordinates_fit}
@@ -59,7 +60,7 @@ program_refused t fault h = ap (λ r. unless r (listing_of t)) h
 
 -- ---- they fit
 
-pub parts_fit : {A : Type 0} (t : Tree) (parts : Parts A) → IsCircuit t → refusal_of t ≡ None → ArePartsOf t parts → PartsFit parts
+pub parts_fit : {A : Type 0} (t : Tree) (parts : Parts A) → IsCircuit t → refusal_counted t ≡ None → ArePartsOf t parts → PartsFit parts
 parts_fit t parts circuit accepted p =
     let within = within_limits t accepted in
     let n = qubit_total t in
@@ -109,7 +110,7 @@ pub record AreWhole (t : Tree) (totals : Totals) : Type 0 where
   pub few_collapses : totals.collapses < 2 ^ 32
   pub few_faults : totals.faults < 2 ^ 32
 
-pub totals_whole : (t : Tree) (totals : Totals) → refusal_of t ≡ None → AreTotals t totals → AreWhole t totals
+pub totals_whole : (t : Tree) (totals : Totals) → refusal_counted t ≡ None → AreTotals t totals → AreWhole t totals
 totals_whole t totals accepted are =
     let within = within_limits t accepted in
     let made_small : made_total t ≤ 64_000_000 = omega (arith, made_few t, within.steps) in

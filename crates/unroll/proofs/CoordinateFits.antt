@@ -16,7 +16,8 @@ use Rattle.unroll.specs.Coordinates.{coordinates_from, coordinates_of}
 use Rattle.stim_parser.specs.Offsets.{moved, shifted}
 use Rattle.unroll.specs.TargetsMade.{offset_after, operation_coordinates}
 use Rattle.block_text.specs.Reached.{copies, reached, total}
-use Rattle.unroll.specs.Totals.{step_count, step_total}
+use Rattle.unroll.specs.Totals.{step_total}
+use Rattle.unroll.specs.MadeTotals.{step_count}
 use Rattle.stim_parser.proofs.CoordinateArguments.{AreUpTo, HasCoordinates, has_coordinates, most}
 
 -- ---- how many instructions are reached

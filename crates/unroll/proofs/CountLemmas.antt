@@ -14,8 +14,8 @@ use Rattle.unroll.specs.declared.marks.Mark.{Mark}
 use Rattle.block_text.specs.Reached.{reached}
 use Rattle.unroll.specs.Gathered.{Gathered, Gathering, gathering, given, later}
 use Rattle.unroll.specs.Passes.{behind, opened}
-use Rattle.unroll.specs.Refusals.{first_far_line}
-use Rattle.unroll.specs.Totals.{record_count, record_total}
+use Rattle.unroll.specs.Counted.{first_far_from}
+use Rattle.unroll.specs.MadeTotals.{record_count, record_total}
 use Rattle.unroll.proofs.GatherLemmas.{IsGathering, Rises, gathered, gathering-begins, gathering-does, gathering-done, gathering-ends, gathering-first, gathering-rises, gathering-room, gathering-some}
 use Rattle.unroll.proofs.RecordLemmas.{MovesRecords, are_steady, counted-reached, place-counted}
 
@@ -35,7 +35,7 @@ pub record IsCounted {X : Type 0} (g : Gathering ℕ X) (t : Tree) (end : Gather
   pub place : end.place ≡ record_total t
   pub found : end.found ≡ given g 0 (reached t)
 
-counts : {X : Type 0} {g : Gathering ℕ X} {shift : ℕ → X → X} {Within : ℕ → X → Type 0} → CountsRecords g shift Within → (t : Tree) → AllFit t → first_far_line 0 t ≡ None → IsCounted g t (behind (gathering g) t from_start)
+counts : {X : Type 0} {g : Gathering ℕ X} {shift : ℕ → X → X} {Within : ℕ → X → Type 0} → CountsRecords g shift Within → (t : Tree) → AllFit t → first_far_from 0 t ≡ None → IsCounted g t (behind (gathering g) t from_start)
 counts {X} {g} {shift} {Within} law t fit near =
     let whole = gathered g t from_start (are_steady g shift law.moves 0 t fit near) in
     record {
@@ -73,11 +73,11 @@ later-same f g (suc n) xs h = ap₂ (λ ys zs. ys ++ zs) (later-same f g n xs h)
 -- behind so many items of a circuit, with so many records, what is found, and the open blocks
 pub record IsCounting {X : Type 0} (g : Gathering ℕ X) (Within : ℕ → X → Type 0) (t : Tree) (i r : ℕ) (found : List X) (blocks : List (OpenBlock (Mark ℕ))) : Type 0 where
   pub circuit : IsCircuit t
-  pub near : first_far_line 0 t ≡ None
+  pub near : first_far_from 0 t ≡ None
   pub passing : IsGathering g t from_start i (record { place = r; found = found }) blocks
   pub within : All (Within r) found
 
-pub counting-first : {X : Type 0} (g : Gathering ℕ X) (Within : ℕ → X → Type 0) (t : Tree) (r : ℕ) (found : List X) (blocks : List (OpenBlock (Mark ℕ))) → IsCircuit t → first_far_line 0 t ≡ None → r ≡ 0 → found ≡ [] → blocks ≡ [] → IsCounting g Within t 0 r found blocks
+pub counting-first : {X : Type 0} (g : Gathering ℕ X) (Within : ℕ → X → Type 0) (t : Tree) (r : ℕ) (found : List X) (blocks : List (OpenBlock (Mark ℕ))) → IsCircuit t → first_far_from 0 t ≡ None → r ≡ 0 → found ≡ [] → blocks ≡ [] → IsCounting g Within t 0 r found blocks
 counting-first {X} g Within t r found blocks circuit near er ef eb =
     subst (λ (n : ℕ). IsCounting g Within t 0 n found blocks) (sym er)
     (subst (λ (xs : List X). IsCounting g Within t 0 0 xs blocks) (sym ef)

@@ -16,9 +16,10 @@ use Rattle.stim_parser.specs.Verdicts.{Instruction}
 use Rattle.unroll.specs.Drafts.{CanWrite, Draft, Writes}
 use Rattle.unroll.specs.Kept.{entries_of, kept_entries, kept_products, products_in}
 use Rattle.unroll.specs.Pushed.{IsSmall}
-use Rattle.unroll.specs.Refusals.{first_far_line}
+use Rattle.unroll.specs.Counted.{first_far_from}
 use Rattle.unroll.specs.Steps.{steps_of}
-use Rattle.unroll.specs.Totals.{record_total, step_total}
+use Rattle.unroll.specs.Totals.{step_total}
+use Rattle.unroll.specs.MadeTotals.{record_total}
 use Rattle.unroll.proofs.FarLemmas.{AreNear, EachDoes, each-tree, near_tree}
 use Rattle.unroll.proofs.FitLemmas.{qubits_within}
 use Rattle.unroll.proofs.ItemLemmas.{drop_next, each-next, each_sound}
@@ -79,7 +80,7 @@ small_items n (Does i ∷ items) few fits near = (small_targets n i few fits.0 n
 small_items n (Begins line turns ∷ items) few fits near = small_items n items few fits near
 small_items n (Ends ∷ items) few fits near = small_items n items few fits near
 
-small_tree : (t : Tree) → IsCircuit t → first_far_line 0 t ≡ None → record_total t < 2 ^ 32 → EachDoes AreSmall (items_of t)
+small_tree : (t : Tree) → IsCircuit t → first_far_from 0 t ≡ None → record_total t < 2 ^ 32 → EachDoes AreSmall (items_of t)
 small_tree t circuit near few =
     small_items (record_total t) (items_of t) few (each_sound t circuit)
     (each-tree (AreNear (record_total t)) t (near_tree t 0 (record_total t) circuit.fit near (omega arith)))
@@ -133,7 +134,7 @@ pub record IsDrafting (t : Tree) (i : ℕ) (d : Draft) : Type 0 where
   pub small : EachDoes AreSmall (drop i (items_of t))
   pub few : AreFew (step_total t) (drop i (items_of t)) d
 
-pub drafting-first : (t : Tree) → IsCircuit t → first_far_line 0 t ≡ None → record_total t < 2 ^ 32 → IsDrafting t 0 nothing_drafted
+pub drafting-first : (t : Tree) → IsCircuit t → first_far_from 0 t ≡ None → record_total t < 2 ^ 32 → IsDrafting t 0 nothing_drafted
 drafting-first t circuit near few =
     let once = counted_once-tree t circuit.fit in
     record {

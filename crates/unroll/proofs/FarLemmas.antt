@@ -13,8 +13,9 @@ use Rattle.stim_parser.specs.Judged.{items_of}
 use Rattle.stim_parser.specs.Verdicts.{Instruction}
 use Rattle.stim_parser.proofs.TargetNumbers.{none_passes}
 use Rattle.unroll.specs.Pushed.{back_of}
-use Rattle.unroll.specs.Refusals.{first_far_line, is_far, reaches_far}
-use Rattle.unroll.specs.Totals.{record_count}
+use Rattle.unroll.specs.Refusals.{is_far, reaches_far}
+use Rattle.unroll.specs.Counted.{first_far_from}
+use Rattle.unroll.specs.MadeTotals.{record_count}
 use Rattle.block_text.specs.Reached.{total}
 
 -- ---- what holds of each instruction of a tree, and of items
@@ -65,13 +66,13 @@ more_turns : (turns b : ℕ) → 0 < turns → b ≤ turns * b
 more_turns zero b h = absurd (omega (arith, h))
 more_turns (suc m) b h = omega arith
 
-pub near_tree : (t : Tree) (r n : ℕ) → AllFit t → first_far_line r t ≡ None → r + total 0 record_count t ≤ n → EachOf (AreNear n) t
-unfolding first_far_line total
+pub near_tree : (t : Tree) (r n : ℕ) → AllFit t → first_far_from r t ≡ None → r + total 0 record_count t ≤ n → EachOf (AreNear n) t
+unfolding first_far_from total
 near_tree Nothing r n fit h le = tt
 near_tree (Then i rest) r n fit h le =
-    let parts = split_if (reaches_far r i.targets) i.line (first_far_line (r + record_count i) rest) h in
+    let parts = split_if (reaches_far r i.targets) i.line (first_far_from (r + record_count i) rest) h in
     (near_targets r n i.targets (omega (arith, le)) parts.0, near_tree rest (r + record_count i) n fit.1 parts.1 (omega (arith, le)))
 near_tree (Block line turns body rest) r n fit h le =
-    let parts = split_or (first_far_line r body) (first_far_line (r + turns * total 0 record_count body) rest) h in
+    let parts = split_or (first_far_from r body) (first_far_from (r + turns * total 0 record_count body) rest) h in
     let more = more_turns turns (total 0 record_count body) fit.0 in
     (near_tree body r n fit.1 parts.0 (omega (arith, le, more)), near_tree rest (r + turns * total 0 record_count body) n fit.2 parts.1 (omega (arith, le)))

@@ -24,9 +24,10 @@ use Rattle.unroll.specs.Kept.{entries_of, kept_entries, kept_products, products_
 use Rattle.unroll.specs.Made.{fault_steps, measure_step, one_step, operation_steps, pair_step, pair_steps, product_steps, reset_step}
 use Rattle.unroll.specs.StepsMade.{flip_of}
 use Rattle.stim_parser.specs.Limits.{products_of}
-use Rattle.unroll.specs.Refusals.{first_far_line, is_far, reaches_far}
+use Rattle.unroll.specs.Refusals.{is_far, reaches_far}
+use Rattle.unroll.specs.Counted.{first_far_from}
 use Rattle.unroll.specs.Steps.{instruction_steps, steps_from, steps_of}
-use Rattle.unroll.specs.Totals.{record_count}
+use Rattle.unroll.specs.MadeTotals.{record_count}
 use Rattle.block_text.specs.Reached.{total}
 use Rattle.unroll.proofs.InstructionCounts.{instruction-records}
 use Rattle.unroll.proofs.RefusalLemmas.{neither, not_first}
@@ -107,11 +108,11 @@ instruction-feeds r e p i fits near =
 
 -- ---- the steps of a tree
 
-fed_tree : (t : Tree) (r e p : ℕ) (c : Counts) → AllFit t → first_far_line r t ≡ None → r ≤ c.records → FeedBack c (steps_from e p t)
-unfolding steps_from first_far_line
+fed_tree : (t : Tree) (r e p : ℕ) (c : Counts) → AllFit t → first_far_from r t ≡ None → r ≤ c.records → FeedBack c (steps_from e p t)
+unfolding steps_from first_far_from
 fed_tree Nothing r e p c fit near le = tt
 fed_tree (Then i rest) r e p c fit near le =
-    let parts = not_first (reaches_far r i.targets) i.line (first_far_line (r + record_count i) rest) near in
+    let parts = not_first (reaches_far r i.targets) i.line (first_far_from (r + record_count i) rest) near in
     let steps = instruction_steps e p i in
     let behind : r + record_count i ≤ (counts_over c steps).records = omega (arith, le, records-sum c steps, instruction-records e p i) in
     FeedBack-append c steps (steps_from (e + length (entries_of i)) (p + length (products_in i)) rest)
@@ -119,7 +120,7 @@ fed_tree (Then i rest) r e p c fit near le =
     (fed_tree rest (r + record_count i) (e + length (entries_of i)) (p + length (products_in i)) (counts_over c steps) fit.1 parts.1 behind)
 fed_tree (Block line turns body rest) r e p c fit near le =
     let n = total 0 record_count body in
-    let parts = neither (first_far_line r body) (first_far_line (r + turns * n) rest) near in
+    let parts = neither (first_far_from r body) (first_far_from (r + turns * n) rest) near in
     let steps = repeated turns (steps_from e p body) in
     let made : sum_by records_by steps ≡ turns * n = sum-repeated records_by turns (steps_from e p body) ∙ ap (λ m. turns * m) (tree-records body e p) in
     let behind : r + turns * n ≤ (counts_over c steps).records = omega (arith, le, records-sum c steps, made) in
@@ -127,5 +128,5 @@ fed_tree (Block line turns body rest) r e p c fit near le =
     (FeedBack-repeated c turns (steps_from e p body) (fed_tree body r e p c fit.1 parts.0 le))
     (fed_tree rest (r + turns * n) (e + length (kept_entries body)) (p + length (kept_products body)) (counts_over c steps) fit.2 parts.1 behind)
 
-pub fed_back : (t : Tree) → IsCircuit t → first_far_line 0 t ≡ None → FeedBack no_counts (steps_of t)
+pub fed_back : (t : Tree) → IsCircuit t → first_far_from 0 t ≡ None → FeedBack no_counts (steps_of t)
 fed_back t circuit near = fed_tree t 0 0 0 no_counts circuit.fit near (omega arith)

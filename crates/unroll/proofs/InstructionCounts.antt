@@ -14,8 +14,8 @@ use Rattle.unroll.specs.Made.{measure_step, operation_steps, pair_step, paired, 
 use Rattle.unroll.specs.StepsMade.{flip_of}
 use Rattle.stim_parser.specs.Limits.{products_of}
 use Rattle.unroll.specs.Steps.{instruction_steps}
-use Rattle.unroll.specs.Totals.{collapse_count, collapses_made, record_count, records_made, step_count, target_count}
-use Rattle.unroll.specs.MadeTotals.{fault_count, faults_counted, has_argument, made_count, steps_made}
+use Rattle.unroll.specs.Totals.{target_count}
+use Rattle.unroll.specs.MadeTotals.{fault_count, faults_counted, has_argument, made_count, steps_made, collapse_count, collapses_made, record_count, records_made, step_count}
 use Rattle.unroll.proofs.StepSums.{collapses_by, faults_by, one_by, records_by, sum-each, sum-faults, sum-gates, sum-products}
 
 -- ---- gates make nothing

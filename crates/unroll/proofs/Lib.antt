@@ -45,6 +45,7 @@ pub mod StatedLemmas
 pub mod NumberLemmas
 pub mod MeaningSteps
 pub mod MeaningFaults
+pub mod MadeCounts
 pub mod MeaningLemmas
 pub mod OnTexts
 pub mod WorkedTexts
@@ -52,3 +53,4 @@ pub mod WorkedErrors
 pub mod WorkedRecords
 pub mod WorkedBlocks
 pub mod WorkedRefusals
+pub mod FarLines

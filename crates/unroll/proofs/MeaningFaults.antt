@@ -1,8 +1,8 @@
 -- The faults of one instruction's steps, as they are kept, are those that it makes.
 use Rattle.std.proofs.Common.{◌≡◌, ℕ, ◌+◌, ◌==◌, Bool, true, false, List, [], ◌∷◌, ◌++◌, map, length, Option, None, Some, refl, ap, ap₂, ◌∙◌, arith}
 use Rattle.std.specs.Prelude.{if◌then◌else◌, is_some, slice_get}
+use Rattle.std.specs.List.{range_with_len}
 use Rattle.std.proofs.lemmas.List.{length-map}
-use Rattle.std.proofs.lemmas.List.FromFn.{length-map-range_with_len}
 use Rattle.gate_table.specs.declared.gate.Gate.{Gate}
 use Rattle.gate_table.specs.Images.{arity_of}
 use Rattle.pauli_word.specs.declared.letter.Letter.{Letter}
@@ -21,11 +21,11 @@ use Rattle.unroll.specs.FaultsMade.{fault_with, faults_made, flips_made}
 use Rattle.unroll.specs.Kept.{entry_of, flip_entries, operation_entries}
 use Rattle.unroll.specs.Kept as kept
 use Rattle.unroll.specs.Made.{fault_steps, measure_step, one_step, operation_steps, pair_step, pair_steps, paired, product_steps, record_back, recording, reset_step}
-use Rattle.unroll.specs.MadeTotals.{fault_count, faults_counted}
+use Rattle.unroll.specs.MadeTotals.{fault_count, faults_counted, record_count, records_made}
 use Rattle.unroll.specs.StepsMade.{flip_of}
-use Rattle.stim_parser.specs.Limits.{products_of}
 use Rattle.unroll.specs.Targets.{is_product_inverted, term_at, term_of}
-use Rattle.unroll.specs.Totals.{first_argument, records_made, target_count}
+use Rattle.stim_parser.specs.Limits.{products_of}
+use Rattle.unroll.specs.Totals.{first_argument, target_count}
 use Rattle.unroll.proofs.PartPlaces.{StandsAt, stands_behind}
 
 -- the collapse of a product, whose letters are kept at p
@@ -66,7 +66,7 @@ module _ (ks : List Kept) where
 
   -- ---- collapses
 
-  measures : (c : Counts) (r e : ℕ) (arguments : List (List ℕ)) (l : Letter) (reset : Bool) (ts : List Target) → StandsAt ks e (flip_entries arguments) → c.records ≡ r → made_faults ks c (map (measure_step l reset (flip_of e arguments)) ts) ≡ flips_made r arguments (length ts)
+  measures : (c : Counts) (r e : ℕ) (arguments : List (List ℕ)) (l : Letter) (reset : Bool) (ts : List Target) → StandsAt ks e (flip_entries arguments) → c.records ≡ r → made_faults ks c (map (measure_step l reset (flip_of e arguments)) ts) ≡ flips_made arguments (range_with_len r (length ts))
   measures c r e [] l reset [] stands h = refl
   measures c r e [] l reset (t ∷ ts) stands h = measures (counts_after c (measure_step l reset (flip_of e []) t)) (r + 1) e [] l reset ts stands (omega (arith, h))
   measures c r e (x ∷ xs) l reset [] stands h = refl
@@ -79,7 +79,7 @@ module _ (ks : List Kept) where
   resets c l [] = refl
   resets c l (t ∷ ts) = resets (counts_after c (reset_step l t)) l ts
 
-  words : (c : Counts) (r e p : ℕ) (arguments : List (List ℕ)) (products : List (List Target)) → StandsAt ks e (flip_entries arguments) → c.records ≡ r → made_faults ks c (product_steps (flip_of e arguments) p products) ≡ flips_made r arguments (length products)
+  words : (c : Counts) (r e p : ℕ) (arguments : List (List ℕ)) (products : List (List Target)) → StandsAt ks e (flip_entries arguments) → c.records ≡ r → made_faults ks c (product_steps (flip_of e arguments) p products) ≡ flips_made arguments (range_with_len r (length products))
   words c r e p [] [] stands h = refl
   words c r e p [] (y ∷ ys) stands h = words (counts_after c (word_step e p [] y)) (r + 1) e (p + 1) [] ys stands (omega (arith, h))
   words c r e p (x ∷ xs) [] stands h = refl
@@ -108,30 +108,31 @@ module _ (ks : List Kept) where
 
   -- ---- instructions
 
-  no-flips : (r : ℕ) (arguments : List (List ℕ)) → [] ≡ flips_made r arguments 0
-  no-flips r [] = refl
-  no-flips r (x ∷ xs) = refl
+  no-flips : (arguments : List (List ℕ)) → [] ≡ flips_made arguments []
+  no-flips [] = refl
+  no-flips (x ∷ xs) = refl
 
-  pub faults-made : (c : Counts) (r : ℕ) (o : Operation) (e p : ℕ) (arguments : List (List ℕ)) (ts : List Target) → StandsAt ks e (operation_entries o arguments ts) → c.records ≡ r → made_faults ks c (operation_steps o e p (flip_of e arguments) ts) ≡ faults_made r o arguments ts
-  faults-made c r (Gates g) e p arguments ts stands h = gates (arity_of g == 1) c g ts ∙ no-flips r arguments
+  pub faults-made : (c : Counts) (r : ℕ) (o : Operation) (e p : ℕ) (arguments : List (List ℕ)) (ts : List Target) → StandsAt ks e (operation_entries o arguments ts) → c.records ≡ r → made_faults ks c (operation_steps o e p (flip_of e arguments) ts) ≡ faults_made (range_with_len r (records_made o (target_count o ts))) o arguments ts
+  faults-made c r (Gates g) e p arguments ts stands h = gates (arity_of g == 1) c g ts ∙ no-flips arguments
   faults-made c r (Measures l) e p arguments ts stands h = measures c r e arguments l false ts stands h
-  faults-made c r (Resets l) e p arguments ts stands h = resets c l ts ∙ no-flips r arguments
+  faults-made c r (Resets l) e p arguments ts stands h = resets c l ts ∙ no-flips arguments
   faults-made c r (MeasuresAndResets l) e p arguments ts stands h = measures c r e arguments l true ts stands h
   faults-made c r MeasuresProducts e p arguments ts stands h = words c r e p arguments (products_of ts) stands h
   faults-made c r (Errs l) e p arguments ts stands h = errors c e arguments l ts stands
   faults-made c r ErrsTogether e p arguments ts stands h = ap (λ f. f ∷ []) (together e arguments ts stands)
-  faults-made c r o e p arguments ts stands h = no-flips r arguments
+  faults-made c r o e p arguments ts stands h = no-flips arguments
 
 -- ---- how many there are
 
-flips-counted : (r : ℕ) (arguments : List (List ℕ)) (count : ℕ) → length (flips_made r arguments count) ≡ (if is_some (slice_get arguments 0) then count else 0)
-flips-counted r [] count = refl
-flips-counted r (x ∷ xs) count = length-map-range_with_len (λ k. fault_with (x ∷ xs) (Flips k)) r count
+flips-counted : (arguments : List (List ℕ)) (records : List ℕ) → length (flips_made arguments records) ≡ (if is_some (slice_get arguments 0) then length records else 0)
+flips-counted [] records = refl
+flips-counted (x ∷ xs) records = length-map records (λ r. fault_with (x ∷ xs) (Flips r))
 
-operation-counted : (r : ℕ) (o : Operation) (arguments : List (List ℕ)) (ts : List Target) → length (faults_made r o arguments ts) ≡ faults_counted o (is_some (slice_get arguments 0)) (target_count o ts)
-operation-counted r (Errs l) arguments ts = length-map ts (λ target. fault_with arguments (Applies (term_at l target ∷ [])))
-operation-counted r ErrsTogether arguments ts = refl
-operation-counted r o arguments ts = flips-counted r arguments (records_made o (target_count o ts))
+operation-counted : (records : List ℕ) (o : Operation) (arguments : List (List ℕ)) (ts : List Target) → length records ≡ records_made o (target_count o ts) → length (faults_made records o arguments ts) ≡ faults_counted o (is_some (slice_get arguments 0)) (target_count o ts)
+operation-counted records (Errs l) arguments ts h = length-map ts (λ target. fault_with arguments (Applies (term_at l target ∷ [])))
+operation-counted records ErrsTogether arguments ts h = refl
+operation-counted records o arguments ts h =
+    flips-counted arguments records ∙ ap (λ n. if is_some (slice_get arguments 0) then n else 0) h
 
-pub faults-counted : (r : ℕ) (i : Instruction) → length (faults_made r i.operation i.arguments i.targets) ≡ fault_count i
-faults-counted r i = operation-counted r i.operation i.arguments i.targets
+pub faults-counted : (records : List ℕ) (i : Instruction) → length records ≡ record_count i → length (faults_made records i.operation i.arguments i.targets) ≡ fault_count i
+faults-counted records i h = operation-counted records i.operation i.arguments i.targets h

@@ -1,8 +1,10 @@
 -- What is kept of a circuit stands for its meaning: its steps, numbered as they are unrolled, and their faults are what
 -- its instructions make one after another as they are reached; and so are its detectors, observables and coordinates.
-use Rattle.std.proofs.Common.{◌≡◌, ℕ, zero, suc, ◌+◌, ◌==◌, List, [], ◌∷◌, ◌++◌, length, refl, sym, ap, ap₂, ◌∙◌, subst, append_assoc, arith}
+use Rattle.std.proofs.Common.{◌≡◌, ℕ, ℤ, zero, suc, ◌+◌, ◌==◌, map, List, [], ◌∷◌, ◌++◌, length, refl, sym, ap, ap₂, ◌∙◌, subst, append_assoc, arith}
 use Rattle.std.specs.Prelude.{if◌then◌else◌}
-use Rattle.std.specs.List.{range_with_len}
+use Rattle.std.specs.List.{filter, flat_map, range_with_len, sum_by}
+use Rattle.programs.proofs.Orders.{collapses-total}
+use Rattle.std.proofs.lemmas.List.FromFn.{length-range_with_len}
 use Rattle.std.proofs.lemmas.List.Concat.{flat_map-append}
 use Rattle.block_text.specs.Reached.{copies, reached, written}
 use Rattle.programs.specs.Kept.{Kept}
@@ -12,7 +14,7 @@ use Rattle.programs.specs.Listed.{listed, listed_steps, made_faults, step_made_f
 use Rattle.programs.specs.Numbering.{counts_after, counts_over, no_counts, numbered_step}
 use Rattle.programs.specs.Trees.{repeated}
 use Rattle.step_model.specs.declared.step.Term.{Term}
-use Rattle.step_model.specs.Listing.{Listing, ListedFault, ListedStep}
+use Rattle.step_model.specs.Listing.{Listing, ListedFault, ListedStep, is_collapse, step_records}
 use Rattle.stim_parser.specs.declared.operation.Operation.{Operation}
 use Rattle.stim_parser.specs.declared.operation.Operation.TheVariants.{Observes}
 use Rattle.stim_parser.specs.Numbers.{value_of}
@@ -24,36 +26,23 @@ use Rattle.unroll.specs.Coordinates.{coordinates_from, coordinates_of}
 use Rattle.unroll.specs.Detectors.{detectors_from, detectors_of}
 use Rattle.unroll.specs.FaultsMade.{faults_made}
 use Rattle.unroll.specs.Kept.{entries_of, kept_entries, kept_products, products_in}
-use Rattle.unroll.specs.Meaning.{after, at_start, listing_of, made_in, made_of}
+use Rattle.unroll.specs.Meaning.{after, at_start, listing_of, made_in, made_of, new_faults, new_steps}
 use Rattle.unroll.specs.Observables.{added_from, observables_of}
 use Rattle.unroll.specs.Steps.{instruction_steps, steps_from, steps_of}
 use Rattle.unroll.specs.StepsMade.{operation_made}
 use Rattle.unroll.specs.TargetsMade.{adds_to, operation_adds, operation_coordinates, operation_detectors, records_named}
-use Rattle.unroll.specs.Totals.{first_argument, observable_total, observables_to, qubit_total, collapse_total, record_total}
+use Rattle.unroll.specs.Totals.{first_argument, observable_total, observables_to, qubit_total}
+use Rattle.unroll.specs.MadeTotals.{collapse_total, detector_total, record_count, record_total}
 use Rattle.unroll.proofs.InstructionCounts.{instruction-faults, instruction-records}
-use Rattle.unroll.proofs.MeaningFaults.{faults-counted, faults-made}
+use Rattle.unroll.proofs.MadeCounts.{after-records, after_all, after_all-append, listed-collapses, listed-records, made-records, made_of-append}
+use Rattle.unroll.proofs.MadeCounts as made
+use Rattle.unroll.proofs.MeaningFaults.{faults-made}
+use Rattle.unroll.proofs.ReachedCounts.{detectors_counted}
+use Rattle.unroll.proofs.StepCounts.{counted, tree-records}
 use Rattle.unroll.proofs.MeaningSteps.{steps-made}
 use Rattle.unroll.proofs.ObservableLemmas.{map-same, none-named, same-number}
 use Rattle.unroll.proofs.PartPlaces.{StandsAt, stands_before, stands_behind, stands_itself}
-use Rattle.unroll.proofs.StepSums.{counts-sum}
-
--- ---- what came before, over instructions
-
--- what came before the instruction after these
-abbrev after_all : Before → List Instruction → Before
-after_all b [] = b
-after_all b (i ∷ is) = after_all (after b i) is
-
-made_of-append : {X : Type 0} (make : Before → Instruction → List X) (b : Before) (is js : List Instruction) → made_of make b (is ++ js) ≡ made_of make b is ++ made_of make (after_all b is) js
-unfolding made_of
-made_of-append make b [] js = refl
-made_of-append make b (i ∷ is) js =
-    ap (λ xs. make b i ++ xs) (made_of-append make (after b i) is js)
-    ∙ sym (append_assoc (make b i) (made_of make (after b i) is) (made_of make (after_all (after b i) is) js))
-
-after_all-append : (b : Before) (is js : List Instruction) → after_all b (is ++ js) ≡ after_all (after_all b is) js
-after_all-append b [] js = refl
-after_all-append b (i ∷ is) js = after_all-append (after b i) is js
+use Rattle.unroll.proofs.StepSums.{counts-sum, records_by}
 
 -- counts and what came before say the same
 record Same (c : Counts) (b : Before) : Type 0 where
@@ -78,17 +67,11 @@ module _ (n : ℕ) (ks : List Kept) (ps : List (List Term)) where
       ap (λ fs. step_made_faults ks c x ++ fs) (faults-append (counts_after c x) xs ys)
       ∙ sym (append_assoc (step_made_faults ks c x) (made_faults ks (counts_after c x) xs) (made_faults ks (counts_over (counts_after c x) xs) ys))
 
-  abbrev make_steps : Before → Instruction → List ListedStep
-  make_steps b i = operation_made n b i.operation i.arguments i.targets
-
-  abbrev make_faults : Before → Instruction → List ListedFault
-  make_faults b i = faults_made b.records i.operation i.arguments i.targets
-
   -- steps that are kept stand for what instructions make, whatever came before
   record StandFor (steps : List TextStep) (is : List Instruction) : Type 0 where
-    steps_are : (c : Counts) (b : Before) → Same c b → listed_steps n ps c steps ≡ made_of make_steps b is
-    faults_are : (c : Counts) (b : Before) → Same c b → made_faults ks c steps ≡ made_of make_faults b is
-    later : (c : Counts) (b : Before) → Same c b → Same (counts_over c steps) (after_all b is)
+    steps_are : (c : Counts) (b : Before) → Same c b → listed_steps n ps c steps ≡ made_of n (new_steps n) b is
+    faults_are : (c : Counts) (b : Before) → Same c b → made_faults ks c steps ≡ made_of n (new_faults n) b is
+    later : (c : Counts) (b : Before) → Same c b → Same (counts_over c steps) (after_all n b is)
 
   stand_none : StandFor [] []
   unfolding made_of
@@ -104,16 +87,16 @@ module _ (n : ℕ) (ks : List Kept) (ps : List (List Term)) where
       record {
         steps_are = λ c b same.
             listed-append c xs ys
-            ∙ ap₂ ◌++◌ (h.steps_are c b same) (k.steps_are (counts_over c xs) (after_all b is) (h.later c b same))
-            ∙ sym (made_of-append make_steps b is js);
+            ∙ ap₂ ◌++◌ (h.steps_are c b same) (k.steps_are (counts_over c xs) (after_all n b is) (h.later c b same))
+            ∙ sym (made_of-append n (new_steps n) b is js);
         faults_are = λ c b same.
             faults-append c xs ys
-            ∙ ap₂ ◌++◌ (h.faults_are c b same) (k.faults_are (counts_over c xs) (after_all b is) (h.later c b same))
-            ∙ sym (made_of-append make_faults b is js);
+            ∙ ap₂ ◌++◌ (h.faults_are c b same) (k.faults_are (counts_over c xs) (after_all n b is) (h.later c b same))
+            ∙ sym (made_of-append n (new_faults n) b is js);
         later = λ c b same.
-            subst (λ (d : Counts). Same d (after_all b (is ++ js))) (sym (counts_over-append c xs ys))
-            (subst (λ (d : Before). Same (counts_over (counts_over c xs) ys) d) (sym (after_all-append b is js))
-            (k.later (counts_over c xs) (after_all b is) (h.later c b same)));
+            subst (λ (d : Counts). Same d (after_all n b (is ++ js))) (sym (counts_over-append c xs ys))
+            (subst (λ (d : Before). Same (counts_over (counts_over c xs) ys) d) (sym (after_all-append n b is js))
+            (k.later (counts_over c xs) (after_all n b is) (h.later c b same)));
       }
 
   stand_copies : (turns : ℕ) (xs : List TextStep) (is : List Instruction) → StandFor xs is → StandFor (repeated turns xs) (copies turns is)
@@ -125,13 +108,15 @@ module _ (n : ℕ) (ks : List Kept) (ps : List (List Term)) where
   stand_one e p i entries products =
       record {
         steps_are = λ c b same.
-            steps-made n ps b c i.operation e p i.arguments i.targets products same.records same.faults ∙ no_more (make_steps b i);
+            steps-made n ps b c i.operation e p i.arguments i.targets products same.records same.faults ∙ no_more (new_steps n b i);
         faults_are = λ c b same.
-            faults-made ks c b.records i.operation e p i.arguments i.targets entries same.records ∙ no_more (make_faults b i);
+            faults-made ks c b.records i.operation e p i.arguments i.targets entries same.records
+            ∙ ap (λ records. faults_made records i.operation i.arguments i.targets) (sym (made-records n b i))
+            ∙ no_more (new_faults n b i);
         later = λ c b same.
             record {
-              records = omega (arith, ap (λ (d : Counts). d.records) (counts-sum c (instruction_steps e p i)), instruction-records e p i, same.records);
-              faults = omega (arith, ap (λ (d : Counts). d.faults) (counts-sum c (instruction_steps e p i)), instruction-faults e p i, faults-counted b.records i, same.faults);
+              records = omega (arith, ap (λ (d : Counts). d.records) (counts-sum c (instruction_steps e p i)), instruction-records e p i, made.records-made n b i, same.records);
+              faults = omega (arith, ap (λ (d : Counts). d.faults) (counts-sum c (instruction_steps e p i)), instruction-faults e p i, made.faults-made n b i, same.faults);
             };
       }
     where
@@ -164,29 +149,30 @@ stand_whole t =
 
 -- ---- detectors, observables and coordinates
 
-detectors-made : (b : Before) (is : List Instruction) → detectors_from b.records is ≡ made_of (λ b i. operation_detectors b.records i.operation i.targets) b is
+detectors-made : (n : ℕ) (b : Before) (is : List Instruction) → detectors_from b.records is ≡ made_of n (λ b i. operation_detectors b.records i.operation i.targets) b is
 unfolding detectors_from made_of
-detectors-made b [] = refl
-detectors-made b (i ∷ is) =
-    ap (λ later. operation_detectors b.records i.operation i.targets ++ later) (detectors-made (after b i) is)
+detectors-made n b [] = refl
+detectors-made n b (i ∷ is) =
+    ap (λ later. operation_detectors b.records i.operation i.targets ++ later)
+    (ap (λ r. detectors_from r is) (sym (after-records n b i)) ∙ detectors-made n (after n b i) is)
 
-coordinates-made : (b : Before) (is : List Instruction) → coordinates_from b.offset is ≡ made_of (λ b i. operation_coordinates b.offset i.operation i.arguments) b is
+coordinates-made : (n : ℕ) (b : Before) (is : List Instruction) → coordinates_from b.offset is ≡ made_of n (λ b i. operation_coordinates b.offset i.operation i.arguments) b is
 unfolding coordinates_from made_of
-coordinates-made b [] = refl
-coordinates-made b (i ∷ is) =
-    ap (λ later. operation_coordinates b.offset i.operation i.arguments ++ later) (coordinates-made (after b i) is)
+coordinates-made n b [] = refl
+coordinates-made n b (i ∷ is) =
+    ap (λ later. operation_coordinates b.offset i.operation i.arguments ++ later) (coordinates-made n (after n b i) is)
 
 adds-same : (k : ℕ) (o : Operation) (arguments : List (List ℕ)) → (observables_to o arguments == k + 1) ≡ adds_to k o arguments
 adds-same k Observes arguments = same-number (value_of (first_argument arguments)) k
 adds-same k o arguments = none-named k
 
-added-made : (k : ℕ) (b : Before) (is : List Instruction) → added_from k b.records is ≡ made_of (λ b i. operation_adds k b.records i.operation i.arguments i.targets) b is
+added-made : (n k : ℕ) (b : Before) (is : List Instruction) → added_from k b.records is ≡ made_of n (λ b i. operation_adds k b.records i.operation i.arguments i.targets) b is
 unfolding added_from made_of
-added-made k b [] = refl
-added-made k b (i ∷ is) =
+added-made n k b [] = refl
+added-made n k b (i ∷ is) =
     ap₂ ◌++◌
     (ap (λ adds. if adds then records_named b.records i.targets else []) (adds-same k i.operation i.arguments))
-    (added-made k (after b i) is)
+    (ap (λ r. added_from k r is) (sym (after-records n b i)) ∙ added-made n k (after n b i) is)
 
 -- ---- the whole program
 
@@ -204,9 +190,55 @@ kept_listing t =
       faults = made_faults (kept_entries t) no_counts (steps_of t);
     }
 
-pub stands_for : (t : Tree) → kept_listing t ≡ listing_of t
-stands_for t =
-    let whole = stand_whole t in
-    let none : Same no_counts at_start = record { records = refl; faults = refl } in
-    rw (whole.steps_are no_counts at_start none, whole.faults_are no_counts at_start none, detectors-made at_start (reached t), coordinates-made at_start (reached t), map-same (λ k. added_from k 0 (reached t)) (λ k. made_in t (λ b i. operation_adds k b.records i.operation i.arguments i.targets)) (range_with_len 0 (observable_total t)) (λ k. added-made k at_start (reached t)))
-    refl
+module _ (t : Tree) where
+  abbrev listing_with : ℕ → ℕ → List ListedStep → List (List ℕ) → List (List ℕ) → List (List ℤ) → List ListedFault → Listing
+  listing_with r k s d o c f =
+      record {
+        qubits = qubit_total t;
+        records = r;
+        collapses = k;
+        steps = s;
+        detectors = d;
+        observables = o;
+        coordinates = c;
+        faults = f;
+      }
+
+  abbrev made_steps : List ListedStep
+  made_steps = made_in t (new_steps (qubit_total t))
+
+  none : Same no_counts at_start
+  none = record { records = refl; faults = refl }
+
+  steps-are : listed_steps (qubit_total t) (kept_products t) no_counts (steps_of t) ≡ made_steps
+  steps-are = (stand_whole t).steps_are no_counts at_start none
+
+  detectors-are : detectors_of t ≡ made_in t (λ b i. operation_detectors b.records i.operation i.targets)
+  detectors-are = detectors-made (qubit_total t) at_start (reached t)
+
+  pub records_made : length (flat_map step_records made_steps) ≡ record_total t
+  records_made =
+      ap (λ steps. length (flat_map step_records steps)) (sym steps-are)
+      ∙ ap length (listed-records (qubit_total t) (kept_products t) no_counts (steps_of t))
+      ∙ length-range_with_len 0 (sum_by records_by (steps_of t))
+      ∙ tree-records t 0 0
+
+  pub collapses_made : length (filter is_collapse made_steps) ≡ collapse_total t
+  collapses_made =
+      let all = collapses-total (qubit_total t) (kept_products t) no_counts (steps_of t) in
+      let listed = listed-collapses (listed_steps (qubit_total t) (kept_products t) no_counts (steps_of t)) in
+      ap (λ steps. length (filter is_collapse steps)) (sym steps-are)
+      ∙ omega (arith, listed, all, ap (λ (c : Counts). c.collapses) (counted t))
+
+  pub detectors_made : length (made_in t (λ b i. operation_detectors b.records i.operation i.targets)) ≡ detector_total t
+  detectors_made = ap length (sym detectors-are) ∙ detectors_counted t
+
+  pub stands_for : kept_listing t ≡ listing_of t
+  stands_for =
+      same _ _ _ _ _ _ _ _ _ _ _ _ _ _ (sym records_made) (sym collapses_made) steps-are detectors-are
+      (map-same (λ k. added_from k 0 (reached t)) (λ k. made_in t (λ b i. operation_adds k b.records i.operation i.arguments i.targets)) (range_with_len 0 (observable_total t)) (λ k. added-made (qubit_total t) k at_start (reached t)))
+      (coordinates-made (qubit_total t) at_start (reached t))
+      ((stand_whole t).faults_are no_counts at_start none)
+    where
+      same : (r r' k k' : ℕ) (s s' : List ListedStep) (d d' o o' : List (List ℕ)) (c c' : List (List ℤ)) (f f' : List ListedFault) → r ≡ r' → k ≡ k' → s ≡ s' → d ≡ d' → o ≡ o' → c ≡ c' → f ≡ f' → listing_with r k s d o c f ≡ listing_with r' k' s' d' o' c' f'
+      same r r' k k' s s' d d' o o' c c' f f' er ek es ed eo ec ef = rw (er, ek, es, ed, eo, ec, ef) refl

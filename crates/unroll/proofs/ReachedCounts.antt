@@ -18,13 +18,13 @@ use Rattle.unroll.specs.TargetsMade.{operation_detectors, offset_after, operatio
 use Rattle.block_text.specs.Reached.{copies, reached, written, total}
 use Rattle.unroll.specs.Observables.{added_from, observables_of}
 use Rattle.unroll.specs.Refusals.{first_beyond, most_observables}
-use Rattle.unroll.specs.Totals.{detector_count, detector_total, detectors_made, record_count, observable_total, observables_to}
-use Rattle.unroll.specs.MadeTotals.{observables_over}
+use Rattle.unroll.specs.Totals.{observable_total, observables_to}
+use Rattle.unroll.specs.MadeTotals.{observables_over, detector_count, detector_total, detectors_made, record_count}
 use Rattle.unroll.proofs.RefusalLemmas.{not_first}
 
 -- ---- a count summed over the instructions that are reached
 
-sum-copies : (f : Instruction → ℕ) (n : ℕ) (is : List Instruction) → sum_by f (copies n is) ≡ n * sum_by f is
+pub sum-copies : (f : Instruction → ℕ) (n : ℕ) (is : List Instruction) → sum_by f (copies n is) ≡ n * sum_by f is
 sum-copies f zero is = omega arith
 sum-copies f (suc n) is = omega (arith, sum_by-append f is (copies n is), sum-copies f n is)
 

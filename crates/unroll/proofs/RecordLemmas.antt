@@ -18,8 +18,9 @@ use Rattle.stim_parser.specs.Verdicts.{Instruction}
 use Rattle.stim_parser.proofs.RecordTargets.{NamesRecords, names_records}
 use Rattle.block_text.specs.Reached.{copies, reached, total}
 use Rattle.unroll.specs.Gathered.{Gathering, given, place_behind}
-use Rattle.unroll.specs.Refusals.{first_far_line, reaches_far}
-use Rattle.unroll.specs.Totals.{record_count}
+use Rattle.unroll.specs.Refusals.{reaches_far}
+use Rattle.unroll.specs.Counted.{first_far_from}
+use Rattle.unroll.specs.MadeTotals.{record_count}
 use Rattle.unroll.proofs.GatherLemmas.{AreSteady, IsSteady}
 
 -- ---- how many records instructions make
@@ -116,14 +117,14 @@ or_none None b h = (refl, h)
 or_none (Some line) b h = absurd cc
 
 -- a circuit none of whose lines reaches too far
-pub near-tree : (r : ℕ) (t : Tree) → AllFit t → first_far_line r t ≡ None → AreNear r (reached t)
-unfolding first_far_line
+pub near-tree : (r : ℕ) (t : Tree) → AllFit t → first_far_from r t ≡ None → AreNear r (reached t)
+unfolding first_far_from
 near-tree r Nothing fit h = tt
 near-tree r (Then i rest) fit h =
-    let parts = if_none (reaches_far r i.targets) i.line (first_far_line (r + record_count i) rest) h in
+    let parts = if_none (reaches_far r i.targets) i.line (first_far_from (r + record_count i) rest) h in
     (near-one r i fit.0 parts.0, near-tree (r + record_count i) rest fit.1 parts.1)
 near-tree r (Block line turns body rest) fit h =
-    let parts = or_none (first_far_line r body) (first_far_line (r + turns * total 0 record_count body) rest) h in
+    let parts = or_none (first_far_from r body) (first_far_from (r + turns * total 0 record_count body) rest) h in
     let count : turns * total 0 record_count body ≡ counted (copies turns (reached body)) = ap (λ n. turns * n) (sym (counted-reached body)) ∙ sym (counted-copies turns (reached body)) in
     near-append r (copies turns (reached body)) (reached rest) (near-copies turns r (reached body) (near-tree r body fit.1 parts.0))
     (subst (λ (n : ℕ). AreNear (r + n) (reached rest)) count (near-tree (r + turns * total 0 record_count body) rest fit.2 parts.1))
@@ -172,14 +173,14 @@ steady g shift moves r is near =
           ∙ ap (λ f. map f (given g r is)) (ap (λ m. shift (suc n * m)) (sym turn) ∙ sym (moves.moved (suc n) r q));
     }
 
-pub are_steady : {X : Type 0} (g : Gathering ℕ X) (shift : ℕ → X → X) → MovesRecords g shift → (r : ℕ) (t : Tree) → AllFit t → first_far_line r t ≡ None → AreSteady g r t
-unfolding first_far_line
+pub are_steady : {X : Type 0} (g : Gathering ℕ X) (shift : ℕ → X → X) → MovesRecords g shift → (r : ℕ) (t : Tree) → AllFit t → first_far_from r t ≡ None → AreSteady g r t
+unfolding first_far_from
 are_steady g shift moves r Nothing fit h = tt
 are_steady g shift moves r (Then i rest) fit h =
-    let parts = if_none (reaches_far r i.targets) i.line (first_far_line (r + record_count i) rest) h in
+    let parts = if_none (reaches_far r i.targets) i.line (first_far_from (r + record_count i) rest) h in
     subst (λ (n : ℕ). AreSteady g n rest) (sym (moves.next r i)) (are_steady g shift moves (r + record_count i) rest fit.1 parts.1)
 are_steady g shift moves r (Block line turns body rest) fit h =
-    let parts = or_none (first_far_line r body) (first_far_line (r + turns * total 0 record_count body) rest) h in
+    let parts = or_none (first_far_from r body) (first_far_from (r + turns * total 0 record_count body) rest) h in
     let count : turns * total 0 record_count body ≡ counted (copies turns (reached body)) = ap (λ n. turns * n) (sym (counted-reached body)) ∙ sym (counted-copies turns (reached body)) in
     let behind : r + turns * total 0 record_count body ≡ place_behind g r (copies turns (reached body)) = ap (λ n. r + n) count ∙ sym (place-counted g shift moves r (copies turns (reached body))) in (
       fit.0,

@@ -17,8 +17,9 @@ use Rattle.unroll.specs.Detectors.{detectors_from, detectors_of}
 use Rattle.unroll.specs.TargetsMade.{operation_detectors, records_named}
 use Rattle.block_text.specs.Reached.{copies, reached}
 use Rattle.unroll.specs.Observables.{added_from, instruction_adds, observables_of}
-use Rattle.unroll.specs.Refusals.{first_far_line}
-use Rattle.unroll.specs.Totals.{record_count, record_total, observable_total, observables_to}
+use Rattle.unroll.specs.Counted.{first_far_from}
+use Rattle.unroll.specs.Totals.{observable_total, observables_to}
+use Rattle.unroll.specs.MadeTotals.{record_count, record_total}
 use Rattle.unroll.proofs.ReachedCounts.{sum-reached}
 use Rattle.unroll.proofs.RecordLemmas.{AreBack, AreNear, IsNear, near-tree}
 
@@ -85,11 +86,11 @@ observable-below r n k (i ∷ is) near fit le =
     (added-below r n k i.operation i.arguments i.targets near.0 (All-head Fits i is fit).targets_written (omega (arith, le, whole)))
     (observable-below (r + record_count i) n k is near.1 (All-tail Fits i is fit) (omega (arith, le, whole)))
 
-pub detectors_fit : (t : Tree) → IsCircuit t → first_far_line 0 t ≡ None → All (All (λ r. r < record_total t)) (detectors_of t)
+pub detectors_fit : (t : Tree) → IsCircuit t → first_far_from 0 t ≡ None → All (All (λ r. r < record_total t)) (detectors_of t)
 detectors_fit t circuit near =
     detectors-below 0 (record_total t) (reached t) (near-tree 0 t circuit.fit near) (all_reached t circuit.fit) (omega (arith, sum-reached record_count t))
 
-pub observables_fit : (t : Tree) → IsCircuit t → first_far_line 0 t ≡ None → All (All (λ r. r < record_total t)) (observables_of t)
+pub observables_fit : (t : Tree) → IsCircuit t → first_far_from 0 t ≡ None → All (All (λ r. r < record_total t)) (observables_of t)
 observables_fit t circuit near =
     let n = record_total t in
     All-map (AreBelow n) (λ k. added_from k 0 (reached t)) (range_with_len 0 (observable_total t))

@@ -11,9 +11,10 @@ use Rattle.block_text.specs.Trees.{Nothing, Then, Block, Does, Begins, Ends}
 use Rattle.stim_parser.specs.Judged.{items_of}
 use Rattle.stim_parser.specs.Verdicts.{Instruction}
 use Rattle.unroll.specs.Kept.{entries_of, entry_at, flip_entries, operation_entries, operation_products, products_in}
-use Rattle.stim_parser.specs.Limits.{products_of}
 use Rattle.unroll.specs.Targets.{term_of}
-use Rattle.unroll.specs.Totals.{step_count, step_total, target_count, first_argument}
+use Rattle.stim_parser.specs.Limits.{products_of}
+use Rattle.unroll.specs.Totals.{step_total, target_count, first_argument}
+use Rattle.unroll.specs.MadeTotals.{step_count}
 use Rattle.block_text.specs.Reached.{total}
 
 -- ---- one instruction

@@ -13,11 +13,11 @@ use Rattle.block_text.specs.Trees.{Nothing, Then, Block}
 use Rattle.stim_parser.specs.Verdicts.{Instruction}
 use Rattle.unroll.specs.declared.totals.Totals.{Totals}
 use Rattle.unroll.specs.Passes.{behind}
-use Rattle.unroll.specs.Refusals.{first_far_line, is_far, reaches_far}
+use Rattle.unroll.specs.Refusals.{is_far, reaches_far}
+use Rattle.unroll.specs.Counted.{first_far_from}
 use Rattle.unroll.specs.Summed.{AreTotals, capped_sum, far_line_after, greatest, nothing_summed, repeated_sum, summing, totals_after, totals_repeated}
-use Rattle.unroll.specs.Totals.{collapse_count, detector_count, record_count, step_count}
 use Rattle.block_text.specs.Reached.{total}
-use Rattle.unroll.specs.MadeTotals.{fault_count, made_count}
+use Rattle.unroll.specs.MadeTotals.{fault_count, made_count, collapse_count, detector_count, record_count, step_count}
 use Rattle.unroll.specs.Pushed.{back_of}
 use Rattle.unroll.proofs.FitLemmas.{backs_within}
 
@@ -204,22 +204,22 @@ far_after : (r : ℕ) (i : Instruction) (f : Option ℕ) → far_line_after r i 
 far_after r i None = refl
 far_after r i (Some line) = refl
 
-behind-far : (t : Tree) (e : Exact) (s : Totals) → AllFit t → AreCapped e s → (behind summing t s).far_line ≡ option_or s.far_line (first_far_line e.records t)
-unfolding first_far_line
+behind-far : (t : Tree) (e : Exact) (s : Totals) → AllFit t → AreCapped e s → (behind summing t s).far_line ≡ option_or s.far_line (first_far_from e.records t)
+unfolding first_far_from
 behind-far Nothing e s fit h = or_none s.far_line
 behind-far (Then i rest) e s fit h =
     let reach : reaches_far s.records i.targets ≡ reaches_far e.records i.targets =
     ap (λ r. reaches_far r i.targets) h.records ∙ same_reach e.records i.targets (backs_within i fit.0) in
     behind-far rest (with_instruction i e) (totals_after i s) fit.1 (capped-step i e s h)
-    ∙ ap (λ f. option_or f (first_far_line (e.records + record_count i) rest)) (far_after s.records i s.far_line)
-    ∙ ap (λ b. option_or (option_or s.far_line (if b then Some i.line else None)) (first_far_line (e.records + record_count i) rest)) reach
-    ∙ or_if s.far_line (reaches_far e.records i.targets) i.line (first_far_line (e.records + record_count i) rest)
+    ∙ ap (λ f. option_or f (first_far_from (e.records + record_count i) rest)) (far_after s.records i s.far_line)
+    ∙ ap (λ b. option_or (option_or s.far_line (if b then Some i.line else None)) (first_far_from (e.records + record_count i) rest)) reach
+    ∙ or_if s.far_line (reaches_far e.records i.targets) i.line (first_far_from (e.records + record_count i) rest)
 behind-far (Block line turns body rest) e s fit h =
     let b = behind-capped body e s fit.1 h in
     let c = capped-close turns body e s (behind summing body s) fit.0 h b in
     behind-far rest (with_block turns body e) (totals_repeated turns s (behind summing body s)) fit.2 c
-    ∙ ap (λ f. option_or f (first_far_line (e.records + turns * total 0 record_count body) rest)) (behind-far body e s fit.1 h)
-    ∙ or_or s.far_line (first_far_line e.records body) (first_far_line (e.records + turns * total 0 record_count body) rest)
+    ∙ ap (λ f. option_or f (first_far_from (e.records + turns * total 0 record_count body) rest)) (behind-far body e s fit.1 h)
+    ∙ or_or s.far_line (first_far_from e.records body) (first_far_from (e.records + turns * total 0 record_count body) rest)
 
 -- ---- from the start
 

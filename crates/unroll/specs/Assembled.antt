@@ -13,8 +13,8 @@ use Rattle.unroll.specs.Detectors.{detectors_of}
 use Rattle.unroll.specs.Kept.{kept_entries, kept_products}
 use Rattle.unroll.specs.Observables.{observables_of}
 use Rattle.unroll.specs.Steps.{steps_of}
-use Rattle.unroll.specs.Totals.{collapse_total, qubit_total, record_total}
-use Rattle.unroll.specs.MadeTotals.{fault_total, made_total}
+use Rattle.unroll.specs.Totals.{qubit_total}
+use Rattle.unroll.specs.MadeTotals.{fault_total, made_total, collapse_total, record_total}
 
 -- the counts of a tree: its records, its collapses and its faults
 abbrev pub counts_in : Tree → Counts

@@ -5,7 +5,7 @@ use Rattle.std.specs.Prelude.{ℕ, ◌+◌, ◌-◌, ◌*◌, List, map}
 use Rattle.stim_parser.specs.Verdicts.{Instruction}
 use Rattle.unroll.specs.TargetsMade.{operation_detectors}
 use Rattle.unroll.specs.Gathered.{Gathering}
-use Rattle.unroll.specs.Totals.{record_count}
+use Rattle.unroll.specs.MadeTotals.{record_count}
 
 -- how many records there are after an instruction, and after this many turns of a block
 abbrev pub records_after : ℕ → Instruction → ℕ

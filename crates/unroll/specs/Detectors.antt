@@ -6,7 +6,7 @@ use Rattle.block_text.specs.Reached.{reached}
 use Rattle.stim_parser.specs.Trees.{Tree}
 use Rattle.stim_parser.specs.Verdicts.{Instruction}
 use Rattle.unroll.specs.TargetsMade.{operation_detectors}
-use Rattle.unroll.specs.Totals.{record_count}
+use Rattle.unroll.specs.MadeTotals.{record_count}
 
 -- the detectors of instructions after this many records
 unfoldable pub detectors_from : ℕ → List Instruction → List (List ℕ)

@@ -4,14 +4,13 @@
 -- its instruction's probability as it stands, and its bound: the floor of the probability times 2^64. (Stim's gate
 -- reference, github.com/quantumlib/Stim, doc/gates.md.)
 use Rattle.std.specs.Prelude.{ℕ, List, [], ◌∷◌, map, unwrap_or}
-use Rattle.std.specs.List.{range_with_len}
 use Rattle.step_model.specs.Listing.{ListedFault, Effect, Applies, Flips}
 use Rattle.step_model.specs.Probabilities.{probability_bound}
 use Rattle.stim_parser.specs.declared.operation.Operation.{Operation}
 use Rattle.stim_parser.specs.declared.operation.Operation.TheVariants.{Errs, ErrsTogether}
 use Rattle.stim_parser.specs.declared.target.Target.{Target}
 use Rattle.unroll.specs.Targets.{term_at, term_of}
-use Rattle.unroll.specs.Totals.{first_argument, target_count, records_made}
+use Rattle.unroll.specs.Totals.{first_argument}
 
 -- a fault with this effect and the probability of an instruction
 abbrev pub fault_with : List (List ℕ) → Effect → ListedFault
@@ -19,14 +18,13 @@ fault_with arguments effect =
     let probability = first_argument arguments in
     record { text = probability; bound = unwrap_or (probability_bound probability) 0; effect = effect }
 
--- a fault for each of this many records from r on, where a probability is given
-abbrev pub flips_made : ℕ → List (List ℕ) → ℕ → List ListedFault
-flips_made r [] count = []
-flips_made r (probability ∷ arguments) count =
-    map (λ k. fault_with (probability ∷ arguments) (Flips k)) (range_with_len r count)
+-- a fault for each of these records, where a probability is given
+abbrev pub flips_made : List (List ℕ) → List ℕ → List ListedFault
+flips_made [] records = []
+flips_made (probability ∷ arguments) records = map (λ r. fault_with (probability ∷ arguments) (Flips r)) records
 
--- the faults of an operation with these arguments and targets, after r records
-abbrev pub faults_made : ℕ → Operation → List (List ℕ) → List Target → List ListedFault
-faults_made r (Errs l) arguments targets = map (λ target. fault_with arguments (Applies (term_at l target ∷ []))) targets
-faults_made r ErrsTogether arguments targets = fault_with arguments (Applies (map term_of targets)) ∷ []
-faults_made r operation arguments targets = flips_made r arguments (records_made operation (target_count operation targets))
+-- the faults of an operation with these arguments and targets, where its steps make these records
+abbrev pub faults_made : List ℕ → Operation → List (List ℕ) → List Target → List ListedFault
+faults_made records (Errs l) arguments targets = map (λ target. fault_with arguments (Applies (term_at l target ∷ []))) targets
+faults_made records ErrsTogether arguments targets = fault_with arguments (Applies (map term_of targets)) ∷ []
+faults_made records operation arguments targets = flips_made arguments records

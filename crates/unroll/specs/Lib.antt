@@ -21,6 +21,7 @@ pub mod Beyond
 pub mod Drafts
 pub mod Before
 pub mod FaultsMade
+pub mod Counted
 pub mod MadeTotals
 pub mod Meaning
 pub mod StepsMade

@@ -1,14 +1,52 @@
--- How many steps and faults a circuit's program has, counted on its tree; and its qubits and observables, over lists. (Stim's gate reference,
--- github.com/quantumlib/Stim, doc/gates.md.)
-use Rattle.std.specs.Prelude.{ℕ, Bool, List, is_some, slice_get, ◌/◌, ◌==◌, if◌then◌else◌}
+-- How many records, collapses, detectors, faults and steps a circuit's program has, counted on its tree by targets; and
+-- its qubits and observables, over lists. (Stim's gate reference, github.com/quantumlib/Stim, doc/gates.md.)
+use Rattle.std.specs.Prelude.{ℕ, ◌+◌, Bool, List, is_some, slice_get, ◌/◌, ◌==◌, if◌then◌else◌}
 use Rattle.gate_table.specs.Images.{arity_of}
 use Rattle.stim_parser.specs.declared.operation.Operation.{Operation}
-use Rattle.stim_parser.specs.declared.operation.Operation.TheVariants.{Applies, Errs, ErrsTogether}
+use Rattle.stim_parser.specs.declared.operation.Operation.TheVariants.{Applies, Measures, Resets, MeasuresAndResets, MeasuresProducts, Detects, Errs, ErrsTogether}
 use Rattle.stim_parser.specs.declared.target.Target.{Target}
 use Rattle.stim_parser.specs.Trees.{Tree}
 use Rattle.stim_parser.specs.Verdicts.{Instruction}
-use Rattle.unroll.specs.Totals.{collapses_made, observables_to, qubits_to, records_made, target_count}
+use Rattle.unroll.specs.Totals.{observables_to, qubits_to, target_count}
 use Rattle.block_text.specs.Reached.{greatest_by, total}
+
+-- of this many targets, how many records, collapses and detectors an operation makes
+abbrev pub records_made : Operation → ℕ → ℕ
+records_made (Measures l) targets = targets
+records_made (MeasuresAndResets l) targets = targets
+records_made MeasuresProducts targets = targets
+records_made operation targets = 0
+
+abbrev pub collapses_made : Operation → ℕ → ℕ
+collapses_made (Resets l) targets = targets
+collapses_made operation targets = records_made operation targets
+
+abbrev pub detectors_made : Operation → ℕ
+detectors_made Detects = 1
+detectors_made operation = 0
+
+-- what an instruction counts towards the limits: steps, records, collapses and detectors
+abbrev pub step_count : Instruction → ℕ
+step_count i = 1 + target_count i.operation i.targets
+
+abbrev pub record_count : Instruction → ℕ
+record_count i = records_made i.operation (target_count i.operation i.targets)
+
+abbrev pub collapse_count : Instruction → ℕ
+collapse_count i = collapses_made i.operation (target_count i.operation i.targets)
+
+abbrev pub detector_count : Instruction → ℕ
+detector_count i = detectors_made i.operation
+
+-- the same of a tree
+abbrev pub record_total : Tree → ℕ
+record_total tree = total 0 record_count tree
+
+abbrev pub collapse_total : Tree → ℕ
+collapse_total tree = total 0 collapse_count tree
+
+abbrev pub detector_total : Tree → ℕ
+detector_total tree = total 0 detector_count tree
 
 -- how many faults an operation makes of this many targets: a measurement one of each record, where it has a probability
 abbrev pub faults_counted : Operation → Bool → ℕ → ℕ

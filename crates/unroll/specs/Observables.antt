@@ -7,7 +7,8 @@ use Rattle.stim_parser.specs.Trees.{Tree}
 use Rattle.stim_parser.specs.Verdicts.{Instruction}
 use Rattle.block_text.specs.Reached.{reached}
 use Rattle.unroll.specs.TargetsMade.{records_named}
-use Rattle.unroll.specs.Totals.{observable_total, observables_to, record_count}
+use Rattle.unroll.specs.Totals.{observable_total, observables_to}
+use Rattle.unroll.specs.MadeTotals.{record_count}
 
 -- what an instruction adds to the observable k after this many records
 abbrev pub instruction_adds : ℕ → ℕ → Instruction → List ℕ

@@ -6,9 +6,10 @@ use Rattle.stim_parser.specs.Trees.{Tree}
 use Rattle.stim_parser.specs.Verdicts.{Instruction}
 use Rattle.unroll.specs.declared.totals.Totals.{Totals}
 use Rattle.unroll.specs.Passes.{Pass}
-use Rattle.unroll.specs.Refusals.{first_far_line, reaches_far}
-use Rattle.unroll.specs.Totals.{collapse_count, collapse_total, detector_count, detector_total, record_count, record_total, step_count, step_total}
-use Rattle.unroll.specs.MadeTotals.{fault_count, fault_total, made_count, made_total}
+use Rattle.unroll.specs.Refusals.{reaches_far}
+use Rattle.unroll.specs.Counted.{first_far_from}
+use Rattle.unroll.specs.Totals.{step_total}
+use Rattle.unroll.specs.MadeTotals.{fault_count, fault_total, made_count, made_total, collapse_count, collapse_total, detector_count, detector_total, record_count, record_total, step_count}
 
 abbrev pub greatest : ℕ
 greatest = 2 ^ 64 - 1
@@ -67,4 +68,4 @@ pub record AreTotals (tree : Tree) (t : Totals) : Type 0 where
   pub faults : t.faults ≡ min (fault_total tree) greatest
   pub steps : t.steps ≡ min (step_total tree) greatest
   pub made : t.made ≡ min (made_total tree) greatest
-  pub far_line : t.far_line ≡ first_far_line 0 tree
+  pub far_line : t.far_line ≡ first_far_from 0 tree

@@ -1,68 +1,27 @@
 -- What a circuit takes, counted on its tree without unrolling it. An instruction is a step, and each of its targets is
--- one more (a record in a pair is a target, and a product is one target); each turn of a block is a step too. A
--- measurement makes a record and a collapse (a projective measurement) for each target, MPP for each product; a reset
--- makes a collapse. The qubits are those up to the greatest that any instruction names, and so are the observables. (Which
--- of these have a limit is this project's choice.)
+-- one more (a record in a pair is a target, and a product is one target); each turn of a block is a step too. The qubits
+-- are those up to the greatest that any instruction names, and so are the observables. (What counts as a step is this
+-- project's choice.)
 use Rattle.std.specs.Prelude.{ℕ, ◌+◌, List, [], length, slice_index_or}
 use Rattle.block_text.specs.Reached.{greatest_by, total, written}
 use Rattle.stim_parser.specs.declared.operation.Operation.{Operation}
-use Rattle.stim_parser.specs.declared.operation.Operation.TheVariants.{Measures, Resets, MeasuresAndResets, MeasuresProducts, Detects, Observes}
+use Rattle.stim_parser.specs.declared.operation.Operation.TheVariants.{MeasuresProducts, Observes}
 use Rattle.stim_parser.specs.declared.target.Target.{Target}
 use Rattle.stim_parser.specs.declared.target.Target.TheVariants.{Plain, Inverted, Pauli}
 use Rattle.stim_parser.specs.Trees.{Tree}
-use Rattle.stim_parser.specs.Verdicts.{Instruction}
 use Rattle.stim_parser.specs.Numbers.{value_of}
 use Rattle.stim_parser.specs.Limits.{products_of}
 
--- ---- counts of an instruction
+-- ---- steps
 
 -- how many targets an operation has in these, a product being one
 abbrev pub target_count : Operation → List Target → ℕ
 target_count MeasuresProducts targets = length (products_of targets)
 target_count operation targets = length targets
 
--- of this many targets, how many records, collapses and detectors an operation makes
-abbrev pub records_made : Operation → ℕ → ℕ
-records_made (Measures l) targets = targets
-records_made (MeasuresAndResets l) targets = targets
-records_made MeasuresProducts targets = targets
-records_made operation targets = 0
-
-abbrev pub collapses_made : Operation → ℕ → ℕ
-collapses_made (Resets l) targets = targets
-collapses_made operation targets = records_made operation targets
-
-abbrev pub detectors_made : Operation → ℕ
-detectors_made Detects = 1
-detectors_made operation = 0
-
--- what an instruction counts towards the limits: steps, records, collapses and detectors
-abbrev pub step_count : Instruction → ℕ
-step_count i = 1 + target_count i.operation i.targets
-
-abbrev pub record_count : Instruction → ℕ
-record_count i = records_made i.operation (target_count i.operation i.targets)
-
-abbrev pub collapse_count : Instruction → ℕ
-collapse_count i = collapses_made i.operation (target_count i.operation i.targets)
-
-abbrev pub detector_count : Instruction → ℕ
-detector_count i = detectors_made i.operation
-
--- ---- totals of a tree
-
--- the steps of a tree as its limit counts them, each turn of a block being one more; its other counts
+-- the steps of a tree as its limit counts them
 abbrev pub step_total : Tree → ℕ
-step_total tree = total 1 step_count tree
-
-abbrev pub record_total : Tree → ℕ
-record_total tree = total 0 record_count tree
-
-abbrev pub collapse_total : Tree → ℕ
-collapse_total tree = total 0 collapse_count tree
-
-abbrev pub detector_total : Tree → ℕ
-detector_total tree = total 0 detector_count tree
+step_total tree = total 1 (λ i. 1 + target_count i.operation i.targets) tree
 
 -- ---- qubits
 

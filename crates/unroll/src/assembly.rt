@@ -2,7 +2,7 @@ ghost use Rattle.std.specs.Prelude.{◌≡◌, ◌⊎◌, None, Ok, Err, IfOk, I
 ghost use Rattle.step_model.specs.Faults.{memory_fault};
 ghost use Rattle.programs.specs.Made.{kept_program, PartsFit};
 ghost use Rattle.unroll.specs.Assembled.{ArePartsOf, HasLists};
-ghost use Rattle.unroll.specs.Refusals.{refusal_of};
+ghost use Rattle.unroll.specs.Counted.{refusal_counted};
 ghost use Rattle.unroll.specs.Summed.{AreTotals};
 ghost use Rattle.unroll.specs.Meaning.{listing_of};
 ghost use Rattle.unroll.specs.Programs.{program_of};
@@ -30,7 +30,7 @@ struct Lists<A: Allocator + Copy> {
 
 /// The targets of a circuit's program, and the coordinates of its detectors, from a circuit that isn't refused.
 fn lists_of<A: Allocator + Copy>(alloc: A, circuit: &Circuit<'_, A>) -> Result<Lists<A>, AllocError>
-    requires { refusal_of circuit.now ≡ None }
+    requires { refusal_counted circuit.now ≡ None }
     ensures { IfOk result (HasLists circuit.now) }
 {
     let detectors = detectors_of(alloc, circuit)?;
@@ -49,7 +49,7 @@ fn parts_of<'a, A: Allocator + Copy>(
     circuit: Circuit<'a, A>,
     totals: Totals,
 ) -> Result<Parts<'a, A>, AllocError>
-    requires accepted { refusal_of circuit ≡ None }
+    requires accepted { refusal_counted circuit ≡ None }
     requires totals { AreTotals circuit totals }
     ensures { IfOk result (ArePartsOf circuit.entry) }
 {

@@ -1,6 +1,5 @@
 ghost use Rattle.std.specs.Prelude.{◌≡◌};
-ghost use Rattle.unroll.specs.Totals.{records_made, collapses_made, detectors_made};
-ghost use Rattle.unroll.specs.MadeTotals.{faults_counted, steps_made};
+ghost use Rattle.unroll.specs.MadeTotals.{faults_counted, steps_made, records_made, collapses_made, detectors_made};
 
 use stim_parser::Operation;
 

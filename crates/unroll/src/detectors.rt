@@ -3,8 +3,8 @@ ghost use Rattle.unroll.specs.Detecting.{records_moved};
 ghost use Rattle.unroll.specs.Detectors.{detectors_of};
 ghost use Rattle.unroll.specs.TargetsMade.{operation_detectors, record_named, records_named};
 ghost use Rattle.unroll.specs.Gathered.{later};
-ghost use Rattle.unroll.specs.Refusals.{first_far_line};
-ghost use Rattle.unroll.specs.Totals.{record_count, record_total};
+ghost use Rattle.unroll.specs.Counted.{first_far_from};
+ghost use Rattle.unroll.specs.MadeTotals.{record_count, record_total};
 
 use crate::counts::records_made;
 use crate::marks::Mark;
@@ -128,7 +128,7 @@ pub(crate) fn detectors_of<A: Allocator + Copy>(
     alloc: A,
     circuit: &Circuit<'_, A>,
 ) -> Result<FlatLists<u32, A>, AllocError>
-    requires near { first_far_line 0 circuit.now ≡ None }
+    requires near { first_far_from 0 circuit.now ≡ None }
     requires few { record_total circuit.now < 2 ^ 32 }
     ensures { IfOk result (λ detectors. detectors ≡ detectors_of circuit.now) }
 {

@@ -3,8 +3,8 @@ ghost use Rattle.block_text.specs.Kept.{instruction_in};
 ghost use Rattle.block_text.specs.Reached.{reached};
 ghost use Rattle.unroll.specs.Gathered.{given, later};
 ghost use Rattle.unroll.specs.Including.{including, inclusion_moved, inclusion_of};
-ghost use Rattle.unroll.specs.Refusals.{first_far_line};
-ghost use Rattle.unroll.specs.Totals.{record_count, record_total};
+ghost use Rattle.unroll.specs.Counted.{first_far_from};
+ghost use Rattle.unroll.specs.MadeTotals.{record_count, record_total};
 
 use crate::counts::records_made;
 use crate::detectors::record_named;
@@ -109,7 +109,7 @@ pub(crate) fn inclusions_of<A: Allocator + Copy>(
     alloc: A,
     circuit: &Circuit<'_, A>,
 ) -> Result<Vec<Inclusion, A>, AllocError>
-    requires near { first_far_line 0 circuit.now ≡ None }
+    requires near { first_far_from 0 circuit.now ≡ None }
     requires few { record_total circuit.now < 2 ^ 32 }
     ensures { IfOk result (λ inclusions. inclusions.items ≡ given including 0 (reached circuit.now)) }
 {

@@ -2,8 +2,9 @@ ghost use Rattle.std.specs.Prelude.{◌≡◌, ◌<◌, ◌^◌, [], None, map, 
 ghost use Rattle.block_text.specs.Kept.{instruction_in, item_in};
 ghost use Rattle.unroll.specs.Including.{item_observables, named_to, told_apart, with_place};
 ghost use Rattle.unroll.specs.Observables.{observables_of};
-ghost use Rattle.unroll.specs.Refusals.{first_far_line};
-ghost use Rattle.unroll.specs.Totals.{record_total, observable_total};
+ghost use Rattle.unroll.specs.Counted.{first_far_from};
+ghost use Rattle.unroll.specs.Totals.{observable_total};
+ghost use Rattle.unroll.specs.MadeTotals.{record_total};
 
 use crate::inclusions::{Inclusion, inclusions_of};
 use flat_lists::FlatLists;
@@ -102,7 +103,7 @@ pub(crate) fn observables_of<A: Allocator + Copy>(
     alloc: A,
     circuit: &Circuit<'_, A>,
 ) -> Result<FlatLists<u32, A>, AllocError>
-    requires near { first_far_line 0 circuit.now ≡ None }
+    requires near { first_far_from 0 circuit.now ≡ None }
     requires few { record_total circuit.now < 2 ^ 32 }
     ensures { IfOk result (λ observables. observables ≡ observables_of circuit.now) }
 {

@@ -1,9 +1,10 @@
 ghost use Rattle.std.specs.Prelude.{◌≡◌};
 ghost use Rattle.block_text.specs.Kept.{item_in};
 ghost use Rattle.unroll.specs.Beyond.{line_beyond};
+ghost use Rattle.unroll.specs.Counted.{refusal_counted};
 ghost use Rattle.block_text.specs.Reached.{written};
 ghost use Rattle.unroll.specs.Items.{IsSound};
-ghost use Rattle.unroll.specs.Refusals.{first_beyond, of_circuit, refusal_of};
+ghost use Rattle.unroll.specs.Refusals.{first_beyond, of_circuit};
 ghost use Rattle.unroll.specs.Summed.{AreTotals};
 
 use crate::observables::named_to;
@@ -69,7 +70,7 @@ pub(crate) fn refusal_of<A: Allocator + Copy>(
     totals: &Totals,
 ) -> Option<Fault>
     requires { AreTotals circuit.now totals.now }
-    ensures { result ≡ refusal_of circuit.now }
+    ensures { result ≡ refusal_counted circuit.now }
 {
     if let Some(line) = totals.far_line {
         return Some(Fault {

@@ -6,9 +6,10 @@ ghost use Rattle.unroll.specs.Drafts.{CanWrite, HasRoom, Writes, draft_of, with_
 ghost use Rattle.unroll.specs.Kept.{kept_entries, kept_products};
 ghost use Rattle.unroll.specs.StepsMade.{flip_of};
 ghost use Rattle.unroll.specs.Numbered.{IsInstructionNumber, IsItemNumber};
-ghost use Rattle.unroll.specs.Refusals.{first_far_line};
+ghost use Rattle.unroll.specs.Counted.{first_far_from};
 ghost use Rattle.unroll.specs.Steps.{steps_of};
-ghost use Rattle.unroll.specs.Totals.{record_total, step_total};
+ghost use Rattle.unroll.specs.Totals.{step_total};
+ghost use Rattle.unroll.specs.MadeTotals.{record_total};
 
 use crate::entries::push_instruction;
 use crate::products::push_kept_products;
@@ -122,7 +123,7 @@ pub(crate) fn written_of<'a, A: Allocator + Copy>(
     alloc: A,
     circuit: Circuit<'a, A>,
 ) -> Result<Written<'a, A>, AllocError>
-    requires near { first_far_line 0 circuit ≡ None }
+    requires near { first_far_from 0 circuit ≡ None }
     requires few_records { record_total circuit < 2 ^ 32 }
     requires few_steps { step_total circuit < 2 ^ 32 }
     ensures circuit { IfOk result (λ w. IsCircuit w.nodes.items) }

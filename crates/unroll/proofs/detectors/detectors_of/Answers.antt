@@ -2,7 +2,7 @@ use Rattle.std.proofs.Common.{◌+◌, ◌*◌, ◌++◌, [], ◌∷◌, ℕ, le
 use Rattle.block_text.specs.Kept.{instruction_in}
 use Rattle.unroll.specs.Detecting.{detecting, records_moved}
 use Rattle.unroll.specs.TargetsMade.{operation_detectors}
-use Rattle.unroll.specs.Totals.{record_count, records_made}
+use Rattle.unroll.specs.MadeTotals.{record_count, records_made}
 use Rattle.unroll.proofs.CountLemmas.{HasPopped, counting-begins, counting-does, counting-does_few, counting-ends, counting-ends_few, counting-few, counting-first, counting-room, counting-same, counting-some, with_turns}
 use Rattle.unroll.proofs.DetectorLemmas.{IsWithin, detecting-counts, detecting-done, within-limit}
 use Rattle.unroll.proofs.detectors.detectors_of.Goals as goal

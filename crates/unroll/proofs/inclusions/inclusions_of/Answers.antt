@@ -1,7 +1,7 @@
 use Rattle.std.proofs.Common.{◌≡◌, ◌+◌, ◌*◌, ◌++◌, [], ◌∷◌, ℕ, length, refl, ap, ◌∙◌, arith}
 use Rattle.block_text.specs.Kept.{instruction_in}
 use Rattle.unroll.specs.Including.{including, inclusion_moved}
-use Rattle.unroll.specs.Totals.{record_count, records_made}
+use Rattle.unroll.specs.MadeTotals.{record_count, records_made}
 use Rattle.unroll.proofs.CountLemmas.{HasPopped, counting-begins, counting-does, counting-does_few, counting-done, counting-ends, counting-ends_few, counting-few, counting-first, counting-room, counting-same, counting-some, with_turns}
 use Rattle.unroll.proofs.InclusionLemmas.{IsIncluded, included-limit, including-counts}
 use Rattle.unroll.proofs.inclusions.inclusions_of.Goals as goal
