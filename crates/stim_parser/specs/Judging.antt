@@ -66,9 +66,10 @@ abbrev pub opens_block : {O : Type 0} → Keyword O → Bool
 opens_block Repeats = true
 opens_block keyword = false
 
--- the questions of a line with this keyword; of one with a keyword or none
-abbrev pub refusals_of_keyword : {O T F : Type 0} → Table O T F → ℕ → Keyword O → Cut → List (Bool × Cause)
-refusals_of_keyword table depth keyword cut =
+-- the questions of a line behind its braces, by what its name names
+abbrev pub refusals_of_name : {O T F : Type 0} → Table O T F → ℕ → Option (Keyword O) → Cut → List (Bool × Cause)
+refusals_of_name table depth None cut = (true, table.refusal_of_name cut.name) ∷ []
+refusals_of_name table depth (Some keyword) cut =
     let asked = table.argument_form keyword in
     let arguments = arguments_in cut.arguments in
     let form = table.target_form keyword in
@@ -81,10 +82,6 @@ refusals_of_keyword table depth keyword cut =
     ++ (opens_block keyword && table.turns_of targets == 0, table.causes.repeat_zero)
     ∷ (opens_block keyword && nat_le deepest depth, table.causes.depth)
     ∷ [])
-
-abbrev pub refusals_of_name : {O T F : Type 0} → Table O T F → ℕ → Option (Keyword O) → Cut → List (Bool × Cause)
-refusals_of_name table depth None cut = (true, table.refusal_of_name cut.name) ∷ []
-refusals_of_name table depth (Some keyword) cut = refusals_of_keyword table depth keyword cut
 
 -- the refusal of a line where `depth` blocks are open
 unfoldable pub refusal_of : {O T F : Type 0} → Table O T F → ℕ → Cut → Option Cause

@@ -1,5 +1,5 @@
 -- Parts of the list of a line's questions, as the judge of lines asks them one after another. (This project's own.)
-use Rattle.std.specs.Prelude.{ℕ, ◌==◌, nat_le, Bool, not, ◌&&◌, ◌||◌, List, [], ◌∷◌, ◌++◌, is_none}
+use Rattle.std.specs.Prelude.{ℕ, ◌==◌, nat_le, Bool, not, ◌&&◌, ◌||◌, List, [], ◌∷◌, ◌++◌, Some, is_none}
 use Rattle.step_model.specs.declared.fault.Cause.{Cause}
 use Rattle.stim_lexer.specs.Cut.{Cut}
 use Rattle.block_text.specs.Trees.{deepest}
@@ -7,8 +7,12 @@ use Rattle.stim_parser.specs.declared.forms.ArgumentForm.{ArgumentForm}
 use Rattle.stim_parser.specs.declared.table.Causes.{Causes}
 use Rattle.stim_parser.specs.declared.table.Keyword.{Keyword}
 use Rattle.stim_parser.specs.Arguments.{arguments_in}
-use Rattle.stim_parser.specs.Judging.{Table, opens_block, read_targets}
+use Rattle.stim_parser.specs.Judging.{Table, opens_block, read_targets, refusals_of_name}
 use Rattle.stim_parser.specs.Limits.{has_wrong_arguments, has_wrong_probability, has_argument_beyond}
+
+-- the questions of a line with this keyword
+abbrev pub refusals_of_keyword : {O T F : Type 0} → Table O T F → ℕ → Keyword O → Cut → List (Bool × Cause)
+refusals_of_keyword table depth keyword cut = refusals_of_name table depth (Some keyword) cut
 
 -- the questions of the arguments' number and form
 abbrev pub refusals_of_arguments : Causes → ArgumentForm → Cut → List (Bool × Cause)

@@ -7,8 +7,8 @@ ghost use Rattle.stim_parser.specs.Arguments.{arguments_in};
 ghost use Rattle.stim_parser.specs.Limits.{has_argument_beyond, takes_probability};
 ghost use Rattle.stim_parser.specs.Parentheses.{Parentheses};
 ghost use Rattle.stim_parser.specs.Probabilities.{Remembers, TakesNothing};
-ghost use Rattle.stim_parser.specs.Judging.{accepted, first_of, judged, misplaces_brace, opens_block, reading_of, read_targets, refusal_of, refusals_of_keyword};
-ghost use Rattle.stim_parser.specs.Questions.{has_wrong_target, refusals_of_amounts, refusals_of_arguments, refusals_of_block};
+ghost use Rattle.stim_parser.specs.Judging.{accepted, first_of, judged, misplaces_brace, opens_block, reading_of, read_targets, refusal_of};
+ghost use Rattle.stim_parser.specs.Questions.{has_wrong_target, refusals_of_amounts, refusals_of_arguments, refusals_of_block, refusals_of_keyword};
 
 use crate::argument_checks::{
     chance_of, has_argument_beyond, has_wrong_arguments, has_wrong_probability, takes_probability,
