@@ -54,3 +54,4 @@ pub mod WorkedRecords
 pub mod WorkedBlocks
 pub mod WorkedRefusals
 pub mod FarLines
+pub mod WorkedLimits

@@ -105,24 +105,3 @@ great_observable :
     ≡ Err (record { cause = cause.Detectors; line = 2 })
 unfolding on_texts
 great_observable = refl
-
-too_many_records : program_in (codes "REPEAT 8000001 {\nM 0\n}\n") ≡ Err (record { cause = cause.Records; line = 0 })
-unfolding on_texts
-too_many_records = refl
-
-too_many_collapses :
-    program_in (codes "REPEAT 4000001 {\nR 0 1\n}\n")
-    ≡ Err (record { cause = cause.Records; line = 0 })
-unfolding on_texts
-too_many_collapses = refl
-
-too_many_detectors :
-    program_in (codes "REPEAT 1000001 {\nDETECTOR\n}\n")
-    ≡ Err (record { cause = cause.Detectors; line = 0 })
-unfolding on_texts
-too_many_detectors = refl
-
--- a gate of one target counts two, and the turn one more
-too_many_steps : program_in (codes "REPEAT 21333334 {\nH 0\n}\n") ≡ Err (record { cause = cause.Steps; line = 0 })
-unfolding on_texts
-too_many_steps = refl
