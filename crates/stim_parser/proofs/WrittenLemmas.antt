@@ -7,6 +7,7 @@ use Rattle.std.specs.Option.{option_or}
 use Rattle.std.proofs.lemmas.Bool.{cases_Bool}
 use Rattle.step_model.specs.Listing.{is_I}
 use Rattle.pauli_word.specs.declared.letter.Letter.{Letter}
+use Rattle.pauli_word.specs.declared.letter.Letter.TheVariants as letter
 use Rattle.gate_table.specs.declared.gate.Gate.{Gate}
 use Rattle.gate_table.specs.Names.{gate_named}
 use Rattle.stim_lexer.specs.Bytes.{is_empty}
@@ -79,11 +80,13 @@ keyword_written name =
 
 -- ---- targets
 
+abbrev letters : List (List ℕ × Letter)
+letters = (codes "X", letter.X) ∷ (codes "Y", letter.Y) ∷ (codes "Z", letter.Z) ∷ []
+
 letter_written : (b : ℕ) → passes (λ l. not (is_I l)) (letter_of b) ≡ true
 letter_written b =
-    passes-if (λ l. not (is_I l)) (b == 88 || b == 120) _ _ refl
-    (passes-if (λ l. not (is_I l)) (b == 89 || b == 121) _ _ refl
-    (passes-if (λ l. not (is_I l)) (b == 90 || b == 122) _ _ refl refl))
+    passes-map (λ l. not (is_I l)) (λ (row : List ℕ × Letter). row.1) (find (λ row. str_eq_ignore_ascii_case row.0 (b ∷ [])) letters)
+    (passes-find (λ (row : List ℕ × Letter). not (is_I row.1)) (λ row. str_eq_ignore_ascii_case row.0 (b ∷ [])) letters refl)
 
 named : (inverted : Bool) (l : Letter) → not (is_I l) ≡ true → (o : Option ℕ) → passes (λ n. target_is_written (Pauli inverted l n)) o ≡ true
 named inverted l h None = refl

@@ -10,6 +10,7 @@ use Rattle.pauli_word.specs.declared.letter.Letter.TheVariants as letter
 use Rattle.stim_lexer.specs.Bytes.{is_empty}
 use Rattle.stim_parser.specs.declared.target.Target.{Target}
 use Rattle.stim_parser.specs.declared.target.Target.TheVariants.{Plain, Inverted, Back, Pauli, Star}
+use Rattle.stim_parser.specs.Names.{named_in}
 use Rattle.stim_parser.specs.Numbers.{number_of}
 use Rattle.stim_parser.specs.Pieces.{is_star, pieces_of}
 
@@ -39,10 +40,7 @@ record_of piece =
 
 -- the letter that a byte writes, in either case
 abbrev pub letter_of : ℕ → Option Letter
-letter_of b =
-    if b == 88 || b == 120 then Some letter.X
-    else
-    (if b == 89 || b == 121 then Some letter.Y else (if b == 90 || b == 122 then Some letter.Z else None))
+letter_of b = named_in ((codes "X", letter.X) ∷ (codes "Y", letter.Y) ∷ (codes "Z", letter.Z) ∷ []) (b ∷ [])
 
 -- a letter and its qubit
 abbrev pub pauli_of : Bool → List ℕ → Option Target
