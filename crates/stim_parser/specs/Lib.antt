@@ -23,3 +23,4 @@ pub mod Products
 pub mod Offsets
 pub mod Judged
 pub mod Rows
+pub mod Brackets

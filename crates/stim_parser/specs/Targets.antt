@@ -3,7 +3,7 @@
 -- and a number, and may have a `!` before it. A `*` joins the Pauli targets beside it into one product. Targets stand
 -- between blanks; those around a `*` may be left out.
 -- (Stim's circuit format, github.com/quantumlib/Stim, doc/file_format_stim_circuit.md, "Target Types".)
-use Rattle.std.specs.Prelude.{ℕ, ◌==◌, ◌-◌, nat_le, Bool, true, false, ◌&&◌, ◌||◌, if◌then◌else◌, List, [], ◌∷◌, length, take, drop, Option, None, Some, option_map, option_and_then, codes, bytes_eq, slice_index, slice_range}
+use Rattle.std.specs.Prelude.{ℕ, ◌==◌, ◌-◌, Bool, true, false, ◌&&◌, if◌then◌else◌, List, [], ◌∷◌, ◌++◌, length, Option, None, Some, option_map, option_and_then, codes, bytes_eq, slice_range}
 use Rattle.std.specs.Option.{option_or}
 use Rattle.pauli_word.specs.declared.letter.Letter.{Letter}
 use Rattle.pauli_word.specs.declared.letter.Letter.TheVariants as letter
@@ -21,20 +21,13 @@ each_of f (x ∷ xs) = option_and_then (λ y. option_map (λ ys. y ∷ ys) (each
 
 -- ---- a record
 
--- what stands before a `]` at the end
-abbrev pub before_bracket : List ℕ → Option (List ℕ)
-before_bracket text =
-    if nat_le 1 (length text) && slice_index text (length text - 1) == 93
-    then Some (slice_range text 0 (length text - 1))
-    else None
-
--- a number that isn't 0
-abbrev pub at_least_one : List ℕ → Option ℕ
-at_least_one digits = option_and_then (λ k. if k == 0 then None else Some k) (number_of digits)
-
+-- the number of `rec[-k]`, which isn't 0
 abbrev pub record_of : List ℕ → Option ℕ
 record_of piece =
-    if bytes_eq (take 5 piece) (codes "rec[-") then option_and_then at_least_one (before_bracket (drop 5 piece)) else None
+    let digits = slice_range piece 5 (length piece - 1) in
+    if bytes_eq piece (codes "rec[-" ++ digits ++ codes "]")
+    then option_and_then (λ k. if k == 0 then None else Some k) (number_of digits)
+    else None
 
 -- ---- a Pauli target
 
