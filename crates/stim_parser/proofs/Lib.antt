@@ -29,6 +29,7 @@ pub mod FewArguments
 pub mod CoordinateArguments
 mod QubitSetLemmas
 mod ProductLemmas
+mod BracketLemmas
 pub mod ProductWords
 mod ProductSteps
 pub mod MarkLemmas

@@ -16,8 +16,10 @@ use Rattle.stim_parser.specs.Circuits.{target_is_written}
 use Rattle.stim_parser.specs.Limits.{has_target_beyond, is_target_beyond}
 use Rattle.stim_parser.specs.Numbers.{greatest_number, greatest_qubit}
 use Rattle.stim_parser.specs.Pieces.{ends_here, ends_piece, pieces_of}
-use Rattle.stim_parser.specs.Targets.{before_bracket, each_of, target_of, targets_in}
+use Rattle.stim_parser.specs.Brackets.{before_bracket}
+use Rattle.stim_parser.specs.Targets.{each_of, target_of, targets_in}
 use Rattle.stim_parser.specs.Written.{target_text, targets_text}
+use Rattle.stim_parser.proofs.BracketLemmas.{record_parts}
 use Rattle.stim_parser.proofs.ByteLemmas.{all-where, both_all, none-where}
 use Rattle.stim_parser.proofs.CutLemmas.{first_piece}
 use Rattle.stim_parser.proofs.LineCutLemmas.{is_plain_byte}
@@ -135,7 +137,7 @@ target_read : (t : Target) → IsBelow t → target_is_written t ≡ true → ta
 unfolding target_of
 target_read (Plain n) h w = rw (number_of-decimal n h) refl
 target_read (Inverted q) h w = rw (number_of-decimal q h) refl
-target_read (Back k) h w = rw (bracket_found (decimal k), number_of-decimal k h, not_none k w) refl
+target_read (Back k) h w = rw (record_parts (target_text (Back k)), bracket_found (decimal k), number_of-decimal k h, not_none k w) refl
 target_read (Pauli true letter.I q) h w = absurd (false≢true w)
 target_read (Pauli true letter.X q) h w = rw (number_of-decimal q h) refl
 target_read (Pauli true letter.Y q) h w = rw (number_of-decimal q h) refl

@@ -1,12 +1,13 @@
 -- What a text can write at all: no letter is I, and a record is at least one back. Names and targets are read so.
-use Rattle.std.proofs.Common.{◌≡◌, ℕ, ◌==◌, Bool, true, false, not, ◌&&◌, ◌||◌, List, [], ◌∷◌, find, Option, None, Some, refl, ap₂, inl, inr, arith}
-use Rattle.std.specs.Prelude.{if◌then◌else◌, nat_le, option_map, option_and_then, unwrap_or, bytes_eq, codes, take, drop}
+use Rattle.std.proofs.Common.{◌≡◌, ℕ, ◌==◌, Bool, true, false, not, ◌&&◌, ◌||◌, ◌-◌, List, [], ◌∷◌, ◌++◌, find, Option, None, Some, refl, ap₂, inl, inr, arith}
+use Rattle.std.specs.Prelude.{if◌then◌else◌, nat_le, option_map, option_and_then, unwrap_or, bytes_eq, codes, length, slice_range}
 use Rattle.std.specs.List.{list_all}
 use Rattle.std.specs.Str.{str_eq_ignore_ascii_case}
 use Rattle.std.specs.Option.{option_or}
 use Rattle.std.proofs.lemmas.Bool.{cases_Bool}
 use Rattle.step_model.specs.Listing.{is_I}
 use Rattle.pauli_word.specs.declared.letter.Letter.{Letter}
+use Rattle.pauli_word.specs.declared.letter.Letter.TheVariants as letter
 use Rattle.gate_table.specs.declared.gate.Gate.{Gate}
 use Rattle.gate_table.specs.Names.{gate_named}
 use Rattle.stim_lexer.specs.Bytes.{is_empty}
@@ -21,7 +22,7 @@ use Rattle.stim_parser.specs.Circuits.{operation_is_written, target_is_written}
 use Rattle.stim_parser.specs.Instructions.{keyword_named, other_named, other_names}
 use Rattle.stim_parser.specs.Numbers.{number_of}
 use Rattle.stim_parser.specs.Pieces.{is_star, pieces_of}
-use Rattle.stim_parser.specs.Targets.{at_least_one, before_bracket, each_of, inverted_of, letter_of, marked_of, pauli_of, record_of, target_of, targets_in}
+use Rattle.stim_parser.specs.Targets.{each_of, inverted_of, letter_of, marked_of, pauli_of, record_of, target_of, targets_in}
 use Rattle.stim_parser.specs.Verdicts.{line_targets, takes_none}
 
 -- ---- what passes where there is something
@@ -79,11 +80,13 @@ keyword_written name =
 
 -- ---- targets
 
+abbrev letters : List (List ℕ × Letter)
+letters = (codes "X", letter.X) ∷ (codes "Y", letter.Y) ∷ (codes "Z", letter.Z) ∷ []
+
 letter_written : (b : ℕ) → passes (λ l. not (is_I l)) (letter_of b) ≡ true
 letter_written b =
-    passes-if (λ l. not (is_I l)) (b == 88 || b == 120) _ _ refl
-    (passes-if (λ l. not (is_I l)) (b == 89 || b == 121) _ _ refl
-    (passes-if (λ l. not (is_I l)) (b == 90 || b == 122) _ _ refl refl))
+    passes-map (λ l. not (is_I l)) (λ (row : List ℕ × Letter). row.1) (find (λ row. str_eq_ignore_ascii_case row.0 (b ∷ [])) letters)
+    (passes-find (λ (row : List ℕ × Letter). not (is_I row.1)) (λ row. str_eq_ignore_ascii_case row.0 (b ∷ [])) letters refl)
 
 named : (inverted : Bool) (l : Letter) → not (is_I l) ≡ true → (o : Option ℕ) → passes (λ n. target_is_written (Pauli inverted l n)) o ≡ true
 named inverted l h None = refl
@@ -114,15 +117,11 @@ not_zero k =
       | inr e ↦ let some : nat_le 1 k ≡ true = grind arith in rw e some
     ]
 
-least_written : (digits : List ℕ) → passes (λ n. nat_le 1 n) (at_least_one digits) ≡ true
-least_written digits =
-    passes-then (λ n. true) (λ n. nat_le 1 n) (λ k. if k == 0 then None else Some k) (number_of digits) (passes-all (number_of digits)) (λ k h. not_zero k)
-
 record_written : (piece : List ℕ) → passes (λ n. nat_le 1 n) (record_of piece) ≡ true
 record_written piece =
-    passes-if (λ n. nat_le 1 n) (bytes_eq (take 5 piece) (codes "rec[-")) (option_and_then at_least_one (before_bracket (drop 5 piece))) None
-    (passes-then (λ (digits : List ℕ). true) (λ n. nat_le 1 n) at_least_one (before_bracket (drop 5 piece)) (passes-all (before_bracket (drop 5 piece)))
-    (λ digits h. least_written digits))
+    let digits = slice_range piece 5 (length piece - 1) in
+    passes-if (λ n. nat_le 1 n) (bytes_eq piece (codes "rec[-" ++ digits ++ codes "]")) (option_and_then (λ k. if k == 0 then None else Some k) (number_of digits)) None
+    (passes-then (λ n. true) (λ n. nat_le 1 n) (λ k. if k == 0 then None else Some k) (number_of digits) (passes-all (number_of digits)) (λ k h. not_zero k))
     refl
 
 target_written : (piece : List ℕ) → passes target_is_written (target_of piece) ≡ true

@@ -22,3 +22,4 @@ pub mod Products
 pub mod Offsets
 pub mod Judged
 pub mod Rows
+pub mod Brackets

@@ -3,13 +3,14 @@
 -- and a number, and may have a `!` before it. A `*` joins the Pauli targets beside it into one product. Targets stand
 -- between blanks; those around a `*` may be left out.
 -- (Stim's circuit format, github.com/quantumlib/Stim, doc/file_format_stim_circuit.md, "Target Types".)
-use Rattle.std.specs.Prelude.{ℕ, ◌==◌, ◌-◌, nat_le, Bool, true, false, ◌&&◌, ◌||◌, if◌then◌else◌, List, [], ◌∷◌, length, take, drop, Option, None, Some, option_map, option_and_then, codes, bytes_eq, slice_index, slice_range}
+use Rattle.std.specs.Prelude.{ℕ, ◌==◌, ◌-◌, Bool, true, false, ◌&&◌, if◌then◌else◌, List, [], ◌∷◌, ◌++◌, length, Option, None, Some, option_map, option_and_then, codes, bytes_eq, slice_range}
 use Rattle.std.specs.Option.{option_or}
 use Rattle.pauli_word.specs.declared.letter.Letter.{Letter}
 use Rattle.pauli_word.specs.declared.letter.Letter.TheVariants as letter
 use Rattle.stim_lexer.specs.Bytes.{is_empty}
 use Rattle.stim_parser.specs.declared.target.Target.{Target}
 use Rattle.stim_parser.specs.declared.target.Target.TheVariants.{Plain, Inverted, Back, Pauli, Star}
+use Rattle.stim_parser.specs.Names.{named_in}
 use Rattle.stim_parser.specs.Numbers.{number_of}
 use Rattle.stim_parser.specs.Pieces.{is_star, pieces_of}
 
@@ -20,29 +21,19 @@ each_of f (x ∷ xs) = option_and_then (λ y. option_map (λ ys. y ∷ ys) (each
 
 -- ---- a record
 
--- what stands before a `]` at the end
-abbrev pub before_bracket : List ℕ → Option (List ℕ)
-before_bracket text =
-    if nat_le 1 (length text) && slice_index text (length text - 1) == 93
-    then Some (slice_range text 0 (length text - 1))
-    else None
-
--- a number that isn't 0
-abbrev pub at_least_one : List ℕ → Option ℕ
-at_least_one digits = option_and_then (λ k. if k == 0 then None else Some k) (number_of digits)
-
+-- the number of `rec[-k]`, which isn't 0
 abbrev pub record_of : List ℕ → Option ℕ
 record_of piece =
-    if bytes_eq (take 5 piece) (codes "rec[-") then option_and_then at_least_one (before_bracket (drop 5 piece)) else None
+    let digits = slice_range piece 5 (length piece - 1) in
+    if bytes_eq piece (codes "rec[-" ++ digits ++ codes "]")
+    then option_and_then (λ k. if k == 0 then None else Some k) (number_of digits)
+    else None
 
 -- ---- a Pauli target
 
 -- the letter that a byte writes, in either case
 abbrev pub letter_of : ℕ → Option Letter
-letter_of b =
-    if b == 88 || b == 120 then Some letter.X
-    else
-    (if b == 89 || b == 121 then Some letter.Y else (if b == 90 || b == 122 then Some letter.Z else None))
+letter_of b = named_in ((codes "X", letter.X) ∷ (codes "Y", letter.Y) ∷ (codes "Z", letter.Z) ∷ []) (b ∷ [])
 
 -- a letter and its qubit
 abbrev pub pauli_of : Bool → List ℕ → Option Target

@@ -1,5 +1,6 @@
 ghost use Rattle.std.specs.Prelude.{◌≡◌, None, Some, option_map, IfOk, MatchBool};
-ghost use Rattle.stim_parser.specs.Targets.{at_least_one, before_bracket, inverted_of, letter_of, marked_of, pauli_of, record_of, target_of, targets_in};
+ghost use Rattle.stim_parser.specs.Brackets.{at_least_one, before_bracket};
+ghost use Rattle.stim_parser.specs.Targets.{inverted_of, letter_of, marked_of, pauli_of, record_of, target_of, targets_in};
 
 use crate::digits::number_of;
 use crate::halved::Number;
@@ -43,6 +44,7 @@ fn at_least_one(digits: &[u8]) -> Option<u64>
 }
 
 /// How far back the record of a piece `rec[-k]` lies.
+#[tactic(auto, using(crate::proofs::BracketLemmas::record_parts))]
 fn record_of(piece: &[u8]) -> Option<u64>
     ensures { result ≡ record_of piece.now }
 {
