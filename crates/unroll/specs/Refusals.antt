@@ -1,7 +1,8 @@
 -- Which circuits have no program. First, those with a record target that reaches back before the first record; the
--- refusal names the first line that has one, of the lines as they are reached. Then, for the whole circuit: more than 8,000,000 records or collapses (the projective measurements in measurements and resets); the first
--- line that names an observable above 1,023; more than 1,000,000 detectors; more than 64,000,000 steps. (`rec[-k]` is
--- Stim's, github.com/quantumlib/Stim, doc/file_format_stim_circuit.md; the limits are this project's.)
+-- refusal names the first line that has one, of the lines as they are reached. Then, for the whole circuit: more than
+-- 8,000,000 records or collapses (the projective measurements in measurements and resets); the first line that names an
+-- observable above 1,023; more than 1,000,000 detectors; more than 64,000,000 steps. (`rec[-k]` is Stim's,
+-- github.com/quantumlib/Stim, doc/file_format_stim_circuit.md; the limits are this project's.)
 use Rattle.std.specs.Prelude.{ℕ, nat_lt, Bool, false, ◌||◌, if◌then◌else◌, List, [], ◌∷◌, length, slice_get, Option, None, Some, option_map}
 use Rattle.std.specs.List.{list_any}
 use Rattle.std.specs.Option.{option_or}
