@@ -11,7 +11,7 @@ use Rattle.pauli_word.specs.Words.{letters_product}
 use Rattle.pauli_word.proofs.BitWords.{length-letters_of, letters_of-set_bits, letter_at-letters_of}
 use Rattle.pauli_word.proofs.LetterTests.{each_letter, at_letter, each_two_letters, at_two_letters, same_letter, same_letter-true}
 use Rattle.pauli_word.proofs.Parities.{exclusive_or-false, exclusive_or_assoc, same_truth, same_truth-true, each_two_truths, at_two_truths, each_four_truths, at_four_truths}
-use Rattle.backward.specs.Transposed.{combined, xor_where, flipped_where, times_at}
+use Rattle.backward.specs.private.Transposed.{combined, xor_where, flipped_where, times_at}
 
 pub xor_where-false : (p q : List Bool) → xor_where false p q ≡ p
 xor_where-false [] q = refl

@@ -9,7 +9,7 @@ use Rattle.pauli_word.specs.Letters.{letter_product}
 use Rattle.pauli_word.specs.Words.{letter_at}
 use Rattle.pauli_word.proofs.LetterLaws.{letter_product-I, letter_product_comm}
 use Rattle.backward.specs.Tracked.{each_word, undone_two}
-use Rattle.backward.specs.Transposed.{combined, exchanged_at, exchanged_columns, tracked_of}
+use Rattle.backward.specs.private.Transposed.{combined, exchanged_at, exchanged_columns, tracked_of}
 use Rattle.backward.proofs.TransposedLemmas.{image2_combined, tracked_set_two}
 
 -- ---- lists

@@ -10,7 +10,7 @@ use Rattle.step_model.specs.Listing.{Listing}
 use Rattle.step_model.specs.Sensitivities.{place_of, after_or_start, latest_place, lowest_X_or_Y}
 use Rattle.step_model.specs.Targets.{targets_of, target_at}
 use Rattle.step_model.specs.WellFormed.{IsWellFormed, collapse_count}
-use Rattle.backward.specs.Passes.{sensitivity_before, latest_before, lowest_below, IsPassed, listing_sets}
+use Rattle.backward.specs.private.Passes.{sensitivity_before, latest_before, lowest_below, IsPassed, listing_sets}
 use Rattle.backward.specs.Places.{place_from, NoneIsRandom, IsLowestRandom}
 use Rattle.backward.specs.Tracked.{Tracked, fresh}
 use Rattle.backward.proofs.PassPlaces.{lowest_below-all, latest_before-none}

@@ -11,11 +11,11 @@ use Rattle.pauli_word.specs.Parity.{exclusive_or}
 use Rattle.pauli_word.proofs.Parities.{exclusive_or-false}
 use Rattle.step_model.specs.Targets.{is_listed}
 use Rattle.backward.specs.declared.record_lists.Link.{Link}
-use Rattle.backward.specs.Collapses.{toggled_each}
-use Rattle.backward.specs.Links.{no_link, chain, list_at, rows_at, LeadBack, AreLists, Falls, IsGrown, IsPutAt, put_before}
-use Rattle.backward.specs.Sets.{DescendsBelow, row_of_set}
+use Rattle.backward.specs.private.Collapses.{toggled_each}
+use Rattle.backward.specs.private.Links.{no_link, chain, list_at, rows_at, LeadBack, AreLists, Falls, IsGrown, IsPutAt, put_before}
+use Rattle.backward.specs.private.Sets.{DescendsBelow, row_of_set}
 use Rattle.backward.proofs.PassSets.{length-toggled_each, toggled_each_at}
-use Rattle.backward.specs.TargetSets.{members}
+use Rattle.backward.specs.private.TargetSets.{members}
 use Rattle.backward.proofs.RangeLemmas.{listed_in_range}
 use Rattle.backward.proofs.SetLemmas.{row_of_no_set, row_of_more, length-row_of_set, get_or-row_of_set}
 

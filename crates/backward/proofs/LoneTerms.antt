@@ -15,7 +15,7 @@ use Rattle.pauli_word.specs.Words.{anticommute, letter_at}
 use Rattle.pauli_word.proofs.Parities.{exclusive_or-false}
 use Rattle.step_model.specs.declared.step.Term.{Term}
 use Rattle.step_model.specs.Listing.{word_of_terms}
-use Rattle.backward.specs.Transposed.{word_at}
+use Rattle.backward.specs.private.Transposed.{word_at}
 use Rattle.backward.proofs.TransposedLemmas.{clash_more, clash_none, clash_rows, get_or-xor_rows, length-xor_rows}
 
 clash_X : (c d : Bool) → d ≡ letters_clash X (letter_of c d)

@@ -13,7 +13,7 @@ use Rattle.pauli_word.proofs.LetterLaws.{letter_product-I, letter_product_comm}
 use Rattle.pauli_word.proofs.LetterTests.{each_four_letters, at_four_letters, same_letter, same_letter-true}
 use Rattle.pauli_word.proofs.WordPlaces.{letter_at-product}
 use Rattle.backward.specs.Tracked.{Tracked, each_word, undone_two}
-use Rattle.backward.specs.Transposed.{combined, multiplied_at, tracked_of}
+use Rattle.backward.specs.private.Transposed.{combined, multiplied_at, tracked_of}
 use Rattle.backward.proofs.TransposedLemmas.{image2_combined, tracked_set_two}
 
 -- ---- letters

@@ -10,7 +10,7 @@ use Rattle.programs.specs.declared.entries.ChanceTable.{ChanceTable}
 use Rattle.chances.specs.declared.table.ChanceText.{ChanceText}
 use Rattle.dem_text.specs.ErrorLines.{text_at, KeepsTexts}
 use Rattle.dem_text.specs.HeldText.{Held}
-use Rattle.backward.specs.Numbered.{AreNumbers, IsTextFor}
+use Rattle.backward.specs.private.Numbered.{AreNumbers, IsTextFor}
 
 abbrev Names : List ChanceText → List (List ℕ) → ChanceText → ℕ → ℕ → Type 0
 Names parts texts other k n = (n < length texts) × (text_at texts n ≡ (get_or parts k other).text.now)

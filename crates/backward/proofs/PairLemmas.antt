@@ -5,7 +5,7 @@ use Rattle.std.proofs.lemmas.List.{get_or-take, get_or-drop, get_or_default, set
 use Rattle.std.proofs.lemmas.List.Elements.{All-set}
 use Rattle.pauli_word.specs.declared.letter.Letter.{Letter}
 use Rattle.pauli_word.specs.Words.{letters_product}
-use Rattle.backward.specs.Transposed.{combined, multiplied_columns}
+use Rattle.backward.specs.private.Transposed.{combined, multiplied_columns}
 
 -- two places of a list, of which the first stands in the front and the second starts the back
 pub parts_set : {X : Type 0} (l : List X) (a b : ℕ) (x y : X) → a < b → b < length l → set (take b l) a x ++ set (drop b l) 0 y ≡ set (set l a x) b y

@@ -17,9 +17,9 @@ use Rattle.step_model.specs.Listing.{Listing, ListedStep, One, Two, Collapse, Fa
 use Rattle.step_model.specs.Sensitivities.{Sensitivity, sensitivity}
 use Rattle.step_model.specs.Targets.{targets_of, target_at, is_listed}
 use Rattle.step_model.specs.WellFormed.{IsWellFormed, faults_named, step_faults}
-use Rattle.backward.specs.Collapses.{members_at}
-use Rattle.backward.specs.Passes.{sensitivity_before, tracked_before, listing_set, listing_sets, line_for, hit_at, line_at, lines_found}
-use Rattle.backward.specs.TargetSets.{members}
+use Rattle.backward.specs.private.Collapses.{members_at}
+use Rattle.backward.specs.private.Passes.{sensitivity_before, tracked_before, listing_set, listing_sets, line_for, hit_at, line_at, lines_found}
+use Rattle.backward.specs.private.TargetSets.{members}
 use Rattle.backward.specs.Tracked.{anticommuting}
 use Rattle.backward.proofs.PassWords.{words_count, words_at}
 use Rattle.backward.proofs.RangeLemmas.{filter_range_agree}

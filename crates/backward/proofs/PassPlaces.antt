@@ -16,8 +16,8 @@ use Rattle.step_model.specs.Listing.{Listing, ListedStep, Collapse, Measured, Re
 use Rattle.step_model.specs.Sensitivities.{later_or_here, latest_place, has_X_or_Y, lowest_X_or_Y}
 use Rattle.step_model.specs.Targets.{targets_of, target_at}
 use Rattle.step_model.specs.WellFormed.{step_fits}
-use Rattle.backward.specs.Collapses.{or_where, noted}
-use Rattle.backward.specs.Passes.{sensitivity_before, tracked_before, latest_before, lowest_below}
+use Rattle.backward.specs.private.Collapses.{or_where, noted}
+use Rattle.backward.specs.private.Passes.{sensitivity_before, tracked_before, latest_before, lowest_below}
 use Rattle.backward.specs.Tracked.{Tracked, is_among, anticommuting}
 use Rattle.backward.proofs.PassLines.{anticommuting-before}
 use Rattle.step_model.proofs.RangeLemmas.{among_range}

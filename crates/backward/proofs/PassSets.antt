@@ -11,9 +11,9 @@ use Rattle.pauli_word.specs.Words.{anticommute}
 use Rattle.pauli_word.proofs.Parities.{exclusive_or-false, exclusive_or_assoc, exclusive_or_left_comm}
 use Rattle.step_model.specs.Listing.{Listing, ListedStep, Feedback}
 use Rattle.step_model.specs.Targets.{targets_of, target_at, is_listed}
-use Rattle.backward.specs.Collapses.{toggled, toggled_each}
-use Rattle.backward.specs.Passes.{sensitivity_before, listing_set, listing_sets}
-use Rattle.backward.specs.RecordSets.{toggled_in, toggled_in_each}
+use Rattle.backward.specs.private.Collapses.{toggled, toggled_each}
+use Rattle.backward.specs.private.Passes.{sensitivity_before, listing_set, listing_sets}
+use Rattle.backward.specs.private.RecordSets.{toggled_in, toggled_in_each}
 use Rattle.backward.proofs.RangeLemmas.{listed_in_range, set-map-range, map_agree, map_range_below}
 
 and_same : (a b : Bool) → b ≡ true → a ≡ (a && b)

@@ -21,8 +21,8 @@ use Rattle.programs.specs.declared.step.Step.{Step}
 use Rattle.programs.specs.Listed.{listed, measured, recorded}
 use Rattle.programs.specs.Named.{IsNamed, IsNamedFlip, IsRecord, IsStepOf}
 use Rattle.programs.proofs.NamedFaults.{named_fault}
-use Rattle.backward.specs.Collapses.{IsOfSize, undone_collapse, members_at, noted, toggled_each}
-use Rattle.backward.specs.Passes.{sensitivity_before, listing_sets, line_for, with_line, with_flip, line_at, lines_found, latest_before, IsPassed, HeldOrNoted, IsPassedWith}
+use Rattle.backward.specs.private.Collapses.{IsOfSize, undone_collapse, members_at, noted, toggled_each}
+use Rattle.backward.specs.private.Passes.{sensitivity_before, listing_sets, line_for, with_line, with_flip, line_at, lines_found, latest_before, IsPassed, HeldOrNoted, IsPassedWith}
 use Rattle.backward.specs.Tracked.{Tracked, each_word, undone_one, undone_two, anticommuting}
 use Rattle.backward.proofs.PassLines.{hit_at-collapse, hit_at-fault, anticommuting-before}
 use Rattle.backward.proofs.PassPlaces.{latest_before-collapse, length-latest_before}

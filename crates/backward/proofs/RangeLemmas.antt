@@ -5,7 +5,7 @@ use Rattle.std.specs.List.{range_with_len, list_any}
 use Rattle.std.specs.List.Sorted.{IsStrictlyIncreasing}
 use Rattle.std.proofs.lemmas.List.Elements.{All-weaker, All-filter}
 use Rattle.std.proofs.lemmas.List.Kept.{IsStrictlyIncreasing-filter}
-use Rattle.backward.specs.Collapses.{members_at}
+use Rattle.backward.specs.private.Collapses.{members_at}
 use Rattle.programs.specs.Kept.{KeptProgram}
 use Rattle.programs.specs.Named.{IsRecord}
 use Rattle.std.proofs.lemmas.Bool.{cases_eq, eq-eqb, ne_eqb}
@@ -13,7 +13,7 @@ use Rattle.std.proofs.lemmas.List.{map-id, append-nil}
 use Rattle.pauli_word.specs.Parity.{exclusive_or}
 use Rattle.step_model.specs.Targets.{is_listed}
 use Rattle.step_model.proofs.RangeLemmas.{range_rises, among_range}
-use Rattle.backward.specs.TargetSets.{members}
+use Rattle.backward.specs.private.TargetSets.{members}
 use Rattle.std.proofs.lemmas.List.FromFn.{length-range_with_len, get_or-range_with_len, filter_of_map_range_with_len_more, length-map-range_with_len, get_or-map-range_with_len, fill_by_all}
 
 pub map-map : {X Y Z : Type 0} (f : Y → Z) (h : X → Y) (xs : List X) → map f (map h xs) ≡ map (λ x. f (h x)) xs

@@ -9,8 +9,8 @@ use Rattle.std.proofs.lemmas.List.{drop_all, reverse-append, take-take, take-app
 use Rattle.pauli_word.specs.Parity.{exclusive_or}
 use Rattle.pauli_word.proofs.Parities.{exclusive_or-false, exclusive_or_assoc, exclusive_or_left_comm}
 use Rattle.step_model.specs.Targets.{is_listed}
-use Rattle.backward.specs.Sets.{DescendsBelow, xor_step, xor_sets, row_of_set}
-use Rattle.backward.specs.TargetSets.{members}
+use Rattle.backward.specs.private.Sets.{DescendsBelow, xor_step, xor_sets, row_of_set}
+use Rattle.backward.specs.private.TargetSets.{members}
 use Rattle.bit_rows.specs.Rows.{xor_rows}
 use Rattle.std.proofs.lemmas.List.FromFn.{length-map-range_with_len, get_or-map-range_with_len}
 

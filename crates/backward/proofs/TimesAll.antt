@@ -6,8 +6,8 @@ use Rattle.std.proofs.lemmas.List.{length-replicate}
 use Rattle.pauli_word.specs.Bits.{x_bit, z_bit, letters_of}
 use Rattle.pauli_word.specs.Parity.{exclusive_or}
 use Rattle.pauli_word.proofs.Parities.{exclusive_or-false}
-use Rattle.backward.specs.Collapses.{toggled}
-use Rattle.backward.specs.Transposed.{xor_where, flipped_where, times_at, Multiplies}
+use Rattle.backward.specs.private.Collapses.{toggled}
+use Rattle.backward.specs.private.Transposed.{xor_where, flipped_where, times_at, Multiplies}
 use Rattle.backward.proofs.ColumnLemmas.{flipped_rows}
 use Rattle.backward.proofs.TimesEach.{one_before}
 

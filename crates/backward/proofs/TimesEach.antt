@@ -5,7 +5,7 @@ use Rattle.std.proofs.lemmas.List.{drop_more, get_or-set_other, set_comm}
 use Rattle.pauli_word.specs.declared.letter.Letter.{Letter}
 use Rattle.pauli_word.specs.Letters.{letter_product}
 use Rattle.pauli_word.specs.Words.{letter_at}
-use Rattle.backward.specs.Transposed.{times_at, times_each}
+use Rattle.backward.specs.private.Transposed.{times_at, times_each}
 
 either_first : (letter : Letter) (t u : ℕ) (w : List Letter) → times_at letter t (times_at letter u w) ≡ times_at letter u (times_at letter t w)
 either_first letter t u w =

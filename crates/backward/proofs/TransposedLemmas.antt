@@ -30,7 +30,7 @@ use Rattle.step_model.specs.Listing.{word_of_terms}
 use Rattle.step_model.specs.Sensitivities.{multiplied}
 use Rattle.pauli_word.proofs.LoneLetters.{letters_product-lone_letter}
 use Rattle.backward.specs.Tracked.{Tracked, fresh, each_word, with_I_at, undone_one, undone_two, is_among, added, anticommuting}
-use Rattle.backward.specs.Transposed.{word_at, transposed, tracked_of, combined, times_each}
+use Rattle.backward.specs.private.Transposed.{word_at, transposed, tracked_of, combined, times_each}
 use Rattle.backward.proofs.RangeLemmas.{filter_range_agree, map-map, map_range_below}
 
 abbrev tracked_words : ℕ → List (List Letter) → Tracked

@@ -3,8 +3,8 @@ use Rattle.std.proofs.Common.{◌≡◌, ◌≢◌, ℕ, ◌<◌, ◌==◌, Bool
 use Rattle.std.specs.Prelude.{All}
 use Rattle.std.proofs.lemmas.Bool.{eq-eqb, ne_eqb}
 use Rattle.step_model.specs.ErrorModels.{ErrorLine}
-use Rattle.backward.specs.Collapses.{or_where, noted}
-use Rattle.backward.specs.Passes.{IsNoted, HeldOrNoted}
+use Rattle.backward.specs.private.Collapses.{or_where, noted}
+use Rattle.backward.specs.private.Passes.{IsNoted, HeldOrNoted}
 use Rattle.backward.specs.Places.{place_from}
 use Rattle.backward.specs.Tracked.{is_among}
 use Rattle.backward.proofs.PassPlaces.{length-noted, noted_at}

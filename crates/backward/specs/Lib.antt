@@ -1,10 +1,3 @@
-pub mod Collapses
-pub mod Links
-pub mod Numbered
-pub mod Passes
 pub mod Places
-pub mod RecordSets
-pub mod Sets
-pub mod TargetSets
 pub mod Tracked
-pub mod Transposed
+pub mod private

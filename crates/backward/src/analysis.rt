@@ -2,7 +2,7 @@ ghost use Rattle.std.specs.Prelude.{◌≡◌, [], length, reverse, IfOk, IfErr,
 ghost use Rattle.step_model.specs.Faults.{memory_fault};
 ghost use Rattle.step_model.specs.HitModels.{model_of};
 ghost use Rattle.step_model.specs.Targets.{targets_of};
-ghost use Rattle.backward.specs.Passes.{IsPassedWith, lines_found};
+ghost use Rattle.backward.specs.private.Passes.{IsPassedWith, lines_found};
 ghost use Rattle.backward.specs.Places.{IsAnalysed, IsAnalysedText, IsLowestRandom, NoneIsRandom};
 ghost use Rattle.backward.specs.Tracked.{fresh};
 

@@ -1,7 +1,7 @@
 //! Taking the words back over a collapse, which is the projective measurement inside a measurement or a reset.
 ghost use Rattle.std.specs.Prelude.{◌≡◌, ◌<◌, length, All, OnOk, IfSome};
 ghost use Rattle.std.specs.List.Sorted.{IsStrictlyIncreasing};
-ghost use Rattle.backward.specs.Collapses.{times_terms, reset_at, undone_collapse};
+ghost use Rattle.backward.specs.private.Collapses.{times_terms, reset_at, undone_collapse};
 
 use crate::tracker::Tracker;
 use std::alloc::AllocError;

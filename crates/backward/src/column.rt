@@ -4,8 +4,8 @@ ghost use Rattle.pauli_word.specs.Bits.{x_bit, z_bit, letters_of};
 ghost use Rattle.pauli_word.specs.declared.letter.Letter.TheVariants.{I, X, Y, Z};
 ghost use Rattle.pauli_word.specs.Letters.{letters_clash};
 ghost use Rattle.pauli_word.specs.Words.{letters_product, no_letters};
-ghost use Rattle.backward.specs.TargetSets.{members};
-ghost use Rattle.backward.specs.Transposed.{combined, xor_where, times_each, times_at, flipped_where, Multiplies};
+ghost use Rattle.backward.specs.private.TargetSets.{members};
+ghost use Rattle.backward.specs.private.Transposed.{combined, xor_where, times_each, times_at, flipped_where, Multiplies};
 
 use crate::target_set::TargetSet;
 use pauli_word::Letter;

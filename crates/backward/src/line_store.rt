@@ -3,7 +3,7 @@ ghost use Rattle.std.specs.Prelude.{◌≡◌, ◌<◌, ◌++◌, ◌∷◌, [],
 ghost use Rattle.step_model.specs.ErrorModels.{ErrorLine};
 ghost use Rattle.programs.specs.Kept.{KeptProgram, kept_at};
 ghost use Rattle.step_model.specs.Targets.{targets_of};
-ghost use Rattle.backward.specs.Numbered.{AreNumbers, IsTextFor};
+ghost use Rattle.backward.specs.private.Numbered.{AreNumbers, IsTextFor};
 ghost use Rattle.dem_text.specs.HeldText.{HoldsLines};
 
 use crate::targets::target_count;

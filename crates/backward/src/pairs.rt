@@ -2,7 +2,7 @@
 ghost use Rattle.std.specs.Prelude.{◌≡◌, ◌≢◌, ◌<◌, [], length, All, OnOk, slice_index_or};
 ghost use Rattle.gate_table.specs.Images.{arity_of};
 ghost use Rattle.pauli_word.specs.declared.letter.Letter.TheVariants.{I};
-ghost use Rattle.backward.specs.Transposed.{combined, exchanged_columns, first_before, multiplied_columns, second_before};
+ghost use Rattle.backward.specs.private.Transposed.{combined, exchanged_columns, first_before, multiplied_columns, second_before};
 
 use crate::column::{Column, multiply_both};
 use crate::target_set::TargetSet;

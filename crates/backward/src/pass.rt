@@ -4,8 +4,8 @@ ghost use Rattle.step_model.specs.ErrorModels.{ErrorLine};
 ghost use Rattle.programs.specs.Kept.{kept_at};
 ghost use Rattle.step_model.specs.Targets.{targets_of};
 ghost use Rattle.programs.specs.Named.{IsRecord, IsNamedFlip};
-ghost use Rattle.backward.specs.Collapses.{IsOfSize, undone_collapse, members_at, noted, toggled_each};
-ghost use Rattle.backward.specs.Passes.{HeldOrNoted, IsPassedWith, with_line, with_flip};
+ghost use Rattle.backward.specs.private.Collapses.{IsOfSize, undone_collapse, members_at, noted, toggled_each};
+ghost use Rattle.backward.specs.private.Passes.{HeldOrNoted, IsPassedWith, with_line, with_flip};
 ghost use Rattle.backward.specs.Tracked.{anticommuting};
 
 use crate::collapse::undo_collapse;

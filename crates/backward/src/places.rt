@@ -1,8 +1,8 @@
 //! Where targets are random.
 ghost use Rattle.std.specs.Prelude.{◌≡◌, ◌<◌, ◌≤◌, ◌^◌, ℕ, true, length, replicate, All, IfOk, OnOk, IfSome, IfNone, slice_index_or};
 ghost use Rattle.step_model.specs.Targets.{targets_of};
-ghost use Rattle.backward.specs.Collapses.{noted, or_where};
-ghost use Rattle.backward.specs.Passes.{tracked_before, lowest_below};
+ghost use Rattle.backward.specs.private.Collapses.{noted, or_where};
+ghost use Rattle.backward.specs.private.Passes.{tracked_before, lowest_below};
 ghost use Rattle.backward.specs.Places.{place_from};
 
 use crate::targets::target_count;

@@ -1,11 +1,11 @@
 //! For each record the targets that list it, as linked lists: most records have none or few.
 ghost use Rattle.std.specs.Prelude.{◌≡◌, ◌<◌, ◌≤◌, ◌+◌, ◌∷◌, ◌^◌, ℕ, [], true, false, length, replicate, sum_by, slice_index_or, slice_set, All, IfOk, OnOk};
 ghost use Rattle.step_model.specs.Targets.{targets_of};
-ghost use Rattle.backward.specs.Collapses.{toggled_each};
-ghost use Rattle.backward.specs.Links.{list_at, rows_at, LeadBack, AreLists, Falls, IsGrown, IsPutAt};
-ghost use Rattle.backward.specs.Passes.{listing_sets};
-ghost use Rattle.backward.specs.RecordSets.{toggled_in_each};
-ghost use Rattle.backward.specs.TargetSets.{members};
+ghost use Rattle.backward.specs.private.Collapses.{toggled_each};
+ghost use Rattle.backward.specs.private.Links.{list_at, rows_at, LeadBack, AreLists, Falls, IsGrown, IsPutAt};
+ghost use Rattle.backward.specs.private.Passes.{listing_sets};
+ghost use Rattle.backward.specs.private.RecordSets.{toggled_in_each};
+ghost use Rattle.backward.specs.private.TargetSets.{members};
 
 use crate::sparse_set::SparseSet;
 use crate::target_set::{TargetSet, toggle_each};
@@ -38,7 +38,7 @@ pub(crate) struct RecordLists<'s, A: Allocator + Copy> {
 
 impl<'s, A: Allocator + Copy> Model for RecordLists<'s, A> {
     ghost use Rattle.std.specs.Prelude.{List, Bool};
-    ghost use Rattle.backward.specs.Links.{rows_at, AreLists};
+    ghost use Rattle.backward.specs.private.Links.{rows_at, AreLists};
 
     ghost Value = { List (List Bool) };
 

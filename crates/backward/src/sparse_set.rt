@@ -1,6 +1,6 @@
 //! A set of targets as the list of those in it.
 ghost use Rattle.std.specs.Prelude.{◌≡◌, ◌<◌, ◌≤◌, ◌+◌, ◌-◌, ◌∷◌, ◌++◌, [], ℕ, take, true, false, insert, length, replicate, reverse, slice_index, IfOk, OnOk, OnErr};
-ghost use Rattle.backward.specs.Sets.{xor_sets, DescendsBelow};
+ghost use Rattle.backward.specs.private.Sets.{xor_sets, DescendsBelow};
 
 use crate::target_set::TargetSet;
 use smallvec::SmallVec;
@@ -24,7 +24,7 @@ pub struct SparseSet<'a, A: Allocator + Copy> {
 
 impl<'a, A: Allocator + Copy> Model for SparseSet<'a, A> {
     ghost use Rattle.std.specs.Prelude.{List, Bool};
-    ghost use Rattle.backward.specs.Sets.{row_of_set, DescendsBelow};
+    ghost use Rattle.backward.specs.private.Sets.{row_of_set, DescendsBelow};
 
     ghost Value = { List Bool };
 

@@ -2,8 +2,8 @@
 ghost use Rattle.std.specs.Prelude.{◌≡◌, ◌<◌, ◌≤◌, ◌^◌, false, true, not, length, filter, replicate, All, IfOk, OnOk, List, Bool, slice_index_or, slice_set};
 ghost use Rattle.std.specs.List.{range_with_len};
 ghost use Rattle.bit_rows.specs.Rows.{xor_rows};
-ghost use Rattle.backward.specs.Collapses.{toggled_each};
-ghost use Rattle.backward.specs.TargetSets.{members};
+ghost use Rattle.backward.specs.private.Collapses.{toggled_each};
+ghost use Rattle.backward.specs.private.TargetSets.{members};
 
 use bit_rows::BitRow;
 use std::alloc::{AllocError, Allocator};

@@ -6,8 +6,8 @@ ghost use Rattle.pauli_word.specs.Words.{anticommute};
 ghost use Rattle.step_model.specs.Listing.{word_of_terms};
 ghost use Rattle.step_model.specs.Targets.{targets_of};
 ghost use Rattle.backward.specs.Tracked.{anticommuting, each_word, fresh, undone_two};
-ghost use Rattle.backward.specs.TargetSets.{members};
-ghost use Rattle.backward.specs.Transposed.{combined, exchanged_at, multiplied_at, word_at};
+ghost use Rattle.backward.specs.private.TargetSets.{members};
+ghost use Rattle.backward.specs.private.Transposed.{combined, exchanged_at, multiplied_at, word_at};
 
 use crate::column::{Column, is_kept, is_left, is_lost, is_y};
 use crate::pairs::{exchange_pair, image_pair, multiply_pair};
@@ -44,7 +44,7 @@ pub type QubitSets<'a, A> = Words<SparseSet<'a, A>, A>;
 
 impl<S: TargetSet, A: Allocator + Copy> Model for Words<S, A> {
     ghost use Rattle.backward.specs.Tracked.{Tracked};
-    ghost use Rattle.backward.specs.Transposed.{tracked_of, IsTransposed};
+    ghost use Rattle.backward.specs.private.Transposed.{tracked_of, IsTransposed};
 
     ghost Value = { Tracked };
 

@@ -19,7 +19,7 @@ use Rattle.run_laws.proofs.ShiftLists.{get_or-zeros}
 use Rattle.run_laws.proofs.ShiftWords.{anticommute-none}
 use Rattle.forward_sim.specs.References.{AreEntries, IsEntry, IsReferenceOf, ReferenceRun}
 use Rattle.forward_sim.proofs.RunRecords.{length-run_from}
-use Rattle.batch.specs.Followed.{Turns, TurnsAt, followed}
+use Rattle.batch.specs.private.Followed.{Turns, TurnsAt, followed}
 use Rattle.batch.specs.LaneFrames.{LaneFrames, GoesTo, frame_in}
 use Rattle.batch.proofs.FollowLaw.{Differ, collapse-decided, collapse-random, other-step}
 

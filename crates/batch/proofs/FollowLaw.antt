@@ -21,7 +21,7 @@ use Rattle.run_laws.proofs.PairRuns.{with_coins, same-collapse}
 use Rattle.run_laws.proofs.ShiftCollapse.{is_decided-shifted}
 use Rattle.run_laws.proofs.ShiftSteps.{anticommute-multiplied, next-differ}
 use Rattle.run_laws.proofs.ShiftedWords.{frame_product}
-use Rattle.batch.specs.Followed.{turned, followed}
+use Rattle.batch.specs.private.Followed.{turned, followed}
 
 -- two runs between two steps, whatever their coins to come, differ by a frame
 pub record Differ (n : ℕ) (v : Frame) (m m' : RunState) : Type 0 where

@@ -14,7 +14,7 @@ use Rattle.step_model.specs.Frames.{Frame}
 use Rattle.step_model.specs.Listing.{Listing, Collapse, Measured, measured_word, step_records}
 use Rattle.step_model.specs.Runs.{flip_happens}
 use Rattle.step_model.specs.Sensitivities.{cleared}
-use Rattle.batch.specs.Followed.{Turns, followed, turned, turned_where}
+use Rattle.batch.specs.private.Followed.{Turns, followed, turned, turned_where}
 use Rattle.batch.specs.LaneFrames.{LaneFrames, frame_in, GoesTo, with_record}
 use Rattle.batch.specs.LaneLetters.{word_in}
 use Rattle.batch.proofs.FollowLaw.{turned-flip}

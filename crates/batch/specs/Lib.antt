@@ -1,4 +1,4 @@
 pub mod Batches
-pub mod Followed
 pub mod LaneFrames
 pub mod LaneLetters
+pub mod private

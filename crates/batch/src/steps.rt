@@ -8,7 +8,7 @@ ghost use Rattle.step_model.specs.Listing.{word_of_terms, step_records};
 ghost use Rattle.step_model.specs.Runs.{flip_happens};
 ghost use Rattle.step_model.specs.Sensitivities.{cleared};
 ghost use Rattle.step_model.specs.WellFormed.{TermsFit};
-ghost use Rattle.batch.specs.Followed.{TurnsAt, Turns, followed, terms_of, terms_or_none, turned, turned_where};
+ghost use Rattle.batch.specs.private.Followed.{TurnsAt, Turns, followed, terms_of, terms_or_none, turned, turned_where};
 ghost use Rattle.batch.specs.LaneFrames.{GoesTo, frame_in};
 
 use crate::frames::Frames;

@@ -7,9 +7,9 @@ use Rattle.std.proofs.lemmas.Bool.{cases_eq, eq-eqb, ne_eqb}
 use Rattle.std.proofs.lemmas.Nat.{ones_cat, ones_le_self, zero_from_ones, shr_below, one_shl}
 use Rattle.std.proofs.lemmas.Nat.Bits.{bit_at-lt, bit_at_and, bit_at_or, bit_at_not, bit_at_xor, bit_at-suc, bit_at_lowest, bit_at-pow_same, bit_at-pow_other, bit_at_set_same, bit_at_set_other, bit_at_clear_same, bit_at_clear_other, bit_at-zero, same_from_bits_below, shr_and_one, bit_at-trailing_zeros}
 use Rattle.bit_rows.specs.Rows.{exclusive_or}
-use Rattle.bit_rows.specs.Totals.{total}
-use Rattle.bit_rows.specs.Words.{bit_of}
-use Rattle.bit_rows.specs.WordTotals.{value, word_ones}
+use Rattle.bit_rows.specs.private.Totals.{total}
+use Rattle.bit_rows.specs.private.Words.{bit_of}
+use Rattle.bit_rows.specs.private.WordTotals.{value, word_ones}
 use Rattle.bit_rows.proofs.Sums.{total_same, total_first, total_le}
 
 bit_value : (a : ℕ) → a < 2 → a ≡ value (eqb a 1)

@@ -7,9 +7,9 @@ use Rattle.std.proofs.lemmas.List.{get_or_past}
 use Rattle.std.proofs.lemmas.Nat.{le_or_l, le_or_r}
 use Rattle.std.proofs.lemmas.Simd.{length-chunk, length-zip2, get_or-zip2, get_or-put_chunk_at}
 use Rattle.bit_rows.specs.Rows.{letter_phase}
-use Rattle.bit_rows.specs.Spans.{XorsWithin}
-use Rattle.bit_rows.specs.Words.{bit_of}
-use Rattle.bit_rows.specs.WordTotals.{word_phase, words_phase, carried}
+use Rattle.bit_rows.specs.private.Spans.{XorsWithin}
+use Rattle.bit_rows.specs.private.Words.{bit_of}
+use Rattle.bit_rows.specs.private.WordTotals.{word_phase, words_phase, carried}
 use Rattle.bit_rows.proofs.BitLaws.{bit_of-zero}
 use Rattle.bit_rows.proofs.Carries.{words_phase-zero, carried-zero}
 use Rattle.bit_rows.proofs.Sums.{total_none}

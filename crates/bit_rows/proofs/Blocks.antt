@@ -3,7 +3,7 @@ use Rattle.std.proofs.Common.{◌≡◌, ℕ, ◌+◌, ◌<◌, ◌≤◌, List,
 use Rattle.std.specs.Simd.Lanes.{zip2, chunk, put_chunk}
 use Rattle.std.proofs.lemmas.Bool.{cases_lt}
 use Rattle.std.proofs.lemmas.Simd.{length-chunk, get_or-chunk, length-zip2, get_or-zip2, get_or-put_chunk_below, get_or-put_chunk_at, get_or-put_chunk_above}
-use Rattle.bit_rows.specs.Spans.{XorsWithin}
+use Rattle.bit_rows.specs.private.Spans.{XorsWithin}
 
 -- ---- spans of words
 pub XorsWithin-none : (first second : List ℕ) (low : ℕ) → XorsWithin first second first low low

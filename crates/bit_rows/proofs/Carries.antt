@@ -6,9 +6,9 @@ use Rattle.std.specs.Simd.Lanes.{zip2, chunk, fold_l}
 use Rattle.std.proofs.lemmas.Bool.{and_parts, eqb-true}
 use Rattle.std.proofs.lemmas.Simd.{length-chunk, get_or-chunk, length-zip2, get_or-zip2}
 use Rattle.bit_rows.specs.Rows.{exclusive_or, letter_phase}
-use Rattle.bit_rows.specs.Totals.{total}
-use Rattle.bit_rows.specs.Words.{bit_of}
-use Rattle.bit_rows.specs.WordTotals.{value, word_ones, ones_of, word_common, common_ones, word_phase, words_phase, carried}
+use Rattle.bit_rows.specs.private.Totals.{total}
+use Rattle.bit_rows.specs.private.Words.{bit_of}
+use Rattle.bit_rows.specs.private.WordTotals.{value, word_ones, ones_of, word_common, common_ones, word_phase, words_phase, carried}
 use Rattle.bit_rows.proofs.BitLaws.{bit_of-xor, bit_of-and, bit_of-zero, ones_by_bits, word_ones_le}
 use Rattle.bit_rows.proofs.Sums.{same_remainder_add, total_same_remainder, total-add, total-twice, total_none, total_first, total-split}
 use Rattle.bit_rows.proofs.Places.{zeros_everywhere}

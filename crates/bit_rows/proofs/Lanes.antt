@@ -2,8 +2,8 @@
 use Rattle.std.proofs.Common.{◌≡◌, ℕ, ◌+◌, ◌%◌, ◌<◌, ◌≤◌, List, length, get_or, replicate, refl, sym, ap, ◌∙◌, arith, bit_and, bit_xor, add-one}
 use Rattle.std.specs.Simd.Lanes.{zip2, chunk}
 use Rattle.std.proofs.lemmas.Simd.{length-chunk, get_or-chunk, length-zip2, get_or-zip2}
-use Rattle.bit_rows.specs.Totals.{total}
-use Rattle.bit_rows.specs.WordTotals.{word_phase, words_phase, carried, carried_by}
+use Rattle.bit_rows.specs.private.Totals.{total}
+use Rattle.bit_rows.specs.private.WordTotals.{word_phase, words_phase, carried, carried_by}
 use Rattle.bit_rows.proofs.Carries.{carried-step, carried-zero}
 use Rattle.bit_rows.proofs.Places.{zeros_everywhere}
 use Rattle.bit_rows.proofs.Sums.{same_remainder_add, total_same_remainder, total-add, total_none, total-split}

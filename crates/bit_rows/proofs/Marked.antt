@@ -1,10 +1,10 @@
 -- Marks of blocks of words: what a mark that isn't set says of the words, and what keeps marks true.
 use Rattle.std.proofs.Common.{◌≡◌, ◌≢◌, ◌⊎◌, ℕ, ◌+◌, ◌*◌, ◌/◌, ◌%◌, ◌^◌, ◌<◌, ◌≤◌, Bool, true, false, not, cond, eqb, ◌&&◌, ◌||◌, List, get_or, replicate, refl, sym, ap, ap₂, ◌∙◌, arith, subst, ⊎_elim, inl, inr, bit_xor}
 use Rattle.std.proofs.lemmas.Bool.{cases_eq, eq-eqb, ne_eqb}
-use Rattle.bit_rows.specs.Marks.{MarksOnes, BlanksBelow}
+use Rattle.bit_rows.specs.private.Marks.{MarksOnes, BlanksBelow}
 use Rattle.bit_rows.specs.Rows.{exclusive_or}
-use Rattle.bit_rows.specs.Spans.{XorsWithin}
-use Rattle.bit_rows.specs.Words.{bit_of, bit_in}
+use Rattle.bit_rows.specs.private.Spans.{XorsWithin}
+use Rattle.bit_rows.specs.private.Words.{bit_of, bit_in}
 use Rattle.bit_rows.proofs.BitLaws.{bit_of-zero, zero_from_bits}
 use Rattle.bit_rows.proofs.Places.{bit_in_is, bit_in_word, bit_in_zeros, bit_in-xor, zeros_everywhere}
 

@@ -10,7 +10,7 @@ use Rattle.std.proofs.lemmas.Nat.{div-mul-add, mod-mul-add}
 use Rattle.std.proofs.lemmas.List.FromFn.{length-map-range_with_len, get_or-map-range_with_len, fill_by_all}
 use Rattle.std.proofs.lemmas.Simd.{length-replicate, get_or-replicate}
 use Rattle.bit_rows.specs.Rows.{exclusive_or, xor_rows, first_one_of}
-use Rattle.bit_rows.specs.Words.{bit_of, bit_in, row_of, words_for, HoldsRow}
+use Rattle.bit_rows.specs.private.Words.{bit_of, bit_in, row_of, words_for, HoldsRow}
 use Rattle.bit_rows.proofs.BitLaws.{bit_of-xor, bit_of-zero, zero_from_bits}
 
 -- ---- the bit at a place

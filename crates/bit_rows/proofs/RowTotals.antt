@@ -3,9 +3,9 @@ use Rattle.std.proofs.Common.{lit<, ◌≡◌, ℕ, zero, suc, ◌+◌, ◌*◌,
 use Rattle.std.specs.List.{range_with_len}
 use Rattle.std.proofs.Math.Nat.{add-mod-mod}
 use Rattle.bit_rows.specs.Rows.{exclusive_or, and_parity_of, letter_phase, phase_sum, phase_of}
-use Rattle.bit_rows.specs.Totals.{total}
-use Rattle.bit_rows.specs.Words.{bit_of, bit_in, row_of, HoldsRow}
-use Rattle.bit_rows.specs.WordTotals.{value, word_common, common_ones, word_phase, words_phase}
+use Rattle.bit_rows.specs.private.Totals.{total}
+use Rattle.bit_rows.specs.private.Words.{bit_of, bit_in, row_of, HoldsRow}
+use Rattle.bit_rows.specs.private.WordTotals.{value, word_common, common_ones, word_phase, words_phase}
 use Rattle.bit_rows.proofs.BitLaws.{sum_of_bits}
 use Rattle.bit_rows.proofs.Places.{bit_in_word}
 use Rattle.bit_rows.proofs.Sums.{total_same, total_first, total-blocks, total_blank}

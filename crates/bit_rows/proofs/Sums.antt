@@ -1,7 +1,7 @@
 -- Laws of sums over the numbers below a bound.
 use Rattle.std.proofs.Common.{◌≡◌, ℕ, zero, suc, ◌+◌, ◌*◌, ◌%◌, ◌<◌, ◌≤◌, ◌-◌, refl, sym, ap, ◌∙◌, arith}
 use Rattle.std.proofs.Math.Nat.{add-mod-mod, mod-add-mod, add-suc, add-zero, suc-mul, zero-mul}
-use Rattle.bit_rows.specs.Totals.{total}
+use Rattle.bit_rows.specs.private.Totals.{total}
 
 -- remainders of sums
 pub same_remainder_add : (m a b c d : ℕ) → a % m ≡ b % m → c % m ≡ d % m → (a + c) % m ≡ (b + d) % m

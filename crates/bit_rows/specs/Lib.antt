@@ -1,6 +1,2 @@
-pub mod Marks
 pub mod Rows
-pub mod Spans
-pub mod Totals
-pub mod Words
-pub mod WordTotals
+pub mod private

@@ -1,6 +1,6 @@
 // The bit at a place of a list of words of 64 bits.
 ghost use Rattle.std.specs.Prelude.{◌≡◌, ◌==◌, ◌↔◌, ℕ, ◌+◌, ◌*◌, ◌/◌, ◌^◌, ◌<◌, ◌≤◌, Bool, true, false, not, if◌then◌else◌, length, IsTrue, IfSome, IfNone};
-ghost use Rattle.bit_rows.specs.Words.{bit_in};
+ghost use Rattle.bit_rows.specs.private.Words.{bit_in};
 
 #[inline(always)]
 pub(crate) fn bit_at_place(words: &[u64], place: usize) -> bool

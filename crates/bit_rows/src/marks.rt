@@ -1,6 +1,6 @@
 // Marks of a list of words: one bit for each of the first 64 blocks of four words, set where the block may have ones.
 ghost use Rattle.std.specs.Prelude.{◌≡◌, ◌==◌, ◌⊎◌, ◌<◌, ℕ, true, false, if◌then◌else◌};
-ghost use Rattle.bit_rows.specs.Words.{bit_of};
+ghost use Rattle.bit_rows.specs.private.Words.{bit_of};
 
 // Whether a block is known to have no ones.
 #[inline(always)]

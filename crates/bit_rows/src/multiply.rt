@@ -2,9 +2,9 @@
 // those of the product, and the power of i is answered. It goes four machine words at a time, so that the carry words
 // stay in registers of 16 bytes, and skips the blocks without marks, in which the second word has no letters.
 ghost use Rattle.std.specs.Prelude.{◌≡◌, ℕ, ◌+◌, ◌*◌, ◌/◌, ◌%◌, ◌<◌, ◌≤◌, true, length, slice_index, bit_xor};
-ghost use Rattle.bit_rows.specs.Marks.{BlanksBelow, MarksOnes};
-ghost use Rattle.bit_rows.specs.Spans.{XorsWithin};
-ghost use Rattle.bit_rows.specs.WordTotals.{carried, word_phase, words_phase};
+ghost use Rattle.bit_rows.specs.private.Marks.{BlanksBelow, MarksOnes};
+ghost use Rattle.bit_rows.specs.private.Spans.{XorsWithin};
+ghost use Rattle.bit_rows.specs.private.WordTotals.{carried, word_phase, words_phase};
 
 use crate::marks::{is_unmarked, mark_where};
 use crate::phase::{carry, carry_block, join_lanes, power_held};

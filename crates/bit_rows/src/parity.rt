@@ -1,7 +1,7 @@
 // Whether two lists of words have an odd number of common ones, eight words at a time.
 ghost use Rattle.std.specs.Prelude.{◌≡◌, ◌==◌, ◌+◌, ◌*◌, ◌/◌, ◌%◌, ◌≤◌, length, bit_and, bit_xor};
 ghost use Rattle.std.specs.Simd.Lanes.{zip2, chunk};
-ghost use Rattle.bit_rows.specs.WordTotals.{common_ones, word_ones};
+ghost use Rattle.bit_rows.specs.private.WordTotals.{common_ones, word_ones};
 
 use std::simd::prelude::*;
 

@@ -1,7 +1,7 @@
 // The power of i of the product of two Pauli words, whose x bits and z bits are lists of machine words, four at a time.
 // Two carry words add the powers modulo 4 at 64 places at once, as Stim does for its products of Pauli strings.
 ghost use Rattle.std.specs.Prelude.{◌≡◌, ℕ, ◌+◌, ◌*◌, ◌/◌, ◌%◌, ◌<◌, ◌≤◌, length, slice_index};
-ghost use Rattle.bit_rows.specs.WordTotals.{carried, carried_by, word_phase, words_phase};
+ghost use Rattle.bit_rows.specs.private.WordTotals.{carried, carried_by, word_phase, words_phase};
 
 use std::simd::prelude::*;
 

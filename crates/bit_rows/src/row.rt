@@ -24,8 +24,8 @@ pub struct BitRow<A: Allocator + Copy> {
 
 impl<A: Allocator + Copy> Model for BitRow<A> {
     ghost use Rattle.std.specs.Prelude.{List, Bool};
-    ghost use Rattle.bit_rows.specs.Marks.{KeepsRow};
-    ghost use Rattle.bit_rows.specs.Words.{row_of};
+    ghost use Rattle.bit_rows.specs.private.Marks.{KeepsRow};
+    ghost use Rattle.bit_rows.specs.private.Words.{row_of};
 
     ghost Value = { List Bool };
 

@@ -1,6 +1,6 @@
 // The exclusive or of two lists of words, eight words at a time.
 ghost use Rattle.std.specs.Prelude.{◌≡◌, ℕ, ◌+◌, ◌*◌, ◌/◌, ◌≤◌, length, slice_index, bit_xor};
-ghost use Rattle.bit_rows.specs.Spans.{XorsWithin};
+ghost use Rattle.bit_rows.specs.private.Spans.{XorsWithin};
 
 use std::simd::prelude::*;
 

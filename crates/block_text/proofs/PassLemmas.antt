@@ -3,25 +3,25 @@ use Rattle.std.proofs.Common.{◌≡◌, ℕ, zero, suc, ◌+◌, ◌<◌, ◌�
 use Rattle.std.specs.Prelude.{slice_get}
 use Rattle.std.proofs.lemmas.List.{reverse-append, drop_all}
 use Rattle.block_text.specs.Fitting.{AllFit, IsBuilt, depth}
-use Rattle.block_text.specs.Trees.{Item, Does, Begins, Ends, Tree, Nothing, Then, Block, items_of}
+use Rattle.block_text.specs.Trees.{Item, InstructionLine, BlockStart, BlockEnd, Tree, Nothing, Then, Block, items_of}
 use Rattle.block_text.specs.declared.blocks.OpenBlock.{OpenBlock}
-use Rattle.block_text.specs.Passes.{Pass, behind, opened, CanStand, Passes}
+use Rattle.block_text.specs.private.Passes.{Pass, behind, opened, CanStand, Passes}
 
 -- the state behind items, where these blocks are open, the innermost first
 abbrev pub run : {I S : Type 0} → Pass I S → List (Item I) → List (OpenBlock S) → S → S
 run pass [] blocks s = s
-run pass (Does i ∷ items) blocks s = run pass items blocks (pass.step i s)
-run pass (Begins line turns ∷ items) blocks s = run pass items (opened turns s ∷ blocks) s
-run pass (Ends ∷ items) [] s = s
-run pass (Ends ∷ items) (block ∷ blocks) s = run pass items blocks (pass.close block.turns block.before s)
+run pass (InstructionLine i ∷ items) blocks s = run pass items blocks (pass.step i s)
+run pass (BlockStart line turns ∷ items) blocks s = run pass items (opened turns s ∷ blocks) s
+run pass (BlockEnd ∷ items) [] s = s
+run pass (BlockEnd ∷ items) (block ∷ blocks) s = run pass items blocks (pass.close block.turns block.before s)
 
 -- items that stand where they may, with so many blocks open before them and none behind
 abbrev pub AreWhole : {I : Type 0} → (I → Type 0) → List (Item I) → ℕ → Type 0
 AreWhole Fits [] depth = depth ≡ 0
-AreWhole Fits (Does i ∷ items) depth = Fits i × AreWhole Fits items depth
-AreWhole Fits (Begins line turns ∷ items) depth = (0 < turns) × (depth < 32) × AreWhole Fits items (suc depth)
-AreWhole Fits (Ends ∷ items) zero = ⊥
-AreWhole Fits (Ends ∷ items) (suc depth) = AreWhole Fits items depth
+AreWhole Fits (InstructionLine i ∷ items) depth = Fits i × AreWhole Fits items depth
+AreWhole Fits (BlockStart line turns ∷ items) depth = (0 < turns) × (depth < 32) × AreWhole Fits items (suc depth)
+AreWhole Fits (BlockEnd ∷ items) zero = ⊥
+AreWhole Fits (BlockEnd ∷ items) (suc depth) = AreWhole Fits items depth
 
 -- ---- items of a tree
 
@@ -29,8 +29,8 @@ pub run-items : {I S : Type 0} (pass : Pass I S) (t : Tree I) (rest : List (Item
 run-items pass Nothing rest blocks s = refl
 run-items pass (Then i t) rest blocks s = run-items pass t rest blocks (pass.step i s)
 run-items {I} pass (Block line turns t u) rest blocks s =
-    ap (λ (items : List (Item I)). run pass items (opened turns s ∷ blocks) s) (append_assoc (items_of t) (Ends ∷ items_of u) rest)
-    ∙ run-items pass t (Ends ∷ (items_of u ++ rest)) (opened turns s ∷ blocks) s
+    ap (λ (items : List (Item I)). run pass items (opened turns s ∷ blocks) s) (append_assoc (items_of t) (BlockEnd ∷ items_of u) rest)
+    ∙ run-items pass t (BlockEnd ∷ (items_of u ++ rest)) (opened turns s ∷ blocks) s
     ∙ run-items pass u rest blocks (pass.close turns s (behind pass t s))
 
 pub run-tree : {I S : Type 0} (pass : Pass I S) (t : Tree I) (s : S) → run pass (items_of t) [] s ≡ behind pass t s
@@ -42,8 +42,8 @@ whole-items Fits (Then i t) rest d fit room whole = (fit.0, whole-items Fits t r
 whole-items {I} Fits (Block line turns t u) rest d fit room whole = (
   fit.0,
   omega arith,
-  subst (λ (items : List (Item I)). AreWhole Fits items (suc d)) (sym (append_assoc (items_of t) (Ends ∷ items_of u) rest))
-      (whole-items Fits t (Ends ∷ (items_of u ++ rest)) (suc d) fit.1 (omega arith) (whole-items Fits u rest d fit.2 (omega arith) whole)),
+  subst (λ (items : List (Item I)). AreWhole Fits items (suc d)) (sym (append_assoc (items_of t) (BlockEnd ∷ items_of u) rest))
+      (whole-items Fits t (BlockEnd ∷ (items_of u ++ rest)) (suc d) fit.1 (omega arith) (whole-items Fits u rest d fit.2 (omega arith) whole)),
 )
 
 pub whole-tree : {I : Type 0} (Fits : I → Type 0) (t : Tree I) → IsBuilt Fits t → AreWhole Fits (items_of t) 0
@@ -63,25 +63,25 @@ drop_got (y ∷ xs) zero x h = ap (λ z. z ∷ xs) (sym (some_same x y h))
 drop_got (y ∷ xs) (suc i) x h = drop_got xs i x h
 
 pub can_stand : {I : Type 0} (Fits : I → Type 0) (item : Item I) (items : List (Item I)) (d : ℕ) → AreWhole Fits (item ∷ items) d → CanStand Fits item d
-can_stand Fits (Does i) items d whole = whole.0
-can_stand Fits (Begins line turns) items d whole = (whole.0, whole.1)
-can_stand Fits Ends items zero whole = absurd whole
-can_stand Fits Ends items (suc d) whole = omega arith
+can_stand Fits (InstructionLine i) items d whole = whole.0
+can_stand Fits (BlockStart line turns) items d whole = (whole.0, whole.1)
+can_stand Fits BlockEnd items zero whole = absurd whole
+can_stand Fits BlockEnd items (suc d) whole = omega arith
 
 -- what is left behind an item stands where it may
 pub whole-next : {I S : Type 0} (Fits : I → Type 0) (pass : Pass I S) (item : Item I) (items : List (Item I)) (s : S) (blocks : List (OpenBlock S)) (s' : S) (blocks' : List (OpenBlock S)) → Passes pass item s blocks s' blocks' → AreWhole Fits (item ∷ items) (length blocks) → AreWhole Fits items (length blocks')
-whole-next Fits pass (Does i) items s blocks s' blocks' h whole = subst (λ (xs : List (OpenBlock _)). AreWhole Fits items (length xs)) (sym h.1) whole.1
-whole-next Fits pass (Begins line turns) items s blocks s' blocks' h whole =
+whole-next Fits pass (InstructionLine i) items s blocks s' blocks' h whole = subst (λ (xs : List (OpenBlock _)). AreWhole Fits items (length xs)) (sym h.1) whole.1
+whole-next Fits pass (BlockStart line turns) items s blocks s' blocks' h whole =
     subst (AreWhole Fits items) (sym (ap length h.1 ∙ length-append blocks (opened turns s ∷ []) ∙ omega arith)) whole.2
-whole-next Fits pass Ends items s blocks s' blocks' h whole =
+whole-next Fits pass BlockEnd items s blocks s' blocks' h whole =
     let e : length blocks ≡ suc (length blocks') = ap length h.open_is ∙ length-append blocks' (h.last ∷ []) ∙ omega arith in
-    subst (λ d. AreWhole Fits (Ends ∷ items) d) e whole
+    subst (λ d. AreWhole Fits (BlockEnd ∷ items) d) e whole
 
 -- the items left give the same behind an item as with it
 pub run-next : {I S : Type 0} (pass : Pass I S) (item : Item I) (items : List (Item I)) (s : S) (blocks : List (OpenBlock S)) (s' : S) (blocks' : List (OpenBlock S)) → Passes pass item s blocks s' blocks' → run pass (item ∷ items) (reverse blocks) s ≡ run pass items (reverse blocks') s'
-run-next pass (Does i) items s blocks s' blocks' h = rw (h.0, h.1) refl
-run-next pass (Begins line turns) items s blocks s' blocks' h = rw (h.0, h.1, reverse-append blocks (opened turns s ∷ [])) refl
-run-next pass Ends items s blocks s' blocks' h = rw (h.open_is, reverse-append blocks' (h.last ∷ []), h.state_is) refl
+run-next pass (InstructionLine i) items s blocks s' blocks' h = rw (h.0, h.1) refl
+run-next pass (BlockStart line turns) items s blocks s' blocks' h = rw (h.0, h.1, reverse-append blocks (opened turns s ∷ [])) refl
+run-next pass BlockEnd items s blocks s' blocks' h = rw (h.open_is, reverse-append blocks' (h.last ∷ []), h.state_is) refl
 
 -- ---- a loop over all items
 

@@ -8,7 +8,7 @@ use Rattle.block_text.specs.Said.{OpensFew, reading_in}
 use Rattle.block_text.specs.Texts.{Reading}
 
 few_said : {O T : Type 0} (Fits : Instruction O T → Type 0) (TurnsFit : ℕ → Type 0) (depth number : ℕ) (s : Said O) (targets : List T) → ReadingAccords Fits TurnsFit depth (reading_in number s targets) → OpensFew depth s
-few_said Fits TurnsFit depth number (said.Takes operation arguments) targets h = tt
+few_said Fits TurnsFit depth number (said.Accepts operation arguments) targets h = tt
 few_said Fits TurnsFit depth number (said.Opens turns) targets h = h.1
 few_said Fits TurnsFit depth number said.Closes targets h = tt
 few_said Fits TurnsFit depth number (said.Refuses c) targets h = tt

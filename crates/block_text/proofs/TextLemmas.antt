@@ -9,7 +9,7 @@ use Rattle.step_model.specs.declared.fault.Cause.{Cause}
 use Rattle.stim_lexer.specs.Cut.{has_bad_byte}
 use Rattle.stim_lexer.specs.Lexing.{Unread, Numbered, after_silent, first_found, next_found, after_first_found, after_next}
 use Rattle.stim_lexer.specs.Lines.{says_nothing}
-use Rattle.block_text.specs.Texts.{Format, Reading, Takes, Opens, Closes, Refuses, items_in, items_from, at_end, before, followed, open_after, refused}
+use Rattle.block_text.specs.Texts.{Format, Reading, Accepts, Opens, Closes, Refuses, items_in, items_from, at_end, before, followed, open_after, refused}
 use Rattle.block_text.specs.Judged.{left_open, IsRefusedBy}
 use Rattle.block_text.specs.Trees.{Item}
 use Rattle.block_text.specs.Unfinished.{Unfinished, reading_at, cause_in, line_items, after_line}
@@ -33,13 +33,13 @@ after-err [] fault = refl
 after-err (x ∷ xs) fault = ap (before x) (after-err xs fault)
 
 followed-after : {I : Type 0} (number : ℕ) (r : Reading I) (rest : Result (List (Item I)) Fault) → cause_in r ≡ None → followed number r rest ≡ after (line_items number r) rest
-followed-after number (Takes i) rest h = refl
+followed-after number (Accepts i) rest h = refl
 followed-after number (Opens turns) rest h = refl
 followed-after number Closes rest h = refl
 followed-after number (Refuses c) rest h = absurd (cc)
 
 followed-refused : {I : Type 0} (number : ℕ) (r : Reading I) (rest : Result (List (Item I)) Fault) (c : Cause) → cause_in r ≡ Some c → followed number r rest ≡ Err (refused c number)
-followed-refused number (Takes i) rest c h = absurd (cc)
+followed-refused number (Accepts i) rest c h = absurd (cc)
 followed-refused number (Opens turns) rest c h = absurd (cc)
 followed-refused number Closes rest c h = absurd (cc)
 followed-refused number (Refuses d) rest c h =

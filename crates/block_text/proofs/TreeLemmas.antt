@@ -9,9 +9,9 @@ use Rattle.stim_lexer.specs.Lines.{lines_of, says_nothing}
 use Rattle.block_text.specs.Fitting.{IsBuilt, IsTurns, AllFit, LinesFit, ReadingFits, TurnsWithin, depth, IsWritten}
 use Rattle.block_text.specs.Flat.{tree_of}
 use Rattle.block_text.specs.Stored.{tree_of-items}
-use Rattle.block_text.specs.Texts.{Format, Reading, Takes, Opens, Closes, Refuses, items_in, items_from, followed, line_reading, open_after}
+use Rattle.block_text.specs.Texts.{Format, Reading, Accepts, Opens, Closes, Refuses, items_in, items_from, followed, line_reading, open_after}
 use Rattle.block_text.specs.Judged.{Writes, IsRefusedBy}
-use Rattle.block_text.specs.Trees.{Item, Does, Begins, Ends, Tree, Nothing, Then, Block, items_of}
+use Rattle.block_text.specs.Trees.{Item, InstructionLine, BlockStart, BlockEnd, Tree, Nothing, Then, Block, items_of}
 
 -- ---- one tree
 
@@ -30,43 +30,43 @@ record Level {I : Type 0} (Fits : I → Type 0) (around : ℕ) (items behind : L
 
 abbrev Balanced : {I : Type 0} → (I → Type 0) → ℕ → List (Item I) → Type 0
 Balanced Fits zero items = Level Fits 0 items []
-Balanced {I} Fits (suc k) items = (rest : List (Item I)) × Level Fits (suc k) items (Ends ∷ rest) × Balanced Fits k rest
+Balanced {I} Fits (suc k) items = (rest : List (Item I)) × Level Fits (suc k) items (BlockEnd ∷ rest) × Balanced Fits k rest
 
-one_more : {I : Type 0} (Fits : I → Type 0) (k : ℕ) (i : I) (items behind : List (Item I)) → Fits i → Level Fits k items behind → Level Fits k (Does i ∷ items) behind
+one_more : {I : Type 0} (Fits : I → Type 0) (k : ℕ) (i : I) (items behind : List (Item I)) → Fits i → Level Fits k items behind → Level Fits k (InstructionLine i ∷ items) behind
 one_more {I} Fits k i items behind fits level =
     record {
       tree = Then i level.tree;
-      written = ap (λ (is : List (Item I)). Does i ∷ is) level.written;
+      written = ap (λ (is : List (Item I)). InstructionLine i ∷ is) level.written;
       fit = (fits, level.fit);
       shallow = level.shallow;
       within = level.within;
     }
 
-with_instruction : {I : Type 0} (Fits : I → Type 0) (k : ℕ) (i : I) (items : List (Item I)) → Fits i → Balanced Fits k items → Balanced Fits k (Does i ∷ items)
+with_instruction : {I : Type 0} (Fits : I → Type 0) (k : ℕ) (i : I) (items : List (Item I)) → Fits i → Balanced Fits k items → Balanced Fits k (InstructionLine i ∷ items)
 with_instruction Fits zero i items fits b = one_more Fits 0 i items [] fits b
-with_instruction Fits (suc k) i items fits b = (b.0, one_more Fits (suc k) i items (Ends ∷ b.0) fits b.1, b.2)
+with_instruction Fits (suc k) i items fits b = (b.0, one_more Fits (suc k) i items (BlockEnd ∷ b.0) fits b.1, b.2)
 
-one_block : {I : Type 0} (Fits : I → Type 0) (k line turns : ℕ) (items rest behind : List (Item I)) → IsTurns turns → Level Fits (suc k) items (Ends ∷ rest) → Level Fits k rest behind → Level Fits k (Begins line turns ∷ items) behind
+one_block : {I : Type 0} (Fits : I → Type 0) (k line turns : ℕ) (items rest behind : List (Item I)) → IsTurns turns → Level Fits (suc k) items (BlockEnd ∷ rest) → Level Fits k rest behind → Level Fits k (BlockStart line turns ∷ items) behind
 one_block {I} Fits k line turns items rest behind right body after =
     let inside : depth body.tree + suc k ≤ 32 = body.shallow in
     let outside : depth after.tree + k ≤ 32 = after.shallow in
     record {
       tree = Block line turns body.tree after.tree;
       written =
-          ap (λ (is : List (Item I)). Begins line turns ∷ is)
+          ap (λ (is : List (Item I)). BlockStart line turns ∷ is)
           (body.written
-          ∙ ap (λ (is : List (Item I)). items_of body.tree ++ Ends ∷ is) after.written
-          ∙ sym (append_assoc (items_of body.tree) (Ends ∷ items_of after.tree) behind));
+          ∙ ap (λ (is : List (Item I)). items_of body.tree ++ BlockEnd ∷ is) after.written
+          ∙ sym (append_assoc (items_of body.tree) (BlockEnd ∷ items_of after.tree) behind));
       fit = (right.0, body.fit, after.fit);
       shallow = omega arith;
       within = (right.1, body.within, after.within);
     }
 
-with_block : {I : Type 0} (Fits : I → Type 0) (k line turns : ℕ) (items : List (Item I)) → IsTurns turns → Balanced Fits (suc k) items → Balanced Fits k (Begins line turns ∷ items)
+with_block : {I : Type 0} (Fits : I → Type 0) (k line turns : ℕ) (items : List (Item I)) → IsTurns turns → Balanced Fits (suc k) items → Balanced Fits k (BlockStart line turns ∷ items)
 with_block Fits zero line turns items right b = one_block Fits 0 line turns items b.0 [] right b.1 b.2
 with_block Fits (suc k) line turns items right b = (
   b.2.0,
-  one_block Fits (suc k) line turns items b.0 (Ends ∷ b.2.0) right b.1 b.2.1,
+  one_block Fits (suc k) line turns items b.0 (BlockEnd ∷ b.2.0) right b.1 b.2.1,
   b.2.2,
 )
 
@@ -83,7 +83,7 @@ line_fits Fits format fit opened n line =
     ]
 
 few_open : {I : Type 0} (Fits : I → Type 0) (opened : List ℕ) (n : ℕ) (r : Reading I) → length opened ≤ 32 → ReadingFits Fits (length opened) r → length (open_after n r opened) ≤ 32
-few_open Fits opened n (Takes i) few h = few
+few_open Fits opened n (Accepts i) few h = few
 few_open Fits opened n (Opens turns) few h = omega arith
 few_open Fits [] n Closes few h = absurd (omega arith)
 few_open Fits (o ∷ opened) n Closes few h = omega arith
@@ -92,12 +92,12 @@ few_open Fits opened n (Refuses c) few h = few
 -- a line and what follows it
 step : {I : Type 0} (Fits : I → Type 0) (opened : List ℕ) (n : ℕ) (r : Reading I) (rest : Result (List (Item I)) Fault) → length opened ≤ 32 → ReadingFits Fits (length opened) r
     → IfOk rest (Balanced Fits (length (open_after n r opened))) → IfOk (followed n r rest) (Balanced Fits (length opened))
-step Fits opened n (Takes i) (Ok items) few h b = with_instruction Fits (length opened) i items h b
-step Fits opened n (Takes i) (Err fault) few h b = tt
+step Fits opened n (Accepts i) (Ok items) few h b = with_instruction Fits (length opened) i items h b
+step Fits opened n (Accepts i) (Err fault) few h b = tt
 step Fits opened n (Opens turns) (Ok items) few h b = with_block Fits (length opened) n turns items h.0 b
 step Fits opened n (Opens turns) (Err fault) few h b = tt
 step Fits [] n Closes rest few h b = absurd (omega arith)
-step Fits (o ∷ opened) n Closes (Ok items) few h b = (items, nothing_before Fits (suc (length opened)) (Ends ∷ items) few, b)
+step Fits (o ∷ opened) n Closes (Ok items) few h b = (items, nothing_before Fits (suc (length opened)) (BlockEnd ∷ items) few, b)
 step Fits (o ∷ opened) n Closes (Err fault) few h b = tt
 step Fits opened n (Refuses c) rest few h b = tt
 

@@ -4,7 +4,7 @@
 use Rattle.std.specs.Prelude.{⊤, ◌<◌, ◌≤◌, ℕ, suc, max, ◌≡◌, List}
 use Rattle.stim_lexer.specs.Cut.{Cut}
 use Rattle.block_text.specs.Trees.{Tree, Nothing, Then, Block, Item, items_of, deepest}
-use Rattle.block_text.specs.Texts.{Format, Reading, Takes, Opens, Closes, Refuses}
+use Rattle.block_text.specs.Texts.{Format, Reading, Accepts, Opens, Closes, Refuses}
 use Rattle.block_text.specs.Flat.{tree_of}
 
 -- the most turns of a block
@@ -36,7 +36,7 @@ pub record IsBuilt {I : Type 0} (Fits : I → Type 0) (tree : Tree I) : Type 0 w
 -- what a line says fits where this many blocks are open: an instruction fits, the turns of a block that is opened fit and it
 -- is not too deep, and where a block is closed one is open
 abbrev pub ReadingAccords : {I : Type 0} → (I → Type 0) → (ℕ → Type 0) → ℕ → Reading I → Type 0
-ReadingAccords Fits TurnsFit depth (Takes i) = Fits i
+ReadingAccords Fits TurnsFit depth (Accepts i) = Fits i
 ReadingAccords Fits TurnsFit depth (Opens turns) = TurnsFit turns × (depth < 32)
 ReadingAccords Fits TurnsFit depth Closes = 0 < depth
 ReadingAccords Fits TurnsFit depth (Refuses c) = ⊤

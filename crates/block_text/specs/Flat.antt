@@ -1,16 +1,16 @@
 -- A tree kept flat, as its text writes it: a list of items. The tree is found again by reading them from the last to the
 -- first: the end of a block starts a body, and the start of a block takes the body that was found.
 use Rattle.std.specs.Prelude.{List, [], ◌∷◌}
-use Rattle.block_text.specs.Trees.{Item, Does, Begins, Ends, Tree, Nothing, Then, Block}
+use Rattle.block_text.specs.Trees.{Item, InstructionLine, BlockStart, BlockEnd, Tree, Nothing, Then, Block}
 
 -- an item put before the trees that were read after it: the innermost one, and those that follow the ends of blocks
 abbrev pub onto : {I : Type 0} → Item I → List (Tree I) → List (Tree I)
-onto (Does i) [] = []
-onto (Does i) (t ∷ ts) = Then i t ∷ ts
-onto Ends ts = Nothing ∷ ts
-onto (Begins line turns) [] = []
-onto (Begins line turns) (t ∷ []) = []
-onto (Begins line turns) (t ∷ u ∷ ts) = Block line turns t u ∷ ts
+onto (InstructionLine i) [] = []
+onto (InstructionLine i) (t ∷ ts) = Then i t ∷ ts
+onto BlockEnd ts = Nothing ∷ ts
+onto (BlockStart line turns) [] = []
+onto (BlockStart line turns) (t ∷ []) = []
+onto (BlockStart line turns) (t ∷ u ∷ ts) = Block line turns t u ∷ ts
 
 abbrev pub trees_of : {I : Type 0} → List (Item I) → List (Tree I)
 trees_of [] = Nothing ∷ []

@@ -5,10 +5,10 @@ pub mod Texts
 pub mod Fitting
 pub mod Flat
 pub mod Unfinished
-pub mod Passes
 pub mod Said
 pub mod Kept
 pub mod Marked
 pub mod Reached
 pub mod Stored
 pub mod Judged
+pub mod private

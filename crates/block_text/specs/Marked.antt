@@ -21,7 +21,7 @@ pub record Begun (I : Type 0) : Type 0 where
 
 -- the mark of the item of a line, where its instruction has this one
 abbrev pub line_marks : {O : Type 0} → Said O → ℕ → List ℕ
-line_marks (said.Takes operation arguments) mark = mark ∷ []
+line_marks (said.Accepts operation arguments) mark = mark ∷ []
 line_marks (said.Opens turns) mark = 0 ∷ []
 line_marks said.Closes mark = 0 ∷ []
 line_marks (said.Refuses c) mark = []

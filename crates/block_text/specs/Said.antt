@@ -5,12 +5,12 @@ use Rattle.block_text.specs.declared.said.Said.{Said}
 use Rattle.block_text.specs.declared.said.Said.TheVariants as said
 use Rattle.block_text.specs.Arguments.{arguments_in}
 use Rattle.block_text.specs.Instructions.{Instruction}
-use Rattle.block_text.specs.Texts.{Reading, Takes, Opens, Closes, Refuses}
+use Rattle.block_text.specs.Texts.{Reading, Accepts, Opens, Closes, Refuses}
 
 -- what the line of this number says, with the targets that were read from it
 abbrev pub reading_in : {O T : Type 0} → ℕ → Said O → List T → Reading (Instruction O T)
-reading_in line (said.Takes operation arguments) targets =
-    Takes
+reading_in line (said.Accepts operation arguments) targets =
+    Accepts
     (record {
       line = line;
       operation = operation;

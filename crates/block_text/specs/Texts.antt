@@ -7,11 +7,11 @@ use Rattle.step_model.specs.declared.fault.Cause.{Cause}
 use Rattle.step_model.specs.declared.fault.Cause.TheVariants as cause
 use Rattle.stim_lexer.specs.Cut.{Cut, cut_of, has_bad_byte}
 use Rattle.stim_lexer.specs.Lines.{lines_of, says_nothing}
-use Rattle.block_text.specs.Trees.{Item, Does, Begins, Ends}
+use Rattle.block_text.specs.Trees.{Item, InstructionLine, BlockStart, BlockEnd}
 
 -- what a line says: an instruction; the start of a block of this many turns; the end of a block; or a refusal
 pub data Reading (I : Type 0) : Type 0 where
-  Takes : I → Reading I
+  Accepts : I → Reading I
   Opens : ℕ → Reading I
   Closes : Reading I
   Refuses : Cause → Reading I
@@ -38,9 +38,9 @@ open_after number reading opened = opened
 
 -- what a line and what follows it make together
 abbrev pub followed : {I : Type 0} → ℕ → Reading I → Result (List (Item I)) Fault → Result (List (Item I)) Fault
-followed number (Takes instruction) rest = before (Does instruction) rest
-followed number (Opens turns) rest = before (Begins number turns) rest
-followed number Closes rest = before Ends rest
+followed number (Accepts instruction) rest = before (InstructionLine instruction) rest
+followed number (Opens turns) rest = before (BlockStart number turns) rest
+followed number Closes rest = before BlockEnd rest
 followed number (Refuses c) rest = Err (refused c number)
 
 -- the end of a text

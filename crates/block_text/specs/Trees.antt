@@ -4,9 +4,9 @@ use Rattle.std.specs.Prelude.{ℕ, List, [], ◌∷◌, ◌++◌}
 
 -- an instruction, the start of a block with its line and turns, or the end of a block
 pub data Item (I : Type 0) : Type 0 where
-  Does : I → Item I
-  Begins : ℕ → ℕ → Item I
-  Ends : Item I
+  InstructionLine : I → Item I
+  BlockStart : ℕ → ℕ → Item I
+  BlockEnd : Item I
 
 -- what stands in a text or in a block, from the first on: nothing; an instruction and the rest; or a block, with its line,
 -- its turns and its body, and the rest
@@ -18,8 +18,8 @@ pub data Tree (I : Type 0) : Type 0 where
 -- the items that a tree says, in their order
 abbrev pub items_of : {I : Type 0} → Tree I → List (Item I)
 items_of Nothing = []
-items_of (Then instruction rest) = Does instruction ∷ items_of rest
-items_of (Block line turns body rest) = Begins line turns ∷ (items_of body ++ Ends ∷ items_of rest)
+items_of (Then instruction rest) = InstructionLine instruction ∷ items_of rest
+items_of (Block line turns body rest) = BlockStart line turns ∷ (items_of body ++ BlockEnd ∷ items_of rest)
 
 -- the most blocks that may be open
 abbrev pub deepest : ℕ

@@ -5,8 +5,8 @@ use Rattle.std.specs.Coded.{Coded, code_by, coded×, coded_ℕ, coded_list}
 use Rattle.step_model.specs.declared.fault.Cause.{Cause}
 use Rattle.stim_lexer.specs.Cut.{Cut}
 use Rattle.block_text.specs.Stored.{coded_items}
-use Rattle.block_text.specs.Texts.{Format, Reading, Takes, Opens, Closes, Refuses, open_after}
-use Rattle.block_text.specs.Trees.{Item, Does, Begins, Ends}
+use Rattle.block_text.specs.Texts.{Format, Reading, Accepts, Opens, Closes, Refuses, open_after}
+use Rattle.block_text.specs.Trees.{Item, InstructionLine, BlockStart, BlockEnd}
 
 -- the items so far, and the lines of the open blocks, the innermost first
 pub record Unfinished (I : Type 0) : Type 0 where
@@ -29,9 +29,9 @@ cause_in reading = None
 
 -- the item of a line that isn't refused
 abbrev pub line_items : {I : Type 0} → ℕ → Reading I → List (Item I)
-line_items number (Takes i) = Does i ∷ []
-line_items number (Opens turns) = Begins number turns ∷ []
-line_items number Closes = Ends ∷ []
+line_items number (Accepts i) = InstructionLine i ∷ []
+line_items number (Opens turns) = BlockStart number turns ∷ []
+line_items number Closes = BlockEnd ∷ []
 line_items number (Refuses c) = []
 
 abbrev pub after_line : {I : Type 0} → ℕ → Reading I → Unfinished I → Unfinished I

@@ -64,7 +64,7 @@ impl<'a, O: Copy, T: Copy, A: Allocator + Copy> Builder<'a, O, T, A> {
         ensures marks { IfOk result (λ refused. self.new.marks ≡ self.old.marks ++ line_marks said.entry mark) }
     {
         match said {
-            Said::Takes {
+            Said::Accepts {
                 operation,
                 arguments,
             } => self.items.push(Instruction {

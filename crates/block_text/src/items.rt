@@ -1,7 +1,7 @@
 ghost use Rattle.std.specs.Prelude.{◌≡◌, ◌<◌, [], Some, length, slice_get, slice_index_or, OnOk, OnErr};
 ghost use Rattle.block_text.specs.Kept.{instruction_in, item_in, item_kept, mark_in, mark_kept};
 ghost use Rattle.block_text.specs.Marked.{with_item};
-ghost use Rattle.block_text.specs.Trees.{Does, Begins, Ends};
+ghost use Rattle.block_text.specs.Trees.{InstructionLine, BlockStart, BlockEnd};
 
 use flat_lists::FlatLists;
 use std::alloc::{AllocError, Allocator};
@@ -23,26 +23,26 @@ pub struct Instruction<'c, 'a, O, T> {
 /// innermost block.
 #[derive(Clone, Copy)]
 pub enum Item<'c, 'a, O, T> {
-    Does(Instruction<'c, 'a, O, T>),
-    Begins { line: u64, turns: u64 },
-    Ends,
+    InstructionLine(Instruction<'c, 'a, O, T>),
+    BlockStart { line: u64, turns: u64 },
+    BlockEnd,
 }
 
 /// What is kept of an item: all but the targets of an instruction.
 #[derive(Clone, Copy)]
 pub(crate) enum Node<'a, O> {
     // An operation is small and stands first, beside the tag, and the mark beside both: so a node takes 32 bytes and not 40.
-    Does {
+    InstructionLine {
         operation: O,
         mark: u32,
         line: u64,
         arguments: &'a [u8],
     },
-    Begins {
+    BlockStart {
         line: u64,
         turns: u64,
     },
-    Ends,
+    BlockEnd,
 }
 
 /// Items in the order of the text. Blocks are kept flat, so no recursion is needed to go over them.
@@ -101,10 +101,10 @@ impl<'a, O: Copy, T: Copy, A: Allocator + Copy> Items<'a, O, T, A> {
 
     /// Appends an instruction with a copy of its targets. It fails only where memory runs out.
     pub(crate) fn push(&mut self, instruction: Instruction<'_, 'a, O, T>) -> Result<(), AllocError>
-        ensures ok { OnOk result (self.new ≡ with_item (Does (instruction_in instruction.entry)) instruction.entry.mark self.old) }
+        ensures ok { OnOk result (self.new ≡ with_item (InstructionLine (instruction_in instruction.entry)) instruction.entry.mark self.old) }
         ensures err { OnErr result (self.new ≡ self.old) }
     {
-        let node = Node::Does {
+        let node = Node::InstructionLine {
             operation: instruction.operation,
             mark: instruction.mark,
             line: instruction.line,
@@ -115,18 +115,18 @@ impl<'a, O: Copy, T: Copy, A: Allocator + Copy> Items<'a, O, T, A> {
 
     /// Appends the start of a block. It fails only where memory runs out.
     pub(crate) fn begin(&mut self, line: u64, turns: u64) -> Result<(), AllocError>
-        ensures ok { OnOk result (self.new ≡ with_item (Begins line turns) 0 self.old) }
+        ensures ok { OnOk result (self.new ≡ with_item (BlockStart line turns) 0 self.old) }
         ensures err { OnErr result (self.new ≡ self.old) }
     {
-        self.keep(Node::Begins { line, turns }, &[])
+        self.keep(Node::BlockStart { line, turns }, &[])
     }
 
     /// Appends the end of a block. It fails only where memory runs out.
     pub(crate) fn end(&mut self) -> Result<(), AllocError>
-        ensures ok { OnOk result (self.new ≡ with_item Ends 0 self.old) }
+        ensures ok { OnOk result (self.new ≡ with_item BlockEnd 0 self.old) }
         ensures err { OnErr result (self.new ≡ self.old) }
     {
-        self.keep(Node::Ends, &[])
+        self.keep(Node::BlockEnd, &[])
     }
 
     /// The item at a place.
@@ -138,20 +138,20 @@ impl<'a, O: Copy, T: Copy, A: Allocator + Copy> Items<'a, O, T, A> {
         ensures mark { mark_in result ≡ slice_index_or self.now.marks i 0 }
     {
         match self.nodes[i] {
-            Node::Does {
+            Node::InstructionLine {
                 operation,
                 mark,
                 line,
                 arguments,
-            } => Item::Does(Instruction {
+            } => Item::InstructionLine(Instruction {
                 line,
                 operation,
                 arguments,
                 targets: self.targets.get(i),
                 mark,
             }),
-            Node::Begins { line, turns } => Item::Begins { line, turns },
-            Node::Ends => Item::Ends,
+            Node::BlockStart { line, turns } => Item::BlockStart { line, turns },
+            Node::BlockEnd => Item::BlockEnd,
         }
     }
 }

@@ -4,7 +4,7 @@ use step_model::Cause;
 #[derive(Clone, Copy)]
 pub enum Said<'a, O> {
     /// An instruction, and what stands in its parentheses.
-    Takes { operation: O, arguments: &'a [u8] },
+    Accepts { operation: O, arguments: &'a [u8] },
     /// The start of a block of this many turns.
     Opens(u64),
     /// The end of a block.

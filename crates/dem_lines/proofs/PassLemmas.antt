@@ -7,7 +7,7 @@ use Rattle.dem_lines.specs.Fitting.{Fits, IsAccepted}
 use Rattle.dem_lines.specs.Texts.{Item}
 use Rattle.dem_lines.specs.Trees.{Tree}
 use Rattle.block_text.specs.Trees.{items_of}
-use Rattle.dem_lines.specs.Passes.{CanStand, Pass}
+use Rattle.dem_lines.specs.private.Passes.{CanStand, Pass}
 
 -- items that stand where they may, with so many blocks open before them and none behind
 abbrev pub AreWhole : List Item → ℕ → Type 0

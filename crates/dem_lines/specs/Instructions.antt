@@ -11,31 +11,31 @@ use Rattle.stim_parser.specs.declared.table.Keyword.{Keyword}
 use Rattle.stim_parser.specs.declared.table.Keyword.TheVariants.{Does, Repeats}
 use Rattle.gate_table.specs.Names.{named_in}
 use Rattle.dem_lines.specs.declared.operation.Operation.{Operation}
-use Rattle.dem_lines.specs.declared.operation.Operation.TheVariants.{Errs, Detects, Observes, Shifts}
+use Rattle.dem_lines.specs.declared.operation.Operation.TheVariants.{PauliError, DetectorDeclaration, ObservableInclude, Shifts}
 use Rattle.dem_lines.specs.declared.forms.TargetForm.{TargetForm}
 use Rattle.dem_lines.specs.declared.forms.TargetForm.TheVariants.{Effects, Detectors, Observables, OneNumber}
 
 -- the arguments that each keyword takes
 abbrev pub argument_form : Keyword Operation → ArgumentForm
-argument_form (Does Errs) = OneProbability
-argument_form (Does Detects) = WholeNumbers
-argument_form (Does Observes) = NoArguments
+argument_form (Does PauliError) = OneProbability
+argument_form (Does DetectorDeclaration) = WholeNumbers
+argument_form (Does ObservableInclude) = NoArguments
 argument_form (Does Shifts) = WholeNumbers
 argument_form Repeats = NoArguments
 
 -- the targets that each keyword takes
 abbrev pub target_form : Keyword Operation → TargetForm
-target_form (Does Errs) = Effects
-target_form (Does Detects) = Detectors
-target_form (Does Observes) = Observables
+target_form (Does PauliError) = Effects
+target_form (Does DetectorDeclaration) = Detectors
+target_form (Does ObservableInclude) = Observables
 target_form (Does Shifts) = OneNumber
 target_form Repeats = OneNumber
 
 abbrev pub names : List (List ℕ × Keyword Operation)
 names =
-    (codes "error", Does Errs)
-    ∷ (codes "detector", Does Detects)
-    ∷ (codes "logical_observable", Does Observes)
+    (codes "error", Does PauliError)
+    ∷ (codes "detector", Does DetectorDeclaration)
+    ∷ (codes "logical_observable", Does ObservableInclude)
     ∷ (codes "shift_detectors", Does Shifts)
     ∷ (codes "repeat", Repeats)
     ∷ []

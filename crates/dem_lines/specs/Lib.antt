@@ -5,7 +5,6 @@ pub mod Verdicts
 pub mod Texts
 pub mod Trees
 pub mod Fitting
-pub mod Flat
 pub mod Reached
-pub mod Passes
 pub mod Judged
+pub mod private

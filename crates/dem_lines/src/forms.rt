@@ -20,11 +20,11 @@ pub(crate) fn argument_form(keyword: Keyword<Operation>) -> ArgumentForm
     ensures { result ≡ argument_form keyword }
 {
     match keyword {
-        Keyword::Does(Operation::Errs) => ArgumentForm::OneProbability,
-        Keyword::Does(Operation::Detects) | Keyword::Does(Operation::Shifts) => {
+        Keyword::Does(Operation::PauliError) => ArgumentForm::OneProbability,
+        Keyword::Does(Operation::DetectorDeclaration) | Keyword::Does(Operation::Shifts) => {
             ArgumentForm::WholeNumbers
         }
-        Keyword::Does(Operation::Observes) | Keyword::Repeats => ArgumentForm::NoArguments,
+        Keyword::Does(Operation::ObservableInclude) | Keyword::Repeats => ArgumentForm::NoArguments,
     }
 }
 
@@ -33,9 +33,9 @@ pub(crate) fn target_form(keyword: Keyword<Operation>) -> TargetForm
     ensures { result ≡ target_form keyword }
 {
     match keyword {
-        Keyword::Does(Operation::Errs) => TargetForm::Effects,
-        Keyword::Does(Operation::Detects) => TargetForm::Detectors,
-        Keyword::Does(Operation::Observes) => TargetForm::Observables,
+        Keyword::Does(Operation::PauliError) => TargetForm::Effects,
+        Keyword::Does(Operation::DetectorDeclaration) => TargetForm::Detectors,
+        Keyword::Does(Operation::ObservableInclude) => TargetForm::Observables,
         Keyword::Does(Operation::Shifts) | Keyword::Repeats => TargetForm::OneNumber,
     }
 }

@@ -6,9 +6,12 @@ use stim_parser::{Keyword, look_up};
 
 /// Each name, in the case in which it is mostly written, and its keyword.
 static NAMES: [(&'static [u8], Keyword<Operation>); 5] = [
-    (b"error", Keyword::Does(Operation::Errs)),
-    (b"detector", Keyword::Does(Operation::Detects)),
-    (b"logical_observable", Keyword::Does(Operation::Observes)),
+    (b"error", Keyword::Does(Operation::PauliError)),
+    (b"detector", Keyword::Does(Operation::DetectorDeclaration)),
+    (
+        b"logical_observable",
+        Keyword::Does(Operation::ObservableInclude),
+    ),
     (b"shift_detectors", Keyword::Does(Operation::Shifts)),
     (b"repeat", Keyword::Repeats),
 ];

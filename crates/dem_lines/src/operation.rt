@@ -2,11 +2,11 @@
 #[derive(Clone, Copy, Debug, PartialEq, Eq)]
 pub enum Operation {
     /// States an error, with what it flips.
-    Errs,
+    PauliError,
     /// Declares detectors, with or without coordinates.
-    Detects,
+    DetectorDeclaration,
     /// Declares observables.
-    Observes,
+    ObservableInclude,
     /// Shifts the numbers of later detectors, and their coordinates.
     Shifts,
 }

@@ -5,21 +5,21 @@ use Rattle.std.specs.List.{before_first, list_all, list_any}
 use Rattle.stim_lexer.specs.Cut.{Cut}
 use Rattle.stim_parser.specs.declared.forms.ArgumentForm.TheVariants.{OneProbability}
 use Rattle.stim_parser.specs.Arguments.{arguments_in}
-use Rattle.block_text.specs.Texts.{Takes}
+use Rattle.block_text.specs.Texts.{Accepts}
 use Rattle.stim_parser.specs.Judging.{judged, reading_of, refusal_of}
 use Rattle.stim_parser.specs.Limits.{has_wrong_arguments, has_wrong_probability}
 use Rattle.stim_parser.specs.Probabilities.{AreProbabilities}
-use Rattle.dem_lines.specs.declared.operation.Operation.TheVariants.{Errs}
+use Rattle.dem_lines.specs.declared.operation.Operation.TheVariants.{PauliError}
 use Rattle.dem_lines.specs.declared.target.Target.{Target}
 use Rattle.dem_lines.specs.Instructions.{keyword_named}
 use Rattle.dem_lines.specs.Limits.{are_of_form, has_target_beyond, is_effect}
 use Rattle.dem_lines.specs.Targets.{targets_in}
 use Rattle.dem_lines.specs.Verdicts.{model_table}
 use Rattle.dem_parser.specs.declared.counts.Extent.{Extent}
-use Rattle.dem_parser.specs.ErrorTexts.{AreCounted, BeginsWithTargets, is_quiet}
-use Rattle.dem_parser.specs.LinesRead.{BeginsWithError, IsErrorLine, IsFirstLine}
-use Rattle.dem_parser.specs.Standing.{instruction_cut, read_targets}
-use Rattle.dem_parser.specs.Tables.{IsKnown}
+use Rattle.dem_parser.specs.private.ErrorTexts.{AreCounted, BeginsWithTargets, is_quiet}
+use Rattle.dem_parser.specs.private.LinesRead.{BeginsWithError, IsErrorLine, IsFirstLine}
+use Rattle.dem_parser.specs.private.Standing.{instruction_cut, read_targets}
+use Rattle.dem_parser.specs.private.Tables.{IsKnown}
 use Rattle.stim_lexer.specs.Bytes.{from_first, is_close_parenthesis, is_line_feed}
 use Rattle.stim_lexer.proofs.ScanLemmas.{lines_of-cut}
 use Rattle.stim_parser.proofs.ByteLemmas.{all-where, none-where}
@@ -43,7 +43,7 @@ error_cut arguments targets quiet h =
     (all-where is_plain_byte is_quiet targets quiet_is_plain h)
 
 reading_found : (depth number : ℕ) (arguments text : List ℕ) (targets : List Target) → AreProbabilities OneProbability (arguments_in arguments) → targets_in text ≡ Some targets
-    → list_all is_effect targets ≡ true → has_target_beyond targets ≡ false → reading_of model_table depth number (cut_line arguments text) ≡ Takes (instruction_cut number Errs (cut_line arguments text))
+    → list_all is_effect targets ≡ true → has_target_beyond targets ≡ false → reading_of model_table depth number (cut_line arguments text) ≡ Accepts (instruction_cut number PauliError (cut_line arguments text))
 unfolding reading_of judged refusal_of keyword_named are_of_form
 reading_found depth number arguments text targets right read effects within =
     let count : has_wrong_arguments OneProbability (arguments_in arguments) ≡ false = right.1 in
@@ -51,7 +51,7 @@ reading_found depth number arguments text targets right read effects within =
     rw (read, count, probability, effects, within) refl
 
 known_found : (number : ℕ) (arguments text : List ℕ) (extent : Extent) → (h : AreCounted text (record { detectors = 0; observables = 0 }) extent) → read_targets text ≡ h.targets
-    → IsKnown (instruction_cut number Errs (cut_line arguments text)) extent []
+    → IsKnown (instruction_cut number PauliError (cut_line arguments text)) extent []
 known_found number arguments text extent h read =
     record {
       extent_is = rw read (let d = h.detectors in let o = h.observables in both extent _ _ (omega (arith, d)) (omega (arith, o)));
@@ -72,7 +72,7 @@ error_line arguments targets extent quiet right h =
     let good = cut.good in
     record {
       speaks = record { speaks = cut.speaks; good = cut.good };
-      known = λ number. subst (λ (c : Cut). IsKnown (instruction_cut number Errs c) extent []) (sym cut.cut_is) (known_found number arguments targets extent h read);
+      known = λ number. subst (λ (c : Cut). IsKnown (instruction_cut number PauliError c) extent []) (sym cut.cut_is) (known_found number arguments targets extent h read);
       taken = λ number opened. rw (good, cut.cut_is) (reading_found (length opened) number arguments targets h.targets right h.read h.effects h.within);
     }
 

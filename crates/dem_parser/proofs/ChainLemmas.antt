@@ -6,26 +6,26 @@ use Rattle.std.proofs.lemmas.Bool.{or_from, or_parts, true≢false}
 use Rattle.std.proofs.lemmas.List.{drop_all}
 use Rattle.stim_parser.specs.Numbers.{is_number_beyond, has_minus, magnitude_of, whole_value}
 use Rattle.dem_lines.specs.declared.operation.Operation.{Operation}
-use Rattle.dem_lines.specs.declared.operation.Operation.TheVariants.{Errs, Detects, Observes, Shifts}
+use Rattle.dem_lines.specs.declared.operation.Operation.TheVariants.{PauliError, DetectorDeclaration, ObservableInclude, Shifts}
 use Rattle.dem_lines.specs.declared.target.Target.{Target}
 use Rattle.dem_lines.specs.Fitting.{Fits, AllFit, IsAccepted}
-use Rattle.dem_lines.specs.Flat.{tree_of, tree_of-items}
+use Rattle.dem_lines.specs.private.Flat.{tree_of, tree_of-items}
 use Rattle.dem_lines.specs.Limits.{has_target_beyond}
 use Rattle.dem_lines.specs.Reached.{block_lines, has_many_lines}
 use Rattle.dem_lines.specs.Texts.{Item, items_in}
-use Rattle.block_text.specs.Trees.{Does, Nothing, Then, items_of}
+use Rattle.block_text.specs.Trees.{InstructionLine, Nothing, Then, items_of}
 use Rattle.dem_lines.specs.Trees.{Tree}
 use Rattle.dem_lines.specs.Judged.{Writes}
 use Rattle.dem_lines.specs.Verdicts.{Instruction}
 use Rattle.dem_lines.proofs.PassLemmas.{drop_got}
 use Rattle.dem_lines.proofs.TreeLemmas.{each_tree_is_accepted}
-pub use Rattle.dem_parser.specs.Chains.{AllStay, placed}
+pub use Rattle.dem_parser.specs.private.Chains.{AllStay, placed}
 use Rattle.dem_parser.specs.declared.counts.Extent.{Extent}
 use Rattle.dem_parser.specs.declared.counts.LineCounts.{LineCounts}
-use Rattle.dem_parser.specs.Chains.{IsChain, counted_with, is_shift}
+use Rattle.dem_parser.specs.private.Chains.{IsChain, counted_with, is_shift}
 use Rattle.dem_parser.specs.Meanings.{is_error, meaning_of}
-use Rattle.dem_parser.specs.Summed.{AreCounts, error_count}
-use Rattle.dem_parser.specs.Tables.{IsKnown}
+use Rattle.dem_parser.specs.private.Summed.{AreCounts, error_count}
+use Rattle.dem_parser.specs.private.Tables.{IsKnown}
 use Rattle.dem_parser.specs.Models.{first_beyond, is_beyond, is_far, model_in, placed_lines}
 use Rattle.dem_parser.specs.Shifts.{Placed, coordinates_given, no_shift, placed_at, placed_from, shifted_by}
 use Rattle.stim_parser.specs.Offsets.{moved}
@@ -38,9 +38,9 @@ abbrev chain : List Instruction → Tree
 chain [] = Nothing
 chain (i ∷ is) = Then i (chain is)
 
-chain_items : (is : List Instruction) → items_of (chain is) ≡ map Does is
+chain_items : (is : List Instruction) → items_of (chain is) ≡ map InstructionLine is
 chain_items [] = refl
-chain_items (i ∷ is) = ap (λ items. Does i ∷ items) (chain_items is)
+chain_items (i ∷ is) = ap (λ items. InstructionLine i ∷ items) (chain_items is)
 
 no_block : (is : List Instruction) → block_lines (chain is) ≡ 0
 unfolding block_lines
@@ -76,10 +76,10 @@ values_near (a ∷ arguments) h =
 
 coordinates_near : (line : ℕ) (o : Operation) (arguments : List (List ℕ)) (targets : List Target) → Fits (record { line = line; operation = o; arguments = arguments; targets = targets })
     → list_any is_far (coordinates_given o arguments []) ≡ false
-coordinates_near line Errs arguments targets fits = refl
-coordinates_near line Detects arguments targets fits =
+coordinates_near line PauliError arguments targets fits = refl
+coordinates_near line DetectorDeclaration arguments targets fits =
     ap (list_any is_far) (moved_by_nothing (map whole_value arguments)) ∙ values_near arguments fits.arguments_within
-coordinates_near line Observes arguments targets fits = refl
+coordinates_near line ObservableInclude arguments targets fits = refl
 coordinates_near line Shifts arguments targets fits = refl
 
 none_beyond : (is : List Instruction) → AllFit (chain is) → find is_beyond (map placed is) ≡ None
@@ -92,7 +92,7 @@ none_beyond (i ∷ is) h =
 
 -- ---- the model
 
-pub chain_means : (text : List ℕ) (is : List Instruction) → AllStay is → items_in text ≡ Ok (map Does is) → model_in text ≡ Ok (meaning_of (map placed is))
+pub chain_means : (text : List ℕ) (is : List Instruction) → AllStay is → items_in text ≡ Ok (map InstructionLine is) → model_in text ≡ Ok (meaning_of (map placed is))
 chain_means text is still e =
     let t = chain is in
     let writes : Writes text t = e ∙ ap Ok (sym (chain_items is)) in
@@ -104,9 +104,9 @@ chain_means text is still e =
 -- ---- a chain that is counted from its end
 
 stays : (operation : Operation) (arguments : List (List ℕ)) (targets : List Target) → is_shift operation ≡ false → shifted_by operation arguments targets no_shift ≡ no_shift
-stays Errs arguments targets h = refl
-stays Detects arguments targets h = refl
-stays Observes arguments targets h = refl
+stays PauliError arguments targets h = refl
+stays DetectorDeclaration arguments targets h = refl
+stays ObservableInclude arguments targets h = refl
 stays Shifts arguments targets h = absurd (true≢false h)
 
 pub chain-none : (items : List Item) → IsChain (drop (length items) items) (record { detectors = 0; observables = 0; errors = 0 })
@@ -125,7 +125,7 @@ one_error true n p ps e h = rw e (h' h)
     h' same = omega (arith, same)
 one_error false n p ps e h = rw e h
 
-pub chain-next : (items : List Item) (k : ℕ) (i : Instruction) (extent : Extent) (numbers : List ℤ) (counts : LineCounts) → IsChain (drop (k + 1) items) counts → Some (Does i) ≡ slice_get items k
+pub chain-next : (items : List Item) (k : ℕ) (i : Instruction) (extent : Extent) (numbers : List ℤ) (counts : LineCounts) → IsChain (drop (k + 1) items) counts → Some (InstructionLine i) ≡ slice_get items k
     → IsKnown i extent numbers → is_shift i.operation ≡ false → IsChain (drop k items) (counted_with counts i.operation extent)
 chain-next items k i extent numbers counts h got known still =
     let later : suc k ≡ k + 1 = omega arith in
@@ -133,7 +133,7 @@ chain-next items k i extent numbers counts h got known still =
     let wide = known.extent_is in
     record {
       instructions = i ∷ h.instructions;
-      items_are = drop_got items k (Does i) got ∙ ap (λ n. Does i ∷ drop n items) later ∙ ap (λ is. Does i ∷ is) h.items_are;
+      items_are = drop_got items k (InstructionLine i) got ∙ ap (λ n. InstructionLine i ∷ drop n items) later ∙ ap (λ is. InstructionLine i ∷ is) h.items_are;
       stay = (stays i.operation i.arguments i.targets still, h.stay);
       counts_are = record {
         detectors_are = let d = ap (λ (e : Extent). e.detectors) wide in let c = h.counts_are.detectors_are in omega (arith, c, d);

@@ -9,7 +9,7 @@ use Rattle.std.proofs.lemmas.List.{map-id, get_or-take, length-take}
 use Rattle.std.proofs.lemmas.List.Elements.{All-filter, All-push, All-weaker}
 use Rattle.std.proofs.lemmas.List.FromFn.{filter_of_map_range_with_len_more, get_or-range_with_len, length-range_with_len}
 use Rattle.pauli_word.specs.Parity.{exclusive_or}
-use Rattle.dem_parser.specs.Numbered.{odd_below}
+use Rattle.dem_parser.specs.private.Numbered.{odd_below}
 use Rattle.step_model.specs.Targets.{is_listed}
 
 -- ---- a range that is filtered

@@ -5,7 +5,7 @@ use Rattle.std.proofs.lemmas.Bool.{cases_lt}
 use Rattle.std.proofs.lemmas.List.{get_or_append_left, get_or_push, length_push, map-append}
 use Rattle.std.proofs.lemmas.List.Elements.{All-append, All-cons, All-nil}
 use Rattle.dem_lines.specs.declared.operation.Operation.{Operation}
-use Rattle.dem_lines.specs.declared.operation.Operation.TheVariants.{Errs, Detects, Observes, Shifts}
+use Rattle.dem_lines.specs.declared.operation.Operation.TheVariants.{PauliError, DetectorDeclaration, ObservableInclude, Shifts}
 use Rattle.dem_lines.specs.declared.target.Target.{Target}
 use Rattle.dem_lines.specs.Fitting.{Fits}
 use Rattle.dem_lines.specs.Texts.{Item}
@@ -15,12 +15,12 @@ use Rattle.dem_parser.specs.declared.entries.Entry.{Entry}
 use Rattle.dem_parser.specs.declared.entries.Entry.TheVariants as entry
 use Rattle.dem_parser.specs.declared.entries.Rare.{Rare}
 use Rattle.dem_parser.specs.declared.entries.Rare.TheVariants as rare
-use Rattle.dem_parser.specs.Kept.{AreKept, IsAmount, IsEntryKept, IsKept, IsRareKept, item_of, item_of_rare}
-use Rattle.dem_parser.specs.LinesRead.{IsErrorLine}
+use Rattle.dem_parser.specs.private.Kept.{AreKept, IsAmount, IsEntryKept, IsKept, IsRareKept, item_of, item_of_rare}
+use Rattle.dem_parser.specs.private.LinesRead.{IsErrorLine}
 use Rattle.dem_parser.specs.Meanings.{detectors_to, observables_to}
 use Rattle.block_text.specs.Reached.{greatest_by}
-use Rattle.dem_parser.specs.Standing.{Speaks, instruction_at, line_at, line_number}
-use Rattle.dem_parser.specs.Tables.{numbers_stated}
+use Rattle.dem_parser.specs.private.Standing.{Speaks, instruction_at, line_at, line_number}
+use Rattle.dem_parser.specs.private.Tables.{numbers_stated}
 use Rattle.dem_parser.proofs.TableLemmas.{known-fitting}
 
 -- ---- one more
@@ -28,7 +28,7 @@ use Rattle.dem_parser.proofs.TableLemmas.{known-fitting}
 -- what an entry stands for doesn't change where a rare line is added
 item-same : (text : List ℕ) (rares : List Rare) (r : Rare) (e : Entry) → IsEntryKept text (length rares) e → item_of text (rares ++ r ∷ []) e ≡ item_of text rares e
 item-same text rares r (entry.Error observables detectors at) h = refl
-item-same text rares r (entry.Rare number) h = ap (item_of_rare text) (get_or_append_left rares (r ∷ []) rare.Ends number h)
+item-same text rares r (entry.Rare number) h = ap (item_of_rare text) (get_or_append_left rares (r ∷ []) rare.BlockEnd number h)
 
 items-same : (text : List ℕ) (rares : List Rare) (r : Rare) (entries : List Entry) → All (IsEntryKept text (length rares)) entries
     → map (item_of text (rares ++ r ∷ [])) entries ≡ map (item_of text rares) entries
@@ -47,7 +47,7 @@ error-items text entries entries' rares observables detectors at e =
     ap (map (item_of text rares)) e ∙ map-append (item_of text rares) entries (entry.Error observables detectors at ∷ [])
 
 pub error-kept : (text : List ℕ) (entries entries' : List Entry) (rares : List Rare) (numbers : List (List ℤ)) (observables detectors at : ℕ) → entries' ≡ entries ++ entry.Error observables detectors at ∷ []
-    → AreKept text entries rares numbers → IsKept text at Errs (record { detectors = detectors; observables = observables }) 0 [] → AreKept text entries' rares numbers
+    → AreKept text entries rares numbers → IsKept text at PauliError (record { detectors = detectors; observables = observables }) 0 [] → AreKept text entries' rares numbers
 error-kept text entries entries' rares numbers observables detectors at e h new =
     let P = IsEntryKept text (length rares) in
     record {
@@ -61,7 +61,7 @@ pub rare-items : (text : List ℕ) (entries entries' : List Entry) (rares rares'
 rare-items text entries entries' rares rares' numbers r h e more =
     ap₂ (λ (rs : List Rare) (es : List Entry). map (item_of text rs) es) more e
     ∙ map-append (item_of text (rares ++ r ∷ [])) entries (entry.Rare (length rares) ∷ [])
-    ∙ ap₂ (λ (is : List Item) (r' : Rare). is ++ item_of_rare text r' ∷ []) (items-same text rares r entries h.entries_are) (get_or_push rares r rare.Ends (length rares) refl)
+    ∙ ap₂ (λ (is : List Item) (r' : Rare). is ++ item_of_rare text r' ∷ []) (items-same text rares r entries h.entries_are) (get_or_push rares r rare.BlockEnd (length rares) refl)
 
 pub rare-kept : (text : List ℕ) (entries entries' : List Entry) (rares rares' : List Rare) (numbers numbers' : List (List ℤ)) (r : Rare) (ns : List ℤ) → AreKept text entries rares numbers → IsRareKept text r ns
     → entries' ≡ entries ++ entry.Rare (length rares) ∷ [] → rares' ≡ rares ++ r ∷ [] → numbers' ≡ numbers ++ ns ∷ [] → AreKept text entries' rares' numbers'
@@ -73,16 +73,16 @@ rare-kept text entries entries' rares rares' numbers numbers' r ns h new e more 
     record {
       entries_are = subst (All P) (sym e) (All-append P entries (last ∷ []) before (All-cons P last [] (omega (arith, long)) (All-nil P)));
       rares_are = λ k below.
-          (elim (cases_lt k (length rares)) as (λ _. IsRareKept text (get_or rares' k rare.Ends) (get_or numbers' k [])) [
+          (elim (cases_lt k (length rares)) as (λ _. IsRareKept text (get_or rares' k rare.BlockEnd) (get_or numbers' k [])) [
             | inl earlier ↦
-                let same_rare : get_or rares' k rare.Ends ≡ get_or rares k rare.Ends = ap (λ (rs : List Rare). get_or rs k rare.Ends) more ∙ get_or_append_left rares (r ∷ []) rare.Ends k earlier in
+                let same_rare : get_or rares' k rare.BlockEnd ≡ get_or rares k rare.BlockEnd = ap (λ (rs : List Rare). get_or rs k rare.BlockEnd) more ∙ get_or_append_left rares (r ∷ []) rare.BlockEnd k earlier in
                 let same_numbers : get_or numbers' k [] ≡ get_or numbers k [] = ap (λ (xs : List (List ℤ)). get_or xs k []) stated ∙ get_or_append_left numbers (ns ∷ []) [] k (omega (arith, earlier, h.same)) in
                 subst (λ (x : Rare). IsRareKept text x (get_or numbers' k [])) (sym same_rare)
-                (subst (IsRareKept text (get_or rares k rare.Ends)) (sym same_numbers) (h.rares_are k earlier))
+                (subst (IsRareKept text (get_or rares k rare.BlockEnd)) (sym same_numbers) (h.rares_are k earlier))
             | inr later ↦
                 let here : length rares ≡ k = omega (arith, later, below, long) in
                 let there : length numbers ≡ k = h.same ∙ here in
-                let new_rare : get_or rares' k rare.Ends ≡ r = ap (λ (rs : List Rare). get_or rs k rare.Ends) more ∙ get_or_push rares r rare.Ends k here in
+                let new_rare : get_or rares' k rare.BlockEnd ≡ r = ap (λ (rs : List Rare). get_or rs k rare.BlockEnd) more ∙ get_or_push rares r rare.BlockEnd k here in
                 let new_numbers : get_or numbers' k [] ≡ ns = ap (λ (xs : List (List ℤ)). get_or xs k []) stated ∙ get_or_push numbers ns [] k there in
                 subst (λ (x : Rare). IsRareKept text x (get_or numbers' k [])) (sym new_rare)
                 (subst (IsRareKept text r) (sym new_numbers) new)
@@ -93,9 +93,9 @@ rare-kept text entries entries' rares rares' numbers numbers' r ns h new e more 
 -- ---- what is known of a line
 
 amount-is : (operation : Operation) (amount : ℕ) (targets : List Target) → amount ≡ number_in targets → IsAmount operation amount targets
-amount-is Errs amount targets e = tt
-amount-is Detects amount targets e = tt
-amount-is Observes amount targets e = tt
+amount-is PauliError amount targets e = tt
+amount-is DetectorDeclaration amount targets e = tt
+amount-is ObservableInclude amount targets e = tt
 amount-is Shifts amount targets e = e
 
 -- a line that was read
@@ -112,9 +112,9 @@ read-kept text at operation extent amount numbers arguments targets speaks fits 
     }
 
 -- an error line that was read at once
-pub error-read : (line text : List ℕ) (at : ℕ) (extent : Extent) → line ≡ line_at text at → IsErrorLine line extent → IsKept text at Errs extent 0 []
+pub error-read : (line text : List ℕ) (at : ℕ) (extent : Extent) → line ≡ line_at text at → IsErrorLine line extent → IsKept text at PauliError extent 0 []
 error-read line text at extent e h =
-    subst (λ (l : List ℕ). IsErrorLine l extent → IsKept text at Errs extent 0 []) (sym e)
+    subst (λ (l : List ℕ). IsErrorLine l extent → IsKept text at PauliError extent 0 []) (sym e)
     (λ k. record { speaks = k.speaks; known = k.known (line_number text at); amount_is = tt }) h
 
 -- ---- what stands at a place

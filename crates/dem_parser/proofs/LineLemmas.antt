@@ -19,7 +19,7 @@ use Rattle.block_text.specs.declared.said.Said.{Said}
 use Rattle.block_text.specs.declared.said.Said.TheVariants as said
 use Rattle.block_text.specs.Fitting.{ReadingFits}
 use Rattle.block_text.specs.Said.{reading_in}
-use Rattle.block_text.specs.Texts.{Closes, Refuses, Takes}
+use Rattle.block_text.specs.Texts.{Closes, Refuses, Accepts}
 use Rattle.stim_parser.specs.declared.table.Keyword.{Keyword}
 use Rattle.stim_parser.specs.declared.table.Keyword.TheVariants.{Does as keyword_Does, Repeats}
 use Rattle.stim_parser.specs.Arguments.{arguments_in}
@@ -30,8 +30,8 @@ use Rattle.dem_lines.specs.Fitting.{Fits}
 use Rattle.dem_lines.specs.Instructions.{keyword_named}
 use Rattle.dem_lines.specs.Verdicts.{Instruction, model_table}
 use Rattle.dem_lines.proofs.FitLemmas.{reading_fits}
-use Rattle.dem_parser.specs.LinesRead.{IsFirstLine}
-use Rattle.dem_parser.specs.Standing.{instruction_cut, line_at, line_number}
+use Rattle.dem_parser.specs.private.LinesRead.{IsFirstLine}
+use Rattle.dem_parser.specs.private.Standing.{instruction_cut, line_at, line_number}
 
 -- ---- one line
 
@@ -117,7 +117,7 @@ first_cut text line rest after some cut past is long =
 
 -- ---- the instruction of a line that is taken
 
-accepted_is : (refusal : Option Cause) (named : Option (Keyword Operation)) (number : ℕ) (cut : Cut) (i : Instruction) → Takes i ≡ unless_refused refusal (accepted model_table number named cut) → i ≡ instruction_cut number i.operation cut
+accepted_is : (refusal : Option Cause) (named : Option (Keyword Operation)) (number : ℕ) (cut : Cut) (i : Instruction) → Accepts i ≡ unless_refused refusal (accepted model_table number named cut) → i ≡ instruction_cut number i.operation cut
 accepted_is (Some c) named number cut i e = absurd (cc)
 accepted_is None None number cut i e = absurd (cc)
 accepted_is None (Some Repeats) number cut i e = absurd (cc)
@@ -125,11 +125,11 @@ accepted_is None (Some (keyword_Does operation)) number cut i e =
     let same : i ≡ instruction_cut number operation cut = cc in
     same ∙ ap (λ (o : Operation). instruction_cut number o cut) (sym (ap (λ (j : Instruction). j.operation) same))
 
-said_is : (braces : Braces) (depth number : ℕ) (cut : Cut) (i : Instruction) → Takes i ≡ said_by model_table braces depth number cut → i ≡ instruction_cut number i.operation cut
+said_is : (braces : Braces) (depth number : ℕ) (cut : Cut) (i : Instruction) → Accepts i ≡ said_by model_table braces depth number cut → i ≡ instruction_cut number i.operation cut
 unfolding judged
 said_is ClosingAlone depth number cut i e = closed (depth == 0) e
   where
-    closed : (b : Bool) → Takes i ≡ (if b then Refuses model_table.causes.block else Closes) → i ≡ instruction_cut number i.operation cut
+    closed : (b : Bool) → Accepts i ≡ (if b then Refuses model_table.causes.block else Closes) → i ≡ instruction_cut number i.operation cut
     closed true e = absurd cc
     closed false e = absurd cc
 said_is NoBrace depth number cut i e = accepted_is (refusal_of model_table depth cut) (keyword_named cut.name) number cut i e
@@ -141,20 +141,20 @@ pub record IsTaken (depth number : ℕ) (operation : Operation) (arguments : Bor
   pub fits : Fits (instruction_cut number operation cut)
   pub arguments_are : arguments_in arguments.now ≡ (instruction_cut number operation cut).arguments
   pub targets_are : targets ≡ (instruction_cut number operation cut).targets
-  pub reading : reading_of model_table depth number cut ≡ Takes (instruction_cut number operation cut)
+  pub reading : reading_of model_table depth number cut ≡ Accepts (instruction_cut number operation cut)
 
 pub taken_is : (s : Said Operation) (operation : Operation) (arguments : Bor (List ℕ)) (depth number : ℕ) (cut : Cut) (targets : List Target)
-    → s ≡ said.Takes operation arguments → reading_in number s targets ≡ reading_of model_table depth number cut → IsTaken depth number operation arguments targets cut
+    → s ≡ said.Accepts operation arguments → reading_in number s targets ≡ reading_of model_table depth number cut → IsTaken depth number operation arguments targets cut
 unfolding reading_of
 taken_is s operation arguments depth number cut targets is e =
     let i : Instruction = record { line = number; operation = operation; arguments = arguments_in arguments.now; targets = targets } in
-    let takes : Takes i ≡ reading_of model_table depth number cut = sym (ap (λ (x : Said Operation). reading_in number x targets) is) ∙ e in
+    let takes : Accepts i ≡ reading_of model_table depth number cut = sym (ap (λ (x : Said Operation). reading_in number x targets) is) ∙ e in
     let same : i ≡ instruction_cut number operation cut = said_is cut.braces depth number cut i takes in
     record {
       fits = subst Fits same (subst (ReadingFits Fits depth) (sym takes) (reading_fits depth number cut));
       arguments_are = ap (λ (j : Instruction). j.arguments) same;
       targets_are = ap (λ (j : Instruction). j.targets) same;
-      reading = sym takes ∙ ap (λ (j : Instruction). Takes j) same;
+      reading = sym takes ∙ ap (λ (j : Instruction). Accepts j) same;
     }
 
 -- the same of the line that stands at a place

@@ -9,7 +9,7 @@ use Rattle.std.proofs.lemmas.List.FromFn.{get_or-map-range_with_len, length-map-
 use Rattle.stim_lexer.specs.Bytes.{is_empty}
 use Rattle.dem_lines.specs.declared.target.Target.{Target}
 use Rattle.dem_lines.specs.declared.target.Target.TheVariants.{Plain, Detector, Observable, Separator}
-use Rattle.dem_parser.specs.Marked.{HasMarked, list_numbered, marked}
+use Rattle.dem_parser.specs.private.Marked.{HasMarked, list_numbered, marked}
 use Rattle.dem_parser.specs.Meanings.{detectors_to, last_coordinates}
 use Rattle.dem_parser.specs.Shifts.{Placed}
 

@@ -11,7 +11,7 @@ use Rattle.dem_lines.specs.declared.target.Target.{Target}
 use Rattle.dem_lines.specs.declared.target.Target.TheVariants.{Plain, Detector, Observable, Separator}
 use Rattle.dem_parser.specs.Meanings.{detectors_to, observables_to}
 use Rattle.block_text.specs.Reached.{greatest_by}
-use Rattle.dem_parser.specs.Numbered.{odd_below, numbers_of}
+use Rattle.dem_parser.specs.private.Numbered.{odd_below, numbers_of}
 use Rattle.step_model.specs.Targets.{is_listed}
 use Rattle.dem_parser.proofs.FlipLemmas.{filter-agree}
 

@@ -6,7 +6,7 @@ use Rattle.step_model.specs.declared.fault.Cause.TheVariants as cause
 use Rattle.step_model.specs.declared.fault.Fault.{Fault}
 use Rattle.step_model.specs.ErrorModels.{ErrorModel}
 use Rattle.step_model.specs.Faults.{memory_fault, unless, without_line, ◌>>=◌}
-use Rattle.dem_lines.specs.Flat.{tree_of, tree_of-items}
+use Rattle.dem_lines.specs.private.Flat.{tree_of, tree_of-items}
 use Rattle.dem_lines.specs.Texts.{Item}
 use Rattle.dem_parser.specs.Meanings.{meaning_of}
 use Rattle.dem_parser.specs.Models.{first_beyond, model_in, model_of_tree, placed_lines}

@@ -11,20 +11,20 @@ use Rattle.stim_lexer.specs.Bytes.{is_line_feed}
 use Rattle.stim_lexer.specs.Cut.{cut_of, has_bad_byte}
 use Rattle.stim_lexer.specs.Lexing.{Unread}
 use Rattle.stim_lexer.specs.Lines.{lines_of, says_nothing}
-use Rattle.block_text.specs.Texts.{Reading, Takes, Opens, Closes, Refuses, at_end, followed, items_from, line_reading, open_after, refused}
+use Rattle.block_text.specs.Texts.{Reading, Accepts, Opens, Closes, Refuses, at_end, followed, items_from, line_reading, open_after, refused}
 use Rattle.block_text.specs.Judged.{IsRefusedBy}
 use Rattle.block_text.specs.Unfinished.{Unfinished, cause_in, line_items}
 use Rattle.block_text.proofs.TextLemmas.{IsReading, after, after-append, after-err, after-ok}
 use Rattle.stim_parser.specs.Judging.{reading_of}
 use Rattle.dem_lines.specs.Texts.{Item, items_in, models}
-use Rattle.block_text.specs.Trees.{Does, Begins, Ends}
+use Rattle.block_text.specs.Trees.{InstructionLine, BlockStart, BlockEnd}
 use Rattle.dem_lines.specs.Verdicts.{Instruction, model_table}
-use Rattle.dem_lines.specs.declared.operation.Operation.TheVariants.{Errs}
+use Rattle.dem_lines.specs.declared.operation.Operation.TheVariants.{PauliError}
 use Rattle.dem_parser.specs.declared.counts.Extent.{Extent}
-use Rattle.dem_parser.specs.Kept.{IsKept, Kept, with_item}
-use Rattle.dem_parser.specs.LinesRead.{BeginsWithError, HasRead, HasSpoken, IsErrorLine, IsFirstLine, PassesFirst, PassesLine, unfinished}
+use Rattle.dem_parser.specs.private.Kept.{IsKept, Kept, with_item}
+use Rattle.dem_parser.specs.private.LinesRead.{BeginsWithError, HasRead, HasSpoken, IsErrorLine, IsFirstLine, PassesFirst, PassesLine, unfinished}
 use Rattle.dem_parser.proofs.KeptLemmas.{error-read}
-use Rattle.dem_parser.specs.Standing.{instruction_at, instruction_cut, line_at, line_number}
+use Rattle.dem_parser.specs.private.Standing.{instruction_at, instruction_cut, line_at, line_number}
 
 -- ---- where a line stands
 
@@ -81,19 +81,19 @@ stands-numbered text rest read h =
 
 -- ---- what a cut line says
 
-pub read-takes : (reading : Reading Instruction) (i : Instruction) (number : ℕ) (kept kept' : Kept) (opened opened' : List ℕ) → reading ≡ Takes i → kept' ≡ with_item kept (Does i) → opened' ≡ opened
+pub read-takes : (reading : Reading Instruction) (i : Instruction) (number : ℕ) (kept kept' : Kept) (opened opened' : List ℕ) → reading ≡ Accepts i → kept' ≡ with_item kept (InstructionLine i) → opened' ≡ opened
     → HasRead reading number None kept opened kept' opened'
 read-takes reading i number kept kept' opened opened' e more same =
     rw (e, more, same) (record { cause_is = refl; text_is = refl; after_is = refl })
 
-pub read-opens : (reading : Reading Instruction) (turns number : ℕ) (kept kept' : Kept) (opened opened' : List ℕ) → reading ≡ Opens turns → kept' ≡ with_item kept (Begins number turns) → opened' ≡ opened ++ number ∷ []
+pub read-opens : (reading : Reading Instruction) (turns number : ℕ) (kept kept' : Kept) (opened opened' : List ℕ) → reading ≡ Opens turns → kept' ≡ with_item kept (BlockStart number turns) → opened' ≡ opened ++ number ∷ []
     → HasRead reading number None kept opened kept' opened'
 read-opens reading turns number kept kept' opened opened' e more next =
     rw (e, more, next)
     (record {
       cause_is = refl;
       text_is = refl;
-      after_is = ap (λ (os : List ℕ). record { items = kept.items ++ Begins number turns ∷ []; opened = os }) (reverse-append opened (number ∷ []));
+      after_is = ap (λ (os : List ℕ). record { items = kept.items ++ BlockStart number turns ∷ []; opened = os }) (reverse-append opened (number ∷ []));
     })
 
 last-closed : (opened opened' : List ℕ) (popped : Option ℕ) → opened ≡ opened' ++ option_to_list popped → opened' ≡ take (length opened - 1) opened → reverse opened' ≡ drop 1 (reverse opened)
@@ -105,14 +105,14 @@ last-closed opened opened' None e rest =
     rw (same, nothing) refl
 last-closed opened opened' (Some b) e rest = sym (ap (λ os. drop 1 (reverse os)) e ∙ ap (drop 1) (reverse-append opened' (b ∷ [])))
 
-pub read-closes : (reading : Reading Instruction) (number : ℕ) (kept kept' : Kept) (opened opened' : List ℕ) (popped : Option ℕ) → reading ≡ Closes → kept' ≡ with_item kept Ends → opened ≡ opened' ++ option_to_list popped → opened' ≡ take (length opened - 1) opened
+pub read-closes : (reading : Reading Instruction) (number : ℕ) (kept kept' : Kept) (opened opened' : List ℕ) (popped : Option ℕ) → reading ≡ Closes → kept' ≡ with_item kept BlockEnd → opened ≡ opened' ++ option_to_list popped → opened' ≡ take (length opened - 1) opened
     → HasRead reading number None kept opened kept' opened'
 read-closes reading number kept kept' opened opened' popped e more last rest =
     rw (e, more)
     (record {
       cause_is = refl;
       text_is = refl;
-      after_is = ap (λ (os : List ℕ). record { items = kept.items ++ Ends ∷ []; opened = os }) (last-closed opened opened' popped last rest);
+      after_is = ap (λ (os : List ℕ). record { items = kept.items ++ BlockEnd ∷ []; opened = os }) (last-closed opened opened' popped last rest);
     })
 
 pub read-refuses : (reading : Reading Instruction) (c : Cause) (number : ℕ) (kept kept' : Kept) (opened opened' : List ℕ) → reading ≡ Refuses c → kept' ≡ kept → opened' ≡ opened
@@ -134,13 +134,13 @@ spoken-cut line number refused kept kept' opened opened' speaks good h =
     record { speaks = speaks; read = subst (λ (r : Reading Instruction). HasRead r number refused kept opened kept' opened') (sym same) h }
 
 pub spoken-error : (line : List ℕ) (extent : Extent) (text : List ℕ) (at number : ℕ) (kept kept' : Kept) (opened opened' : List ℕ) → IsErrorLine line extent → line ≡ line_at text at → number ≡ line_number text at
-    → kept' ≡ with_item kept (Does (instruction_at text at Errs)) → opened' ≡ opened → HasSpoken line number None kept opened kept' opened'
+    → kept' ≡ with_item kept (InstructionLine (instruction_at text at PauliError)) → opened' ≡ opened → HasSpoken line number None kept opened kept' opened'
 spoken-error line extent text at number kept kept' opened opened' h e n more same =
-    let i = instruction_cut number Errs (cut_of line) in
-    let is : instruction_at text at Errs ≡ i = ap₂ (λ (m : ℕ) (l : List ℕ). instruction_cut m Errs (cut_of l)) (sym n) (sym e) in
+    let i = instruction_cut number PauliError (cut_of line) in
+    let is : instruction_at text at PauliError ≡ i = ap₂ (λ (m : ℕ) (l : List ℕ). instruction_cut m PauliError (cut_of l)) (sym n) (sym e) in
     record {
       speaks = h.speaks.speaks;
-      read = read-takes (line_reading models (reverse opened) number line) i number kept kept' opened opened' (h.taken number (reverse opened)) (more ∙ ap (λ (j : Instruction). with_item kept (Does j)) is) same;
+      read = read-takes (line_reading models (reverse opened) number line) i number kept kept' opened opened' (h.taken number (reverse opened)) (more ∙ ap (λ (j : Instruction). with_item kept (InstructionLine j)) is) same;
     }
 
 -- ---- one line more
@@ -155,13 +155,13 @@ unfolding items_from
 spoken opened read line lines speaks = rw speaks refl
 
 followed-after : (number : ℕ) (r : Reading Instruction) (rest : Result (List Item) _) → None ≡ cause_in r → followed number r rest ≡ after (line_items number r) rest
-followed-after number (Takes i) rest h = refl
+followed-after number (Accepts i) rest h = refl
 followed-after number (Opens turns) rest h = refl
 followed-after number Closes rest h = refl
 followed-after number (Refuses c) rest h = absurd (cc)
 
 followed-refused : (number : ℕ) (r : Reading Instruction) (rest : Result (List Item) _) (c : Cause) → Some c ≡ cause_in r → followed number r rest ≡ Err (refused c number)
-followed-refused number (Takes i) rest c h = absurd (cc)
+followed-refused number (Accepts i) rest c h = absurd (cc)
 followed-refused number (Opens turns) rest c h = absurd (cc)
 followed-refused number Closes rest c h = absurd (cc)
 followed-refused number (Refuses d) rest c h = let same : c ≡ d = cc in ap (λ (x : Cause). Err (refused x number)) (sym same)
@@ -251,7 +251,7 @@ first-stands text rest read h = stands-at text rest (before_first is_line_feed r
 -- ---- a line that was read
 
 pub passes-error : (text after : List ℕ) (extent : Extent) (whole : List ℕ) (at number : ℕ) (kept kept' : Kept) (opened opened' : List ℕ) → BeginsWithError text extent after
-    → before_first is_line_feed text ≡ line_at whole at → number ≡ line_number whole at → kept' ≡ with_item kept (Does (instruction_at whole at Errs)) → opened' ≡ opened → PassesFirst text after number None kept opened kept' opened'
+    → before_first is_line_feed text ≡ line_at whole at → number ≡ line_number whole at → kept' ≡ with_item kept (InstructionLine (instruction_at whole at PauliError)) → opened' ≡ opened → PassesFirst text after number None kept opened kept' opened'
 passes-error text after extent whole at number kept kept' opened opened' h e n more same =
     record {
       line = h.line;
@@ -259,7 +259,7 @@ passes-error text after extent whole at number kept kept' opened opened' h e n m
       passes = inr (spoken-error h.line extent whole at number kept kept' opened opened' h.error (h.first.cut ∙ e) n more same);
     }
 
-pub error-begun : (text after : List ℕ) (extent : Extent) (whole : List ℕ) (at : ℕ) → BeginsWithError text extent after → before_first is_line_feed text ≡ line_at whole at → IsKept whole at Errs extent 0 []
+pub error-begun : (text after : List ℕ) (extent : Extent) (whole : List ℕ) (at : ℕ) → BeginsWithError text extent after → before_first is_line_feed text ≡ line_at whole at → IsKept whole at PauliError extent 0 []
 error-begun text after extent whole at h e = error-read h.line whole at extent (h.first.cut ∙ e) h.error
 
 pub passes-silent : (text line after : List ℕ) (number : ℕ) (kept : Kept) (opened : List ℕ) → IsFirstLine text line after → says_nothing line ≡ true → PassesFirst text after number None kept opened kept opened

@@ -12,7 +12,7 @@ use Rattle.stim_parser.specs.Limits.{has_argument_beyond, has_wrong_arguments, i
 use Rattle.stim_parser.specs.Numbers.{greatest_number, has_minus, magnitude_of, whole_value}
 use Rattle.stim_parser.specs.declared.table.Keyword.TheVariants.{Does}
 use Rattle.dem_lines.specs.declared.operation.Operation.{Operation}
-use Rattle.dem_lines.specs.declared.operation.Operation.TheVariants.{Errs, Detects, Observes, Shifts}
+use Rattle.dem_lines.specs.declared.operation.Operation.TheVariants.{PauliError, DetectorDeclaration, ObservableInclude, Shifts}
 use Rattle.dem_lines.specs.declared.target.Target.{Target}
 use Rattle.dem_lines.specs.declared.target.Target.TheVariants.{Plain, Detector, Observable, Separator}
 use Rattle.dem_lines.specs.Fitting.{Fits}
@@ -20,10 +20,10 @@ use Rattle.dem_lines.specs.Instructions.{argument_form}
 use Rattle.dem_lines.specs.Limits.{has_target_beyond, is_target_beyond}
 use Rattle.dem_lines.specs.Verdicts.{Instruction, number_in}
 use Rattle.dem_parser.specs.declared.counts.Extent.{Extent}
-use Rattle.dem_parser.specs.Offsets.{AreSmall, HasRoom, beyond_stated, number_at}
+use Rattle.dem_parser.specs.private.Offsets.{AreSmall, HasRoom, beyond_stated, number_at}
 use Rattle.dem_parser.specs.Shifts.{Shift, shift_after, shifted_by}
 use Rattle.stim_parser.specs.Offsets.{shifted, moved}
-use Rattle.dem_parser.specs.Tables.{IsKnown, numbers_stated}
+use Rattle.dem_parser.specs.private.Tables.{IsKnown, numbers_stated}
 
 -- ---- offsets
 
@@ -165,9 +165,9 @@ room-next i e ns s n known room = after i.operation i.arguments i.targets (numbe
     stays = record { detectors = more n (suc n) (omega arith) s.detectors room.detectors; offset = λ k d below. more n (suc n) (omega arith) (nat_abs (get_or s.offset k d)) (room.offset k d below) }
 
     after : (operation : Operation) (arguments : List (List ℕ)) (ts : List Target) → number_in ts < beyond_stated → AreSmall (numbers_stated operation arguments) → HasRoom (shifted_by operation arguments ts s) n
-    after Errs arguments ts few small = stays
-    after Detects arguments ts few small = stays
-    after Observes arguments ts few small = stays
+    after PauliError arguments ts few small = stays
+    after DetectorDeclaration arguments ts few small = stays
+    after ObservableInclude arguments ts few small = stays
     after Shifts arguments ts few small =
         record {
           detectors = let now = room.detectors in omega (arith, now, few);

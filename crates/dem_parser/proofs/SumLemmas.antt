@@ -8,7 +8,7 @@ use Rattle.pauli_word.specs.Parity.{exclusive_or}
 use Rattle.step_model.specs.ErrorModels.{ErrorLine, ErrorModel}
 use Rattle.dem_parser.specs.Sums.{is_in_symptom, symptom_of}
 use Rattle.step_model.specs.Targets.{is_listed}
-use Rattle.dem_parser.specs.Turned.{turned, turned_at, turned_by}
+use Rattle.dem_parser.specs.private.Turned.{turned, turned_at, turned_by}
 
 -- ---- one truth value
 

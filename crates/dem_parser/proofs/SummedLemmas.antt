@@ -9,12 +9,12 @@ use Rattle.pauli_word.specs.Parity.{exclusive_or}
 use Rattle.step_model.specs.ErrorModels.{ErrorLine, ErrorModel}
 use Rattle.dem_lines.specs.declared.target.Target.{Target}
 use Rattle.dem_parser.specs.Meanings.{detector_count, error_line, error_lines, flipped, is_error, meaning_of, observable_count, numbered}
-use Rattle.dem_parser.specs.Numbered.{odd_below, numbers_of}
+use Rattle.dem_parser.specs.private.Numbered.{odd_below, numbers_of}
 use Rattle.dem_parser.specs.Shifts.{Placed}
-use Rattle.dem_parser.specs.Summed.{error_count, passed_after, turned_past}
+use Rattle.dem_parser.specs.private.Summed.{error_count, passed_after, turned_past}
 use Rattle.dem_parser.specs.Sums.{symptom_of}
 use Rattle.step_model.specs.Targets.{is_listed}
-use Rattle.dem_parser.specs.Turned.{turned, turned_at, turned_by}
+use Rattle.dem_parser.specs.private.Turned.{turned, turned_at, turned_by}
 use Rattle.dem_parser.proofs.SumLemmas.{length-turned_if, symptom-turned, turned-map}
 
 -- ---- targets one after another

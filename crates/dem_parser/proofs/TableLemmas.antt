@@ -10,7 +10,7 @@ use Rattle.stim_parser.specs.Limits.{has_argument_beyond}
 use Rattle.stim_parser.specs.Numbers.{greatest_number, whole_value}
 use Rattle.dem_lines.specs.Instructions.{argument_form}
 use Rattle.dem_lines.specs.declared.operation.Operation.{Operation}
-use Rattle.dem_lines.specs.declared.operation.Operation.TheVariants.{Errs, Detects, Observes, Shifts}
+use Rattle.dem_lines.specs.declared.operation.Operation.TheVariants.{PauliError, DetectorDeclaration, ObservableInclude, Shifts}
 use Rattle.dem_lines.specs.declared.target.Target.{Target}
 use Rattle.dem_lines.specs.declared.target.Target.TheVariants.{Plain, Detector, Observable, Separator}
 use Rattle.dem_lines.specs.Fitting.{Fits}
@@ -20,8 +20,8 @@ use Rattle.dem_parser.specs.declared.counts.Extent.{Extent}
 use Rattle.dem_parser.specs.Meanings.{detectors_to, observables_to}
 use Rattle.block_text.specs.Reached.{greatest_by}
 use Rattle.dem_parser.specs.Shifts.{Shift, coordinates_given, placed_at, target_at}
-use Rattle.dem_parser.specs.Tables.{IsKnown, coordinates_from, count_at, most_detectors, numbers_of_line, numbers_stated}
-use Rattle.dem_parser.specs.Offsets.{AreSmall}
+use Rattle.dem_parser.specs.private.Tables.{IsKnown, coordinates_from, count_at, most_detectors, numbers_of_line, numbers_stated}
+use Rattle.dem_parser.specs.private.Offsets.{AreSmall}
 use Rattle.dem_parser.proofs.ShiftLemmas.{few_arguments, left, right, small_values}
 
 -- ---- what is known of an instruction that fits
@@ -32,9 +32,9 @@ numbers-right i fits = stated i.operation i.arguments (few_arguments i fits) fit
   where
     stated : (operation : Operation) (arguments : List (List ℕ)) → length arguments ≤ 16 → has_argument_beyond greatest_number (argument_form (Keyword.Does operation)) arguments ≡ false
         → (length (numbers_stated operation arguments) ≤ 16) × AreSmall (numbers_stated operation arguments)
-    stated Errs arguments few within = (omega arith, λ k d below. absurd (omega (arith, below)))
-    stated Detects arguments few within = (let same = length-map arguments whole_value in omega (arith, same, few), small_values arguments within)
-    stated Observes arguments few within = (omega arith, λ k d below. absurd (omega (arith, below)))
+    stated PauliError arguments few within = (omega arith, λ k d below. absurd (omega (arith, below)))
+    stated DetectorDeclaration arguments few within = (let same = length-map arguments whole_value in omega (arith, same, few), small_values arguments within)
+    stated ObservableInclude arguments few within = (omega arith, λ k d below. absurd (omega (arith, below)))
     stated Shifts arguments few within = (let same = length-map arguments whole_value in omega (arith, same, few), small_values arguments within)
 
 -- ---- targets that are shifted
@@ -107,9 +107,9 @@ few-named (Separator ∷ ts) h = let rest = few-named ts h in (omega (arith, res
 -- ---- a line as it is reached
 
 coordinates-same : (operation : Operation) (arguments : List (List ℕ)) (offset : List ℤ) → coordinates_from operation (numbers_stated operation arguments) offset ≡ coordinates_given operation arguments offset
-coordinates-same Errs arguments offset = refl
-coordinates-same Detects arguments offset = refl
-coordinates-same Observes arguments offset = refl
+coordinates-same PauliError arguments offset = refl
+coordinates-same DetectorDeclaration arguments offset = refl
+coordinates-same ObservableInclude arguments offset = refl
 coordinates-same Shifts arguments offset = refl
 
 targets-beyond : (s : Shift) (i : Instruction) (e : Extent) (ns : List ℤ) → IsKnown i e ns

@@ -4,14 +4,14 @@ use Rattle.std.specs.Prelude.{min, nat_lt}
 use Rattle.std.proofs.lemmas.Bool.{cases_lt, lt-ltb, le-ltb}
 use Rattle.dem_parser.specs.declared.unrolled.Unrolled.{Unrolled}
 use Rattle.dem_lines.specs.Fitting.{AllFit}
-use Rattle.dem_parser.specs.Unrolled.{greatest, lines_inside, capped_sum, repeated_sum, nothing_counted, counts_after, counts_repeated, counting, Counts}
+use Rattle.dem_parser.specs.private.Unrolled.{greatest, lines_inside, capped_sum, repeated_sum, nothing_counted, counts_after, counts_repeated, counting, Counts}
 use Rattle.dem_lines.specs.Reached.{block_lines, has_many_lines, most_lines}
 use Rattle.block_text.specs.Reached.{total}
 use Rattle.block_text.specs.declared.blocks.OpenBlock.{OpenBlock}
-use Rattle.dem_lines.specs.Passes.{Passes, behind}
-use Rattle.dem_parser.specs.TableLines.{stand_of}
+use Rattle.dem_lines.specs.private.Passes.{Passes, behind}
+use Rattle.dem_parser.specs.private.TableLines.{stand_of}
 use Rattle.dem_lines.specs.Texts.{Item}
-use Rattle.block_text.specs.Trees.{Does, Begins, Ends, Nothing, Then, Block, items_of}
+use Rattle.block_text.specs.Trees.{InstructionLine, BlockStart, BlockEnd, Nothing, Then, Block, items_of}
 use Rattle.dem_lines.specs.Trees.{Tree}
 
 -- ---- one count
@@ -82,7 +82,7 @@ few-outside Nothing = omega arith
 few-outside (Then i rest) = let r = few-outside rest in omega (arith, r)
 few-outside (Block line turns body rest) =
     let r = few-outside rest in
-    let l = length-append (items_of body) (Ends ∷ items_of rest) in omega (arith, r, l)
+    let l = length-append (items_of body) (BlockEnd ∷ items_of rest) in omega (arith, r, l)
 
 tells : (inside outside limit blocks p : ℕ) → outside ≡ min p greatest → inside ≡ min (p + blocks) greatest → p < 2 ^ 64 → limit < 2 ^ 64
     → nat_lt (min (outside + limit) greatest) inside ≡ nat_lt limit blocks
@@ -108,6 +108,6 @@ counted t c fit e few =
 -- a place counts as its item does
 pub counts_item : (item : Item) (c : Unrolled) (blocks : List (OpenBlock Unrolled)) (c' : Unrolled) (blocks' : List (OpenBlock Unrolled))
     → Counts (stand_of item) c blocks c' blocks' → Passes counting item c blocks c' blocks'
-counts_item (Does i) c blocks c' blocks' h = h
-counts_item (Begins line turns) c blocks c' blocks' h = h
-counts_item Ends c blocks c' blocks' h = h
+counts_item (InstructionLine i) c blocks c' blocks' h = h
+counts_item (BlockStart line turns) c blocks c' blocks' h = h
+counts_item BlockEnd c blocks c' blocks' h = h

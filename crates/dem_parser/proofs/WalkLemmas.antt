@@ -11,9 +11,9 @@ use Rattle.dem_parser.specs.Meanings.{detector_count, detectors_to, error_lines,
 use Rattle.block_text.specs.Reached.{greatest_by}
 use Rattle.dem_parser.specs.Models.{first_beyond, is_beyond}
 use Rattle.dem_parser.specs.Shifts.{Placed}
-use Rattle.dem_parser.specs.Summed.{AreCounts, HasCounted, error_count, passed_after, turned_past}
+use Rattle.dem_parser.specs.private.Summed.{AreCounts, HasCounted, error_count, passed_after, turned_past}
 use Rattle.dem_parser.specs.Sums.{symptom_of}
-use Rattle.dem_parser.specs.Turned.{turned_by}
+use Rattle.dem_parser.specs.private.Turned.{turned_by}
 use Rattle.dem_parser.proofs.CountLemmas.{max-more, max-none}
 use Rattle.dem_parser.proofs.ShiftLemmas.{left}
 use Rattle.dem_parser.proofs.SummedLemmas.{count-at, length-past, sum-at, sum-first, unnamed-past}

@@ -6,30 +6,30 @@ use Rattle.std.proofs.lemmas.Bool.Decides.{nat_tests}
 use Rattle.block_text.specs.Flat.{first_tree, onto, trees_of}
 use Rattle.block_text.specs.Stored.{read_back}
 use Rattle.dem_lines.specs.Fitting.{IsAccepted}
-use Rattle.dem_lines.specs.Passes.{CanStand}
+use Rattle.dem_lines.specs.private.Passes.{CanStand}
 use Rattle.dem_parser.specs.declared.table_line.Stand.{Stand}
 use Rattle.dem_parser.specs.declared.table_line.Stand.TheVariants as stand
-use Rattle.dem_parser.specs.TableLines.{CanStandAt, HasNoLine, stand_of}
-use Rattle.dem_parser.specs.Unrolled.{lines_inside}
+use Rattle.dem_parser.specs.private.TableLines.{CanStandAt, HasNoLine, stand_of}
+use Rattle.dem_parser.specs.private.Unrolled.{lines_inside}
 use Rattle.dem_lines.specs.Reached.{block_lines, has_many_lines}
 use Rattle.block_text.specs.Reached.{copies, reached, total}
 use Rattle.dem_lines.specs.Texts.{Item}
-use Rattle.block_text.specs.Trees.{Does, Begins, Ends, Nothing, Then, Block, items_of}
+use Rattle.block_text.specs.Trees.{InstructionLine, BlockStart, BlockEnd, Nothing, Then, Block, items_of}
 use Rattle.dem_lines.specs.Trees.{Tree}
 use Rattle.dem_lines.specs.Verdicts.{Instruction}
 use Rattle.dem_lines.proofs.PassLemmas.{AreWhole, can_stand, drop_got, whole-tree}
 use Rattle.dem_parser.specs.declared.walk.Turns.{Turns}
-use Rattle.dem_parser.specs.Offsets.{HasRoom}
+use Rattle.dem_parser.specs.private.Offsets.{HasRoom}
 use Rattle.dem_parser.specs.Shifts.{Placed, Shift, no_shift, placed_at, placed_from, shift_after}
-use Rattle.dem_parser.specs.Walks.{AreOpen, IsAtLine, IsPlacedWalk, IsWalk, after_stand, after_turn, gone_over, is_at_line, items_left, left_behind, lines_among, lines_left, placed_left, trees_at, turn_of}
+use Rattle.dem_parser.specs.private.Walks.{AreOpen, IsAtLine, IsPlacedWalk, IsWalk, after_stand, after_turn, gone_over, is_at_line, items_left, left_behind, lines_among, lines_left, placed_left, trees_at, turn_of}
 
 -- ---- instructions among items
 
 among-both : (xs ys : List Item) → lines_among (xs ++ ys) ≡ lines_among xs ++ lines_among ys
 among-both [] ys = refl
-among-both (Does i ∷ xs) ys = ap (λ is. i ∷ is) (among-both xs ys)
-among-both (Begins line turns ∷ xs) ys = among-both xs ys
-among-both (Ends ∷ xs) ys = among-both xs ys
+among-both (InstructionLine i ∷ xs) ys = ap (λ is. i ∷ is) (among-both xs ys)
+among-both (BlockStart line turns ∷ xs) ys = among-both xs ys
+among-both (BlockEnd ∷ xs) ys = among-both xs ys
 
 among-copies : (n : ℕ) (xs : List Item) → lines_among (copies n xs) ≡ copies n (lines_among xs)
 among-copies zero xs = refl
@@ -42,7 +42,7 @@ among-tree (Block line turns body rest) =
     among-both (copies turns (turn_of body)) (gone_over rest)
     ∙ ap (λ is. is ++ lines_among (gone_over rest))
     (among-copies turns (turn_of body)
-    ∙ ap (copies turns) (among-both (gone_over body) (Ends ∷ []) ∙ append-nil (lines_among (gone_over body)) ∙ among-tree body))
+    ∙ ap (copies turns) (among-both (gone_over body) (BlockEnd ∷ []) ∙ append-nil (lines_among (gone_over body)) ∙ among-tree body))
     ∙ ap (λ is. copies turns (reached body) ++ is) (among-tree rest)
 
 -- ---- the first place
@@ -62,53 +62,53 @@ left-first t =
 -- there is a tree for each open block, and one more
 trees-long : (items : List Item) (d : ℕ) → AreWhole items d → length (trees_of items) ≡ suc d
 trees-long [] d whole = ap suc (sym whole)
-trees-long (Does i ∷ items) d whole = one (trees_of items) (trees-long items d whole.1)
+trees-long (InstructionLine i ∷ items) d whole = one (trees_of items) (trees-long items d whole.1)
   where
-    one : (ts : List Tree) → length ts ≡ suc d → length (onto (Does i) ts) ≡ suc d
+    one : (ts : List Tree) → length ts ≡ suc d → length (onto (InstructionLine i) ts) ≡ suc d
     one [] e = e
     one (t ∷ ts) e = e
-trees-long (Begins line turns ∷ items) d whole = two (trees_of items) (trees-long items (suc d) whole.2)
+trees-long (BlockStart line turns ∷ items) d whole = two (trees_of items) (trees-long items (suc d) whole.2)
   where
-    two : (ts : List Tree) → length ts ≡ suc (suc d) → length (onto (Begins line turns) ts) ≡ suc d
+    two : (ts : List Tree) → length ts ≡ suc (suc d) → length (onto (BlockStart line turns) ts) ≡ suc d
     two [] e = absurd (omega (arith, e))
     two (t ∷ []) e = absurd (omega (arith, e))
     two (t ∷ u ∷ ts) e = omega (arith, e)
-trees-long (Ends ∷ items) zero whole = absurd whole
-trees-long (Ends ∷ items) (suc d) whole = ap suc (trees-long items d whole)
+trees-long (BlockEnd ∷ items) zero whole = absurd whole
+trees-long (BlockEnd ∷ items) (suc d) whole = ap suc (trees-long items d whole)
 
 -- the first of several turns, before what follows them
-first_turn : (body more : List Item) (n : ℕ) → copies (suc n) (body ++ Ends ∷ []) ++ more ≡ body ++ Ends ∷ (copies n (body ++ Ends ∷ []) ++ more)
+first_turn : (body more : List Item) (n : ℕ) → copies (suc n) (body ++ BlockEnd ∷ []) ++ more ≡ body ++ BlockEnd ∷ (copies n (body ++ BlockEnd ∷ []) ++ more)
 first_turn body more n =
-    let turns = copies n (body ++ Ends ∷ []) in
-    append_assoc (body ++ Ends ∷ []) turns more ∙ append_assoc body (Ends ∷ []) (turns ++ more)
+    let turns = copies n (body ++ BlockEnd ∷ []) in
+    append_assoc (body ++ BlockEnd ∷ []) turns more ∙ append_assoc body (BlockEnd ∷ []) (turns ++ more)
 
 goes-does : (items : List Item) (blocks : List Turns) (i : Instruction) (ts : List Tree) (d : ℕ) → length ts ≡ suc d
-    → gone_over (first_tree (onto (Does i) ts)) ++ left_behind items blocks (drop 1 (onto (Does i) ts))
-    ≡ Does i ∷ (gone_over (first_tree ts) ++ left_behind items blocks (drop 1 ts))
+    → gone_over (first_tree (onto (InstructionLine i) ts)) ++ left_behind items blocks (drop 1 (onto (InstructionLine i) ts))
+    ≡ InstructionLine i ∷ (gone_over (first_tree ts) ++ left_behind items blocks (drop 1 ts))
 goes-does items blocks i [] d e = absurd (omega (arith, e))
 goes-does items blocks i (t ∷ ts) d e = refl
 
 goes-begins : (items : List Item) (blocks : List Turns) (start line turns : ℕ) (ts : List Tree) (d : ℕ) → 0 < turns → trees_at items start ≡ ts → length ts ≡ suc (suc d)
-    → gone_over (first_tree (onto (Begins line turns) ts)) ++ left_behind items blocks (drop 1 (onto (Begins line turns) ts))
-    ≡ Begins line turns ∷ (gone_over (first_tree ts) ++ left_behind items (record { start = start; left = turns - 1 } ∷ blocks) (drop 1 ts))
+    → gone_over (first_tree (onto (BlockStart line turns) ts)) ++ left_behind items blocks (drop 1 (onto (BlockStart line turns) ts))
+    ≡ BlockStart line turns ∷ (gone_over (first_tree ts) ++ left_behind items (record { start = start; left = turns - 1 } ∷ blocks) (drop 1 ts))
 goes-begins items blocks start line zero ts d some e long = absurd (omega (arith, some))
 goes-begins items blocks start line (suc n) [] d some e long = absurd (omega (arith, long))
 goes-begins items blocks start line (suc n) (t ∷ []) d some e long = absurd (omega (arith, long))
 goes-begins items blocks start line (suc n) (t ∷ u ∷ ts) d some e long =
     let less : n ≡ suc n - 1 = omega arith in
     let more = gone_over u ++ left_behind items blocks ts in
-    ap (λ (is : List Item). Begins line (suc n) ∷ is)
+    ap (λ (is : List Item). BlockStart line (suc n) ∷ is)
     (append_assoc (copies (suc n) (turn_of t)) (gone_over u) (left_behind items blocks ts)
     ∙ first_turn (gone_over t) more n
-    ∙ ap (λ (b : Tree). gone_over t ++ Ends ∷ (copies n (turn_of b) ++ more)) (sym (ap first_tree e))
-    ∙ ap (λ m. gone_over t ++ Ends ∷ (copies m (turn_of (first_tree (trees_at items start))) ++ more)) less)
+    ∙ ap (λ (b : Tree). gone_over t ++ BlockEnd ∷ (copies n (turn_of b) ++ more)) (sym (ap first_tree e))
+    ∙ ap (λ m. gone_over t ++ BlockEnd ∷ (copies m (turn_of (first_tree (trees_at items start))) ++ more)) less)
 
-drop-onto : (line turns : ℕ) (ts : List Tree) → drop 1 (drop 1 ts) ≡ drop 1 (onto (Begins line turns) ts)
+drop-onto : (line turns : ℕ) (ts : List Tree) → drop 1 (drop 1 ts) ≡ drop 1 (onto (BlockStart line turns) ts)
 drop-onto line turns [] = refl
 drop-onto line turns (t ∷ []) = refl
 drop-onto line turns (t ∷ u ∷ ts) = refl
 
-drop-does : (i : Instruction) (ts : List Tree) → drop 1 (onto (Does i) ts) ≡ drop 1 ts
+drop-does : (i : Instruction) (ts : List Tree) → drop 1 (onto (InstructionLine i) ts) ≡ drop 1 ts
 drop-does i [] = refl
 drop-does i (t ∷ ts) = refl
 
@@ -120,18 +120,18 @@ pub record HasGone (items : List Item) (left : List Item) (item : Item) (place :
 -- after the end of a turn
 goes-ends : (items : List Item) (place : ℕ) (blocks : List Turns) (start left : ℕ) (ts : List Tree) → trees_at items (place + 1) ≡ ts
     → drop 1 (trees_at items start) ≡ ts → AreWhole (drop start items) (suc (length blocks)) → AreWhole (drop (place + 1) items) (length blocks) → AreOpen items blocks (drop 1 ts) → suc (length blocks) ≤ 32
-    → HasGone items (left_behind items (record { start = start; left = left } ∷ blocks) ts) Ends (after_turn start left place blocks)
+    → HasGone items (left_behind items (record { start = start; left = left } ∷ blocks) ts) BlockEnd (after_turn start left place blocks)
 goes-ends items place blocks start zero ts here same again out inside few =
     record {
-      left_is = ap (λ (us : List Tree). Ends ∷ (gone_over (first_tree us) ++ left_behind items blocks (drop 1 us))) (sym here);
+      left_is = ap (λ (us : List Tree). BlockEnd ∷ (gone_over (first_tree us) ++ left_behind items blocks (drop 1 us))) (sym here);
       walk = record { inside = subst (λ (us : List Tree). AreOpen items blocks (drop 1 us)) (sym here) inside; whole = out; few = omega (arith, few) };
     }
 goes-ends items place blocks start (suc n) ts here same again out inside few =
     let body = first_tree (trees_at items start) in
     record {
       left_is =
-          ap (λ (is : List Item). Ends ∷ is) (first_turn (gone_over body) (gone_over (first_tree ts) ++ left_behind items blocks (drop 1 ts)) n)
-          ∙ ap (λ (us : List Tree). Ends ∷ (gone_over body ++ left_behind items (record { start = start; left = n } ∷ blocks) us)) (sym same);
+          ap (λ (is : List Item). BlockEnd ∷ is) (first_turn (gone_over body) (gone_over (first_tree ts) ++ left_behind items blocks (drop 1 ts)) n)
+          ∙ ap (λ (us : List Tree). BlockEnd ∷ (gone_over body ++ left_behind items (record { start = start; left = n } ∷ blocks) us)) (sym same);
       walk = record {
         inside = (refl, again, subst (λ (us : List Tree). AreOpen items blocks (drop 1 us)) (sym same) inside);
         whole = again;
@@ -142,9 +142,9 @@ goes-ends items place blocks start (suc n) ts here same again out inside few =
 -- one item, at whose place these trees are
 goes : (items : List Item) (place : ℕ) (blocks : List Turns) (item : Item) → drop place items ≡ item ∷ drop (place + 1) items → IsWalk items place blocks
     → HasGone items (items_left items place blocks) item (after_stand (stand_of item) place blocks)
-goes items place blocks (Does i) at walk =
+goes items place blocks (InstructionLine i) at walk =
     let ts = trees_at items (place + 1) in
-    let here : trees_at items place ≡ onto (Does i) ts = ap (λ (is : List Item). trees_of is) at in
+    let here : trees_at items place ≡ onto (InstructionLine i) ts = ap (λ (is : List Item). trees_of is) at in
     let whole = subst (λ (is : List Item). AreWhole is (length blocks)) at walk.whole in
     record {
       left_is =
@@ -156,9 +156,9 @@ goes items place blocks (Does i) at walk =
         few = walk.few;
       };
     }
-goes items place blocks (Begins line turns) at walk =
+goes items place blocks (BlockStart line turns) at walk =
     let ts = trees_at items (place + 1) in
-    let here : trees_at items place ≡ onto (Begins line turns) ts = ap (λ (is : List Item). trees_of is) at in
+    let here : trees_at items place ≡ onto (BlockStart line turns) ts = ap (λ (is : List Item). trees_of is) at in
     let whole = subst (λ (is : List Item). AreWhole is (length blocks)) at walk.whole in
     record {
       left_is =
@@ -175,8 +175,8 @@ goes items place blocks (Begins line turns) at walk =
         few = omega (arith, whole.1);
       };
     }
-goes items place [] Ends at walk = absurd (subst (λ (is : List Item). AreWhole is 0) at walk.whole)
-goes items place (b ∷ blocks) Ends at walk =
+goes items place [] BlockEnd at walk = absurd (subst (λ (is : List Item). AreWhole is 0) at walk.whole)
+goes items place (b ∷ blocks) BlockEnd at walk =
     let ts = trees_at items (place + 1) in
     let here : trees_at items place ≡ Nothing ∷ ts = ap (λ (is : List Item). trees_of is) at in
     let whole = subst (λ (is : List Item). AreWhole is (suc (length blocks))) at walk.whole in
@@ -192,23 +192,23 @@ goes items place (b ∷ blocks) Ends at walk =
 -- ---- blocks that are kept the outermost first
 
 pub after-begins : (turns place : ℕ) (blocks blocks' : List Turns) → blocks' ≡ blocks ++ record { start = place + 1; left = turns - 1 } ∷ []
-    → after_stand (stand.Begins turns) place (reverse blocks) ≡ (place + 1, reverse blocks')
+    → after_stand (stand.BlockStart turns) place (reverse blocks) ≡ (place + 1, reverse blocks')
 after-begins turns place blocks blocks' more =
     ap (λ (bs : List Turns). (place + 1, bs))
     (sym (ap reverse more ∙ reverse-append blocks (record { start = place + 1; left = turns - 1 } ∷ [])))
 
 ends-last : (place : ℕ) (blocks rest : List Turns) (popped : Option Turns) (b : Turns) → blocks ≡ rest ++ option_to_list popped → popped ≡ Some b
-    → after_stand stand.Ends place (reverse blocks) ≡ after_turn b.start b.left place (reverse rest)
+    → after_stand stand.BlockEnd place (reverse blocks) ≡ after_turn b.start b.left place (reverse rest)
 ends-last place blocks rest popped b e is =
-    ap (after_stand stand.Ends place) (ap reverse (e ∙ ap (λ o. rest ++ option_to_list o) is) ∙ reverse-append rest (b ∷ []))
+    ap (after_stand stand.BlockEnd place) (ap reverse (e ∙ ap (λ o. rest ++ option_to_list o) is) ∙ reverse-append rest (b ∷ []))
 
 pub ends-over : (place : ℕ) (blocks rest : List Turns) (popped : Option Turns) (b : Turns) → blocks ≡ rest ++ option_to_list popped → popped ≡ Some b → b.left ≡ 0
-    → after_stand stand.Ends place (reverse blocks) ≡ (place + 1, reverse rest)
+    → after_stand stand.BlockEnd place (reverse blocks) ≡ (place + 1, reverse rest)
 ends-over place blocks rest popped b e is none =
     ends-last place blocks rest popped b e is ∙ ap (λ n. after_turn b.start n place (reverse rest)) none
 
 pub ends-again : (place : ℕ) (blocks rest blocks' : List Turns) (popped : Option Turns) (b : Turns) (left : ℕ) → blocks ≡ rest ++ option_to_list popped → popped ≡ Some b
-    → b.left ≡ left + 1 → blocks' ≡ rest ++ record { start = b.start; left = left } ∷ [] → after_stand stand.Ends place (reverse blocks) ≡ (b.start, reverse blocks')
+    → b.left ≡ left + 1 → blocks' ≡ rest ++ record { start = b.start; left = left } ∷ [] → after_stand stand.BlockEnd place (reverse blocks) ≡ (b.start, reverse blocks')
 ends-again place blocks rest blocks' popped b left e is some more =
     let again : b.left ≡ suc left = omega (arith, some) in
     ends-last place blocks rest popped b e is
@@ -221,13 +221,13 @@ ends-again place blocks rest blocks' popped b left e is some more =
 pub record Goes (items : List Item) (place : ℕ) (blocks : List Turns) (item : Item) (place' : ℕ) (blocks' : List Turns) : Type 0 where
   pub walk : IsWalk items place' blocks'
   pub fewer : length (items_left items place' blocks') < length (items_left items place blocks)
-  pub line : (i : Instruction) → item ≡ Does i → lines_left items place blocks ≡ i ∷ lines_left items place' blocks'
+  pub line : (i : Instruction) → item ≡ InstructionLine i → lines_left items place blocks ≡ i ∷ lines_left items place' blocks'
   pub other : is_at_line (stand_of item) ≡ false → lines_left items place blocks ≡ lines_left items place' blocks'
 
 other-first : (item : Item) (items : List Item) → is_at_line (stand_of item) ≡ false → lines_among (item ∷ items) ≡ lines_among items
-other-first (Does i) items e = absurd cc
-other-first (Begins line turns) items e = refl
-other-first Ends items e = refl
+other-first (InstructionLine i) items e = absurd cc
+other-first (BlockStart line turns) items e = refl
+other-first BlockEnd items e = refl
 
 pub goes-on : (items : List Item) (place : ℕ) (blocks : List Turns) (item : Item) (place' : ℕ) (blocks' : List Turns) → IsWalk items place blocks → Some item ≡ slice_get items place
     → after_stand (stand_of item) place blocks ≡ (place', blocks') → Goes items place blocks item place' blocks'
@@ -244,9 +244,9 @@ goes-on items place blocks item place' blocks' walk got e =
     }
 
 pub can_stand_at : (item : Item) (inside : ℕ) → CanStand item inside → CanStandAt (stand_of item) inside
-can_stand_at (Does i) inside h = tt
-can_stand_at (Begins line turns) inside h = h
-can_stand_at Ends inside h = h
+can_stand_at (InstructionLine i) inside h = tt
+can_stand_at (BlockStart line turns) inside h = h
+can_stand_at BlockEnd inside h = h
 
 -- what was found at a place
 pub record HasItem (found : Option Item) (s : Stand) : Type 0 where
@@ -308,19 +308,19 @@ pub record Passes (items : List Item) (s : Shift) (place : ℕ) (blocks : List T
   pub long : length (lines_left items place blocks) ≡ suc (length (lines_left items (place + 1) blocks))
 
 -- the line that is next, and the walk behind it
-pub passes : (items : List Item) (s : Shift) (place : ℕ) (blocks : List Turns) (i : Instruction) → IsPlacedWalk items s place blocks → Some (Does i) ≡ slice_get items place → Passes items s place blocks i
+pub passes : (items : List Item) (s : Shift) (place : ℕ) (blocks : List Turns) (i : Instruction) → IsPlacedWalk items s place blocks → Some (InstructionLine i) ≡ slice_get items place → Passes items s place blocks i
 unfolding placed_from
 passes items s place blocks i h got =
-    let goes = goes-on items place blocks (Does i) (place + 1) blocks h.walk got refl in
+    let goes = goes-on items place blocks (InstructionLine i) (place + 1) blocks h.walk got refl in
     let left = goes.line i refl in
     record { walk = goes.walk; first = ap (placed_from s) left; long = ap length left }
 
 -- where no line is next, there is nothing
 none-found : (found : Option Item) → IsAtLine found → HasNoLine found → None ≡ found
 none-found None at none = refl
-none-found (Some (Does i)) at none = absurd none
-none-found (Some (Begins line turns)) at none = absurd cc
-none-found (Some Ends) at none = absurd cc
+none-found (Some (InstructionLine i)) at none = absurd none
+none-found (Some (BlockStart line turns)) at none = absurd cc
+none-found (Some BlockEnd) at none = absurd cc
 
 pub passes-none : (items : List Item) (s : Shift) (place : ℕ) (blocks : List Turns) → IsPlacedWalk items s place blocks → HasNoLine (slice_get items place) → placed_left items s place blocks ≡ []
 unfolding placed_from
@@ -368,7 +368,7 @@ few-reached (Block line turns body rest) =
     let b = few-inside body in
     let turn = few-copies turns (1 + lines_inside body) (reached body) (omega (arith, b)) in
     let long = length-append (copies turns (reached body)) (reached rest) in
-    let items = length-append (items_of body) (Ends ∷ items_of rest) in
+    let items = length-append (items_of body) (BlockEnd ∷ items_of rest) in
     omega (arith, r, turn, long, items)
 
 -- of a model whose blocks don't unroll to many

@@ -12,7 +12,7 @@ use Rattle.step_model.specs.Targets.{is_listed}
 use Rattle.block_text.specs.Reached.{greatest_by}
 use Rattle.step_model.specs.ErrorModels.{ErrorLine, ErrorModel}
 use Rattle.dem_lines.specs.declared.operation.Operation.{Operation}
-use Rattle.dem_lines.specs.declared.operation.Operation.TheVariants.{Errs}
+use Rattle.dem_lines.specs.declared.operation.Operation.TheVariants.{PauliError}
 use Rattle.dem_lines.specs.declared.target.Target.{Target}
 use Rattle.dem_lines.specs.declared.target.Target.TheVariants.{Detector, Observable}
 use Rattle.dem_parser.specs.Shifts.{Placed}
@@ -52,7 +52,7 @@ flipped detectors observables targets =
 -- ---- error lines
 
 abbrev pub is_error : Operation → Bool
-is_error Errs = true
+is_error PauliError = true
 is_error operation = false
 
 -- an error line as a line of the model, and the error lines among lines

@@ -8,7 +8,7 @@ use Rattle.std.specs.Prelude.{ℕ, ◌+◌, ℤ, List, [], ◌∷◌, map, slice
 use Rattle.stim_parser.specs.Numbers.{whole_value}
 use Rattle.stim_parser.specs.Offsets.{shifted, moved}
 use Rattle.dem_lines.specs.declared.operation.Operation.{Operation}
-use Rattle.dem_lines.specs.declared.operation.Operation.TheVariants.{Detects, Shifts}
+use Rattle.dem_lines.specs.declared.operation.Operation.TheVariants.{DetectorDeclaration, Shifts}
 use Rattle.dem_lines.specs.declared.target.Target.{Target}
 use Rattle.dem_lines.specs.declared.target.Target.TheVariants.{Detector}
 use Rattle.dem_lines.specs.Verdicts.{Instruction, number_in}
@@ -36,7 +36,7 @@ shift_after i s = shifted_by i.operation i.arguments i.targets s
 
 -- the coordinates that a line gives to the detectors that it names
 abbrev pub coordinates_given : Operation → List (List ℕ) → List ℤ → List ℤ
-coordinates_given Detects arguments offset = moved offset (map whole_value arguments)
+coordinates_given DetectorDeclaration arguments offset = moved offset (map whole_value arguments)
 coordinates_given operation arguments offset = []
 
 -- a target, its detector shifted

@@ -2,7 +2,7 @@ ghost use Rattle.std.specs.Prelude.{◌≡◌, ◌+◌, ◌^◌, ◌<◌, ◌≤
 ghost use Rattle.block_text.specs.Reached.{reached, greatest_by};
 ghost use Rattle.dem_parser.specs.Meanings.{detectors_to, error_lines, observables_to};
 ghost use Rattle.dem_parser.specs.Models.{placed_lines};
-ghost use Rattle.dem_parser.specs.Summed.{AreCounts};
+ghost use Rattle.dem_parser.specs.private.Summed.{AreCounts};
 
 use crate::counts::LineCounts;
 use crate::flips::read_flipped;

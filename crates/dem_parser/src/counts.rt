@@ -1,6 +1,6 @@
 ghost use Rattle.std.specs.Prelude.{◌≡◌, ◌+◌, ◌<◌, ◌^◌, false, max};
 ghost use Rattle.dem_lines.specs.Limits.{has_target_beyond, is_target_beyond};
-ghost use Rattle.dem_parser.specs.Chains.{counted_with, is_shift};
+ghost use Rattle.dem_parser.specs.private.Chains.{counted_with, is_shift};
 ghost use Rattle.dem_parser.specs.Meanings.{detectors_to, is_error, observables_to};
 ghost use Rattle.block_text.specs.Reached.{greatest_by};
 
@@ -86,7 +86,7 @@ pub(crate) fn extent_of(targets: &[Target]) -> Extent
 pub(crate) fn is_error(operation: Operation) -> bool
     ensures { result ≡ is_error operation }
 {
-    matches!(operation, Operation::Errs)
+    matches!(operation, Operation::PauliError)
 }
 
 /// Whether a line shifts those that follow.

@@ -25,10 +25,10 @@ pub(crate) enum Rare {
         amount: u64,
     },
     /// The start of a block, on the line of this number.
-    Begins {
+    BlockStart {
         line: u64,
         turns: u64,
     },
     /// The end of the innermost block.
-    Ends,
+    BlockEnd,
 }

@@ -3,8 +3,8 @@ ghost use Rattle.std.specs.List.{list_all};
 ghost use Rattle.stim_parser.specs.Arguments.{arguments_in};
 ghost use Rattle.stim_parser.specs.declared.forms.ArgumentForm.TheVariants.{OneProbability};
 ghost use Rattle.stim_parser.specs.Probabilities.{AreProbabilities};
-ghost use Rattle.dem_parser.specs.ErrorTexts.{is_quiet};
-ghost use Rattle.dem_parser.specs.LinesRead.{BeginsWithError};
+ghost use Rattle.dem_parser.specs.private.ErrorTexts.{is_quiet};
+ghost use Rattle.dem_parser.specs.private.LinesRead.{BeginsWithError};
 
 use crate::counts::Extent;
 use crate::error_targets::{behind_byte, extent_in};

@@ -1,6 +1,6 @@
 ghost use Rattle.std.specs.Prelude.{◌≡◌, ◌<◌, ◌∷◌, true, length, IfSome};
 ghost use Rattle.std.specs.Char.{is_ascii_digit};
-ghost use Rattle.dem_parser.specs.ErrorTexts.{BeginsWithTargets, IsNumberFront, IsTargetFront, ends_line};
+ghost use Rattle.dem_parser.specs.private.ErrorTexts.{BeginsWithTargets, IsNumberFront, IsTargetFront, ends_line};
 
 use crate::counts::{Extent, NONE, raised_to};
 use dem_lines::{Target, is_target_beyond};

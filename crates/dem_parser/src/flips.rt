@@ -2,7 +2,7 @@ ghost use Rattle.std.specs.Prelude.{◌≡◌, ◌+◌, ◌^◌, ◌<◌, ◌≤
 ghost use Rattle.std.specs.List.Sorted.{IsNonDecreasing};
 ghost use Rattle.dem_parser.specs.Meanings.{detectors_to, flipped, observables_to, numbered};
 ghost use Rattle.block_text.specs.Reached.{greatest_by};
-ghost use Rattle.dem_parser.specs.Numbered.{odd_below, numbers_of};
+ghost use Rattle.dem_parser.specs.private.Numbered.{odd_below, numbers_of};
 ghost use Rattle.dem_parser.specs.Shifts.{target_at};
 
 use crate::counts::LineCounts;

@@ -4,7 +4,7 @@ ghost use Rattle.step_model.specs.Faults.{memory_fault};
 ghost use Rattle.block_text.specs.Reached.{reached};
 ghost use Rattle.block_text.specs.Texts.{refused};
 ghost use Rattle.dem_parser.specs.Models.{first_beyond, is_beyond, placed_lines};
-ghost use Rattle.dem_parser.specs.Summed.{AreCounts, HasCounted};
+ghost use Rattle.dem_parser.specs.private.Summed.{AreCounts, HasCounted};
 
 use crate::counts::{LineCounts, NO_LINES};
 use crate::placed_line::PlacedLine;

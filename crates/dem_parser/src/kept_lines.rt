@@ -1,9 +1,9 @@
 ghost use Rattle.std.specs.Prelude.{◌≡◌, ◌<◌, ◌^◌, [], Some, length, IfOk, IfSome, MatchOption, option_map, slice_get};
-ghost use Rattle.dem_lines.specs.declared.operation.Operation.TheVariants.{Errs};
-ghost use Rattle.block_text.specs.Trees.{Does};
-ghost use Rattle.dem_parser.specs.Kept.{IsKept, IsRareKept, item_of_rare, with_item};
-ghost use Rattle.dem_parser.specs.Standing.{instruction_at};
-ghost use Rattle.dem_parser.specs.TableLines.{HasNoLine, IsTableLine, instruction_of, stand_of};
+ghost use Rattle.dem_lines.specs.declared.operation.Operation.TheVariants.{PauliError};
+ghost use Rattle.block_text.specs.Trees.{InstructionLine};
+ghost use Rattle.dem_parser.specs.private.Kept.{IsKept, IsRareKept, item_of_rare, with_item};
+ghost use Rattle.dem_parser.specs.private.Standing.{instruction_at};
+ghost use Rattle.dem_parser.specs.private.TableLines.{HasNoLine, IsTableLine, instruction_of, stand_of};
 
 use crate::counts::Extent;
 use crate::entries::{Entry, Rare};
@@ -26,7 +26,7 @@ pub(crate) struct KeptLines<'a, A: Allocator + Copy> {
 
 impl<'a, A: Allocator + Copy> Model for KeptLines<'a, A> {
     ghost use Rattle.std.specs.Prelude.{map};
-    ghost use Rattle.dem_parser.specs.Kept.{AreKept, Kept, coded_kept, item_of};
+    ghost use Rattle.dem_parser.specs.private.Kept.{AreKept, Kept, coded_kept, item_of};
 
     ghost Value = { Kept };
 
@@ -86,8 +86,8 @@ impl<'a, A: Allocator + Copy> KeptLines<'a, A> {
     /// Appends the error line that begins at this place.
     #[inline(always)]
     pub(crate) fn push_error(&mut self, at: usize, extent: Extent) -> Result<(), AllocError>
-        requires { IsKept self.old.text at Errs extent 0 [] }
-        ensures { IfOk result (λ _. self.new ≡ with_item self.old (Does (instruction_at self.old.text at Errs))) }
+        requires { IsKept self.old.text at PauliError extent 0 [] }
+        ensures { IfOk result (λ _. self.new ≡ with_item self.old (Does (instruction_at self.old.text at PauliError))) }
     {
         self.entries.push(Entry::Error {
             observables: extent.observables,
@@ -124,8 +124,8 @@ impl<'a, A: Allocator + Copy> KeptLines<'a, A> {
             Entry::Error { .. } => Some(Stand::Line),
             Entry::Rare(number) => match self.rares[number] {
                 Rare::Line { .. } => Some(Stand::Line),
-                Rare::Begins { turns, .. } => Some(Stand::Begins(turns)),
-                Rare::Ends => Some(Stand::Ends),
+                Rare::BlockStart { turns, .. } => Some(Stand::BlockStart(turns)),
+                Rare::BlockEnd => Some(Stand::BlockEnd),
             },
         }
     }
@@ -148,7 +148,7 @@ impl<'a, A: Allocator + Copy> KeptLines<'a, A> {
             } => Some(TableLine {
                 text: self.text,
                 at,
-                operation: Operation::Errs,
+                operation: Operation::PauliError,
                 extent: Extent {
                     detectors,
                     observables,

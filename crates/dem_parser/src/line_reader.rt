@@ -6,11 +6,11 @@ ghost use Rattle.stim_lexer.specs.Lexing.{cut_in};
 ghost use Rattle.stim_parser.specs.Arguments.{arguments_in};
 ghost use Rattle.stim_parser.specs.Judging.{reading_of};
 ghost use Rattle.dem_lines.specs.Fitting.{Fits};
-ghost use Rattle.block_text.specs.Trees.{Does};
+ghost use Rattle.block_text.specs.Trees.{InstructionLine};
 ghost use Rattle.dem_lines.specs.Verdicts.{model_table};
-ghost use Rattle.dem_parser.specs.Kept.{with_item};
-ghost use Rattle.dem_parser.specs.LinesRead.{HasRead, PassesFirst};
-ghost use Rattle.dem_parser.specs.Standing.{Speaks, instruction_at, line_at, line_number};
+ghost use Rattle.dem_parser.specs.private.Kept.{with_item};
+ghost use Rattle.dem_parser.specs.private.LinesRead.{HasRead, PassesFirst};
+ghost use Rattle.dem_parser.specs.private.Standing.{Speaks, instruction_at, line_at, line_number};
 
 use crate::counts::{extent_of, is_error};
 use crate::entries::Rare;
@@ -91,13 +91,13 @@ impl<'a, A: Allocator + Copy> LineReader<'a, A> {
     {
         let number = line.number;
         match read_line(&mut self.last, &mut self.targets, self.opened.len(), line)? {
-            Said::Takes {
+            Said::Accepts {
                 operation,
                 arguments,
             } => self.keep(at, operation, arguments)?,
             Said::Opens(turns) => {
                 self.lines.push_rare(
-                    Rare::Begins {
+                    Rare::BlockStart {
                         line: number,
                         turns,
                     },
@@ -106,7 +106,7 @@ impl<'a, A: Allocator + Copy> LineReader<'a, A> {
                 self.opened.push(number);
             }
             Said::Closes => {
-                self.lines.push_rare(Rare::Ends, &[])?;
+                self.lines.push_rare(Rare::BlockEnd, &[])?;
                 self.opened.pop();
             }
             Said::Refuses(cause) => return Ok(Some(cause)),

@@ -5,7 +5,7 @@ ghost use Rattle.stim_lexer.specs.Bytes.{is_line_feed};
 ghost use Rattle.stim_lexer.specs.Cut.{cut_of, has_bad_byte};
 ghost use Rattle.stim_lexer.specs.Lexing.{cut_in};
 ghost use Rattle.stim_lexer.specs.Lines.{says_nothing};
-ghost use Rattle.dem_parser.specs.LinesRead.{IsFirstLine};
+ghost use Rattle.dem_parser.specs.private.LinesRead.{IsFirstLine};
 
 use step_model::Fault;
 use stim_lexer::{Lexer, Line, cut_at};

@@ -1,7 +1,7 @@
 ghost use Rattle.std.specs.Prelude.{◌≡◌, ◌<◌, ◌^◌, false, [], length, map, replicate, IfOk};
 ghost use Rattle.std.specs.List.{range_with_len};
 ghost use Rattle.block_text.specs.Reached.{reached};
-ghost use Rattle.dem_parser.specs.Marked.{HasMarked, list_numbered, marked, marked_at};
+ghost use Rattle.dem_parser.specs.private.Marked.{HasMarked, list_numbered, marked, marked_at};
 ghost use Rattle.dem_parser.specs.Meanings.{last_coordinates};
 ghost use Rattle.dem_parser.specs.Models.{first_beyond, is_beyond, placed_lines};
 ghost use Rattle.dem_parser.specs.Shifts.{target_at};

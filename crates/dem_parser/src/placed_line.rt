@@ -4,10 +4,10 @@ ghost use Rattle.dem_lines.specs.Limits.{has_target_beyond};
 ghost use Rattle.dem_parser.specs.Meanings.{detectors_to, is_error, observables_to};
 ghost use Rattle.block_text.specs.Reached.{greatest_by};
 ghost use Rattle.dem_parser.specs.Models.{is_far};
-ghost use Rattle.dem_parser.specs.Offsets.{AreSmall, beyond_stated};
+ghost use Rattle.dem_parser.specs.private.Offsets.{AreSmall, beyond_stated};
 ghost use Rattle.dem_parser.specs.Shifts.{target_at};
 ghost use Rattle.stim_parser.specs.Offsets.{moved};
-ghost use Rattle.dem_parser.specs.Tables.{coordinates_from, count_at, most_detectors};
+ghost use Rattle.dem_parser.specs.private.Tables.{coordinates_from, count_at, most_detectors};
 
 use crate::counts::is_error;
 use crate::shifts::{Shift, sum_at};
@@ -27,9 +27,9 @@ pub(crate) struct PlacedLine<'w, 'a> {
 }
 
 impl<'w, 'a> Model for PlacedLine<'w, 'a> {
-    ghost use Rattle.dem_parser.specs.Placed.{IsPlaced, coded_placed};
+    ghost use Rattle.dem_parser.specs.private.Placed.{IsPlaced, coded_placed};
     ghost use Rattle.dem_parser.specs.Shifts.{Placed, placed_at};
-    ghost use Rattle.dem_parser.specs.TableLines.{instruction_of};
+    ghost use Rattle.dem_parser.specs.private.TableLines.{instruction_of};
 
     ghost Value = { Placed };
 
@@ -109,7 +109,7 @@ fn move_stated<A: Allocator + Copy>(
         (list_any is_far (coordinates_from operation stated.now offset.now) ≡ true)) }
 {
     match operation {
-        Operation::Detects => move_all(found, offset, stated),
+        Operation::DetectorDeclaration => move_all(found, offset, stated),
         _ => {
             found.clear();
             Ok(true)

@@ -1,10 +1,10 @@
 ghost use Rattle.std.specs.Prelude.{◌≡◌, ◌≤◌, ◌+◌, ◌<◌, ◌^◌, ℕ, false, true, length, map, slice_index_or, IfOk};
 ghost use Rattle.dem_parser.specs.Meanings.{numbered};
-ghost use Rattle.dem_parser.specs.Numbered.{numbers_of};
+ghost use Rattle.dem_parser.specs.private.Numbered.{numbers_of};
 ghost use Rattle.dem_parser.specs.Shifts.{target_at};
-ghost use Rattle.dem_parser.specs.Summed.{passed_after, turned_past};
+ghost use Rattle.dem_parser.specs.private.Summed.{passed_after, turned_past};
 ghost use Rattle.dem_parser.specs.Sums.{symptom_of};
-ghost use Rattle.dem_parser.specs.Turned.{turned};
+ghost use Rattle.dem_parser.specs.private.Turned.{turned};
 
 use crate::counts::LineCounts;
 use crate::placed_line::PlacedLine;
@@ -27,7 +27,7 @@ impl<'a, A: Allocator + Copy> Model for PlacedModel<'a, A> {
     ghost use Rattle.step_model.specs.ErrorModels.{ErrorModel};
     ghost use Rattle.dem_parser.specs.Meanings.{meaning_of};
     ghost use Rattle.dem_parser.specs.Models.{placed_lines};
-    ghost use Rattle.dem_parser.specs.Summed.{IsJudged};
+    ghost use Rattle.dem_parser.specs.private.Summed.{IsJudged};
 
     ghost Value = { ErrorModel };
 

@@ -1,7 +1,7 @@
 ghost use Rattle.std.specs.Prelude.{◌≡◌, ◌⊎◌, IfOk, IfErr, Ok, Err};
 ghost use Rattle.step_model.specs.Faults.{memory_fault};
 ghost use Rattle.dem_parser.specs.Models.{model_in, model_of_tree};
-ghost use Rattle.dem_parser.specs.Summed.{IsJudged};
+ghost use Rattle.dem_parser.specs.private.Summed.{IsJudged};
 
 use crate::build::model_of;
 use crate::counts::LineCounts;

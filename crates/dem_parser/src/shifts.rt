@@ -1,11 +1,11 @@
 ghost use Rattle.std.specs.Prelude.{◌≡◌, ◌≤◌, ◌<◌, ◌+◌, ◌^◌, ◌+ℤ◌, pos, All, length, map, nat_abs};
 ghost use Rattle.stim_parser.specs.Arguments.{arguments_in};
 ghost use Rattle.stim_parser.specs.Numbers.{whole_value};
-ghost use Rattle.dem_parser.specs.Offsets.{AreSmall, HasRoom, beyond_stated, number_at};
+ghost use Rattle.dem_parser.specs.private.Offsets.{AreSmall, HasRoom, beyond_stated, number_at};
 ghost use Rattle.dem_parser.specs.Shifts.{shift_after};
 ghost use Rattle.stim_parser.specs.Offsets.{shifted};
-ghost use Rattle.dem_parser.specs.TableLines.{IsTableLine, instruction_of};
-ghost use Rattle.dem_parser.specs.Tables.{numbers_stated};
+ghost use Rattle.dem_parser.specs.private.TableLines.{IsTableLine, instruction_of};
+ghost use Rattle.dem_parser.specs.private.Tables.{numbers_stated};
 
 use crate::table_line::TableLine;
 use arrayvec::ArrayVec;
@@ -48,7 +48,7 @@ pub(crate) fn numbers_stated(
     ensures { result.items ≡ numbers_stated operation (arguments_in arguments.now) }
 {
     match operation {
-        Operation::Detects => coordinates_read(arguments),
+        Operation::DetectorDeclaration => coordinates_read(arguments),
         Operation::Shifts => coordinates_read(arguments),
         _ => ArrayVec::new(),
     }

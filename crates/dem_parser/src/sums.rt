@@ -1,6 +1,6 @@
 ghost use Rattle.std.specs.Prelude.{◌≡◌, ◌+◌, false, if◌then◌else◌, replicate, IfOk};
 ghost use Rattle.dem_parser.specs.Sums.{symptom_of};
-ghost use Rattle.dem_parser.specs.Turned.{turned, turned_at};
+ghost use Rattle.dem_parser.specs.private.Turned.{turned, turned_at};
 
 use dem_text::Model;
 use std::alloc::{AllocError, Allocator};

@@ -2,8 +2,8 @@ ghost use Rattle.std.specs.Prelude.{◌≡◌, [], drop, slice_index_or, IfOk, M
 ghost use Rattle.stim_lexer.specs.Cut.{cut_of};
 ghost use Rattle.stim_lexer.specs.Lexing.{cut_in};
 ghost use Rattle.stim_parser.specs.Arguments.{arguments_in};
-ghost use Rattle.dem_parser.specs.Standing.{Speaks, line_at, line_number};
-ghost use Rattle.dem_parser.specs.TableLines.{IsTableLine, instruction_of};
+ghost use Rattle.dem_parser.specs.private.Standing.{Speaks, line_at, line_number};
+ghost use Rattle.dem_parser.specs.private.TableLines.{IsTableLine, instruction_of};
 
 use crate::counts::Extent;
 use crate::line_text::line_in;
@@ -16,8 +16,8 @@ use stim_parser::first_argument;
 #[derive(Clone, Copy)]
 pub(crate) enum Stand {
     Line,
-    Begins(u64),
-    Ends,
+    BlockStart(u64),
+    BlockEnd,
 }
 
 /// An instruction, which begins at this place of the text; its extent, by how much it shifts detectors, and the numbers that

@@ -1,8 +1,8 @@
 ghost use Rattle.std.specs.Prelude.{◌≡◌};
 ghost use Rattle.arrayvec.specs.ArrayVec.{array_vec_len};
 ghost use Rattle.dem_lines.specs.Reached.{has_many_lines};
-ghost use Rattle.dem_parser.specs.TableLines.{CanStandAt};
-ghost use Rattle.dem_parser.specs.Unrolled.{Counts, counts_repeated, repeated_sum};
+ghost use Rattle.dem_parser.specs.private.TableLines.{CanStandAt};
+ghost use Rattle.dem_parser.specs.private.Unrolled.{Counts, counts_repeated, repeated_sum};
 
 use crate::table::LineTable;
 use crate::table_line::Stand;
@@ -60,11 +60,11 @@ impl Counting {
                 self.counts.inside = self.counts.inside.saturating_add(1);
                 self.counts.outside = self.counts.outside.saturating_add(1);
             }
-            Stand::Begins(turns) => self.blocks.push(OpenBlock {
+            Stand::BlockStart(turns) => self.blocks.push(OpenBlock {
                 turns,
                 before: self.counts,
             }),
-            Stand::Ends => {
+            Stand::BlockEnd => {
                 let block = self.blocks.pop().unwrap();
                 self.counts = self.counts.repeated(block.turns, block.before);
             }

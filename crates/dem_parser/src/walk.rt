@@ -4,9 +4,9 @@ ghost use Rattle.block_text.specs.Reached.{reached};
 ghost use Rattle.block_text.specs.Trees.{items_of};
 ghost use Rattle.dem_parser.specs.Models.{placed_lines};
 ghost use Rattle.dem_parser.specs.Shifts.{Placed};
-ghost use Rattle.dem_parser.specs.TableLines.{CanStandAt};
-ghost use Rattle.dem_parser.specs.declared.table_line.Stand.TheVariants.{Ends};
-ghost use Rattle.dem_parser.specs.Walks.{IsAtLine, IsWalk, after_stand, is_at_line, lines_left};
+ghost use Rattle.dem_parser.specs.private.TableLines.{CanStandAt};
+ghost use Rattle.dem_parser.specs.declared.table_line.Stand.TheVariants.{BlockEnd};
+ghost use Rattle.dem_parser.specs.private.Walks.{IsAtLine, IsWalk, after_stand, is_at_line, lines_left};
 
 use crate::placed_line::PlacedLine;
 use crate::shifts::Shift;
@@ -49,14 +49,14 @@ impl Place {
     {
         match stand {
             Stand::Line => self.index += 1,
-            Stand::Begins(turns) => {
+            Stand::BlockStart(turns) => {
                 self.index += 1;
                 self.blocks.push(Turns {
                     start: self.index,
                     left: turns - 1,
                 });
             }
-            Stand::Ends => self.end_turn(),
+            Stand::BlockEnd => self.end_turn(),
         }
     }
 
@@ -65,7 +65,7 @@ impl Place {
         requires open { 0 < array_vec_len self.old.blocks }
         requires room { array_vec_len self.old.blocks ≤ 32 }
         requires few { self.old.index < 2 ^ 64 - 1 }
-        ensures { after_stand Ends self.old.index (reverse self.old.blocks.items) ≡ (self.new.index, reverse self.new.blocks.items) }
+        ensures { after_stand BlockEnd self.old.index (reverse self.old.blocks.items) ≡ (self.new.index, reverse self.new.blocks.items) }
     {
         let block = self.blocks.pop().unwrap();
         if block.left == 0 {
@@ -109,9 +109,9 @@ impl<'t, 'a, A: Allocator + Copy> Model for Walk<'t, 'a, A> {
     ghost use Rattle.std.specs.Prelude.{List, reverse};
     ghost use Rattle.std.specs.Coded.{coded_list};
     ghost use Rattle.block_text.specs.Trees.{items_of};
-    ghost use Rattle.dem_parser.specs.Placed.{coded_placed};
+    ghost use Rattle.dem_parser.specs.private.Placed.{coded_placed};
     ghost use Rattle.dem_parser.specs.Shifts.{Placed};
-    ghost use Rattle.dem_parser.specs.Walks.{IsPlacedWalk, placed_left};
+    ghost use Rattle.dem_parser.specs.private.Walks.{IsPlacedWalk, placed_left};
 
     ghost Value = { List Placed };
 

@@ -1,6 +1,4 @@
 pub mod ErrorLines
 pub mod HeldText
-pub mod LineHeads
 pub mod ModelText
-pub mod ShortLines
-pub mod TargetNames
+pub mod private

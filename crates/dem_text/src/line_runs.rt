@@ -3,7 +3,7 @@ ghost use Rattle.std.specs.Prelude.{◌≡◌, ◌<◌, ◌≤◌, ◌+◌, ◌-
 ghost use Rattle.std.specs.List.{flat_map};
 ghost use Rattle.dem_text.specs.ErrorLines.{line_at};
 ghost use Rattle.dem_text.specs.ModelText.{line_text};
-ghost use Rattle.dem_text.specs.ShortLines.{IsShort};
+ghost use Rattle.dem_text.specs.private.ShortLines.{IsShort};
 
 use crate::Model;
 use crate::short_lines::{ROOM, SHORT_LINES, SHORT_TARGETS, SHORT_TEXT, line_before};

@@ -1,6 +1,6 @@
 //! The text of an error line's probability, and the beginning of a line with it.
 ghost use Rattle.std.specs.Prelude.{◌≡◌, ◌≤◌, ◌+◌, ◌++◌, codes, drop, length};
-ghost use Rattle.dem_text.specs.LineHeads.{HasHead};
+ghost use Rattle.dem_text.specs.private.LineHeads.{HasHead};
 
 use crate::short_lines::{SHORT_TEXT, text_before};
 use std::marker::Model;
@@ -18,7 +18,7 @@ pub(crate) struct LineText<'a> {
 
 impl<'a> Model for LineText<'a> {
     ghost use Rattle.std.specs.Prelude.{List, ℕ};
-    ghost use Rattle.dem_text.specs.LineHeads.{HasHead};
+    ghost use Rattle.dem_text.specs.private.LineHeads.{HasHead};
 
     ghost Value = { List ℕ };
 

@@ -71,7 +71,7 @@ pub(crate) struct Names<A: Allocator + Copy> {
 
 impl<A: Allocator + Copy> Model for Names<A> {
     ghost use Rattle.std.specs.Prelude.{length};
-    ghost use Rattle.dem_text.specs.TargetNames.{Named, AreNames};
+    ghost use Rattle.dem_text.specs.private.TargetNames.{Named, AreNames};
 
     ghost Value = { Named };
 

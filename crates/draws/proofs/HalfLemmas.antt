@@ -6,8 +6,8 @@ use Rattle.std.proofs.lemmas.List.{length-replicate}
 use Rattle.rand_pcg.specs.Lcg.{Lcg}
 use Rattle.lanes.specs.Lanes.{lane}
 use Rattle.draws.specs.Drawn.{after_words, drawn_coins, drawn_faults, after_shots}
-use Rattle.draws.specs.LaneDraws.{coin_hits, fault_hits}
-use Rattle.draws.specs.PairDraws.{DrawsIntoBoth}
+use Rattle.draws.specs.private.LaneDraws.{coin_hits, fault_hits}
+use Rattle.draws.specs.private.PairDraws.{DrawsIntoBoth}
 use Rattle.draws.specs.Shots.{AreDrawn}
 use Rattle.draws.proofs.LaneLemmas.{lane_blank}
 use Rattle.draws.proofs.PairLemmas.{first_drawn, second_drawn, both_kept}

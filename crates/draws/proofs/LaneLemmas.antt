@@ -7,7 +7,7 @@ use Rattle.std.proofs.lemmas.List.{ext_get_or, get_or-map, length-map, get_or-re
 use Rattle.std.proofs.lemmas.List.FromFn.{get_or-map-range_with_len, length-map-range_with_len}
 use Rattle.lanes.specs.Lanes.{lane, lane_bit}
 use Rattle.lanes.proofs.LaneLaws.{lane_bit-zero}
-use Rattle.draws.specs.LaneDraws.{DrawsInto}
+use Rattle.draws.specs.private.LaneDraws.{DrawsInto}
 
 pub draws_nothing : (j start : ℕ) (hits : ℕ → Bool) (words : List ℕ) → DrawsInto j start start hits words words
 draws_nothing j start hits words =

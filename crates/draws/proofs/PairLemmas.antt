@@ -4,8 +4,8 @@ use Rattle.std.specs.Prelude.{◌≢◌, ◌||◌}
 use Rattle.std.specs.List.{range_with_len}
 use Rattle.std.proofs.lemmas.Bool.{cases_lt}
 use Rattle.lanes.specs.Lanes.{lane, lane_bit}
-use Rattle.draws.specs.LaneDraws.{DrawsInto}
-use Rattle.draws.specs.PairDraws.{DrawsIntoBoth}
+use Rattle.draws.specs.private.LaneDraws.{DrawsInto}
+use Rattle.draws.specs.private.PairDraws.{DrawsIntoBoth}
 use Rattle.draws.proofs.LaneLemmas.{lane_filled, lane_same}
 
 pub both_nothing : (i j start : ℕ) (hits other_hits : ℕ → Bool) (words : List ℕ) → DrawsIntoBoth i j start start hits other_hits words words

@@ -9,7 +9,7 @@ use Rattle.std.proofs.lemmas.Grind.{flat_map-append}
 use Rattle.rand_pcg.specs.Lcg.{Lcg}
 use Rattle.rand_pcg.specs.Pcg.{pcg64}
 use Rattle.draws.specs.declared.runs.BoundRun.{BoundRun}
-use Rattle.draws.specs.BoundRuns.{bounds_in, bounds_of_run}
+use Rattle.draws.specs.private.BoundRuns.{bounds_in, bounds_of_run}
 use Rattle.draws.specs.Drawn.{after_words, word_at}
 use Rattle.draws.proofs.WordLemmas.{after_words-add}
 

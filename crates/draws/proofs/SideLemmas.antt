@@ -6,7 +6,7 @@ use Rattle.std.proofs.Math.Nat.{suc-mul}
 use Rattle.rand_pcg.specs.Lcg.{Lcg}
 use Rattle.lanes.specs.Lanes.{lane}
 use Rattle.draws.specs.Drawn.{after_words, drawn_coins, drawn_faults, after_shots}
-use Rattle.draws.specs.LaneDraws.{DrawsInto, coin_hits, fault_hits}
+use Rattle.draws.specs.private.LaneDraws.{DrawsInto, coin_hits, fault_hits}
 use Rattle.draws.specs.Shots.{AreDrawn}
 use Rattle.draws.proofs.WordLemmas.{after_words-none, after_words-add}
 use Rattle.draws.proofs.LaneLemmas.{lane_drawn, lane_kept, lane_blank}

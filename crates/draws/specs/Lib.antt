@@ -1,5 +1,3 @@
-pub mod BoundRuns
 pub mod Drawn
-pub mod LaneDraws
-pub mod PairDraws
 pub mod Shots
+pub mod private

@@ -1,9 +1,9 @@
 // A shot drawn into one lane of words.
 ghost use Rattle.std.specs.Prelude.{◌≡◌, ◌==◌, ◌||◌, ℕ, ◌+◌, ◌-◌, ◌<◌, ◌≤◌, nat_lt, if◌then◌else◌, length};
 ghost use Rattle.lanes.specs.Lanes.{lane_bit};
-ghost use Rattle.draws.specs.BoundRuns.{bounds_in};
+ghost use Rattle.draws.specs.private.BoundRuns.{bounds_in};
 ghost use Rattle.draws.specs.Drawn.{after_words, word_at};
-ghost use Rattle.draws.specs.LaneDraws.{DrawsInto, coin_hits, fault_hits};
+ghost use Rattle.draws.specs.private.LaneDraws.{DrawsInto, coin_hits, fault_hits};
 
 use crate::runs::BoundRun;
 use lanes::with_bit;

@@ -1,9 +1,9 @@
 // Shots drawn into two lanes at once, each by a generator of its own.
 ghost use Rattle.std.specs.Prelude.{◌≡◌, ◌≢◌, ℕ, ◌+◌, ◌-◌, ◌^◌, ◌<◌, ◌≤◌, nat_le, nat_lt, length};
-ghost use Rattle.draws.specs.BoundRuns.{bounds_in};
+ghost use Rattle.draws.specs.private.BoundRuns.{bounds_in};
 ghost use Rattle.draws.specs.Drawn.{after_words, word_at};
-ghost use Rattle.draws.specs.LaneDraws.{coin_hits, fault_hits};
-ghost use Rattle.draws.specs.PairDraws.{DrawsIntoBoth};
+ghost use Rattle.draws.specs.private.LaneDraws.{coin_hits, fault_hits};
+ghost use Rattle.draws.specs.private.PairDraws.{DrawsIntoBoth};
 
 use crate::copies::copy_of;
 use crate::lane_draws::{strike, toss};

@@ -1,6 +1,6 @@
 // The bounds of a program's faults, as runs of equal ones: a noise instruction makes many faults of one bound.
 ghost use Rattle.std.specs.Prelude.{◌≡◌, ◌+◌, ◌^◌, ◌<◌, [], ◌∷◌, ◌++◌, IfOk, OnOk};
-ghost use Rattle.draws.specs.BoundRuns.{bounds_in, bounds_of_run};
+ghost use Rattle.draws.specs.private.BoundRuns.{bounds_in, bounds_of_run};
 ghost use Rattle.draws.specs.Drawn.{bounds_of};
 
 use fault_walk::next_fault;

@@ -22,7 +22,7 @@ pub struct Shots<A: Allocator + Copy> {
 
 impl<A: Allocator + Copy> Model for Shots<A> {
     ghost use Rattle.std.specs.Prelude.{◌≡◌, length};
-    ghost use Rattle.draws.specs.BoundRuns.{bounds_in};
+    ghost use Rattle.draws.specs.private.BoundRuns.{bounds_in};
     ghost use Rattle.draws.specs.Shots.{ShotWords};
 
     ghost Value = { ShotWords };

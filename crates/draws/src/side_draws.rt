@@ -1,6 +1,6 @@
 // Shots drawn side by side into the lanes of words.
 ghost use Rattle.std.specs.Prelude.{◌≡◌, ◌+◌, ◌*◌, ◌≤◌, length};
-ghost use Rattle.draws.specs.BoundRuns.{bounds_in};
+ghost use Rattle.draws.specs.private.BoundRuns.{bounds_in};
 ghost use Rattle.draws.specs.Drawn.{after_shots};
 ghost use Rattle.draws.specs.Shots.{AreDrawn};
 

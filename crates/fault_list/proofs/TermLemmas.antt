@@ -16,7 +16,7 @@ use Rattle.step_model.specs.declared.step.Term.{Term}
 use Rattle.step_model.specs.Listing.{word_of_terms}
 use Rattle.step_model.specs.WellFormed.{TermsFit}
 use Rattle.step_model.proofs.StepNumbers.{length-word_of_terms}
-use Rattle.fault_list.specs.TermLetters.{letter_here, letter_in}
+use Rattle.fault_list.specs.private.TermLetters.{letter_here, letter_in}
 
 abbrev pub no_term : Term
 no_term = record { qubit = 0; letter = I }

@@ -9,7 +9,7 @@ use Rattle.step_model.specs.Listing.{word_of_terms}
 use Rattle.step_model.specs.WellFormed.{TermsFit}
 use Rattle.step_model.proofs.StepNumbers.{length-word_of_terms}
 use Rattle.fault_list.specs.FaultLines.{factor_text, factors}
-use Rattle.fault_list.specs.TermLetters.{letter_in}
+use Rattle.fault_list.specs.private.TermLetters.{letter_in}
 use Rattle.fault_list.proofs.TermLemmas.{letter_at-word, none_between}
 use Rattle.fault_list.proofs.FactorLemmas.{factors_below, factors_past, factors_with, factors_without}
 

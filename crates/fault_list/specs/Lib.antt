@@ -1,2 +1,2 @@
 pub mod FaultLines
-pub mod TermLetters
+pub mod private

@@ -5,7 +5,7 @@ ghost use Rattle.fault_walk.specs.Found.{IsFaultOf};
 ghost use Rattle.step_model.specs.Listing.{effect_at, word_of_terms};
 ghost use Rattle.step_model.specs.WellFormed.{TermsFit};
 ghost use Rattle.fault_list.specs.FaultLines.{effect_text, factor_text, fault_line, letter_text, record_text, word_text};
-ghost use Rattle.fault_list.specs.TermLetters.{is_ordered, starred_factors};
+ghost use Rattle.fault_list.specs.private.TermLetters.{is_ordered, starred_factors};
 
 use crate::word::acts;
 use fault_walk::FoundFault;

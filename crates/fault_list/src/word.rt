@@ -5,7 +5,7 @@ ghost use Rattle.pieces.specs.Pushed.{Pushes};
 ghost use Rattle.step_model.specs.Listing.{word_of_terms, is_I};
 ghost use Rattle.step_model.specs.WellFormed.{TermsFit};
 ghost use Rattle.fault_list.specs.FaultLines.{factor_text, letter_text, word_text};
-ghost use Rattle.fault_list.specs.TermLetters.{letter_in};
+ghost use Rattle.fault_list.specs.private.TermLetters.{letter_in};
 
 use itoa::Buffer;
 use pauli_word::Letter;

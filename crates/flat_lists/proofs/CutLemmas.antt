@@ -2,7 +2,7 @@
 use Rattle.std.proofs.Common.{◌≡◌, ℕ, ◌+◌, ◌-◌, ◌<◌, ◌≤◌, zero, suc, List, [], ◌∷◌, ◌++◌, length, get_or, take, drop, Some, refl, sym, ap, ◌∙◌, arith, length-append, slice_get}
 use Rattle.std.specs.Prelude.{slice_range}
 use Rattle.std.proofs.lemmas.List.{drop_at, drop-append-le, take-append-le, take_all, length-drop, get_or_read}
-use Rattle.flat_lists.specs.Cuts.{cut, AreEnds}
+use Rattle.flat_lists.specs.private.Cuts.{cut, AreEnds}
 
 -- as many pieces as ends
 pub length-cut : {X : Type 0} → (start : ℕ) (ends : List ℕ) (items : List X) → length (cut start ends items) ≡ length ends

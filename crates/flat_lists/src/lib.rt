@@ -16,7 +16,7 @@ pub struct FlatLists<T: Copy, A: Allocator + Copy> {
 
 impl<T: Copy, A: Allocator + Copy> Model for FlatLists<T, A> {
     ghost use Rattle.std.specs.Prelude.{List, length};
-    ghost use Rattle.flat_lists.specs.Cuts.{cut, AreEnds};
+    ghost use Rattle.flat_lists.specs.private.Cuts.{cut, AreEnds};
 
     ghost Value = { List (List T) };
 

@@ -16,7 +16,7 @@ use Rattle.step_model.specs.declared.step.Term.{Term}
 use Rattle.step_model.specs.Listing.{word_of_terms}
 use Rattle.step_model.specs.WellFormed.{TermsFit}
 use Rattle.tableau.specs.Rows.{Rows, row_count, state_of, stabilizer_at, destabilizer_at, IsReplaced}
-use Rattle.forward_sim.specs.Kept.{terms_from, entry_of, entry_for, NamesRow}
+use Rattle.forward_sim.specs.private.Kept.{terms_from, entry_of, entry_for, NamesRow}
 use Rattle.forward_sim.specs.References.{IsEntry, IsReplacing}
 
 -- one letter behind q letters I

@@ -7,7 +7,7 @@ use Rattle.std.proofs.lemmas.Bool.Decides.{eqb_tells}
 use Rattle.std.proofs.lemmas.List.{at_drop_more, length-replicate}
 use Rattle.std.proofs.lemmas.List.FromFn.{fill_by_all}
 use Rattle.forward_sim.specs.Lists.{is_number, is_among, is_distinct, marks, marks_of, numbers_of}
-use Rattle.forward_sim.specs.Numbers.{number_below, is_comma, number_of}
+use Rattle.forward_sim.specs.private.Numbers.{number_below, is_comma, number_of}
 
 -- the marks after these pieces, none where one is no number that has a mark, or is named twice
 abbrev pub marked : List (List ℕ) → List Bool → Option (List Bool)

@@ -18,10 +18,10 @@ use Rattle.step_model.proofs.StepNumbers.{length-word_of_terms}
 use Rattle.programs.specs.declared.step.FaultName.{FaultName}
 use Rattle.programs.specs.declared.step.Step.TheVariants as step
 use Rattle.programs.specs.Listed.{listed, measured}
-use Rattle.forward_sim.specs.Kept.{StepKeeps}
-use Rattle.forward_sim.specs.Machines.{Running, qubit_count, run_of, ended, ComesTo}
+use Rattle.forward_sim.specs.private.Kept.{StepKeeps}
+use Rattle.forward_sim.specs.private.Machines.{Running, qubit_count, run_of, ended, ComesTo}
 use Rattle.forward_sim.specs.References.{ReferenceRun, IsEntry, AreEntries, IsReferenceOf}
-use Rattle.forward_sim.specs.SameRuns.{HoldSame, IsSameRun}
+use Rattle.forward_sim.specs.private.SameRuns.{HoldSame, IsSameRun}
 use Rattle.forward_sim.proofs.RunRecords.{MakesRest, all_fit, left, past, records_at_end, step_is_next}
 use Rattle.forward_sim.proofs.SameStates.{same-corrected, same-next}
 

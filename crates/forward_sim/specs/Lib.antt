@@ -1,6 +1,3 @@
-pub mod Kept
 pub mod Lists
-pub mod Machines
 pub mod References
-pub mod SameRuns
-pub mod Numbers
+pub mod private

@@ -9,8 +9,8 @@ ghost use Rattle.step_model.specs.Listing.{word_of_terms, step_records};
 ghost use Rattle.step_model.specs.Runs.{after_collapse, next, next_coin};
 ghost use Rattle.step_model.specs.WellFormed.{TermsFit};
 ghost use Rattle.tableau.specs.Rows.{row_count, destabilizer_at};
-ghost use Rattle.forward_sim.specs.Kept.{entry_for, entry_of, terms_from, Keeps, StepKeeps};
-ghost use Rattle.forward_sim.specs.Machines.{ComesTo, qubit_count, run_of};
+ghost use Rattle.forward_sim.specs.private.Kept.{entry_for, entry_of, terms_from, Keeps, StepKeeps};
+ghost use Rattle.forward_sim.specs.private.Machines.{ComesTo, qubit_count, run_of};
 
 use crate::letters::collapse_letter;
 use crate::machine::Machine;

@@ -2,8 +2,8 @@ ghost use Rattle.std.specs.Prelude.{◌≡◌, ◌<◌, false, None};
 ghost use Rattle.pauli_word.specs.States.{outcome};
 ghost use Rattle.pauli_word.specs.Words.{lone_letter};
 ghost use Rattle.step_model.specs.Runs.{after_collapse, next_coin};
-ghost use Rattle.forward_sim.specs.Kept.{NamesRow};
-ghost use Rattle.forward_sim.specs.Machines.{ComesTo, qubit_count, run_of};
+ghost use Rattle.forward_sim.specs.private.Kept.{NamesRow};
+ghost use Rattle.forward_sim.specs.private.Machines.{ComesTo, qubit_count, run_of};
 
 use crate::machine::Machine;
 use pauli_word::Letter;

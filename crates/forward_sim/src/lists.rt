@@ -5,7 +5,7 @@ ghost use Rattle.std.specs.List.{list_all};
 ghost use Rattle.step_model.specs.declared.fault.Cause.TheVariants.{CoinCount, FaultNumber};
 ghost use Rattle.step_model.specs.Faults.{memory_fault, without_line};
 ghost use Rattle.forward_sim.specs.Lists.{coins_of, is_one, is_zero_or_one, numbers_of};
-ghost use Rattle.forward_sim.specs.Numbers.{number_below};
+ghost use Rattle.forward_sim.specs.private.Numbers.{number_below};
 
 use programs::Program;
 use std::alloc::{AllocError, Allocator};

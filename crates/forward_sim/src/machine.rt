@@ -7,8 +7,8 @@ ghost use Rattle.step_model.specs.Listing.{word_of_terms};
 ghost use Rattle.programs.specs.Listed.{measured};
 ghost use Rattle.step_model.specs.Runs.{start, next_coin, corrected, correction};
 ghost use Rattle.step_model.specs.WellFormed.{TermsFit};
-ghost use Rattle.forward_sim.specs.Machines.{ComesTo, qubit_count, run_of};
-ghost use Rattle.forward_sim.specs.SameRuns.{IsSameRun};
+ghost use Rattle.forward_sim.specs.private.Machines.{ComesTo, qubit_count, run_of};
+ghost use Rattle.forward_sim.specs.private.SameRuns.{IsSameRun};
 
 use crate::records::Records;
 use crate::values::value_at;
@@ -33,7 +33,7 @@ pub(crate) struct Machine<'c, A: Allocator + Copy> {
 impl<'c, A: Allocator + Copy> Model for Machine<'c, A> {
     ghost use Rattle.std.specs.Prelude.{◌≡◌, length, vec_capacity};
     ghost use Rattle.tableau.specs.Rows.{row_count};
-    ghost use Rattle.forward_sim.specs.Machines.{Running};
+    ghost use Rattle.forward_sim.specs.private.Machines.{Running};
 
     ghost Value = { Running };
 

@@ -4,8 +4,8 @@ ghost use Rattle.pauli_word.specs.Words.{signed};
 ghost use Rattle.step_model.specs.Listing.{word_of_terms};
 ghost use Rattle.step_model.specs.Runs.{after_collapse, next_coin};
 ghost use Rattle.step_model.specs.WellFormed.{TermsFit};
-ghost use Rattle.forward_sim.specs.Kept.{NamesRow};
-ghost use Rattle.forward_sim.specs.Machines.{ComesTo, qubit_count, run_of};
+ghost use Rattle.forward_sim.specs.private.Kept.{NamesRow};
+ghost use Rattle.forward_sim.specs.private.Machines.{ComesTo, qubit_count, run_of};
 
 use crate::machine::Machine;
 use pauli_word::Word;

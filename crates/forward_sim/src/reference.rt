@@ -1,9 +1,9 @@
 ghost use Rattle.std.specs.Prelude.{◌≡◌, ◌<◌, [], None, length, option_map, slice_index_or, IfOk, IfErr, OnOk};
 ghost use Rattle.step_model.specs.Faults.{memory_fault};
 ghost use Rattle.step_model.specs.Runs.{start};
-ghost use Rattle.forward_sim.specs.Machines.{qubit_count, run_of};
+ghost use Rattle.forward_sim.specs.private.Machines.{qubit_count, run_of};
 ghost use Rattle.forward_sim.specs.References.{IsReferenceOf};
-ghost use Rattle.forward_sim.specs.SameRuns.{IsSameRun};
+ghost use Rattle.forward_sim.specs.private.SameRuns.{IsSameRun};
 
 use crate::following::follow_step;
 use crate::machine::Machine;

@@ -1,6 +1,6 @@
 ghost use Rattle.std.specs.Prelude.{◌≡◌, ◌<◌, [], ◌∷◌, ◌++◌, None, length, not, option_map, slice_index_or, OnOk};
 ghost use Rattle.step_model.specs.Listing.{is_I};
-ghost use Rattle.forward_sim.specs.Kept.{entry_of, term_here, terms_from};
+ghost use Rattle.forward_sim.specs.private.Kept.{entry_of, term_here, terms_from};
 
 use flat_lists::FlatLists;
 use pauli_word::{Letter, Word};
@@ -20,7 +20,7 @@ pub(crate) struct Replaced<A: Allocator + Copy> {
 impl<A: Allocator + Copy> Model for Replaced<A> {
     ghost use Rattle.std.specs.Prelude.{List, Option, map};
     ghost use Rattle.step_model.specs.declared.step.Term.{Term};
-    ghost use Rattle.forward_sim.specs.Kept.{entry_of};
+    ghost use Rattle.forward_sim.specs.private.Kept.{entry_of};
 
     ghost Value = { List (Option (List Term)) };
 

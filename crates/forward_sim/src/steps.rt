@@ -5,7 +5,7 @@ ghost use Rattle.programs.specs.Listed.{listed, measured, number_of};
 ghost use Rattle.programs.specs.Named.{IsNamed, IsStepOf};
 ghost use Rattle.step_model.specs.Listing.{Fault, step_records};
 ghost use Rattle.step_model.specs.Runs.{after_collapse, correction, flip_happens, next};
-ghost use Rattle.forward_sim.specs.Machines.{ComesTo, ended, qubit_count, run_of};
+ghost use Rattle.forward_sim.specs.private.Machines.{ComesTo, ended, qubit_count, run_of};
 
 use crate::letters::collapse_letter;
 use crate::machine::Machine;

@@ -11,7 +11,7 @@ use Rattle.programs.specs.Listed.{measured, recorded}
 use Rattle.step_model.specs.Frames.{Frame, carried, flips_from, record_flip}
 use Rattle.step_model.specs.Listing.{ListedStep, Collapse, measured_word, is_collapse}
 use Rattle.step_model.specs.Sensitivities.{collapse_word}
-use Rattle.frames.specs.Flips.{flip_of, recorded_flips}
+use Rattle.frames.specs.private.Flips.{flip_of, recorded_flips}
 use Rattle.run_laws.proofs.ShiftWords.{anticommute-lone}
 
 listed-flip : (b flip : Bool) → (if b then flip ∷ [] else []) ≡ option_to_list (if b then Some flip else None)

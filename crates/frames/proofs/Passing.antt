@@ -19,7 +19,7 @@ use Rattle.step_model.specs.Sensitivities.{collapse_word}
 use Rattle.step_model.specs.WellFormed.{IsWellFormed, records_made}
 use Rattle.step_model.proofs.StepNumbers.{record_at}
 use Rattle.run_laws.proofs.PairPlaces.{after_first, length-flips_after}
-use Rattle.frames.specs.Passes.{made_with, made_after, IsNotThere}
+use Rattle.frames.specs.private.Passes.{made_with, made_after, IsNotThere}
 
 -- the steps from a place on, by the step there
 pub drop-step : (steps : List ListedStep) (k : ℕ) (s : ListedStep) → slice_get steps k ≡ Some s → drop k steps ≡ s ∷ drop (k + 1) steps

@@ -1,3 +1,2 @@
-pub mod Flips
 pub mod Pairs
-pub mod Passes
+pub mod private

@@ -1,7 +1,7 @@
 //! The way from the start of a program to a collapse, which is the projective measurement inside a measurement or a
 //! reset.
 ghost use Rattle.std.specs.Prelude.{◌≡◌, drop};
-ghost use Rattle.frames.specs.Passes.{made_after, Passes};
+ghost use Rattle.frames.specs.private.Passes.{made_after, Passes};
 
 use programs::{Program, Step, Walk};
 use std::alloc::Allocator;

@@ -9,7 +9,7 @@ ghost use Rattle.step_model.specs.Frames.{begun, carried};
 ghost use Rattle.step_model.specs.Listing.{word_of_terms};
 ghost use Rattle.step_model.specs.Sensitivities.{multiplied};
 ghost use Rattle.step_model.specs.WellFormed.{TermsFit};
-ghost use Rattle.frames.specs.Flips.{flip_of, recorded_flips};
+ghost use Rattle.frames.specs.private.Flips.{flip_of, recorded_flips};
 
 use crate::words::{anticommutes, multiply_at};
 use gate_table::Gate;

@@ -4,7 +4,7 @@ use Rattle.std.specs.Prelude.{option_map, Some}
 use Rattle.std.specs.Str.{str_eq_ignore_ascii_case}
 use Rattle.gate_table.specs.declared.gate.Gate.{Gate}
 use Rattle.gate_table.specs.Names.{named_in}
-use Rattle.gate_table.specs.Rows.{named_in_rows}
+use Rattle.gate_table.specs.private.Rows.{named_in_rows}
 
 -- the name and the gate of a row
 abbrev pub entry_of : Bor (List ℕ) × Gate → List ℕ × Gate

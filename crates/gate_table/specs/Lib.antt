@@ -3,4 +3,4 @@ pub mod Images
 pub mod Names
 pub mod Laws
 pub mod WordImages
-pub mod Rows
+pub mod private

@@ -1,5 +1,5 @@
 ghost use Rattle.std.specs.Prelude.{◌≡◌};
-ghost use Rattle.gate_table.specs.Rows.{named_in_rows};
+ghost use Rattle.gate_table.specs.private.Rows.{named_in_rows};
 
 use crate::names::NAMES;
 use crate::table::{ONE_QUBIT_GATES, ONE_QUBIT_IMAGES, TWO_QUBIT_IMAGES};
@@ -109,7 +109,7 @@ impl Gate {
 }
 
 /// The gate of the first row whose name is the text, in any case.
-#[tactic(auto, unfolding(crate::specs::Rows::named_in_rows))]
+#[tactic(auto, unfolding(crate::specs::private::Rows::named_in_rows))]
 fn look_up(rows: &[(&[u8], Gate)], text: &[u8]) -> Option<Gate>
     ensures { result ≡ named_in_rows rows.now text.now }
 {

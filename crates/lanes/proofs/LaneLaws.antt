@@ -1,7 +1,7 @@
 -- One lane of a word.
 use Rattle.std.proofs.Common.{◌≡◌, ℕ, ◌^◌, ◌-◌, ◌<◌, true, false, eqb, refl, ap, ◌∙◌}
 use Rattle.std.proofs.lemmas.Nat.Bits.{bit_at_ones}
-use Rattle.bit_rows.specs.Words.{bit_of}
+use Rattle.bit_rows.specs.private.Words.{bit_of}
 use Rattle.bit_rows.proofs.BitLaws.{bit_of-zero}
 use Rattle.lanes.specs.Lanes.{lane_bit}
 

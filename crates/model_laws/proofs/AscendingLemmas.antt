@@ -5,7 +5,7 @@ use Rattle.std.specs.List.{range_with_len}
 use Rattle.std.specs.List.Sorted.{IsStrictlyIncreasing}
 use Rattle.std.proofs.lemmas.Bool.{cases_eq, eq-eqb, ne_eqb}
 use Rattle.pauli_word.specs.Parity.{exclusive_or}
-use Rattle.dem_parser.specs.Numbered.{odd_below}
+use Rattle.dem_parser.specs.private.Numbered.{odd_below}
 use Rattle.step_model.specs.Targets.{is_listed}
 use Rattle.dem_parser.proofs.FlipLemmas.{filter-agree}
 

@@ -4,15 +4,15 @@ use Rattle.std.specs.Prelude.{ℕ, List, [], ◌∷◌, ◌++◌, codes, decimal
 use Rattle.std.specs.List.{flat_map}
 use Rattle.stim_parser.specs.Written.{in_parentheses}
 use Rattle.dem_lines.specs.declared.operation.Operation.{Operation}
-use Rattle.dem_lines.specs.declared.operation.Operation.TheVariants.{Errs, Detects, Observes, Shifts}
+use Rattle.dem_lines.specs.declared.operation.Operation.TheVariants.{PauliError, DetectorDeclaration, ObservableInclude, Shifts}
 use Rattle.dem_lines.specs.declared.target.Target.{Target}
 use Rattle.dem_lines.specs.declared.target.Target.TheVariants.{Plain, Detector, Observable, Separator}
 use Rattle.dem_lines.specs.Verdicts.{Instruction}
 
 abbrev pub name_text : Operation → List ℕ
-name_text Errs = codes "error"
-name_text Detects = codes "detector"
-name_text Observes = codes "logical_observable"
+name_text PauliError = codes "error"
+name_text DetectorDeclaration = codes "detector"
+name_text ObservableInclude = codes "logical_observable"
 name_text Shifts = codes "shift_detectors"
 
 abbrev pub target_word : Target → List ℕ

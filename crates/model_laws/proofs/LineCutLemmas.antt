@@ -12,7 +12,7 @@ use Rattle.stim_parser.proofs.ByteLemmas.{all-where, both_all}
 use Rattle.stim_parser.proofs.LineCutLemmas.{IsCut, IsName, arguments_cut, is_plain_byte, targets_cut}
 use Rattle.stim_parser.proofs.WordLemmas.{is_word, is_word_byte, no_blank, other_byte, word_bytes}
 use Rattle.dem_lines.specs.declared.operation.Operation.{Operation}
-use Rattle.dem_lines.specs.declared.operation.Operation.TheVariants.{Errs, Detects, Observes, Shifts}
+use Rattle.dem_lines.specs.declared.operation.Operation.TheVariants.{PauliError, DetectorDeclaration, ObservableInclude, Shifts}
 use Rattle.dem_lines.specs.declared.target.Target.{Target}
 use Rattle.model_laws.proofs.InstructionTexts.{instruction_line, name_text, target_word, target_words}
 
@@ -36,9 +36,9 @@ plain_targets (t ∷ targets) h = both_all is_plain_byte (target_word t) (target
 -- ---- names, and targets behind them
 
 is_name : (o : Operation) → IsName (name_text o)
-is_name Errs = (refl, refl)
-is_name Detects = (refl, refl)
-is_name Observes = (refl, refl)
+is_name PauliError = (refl, refl)
+is_name DetectorDeclaration = (refl, refl)
+is_name ObservableInclude = (refl, refl)
 is_name Shifts = (refl, refl)
 
 apart : (targets : List Target) → position_or_len ends_name (target_words targets) ≡ 0

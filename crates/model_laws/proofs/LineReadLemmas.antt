@@ -2,14 +2,14 @@
 use Rattle.std.proofs.Common.{◌≡◌, ℕ, ◌<◌, true, false, List, [], ◌∷◌, ◌++◌, map, Some, decimal, refl, ap, ◌∙◌, arith}
 use Rattle.std.specs.List.{list_any}
 use Rattle.std.proofs.lemmas.Bool.{false≢true, ltb-false, or_parts}
-use Rattle.block_text.specs.Texts.{Takes}
+use Rattle.block_text.specs.Texts.{Accepts}
 use Rattle.stim_parser.specs.Judging.{judged, reading_of, refusal_of}
 use Rattle.stim_parser.specs.Numbers.{greatest_number}
 use Rattle.stim_parser.specs.Pieces.{ends_here, ends_piece, pieces_of}
 use Rattle.stim_parser.specs.Targets.{each_of}
 use Rattle.stim_parser.specs.declared.table.Keyword.TheVariants.{Does}
 use Rattle.dem_lines.specs.declared.operation.Operation.{Operation}
-use Rattle.dem_lines.specs.declared.operation.Operation.TheVariants.{Errs, Detects, Observes, Shifts}
+use Rattle.dem_lines.specs.declared.operation.Operation.TheVariants.{PauliError, DetectorDeclaration, ObservableInclude, Shifts}
 use Rattle.dem_lines.specs.declared.target.Target.{Target}
 use Rattle.dem_lines.specs.declared.target.Target.TheVariants.{Plain, Detector, Observable, Separator}
 use Rattle.dem_lines.specs.Fitting.{Fits}
@@ -87,13 +87,13 @@ targets_read targets h = ap (each_of target_of) (pieces_found targets (all_are_w
 
 keyword_found : (o : Operation) → keyword_named (name_text o) ≡ Some (Does o)
 unfolding keyword_named
-keyword_found Errs = refl
-keyword_found Detects = refl
-keyword_found Observes = refl
+keyword_found PauliError = refl
+keyword_found DetectorDeclaration = refl
+keyword_found ObservableInclude = refl
 keyword_found Shifts = refl
 
 pub reading_found : (number : ℕ) (o : Operation) (arguments : List (List ℕ)) (targets : List Target) → AreWords arguments → Fits (instruction number o arguments targets)
-    → reading_of model_table 0 number (line_cut o arguments targets) ≡ Takes (instruction number o arguments targets)
+    → reading_of model_table 0 number (line_cut o arguments targets) ≡ Accepts (instruction number o arguments targets)
 unfolding reading_of judged refusal_of
 reading_found number o arguments targets words fits =
     let count = fits.arguments in

@@ -14,10 +14,10 @@ use Rattle.stim_parser.specs.Numbers.{whole_value}
 use Rattle.dem_text.specs.ModelText.{model_text}
 use Rattle.dem_lines.specs.declared.target.Target.{Target}
 use Rattle.dem_parser.specs.Meanings.{detector_count, detectors_to, error_line, error_lines, gives_coordinates, is_error, last_coordinates, meaning_of, observable_count, observables_to, numbered}
-use Rattle.dem_parser.specs.Summed.{greatest_over}
+use Rattle.dem_parser.specs.private.Summed.{greatest_over}
 use Rattle.block_text.specs.Reached.{greatest_by}
 use Rattle.dem_parser.specs.Models.{model_in}
-use Rattle.dem_parser.specs.Numbered.{odd_below, numbers_of}
+use Rattle.dem_parser.specs.private.Numbered.{odd_below, numbers_of}
 use Rattle.dem_parser.specs.Shifts.{Placed}
 use Rattle.dem_parser.proofs.ChainLemmas.{moved_by_nothing, placed}
 use Rattle.model_laws.specs.Writable.{IsWritable, IsWritableLine}

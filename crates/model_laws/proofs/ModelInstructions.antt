@@ -7,7 +7,7 @@ use Rattle.std.specs.List.{flat_map, range_with_len}
 use Rattle.std.proofs.lemmas.Bool.{cases_Bool}
 use Rattle.step_model.specs.ErrorModels.{ErrorLine, ErrorModel}
 use Rattle.dem_text.specs.ModelText.{coordinates_text, detector_text, detectors_text, line_text, lines_text, model_text, more_coordinates_text, observable_text, observables_text, target_text, targets_text}
-use Rattle.dem_lines.specs.declared.operation.Operation.TheVariants.{Errs, Detects, Observes}
+use Rattle.dem_lines.specs.declared.operation.Operation.TheVariants.{PauliError, DetectorDeclaration, ObservableInclude}
 use Rattle.dem_lines.specs.declared.target.Target.{Target}
 use Rattle.dem_lines.specs.declared.target.Target.TheVariants.{Detector, Observable}
 use Rattle.dem_lines.specs.Verdicts.{Instruction}
@@ -20,13 +20,13 @@ abbrev pub target_of_number : ℕ → ℕ → Target
 target_of_number detectors t = if nat_lt t detectors then Detector t else Observable (t - detectors)
 
 abbrev pub error_instruction : ℕ → ErrorLine → Instruction
-error_instruction detectors line = instruction 0 Errs (line.text ∷ []) (map (target_of_number detectors) line.targets)
+error_instruction detectors line = instruction 0 PauliError (line.text ∷ []) (map (target_of_number detectors) line.targets)
 
 abbrev pub detector_instruction : List (List ℤ) → ℕ → Instruction
-detector_instruction coordinates d = instruction 0 Detects (map signed_decimal (slice_index_or coordinates d [])) (Detector d ∷ [])
+detector_instruction coordinates d = instruction 0 DetectorDeclaration (map signed_decimal (slice_index_or coordinates d [])) (Detector d ∷ [])
 
 abbrev pub observable_instruction : ℕ → Instruction
-observable_instruction k = instruction 0 Observes [] (Observable k ∷ [])
+observable_instruction k = instruction 0 ObservableInclude [] (Observable k ∷ [])
 
 abbrev pub error_instructions : ErrorModel → List Instruction
 error_instructions model = map (error_instruction model.detectors) model.lines
@@ -55,7 +55,7 @@ error_end text words rest =
     ap (λ (t : List ℕ). ((t ++ 41 ∷ []) ++ words) ++ 10 ∷ rest) (append-nil text) ∙ sym (append_assoc ((text ++ 41 ∷ []) ++ words) (10 ∷ []) rest)
 
 error_line_text : (detectors : ℕ) (line : ErrorLine) (rest : List ℕ)
-    → instruction_line Errs (line.text ∷ []) (map (target_of_number detectors) line.targets) ++ 10 ∷ rest ≡ line_text detectors line ++ rest
+    → instruction_line PauliError (line.text ∷ []) (map (target_of_number detectors) line.targets) ++ 10 ∷ rest ≡ line_text detectors line ++ rest
 error_line_text detectors line rest =
     ap (λ (words : List ℕ). codes "error(" ++ (((line.text ++ []) ++ 41 ∷ []) ++ words) ++ 10 ∷ rest) (all_targets detectors line.targets)
     ∙ ap (λ (t : List ℕ). codes "error(" ++ t) (error_end line.text (targets_text detectors line.targets) rest)
@@ -76,12 +76,12 @@ target_end before number rest mark =
     ∙ sym (append_assoc ((before ++ (32 ∷ mark ∷ [])) ++ number) (10 ∷ []) rest)
 
 detector_line_text : (d : ℕ) (coordinates : List ℤ) (rest : List ℕ)
-    → instruction_line Detects (map signed_decimal coordinates) (Detector d ∷ []) ++ 10 ∷ rest ≡ detector_text d coordinates ++ rest
+    → instruction_line DetectorDeclaration (map signed_decimal coordinates) (Detector d ∷ []) ++ 10 ∷ rest ≡ detector_text d coordinates ++ rest
 detector_line_text d coordinates rest =
     ap (λ (before : List ℕ). codes "detector" ++ (before ++ (32 ∷ 68 ∷ (decimal d ++ []))) ++ 10 ∷ rest) (parentheses_text coordinates)
     ∙ ap (λ (t : List ℕ). codes "detector" ++ t) (target_end (coordinates_text coordinates) (decimal d) rest 68)
 
-observable_line_text : (k : ℕ) (rest : List ℕ) → instruction_line Observes [] (Observable k ∷ []) ++ 10 ∷ rest ≡ observable_text k ++ rest
+observable_line_text : (k : ℕ) (rest : List ℕ) → instruction_line ObservableInclude [] (Observable k ∷ []) ++ 10 ∷ rest ≡ observable_text k ++ rest
 observable_line_text k rest = ap (λ (t : List ℕ). codes "logical_observable" ++ t) (target_end [] (decimal k) rest 76)
 
 -- ---- all lines

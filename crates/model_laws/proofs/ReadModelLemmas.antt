@@ -16,14 +16,14 @@ use Rattle.stim_parser.specs.Limits.{has_wrong_arguments, has_wrong_probability,
 use Rattle.stim_parser.specs.Numbers.{whole_value}
 use Rattle.dem_text.specs.ModelText.{model_text}
 use Rattle.dem_lines.specs.declared.operation.Operation.{Operation}
-use Rattle.dem_lines.specs.declared.operation.Operation.TheVariants.{Errs, Detects, Observes, Shifts}
+use Rattle.dem_lines.specs.declared.operation.Operation.TheVariants.{PauliError, DetectorDeclaration, ObservableInclude, Shifts}
 use Rattle.dem_lines.specs.declared.target.Target.{Target}
 use Rattle.dem_lines.specs.declared.target.Target.TheVariants.{Plain, Detector, Observable, Separator}
 use Rattle.dem_lines.specs.Fitting.{AllFit, Fits}
-use Rattle.dem_lines.specs.Flat.{tree_of}
+use Rattle.dem_lines.specs.private.Flat.{tree_of}
 use Rattle.dem_lines.specs.Limits.{has_target_beyond, is_target_beyond}
 use Rattle.dem_parser.specs.Meanings.{detector_count, detectors_to, error_line, error_lines, gives_coordinates, is_error, last_coordinates, meaning_of, observable_count, observables_to}
-use Rattle.dem_parser.specs.Summed.{greatest_over}
+use Rattle.dem_parser.specs.private.Summed.{greatest_over}
 use Rattle.dem_parser.specs.Models.{first_beyond, is_beyond, is_far, model_in, model_of_tree, placed_lines, refusal_of_tree}
 use Rattle.dem_lines.specs.Reached.{has_many_lines}
 use Rattle.block_text.specs.Reached.{copies, reached, greatest_by}
@@ -80,22 +80,22 @@ first_holds : (a b : Bool) → not (a && b) ≡ false → a ≡ true
 first_holds true b h = refl
 first_holds false b h = absurd cc
 
-error_accepted : (number : ℕ) (arguments : List (List ℕ)) (targets : List Target) → Fits (instruction number Errs arguments targets) → is_probability (slice_index_or arguments 0 []) ≡ true
+error_accepted : (number : ℕ) (arguments : List (List ℕ)) (targets : List Target) → Fits (instruction number PauliError arguments targets) → is_probability (slice_index_or arguments 0 []) ≡ true
 unfolding has_wrong_arguments has_wrong_probability
 error_accepted number [] targets fits = let none = fits.arguments in absurd (false≢true (sym none))
 error_accepted number (a ∷ arguments) targets fits = first_holds (is_probability a) (list_all is_probability arguments) fits.probability
 
-few_said : (number : ℕ) (arguments : List (List ℕ)) (targets : List Target) (offset : List ℤ) → Fits (instruction number Detects arguments targets) → length (moved offset (map whole_value arguments)) ≤ 16
+few_said : (number : ℕ) (arguments : List (List ℕ)) (targets : List Target) (offset : List ℤ) → Fits (instruction number DetectorDeclaration arguments targets) → length (moved offset (map whole_value arguments)) ≤ 16
 unfolding has_wrong_arguments
 few_said number arguments targets offset fits =
     let few = ltb-false 16 (length arguments) (or_parts (nat_lt 16 (length arguments)) _ fits.arguments).0 in
     omega (arith, few, length-moved offset (map whole_value arguments), length-values arguments)
 
 said : (s : Shift) (number : ℕ) (o : Operation) (arguments : List (List ℕ)) (targets : List Target) → Fits (instruction number o arguments targets) → IsSaid (placed_at s (instruction number o arguments targets))
-said s number Errs arguments targets fits = record { accepted = λ error. error_accepted number arguments targets fits; few = omega arith }
-said s number Detects arguments targets fits =
+said s number PauliError arguments targets fits = record { accepted = λ error. error_accepted number arguments targets fits; few = omega arith }
+said s number DetectorDeclaration arguments targets fits =
     record { accepted = λ error. absurd (false≢true error); few = few_said number arguments targets s.offset fits }
-said s number Observes arguments targets fits = record { accepted = λ error. absurd (false≢true error); few = omega arith }
+said s number ObservableInclude arguments targets fits = record { accepted = λ error. absurd (false≢true error); few = omega arith }
 said s number Shifts arguments targets fits = record { accepted = λ error. absurd (false≢true error); few = omega arith }
 
 -- lines that are said, none of which names a number beyond its limit

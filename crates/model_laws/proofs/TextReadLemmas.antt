@@ -8,10 +8,10 @@ use Rattle.block_text.specs.Texts.{before, items_from}
 use Rattle.dem_lines.specs.declared.target.Target.{Target}
 use Rattle.dem_lines.specs.Fitting.{Fits}
 use Rattle.dem_lines.specs.Texts.{models}
-use Rattle.block_text.specs.Trees.{Does}
+use Rattle.block_text.specs.Trees.{InstructionLine}
 use Rattle.dem_lines.specs.Verdicts.{Instruction}
 use Rattle.dem_parser.specs.Meanings.{detectors_to, observables_to, detector_count, error_line, error_lines, gives_coordinates, is_error, last_coordinates, meaning_of, observable_count}
-use Rattle.dem_parser.specs.Summed.{greatest_over}
+use Rattle.dem_parser.specs.private.Summed.{greatest_over}
 use Rattle.block_text.specs.Reached.{greatest_by}
 use Rattle.dem_parser.specs.Models.{model_in}
 use Rattle.dem_parser.specs.Shifts.{Placed, no_shift, shift_after}
@@ -64,7 +64,7 @@ numbered_stay read (i ∷ instructions) h = (h.0.stays, numbered_stay (read + 1)
 -- ---- their items
 
 next_item : (read : ℕ) (i : Instruction) (lines : List (List ℕ)) → CanStand i
-    → items_from models [] read (instruction_line i.operation i.arguments i.targets ∷ lines) ≡ before (Does (at_line (read + 1) i)) (items_from models [] (read + 1) lines)
+    → items_from models [] read (instruction_line i.operation i.arguments i.targets ∷ lines) ≡ before (InstructionLine (at_line (read + 1) i)) (items_from models [] (read + 1) lines)
 unfolding items_from
 next_item read i lines h =
     let cut = line_is_cut i.operation i.arguments i.targets h.words (targets_are_words i.targets h.fits.targets_within) in
@@ -77,13 +77,13 @@ no_items : (read : ℕ) → items_from models [] read (lines_of []) ≡ Ok []
 unfolding items_from lines_of
 no_items read = refl
 
-items_read : (read : ℕ) (instructions : List Instruction) → AllCanStand instructions → items_from models [] read (lines_of (text_of instructions)) ≡ Ok (map Does (numbered read instructions))
+items_read : (read : ℕ) (instructions : List Instruction) → AllCanStand instructions → items_from models [] read (lines_of (text_of instructions)) ≡ Ok (map InstructionLine (numbered read instructions))
 items_read read [] h = no_items read
 items_read read (i ∷ instructions) h =
     let cut = line_is_cut i.operation i.arguments i.targets h.0.words (targets_are_words i.targets h.0.fits.targets_within) in
     ap (items_from models [] read) (lines_of-line (instruction_line i.operation i.arguments i.targets) (text_of instructions) cut.one)
     ∙ next_item read i (lines_of (text_of instructions)) h.0
-    ∙ ap (before (Does (at_line (read + 1) i))) (items_read (read + 1) instructions h.1)
+    ∙ ap (before (InstructionLine (at_line (read + 1) i))) (items_read (read + 1) instructions h.1)
 
 -- ---- the numbers of lines say nothing
 

@@ -3,6 +3,6 @@ pub mod Bits
 pub mod Letters
 pub mod Parity
 pub mod States
-pub mod WordMaps
 pub mod Words
 pub mod Groups
+pub mod private

@@ -17,7 +17,7 @@ use Rattle.run_laws.proofs.ConstancyRecords.{get_or-push, first_of_range, in_ord
 use Rattle.plain_runs.specs.declared.plain_step.Recording.{Recording}
 use Rattle.plain_runs.specs.declared.plain_step.PlainStep.{PlainStep}
 use Rattle.plain_runs.specs.declared.plain_step.PlainStep.TheVariants as plain
-use Rattle.plain_runs.specs.PlainSteps.{measured, recorded, listed_step, step_at}
+use Rattle.plain_runs.specs.private.PlainSteps.{measured, recorded, listed_step, step_at}
 
 -- what is known of a result, along an equation
 pub IfOk-along : {E : Type 0} (r : Result Bool E) (a b : Bool) → IfOk r (λ x. x ≡ a) → a ≡ b → IfOk r (λ x. x ≡ b)

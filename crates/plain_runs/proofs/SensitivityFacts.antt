@@ -12,7 +12,7 @@ use Rattle.step_model.specs.WellFormed.{collapse_count}
 use Rattle.plain_runs.specs.declared.plain_step.Recording.{Recording}
 use Rattle.plain_runs.specs.declared.plain_step.PlainStep.{PlainStep}
 use Rattle.plain_runs.specs.declared.plain_step.PlainStep.TheVariants as plain
-use Rattle.plain_runs.specs.PlainSteps.{listed_step, step_at}
+use Rattle.plain_runs.specs.private.PlainSteps.{listed_step, step_at}
 
 pub sensitivity-more : (program : Listing) (named : List ℕ) (i n : ℕ) → i + 1 ≡ n → i < length program.steps → sensitivity program.qubits named (drop i program.steps) ≡ sensitivity_before program.qubits (step_at program i) (sensitivity program.qubits named (drop n program.steps))
 sensitivity-more program named i n e h =

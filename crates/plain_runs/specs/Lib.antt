@@ -1,2 +1,1 @@
-pub mod PlainSteps
-pub mod Unrolled
+pub mod private

@@ -4,8 +4,8 @@ ghost use Rattle.step_model.specs.Listing.{fault_word, effect_at};
 ghost use Rattle.step_model.specs.WellFormed.{applies_word};
 ghost use Rattle.programs.specs.Named.{IsNamed};
 ghost use Rattle.programs.specs.Listed.{recorded};
-ghost use Rattle.plain_runs.specs.PlainSteps.{listed_step, step_at, WordsFit};
-ghost use Rattle.plain_runs.specs.PlainSteps.{recorded as recording_listed};
+ghost use Rattle.plain_runs.specs.private.PlainSteps.{listed_step, step_at, WordsFit};
+ghost use Rattle.plain_runs.specs.private.PlainSteps.{recorded as recording_listed};
 
 use crate::unrolled::Unrolled;
 use crate::words::{lone_word, word_of_terms};

@@ -8,7 +8,7 @@ ghost use Rattle.step_model.specs.Listing as listing;
 ghost use Rattle.step_model.specs.WellFormed.{collapse_count};
 ghost use Rattle.step_model.specs.Listing.{is_collapse};
 ghost use Rattle.plain_runs.specs.declared.plain_step.Recording.{Recording};
-ghost use Rattle.plain_runs.specs.PlainSteps.{ResetFits, WordsFit, listed_step, measured, recorded, step_at};
+ghost use Rattle.plain_runs.specs.private.PlainSteps.{ResetFits, WordsFit, listed_step, measured, recorded, step_at};
 
 use crate::plain_step::{PlainStep, Recording, plain_step};
 use crate::unrolled::Unrolled;

@@ -4,7 +4,7 @@ ghost use Rattle.pauli_word.specs.Words.{anticommute, letter_at};
 ghost use Rattle.step_model.specs.Sensitivities.{sensitivity, sensitivity_before, record_counts, cleared, multiplied, collapse_word, latest_place, has_X_or_Y, lowest_X_or_Y, place_of};
 ghost use Rattle.step_model.specs.WellFormed.{collapse_count};
 ghost use Rattle.step_model.specs.Targets.{is_listed, targets_of};
-ghost use Rattle.plain_runs.specs.PlainSteps.{ResetFits, WordsFit, listed_step, measured, recorded, step_at};
+ghost use Rattle.plain_runs.specs.private.PlainSteps.{ResetFits, WordsFit, listed_step, measured, recorded, step_at};
 
 use crate::plain_step::{PlainStep, Recording, plain_step};
 use crate::runs::collapses_before;

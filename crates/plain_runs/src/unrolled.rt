@@ -4,7 +4,7 @@ ghost use Rattle.step_model.specs.Targets.{target_at, targets_of};
 ghost use Rattle.step_model.specs.WellFormed.{IsWellFormed};
 ghost use Rattle.programs.specs.Listed.{listed};
 ghost use Rattle.programs.specs.Named.{IsStepOf};
-ghost use Rattle.plain_runs.specs.PlainSteps.{step_at};
+ghost use Rattle.plain_runs.specs.private.PlainSteps.{step_at};
 
 use programs::{Program, Step, Walk};
 use std::alloc::{AllocError, Allocator};
@@ -20,7 +20,7 @@ pub(crate) struct Unrolled<'a, 'p, A: Allocator + Copy> {
 
 impl<'a, 'p, A: Allocator + Copy> Model for Unrolled<'a, 'p, A> {
     ghost use Rattle.programs.specs.Kept.{KeptProgram};
-    ghost use Rattle.plain_runs.specs.Unrolled.{AreSteps};
+    ghost use Rattle.plain_runs.specs.private.Unrolled.{AreSteps};
 
     ghost Value = { KeptProgram };
 

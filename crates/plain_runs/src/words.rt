@@ -8,7 +8,7 @@ ghost use Rattle.pauli_word.specs.Words.{anticommute, lone_letter, product, sign
 ghost use Rattle.step_model.specs.Listing.{word_of_terms};
 ghost use Rattle.step_model.specs.Runs.{correction, corrected};
 ghost use Rattle.step_model.specs.Sensitivities.{cleared, multiplied};
-ghost use Rattle.plain_runs.specs.PlainSteps.{ResetFits, measured};
+ghost use Rattle.plain_runs.specs.private.PlainSteps.{ResetFits, measured};
 
 use gate_table::Gate;
 use pauli_word::{Letter, Word};

@@ -15,7 +15,7 @@ use Rattle.programs.specs.declared.step.TextStep.TheVariants as text
 use Rattle.programs.specs.declared.step.Counts.{Counts}
 use Rattle.programs.specs.declared.step.Recording.{Recording}
 use Rattle.programs.specs.Fits.{flip_is_kept, recording_is_kept, is_kept}
-use Rattle.programs.specs.Held.{Held}
+use Rattle.programs.specs.private.Held.{Held}
 use Rattle.programs.specs.Listed.{entry_at, fault_of, flip_fault, recorded_faults, step_made_faults, made_faults, listed_steps}
 use Rattle.programs.specs.Made.{text_steps, listing_of, kept_program, EntryFits, PartsFit}
 use Rattle.programs.specs.Numbering.{no_counts, counts_after}

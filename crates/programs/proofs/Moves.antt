@@ -7,7 +7,7 @@ use Rattle.programs.specs.declared.step.TextStep.{TextStep}
 use Rattle.programs.specs.declared.node.Node.TheVariants.{Do, Open, Close}
 use Rattle.programs.specs.Trees.{Tree, Nothing, Then, Block, repeated, unrolled, nodes_of, depth, IsFull}
 use Rattle.programs.specs.Places.{IsPlace}
-use Rattle.programs.specs.Moves.{AtEnd, Forward, Backward}
+use Rattle.programs.specs.private.Moves.{AtEnd, Forward, Backward}
 use Rattle.programs.proofs.Indices.{get-left, get-right, length-repeated, get-repeated, turn-end, inside, beyond, at_close}
 use Rattle.programs.proofs.Places.{moved, first_place, last_place, bounded}
 

@@ -8,7 +8,7 @@ use Rattle.programs.specs.declared.node.Node.TheVariants.{Do, Open, Close}
 use Rattle.programs.specs.declared.place.Place.{Place}
 use Rattle.programs.specs.Trees.{nodes_of, tree_of, IsCircuit}
 use Rattle.programs.specs.Places.{IsPlace}
-use Rattle.programs.specs.Moves.{PastStep, IntoBlock, OutOfTurn, AtEnd, Forward, BackOverStep, BackIntoBlock, BackOutOfTurn, Backward}
+use Rattle.programs.specs.private.Moves.{PastStep, IntoBlock, OutOfTurn, AtEnd, Forward, BackOverStep, BackIntoBlock, BackOutOfTurn, Backward}
 use Rattle.programs.specs.Steps.{IsAt, IsNoOpen, IsNoClose, node_before, GoesOver, StaysAtEnd, GoesBackOver, StaysAtStart}
 use Rattle.programs.proofs.Ends.{opened, closed, apart}
 use Rattle.programs.proofs.Moves.{forward, backward, at_start}

@@ -10,8 +10,8 @@ use Rattle.programs.specs.declared.step.Counts.{Counts}
 use Rattle.programs.specs.Trees.{tree_of, unrolled}
 use Rattle.programs.specs.Steps.{IsAt, GoesOver, StaysAtEnd, GoesBackOver}
 use Rattle.programs.specs.Numbering.{made_by, counts_after, counts_before, counts_over, no_counts, numbered_step, numbered, feeds_back}
-use Rattle.programs.specs.WalkStates.{IsWalkOf}
-use Rattle.programs.specs.Held.{Held}
+use Rattle.programs.specs.private.WalkStates.{IsWalkOf}
+use Rattle.programs.specs.private.Held.{Held}
 use Rattle.programs.specs.Named.{IsStepOf}
 use Rattle.programs.specs.Listed.{listed}
 use Rattle.programs.specs.declared.program.Text.{Text}

@@ -7,7 +7,7 @@ use Rattle.programs.specs.declared.by_hand.Piece.{Piece}
 use Rattle.programs.specs.declared.program.Parts.{Parts}
 use Rattle.programs.specs.declared.step.TextStep.{TextStep}
 use Rattle.programs.specs.ByHand.{written, kept_of, counted_program}
-use Rattle.programs.specs.KeptLists.{Keeps}
+use Rattle.programs.specs.private.KeptLists.{Keeps}
 use Rattle.programs.specs.Listed.{listed_steps, made_faults}
 use Rattle.programs.specs.Made.{text_steps}
 use Rattle.programs.specs.Numbering.{no_counts, counts_over}

@@ -2,16 +2,13 @@ pub mod Builders
 pub mod ByHand
 pub mod Entries
 pub mod Fits
-pub mod Held
 pub mod Listed
 pub mod Made
-pub mod Moves
 pub mod Named
 pub mod Numbering
 pub mod Places
 pub mod Steps
 pub mod Trees
-pub mod WalkStates
 pub mod Walks
-pub mod KeptLists
 pub mod Kept
+pub mod private

@@ -3,7 +3,7 @@ ghost use Rattle.std.specs.Prelude.{◌≡◌, [], map, true, IfOk, IfSome, OnOk
 ghost use Rattle.step_model.specs.Probabilities.{probability_bound};
 ghost use Rattle.chances.specs.Chances.{chance_of};
 ghost use Rattle.programs.specs.ByHand.{written, chance_by_hand, kept_of, Puts};
-ghost use Rattle.programs.specs.KeptLists.{Keeps, KeepsNothing};
+ghost use Rattle.programs.specs.private.KeptLists.{Keeps, KeepsNothing};
 ghost use Rattle.programs.specs.Listed.{listed_steps, made_faults};
 ghost use Rattle.programs.specs.Numbering.{no_counts, counts_over};
 ghost use Rattle.programs.specs.Trees.{IsCircuit, tree_of, unrolled};

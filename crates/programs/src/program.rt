@@ -5,7 +5,7 @@ ghost use Rattle.step_model.specs.Targets.{target_at};
 ghost use Rattle.step_model.specs.WellFormed.{IsWellFormed};
 ghost use Rattle.programs.specs.Kept.{IsWellKept};
 ghost use Rattle.programs.specs.Entries.{TellsChances};
-ghost use Rattle.programs.specs.Held.{HoldsText};
+ghost use Rattle.programs.specs.private.Held.{HoldsText};
 ghost use Rattle.programs.specs.Made.{kept_program, PartsFit};
 
 use crate::entries::{ChanceTable, Entries};

@@ -24,7 +24,7 @@ impl<'a, 'p, A: Allocator + Copy> Model for Walk<'a, 'p, A> {
 
     ghost Value = { Walked };
 
-    ghost use Rattle.programs.specs.WalkStates.{IsWalkOf};
+    ghost use Rattle.programs.specs.private.WalkStates.{IsWalkOf};
 
     ghost view = { λ w. record { program = w.program.now; place = w.steps } };
 

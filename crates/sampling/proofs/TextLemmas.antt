@@ -10,7 +10,7 @@ use Rattle.lanes.specs.Lanes.{lane}
 use Rattle.draws.specs.Drawn.{after_words, bounds_of, drawn_coins, drawn_faults, after_shots}
 use Rattle.draws.specs.Shots.{AreDrawn}
 use Rattle.draws.proofs.WordLemmas.{after_words-add}
-use Rattle.sampling.specs.LaneLines.{lane_line, lane_lines}
+use Rattle.sampling.specs.private.LaneLines.{lane_line, lane_lines}
 use Rattle.sampling.specs.Lines.{line_of}
 use Rattle.sampling.specs.Sampled.{lines_from, shot_generator}
 use Rattle.sampling.specs.Shown.{ShownOf, shown_line}

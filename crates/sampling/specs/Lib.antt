@@ -1,5 +1,4 @@
-pub mod LaneLines
 pub mod Lines
 pub mod Sampled
 pub mod Shown
-pub mod ShownRuns
+pub mod private

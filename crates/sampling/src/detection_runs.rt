@@ -4,7 +4,7 @@ ghost use Rattle.step_model.specs.Faults.{memory_fault};
 ghost use Rattle.step_model.specs.Targets.{difference};
 ghost use Rattle.lanes.specs.Lanes.{lane, lane_bit};
 ghost use Rattle.batch.specs.Batches.{shot_records};
-ghost use Rattle.sampling.specs.ShownRuns.{detections_of};
+ghost use Rattle.sampling.specs.private.ShownRuns.{detections_of};
 
 use crate::side_runs::SideRuns;
 use batch::Batch;
@@ -23,7 +23,7 @@ pub(crate) struct DetectionRuns<'b, 'p, A: Allocator + Copy> {
 impl<'b, 'p, A: Allocator + Copy> Model for DetectionRuns<'b, 'p, A> {
     ghost use Rattle.std.specs.Prelude.{◌≡◌, ◌+◌, length};
     ghost use Rattle.batch.specs.Batches.{IsBatchOf};
-    ghost use Rattle.sampling.specs.ShownRuns.{ShownRuns};
+    ghost use Rattle.sampling.specs.private.ShownRuns.{ShownRuns};
 
     ghost Value = { ShownRuns };
 

@@ -2,7 +2,7 @@
 ghost use Rattle.std.specs.Prelude.{◌≡◌, ◌+◌, ◌<◌, ◌≤◌, length};
 ghost use Rattle.lanes.specs.Lanes.{lane};
 ghost use Rattle.pieces.specs.Pushed.{Pushes};
-ghost use Rattle.sampling.specs.LaneLines.{lane_lines};
+ghost use Rattle.sampling.specs.private.LaneLines.{lane_lines};
 ghost use Rattle.sampling.specs.Lines.{digit_of, line_of};
 
 use lanes::bit;

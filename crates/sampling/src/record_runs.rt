@@ -22,7 +22,7 @@ pub(crate) struct RecordRuns<'b, 'p, A: Allocator + Copy> {
 impl<'b, 'p, A: Allocator + Copy> Model for RecordRuns<'b, 'p, A> {
     ghost use Rattle.std.specs.Prelude.{◌≡◌, length};
     ghost use Rattle.batch.specs.Batches.{IsBatchOf};
-    ghost use Rattle.sampling.specs.ShownRuns.{ShownRuns};
+    ghost use Rattle.sampling.specs.private.ShownRuns.{ShownRuns};
 
     ghost Value = { ShownRuns };
 

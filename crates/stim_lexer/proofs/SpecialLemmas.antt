@@ -5,7 +5,7 @@ use Rattle.std.specs.List.{list_any}
 use Rattle.std.proofs.lemmas.Bool.{eqb-true, leb-true, le-leb, false_from_ne_true}
 use Rattle.stim_lexer.specs.Bytes.{after_blanks, is_bad_byte, is_blank, is_brace, is_close_bracket, is_hash, is_open_bracket}
 use Rattle.stim_lexer.specs.Cut.{after_brackets, after_name, body_of, has_bad_byte, name_of}
-use Rattle.stim_lexer.specs.Special.{is_special}
+use Rattle.stim_lexer.specs.private.Special.{is_special}
 use Rattle.stim_lexer.proofs.Nowhere.{none_after_brackets, none_after_name, none_behind, or-left, or-right}
 
 -- ---- a byte

@@ -1,5 +1,5 @@
 pub mod Bytes
-pub mod Special
 pub mod Lines
 pub mod Cut
 pub mod Lexing
+pub mod private

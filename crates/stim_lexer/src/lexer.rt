@@ -2,7 +2,7 @@ ghost use Rattle.std.specs.Prelude.{◌≡◌, ◌+◌, ◌<◌, ◌^◌, ◌∷
 ghost use Rattle.std.specs.List.{list_any};
 ghost use Rattle.stim_lexer.specs.Lexing.{after_silent, next_found, after_next, answered};
 ghost use Rattle.stim_lexer.specs.Lines.{content_of, lines_of};
-ghost use Rattle.stim_lexer.specs.Special.{is_special};
+ghost use Rattle.stim_lexer.specs.private.Special.{is_special};
 
 use crate::line::{Line, content_of, has_bad_byte, is_closing, line_of, parts_of};
 use crate::scan::{any_special, first_line};

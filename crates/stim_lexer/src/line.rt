@@ -5,7 +5,7 @@ ghost use Rattle.stim_lexer.specs.declared.line.Braces.TheVariants.{NoBrace};
 ghost use Rattle.stim_lexer.specs.Cut.{name_of, body_of, leaves_tag_open, braces_in, cut_of, has_bad_byte};
 ghost use Rattle.stim_lexer.specs.Lexing.{cut_in};
 ghost use Rattle.stim_lexer.specs.Lines.{content_of, is_closing};
-ghost use Rattle.stim_lexer.specs.Special.{is_special};
+ghost use Rattle.stim_lexer.specs.private.Special.{is_special};
 
 use crate::scan::{
     after_blanks, any_bad_byte, before_byte, cut_brackets, cut_name, from_brace, is_blank_text,

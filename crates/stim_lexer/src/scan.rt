@@ -3,7 +3,7 @@ ghost use Rattle.std.specs.List.{list_any, list_all, before_first, after_first, 
 ghost use Rattle.stim_lexer.specs.Bytes.{is_blank, is_bad_byte, is_brace, ends_name, from_first, after_blanks, begins_with};
 ghost use Rattle.stim_lexer.specs.Cut.{in_brackets, after_brackets, leaves_open};
 ghost use Rattle.stim_lexer.specs.Lines.{lines_of};
-ghost use Rattle.stim_lexer.specs.Special.{is_special};
+ghost use Rattle.stim_lexer.specs.private.Special.{is_special};
 
 use memchr::memchr;
 

@@ -3,7 +3,7 @@ use Rattle.std.proofs.Common.{◌≡◌, ℕ, ◌==◌, ◌-◌, Bool, true, fal
 use Rattle.std.specs.Prelude.{if◌then◌else◌, bytes_eq, option_and_then, slice_index, slice_range}
 use Rattle.std.proofs.Math.Bool.{and-false}
 use Rattle.std.proofs.lemmas.Bool.{cases_Bool, eq-eqb}
-use Rattle.stim_parser.specs.Brackets.{at_least_one, before_bracket, record_in_parts}
+use Rattle.stim_parser.specs.private.Brackets.{at_least_one, before_bracket, record_in_parts}
 use Rattle.stim_parser.specs.Numbers.{number_of}
 use Rattle.stim_parser.specs.Targets.{record_of}
 

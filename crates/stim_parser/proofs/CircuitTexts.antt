@@ -4,8 +4,8 @@ use Rattle.step_model.specs.declared.fault.Fault.{Fault}
 use Rattle.stim_lexer.specs.Cut.{Cut}
 use Rattle.stim_lexer.specs.Lines.{lines_of}
 use Rattle.block_text.specs.Fitting.{IsTurns, TurnsWithin, depth}
-use Rattle.block_text.specs.Texts.{Reading, Takes, Opens, Closes, before, followed, items_from, open_after}
-use Rattle.block_text.specs.Trees.{Does, Begins, Ends, Nothing, Then, Block}
+use Rattle.block_text.specs.Texts.{Reading, Accepts, Opens, Closes, before, followed, items_from, open_after}
+use Rattle.block_text.specs.Trees.{InstructionLine, BlockStart, BlockEnd, Nothing, Then, Block}
 use Rattle.block_text.proofs.TextLemmas.{after, after-append, after-ok}
 use Rattle.stim_parser.specs.Circuits.{AllFit, Fits, IsCircuit}
 use Rattle.stim_parser.specs.Judging.{reading_of}
@@ -34,17 +34,17 @@ line_taken opened read line cut reading rest is said =
     ap (items_from circuits opened read) (lines_of-line line rest is.one) ∙ rw (speaks, good, cut_is, said) refl
 
 instruction_taken : (opened : List ℕ) (read : ℕ) (i : Instruction) (rest : List ℕ) → Fits i
-    → items_from circuits opened read (lines_of (instruction_text i ++ 10 ∷ rest)) ≡ before (Does (at_line (read + 1) i)) (items_from circuits opened (read + 1) (lines_of rest))
+    → items_from circuits opened read (lines_of (instruction_text i ++ 10 ∷ rest)) ≡ before (InstructionLine (at_line (read + 1) i)) (items_from circuits opened (read + 1) (lines_of rest))
 instruction_taken opened read i rest fits =
-    line_taken opened read (instruction_text i) (instruction_cut i) (Takes (at_line (read + 1) i)) rest (instruction_is_cut i fits) (instruction_read (length opened) (read + 1) i fits)
+    line_taken opened read (instruction_text i) (instruction_cut i) (Accepts (at_line (read + 1) i)) rest (instruction_is_cut i fits) (instruction_read (length opened) (read + 1) i fits)
 
 block_begun : (opened : List ℕ) (read turns : ℕ) (rest : List ℕ) → IsTurns turns → length opened < 32
-    → items_from circuits opened read (lines_of (opening_text turns ++ 10 ∷ rest)) ≡ before (Begins (read + 1) turns) (items_from circuits ((read + 1) ∷ opened) (read + 1) (lines_of rest))
+    → items_from circuits opened read (lines_of (opening_text turns ++ 10 ∷ rest)) ≡ before (BlockStart (read + 1) turns) (items_from circuits ((read + 1) ∷ opened) (read + 1) (lines_of rest))
 block_begun opened read turns rest some few =
     line_taken opened read (opening_text turns) (opening_line_cut turns) (Opens turns) rest (opening_is_cut turns some) (opening_read (length opened) (read + 1) turns some few)
 
 block_ended : (line : ℕ) (opened : List ℕ) (read : ℕ) (rest : List ℕ)
-    → items_from circuits (line ∷ opened) read (lines_of (125 ∷ 10 ∷ rest)) ≡ before Ends (items_from circuits opened (read + 1) (lines_of rest))
+    → items_from circuits (line ∷ opened) read (lines_of (125 ∷ 10 ∷ rest)) ≡ before BlockEnd (items_from circuits opened (read + 1) (lines_of rest))
 block_ended line opened read rest =
     line_taken (line ∷ opened) read closing_line _ Closes rest closing_is_cut (closing_read (length (line ∷ opened)) (read + 1) (omega arith))
 
@@ -60,8 +60,8 @@ tree_taken (Then i tree) opened read rest fit within few =
     let same : read + 1 + line_count tree ≡ read + (1 + line_count tree) = omega arith in
     ap (λ text. items_from circuits opened read (lines_of text)) (append_assoc (instruction_text i) (10 ∷ circuit_text tree) rest)
     ∙ instruction_taken opened read i (circuit_text tree ++ rest) fit.0
-    ∙ ap (before (Does (at_line (read + 1) i))) (tree_taken tree opened (read + 1) rest fit.1 within few)
-    ∙ ap (λ n. before (Does (at_line (read + 1) i)) (after (items_of (with_lines_after (read + 1) tree)) (items_from circuits opened n (lines_of rest)))) same
+    ∙ ap (before (InstructionLine (at_line (read + 1) i))) (tree_taken tree opened (read + 1) rest fit.1 within few)
+    ∙ ap (λ n. before (InstructionLine (at_line (read + 1) i)) (after (items_of (with_lines_after (read + 1) tree)) (items_from circuits opened n (lines_of rest)))) same
 tree_taken (Block line turns body tree) opened read rest fit within few =
     let inside : depth body + length ((read + 1) ∷ opened) ≤ 32 = omega (arith, few) in
     let outside : depth tree + length opened ≤ 32 = omega (arith, few) in
@@ -75,14 +75,14 @@ tree_taken (Block line turns body tree) opened read rest fit within few =
     (append_assoc (opening_text turns) (10 ∷ (circuit_text body ++ 125 ∷ 10 ∷ circuit_text tree)) rest
     ∙ ap (λ text. opening_text turns ++ 10 ∷ text) (append_assoc (circuit_text body) (125 ∷ 10 ∷ circuit_text tree) rest))
     ∙ block_begun opened read turns (circuit_text body ++ behind) (fit.0, within.0) room
-    ∙ ap (before (Begins (read + 1) turns))
+    ∙ ap (before (BlockStart (read + 1) turns))
     (tree_taken body ((read + 1) ∷ opened) (read + 1) behind fit.1 within.1 inside
     ∙ ap (after body_items)
     (block_ended (read + 1) opened (read + 1 + line_count body) (circuit_text tree ++ rest)
-    ∙ ap (λ n. before Ends (items_from circuits opened n (lines_of (circuit_text tree ++ rest)))) end
-    ∙ ap (before Ends) (tree_taken tree opened (read + 2 + line_count body) rest fit.2 within.2 outside
+    ∙ ap (λ n. before BlockEnd (items_from circuits opened n (lines_of (circuit_text tree ++ rest)))) end
+    ∙ ap (before BlockEnd) (tree_taken tree opened (read + 2 + line_count body) rest fit.2 within.2 outside
     ∙ ap (λ n. after last_items (items_from circuits opened n (lines_of rest))) same))
-    ∙ sym (after-append body_items (Ends ∷ last_items) (items_from circuits opened (read + (2 + line_count body + line_count tree)) (lines_of rest))))
+    ∙ sym (after-append body_items (BlockEnd ∷ last_items) (items_from circuits opened (read + (2 + line_count body + line_count tree)) (lines_of rest))))
 
 -- ---- the text
 

@@ -7,7 +7,7 @@ use Rattle.std.proofs.lemmas.List.Elements.{All-cons, All-nil}
 use Rattle.stim_parser.specs.declared.forms.ArgumentForm.TheVariants.{WholeNumbers}
 use Rattle.stim_parser.specs.declared.table.Keyword.TheVariants.{Does}
 use Rattle.stim_parser.specs.declared.operation.Operation.{Operation}
-use Rattle.stim_parser.specs.declared.operation.Operation.TheVariants.{Detects, ShiftsCoordinates}
+use Rattle.stim_parser.specs.declared.operation.Operation.TheVariants.{DetectorDeclaration, CoordinateShift}
 use Rattle.stim_parser.specs.Circuits.{Fits}
 use Rattle.stim_parser.specs.Coordinates.{coordinates_in, is_coordinate, is_coordinate_beyond, is_whole_number}
 use Rattle.stim_parser.specs.Instructions.{argument_form}
@@ -28,8 +28,8 @@ pub record AreCoordinates (arguments : List (List ℕ)) : Type 0 where
   pub read : unwrap_or (coordinates_in arguments) [] ≡ map whole_value arguments
 
 abbrev pub HasCoordinates : Operation → List (List ℕ) → Type 0
-HasCoordinates Detects arguments = AreCoordinates arguments
-HasCoordinates ShiftsCoordinates arguments = AreCoordinates arguments
+HasCoordinates DetectorDeclaration arguments = AreCoordinates arguments
+HasCoordinates CoordinateShift arguments = AreCoordinates arguments
 HasCoordinates operation arguments = ⊤
 
 minus-within : (m : ℕ) → m ≤ most → nat_abs (neg_ℤ (pos m)) ≤ most
@@ -76,8 +76,8 @@ coordinates arguments h k =
     }
 
 of_form : (o : Operation) (arguments : List (List ℕ)) → has_wrong_arguments (argument_form (Does o)) arguments ≡ false → has_argument_beyond greatest_coordinate (argument_form (Does o)) arguments ≡ false → HasCoordinates o arguments
-of_form Detects arguments h k = coordinates arguments h k
-of_form ShiftsCoordinates arguments h k = coordinates arguments h k
+of_form DetectorDeclaration arguments h k = coordinates arguments h k
+of_form CoordinateShift arguments h k = coordinates arguments h k
 of_form o arguments h k = tt
 
 pub has_coordinates : (i : Instruction) → Fits i → HasCoordinates i.operation i.arguments

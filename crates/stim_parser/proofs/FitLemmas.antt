@@ -14,7 +14,7 @@ use Rattle.stim_parser.specs.declared.table.Causes.{Causes}
 use Rattle.stim_parser.specs.declared.table.Keyword.{Keyword}
 use Rattle.stim_parser.specs.declared.table.Keyword.TheVariants.{Does, Repeats}
 use Rattle.stim_parser.specs.Judging.{Table, accepted, judged, misplaces_brace, read_targets, reading_of, refusal_of, refusals_of_name, said_by, unless_refused}
-use Rattle.stim_parser.specs.Questions.{refusals_of_keyword}
+use Rattle.stim_parser.specs.private.Questions.{refusals_of_keyword}
 
 -- an instruction fits where no question of its line applies
 abbrev pub TakesFitting : {O T F : Type 0} → Table O T F → (Instruction O T → Type 0) → Type 0

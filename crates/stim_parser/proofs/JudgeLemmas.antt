@@ -13,7 +13,7 @@ use Rattle.stim_parser.specs.declared.table.Causes.{Causes}
 use Rattle.stim_parser.specs.declared.table.Keyword.{Keyword}
 use Rattle.stim_parser.specs.Arguments.{arguments_in}
 use Rattle.stim_parser.specs.Judging.{Table, accepted, first_of, judged, misplaces_brace, read_targets, refusal_of, refusals_of_name, unless_refused}
-use Rattle.stim_parser.specs.Questions.{has_number_beyond, has_wrong_target, refusals_of_amounts, refusals_of_arguments, refusals_of_block, refusals_of_keyword}
+use Rattle.stim_parser.specs.private.Questions.{has_number_beyond, has_wrong_target, refusals_of_amounts, refusals_of_arguments, refusals_of_block, refusals_of_keyword}
 use Rattle.stim_parser.specs.Limits.{has_argument_beyond, has_wrong_arguments, has_wrong_probability, is_argument, is_wrong_count, takes_probability}
 use Rattle.stim_parser.specs.Probabilities.{AreProbabilities}
 

@@ -7,7 +7,7 @@ use Rattle.stim_lexer.specs.Bytes.{after_blanks, is_empty}
 use Rattle.stim_lexer.specs.Cut.{Cut, cut_of, has_bad_byte, has_opening}
 use Rattle.stim_lexer.specs.Lines.{says_nothing}
 use Rattle.block_text.specs.Fitting.{IsTurns}
-use Rattle.block_text.specs.Texts.{Takes, Opens, Closes}
+use Rattle.block_text.specs.Texts.{Accepts, Opens, Closes}
 use Rattle.stim_parser.specs.declared.forms.TargetForm.{TargetForm}
 use Rattle.stim_parser.specs.declared.operation.Operation.{Operation}
 use Rattle.stim_parser.specs.declared.table.Keyword.TheVariants.{Does}
@@ -66,7 +66,7 @@ nothing_there form targets none =
       | inr e ↦ rw e refl
     ]
 
-pub instruction_read : (depth number : ℕ) (i : Instruction) → Fits i → reading_of circuit_table depth number (instruction_cut i) ≡ Takes (at_line number i)
+pub instruction_read : (depth number : ℕ) (i : Instruction) → Fits i → reading_of circuit_table depth number (instruction_cut i) ≡ Accepts (at_line number i)
 unfolding reading_of judged refusal_of
 instruction_read depth number i fits =
     let arguments = fits.arguments in

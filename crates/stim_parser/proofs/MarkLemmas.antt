@@ -8,7 +8,7 @@ use Rattle.block_text.specs.Arguments.{arguments_in}
 use Rattle.block_text.specs.Instructions.{Instruction}
 use Rattle.block_text.specs.Marked.{Marked, line_marks}
 use Rattle.block_text.specs.Said.{reading_in}
-use Rattle.block_text.specs.Trees.{Item, Does, Begins, Ends}
+use Rattle.block_text.specs.Trees.{Item, InstructionLine, BlockStart, BlockEnd}
 use Rattle.block_text.specs.Unfinished.{line_items}
 use Rattle.stim_parser.specs.Judging.{Table}
 use Rattle.stim_parser.specs.Probabilities.{AreMarked, IsMarked, Keeps, Marks, SaidMarked, chance_taken, instruction_count, taken_count}
@@ -28,9 +28,9 @@ marks-kept old new (Some chance) mark keeps m =
     (kept.0, kept.1 ∙ was.1)
 
 item-kept : {O T F : Type 0} (table : Table O T F) (old new : List ChanceText) (item : Item (Instruction O T)) (mark : ℕ) → KeepsChances old new → IsMarked table old item mark → IsMarked table new item mark
-item-kept table old new (Does i) mark keeps m = marks-kept old new (chance_taken table i.operation i.arguments) mark keeps m
-item-kept table old new (Begins line turns) mark keeps m = tt
-item-kept table old new Ends mark keeps m = tt
+item-kept table old new (InstructionLine i) mark keeps m = marks-kept old new (chance_taken table i.operation i.arguments) mark keeps m
+item-kept table old new (BlockStart line turns) mark keeps m = tt
+item-kept table old new BlockEnd mark keeps m = tt
 
 items-kept : {O T F : Type 0} (table : Table O T F) (old new : List ChanceText) (items : List (Item (Instruction O T))) (marks : List ℕ) → KeepsChances old new → AreMarked table old items marks → AreMarked table new items marks
 items-kept table old new [] [] keeps m = tt
@@ -50,9 +50,9 @@ marked-push table texts (first ∷ items) (other ∷ marks) item mark m is = (m.
 
 counted-push : {I : Type 0} (items : List (Item I)) (item : Item I) → instruction_count (items ++ item ∷ []) ≡ instruction_count items + instruction_count (item ∷ [])
 counted-push [] item = omega arith
-counted-push (Does i ∷ items) item = omega (arith, counted-push items item)
-counted-push (Begins line turns ∷ items) item = counted-push items item
-counted-push (Ends ∷ items) item = counted-push items item
+counted-push (InstructionLine i ∷ items) item = omega (arith, counted-push items item)
+counted-push (BlockStart line turns ∷ items) item = counted-push items item
+counted-push (BlockEnd ∷ items) item = counted-push items item
 
 keeps-item : {O T F : Type 0} (table : Table O T F) (old new : List ChanceText) (items : List (Item (Instruction O T))) (marks : List ℕ) (item : Item (Instruction O T)) (mark : ℕ)
     → Keeps table old (record { items = items; marks = marks }) → KeepsChances old new → length new ≤ length old + instruction_count (item ∷ []) → IsMarked table new item mark
@@ -68,13 +68,13 @@ keeps-item table old new items marks item mark was keeps few is =
 line-keeps : {O T F : Type 0} (table : Table O T F) (old new : List ChanceText) (items : List (Item (Instruction O T))) (marks : List ℕ) (number : ℕ) (said : Said O) (mark : ℕ) (targets : List T)
     → Keeps table old (record { items = items; marks = marks }) → KeepsChances old new → length new ≤ length old + taken_count said → SaidMarked table new said mark
     → Keeps table new (record { items = items ++ line_items number (reading_in number said targets); marks = marks ++ line_marks said mark })
-line-keeps table old new items marks number (said.Takes operation arguments) mark targets was keeps few is =
+line-keeps table old new items marks number (said.Accepts operation arguments) mark targets was keeps few is =
     keeps-item table old new items marks
-    (Does (record { line = number; operation = operation; arguments = arguments_in arguments.now; targets = targets })) mark was keeps few is
+    (InstructionLine (record { line = number; operation = operation; arguments = arguments_in arguments.now; targets = targets })) mark was keeps few is
 line-keeps table old new items marks number (said.Opens turns) mark targets was keeps few is =
-    keeps-item table old new items marks (Begins number turns) 0 was keeps few tt
+    keeps-item table old new items marks (BlockStart number turns) 0 was keeps few tt
 line-keeps table old new items marks number said.Closes mark targets was keeps few is =
-    keeps-item table old new items marks Ends 0 was keeps few tt
+    keeps-item table old new items marks BlockEnd 0 was keeps few tt
 line-keeps {O} {T} table old new items marks number (said.Refuses c) mark targets was keeps few is =
     let same : Keeps table new (record { items = items; marks = marks }) =
     record { marked = items-kept table old new items marks keeps was.marked; few = omega (arith, was.few, few) } in

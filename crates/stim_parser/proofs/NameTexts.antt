@@ -6,7 +6,7 @@ use Rattle.gate_table.specs.declared.gate.Gate.{Gate}
 use Rattle.gate_table.specs.declared.gate.Gate.TheVariants as gate
 use Rattle.gate_table.specs.Names.{gate_named}
 use Rattle.stim_parser.specs.declared.operation.Operation.{Operation}
-use Rattle.stim_parser.specs.declared.operation.Operation.TheVariants.{Applies, Measures, Resets, MeasuresAndResets, MeasuresProducts, Errs, ErrsTogether, Detects, Observes, Ticks, PlacesQubits, ShiftsCoordinates}
+use Rattle.stim_parser.specs.declared.operation.Operation.TheVariants.{Applies, Measurement, QubitReset, MeasurementReset, ProductMeasurement, PauliError, CorrelatedError, DetectorDeclaration, ObservableInclude, Tick, QubitCoordinates, CoordinateShift}
 use Rattle.stim_parser.specs.declared.table.Keyword.TheVariants.{Does}
 use Rattle.stim_parser.specs.Circuits.{operation_is_written}
 use Rattle.stim_parser.specs.Instructions.{keyword_named}
@@ -89,53 +89,53 @@ is_gate_name gate.SqrtZZDag = (refl, refl)
 
 pub is_name : (o : Operation) → IsName (operation_name o)
 is_name (Applies g) = is_gate_name g
-is_name (Measures letter.I) = (refl, refl)
-is_name (Measures letter.X) = (refl, refl)
-is_name (Measures letter.Y) = (refl, refl)
-is_name (Measures letter.Z) = (refl, refl)
-is_name (Resets letter.I) = (refl, refl)
-is_name (Resets letter.X) = (refl, refl)
-is_name (Resets letter.Y) = (refl, refl)
-is_name (Resets letter.Z) = (refl, refl)
-is_name (MeasuresAndResets letter.I) = (refl, refl)
-is_name (MeasuresAndResets letter.X) = (refl, refl)
-is_name (MeasuresAndResets letter.Y) = (refl, refl)
-is_name (MeasuresAndResets letter.Z) = (refl, refl)
-is_name (Errs letter.I) = (refl, refl)
-is_name (Errs letter.X) = (refl, refl)
-is_name (Errs letter.Y) = (refl, refl)
-is_name (Errs letter.Z) = (refl, refl)
-is_name MeasuresProducts = (refl, refl)
-is_name ErrsTogether = (refl, refl)
-is_name Detects = (refl, refl)
-is_name Observes = (refl, refl)
-is_name Ticks = (refl, refl)
-is_name PlacesQubits = (refl, refl)
-is_name ShiftsCoordinates = (refl, refl)
+is_name (Measurement letter.I) = (refl, refl)
+is_name (Measurement letter.X) = (refl, refl)
+is_name (Measurement letter.Y) = (refl, refl)
+is_name (Measurement letter.Z) = (refl, refl)
+is_name (QubitReset letter.I) = (refl, refl)
+is_name (QubitReset letter.X) = (refl, refl)
+is_name (QubitReset letter.Y) = (refl, refl)
+is_name (QubitReset letter.Z) = (refl, refl)
+is_name (MeasurementReset letter.I) = (refl, refl)
+is_name (MeasurementReset letter.X) = (refl, refl)
+is_name (MeasurementReset letter.Y) = (refl, refl)
+is_name (MeasurementReset letter.Z) = (refl, refl)
+is_name (PauliError letter.I) = (refl, refl)
+is_name (PauliError letter.X) = (refl, refl)
+is_name (PauliError letter.Y) = (refl, refl)
+is_name (PauliError letter.Z) = (refl, refl)
+is_name ProductMeasurement = (refl, refl)
+is_name CorrelatedError = (refl, refl)
+is_name DetectorDeclaration = (refl, refl)
+is_name ObservableInclude = (refl, refl)
+is_name Tick = (refl, refl)
+is_name QubitCoordinates = (refl, refl)
+is_name CoordinateShift = (refl, refl)
 
 pub keyword_found : (o : Operation) → operation_is_written o ≡ true → keyword_named (operation_name o) ≡ Some (Does o)
 unfolding keyword_named
 keyword_found (Applies g) h = rw (gate_found g) refl
-keyword_found (Measures letter.I) h = absurd (false≢true h)
-keyword_found (Measures letter.X) h = refl
-keyword_found (Measures letter.Y) h = refl
-keyword_found (Measures letter.Z) h = refl
-keyword_found (Resets letter.I) h = absurd (false≢true h)
-keyword_found (Resets letter.X) h = refl
-keyword_found (Resets letter.Y) h = refl
-keyword_found (Resets letter.Z) h = refl
-keyword_found (MeasuresAndResets letter.I) h = absurd (false≢true h)
-keyword_found (MeasuresAndResets letter.X) h = refl
-keyword_found (MeasuresAndResets letter.Y) h = refl
-keyword_found (MeasuresAndResets letter.Z) h = refl
-keyword_found (Errs letter.I) h = absurd (false≢true h)
-keyword_found (Errs letter.X) h = refl
-keyword_found (Errs letter.Y) h = refl
-keyword_found (Errs letter.Z) h = refl
-keyword_found MeasuresProducts h = refl
-keyword_found ErrsTogether h = refl
-keyword_found Detects h = refl
-keyword_found Observes h = refl
-keyword_found Ticks h = refl
-keyword_found PlacesQubits h = refl
-keyword_found ShiftsCoordinates h = refl
+keyword_found (Measurement letter.I) h = absurd (false≢true h)
+keyword_found (Measurement letter.X) h = refl
+keyword_found (Measurement letter.Y) h = refl
+keyword_found (Measurement letter.Z) h = refl
+keyword_found (QubitReset letter.I) h = absurd (false≢true h)
+keyword_found (QubitReset letter.X) h = refl
+keyword_found (QubitReset letter.Y) h = refl
+keyword_found (QubitReset letter.Z) h = refl
+keyword_found (MeasurementReset letter.I) h = absurd (false≢true h)
+keyword_found (MeasurementReset letter.X) h = refl
+keyword_found (MeasurementReset letter.Y) h = refl
+keyword_found (MeasurementReset letter.Z) h = refl
+keyword_found (PauliError letter.I) h = absurd (false≢true h)
+keyword_found (PauliError letter.X) h = refl
+keyword_found (PauliError letter.Y) h = refl
+keyword_found (PauliError letter.Z) h = refl
+keyword_found ProductMeasurement h = refl
+keyword_found CorrelatedError h = refl
+keyword_found DetectorDeclaration h = refl
+keyword_found ObservableInclude h = refl
+keyword_found Tick h = refl
+keyword_found QubitCoordinates h = refl
+keyword_found CoordinateShift h = refl

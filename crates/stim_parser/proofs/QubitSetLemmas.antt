@@ -4,7 +4,7 @@ use Rattle.std.specs.Int.{bit_at, bit_not, w64}
 use Rattle.std.proofs.lemmas.Bool.{cases_eq, cases_lt, eq-eqb, ne_eqb}
 use Rattle.std.proofs.lemmas.List.{get_or-replicate, get_or_past, length-replicate}
 use Rattle.std.proofs.lemmas.Nat.Bits.{bit_at_set_same, bit_at_set_other, bit_at_clear_same, bit_at_clear_other, bit_at-zero, shr_and_one}
-use Rattle.stim_parser.specs.QubitSets.{is_named, is_set}
+use Rattle.stim_parser.specs.private.QubitSets.{is_named, is_set}
 
 -- the test `(word >> j) & 1 == 1`
 pub is_named_shift : (words : List ℕ) (q : ℕ) → eqb (bit_and (get_or words (q / 64) 0 / 2 ^ (q % 64)) 1) 1 ≡ is_named words q

@@ -10,7 +10,7 @@ use Rattle.std.proofs.lemmas.List.Folds.{length-prefix_len}
 use Rattle.step_model.specs.Probabilities.{Decimal, decimal_bound, digits_value, scaled_bound, trailing_zeros, without_leading_zeros}
 use Rattle.stim_lexer.specs.Bytes.{is_empty}
 use Rattle.stim_parser.specs.declared.significant.Significant.{Significant}
-use Rattle.stim_parser.specs.Significant.{more_digits, next_digit, nothing_read}
+use Rattle.stim_parser.specs.private.Significant.{more_digits, next_digit, nothing_read}
 use Rattle.stim_parser.proofs.DigitLemmas.{next_value}
 
 abbrev is_zero : ℕ → Bool

@@ -16,7 +16,7 @@ use Rattle.stim_parser.specs.Circuits.{target_is_written}
 use Rattle.stim_parser.specs.Limits.{has_target_beyond, is_target_beyond}
 use Rattle.stim_parser.specs.Numbers.{greatest_number, greatest_qubit}
 use Rattle.stim_parser.specs.Pieces.{ends_here, ends_piece, pieces_of}
-use Rattle.stim_parser.specs.Brackets.{before_bracket}
+use Rattle.stim_parser.specs.private.Brackets.{before_bracket}
 use Rattle.stim_parser.specs.Targets.{each_of, target_of, targets_in}
 use Rattle.stim_parser.specs.Written.{target_text, targets_text}
 use Rattle.stim_parser.proofs.BracketLemmas.{record_parts}
@@ -69,16 +69,16 @@ word_begins : (b : ℕ) → is_word_byte b ≡ true → begins_target b ≡ true
 word_begins b h = grind arith
 
 -- the first byte of a piece, and what follows it
-abbrev pub Begins : List ℕ → Type 0
-Begins [] = ⊥
-Begins (b ∷ text) = begins_target b ≡ true
+abbrev pub BlockStart : List ℕ → Type 0
+BlockStart [] = ⊥
+BlockStart (b ∷ text) = begins_target b ≡ true
 
 record IsPiece (w : List ℕ) : Type 0 where
   plain : list_all is_plain_byte w ≡ true
-  begins : Begins w
+  begins : BlockStart w
   piece : (rest : List ℕ) → ends_here rest ≡ true → pieces_of (w ++ rest) ≡ w ∷ pieces_of rest
 
-piece_from : (w : List ℕ) → Begins w → list_all is_piece_byte w ≡ true → IsPiece w
+piece_from : (w : List ℕ) → BlockStart w → list_all is_piece_byte w ≡ true → IsPiece w
 piece_from [] begins h = absurd begins
 piece_from (b ∷ w) begins h =
     record {
@@ -87,7 +87,7 @@ piece_from (b ∷ w) begins h =
       piece = λ rest e. first_piece (b ∷ w) rest refl (none-where ends_piece is_piece_byte (b ∷ w) piece_goes_on h) e;
     }
 
-digits_begin : (w : List ℕ) → is_word w ≡ true → Begins w
+digits_begin : (w : List ℕ) → is_word w ≡ true → BlockStart w
 digits_begin [] h = absurd (false≢true h)
 digits_begin (b ∷ w) h = word_begins b (and_parts (is_word_byte b) (list_all is_word_byte w) h).0
 
@@ -172,7 +172,7 @@ pub apart : (targets : List Target) → position_or_len ends_name (targets_text 
 apart [] = refl
 apart (t ∷ targets) = refl
 
-pub no_opening : (c : ℕ) → begins_target c ≡ false → (w rest : List ℕ) → Begins w → has_opening (λ b. b == c) (32 ∷ (w ++ rest)) ≡ false
+pub no_opening : (c : ℕ) → begins_target c ≡ false → (w rest : List ℕ) → BlockStart w → has_opening (λ b. b == c) (32 ∷ (w ++ rest)) ≡ false
 no_opening c h [] rest begins = absurd begins
 no_opening c h (b ∷ w) rest begins =
     let blank : is_blank b ≡ false = grind arith in
@@ -216,7 +216,7 @@ turns_text n = 32 ∷ (decimal n ++ 32 ∷ [])
 pub plain_turns : (n : ℕ) → IsBelow (Plain n) → list_all is_plain_byte (turns_text n) ≡ true
 plain_turns n h = both_all is_plain_byte (decimal n) (32 ∷ []) (is_piece (Plain n) h).plain refl
 
-pub turns_begin : (n : ℕ) → IsBelow (Plain n) → Begins (decimal n)
+pub turns_begin : (n : ℕ) → IsBelow (Plain n) → BlockStart (decimal n)
 turns_begin n h = (is_piece (Plain n) h).begins
 
 turns_pieces : (n : ℕ) → IsBelow (Plain n) → pieces_of (turns_text n) ≡ decimal n ∷ []

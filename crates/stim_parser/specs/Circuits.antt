@@ -7,7 +7,7 @@ use Rattle.step_model.specs.Listing.{is_I}
 use Rattle.block_text.specs.Fitting as fitting
 use Rattle.stim_parser.specs.declared.table.Keyword.TheVariants.{Does}
 use Rattle.stim_parser.specs.declared.operation.Operation.{Operation}
-use Rattle.stim_parser.specs.declared.operation.Operation.TheVariants.{Measures, Resets, MeasuresAndResets, Errs}
+use Rattle.stim_parser.specs.declared.operation.Operation.TheVariants.{Measurement, QubitReset, MeasurementReset, PauliError}
 use Rattle.stim_parser.specs.declared.target.Target.{Target}
 use Rattle.stim_parser.specs.declared.target.Target.TheVariants.{Back, Pauli}
 use Rattle.stim_parser.specs.Instructions.{argument_form, target_form}
@@ -18,10 +18,10 @@ use Rattle.stim_parser.specs.Verdicts.{Instruction, takes_none}
 
 -- an operation and a target as a text can write them: no letter is I, and a record is at least one back
 abbrev pub operation_is_written : Operation → Bool
-operation_is_written (Measures l) = not (is_I l)
-operation_is_written (Resets l) = not (is_I l)
-operation_is_written (MeasuresAndResets l) = not (is_I l)
-operation_is_written (Errs l) = not (is_I l)
+operation_is_written (Measurement l) = not (is_I l)
+operation_is_written (QubitReset l) = not (is_I l)
+operation_is_written (MeasurementReset l) = not (is_I l)
+operation_is_written (PauliError l) = not (is_I l)
 operation_is_written operation = true
 
 abbrev pub target_is_written : Target → Bool

@@ -12,7 +12,7 @@ use Rattle.gate_table.specs.declared.gate.Gate.TheVariants as gate
 use Rattle.gate_table.specs.Images.{arity_of}
 use Rattle.gate_table.specs.Names.{gate_named, named_in}
 use Rattle.stim_parser.specs.declared.operation.Operation.{Operation}
-use Rattle.stim_parser.specs.declared.operation.Operation.TheVariants.{Applies, Measures, Resets, MeasuresAndResets, MeasuresProducts, Errs, ErrsTogether, Detects, Observes, Ticks, PlacesQubits, ShiftsCoordinates}
+use Rattle.stim_parser.specs.declared.operation.Operation.TheVariants.{Applies, Measurement, QubitReset, MeasurementReset, ProductMeasurement, PauliError, CorrelatedError, DetectorDeclaration, ObservableInclude, Tick, QubitCoordinates, CoordinateShift}
 use Rattle.stim_parser.specs.declared.table.Keyword.{Keyword}
 use Rattle.stim_parser.specs.declared.table.Keyword.TheVariants.{Does, Repeats}
 use Rattle.stim_parser.specs.declared.forms.ArgumentForm.{ArgumentForm}
@@ -32,31 +32,31 @@ gate_targets g = if arity_of g == 1 then Qubits else QubitPairs
 
 -- the arguments that each keyword takes
 abbrev pub argument_form : Keyword Operation → ArgumentForm
-argument_form (Does (Measures l)) = ProbabilityAtWill
-argument_form (Does (MeasuresAndResets l)) = ProbabilityAtWill
-argument_form (Does MeasuresProducts) = ProbabilityAtWill
-argument_form (Does (Errs l)) = OneProbability
-argument_form (Does ErrsTogether) = OneProbability
-argument_form (Does Detects) = WholeNumbers
-argument_form (Does Observes) = OneNumber
-argument_form (Does PlacesQubits) = Decimals
-argument_form (Does ShiftsCoordinates) = WholeNumbers
+argument_form (Does (Measurement l)) = ProbabilityAtWill
+argument_form (Does (MeasurementReset l)) = ProbabilityAtWill
+argument_form (Does ProductMeasurement) = ProbabilityAtWill
+argument_form (Does (PauliError l)) = OneProbability
+argument_form (Does CorrelatedError) = OneProbability
+argument_form (Does DetectorDeclaration) = WholeNumbers
+argument_form (Does ObservableInclude) = OneNumber
+argument_form (Does QubitCoordinates) = Decimals
+argument_form (Does CoordinateShift) = WholeNumbers
 argument_form keyword = NoArguments
 
 -- the targets that each keyword takes
 abbrev pub target_form : Keyword Operation → TargetForm
 target_form (Does (Applies g)) = gate_targets g
-target_form (Does (Measures l)) = QubitsInvertedAtWill
-target_form (Does (MeasuresAndResets l)) = QubitsInvertedAtWill
-target_form (Does MeasuresProducts) = Products
-target_form (Does (Resets l)) = Qubits
-target_form (Does (Errs l)) = Qubits
-target_form (Does ErrsTogether) = Paulis
-target_form (Does Detects) = Records
-target_form (Does Observes) = Records
-target_form (Does Ticks) = NoTargets
-target_form (Does PlacesQubits) = Qubits
-target_form (Does ShiftsCoordinates) = NoTargets
+target_form (Does (Measurement l)) = QubitsInvertedAtWill
+target_form (Does (MeasurementReset l)) = QubitsInvertedAtWill
+target_form (Does ProductMeasurement) = Products
+target_form (Does (QubitReset l)) = Qubits
+target_form (Does (PauliError l)) = Qubits
+target_form (Does CorrelatedError) = Paulis
+target_form (Does DetectorDeclaration) = Records
+target_form (Does ObservableInclude) = Records
+target_form (Does Tick) = NoTargets
+target_form (Does QubitCoordinates) = Qubits
+target_form (Does CoordinateShift) = NoTargets
 target_form Repeats = Turns
 
 -- ---- names
@@ -64,29 +64,29 @@ target_form Repeats = Turns
 -- the names of keywords that are no gates, and their aliases
 abbrev pub other_names : List (List ℕ × Keyword Operation)
 other_names =
-    (codes "M", Does (Measures Z))
-    ∷ (codes "MZ", Does (Measures Z))
-    ∷ (codes "MX", Does (Measures X))
-    ∷ (codes "MY", Does (Measures Y))
-    ∷ (codes "R", Does (Resets Z))
-    ∷ (codes "RZ", Does (Resets Z))
-    ∷ (codes "RX", Does (Resets X))
-    ∷ (codes "RY", Does (Resets Y))
-    ∷ (codes "MR", Does (MeasuresAndResets Z))
-    ∷ (codes "MRZ", Does (MeasuresAndResets Z))
-    ∷ (codes "MRX", Does (MeasuresAndResets X))
-    ∷ (codes "MRY", Does (MeasuresAndResets Y))
-    ∷ (codes "MPP", Does MeasuresProducts)
-    ∷ (codes "X_ERROR", Does (Errs X))
-    ∷ (codes "Y_ERROR", Does (Errs Y))
-    ∷ (codes "Z_ERROR", Does (Errs Z))
-    ∷ (codes "CORRELATED_ERROR", Does ErrsTogether)
-    ∷ (codes "E", Does ErrsTogether)
-    ∷ (codes "DETECTOR", Does Detects)
-    ∷ (codes "OBSERVABLE_INCLUDE", Does Observes)
-    ∷ (codes "TICK", Does Ticks)
-    ∷ (codes "QUBIT_COORDS", Does PlacesQubits)
-    ∷ (codes "SHIFT_COORDS", Does ShiftsCoordinates)
+    (codes "M", Does (Measurement Z))
+    ∷ (codes "MZ", Does (Measurement Z))
+    ∷ (codes "MX", Does (Measurement X))
+    ∷ (codes "MY", Does (Measurement Y))
+    ∷ (codes "R", Does (QubitReset Z))
+    ∷ (codes "RZ", Does (QubitReset Z))
+    ∷ (codes "RX", Does (QubitReset X))
+    ∷ (codes "RY", Does (QubitReset Y))
+    ∷ (codes "MR", Does (MeasurementReset Z))
+    ∷ (codes "MRZ", Does (MeasurementReset Z))
+    ∷ (codes "MRX", Does (MeasurementReset X))
+    ∷ (codes "MRY", Does (MeasurementReset Y))
+    ∷ (codes "MPP", Does ProductMeasurement)
+    ∷ (codes "X_ERROR", Does (PauliError X))
+    ∷ (codes "Y_ERROR", Does (PauliError Y))
+    ∷ (codes "Z_ERROR", Does (PauliError Z))
+    ∷ (codes "CORRELATED_ERROR", Does CorrelatedError)
+    ∷ (codes "E", Does CorrelatedError)
+    ∷ (codes "DETECTOR", Does DetectorDeclaration)
+    ∷ (codes "OBSERVABLE_INCLUDE", Does ObservableInclude)
+    ∷ (codes "TICK", Does Tick)
+    ∷ (codes "QUBIT_COORDS", Does QubitCoordinates)
+    ∷ (codes "SHIFT_COORDS", Does CoordinateShift)
     ∷ (codes "REPEAT", Repeats)
     ∷ []
 

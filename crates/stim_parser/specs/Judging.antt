@@ -17,7 +17,7 @@ use Rattle.stim_lexer.specs.declared.line.Braces.TheVariants.{NoBrace, OpeningLa
 use Rattle.stim_lexer.specs.Cut.{Cut}
 use Rattle.block_text.specs.Trees.{deepest}
 use Rattle.block_text.specs.Instructions.{Instruction}
-use Rattle.block_text.specs.Texts.{Format, Reading, Takes, Opens, Closes, Refuses}
+use Rattle.block_text.specs.Texts.{Format, Reading, Accepts, Opens, Closes, Refuses}
 use Rattle.stim_parser.specs.declared.forms.ArgumentForm.{ArgumentForm}
 use Rattle.stim_parser.specs.declared.table.Causes.{Causes}
 use Rattle.stim_parser.specs.declared.table.Keyword.{Keyword}
@@ -97,7 +97,7 @@ accepted table number None cut = Refuses (table.refusal_of_name cut.name)
 accepted table number (Some Repeats) cut = Opens (table.turns_of (read_targets table (table.target_form Repeats) cut.targets))
 accepted table number (Some (Does operation)) cut =
     let targets = read_targets table (table.target_form (Does operation)) cut.targets in
-    Takes (record { line = number; operation = operation; arguments = arguments_in cut.arguments; targets = targets })
+    Accepts (record { line = number; operation = operation; arguments = arguments_in cut.arguments; targets = targets })
 
 abbrev pub unless_refused : {I : Type 0} → Option Cause → Reading I → Reading I
 unless_refused None reading = reading

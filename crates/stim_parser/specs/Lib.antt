@@ -1,6 +1,4 @@
 pub mod Numbers
-pub mod Significant
-pub mod Decimals
 pub mod Pieces
 pub mod Targets
 pub mod Arguments
@@ -8,18 +6,14 @@ pub mod Instructions
 pub mod Limits
 pub mod Parentheses
 pub mod Judging
-pub mod Questions
 pub mod Probabilities
 pub mod Verdicts
 pub mod Texts
 pub mod Trees
 pub mod Circuits
 pub mod Written
-pub mod Halves
 pub mod Coordinates
-pub mod QubitSets
-pub mod Products
 pub mod Offsets
 pub mod Judged
 pub mod Rows
-pub mod Brackets
+pub mod private

@@ -9,7 +9,7 @@ use Rattle.block_text.specs.declared.said.Said.TheVariants as said
 use Rattle.block_text.specs.Arguments.{arguments_in}
 use Rattle.block_text.specs.Instructions.{Instruction}
 use Rattle.block_text.specs.Marked.{Begun, Marked}
-use Rattle.block_text.specs.Trees.{Item, Does, Begins, Ends}
+use Rattle.block_text.specs.Trees.{Item, InstructionLine, BlockStart, BlockEnd}
 use Rattle.stim_parser.specs.declared.table.Keyword.TheVariants as keyword
 use Rattle.stim_parser.specs.Judging.{Table}
 use Rattle.stim_parser.specs.Limits.{takes_probability, has_wrong_arguments, has_wrong_probability}
@@ -32,9 +32,9 @@ Marks texts None mark = ⊤
 Marks texts (Some chance) mark = length texts ≤ 2 ^ 32 → (mark < length texts) × (chance_at texts mark ≡ chance)
 
 abbrev pub IsMarked : {O T F : Type 0} → Table O T F → List ChanceText → Item (Instruction O T) → ℕ → Type 0
-IsMarked table texts (Does i) mark = Marks texts (chance_taken table i.operation i.arguments) mark
-IsMarked table texts (Begins line turns) mark = ⊤
-IsMarked table texts Ends mark = ⊤
+IsMarked table texts (InstructionLine i) mark = Marks texts (chance_taken table i.operation i.arguments) mark
+IsMarked table texts (BlockStart line turns) mark = ⊤
+IsMarked table texts BlockEnd mark = ⊤
 
 abbrev pub AreMarked : {O T F : Type 0} → Table O T F → List ChanceText → List (Item (Instruction O T)) → List ℕ → Type 0
 AreMarked table texts [] [] = ⊤
@@ -45,9 +45,9 @@ AreMarked table texts (item ∷ items) (mark ∷ marks) = IsMarked table texts i
 -- how many of the items are instructions
 abbrev pub instruction_count : {I : Type 0} → List (Item I) → ℕ
 instruction_count [] = 0
-instruction_count (Does i ∷ items) = 1 + instruction_count items
-instruction_count (Begins line turns ∷ items) = instruction_count items
-instruction_count (Ends ∷ items) = instruction_count items
+instruction_count (InstructionLine i ∷ items) = 1 + instruction_count items
+instruction_count (BlockStart line turns ∷ items) = instruction_count items
+instruction_count (BlockEnd ∷ items) = instruction_count items
 
 -- the marks of items are numbers of these texts, of which there are no more than instructions
 pub record Keeps {O T F : Type 0} (table : Table O T F) (texts : List ChanceText) (read : Marked (Instruction O T)) : Type 0 where
@@ -62,22 +62,22 @@ marked_in begun = record { items = begun.text.items; marks = begun.marks }
 
 -- what stood between the last parentheses is what an accepted line with a probability has there
 abbrev pub Remembers : {O T F : Type 0} → Table O T F → Said O → Parentheses → Type 0
-Remembers table (said.Takes operation arguments) last =
+Remembers table (said.Accepts operation arguments) last =
     takes_probability (table.argument_form (keyword.Does operation)) ≡ true → last.text ≡ arguments.now
 Remembers table said last = ⊤
 
 abbrev pub TakesNothing : {O : Type 0} → Said O → Type 0
-TakesNothing (said.Takes operation arguments) = ⊥
+TakesNothing (said.Accepts operation arguments) = ⊥
 TakesNothing said = ⊤
 
 -- how many instructions a line has
 abbrev pub taken_count : {O : Type 0} → Said O → ℕ
-taken_count (said.Takes operation arguments) = 1
+taken_count (said.Accepts operation arguments) = 1
 taken_count said = 0
 
 -- a mark of what a line says
 abbrev pub SaidMarked : {O T F : Type 0} → Table O T F → List ChanceText → Said O → ℕ → Type 0
-SaidMarked table texts (said.Takes operation arguments) mark =
+SaidMarked table texts (said.Accepts operation arguments) mark =
     Marks texts (chance_taken table operation (arguments_in arguments.now)) mark
 SaidMarked table texts said mark = ⊤
 

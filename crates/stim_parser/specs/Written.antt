@@ -11,7 +11,7 @@ use Rattle.pauli_word.specs.declared.letter.Letter.TheVariants.{X, Y}
 use Rattle.gate_table.specs.declared.gate.Gate.{Gate}
 use Rattle.gate_table.specs.declared.gate.Gate.TheVariants as gate
 use Rattle.stim_parser.specs.declared.operation.Operation.{Operation}
-use Rattle.stim_parser.specs.declared.operation.Operation.TheVariants.{Applies, Measures, Resets, MeasuresAndResets, MeasuresProducts, Errs, ErrsTogether, Detects, Observes, Ticks, PlacesQubits, ShiftsCoordinates}
+use Rattle.stim_parser.specs.declared.operation.Operation.TheVariants.{Applies, Measurement, QubitReset, MeasurementReset, ProductMeasurement, PauliError, CorrelatedError, DetectorDeclaration, ObservableInclude, Tick, QubitCoordinates, CoordinateShift}
 use Rattle.stim_parser.specs.declared.target.Target.{Target}
 use Rattle.stim_parser.specs.declared.target.Target.TheVariants.{Plain, Inverted, Back, Pauli, Star}
 use Rattle.stim_parser.specs.Trees.{Tree}
@@ -71,17 +71,17 @@ name_in_basis name letter = name
 -- the usual name of an operation
 abbrev pub operation_name : Operation → List ℕ
 operation_name (Applies g) = gate_name g
-operation_name (Measures l) = name_in_basis (codes "M") l
-operation_name (Resets l) = name_in_basis (codes "R") l
-operation_name (MeasuresAndResets l) = name_in_basis (codes "MR") l
-operation_name MeasuresProducts = codes "MPP"
-operation_name (Errs l) = letter_byte l ∷ codes "_ERROR"
-operation_name ErrsTogether = codes "CORRELATED_ERROR"
-operation_name Detects = codes "DETECTOR"
-operation_name Observes = codes "OBSERVABLE_INCLUDE"
-operation_name Ticks = codes "TICK"
-operation_name PlacesQubits = codes "QUBIT_COORDS"
-operation_name ShiftsCoordinates = codes "SHIFT_COORDS"
+operation_name (Measurement l) = name_in_basis (codes "M") l
+operation_name (QubitReset l) = name_in_basis (codes "R") l
+operation_name (MeasurementReset l) = name_in_basis (codes "MR") l
+operation_name ProductMeasurement = codes "MPP"
+operation_name (PauliError l) = letter_byte l ∷ codes "_ERROR"
+operation_name CorrelatedError = codes "CORRELATED_ERROR"
+operation_name DetectorDeclaration = codes "DETECTOR"
+operation_name ObservableInclude = codes "OBSERVABLE_INCLUDE"
+operation_name Tick = codes "TICK"
+operation_name QubitCoordinates = codes "QUBIT_COORDS"
+operation_name CoordinateShift = codes "SHIFT_COORDS"
 
 -- ---- arguments
 

@@ -2,7 +2,7 @@ ghost use Rattle.std.specs.Prelude.{◌≡◌, ◌+◌, ◌<◌, ◌≤◌, true
 ghost use Rattle.std.specs.Char.{is_ascii_digit};
 ghost use Rattle.std.specs.List.{list_all};
 ghost use Rattle.step_model.specs.Probabilities.{after_fraction, decimal_of, exponent_amount, exponent_part, fraction, signed_exponent};
-ghost use Rattle.stim_parser.specs.Decimals.{decimal_in, IsOfText};
+ghost use Rattle.stim_parser.specs.private.Decimals.{decimal_in, IsOfText};
 
 use crate::digits::{cut_digits, is_number, value_of};
 

@@ -48,13 +48,14 @@ pub(crate) fn argument_form(keyword: Keyword<Operation>) -> ArgumentForm
         return ArgumentForm::NoArguments;
     };
     match operation {
-        Operation::Measures(_) | Operation::MeasuresAndResets(_) | Operation::MeasuresProducts =>
-            ArgumentForm::ProbabilityAtWill,
-        Operation::Errs(_) | Operation::ErrsTogether => ArgumentForm::OneProbability,
-        Operation::Detects | Operation::ShiftsCoordinates => ArgumentForm::WholeNumbers,
-        Operation::Observes => ArgumentForm::OneNumber,
-        Operation::PlacesQubits => ArgumentForm::Decimals,
-        Operation::Applies(_) | Operation::Resets(_) | Operation::Ticks => {
+        Operation::Measurement(_)
+        | Operation::MeasurementReset(_)
+        | Operation::ProductMeasurement => ArgumentForm::ProbabilityAtWill,
+        Operation::PauliError(_) | Operation::CorrelatedError => ArgumentForm::OneProbability,
+        Operation::DetectorDeclaration | Operation::CoordinateShift => ArgumentForm::WholeNumbers,
+        Operation::ObservableInclude => ArgumentForm::OneNumber,
+        Operation::QubitCoordinates => ArgumentForm::Decimals,
+        Operation::Applies(_) | Operation::QubitReset(_) | Operation::Tick => {
             ArgumentForm::NoArguments
         }
     }
@@ -86,13 +87,14 @@ pub(crate) fn target_form(keyword: Keyword<Operation>) -> TargetForm
     };
     match operation {
         Operation::Applies(gate) => gate_targets(gate),
-        Operation::Measures(_) | Operation::MeasuresAndResets(_) => {
+        Operation::Measurement(_) | Operation::MeasurementReset(_) => {
             TargetForm::QubitsInvertedAtWill
         }
-        Operation::MeasuresProducts => TargetForm::Products,
-        Operation::Resets(_) | Operation::Errs(_) | Operation::PlacesQubits => TargetForm::Qubits,
-        Operation::ErrsTogether => TargetForm::Paulis,
-        Operation::Detects | Operation::Observes => TargetForm::Records,
-        Operation::Ticks | Operation::ShiftsCoordinates => TargetForm::NoTargets,
+        Operation::ProductMeasurement => TargetForm::Products,
+        Operation::QubitReset(_) | Operation::PauliError(_) | Operation::QubitCoordinates =>
+            TargetForm::Qubits,
+        Operation::CorrelatedError => TargetForm::Paulis,
+        Operation::DetectorDeclaration | Operation::ObservableInclude => TargetForm::Records,
+        Operation::Tick | Operation::CoordinateShift => TargetForm::NoTargets,
     }
 }

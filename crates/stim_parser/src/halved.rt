@@ -17,7 +17,7 @@ impl Model for Number {
 
     ghost Value = { ℕ };
 
-    ghost use Rattle.stim_parser.specs.Halves.{HasHalves, halves_of, halves_of-joined, joined};
+    ghost use Rattle.stim_parser.specs.private.Halves.{HasHalves, halves_of, halves_of-joined, joined};
 
     ghost view = { joined };
 

@@ -8,7 +8,7 @@ ghost use Rattle.stim_parser.specs.Limits.{has_argument_beyond, takes_probabilit
 ghost use Rattle.stim_parser.specs.Parentheses.{Parentheses};
 ghost use Rattle.stim_parser.specs.Probabilities.{Remembers, TakesNothing};
 ghost use Rattle.stim_parser.specs.Judging.{accepted, first_of, judged, misplaces_brace, opens_block, reading_of, read_targets, refusal_of};
-ghost use Rattle.stim_parser.specs.Questions.{has_wrong_target, refusals_of_amounts, refusals_of_arguments, refusals_of_block, refusals_of_keyword};
+ghost use Rattle.stim_parser.specs.private.Questions.{has_wrong_target, refusals_of_amounts, refusals_of_arguments, refusals_of_block, refusals_of_keyword};
 
 use crate::argument_checks::{
     chance_of, has_argument_beyond, has_wrong_arguments, has_wrong_probability, takes_probability,
@@ -217,7 +217,7 @@ fn accepted<'a, O: Copy, T: Copy, F: Copy, J: Judge<O, T, F>>(
 {
     match keyword {
         Keyword::Repeats => Said::Opens(J::turns_of(targets)),
-        Keyword::Does(operation) => Said::Takes {
+        Keyword::Does(operation) => Said::Accepts {
             operation,
             arguments: line.arguments,
         },

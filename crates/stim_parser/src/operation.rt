@@ -7,25 +7,25 @@ pub enum Operation {
     /// Applies a gate.
     Applies(Gate),
     /// Measures this letter at each target.
-    Measures(Letter),
+    Measurement(Letter),
     /// Resets each target to the +1 eigenstate of this letter.
-    Resets(Letter),
+    QubitReset(Letter),
     /// Measures this letter at each target and then resets the target to the letter's +1 eigenstate.
-    MeasuresAndResets(Letter),
+    MeasurementReset(Letter),
     /// Measures products of letters.
-    MeasuresProducts,
+    ProductMeasurement,
     /// Makes one fault for each target, of this letter.
-    Errs(Letter),
+    PauliError(Letter),
     /// Makes one fault, which applies the product of its targets.
-    ErrsTogether,
+    CorrelatedError,
     /// Declares a detector.
-    Detects,
+    DetectorDeclaration,
     /// Adds records to an observable.
-    Observes,
+    ObservableInclude,
     /// Marks the time, and does nothing.
-    Ticks,
+    Tick,
     /// States the coordinates of qubits, and does nothing.
-    PlacesQubits,
+    QubitCoordinates,
     /// Shifts the coordinates of later detectors.
-    ShiftsCoordinates,
+    CoordinateShift,
 }

@@ -1,7 +1,7 @@
 ghost use Rattle.std.specs.Prelude.{◌≡◌, ◌+◌, ◌<◌, ◌≤◌, ◌^◌, IfSome, length};
 ghost use Rattle.step_model.specs.Probabilities.{decimal_bound, probability_bound, scaled_bound};
-ghost use Rattle.stim_parser.specs.Decimals.{decimal_in, IsOfText};
-ghost use Rattle.stim_parser.specs.Significant.{more_digits, nothing_read, IsWithin};
+ghost use Rattle.stim_parser.specs.private.Decimals.{decimal_in, IsOfText};
+ghost use Rattle.stim_parser.specs.private.Significant.{more_digits, nothing_read, IsWithin};
 
 use crate::decimal::{Parts, decimal_of};
 use crate::significant::{Significant, more_digits, nothing_read};

@@ -1,5 +1,5 @@
 ghost use Rattle.std.specs.Prelude.{◌≡◌, ◌==◌, ◌<◌, ◌&&◌, ◌||◌, ℕ, false, not};
-ghost use Rattle.stim_parser.specs.QubitSets.{is_named};
+ghost use Rattle.stim_parser.specs.private.QubitSets.{is_named};
 
 /// A set of qubits below 4,096, by a bit for each. It takes no memory from an allocator.
 #[derive(Drop)]

@@ -41,7 +41,7 @@ fn mark_of<'a, O: Copy, T: Copy, F: Copy, J: Judge<O, T, F>, A: Allocator + Copy
     ensures few { length texts.new.items ≤ length texts.old.items + taken_count said.now }
     ensures marked { IfOk result (λ mark. SaidMarked J.table texts.new.items said.now mark) }
 {
-    let Said::Takes { operation, .. } = *said else {
+    let Said::Accepts { operation, .. } = *said else {
         return Ok(0);
     };
     if !takes_probability(J::argument_form(Keyword::Does(operation))) {

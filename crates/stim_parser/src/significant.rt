@@ -1,7 +1,7 @@
 ghost use Rattle.std.specs.Prelude.{◌≡◌, ◌+◌, ◌<◌, ◌≤◌, ◌^◌, true, length};
 ghost use Rattle.std.specs.Char.{is_ascii_digit};
 ghost use Rattle.std.specs.List.{list_all};
-ghost use Rattle.stim_parser.specs.Significant.{next_digit, more_digits, nothing_read, IsWithin};
+ghost use Rattle.stim_parser.specs.private.Significant.{next_digit, more_digits, nothing_read, IsWithin};
 
 /// What is known of digits, from the first that isn't a zero on.
 #[derive(Clone, Copy)]

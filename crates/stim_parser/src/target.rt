@@ -1,5 +1,5 @@
 ghost use Rattle.std.specs.Prelude.{◌≡◌, None, Some, option_map, IfOk, MatchBool};
-ghost use Rattle.stim_parser.specs.Brackets.{at_least_one, before_bracket};
+ghost use Rattle.stim_parser.specs.private.Brackets.{at_least_one, before_bracket};
 ghost use Rattle.stim_parser.specs.Targets.{inverted_of, letter_of, marked_of, pauli_of, record_of, target_of, targets_in};
 
 use crate::digits::number_of;

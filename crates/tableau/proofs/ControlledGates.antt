@@ -2,7 +2,7 @@
 use Rattle.std.proofs.Common.{◌≢◌, refl}
 use Rattle.gate_table.specs.declared.gate.Gate.TheVariants as gate
 use Rattle.pauli_word.specs.declared.letter.Letter.TheVariants.{X, Y, Z}
-use Rattle.tableau.specs.ControlledSteps.{IsControlled}
+use Rattle.tableau.specs.private.ControlledSteps.{IsControlled}
 
 X_not_Y : X ≢ Y
 X_not_Y e = cc

@@ -13,9 +13,9 @@ use Rattle.pauli_word.specs.Words.{Signed, anticommute, product, with_sign_chang
 use Rattle.pauli_word.specs.Groups.{identity_word}
 use Rattle.pauli_word.proofs.SignedLaws.{product_comm}
 use Rattle.pauli_word.proofs.WordLaws.{anticommute_comm}
-use Rattle.tableau.specs.ControlledSteps.{IsControlled, after_controlled, controlled_pair}
-use Rattle.tableau.specs.Encoding.{Pair, word_of, pair_at, HasLength, IsTableau}
-use Rattle.tableau.specs.EncodingSteps.{preimage_product, after_two}
+use Rattle.tableau.specs.private.ControlledSteps.{IsControlled, after_controlled, controlled_pair}
+use Rattle.tableau.specs.private.Encoding.{Pair, word_of, pair_at, HasLength, IsTableau}
+use Rattle.tableau.specs.private.EncodingSteps.{preimage_product, after_two}
 use Rattle.tableau.proofs.PairWords.{pairs_commute, two_commute, first_made, second_made}
 use Rattle.tableau.proofs.RowMaps.{word_of_size}
 use Rattle.tableau.proofs.Turns.{product_size, times_identity}

@@ -8,8 +8,8 @@ use Rattle.pauli_word.specs.declared.letter.Letter.TheVariants.{I, X}
 use Rattle.pauli_word.specs.Letters.{letters_clash}
 use Rattle.pauli_word.specs.Words.{lone_letter, letter_at}
 use Rattle.pauli_word.proofs.LoneLetters.{anticommute-lone_letter}
-use Rattle.tableau.specs.Decoding.{decoded_letters}
-use Rattle.tableau.specs.Encoding.{Pair, pair_at, IsTableau}
+use Rattle.tableau.specs.private.Decoding.{decoded_letters}
+use Rattle.tableau.specs.private.Encoding.{Pair, pair_at, IsTableau}
 use Rattle.tableau.proofs.DecodingLaws.{letter-decoded, length-decoded}
 use Rattle.tableau.proofs.PairWords.{pair_read}
 

@@ -17,9 +17,9 @@ use Rattle.pauli_word.proofs.Parities.{exclusive_or-false, exclusive_or_self, ex
 use Rattle.pauli_word.proofs.LetterLaws.{letters_clash_comm}
 use Rattle.pauli_word.proofs.WordLaws.{anticommute_comm}
 use Rattle.pauli_word.proofs.LoneLetters.{length-lone_letter, anticommute-lone_letter}
-use Rattle.tableau.specs.Encoding.{Pair, word_of, encoded, pair_at, IsTableau}
-use Rattle.tableau.specs.EncodingSteps.{lone}
-use Rattle.tableau.specs.Decoding.{decoded_letters, decoded, decoded_pair, decoded_pairs}
+use Rattle.tableau.specs.private.Encoding.{Pair, word_of, encoded, pair_at, IsTableau}
+use Rattle.tableau.specs.private.EncodingSteps.{lone}
+use Rattle.tableau.specs.private.Decoding.{decoded_letters, decoded, decoded_pair, decoded_pairs}
 use Rattle.tableau.proofs.RowMaps.{products_kept, kept_sign, row_encoded}
 use Rattle.tableau.proofs.EncodingGates.{Encodes, encodes}
 

@@ -15,7 +15,7 @@ use Rattle.pauli_word.specs.States.{is_I_or_Z, start_state, is_decided}
 use Rattle.pauli_word.specs.Groups.{IsMember}
 use Rattle.pauli_word.specs.Words.{signed, anticommute, product, no_letters, lone_letter, letter_at, has_X_or_Y, lowest_X_or_Y}
 use Rattle.pauli_word.proofs.LoneLetters.{length-lone_letter, anticommute-lone_letter, letters_product-lone_letter, letters_power-lone_letter}
-use Rattle.tableau.specs.EncodingSteps.{lone}
+use Rattle.tableau.specs.private.EncodingSteps.{lone}
 
 pub all_diagonal : (w : List Letter) → lowest_X_or_Y w ≡ None → list_all is_I_or_Z w ≡ true
 all_diagonal [] h = refl

@@ -8,15 +8,15 @@ use Rattle.pauli_word.specs.declared.letter.Letter.TheVariants.{Z}
 use Rattle.pauli_word.specs.Letters.{letters_clash}
 use Rattle.pauli_word.specs.Parity.{exclusive_or}
 use Rattle.pauli_word.specs.States.{State, is_I_or_Z, start_state, is_decided, outcome, collapsed}
-use Rattle.pauli_word.specs.WordMaps.{KeepsWords}
+use Rattle.pauli_word.specs.private.WordMaps.{KeepsWords}
 use Rattle.pauli_word.specs.Words.{Signed, signed, with_sign_changed, anticommute, product, letter_at, lowest_X_or_Y}
 use Rattle.pauli_word.proofs.Groups.{IsGroup-start}
 use Rattle.pauli_word.proofs.LetterLaws.{letters_clash_comm}
 use Rattle.pauli_word.proofs.LoneLetters.{anticommute-lone_letter}
 use Rattle.pauli_word.proofs.LowestLetters.{lowest-clash}
 use Rattle.pauli_word.proofs.Parities.{exclusive_or-false}
-use Rattle.tableau.specs.Encoding.{Pair, encoded, IsTableau}
-use Rattle.tableau.specs.EncodingSteps.{lone, code_of, row_map, collapsed_at, outcome_at}
+use Rattle.tableau.specs.private.Encoding.{Pair, encoded, IsTableau}
+use Rattle.tableau.specs.private.EncodingSteps.{lone, code_of, row_map, collapsed_at, outcome_at}
 use Rattle.tableau.proofs.DiagonalWords.{all_diagonal, start_diagonal, decided_diagonal, Z_in_start}
 use Rattle.tableau.proofs.EncodingGates.{code_state, mapped_encodes}
 use Rattle.tableau.proofs.RandomCollapse.{map_clifford, collapses}

@@ -20,9 +20,9 @@ use Rattle.gate_table.proofs.WordImageLaws.{letter_at-none, image_at-preimage_at
 use Rattle.gate_table.proofs.PairImageLaws.{image_at_two-preimage_at_two, preimage_at_two-image_at_two}
 use Rattle.pauli_word.proofs.LoneLetters.{length-lone_letter, anticommute-lone_letter}
 use Rattle.pauli_word.proofs.Groups.{IsGroup-moved, IsGroup-start, applied_keeps}
-use Rattle.tableau.specs.CliffordMaps.{IsClifford}
-use Rattle.tableau.specs.Encoding.{Pair, word_of, encoded, pair_at, IsTableau}
-use Rattle.tableau.specs.EncodingSteps.{lone, pair_under, pair_after, after_one, after_two, after_word, mapped}
+use Rattle.tableau.specs.private.CliffordMaps.{IsClifford}
+use Rattle.tableau.specs.private.Encoding.{Pair, word_of, encoded, pair_at, IsTableau}
+use Rattle.tableau.specs.private.EncodingSteps.{lone, pair_under, pair_after, after_one, after_two, after_word, mapped}
 use Rattle.tableau.proofs.RowMaps.{AreRows, products_kept, kept_sign, encoded_known, row_encoded, clifford_after, made}
 
 -- the maps of gates and of words applied

@@ -10,8 +10,8 @@ use Rattle.pauli_word.proofs.LetterLaws.{letter_product-I, letter_power-I, lette
 use Rattle.pauli_word.proofs.LoneLetters.{anticommute-lone_letter, letters_product-lone_letter, letters_power-lone_letter}
 use Rattle.pauli_word.proofs.SignedLaws.{product_comm}
 use Rattle.pauli_word.proofs.WordLaws.{anticommute_comm}
-use Rattle.tableau.specs.Encoding.{Pair}
-use Rattle.tableau.specs.EncodingSteps.{lone, pair_after, after_word}
+use Rattle.tableau.specs.private.Encoding.{Pair}
+use Rattle.tableau.specs.private.EncodingSteps.{lone, pair_after, after_word}
 
 abbrev pub first_letters : ℕ → List Letter → List Letter
 first_letters zero p = no_letters (length p)

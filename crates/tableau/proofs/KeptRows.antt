@@ -10,9 +10,9 @@ use Rattle.pauli_word.specs.Groups.{identity_word}
 use Rattle.pauli_word.proofs.LetterLaws.{letters_clash_comm}
 use Rattle.pauli_word.proofs.LoneLetters.{length-lone_letter, anticommute-lone_letter}
 use Rattle.pauli_word.proofs.WordLaws.{anticommute_comm}
-use Rattle.tableau.specs.Decoding.{decoded, rows_seen}
-use Rattle.tableau.specs.Encoding.{Pair, word_of, encoded, IsTableau, HasLength}
-use Rattle.tableau.specs.EncodingSteps.{lone, mapped, code_of, row_map, collapsed_at, after_collapse, outcome_of}
+use Rattle.tableau.specs.private.Decoding.{decoded, rows_seen}
+use Rattle.tableau.specs.private.Encoding.{Pair, word_of, encoded, IsTableau, HasLength}
+use Rattle.tableau.specs.private.EncodingSteps.{lone, mapped, code_of, row_map, collapsed_at, after_collapse, outcome_of}
 use Rattle.tableau.specs.Rows.{Rows, row_count, stabilizer_at, destabilizer_at, state_of, HasState, IsReplaced}
 use Rattle.tableau.proofs.DecodingLaws.{decoded_size, encode_decode, decode_encode}
 use Rattle.tableau.proofs.DiagonalWords.{Z_in_start}

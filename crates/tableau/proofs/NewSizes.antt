@@ -4,8 +4,8 @@ use Rattle.gate_table.specs.declared.gate.Gate.{Gate}
 use Rattle.gate_table.specs.Images.{image1, image2, inverse_of}
 use Rattle.pauli_word.specs.declared.letter.Letter.{Letter}
 use Rattle.pauli_word.specs.declared.letter.Letter.TheVariants.{X, Z}
-use Rattle.tableau.specs.Encoding.{Pair, word_of, HasLength}
-use Rattle.tableau.specs.EncodingSteps.{preimage_word, preimage_product}
+use Rattle.tableau.specs.private.Encoding.{Pair, word_of, HasLength}
+use Rattle.tableau.specs.private.EncodingSteps.{preimage_word, preimage_product}
 use Rattle.tableau.proofs.RowMaps.{word_of_size}
 use Rattle.tableau.proofs.Turns.{product_size}
 

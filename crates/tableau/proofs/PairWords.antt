@@ -16,8 +16,8 @@ use Rattle.pauli_word.proofs.LoneLetters.{length-lone_letter, anticommute-lone_l
 use Rattle.pauli_word.proofs.Parities.{exclusive_or-false}
 use Rattle.pauli_word.proofs.SignedLaws.{product-sign_changed_right}
 use Rattle.pauli_word.proofs.WordLaws.{anticommute_comm}
-use Rattle.tableau.specs.Encoding.{Pair, word_of, encoded, pair_at, IsTableau, HasLength}
-use Rattle.tableau.specs.EncodingSteps.{lone, code_of, preimage_word, preimage_product, pair_under}
+use Rattle.tableau.specs.private.Encoding.{Pair, word_of, encoded, pair_at, IsTableau, HasLength}
+use Rattle.tableau.specs.private.EncodingSteps.{lone, code_of, preimage_word, preimage_product, pair_under}
 use Rattle.tableau.proofs.FirstLetters.{first_letters, length-first, first-next, first-one_more, product-lone}
 use Rattle.tableau.proofs.RowMaps.{products_kept, kept_sign, row_encoded, word_of_size}
 use Rattle.tableau.proofs.Turns.{regrouped, times_identity}

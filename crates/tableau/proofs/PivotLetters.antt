@@ -8,8 +8,8 @@ use Rattle.pauli_word.specs.Words.{Signed, letter_at, lone_letter, no_letters, p
 use Rattle.pauli_word.proofs.LetterLaws.{letter_product-I}
 use Rattle.pauli_word.proofs.LoneLetters.{length-lone_letter}
 use Rattle.pauli_word.proofs.WordPlaces.{letter_at-product}
-use Rattle.tableau.specs.Encoding.{Pair}
-use Rattle.tableau.specs.EncodingSteps.{IsPivot}
+use Rattle.tableau.specs.private.Encoding.{Pair}
+use Rattle.tableau.specs.private.EncodingSteps.{IsPivot}
 
 module _ (n k : ℕ) (r : Pair) (pivot : IsPivot n k r) where
   letter_of_Z : letter_at (lone_letter n k Z) k ≡ Z

@@ -19,8 +19,8 @@ use Rattle.pauli_word.proofs.LoneLetters.{length-lone_letter, anticommute-lone_l
 use Rattle.pauli_word.proofs.Parities.{exclusive_or-false, exclusive_or_self}
 use Rattle.pauli_word.proofs.SignedLaws.{product_comm, product-sign_changed_right}
 use Rattle.pauli_word.proofs.WordLaws.{anticommute_comm, anticommute_self}
-use Rattle.tableau.specs.CliffordMaps.{IsClifford, turned, twisted}
-use Rattle.tableau.specs.EncodingSteps.{lone, without, turning_gate, row_map}
+use Rattle.tableau.specs.private.CliffordMaps.{IsClifford, turned, twisted}
+use Rattle.tableau.specs.private.EncodingSteps.{lone, without, turning_gate, row_map}
 use Rattle.tableau.proofs.DiagonalWords.{Z_in_start, at_one, diagonal_at, diagonal_without, lone_product, lone_image}
 use Rattle.tableau.proofs.EncodingGates.{image_clifford}
 use Rattle.tableau.proofs.RowMaps.{clifford_after}

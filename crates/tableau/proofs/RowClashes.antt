@@ -9,8 +9,8 @@ use Rattle.pauli_word.specs.Words.{Signed, signed, with_sign_changed, anticommut
 use Rattle.pauli_word.proofs.LetterLaws.{letters_clash_comm, letters_clash_of_I}
 use Rattle.pauli_word.proofs.LoneLetters.{length-lone_letter, anticommute-lone_letter}
 use Rattle.pauli_word.proofs.WordPlaces.{anticommute_at}
-use Rattle.tableau.specs.Encoding.{Pair, pair_at, word_of, IsTableau}
-use Rattle.tableau.specs.EncodingSteps.{lone, code_of, without, ClashesAt}
+use Rattle.tableau.specs.private.Encoding.{Pair, pair_at, word_of, IsTableau}
+use Rattle.tableau.specs.private.EncodingSteps.{lone, code_of, without, ClashesAt}
 use Rattle.tableau.proofs.PairWords.{pair_read}
 use Rattle.tableau.proofs.RowMaps.{row_encoded}
 

@@ -15,9 +15,9 @@ use Rattle.pauli_word.specs.Words.{Signed, signed, with_sign_changed, anticommut
 use Rattle.pauli_word.proofs.LetterLaws.{letters_clash_comm, letters_clash_of_I}
 use Rattle.pauli_word.proofs.LoneLetters.{length-lone_letter, anticommute-lone_letter, letters_product_of_no_letters}
 use Rattle.pauli_word.proofs.WordLaws.{letters_product_assoc, letters_product_comm}
-use Rattle.tableau.specs.Decoding.{decoded_letters, decoded, decoded_pairs, rows_seen}
-use Rattle.tableau.specs.Encoding.{Pair, word_of, letters_encoded, IsTableau, HasLength}
-use Rattle.tableau.specs.EncodingSteps.{lone}
+use Rattle.tableau.specs.private.Decoding.{decoded_letters, decoded, decoded_pairs, rows_seen}
+use Rattle.tableau.specs.private.Encoding.{Pair, word_of, letters_encoded, IsTableau, HasLength}
+use Rattle.tableau.specs.private.EncodingSteps.{lone}
 use Rattle.tableau.specs.Rows.{Rows, row_count, stabilizer_at, destabilizer_at, clashes_with, commutes_with_all, chosen_product, stabilizer_product, destabilizer_product, state_of}
 use Rattle.tableau.proofs.DecodingLaws.{decoded_size, encode_decode, decoded_clash, seen_count, seen_encodes}
 use Rattle.tableau.proofs.DiagonalWords.{Z_in_start, at_one}

@@ -12,9 +12,9 @@ use Rattle.pauli_word.specs.Parity.{exclusive_or}
 use Rattle.pauli_word.specs.Words.{Signed, signed, anticommute, letter_at}
 use Rattle.pauli_word.proofs.LetterLaws.{letters_clash_of_I}
 use Rattle.pauli_word.proofs.Parities.{exclusive_or-false}
-use Rattle.tableau.specs.CliffordMaps.{twisted}
-use Rattle.tableau.specs.Encoding.{Pair}
-use Rattle.tableau.specs.EncodingSteps.{lone, IsPivot}
+use Rattle.tableau.specs.private.CliffordMaps.{twisted}
+use Rattle.tableau.specs.private.Encoding.{Pair}
+use Rattle.tableau.specs.private.EncodingSteps.{lone, IsPivot}
 use Rattle.tableau.proofs.TwistRows.{along_commuting}
 
 I_not_X : I ≢ X

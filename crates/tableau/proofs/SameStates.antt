@@ -11,8 +11,8 @@ use Rattle.pauli_word.proofs.LetterLaws.{letters_clash_comm}
 use Rattle.pauli_word.proofs.LoneLetters.{anticommute-lone_letter}
 use Rattle.pauli_word.proofs.LowestLetters.{lowest-clash}
 use Rattle.pauli_word.proofs.WordLaws.{anticommute_comm}
-use Rattle.tableau.specs.CliffordMaps.{IsClifford}
-use Rattle.tableau.specs.EncodingSteps.{lone}
+use Rattle.tableau.specs.private.CliffordMaps.{IsClifford}
+use Rattle.tableau.specs.private.EncodingSteps.{lone}
 use Rattle.tableau.proofs.DiagonalWords.{all_diagonal, start_diagonal, Z_in_start}
 use Rattle.tableau.proofs.RowMaps.{products_kept, kept_sign}
 

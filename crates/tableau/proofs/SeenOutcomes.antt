@@ -6,9 +6,9 @@ use Rattle.pauli_word.specs.declared.letter.Letter.TheVariants.{X, Z}
 use Rattle.pauli_word.specs.States.{is_decided, outcome, collapsed}
 use Rattle.pauli_word.specs.Words.{Signed, with_sign_changed, lone_letter}
 use Rattle.pauli_word.proofs.LoneLetters.{length-lone_letter}
-use Rattle.tableau.specs.Decoding.{rows_seen}
-use Rattle.tableau.specs.Encoding.{Pair, word_of, IsTableau}
-use Rattle.tableau.specs.EncodingSteps.{after_collapse, code_of, collapsed_at, outcome_at, IsDiagonal}
+use Rattle.tableau.specs.private.Decoding.{rows_seen}
+use Rattle.tableau.specs.private.Encoding.{Pair, word_of, IsTableau}
+use Rattle.tableau.specs.private.EncodingSteps.{after_collapse, code_of, collapsed_at, outcome_at, IsDiagonal}
 use Rattle.tableau.specs.Rows.{Rows, row_count, state_of, HasState}
 use Rattle.tableau.proofs.KeptRows.{kept_size, lone_code, outcome_owed, collapsed_state, decided_owed}
 

@@ -10,9 +10,9 @@ use Rattle.pauli_word.specs.Parity.{exclusive_or}
 use Rattle.pauli_word.specs.States.{State, is_I_or_Z, start_state, is_decided, outcome, collapsed}
 use Rattle.pauli_word.specs.Words.{Signed, signed, anticommute, product}
 use Rattle.pauli_word.specs.Groups.{identity_word}
-use Rattle.tableau.specs.Encoding.{Pair, word_of, letters_encoded, encoded, pair_at, IsTableau}
-use Rattle.tableau.specs.EncodingSteps.{lone}
-use Rattle.tableau.specs.Decoding.{decoded_letters, decoded, decoded_pairs, rows_of, rows_seen}
+use Rattle.tableau.specs.private.Encoding.{Pair, word_of, letters_encoded, encoded, pair_at, IsTableau}
+use Rattle.tableau.specs.private.EncodingSteps.{lone}
+use Rattle.tableau.specs.private.Decoding.{decoded_letters, decoded, decoded_pairs, rows_of, rows_seen}
 use Rattle.tableau.specs.Rows.{row_count, stabilizer_at, destabilizer_at, clashes_with, commutes_with_all, chosen_product, state_of}
 use Rattle.tableau.proofs.DecodingLaws.{decoded_size, encode_decode, seen_at, seen_count, seen_encodes}
 use Rattle.tableau.proofs.EncodingGates.{code_state}

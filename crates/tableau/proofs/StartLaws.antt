@@ -6,11 +6,11 @@ use Rattle.pauli_word.specs.Groups.{identity_word}
 use Rattle.std.proofs.lemmas.List.{length-replicate}
 use Rattle.pauli_word.specs.declared.letter.Letter.TheVariants.{I}
 use Rattle.pauli_word.specs.States.{start_state}
-use Rattle.pauli_word.specs.WordMaps.{KeepsWords}
-use Rattle.tableau.specs.CliffordMaps.{IsClifford}
-use Rattle.tableau.specs.Decoding.{rows_seen}
-use Rattle.tableau.specs.Encoding.{Pair, encoded, pair_at, IsTableau, HasLength}
-use Rattle.tableau.specs.EncodingSteps.{start_pair, start_rows}
+use Rattle.pauli_word.specs.private.WordMaps.{KeepsWords}
+use Rattle.tableau.specs.private.CliffordMaps.{IsClifford}
+use Rattle.tableau.specs.private.Decoding.{rows_seen}
+use Rattle.tableau.specs.private.Encoding.{Pair, encoded, pair_at, IsTableau, HasLength}
+use Rattle.tableau.specs.private.EncodingSteps.{start_pair, start_rows}
 use Rattle.tableau.specs.Rows.{row_count, HasState}
 use Rattle.tableau.proofs.EncodingGates.{Encodes, encodes}
 use Rattle.tableau.proofs.SeenRows.{seen_size, seen_state}

@@ -12,9 +12,9 @@ use Rattle.pauli_word.proofs.LoneLetters.{length-lone_letter, anticommute-lone_l
 use Rattle.pauli_word.proofs.Parities.{exclusive_or-false}
 use Rattle.pauli_word.proofs.SignedLaws.{product_comm, product-sign_changed_left}
 use Rattle.pauli_word.proofs.WordLaws.{anticommute_comm}
-use Rattle.tableau.specs.CliffordMaps.{twisted}
-use Rattle.tableau.specs.Encoding.{Pair}
-use Rattle.tableau.specs.EncodingSteps.{lone, mapped, IsPivot}
+use Rattle.tableau.specs.private.CliffordMaps.{twisted}
+use Rattle.tableau.specs.private.Encoding.{Pair}
+use Rattle.tableau.specs.private.EncodingSteps.{lone, mapped, IsPivot}
 use Rattle.tableau.proofs.FirstLetters.{product-lone}
 use Rattle.tableau.proofs.Turns.{clash, clash_comm, product_size, turned_if}
 use Rattle.tableau.proofs.Twists.{twist_along, twist_across}

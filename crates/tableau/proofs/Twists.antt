@@ -6,7 +6,7 @@ use Rattle.pauli_word.specs.Words.{Signed, product, with_sign_changed}
 use Rattle.pauli_word.specs.Groups.{identity_word}
 use Rattle.pauli_word.proofs.WordLaws.{anticommute_self}
 use Rattle.pauli_word.proofs.SignedLaws.{product_self, product_of_identity, product-sign_changed_right}
-use Rattle.tableau.specs.CliffordMaps.{IsClifford, turned, twisted}
+use Rattle.tableau.specs.private.CliffordMaps.{IsClifford, turned, twisted}
 use Rattle.tableau.proofs.Turns.{changed_back, clash, clash_comm, turned_if, product_size, clash_left, clash_right, regrouped, turned_clifford}
 use Rattle.tableau.proofs.RowMaps.{clifford_after}
 

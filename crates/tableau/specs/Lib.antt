@@ -1,6 +1,2 @@
-pub mod CliffordMaps
-pub mod Decoding
-pub mod Encoding
-pub mod EncodingSteps
 pub mod Rows
-pub mod ControlledSteps
+pub mod private

@@ -7,9 +7,9 @@ ghost use Rattle.pauli_word.specs.declared.letter.Letter.TheVariants.{I, Z};
 ghost use Rattle.pauli_word.specs.Letters.{letters_clash};
 ghost use Rattle.pauli_word.specs.Parity.{exclusive_or};
 ghost use Rattle.pauli_word.specs.Words.{anticommute, letter_at, with_sign_changed, lowest_X_or_Y};
-ghost use Rattle.tableau.specs.CliffordMaps.{twisted};
-ghost use Rattle.tableau.specs.Encoding.{HasLength, IsTableau, pair_at, word_of};
-ghost use Rattle.tableau.specs.EncodingSteps.{lone, mapped, code_of, without, turning_gate, after_collapse, outcome_of, IsPivot, ClashesAt, IsDiagonal};
+ghost use Rattle.tableau.specs.private.CliffordMaps.{twisted};
+ghost use Rattle.tableau.specs.private.Encoding.{HasLength, IsTableau, pair_at, word_of};
+ghost use Rattle.tableau.specs.private.EncodingSteps.{lone, mapped, code_of, without, turning_gate, after_collapse, outcome_of, IsPivot, ClashesAt, IsDiagonal};
 
 use crate::pairs::{Pair, change_sign, multiply};
 use gate_table::Gate;

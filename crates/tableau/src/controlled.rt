@@ -5,8 +5,8 @@ ghost use Rattle.gate_table.specs.Images.{factor};
 ghost use Rattle.pauli_word.specs.declared.letter.Letter.{Letter};
 ghost use Rattle.pauli_word.specs.declared.letter.Letter.TheVariants.{Y};
 ghost use Rattle.pauli_word.specs.Words.{anticommute};
-ghost use Rattle.tableau.specs.ControlledSteps.{IsControlled, after_controlled, controlled_pair, CommuteWith};
-ghost use Rattle.tableau.specs.Encoding.{HasLength, IsTableau, word_of};
+ghost use Rattle.tableau.specs.private.ControlledSteps.{IsControlled, after_controlled, controlled_pair, CommuteWith};
+ghost use Rattle.tableau.specs.private.Encoding.{HasLength, IsTableau, word_of};
 
 use crate::pairs::{Pair, multiply};
 use gate_table::Gate;

@@ -4,8 +4,8 @@ ghost use Rattle.pauli_word.specs.Bits.{letter_of};
 ghost use Rattle.pauli_word.specs.declared.letter.Letter.TheVariants.{X};
 ghost use Rattle.pauli_word.specs.Letters.{letters_clash};
 ghost use Rattle.pauli_word.specs.Words.{lone_letter, letter_at, signed};
-ghost use Rattle.tableau.specs.Decoding.{decoded_letters};
-ghost use Rattle.tableau.specs.Encoding.{IsTableau};
+ghost use Rattle.tableau.specs.private.Decoding.{decoded_letters};
+ghost use Rattle.tableau.specs.private.Encoding.{IsTableau};
 
 use crate::pairs::Pair;
 use pauli_word::{Letter, Word};

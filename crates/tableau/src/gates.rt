@@ -4,8 +4,8 @@ ghost use Rattle.gate_table.specs.Images.{arity_of};
 ghost use Rattle.pauli_word.specs.declared.letter.Letter.{Letter};
 ghost use Rattle.pauli_word.specs.declared.letter.Letter.TheVariants.{X, Z};
 ghost use Rattle.pauli_word.specs.Words.{anticommute, product, with_sign_changed};
-ghost use Rattle.tableau.specs.Encoding.{HasLength, IsTableau, word_of};
-ghost use Rattle.tableau.specs.EncodingSteps.{AppliesLetter, preimage_word, preimage_product, after_one, after_two, after_word};
+ghost use Rattle.tableau.specs.private.Encoding.{HasLength, IsTableau, word_of};
+ghost use Rattle.tableau.specs.private.EncodingSteps.{AppliesLetter, preimage_word, preimage_product, after_one, after_two, after_word};
 
 use crate::controlled::{apply_controlled, controlled_letters};
 use crate::pairs::{

@@ -3,8 +3,8 @@ ghost use Rattle.std.specs.Prelude.{◌≡◌, ◌<◌, length, true, false, IfO
 ghost use Rattle.pauli_word.specs.declared.letter.Letter.TheVariants.{Y};
 ghost use Rattle.pauli_word.specs.Words.{anticommute, product, with_sign_changed};
 ghost use Rattle.pauli_word.specs.Groups.{identity_word};
-ghost use Rattle.tableau.specs.Encoding.{HasLength, word_of};
-ghost use Rattle.tableau.specs.EncodingSteps.{pair_after, start_pair};
+ghost use Rattle.tableau.specs.private.Encoding.{HasLength, word_of};
+ghost use Rattle.tableau.specs.private.EncodingSteps.{pair_after, start_pair};
 
 use pauli_word::{Letter, Word};
 use std::alloc::{AllocError, Allocator};

@@ -30,8 +30,8 @@ pub struct Tableau<A: Allocator + Copy> {
 
 impl<A: Allocator + Copy> Model for Tableau<A> {
     ghost use Rattle.std.specs.Prelude.{length};
-    ghost use Rattle.tableau.specs.Decoding.{rows_seen};
-    ghost use Rattle.tableau.specs.Encoding.{HasLength, IsTableau};
+    ghost use Rattle.tableau.specs.private.Decoding.{rows_seen};
+    ghost use Rattle.tableau.specs.private.Encoding.{HasLength, IsTableau};
     ghost use Rattle.tableau.specs.Rows.{Rows};
 
     ghost Value = { Rows };

@@ -19,16 +19,16 @@ use Rattle.step_model.specs.WellFormed.{CoordinatesFit, ProductFits}
 use Rattle.stim_parser.specs.Circuits.{IsCircuit}
 use Rattle.stim_parser.specs.Trees.{Tree}
 use Rattle.unroll.specs.declared.totals.Totals.{Totals}
-use Rattle.unroll.specs.Assembled.{ArePartsOf, counts_in}
-use Rattle.unroll.specs.Detectors.{detectors_of}
-use Rattle.unroll.specs.Kept.{kept_entries, kept_products}
-use Rattle.unroll.specs.Observables.{observables_of}
-use Rattle.unroll.specs.Counted.{refusal_counted}
+use Rattle.unroll.specs.private.Assembled.{ArePartsOf, counts_in}
+use Rattle.unroll.specs.private.Detectors.{detectors_of}
+use Rattle.unroll.specs.private.Kept.{kept_entries, kept_products}
+use Rattle.unroll.specs.private.Observables.{observables_of}
+use Rattle.unroll.specs.private.Counted.{refusal_counted}
 use Rattle.unroll.specs.Refusals.{refusal_of}
-use Rattle.unroll.specs.Steps.{steps_of}
-use Rattle.unroll.specs.Summed.{AreTotals, greatest}
+use Rattle.unroll.specs.private.Steps.{steps_of}
+use Rattle.unroll.specs.private.Summed.{AreTotals, greatest}
 use Rattle.unroll.specs.Totals.{qubit_total}
-use Rattle.unroll.specs.MadeTotals.{fault_total, made_total, collapse_total, record_total}
+use Rattle.unroll.specs.private.MadeTotals.{fault_total, made_total, collapse_total, record_total}
 use Rattle.unroll.specs.Meaning.{listing_of}
 use Rattle.unroll.specs.Programs.{program_of}
 use Rattle.unroll.proofs.CoordinateFits.{coordinates_fit}

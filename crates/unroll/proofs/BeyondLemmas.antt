@@ -5,34 +5,34 @@ use Rattle.std.specs.Option.{option_or}
 use Rattle.std.proofs.lemmas.Bool.{le-ltb, lt-ltb}
 use Rattle.std.proofs.lemmas.List.{drop_all}
 use Rattle.stim_parser.specs.declared.operation.Operation.{Operation}
-use Rattle.stim_parser.specs.declared.operation.Operation.TheVariants.{Observes}
+use Rattle.stim_parser.specs.declared.operation.Operation.TheVariants.{ObservableInclude}
 use Rattle.stim_parser.specs.Circuits.{Fits}
 use Rattle.stim_parser.specs.Texts.{Item}
-use Rattle.block_text.specs.Trees.{Does, Begins, Ends}
+use Rattle.block_text.specs.Trees.{InstructionLine, BlockStart, BlockEnd}
 use Rattle.stim_parser.specs.Trees.{Tree}
 use Rattle.stim_parser.specs.Judged.{items_of}
 use Rattle.stim_parser.specs.Verdicts.{Instruction}
 use Rattle.stim_parser.proofs.NumberArguments.{NamesNumber, names_number}
-use Rattle.unroll.specs.Beyond.{line_beyond}
+use Rattle.unroll.specs.private.Beyond.{line_beyond}
 use Rattle.block_text.specs.Reached.{written}
-use Rattle.unroll.specs.Including.{named_to}
-use Rattle.unroll.specs.Items.{instructions_in}
+use Rattle.unroll.specs.private.Including.{named_to}
+use Rattle.unroll.specs.private.Items.{instructions_in}
 use Rattle.unroll.specs.Totals.{observables_to}
 use Rattle.unroll.specs.Refusals.{first_beyond, most_observables}
 use Rattle.unroll.proofs.ItemLemmas.{drop_next, instructions_in-tree}
 
 named-number : (o : Operation) (arguments : List (List ℕ)) → NamesNumber o arguments → named_to o arguments ≡ observables_to o arguments
-named-number Observes arguments h = ap (λ (n : Option ℕ). unwrap_or n 0 + 1) h
+named-number ObservableInclude arguments h = ap (λ (n : Option ℕ). unwrap_or n 0 + 1) h
 named-number o arguments h = refl
 
 pub named-observables : (i : Instruction) → Fits i → named_to i.operation i.arguments ≡ observables_to i.operation i.arguments
 named-observables i fits = named-number i.operation i.arguments (names_number i fits)
 
-pub line-some : (i : Instruction) (n : ℕ) → Fits i → n ≡ named_to i.operation i.arguments → 1024 < n → Some i.line ≡ line_beyond (Does i)
+pub line-some : (i : Instruction) (n : ℕ) → Fits i → n ≡ named_to i.operation i.arguments → 1024 < n → Some i.line ≡ line_beyond (InstructionLine i)
 line-some i n fits e more =
     sym (ap (λ (b : Bool). if b then Some i.line else None) (lt-ltb 1024 (observables_to i.operation i.arguments) (omega (arith, more, e, named-observables i fits))))
 
-pub line-none : (i : Instruction) (n : ℕ) → Fits i → n ≡ named_to i.operation i.arguments → n ≤ 1024 → None ≡ line_beyond (Does i)
+pub line-none : (i : Instruction) (n : ℕ) → Fits i → n ≡ named_to i.operation i.arguments → n ≤ 1024 → None ≡ line_beyond (InstructionLine i)
 line-none i n fits e few =
     sym (ap (λ (b : Bool). if b then Some i.line else None) (le-ltb 1024 (observables_to i.operation i.arguments) (omega (arith, few, e, named-observables i fits))))
 
@@ -47,10 +47,10 @@ if-or false line rest = refl
 
 beyond-more : (item : Item) (items : List Item) → first_beyond (instructions_in (item ∷ items)) ≡ option_or (line_beyond item) (first_beyond (instructions_in items))
 unfolding first_beyond
-beyond-more (Does i) items =
+beyond-more (InstructionLine i) items =
     if-or (nat_lt most_observables (observables_to i.operation i.arguments)) i.line (first_beyond (instructions_in items))
-beyond-more (Begins line turns) items = refl
-beyond-more Ends items = refl
+beyond-more (BlockStart line turns) items = refl
+beyond-more BlockEnd items = refl
 
 pub beyond-first : (t : Tree) → beyond_from t 0 ≡ first_beyond (written t)
 beyond-first t = ap first_beyond (instructions_in-tree t)

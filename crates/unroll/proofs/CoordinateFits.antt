@@ -6,18 +6,18 @@ use Rattle.std.proofs.lemmas.List.{length-map}
 use Rattle.std.proofs.lemmas.List.Elements.{All-append, All-cons, All-head, All-nil, All-tail, All-weaker}
 use Rattle.step_model.specs.WellFormed.{CoordinatesFit}
 use Rattle.stim_parser.specs.declared.operation.Operation.{Operation}
-use Rattle.stim_parser.specs.declared.operation.Operation.TheVariants.{Detects, ShiftsCoordinates}
+use Rattle.stim_parser.specs.declared.operation.Operation.TheVariants.{DetectorDeclaration, CoordinateShift}
 use Rattle.stim_parser.specs.Circuits.{AllFit, IsCircuit}
 use Rattle.stim_parser.specs.Numbers.{whole_value}
 use Rattle.stim_parser.specs.Trees.{Tree}
 use Rattle.block_text.specs.Trees.{Nothing, Then, Block}
 use Rattle.stim_parser.specs.Verdicts.{Instruction}
-use Rattle.unroll.specs.Coordinates.{coordinates_from, coordinates_of}
+use Rattle.unroll.specs.private.Coordinates.{coordinates_from, coordinates_of}
 use Rattle.stim_parser.specs.Offsets.{moved, shifted}
 use Rattle.unroll.specs.TargetsMade.{offset_after, operation_coordinates}
 use Rattle.block_text.specs.Reached.{copies, reached, total}
 use Rattle.unroll.specs.Totals.{step_total}
-use Rattle.unroll.specs.MadeTotals.{step_count}
+use Rattle.unroll.specs.private.MadeTotals.{step_count}
 use Rattle.stim_parser.proofs.CoordinateArguments.{AreUpTo, HasCoordinates, has_coordinates, most}
 
 -- ---- how many instructions are reached
@@ -99,7 +99,7 @@ length-placed (a ∷ o) [] = refl
 length-placed (a ∷ o) (b ∷ s) = ap suc (length-placed o s)
 
 after-up-to : (n : ℕ) (o : List ℤ) (op : Operation) (arguments : List (List ℕ)) → HasCoordinates op arguments → AreUpTo n o → AreUpTo (n + most) (offset_after o op arguments)
-after-up-to n o ShiftsCoordinates arguments has h = shifted-up-to n o (map whole_value arguments) h has.within
+after-up-to n o CoordinateShift arguments has h = shifted-up-to n o (map whole_value arguments) h has.within
 after-up-to n o op arguments has h = wider n o h
 
 -- ---- detectors
@@ -110,7 +110,7 @@ pub record ArePlaced (n : ℕ) (zs : List ℤ) : Type 0 where
   pub within : AreUpTo n zs
 
 placed-here : (n limit : ℕ) (o : List ℤ) (op : Operation) (arguments : List (List ℕ)) → HasCoordinates op arguments → AreUpTo n o → n + most ≤ limit → All (ArePlaced limit) (operation_coordinates o op arguments)
-placed-here n limit o Detects arguments has h le =
+placed-here n limit o DetectorDeclaration arguments has h le =
     let s = map whole_value arguments in
     All-cons (ArePlaced limit) (moved o s) []
     (record {

@@ -5,17 +5,17 @@ use Rattle.std.specs.Prelude.{All, slice_get}
 use Rattle.std.specs.Option.{option_to_list}
 use Rattle.std.proofs.lemmas.List.Elements.{All-append, All-drop, All-map, All-nil, All-weaker}
 use Rattle.stim_parser.specs.Circuits.{AllFit, IsCircuit}
-use Rattle.block_text.specs.Trees.{Does, Begins, Ends}
+use Rattle.block_text.specs.Trees.{InstructionLine, BlockStart, BlockEnd}
 use Rattle.stim_parser.specs.Trees.{Tree}
 use Rattle.stim_parser.specs.Judged.{items_of}
 use Rattle.stim_parser.specs.Verdicts.{Instruction}
 use Rattle.block_text.specs.declared.blocks.OpenBlock.{OpenBlock}
 use Rattle.unroll.specs.declared.marks.Mark.{Mark}
 use Rattle.block_text.specs.Reached.{reached}
-use Rattle.unroll.specs.Gathered.{Gathered, Gathering, gathering, given, later}
-use Rattle.unroll.specs.Passes.{behind, opened}
-use Rattle.unroll.specs.Counted.{first_far_from}
-use Rattle.unroll.specs.MadeTotals.{record_count, record_total}
+use Rattle.unroll.specs.private.Gathered.{Gathered, Gathering, gathering, given, later}
+use Rattle.unroll.specs.private.Passes.{behind, opened}
+use Rattle.unroll.specs.private.Counted.{first_far_from}
+use Rattle.unroll.specs.private.MadeTotals.{record_count, record_total}
 use Rattle.unroll.proofs.GatherLemmas.{IsGathering, Rises, gathered, gathering-begins, gathering-does, gathering-done, gathering-ends, gathering-first, gathering-rises, gathering-room, gathering-some}
 use Rattle.unroll.proofs.RecordLemmas.{MovesRecords, are_steady, counted-reached, place-counted}
 
@@ -101,7 +101,7 @@ counting-few {X} {g} {shift} {Within} law t i r found blocks h =
     let end = counts law t h.circuit.fit h.near in
     omega (arith, up, end.place)
 
-pub counting-does : {X : Type 0} {g : Gathering ℕ X} {shift : ℕ → X → X} {Within : ℕ → X → Type 0} → CountsRecords g shift Within → (t : Tree) (i r : ℕ) (found : List X) (blocks : List (OpenBlock (Mark ℕ))) (x : Instruction) → IsCounting g Within t i r found blocks → Some (Does x) ≡ slice_get (items_of t) i → IsCounting g Within t (i + 1) (r + record_count x) (found ++ g.gives r x) blocks
+pub counting-does : {X : Type 0} {g : Gathering ℕ X} {shift : ℕ → X → X} {Within : ℕ → X → Type 0} → CountsRecords g shift Within → (t : Tree) (i r : ℕ) (found : List X) (blocks : List (OpenBlock (Mark ℕ))) (x : Instruction) → IsCounting g Within t i r found blocks → Some (InstructionLine x) ≡ slice_get (items_of t) i → IsCounting g Within t (i + 1) (r + record_count x) (found ++ g.gives r x) blocks
 counting-does {X} {g} {shift} {Within} law t i r found blocks x h got =
     let more : r ≤ r + record_count x = omega arith in
     record {
@@ -115,15 +115,15 @@ counting-does {X} {g} {shift} {Within} law t i r found blocks x h got =
           (All-append (Within r) found (g.gives r x) h.within (law.gives r x));
     }
 
-pub counting-does_few : {X : Type 0} {g : Gathering ℕ X} {shift : ℕ → X → X} {Within : ℕ → X → Type 0} → CountsRecords g shift Within → (t : Tree) (i r : ℕ) (found : List X) (blocks : List (OpenBlock (Mark ℕ))) (x : Instruction) → IsCounting g Within t i r found blocks → Some (Does x) ≡ slice_get (items_of t) i → r + record_count x ≤ record_total t
+pub counting-does_few : {X : Type 0} {g : Gathering ℕ X} {shift : ℕ → X → X} {Within : ℕ → X → Type 0} → CountsRecords g shift Within → (t : Tree) (i r : ℕ) (found : List X) (blocks : List (OpenBlock (Mark ℕ))) (x : Instruction) → IsCounting g Within t i r found blocks → Some (InstructionLine x) ≡ slice_get (items_of t) i → r + record_count x ≤ record_total t
 counting-does_few {X} {g} law t i r found blocks x h got =
     counting-few law t (i + 1) (r + record_count x) (found ++ g.gives r x) blocks (counting-does law t i r found blocks x h got)
 
-pub counting-room : {X : Type 0} {g : Gathering ℕ X} {Within : ℕ → X → Type 0} (t : Tree) (i r : ℕ) (found : List X) (blocks : List (OpenBlock (Mark ℕ))) (line turns : ℕ) → IsCounting g Within t i r found blocks → Some (Begins line turns) ≡ slice_get (items_of t) i → length blocks < 32
+pub counting-room : {X : Type 0} {g : Gathering ℕ X} {Within : ℕ → X → Type 0} (t : Tree) (i r : ℕ) (found : List X) (blocks : List (OpenBlock (Mark ℕ))) (line turns : ℕ) → IsCounting g Within t i r found blocks → Some (BlockStart line turns) ≡ slice_get (items_of t) i → length blocks < 32
 counting-room {X} {g} t i r found blocks line turns h got =
     gathering-room g t from_start i (record { place = r; found = found }) blocks line turns h.passing got
 
-pub counting-begins : {X : Type 0} {g : Gathering ℕ X} {Within : ℕ → X → Type 0} (t : Tree) (i r : ℕ) (found : List X) (blocks : List (OpenBlock (Mark ℕ))) (line turns : ℕ) → IsCounting g Within t i r found blocks → Some (Begins line turns) ≡ slice_get (items_of t) i → IsCounting g Within t (i + 1) r found (blocks ++ opened turns (record { place = r; found = length found }) ∷ [])
+pub counting-begins : {X : Type 0} {g : Gathering ℕ X} {Within : ℕ → X → Type 0} (t : Tree) (i r : ℕ) (found : List X) (blocks : List (OpenBlock (Mark ℕ))) (line turns : ℕ) → IsCounting g Within t i r found blocks → Some (BlockStart line turns) ≡ slice_get (items_of t) i → IsCounting g Within t (i + 1) r found (blocks ++ opened turns (record { place = r; found = length found }) ∷ [])
 counting-begins {X} {g} t i r found blocks line turns h got =
     record {
       circuit = h.circuit;
@@ -132,7 +132,7 @@ counting-begins {X} {g} t i r found blocks line turns h got =
       within = h.within;
     }
 
-pub counting-some : {X : Type 0} {g : Gathering ℕ X} {Within : ℕ → X → Type 0} (t : Tree) (i r : ℕ) (found : List X) (blocks : List (OpenBlock (Mark ℕ))) → IsCounting g Within t i r found blocks → Some Ends ≡ slice_get (items_of t) i → 0 < length blocks
+pub counting-some : {X : Type 0} {g : Gathering ℕ X} {Within : ℕ → X → Type 0} (t : Tree) (i r : ℕ) (found : List X) (blocks : List (OpenBlock (Mark ℕ))) → IsCounting g Within t i r found blocks → Some BlockEnd ≡ slice_get (items_of t) i → 0 < length blocks
 counting-some {X} {g} t i r found blocks h got = gathering-some g t from_start i (record { place = r; found = found }) blocks h.passing got
 
 -- a block was the last of those that were open, and its later turns are so many, each of so many records
@@ -145,7 +145,7 @@ pub record HasPopped (blocks rest : List (OpenBlock (Mark ℕ))) (popped : Optio
 abbrev pub with_turns : {X : Type 0} → (ℕ → X → X) → OpenBlock (Mark ℕ) → ℕ → ℕ → List X → List X
 with_turns shift block n by found = found ++ later (λ k. shift (k * by)) n (drop block.before.found found)
 
-pub counting-ends : {X : Type 0} {g : Gathering ℕ X} {shift : ℕ → X → X} {Within : ℕ → X → Type 0} → CountsRecords g shift Within → (t : Tree) (i r : ℕ) (found : List X) (blocks rest : List (OpenBlock (Mark ℕ))) (popped : Option (OpenBlock (Mark ℕ))) (block : OpenBlock (Mark ℕ)) (n by : ℕ) → IsCounting g Within t i r found blocks → Some Ends ≡ slice_get (items_of t) i → HasPopped blocks rest popped block r n by → IsCounting g Within t (i + 1) (r + n * by) (with_turns shift block n by found) rest
+pub counting-ends : {X : Type 0} {g : Gathering ℕ X} {shift : ℕ → X → X} {Within : ℕ → X → Type 0} → CountsRecords g shift Within → (t : Tree) (i r : ℕ) (found : List X) (blocks rest : List (OpenBlock (Mark ℕ))) (popped : Option (OpenBlock (Mark ℕ))) (block : OpenBlock (Mark ℕ)) (n by : ℕ) → IsCounting g Within t i r found blocks → Some BlockEnd ≡ slice_get (items_of t) i → HasPopped blocks rest popped block r n by → IsCounting g Within t (i + 1) (r + n * by) (with_turns shift block n by found) rest
 counting-ends {X} {g} {shift} {Within} law t i r found blocks rest popped block n by h got p =
     let last : blocks ≡ rest ++ block ∷ [] = p.rest_is ∙ ap (λ (o : Option (OpenBlock (Mark ℕ))). rest ++ option_to_list o) p.block_is in
     let left = drop block.before.found found in
@@ -166,7 +166,7 @@ counting-ends {X} {g} {shift} {Within} law t i r found blocks rest popped block 
           (later-within law n r by left (All-drop (Within r) block.before.found found h.within));
     }
 
-pub counting-ends_few : {X : Type 0} {g : Gathering ℕ X} {shift : ℕ → X → X} {Within : ℕ → X → Type 0} → CountsRecords g shift Within → (t : Tree) (i r : ℕ) (found : List X) (blocks rest : List (OpenBlock (Mark ℕ))) (popped : Option (OpenBlock (Mark ℕ))) (block : OpenBlock (Mark ℕ)) (n by : ℕ) → IsCounting g Within t i r found blocks → Some Ends ≡ slice_get (items_of t) i → HasPopped blocks rest popped block r n by → r + n * by ≤ record_total t
+pub counting-ends_few : {X : Type 0} {g : Gathering ℕ X} {shift : ℕ → X → X} {Within : ℕ → X → Type 0} → CountsRecords g shift Within → (t : Tree) (i r : ℕ) (found : List X) (blocks rest : List (OpenBlock (Mark ℕ))) (popped : Option (OpenBlock (Mark ℕ))) (block : OpenBlock (Mark ℕ)) (n by : ℕ) → IsCounting g Within t i r found blocks → Some BlockEnd ≡ slice_get (items_of t) i → HasPopped blocks rest popped block r n by → r + n * by ≤ record_total t
 counting-ends_few {X} {g} {shift} law t i r found blocks rest popped block n by h got p =
     counting-few law t (i + 1) (r + n * by) (with_turns shift block n by found) rest (counting-ends law t i r found blocks rest popped block n by h got p)
 

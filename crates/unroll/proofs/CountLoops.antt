@@ -2,7 +2,7 @@
 use Rattle.std.proofs.Common.{◌≡◌, ℕ, zero, suc, ◌+◌, ◌-◌, ◌*◌, ◌<◌, ◌≤◌, ℤ, pos, neg_ℤ, ◌+ℤ◌, List, [], ◌∷◌, ◌++◌, length, get_or, set, take, drop, refl, sym, ap, ◌∙◌, arith}
 use Rattle.std.specs.Prelude.{◌^◌, All, min}
 use Rattle.std.proofs.lemmas.List.{take_more}
-use Rattle.unroll.specs.Placing.{added_by, moved_to, moved_up, raised_by, turned_by}
+use Rattle.unroll.specs.private.Placing.{added_by, moved_to, moved_up, raised_by, turned_by}
 use Rattle.unroll.proofs.OffsetLemmas.{length-down, length-up, raised-none}
 
 -- ---- more added

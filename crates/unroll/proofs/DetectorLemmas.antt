@@ -3,7 +3,7 @@ use Rattle.std.proofs.Common.{◌≡◌, ℕ, ◌+◌, ◌-◌, ◌<◌, ◌≤�
 use Rattle.std.specs.Prelude.{All}
 use Rattle.std.proofs.lemmas.List.Elements.{All-cons, All-map, All-nil, All-weaker}
 use Rattle.stim_parser.specs.declared.operation.Operation.{Operation}
-use Rattle.stim_parser.specs.declared.operation.Operation.TheVariants.{Detects}
+use Rattle.stim_parser.specs.declared.operation.Operation.TheVariants.{DetectorDeclaration}
 use Rattle.stim_parser.specs.declared.target.Target.{Target}
 use Rattle.stim_parser.specs.declared.target.Target.TheVariants.{Back}
 use Rattle.stim_parser.specs.Trees.{Tree}
@@ -11,11 +11,11 @@ use Rattle.stim_parser.specs.Judged.{items_of}
 use Rattle.stim_parser.specs.Verdicts.{Instruction}
 use Rattle.block_text.specs.declared.blocks.OpenBlock.{OpenBlock}
 use Rattle.unroll.specs.declared.marks.Mark.{Mark}
-use Rattle.unroll.specs.Detecting.{detecting, records_moved}
-use Rattle.unroll.specs.Detectors.{detectors_from, detectors_of}
+use Rattle.unroll.specs.private.Detecting.{detecting, records_moved}
+use Rattle.unroll.specs.private.Detectors.{detectors_from, detectors_of}
 use Rattle.unroll.specs.TargetsMade.{operation_detectors, record_named, records_named}
 use Rattle.block_text.specs.Reached.{reached}
-use Rattle.unroll.specs.Gathered.{given}
+use Rattle.unroll.specs.private.Gathered.{given}
 use Rattle.unroll.proofs.CountLemmas.{CountsRecords, IsCounting, counting-done}
 use Rattle.unroll.proofs.RecordLemmas.{AreBack, IsNear}
 
@@ -38,11 +38,11 @@ abbrev pub IsWithin : ℕ → List ℕ → Type 0
 IsWithin r records = All (λ n. n ≤ r) records
 
 detectors-moved : (r d : ℕ) (o : Operation) (ts : List Target) → IsNear r o ts → operation_detectors (r + d) o ts ≡ map (records_moved d) (operation_detectors r o ts)
-detectors-moved r d Detects ts h = ap (λ xs. xs ∷ []) (named-moved r d ts h)
+detectors-moved r d DetectorDeclaration ts h = ap (λ xs. xs ∷ []) (named-moved r d ts h)
 detectors-moved r d o ts h = refl
 
 detectors-within : (r : ℕ) (o : Operation) (ts : List Target) → All (IsWithin r) (operation_detectors r o ts)
-detectors-within r Detects ts =
+detectors-within r DetectorDeclaration ts =
     All-cons (IsWithin r) (records_named r ts) [] (All-map (λ n. n ≤ r) (record_named r) ts (λ j d lt. named-within r (get_or ts j d))) (All-nil (IsWithin r))
 detectors-within r o ts = All-nil (IsWithin r)
 

@@ -9,17 +9,17 @@ use Rattle.step_model.specs.declared.step.Term.{Term}
 use Rattle.programs.specs.Kept.{Kept}
 use Rattle.stim_parser.specs.Circuits.{Fits, IsCircuit}
 use Rattle.stim_parser.specs.Texts.{Item}
-use Rattle.block_text.specs.Trees.{Does, Begins, Ends}
+use Rattle.block_text.specs.Trees.{InstructionLine, BlockStart, BlockEnd}
 use Rattle.stim_parser.specs.Trees.{Tree}
 use Rattle.stim_parser.specs.Judged.{items_of}
 use Rattle.stim_parser.specs.Verdicts.{Instruction}
-use Rattle.unroll.specs.Drafts.{CanWrite, Draft, Writes}
-use Rattle.unroll.specs.Kept.{entries_of, kept_entries, kept_products, products_in}
-use Rattle.unroll.specs.Pushed.{IsSmall}
-use Rattle.unroll.specs.Counted.{first_far_from}
-use Rattle.unroll.specs.Steps.{steps_of}
+use Rattle.unroll.specs.private.Drafts.{CanWrite, Draft, Writes}
+use Rattle.unroll.specs.private.Kept.{entries_of, kept_entries, kept_products, products_in}
+use Rattle.unroll.specs.private.Pushed.{IsSmall}
+use Rattle.unroll.specs.private.Counted.{first_far_from}
+use Rattle.unroll.specs.private.Steps.{steps_of}
 use Rattle.unroll.specs.Totals.{step_total}
-use Rattle.unroll.specs.MadeTotals.{record_total}
+use Rattle.unroll.specs.private.MadeTotals.{record_total}
 use Rattle.unroll.proofs.FarLemmas.{AreNear, EachDoes, each-tree, near_tree}
 use Rattle.unroll.proofs.FitLemmas.{qubits_within}
 use Rattle.unroll.proofs.ItemLemmas.{drop_next, each-next, each_sound}
@@ -36,18 +36,18 @@ nothing_drafted = record { outer = []; here = []; entries = []; products = [] }
 abbrev pub finished : List Item → Draft → Written
 finished items d = written_from items (reverse d.outer) d.here d.entries d.products
 
-finished-ends : (items : List Item) (outer : List OpenBlock) (b : OpenBlock) (here : List TextStep) (ks : List Kept) (ps : List (List Term)) → finished (Ends ∷ items) (record { outer = outer ++ b ∷ []; here = here; entries = ks; products = ps }) ≡ finished items (record { outer = outer; here = b.before ++ repeated b.turns here; entries = ks; products = ps })
+finished-ends : (items : List Item) (outer : List OpenBlock) (b : OpenBlock) (here : List TextStep) (ks : List Kept) (ps : List (List Term)) → finished (BlockEnd ∷ items) (record { outer = outer ++ b ∷ []; here = here; entries = ks; products = ps }) ≡ finished items (record { outer = outer; here = b.before ++ repeated b.turns here; entries = ks; products = ps })
 finished-ends items outer b here ks ps = rw (reverse-append outer (b ∷ [])) refl
 
 -- the items left make the same of a draft with an item more as with the item itself
 finished-next : (item : Item) (items : List Item) (d d' : Draft) → Writes item d d' → finished (item ∷ items) d ≡ finished items d'
-finished-next (Does i) items d d' h = sym (ap (finished items) h)
-finished-next (Begins line turns) items d d' h =
+finished-next (InstructionLine i) items d d' h = sym (ap (finished items) h)
+finished-next (BlockStart line turns) items d d' h =
     let b : OpenBlock = record { before = d.here; turns = turns } in
     ap (λ (outer : List OpenBlock). written_from items outer [] d.entries d.products) (sym (reverse-append d.outer (b ∷ [])))
     ∙ sym (ap (finished items) h)
-finished-next Ends items d d' h =
-    ap (λ (outer : List OpenBlock). written_from (Ends ∷ items) (reverse outer) d.here d.entries d.products) h.outer
+finished-next BlockEnd items d d' h =
+    ap (λ (outer : List OpenBlock). written_from (BlockEnd ∷ items) (reverse outer) d.here d.entries d.products) h.outer
     ∙ finished-ends items d'.outer h.last d.here d.entries d.products
     ∙ ap (λ (here : List TextStep). written_from items (reverse d'.outer) here d.entries d.products) (sym h.here)
     ∙ ap (λ (ks : List Kept). written_from items (reverse d'.outer) d'.here ks d.products) (sym h.entries)
@@ -56,14 +56,14 @@ finished-next Ends items d d' h =
 -- ---- blocks
 
 whole-next : (item : Item) (items : List Item) (d d' : Draft) → Writes item d d' → AreWhole (item ∷ items) (length d.outer) → AreWhole items (length d'.outer)
-whole-next (Does i) items d d' h whole = subst (λ (x : Draft). AreWhole items (length x.outer)) (sym h) whole.1
-whole-next (Begins line turns) items d d' h whole =
+whole-next (InstructionLine i) items d d' h whole = subst (λ (x : Draft). AreWhole items (length x.outer)) (sym h) whole.1
+whole-next (BlockStart line turns) items d d' h whole =
     subst (AreWhole items)
     (sym (ap (λ (x : Draft). length x.outer) h ∙ length-append d.outer (record { before = d.here; turns = turns } ∷ []) ∙ omega arith))
     whole.2
-whole-next Ends items d d' h whole =
+whole-next BlockEnd items d d' h whole =
     let e : length d.outer ≡ suc (length d'.outer) = ap length h.outer ∙ length-append d'.outer (h.last ∷ []) ∙ omega arith in
-    subst (λ n. AreWhole (Ends ∷ items) n) e whole
+    subst (λ n. AreWhole (BlockEnd ∷ items) n) e whole
 
 -- ---- small targets
 
@@ -76,9 +76,9 @@ small_targets n i few fits near =
 
 small_items : (n : ℕ) (items : List Item) → n < 2 ^ 32 → EachDoes Fits items → EachDoes (AreNear n) items → EachDoes AreSmall items
 small_items n [] few fits near = tt
-small_items n (Does i ∷ items) few fits near = (small_targets n i few fits.0 near.0, small_items n items few fits.1 near.1)
-small_items n (Begins line turns ∷ items) few fits near = small_items n items few fits near
-small_items n (Ends ∷ items) few fits near = small_items n items few fits near
+small_items n (InstructionLine i ∷ items) few fits near = (small_targets n i few fits.0 near.0, small_items n items few fits.1 near.1)
+small_items n (BlockStart line turns ∷ items) few fits near = small_items n items few fits near
+small_items n (BlockEnd ∷ items) few fits near = small_items n items few fits near
 
 small_tree : (t : Tree) → IsCircuit t → first_far_from 0 t ≡ None → record_total t < 2 ^ 32 → EachDoes AreSmall (items_of t)
 small_tree t circuit near few =
@@ -93,35 +93,35 @@ pub record AreFew (n : ℕ) (items : List Item) (d : Draft) : Type 0 where
   pub products : length d.products + counted_once items ≤ n
 
 few-next : (n : ℕ) (item : Item) (items : List Item) (d d' : Draft) → Writes item d d' → AreFew n (item ∷ items) d → AreFew n items d'
-few-next n (Does i) items d d' h few =
+few-next n (InstructionLine i) items d d' h few =
     record {
       entries =
           omega (arith, ap (λ (x : Draft). length x.entries) h, length-append d.entries (entries_of i), few_entries i, few.entries);
       products =
           omega (arith, ap (λ (x : Draft). length x.products) h, length-append d.products (products_in i), few_products i, few.products);
     }
-few-next n (Begins line turns) items d d' h few =
+few-next n (BlockStart line turns) items d d' h few =
     record {
       entries = omega (arith, ap (λ (x : Draft). length x.entries) h, few.entries);
       products = omega (arith, ap (λ (x : Draft). length x.products) h, few.products);
     }
-few-next n Ends items d d' h few =
+few-next n BlockEnd items d d' h few =
     record {
       entries = omega (arith, ap length h.entries, few.entries);
       products = omega (arith, ap length h.products, few.products);
     }
 
 can_write : (n : ℕ) (item : Item) (items : List Item) (d : Draft) → n < 2 ^ 32 → AreWhole (item ∷ items) (length d.outer) → EachDoes AreSmall (item ∷ items) → AreFew n (item ∷ items) d → CanWrite item d
-can_write n (Does i) items d room whole small few =
+can_write n (InstructionLine i) items d room whole small few =
     record {
       small = small.0;
       entries = omega (arith, few.entries, room);
       products = omega (arith, few.products, room);
     }
-can_write n (Begins line turns) items d room whole small few = (whole.0, whole.1)
-can_write n Ends items d room whole small few = some_open (length d.outer) whole
+can_write n (BlockStart line turns) items d room whole small few = (whole.0, whole.1)
+can_write n BlockEnd items d room whole small few = some_open (length d.outer) whole
   where
-    some_open : (depth : ℕ) → AreWhole (Ends ∷ items) depth → 0 < depth
+    some_open : (depth : ℕ) → AreWhole (BlockEnd ∷ items) depth → 0 < depth
     some_open zero whole = absurd whole
     some_open (suc depth) whole = omega arith
 

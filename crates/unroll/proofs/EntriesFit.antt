@@ -11,18 +11,18 @@ use Rattle.step_model.specs.declared.step.Term.{Term}
 use Rattle.step_model.specs.Probabilities.{probability_bound}
 use Rattle.step_model.specs.WellFormed.{TermsFit}
 use Rattle.stim_parser.specs.declared.operation.Operation.{Operation}
-use Rattle.stim_parser.specs.declared.operation.Operation.TheVariants.{Measures, MeasuresAndResets, MeasuresProducts, Errs, ErrsTogether}
+use Rattle.stim_parser.specs.declared.operation.Operation.TheVariants.{Measurement, MeasurementReset, ProductMeasurement, PauliError, CorrelatedError}
 use Rattle.stim_parser.specs.declared.target.Target.{Target}
 use Rattle.stim_parser.specs.declared.target.Target.TheVariants.{Plain, Pauli}
 use Rattle.stim_parser.specs.Circuits.{IsCircuit}
-use Rattle.stim_parser.specs.Products.{is_factor}
+use Rattle.stim_parser.specs.private.Products.{is_factor}
 use Rattle.stim_parser.specs.Limits.{are_of_form, has_wrong_arguments, has_wrong_probability, is_pauli, is_plain, is_probability, qubit_of}
 use Rattle.stim_parser.specs.Trees.{Tree}
 use Rattle.stim_parser.specs.Verdicts.{Instruction}
-use Rattle.unroll.specs.Kept.{entries_of, entry_at, entry_of, flip_entries, kept_entries, operation_entries}
+use Rattle.unroll.specs.private.Kept.{entries_of, entry_at, entry_of, flip_entries, kept_entries, operation_entries}
 use Rattle.unroll.specs.Targets.{term_at, term_of}
 use Rattle.unroll.specs.Totals.{qubits_to, qubit_total, first_argument}
-use Rattle.unroll.specs.MadeTotals.{qubits_named}
+use Rattle.unroll.specs.private.MadeTotals.{qubits_named}
 use Rattle.unroll.proofs.KeptParts.{all_parts}
 use Rattle.unroll.proofs.QubitsWithin.{FitsOn, circuit_fits_on}
 
@@ -93,13 +93,13 @@ errors_fit n l probability (t ∷ ts) h plain le =
 
 operation_fits : (n line : ℕ) (o : Operation) (arguments : List (List ℕ)) (ts : List Target) → FitsOn n (record { line = line; operation = o; arguments = arguments; targets = ts }) → All (EntryFits n) (operation_entries o arguments ts)
 unfolding has_wrong_arguments has_wrong_probability are_of_form
-operation_fits n line (Measures l) arguments ts h = flips_fit n arguments (not-false (list_all is_probability arguments) h.fits.probability)
-operation_fits n line (MeasuresAndResets l) arguments ts h = flips_fit n arguments (not-false (list_all is_probability arguments) h.fits.probability)
-operation_fits n line MeasuresProducts arguments ts h = flips_fit n arguments (not-false (list_all is_probability arguments) h.fits.probability)
-operation_fits n line (Errs l) arguments ts h =
+operation_fits n line (Measurement l) arguments ts h = flips_fit n arguments (not-false (list_all is_probability arguments) h.fits.probability)
+operation_fits n line (MeasurementReset l) arguments ts h = flips_fit n arguments (not-false (list_all is_probability arguments) h.fits.probability)
+operation_fits n line ProductMeasurement arguments ts h = flips_fit n arguments (not-false (list_all is_probability arguments) h.fits.probability)
+operation_fits n line (PauliError l) arguments ts h =
     let one = not-false (length arguments == 1) (or_parts (not (length arguments == 1)) _ h.fits.arguments).0 in
     errors_fit n l (first_argument arguments) ts (first_probable arguments one (not-false (list_all is_probability arguments) h.fits.probability)) h.fits.targets h.within
-operation_fits n line ErrsTogether arguments ts h =
+operation_fits n line CorrelatedError arguments ts h =
     let one = not-false (length arguments == 1) (or_parts (not (length arguments == 1)) _ h.fits.arguments).0 in
     All-cons (EntryFits n) (entry_of (map term_of ts) (first_argument arguments)) []
     (entry_fits n (map term_of ts) (first_argument arguments) (first_probable arguments one (not-false (list_all is_probability arguments) h.fits.probability)) (factors_fit n ts (pauli_factors ts h.fits.targets) h.within))

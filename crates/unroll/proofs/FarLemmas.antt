@@ -8,14 +8,14 @@ use Rattle.stim_parser.specs.declared.target.Target.TheVariants.{Back}
 use Rattle.stim_parser.specs.Circuits.{AllFit}
 use Rattle.stim_parser.specs.Texts.{Item}
 use Rattle.stim_parser.specs.Trees.{Tree}
-use Rattle.block_text.specs.Trees.{Nothing, Then, Block, Does, Begins, Ends}
+use Rattle.block_text.specs.Trees.{Nothing, Then, Block, InstructionLine, BlockStart, BlockEnd}
 use Rattle.stim_parser.specs.Judged.{items_of}
 use Rattle.stim_parser.specs.Verdicts.{Instruction}
 use Rattle.stim_parser.proofs.TargetNumbers.{none_passes}
-use Rattle.unroll.specs.Pushed.{back_of}
+use Rattle.unroll.specs.private.Pushed.{back_of}
 use Rattle.unroll.specs.Refusals.{is_far, reaches_far}
-use Rattle.unroll.specs.Counted.{first_far_from}
-use Rattle.unroll.specs.MadeTotals.{record_count}
+use Rattle.unroll.specs.private.Counted.{first_far_from}
+use Rattle.unroll.specs.private.MadeTotals.{record_count}
 use Rattle.block_text.specs.Reached.{total}
 
 -- ---- what holds of each instruction of a tree, and of items
@@ -27,16 +27,16 @@ EachOf P (Block line turns body rest) = EachOf P body × EachOf P rest
 
 abbrev pub EachDoes : (Instruction → Type 0) → List Item → Type 0
 EachDoes P [] = ⊤
-EachDoes P (Does i ∷ items) = P i × EachDoes P items
-EachDoes P (Begins line turns ∷ items) = EachDoes P items
-EachDoes P (Ends ∷ items) = EachDoes P items
+EachDoes P (InstructionLine i ∷ items) = P i × EachDoes P items
+EachDoes P (BlockStart line turns ∷ items) = EachDoes P items
+EachDoes P (BlockEnd ∷ items) = EachDoes P items
 
 each-items : (P : Instruction → Type 0) (t : Tree) (rest : List Item) → EachOf P t → EachDoes P rest → EachDoes P (items_of t ++ rest)
 each-items P Nothing rest h k = k
 each-items P (Then i t) rest h k = (h.0, each-items P t rest h.1 k)
 each-items P (Block line turns t u) rest h k =
-    subst (EachDoes P) (sym (append_assoc (items_of t) (Ends ∷ items_of u) rest))
-    (each-items P t (Ends ∷ (items_of u ++ rest)) h.0 (each-items P u rest h.1 k))
+    subst (EachDoes P) (sym (append_assoc (items_of t) (BlockEnd ∷ items_of u) rest))
+    (each-items P t (BlockEnd ∷ (items_of u ++ rest)) h.0 (each-items P u rest h.1 k))
 
 pub each-tree : (P : Instruction → Type 0) (t : Tree) → EachOf P t → EachDoes P (items_of t)
 each-tree P t h = subst (EachDoes P) (append-nil (items_of t)) (each-items P t [] h tt)

@@ -16,8 +16,8 @@ use Rattle.stim_parser.specs.Trees.{Tree}
 use Rattle.block_text.specs.Trees.{Nothing, Then, Block}
 use Rattle.stim_parser.specs.Verdicts.{Instruction}
 use Rattle.unroll.specs.Before.{Before}
-use Rattle.unroll.specs.Counted.{counts_many_detectors, counts_many_records, first_far_from, refusal_counted}
-use Rattle.unroll.specs.MadeTotals.{record_count, record_total}
+use Rattle.unroll.specs.private.Counted.{counts_many_detectors, counts_many_records, first_far_from, refusal_counted}
+use Rattle.unroll.specs.private.MadeTotals.{record_count, record_total}
 use Rattle.unroll.specs.Meaning.{after, at_start, listing_of, made_of}
 use Rattle.unroll.specs.Refusals.{first_beyond, first_far_line, has_many_detectors, has_many_records, has_many_steps, is_far, most_collapses, most_detectors, most_records, of_circuit, reaches_far, refusal_of}
 use Rattle.unroll.specs.Totals.{qubit_total}

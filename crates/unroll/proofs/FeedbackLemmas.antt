@@ -13,21 +13,21 @@ use Rattle.programs.specs.Numbering.{counts_after, counts_over, feeds_back, Feed
 use Rattle.programs.specs.Trees.{repeated}
 use Rattle.programs.proofs.Building.{FeedBack-append, FeedBack-repeated}
 use Rattle.stim_parser.specs.declared.operation.Operation.{Operation}
-use Rattle.stim_parser.specs.declared.operation.Operation.TheVariants.{Applies, Measures, Resets, MeasuresAndResets, MeasuresProducts, Errs, ErrsTogether}
+use Rattle.stim_parser.specs.declared.operation.Operation.TheVariants.{Applies, Measurement, QubitReset, MeasurementReset, ProductMeasurement, PauliError, CorrelatedError}
 use Rattle.stim_parser.specs.declared.target.Target.{Target}
 use Rattle.stim_parser.specs.declared.target.Target.TheVariants.{Back}
 use Rattle.stim_parser.specs.Circuits.{AllFit, Fits, IsCircuit, target_is_written}
 use Rattle.stim_parser.specs.Trees.{Tree}
 use Rattle.block_text.specs.Trees.{Nothing, Then, Block}
 use Rattle.stim_parser.specs.Verdicts.{Instruction}
-use Rattle.unroll.specs.Kept.{entries_of, kept_entries, kept_products, products_in}
-use Rattle.unroll.specs.Made.{fault_steps, measure_step, one_step, operation_steps, pair_step, pair_steps, product_steps, reset_step}
+use Rattle.unroll.specs.private.Kept.{entries_of, kept_entries, kept_products, products_in}
+use Rattle.unroll.specs.private.Made.{fault_steps, measure_step, one_step, operation_steps, pair_step, pair_steps, product_steps, reset_step}
 use Rattle.unroll.specs.StepsMade.{flip_of}
 use Rattle.stim_parser.specs.Limits.{products_of}
 use Rattle.unroll.specs.Refusals.{is_far, reaches_far}
-use Rattle.unroll.specs.Counted.{first_far_from}
-use Rattle.unroll.specs.Steps.{instruction_steps, steps_from, steps_of}
-use Rattle.unroll.specs.MadeTotals.{record_count}
+use Rattle.unroll.specs.private.Counted.{first_far_from}
+use Rattle.unroll.specs.private.Steps.{instruction_steps, steps_from, steps_of}
+use Rattle.unroll.specs.private.MadeTotals.{record_count}
 use Rattle.block_text.specs.Reached.{total}
 use Rattle.unroll.proofs.InstructionCounts.{instruction-records}
 use Rattle.unroll.proofs.RefusalLemmas.{neither, not_first}
@@ -94,12 +94,12 @@ faults-feed r e (t ∷ ts) =
 
 operation-feeds : (r : ℕ) (o : Operation) (e p : ℕ) (flip : Option ℕ) (ts : List Target) → All (IsThere r) ts → All (Feeds r) (operation_steps o e p flip ts)
 operation-feeds r (Applies g) e p flip ts h = gates-feed r (arity_of g == 1) g ts h
-operation-feeds r (Measures l) e p flip ts h = All-map (Feeds r) (measure_step l false flip) ts (λ k d lt c le. tt)
-operation-feeds r (Resets l) e p flip ts h = All-map (Feeds r) (reset_step l) ts (λ k d lt c le. tt)
-operation-feeds r (MeasuresAndResets l) e p flip ts h = All-map (Feeds r) (measure_step l true flip) ts (λ k d lt c le. tt)
-operation-feeds r MeasuresProducts e p flip ts h = products-feed r flip p (products_of ts)
-operation-feeds r (Errs l) e p flip ts h = faults-feed r e ts
-operation-feeds r ErrsTogether e p flip ts h = All-cons (Feeds r) (step.Fault e) [] (λ c le. tt) (All-nil (Feeds r))
+operation-feeds r (Measurement l) e p flip ts h = All-map (Feeds r) (measure_step l false flip) ts (λ k d lt c le. tt)
+operation-feeds r (QubitReset l) e p flip ts h = All-map (Feeds r) (reset_step l) ts (λ k d lt c le. tt)
+operation-feeds r (MeasurementReset l) e p flip ts h = All-map (Feeds r) (measure_step l true flip) ts (λ k d lt c le. tt)
+operation-feeds r ProductMeasurement e p flip ts h = products-feed r flip p (products_of ts)
+operation-feeds r (PauliError l) e p flip ts h = faults-feed r e ts
+operation-feeds r CorrelatedError e p flip ts h = All-cons (Feeds r) (step.Fault e) [] (λ c le. tt) (All-nil (Feeds r))
 operation-feeds r o e p flip ts h = All-nil (Feeds r)
 
 instruction-feeds : (r e p : ℕ) (i : Instruction) → Fits i → reaches_far r i.targets ≡ false → All (Feeds r) (instruction_steps e p i)

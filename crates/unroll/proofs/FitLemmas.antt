@@ -7,7 +7,7 @@ use Rattle.stim_parser.specs.declared.target.Target.TheVariants.{Plain, Inverted
 use Rattle.stim_parser.specs.Circuits.{Fits}
 use Rattle.stim_parser.specs.Verdicts.{Instruction}
 use Rattle.stim_parser.proofs.TargetNumbers.{IsWithin, targets_within}
-use Rattle.unroll.specs.Pushed.{back_of, IsSmall}
+use Rattle.unroll.specs.private.Pushed.{back_of, IsSmall}
 use Rattle.unroll.specs.Totals.{qubits_to}
 
 qubit_within : (t : Target) → IsWithin t → qubits_to t ≤ 4096

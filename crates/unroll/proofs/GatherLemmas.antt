@@ -6,14 +6,14 @@ use Rattle.std.proofs.lemmas.List.{reverse-append, drop_all, drop_at}
 use Rattle.stim_parser.specs.Circuits.{Fits, IsCircuit}
 use Rattle.stim_parser.specs.Texts.{Item}
 use Rattle.stim_parser.specs.Trees.{Tree}
-use Rattle.block_text.specs.Trees.{Nothing, Then, Block, Does, Begins, Ends}
+use Rattle.block_text.specs.Trees.{Nothing, Then, Block, InstructionLine, BlockStart, BlockEnd}
 use Rattle.stim_parser.specs.Judged.{items_of}
 use Rattle.stim_parser.specs.Verdicts.{Instruction}
 use Rattle.block_text.specs.declared.blocks.OpenBlock.{OpenBlock}
 use Rattle.unroll.specs.declared.marks.Mark.{Mark}
 use Rattle.block_text.specs.Reached.{copies, reached}
-use Rattle.unroll.specs.Gathered.{Gathered, Gathering, closed, gathering, given, later, mark_of, place_behind, stepped}
-use Rattle.unroll.specs.Passes.{behind, opened}
+use Rattle.unroll.specs.private.Gathered.{Gathered, Gathering, closed, gathering, given, later, mark_of, place_behind, stepped}
+use Rattle.unroll.specs.private.Passes.{behind, opened}
 use Rattle.unroll.proofs.PassLemmas.{AreWhole, can_stand, drop_got, whole-tree}
 
 -- ---- a list of instructions
@@ -88,17 +88,17 @@ gathered g (Block line turns body rest) s steady =
 -- the state behind items, where these blocks are open, the innermost first
 abbrev pub run : {P X : Type 0} → Gathering P X → List Item → List (OpenBlock (Mark P)) → Gathered P X → Gathered P X
 run g [] blocks s = s
-run g (Does i ∷ items) blocks s = run g items blocks (stepped g i s)
-run g (Begins line turns ∷ items) blocks s = run g items (opened turns (mark_of s) ∷ blocks) s
-run g (Ends ∷ items) [] s = s
-run g (Ends ∷ items) (block ∷ blocks) s = run g items blocks (closed g block.turns block.before s)
+run g (InstructionLine i ∷ items) blocks s = run g items blocks (stepped g i s)
+run g (BlockStart line turns ∷ items) blocks s = run g items (opened turns (mark_of s) ∷ blocks) s
+run g (BlockEnd ∷ items) [] s = s
+run g (BlockEnd ∷ items) (block ∷ blocks) s = run g items blocks (closed g block.turns block.before s)
 
 run-items : {P X : Type 0} (g : Gathering P X) (t : Tree) (rest : List Item) (blocks : List (OpenBlock (Mark P))) (s : Gathered P X) → run g (items_of t ++ rest) blocks s ≡ run g rest blocks (behind (gathering g) t s)
 run-items g Nothing rest blocks s = refl
 run-items g (Then i t) rest blocks s = run-items g t rest blocks (stepped g i s)
 run-items g (Block line turns t u) rest blocks s =
-    ap (λ (items : List Item). run g items (opened turns (mark_of s) ∷ blocks) s) (append_assoc (items_of t) (Ends ∷ items_of u) rest)
-    ∙ run-items g t (Ends ∷ (items_of u ++ rest)) (opened turns (mark_of s) ∷ blocks) s
+    ap (λ (items : List Item). run g items (opened turns (mark_of s) ∷ blocks) s) (append_assoc (items_of t) (BlockEnd ∷ items_of u) rest)
+    ∙ run-items g t (BlockEnd ∷ (items_of u ++ rest)) (opened turns (mark_of s) ∷ blocks) s
     ∙ run-items g u rest blocks (closed g turns (mark_of s) (behind (gathering g) t s))
 
 run-tree : {P X : Type 0} (g : Gathering P X) (t : Tree) (s : Gathered P X) → run g (items_of t) [] s ≡ behind (gathering g) t s
@@ -134,38 +134,38 @@ gathering-next g t start i j s blocks e left whole =
       whole = subst (λ (items : List Item). AreWhole items (length blocks)) (sym (next-items t i j e)) whole;
     }
 
-pub gathering-fits : {P X : Type 0} (g : Gathering P X) (t : Tree) (start : Gathered P X) (i : ℕ) (s : Gathered P X) (blocks : List (OpenBlock (Mark P))) (instruction : Instruction) → IsGathering g t start i s blocks → Some (Does instruction) ≡ slice_get (items_of t) i → Fits instruction
-gathering-fits g t start i s blocks instruction p got = (whole-here g t start i s blocks (Does instruction) p got).0
+pub gathering-fits : {P X : Type 0} (g : Gathering P X) (t : Tree) (start : Gathered P X) (i : ℕ) (s : Gathered P X) (blocks : List (OpenBlock (Mark P))) (instruction : Instruction) → IsGathering g t start i s blocks → Some (InstructionLine instruction) ≡ slice_get (items_of t) i → Fits instruction
+gathering-fits g t start i s blocks instruction p got = (whole-here g t start i s blocks (InstructionLine instruction) p got).0
 
-pub gathering-does : {P X : Type 0} (g : Gathering P X) (t : Tree) (start : Gathered P X) (i j : ℕ) (s : Gathered P X) (blocks : List (OpenBlock (Mark P))) (instruction : Instruction) → IsGathering g t start i s blocks → Some (Does instruction) ≡ slice_get (items_of t) i → j ≡ i + 1 → IsGathering g t start j (stepped g instruction s) blocks
+pub gathering-does : {P X : Type 0} (g : Gathering P X) (t : Tree) (start : Gathered P X) (i j : ℕ) (s : Gathered P X) (blocks : List (OpenBlock (Mark P))) (instruction : Instruction) → IsGathering g t start i s blocks → Some (InstructionLine instruction) ≡ slice_get (items_of t) i → j ≡ i + 1 → IsGathering g t start j (stepped g instruction s) blocks
 gathering-does g t start i j s blocks instruction p got e =
-    gathering-next g t start i j (stepped g instruction s) blocks e (left-here g t start i s blocks (Does instruction) p got)
-    (whole-here g t start i s blocks (Does instruction) p got).1
+    gathering-next g t start i j (stepped g instruction s) blocks e (left-here g t start i s blocks (InstructionLine instruction) p got)
+    (whole-here g t start i s blocks (InstructionLine instruction) p got).1
 
-pub gathering-room : {P X : Type 0} (g : Gathering P X) (t : Tree) (start : Gathered P X) (i : ℕ) (s : Gathered P X) (blocks : List (OpenBlock (Mark P))) (line turns : ℕ) → IsGathering g t start i s blocks → Some (Begins line turns) ≡ slice_get (items_of t) i → length blocks < 32
-gathering-room g t start i s blocks line turns p got = (whole-here g t start i s blocks (Begins line turns) p got).1
+pub gathering-room : {P X : Type 0} (g : Gathering P X) (t : Tree) (start : Gathered P X) (i : ℕ) (s : Gathered P X) (blocks : List (OpenBlock (Mark P))) (line turns : ℕ) → IsGathering g t start i s blocks → Some (BlockStart line turns) ≡ slice_get (items_of t) i → length blocks < 32
+gathering-room g t start i s blocks line turns p got = (whole-here g t start i s blocks (BlockStart line turns) p got).1
 
-pub gathering-begins : {P X : Type 0} (g : Gathering P X) (t : Tree) (start : Gathered P X) (i j : ℕ) (s : Gathered P X) (blocks : List (OpenBlock (Mark P))) (line turns : ℕ) → IsGathering g t start i s blocks → Some (Begins line turns) ≡ slice_get (items_of t) i → j ≡ i + 1 → IsGathering g t start j s (blocks ++ opened turns (mark_of s) ∷ [])
+pub gathering-begins : {P X : Type 0} (g : Gathering P X) (t : Tree) (start : Gathered P X) (i j : ℕ) (s : Gathered P X) (blocks : List (OpenBlock (Mark P))) (line turns : ℕ) → IsGathering g t start i s blocks → Some (BlockStart line turns) ≡ slice_get (items_of t) i → j ≡ i + 1 → IsGathering g t start j s (blocks ++ opened turns (mark_of s) ∷ [])
 gathering-begins g t start i j s blocks line turns p got e =
     let rest = drop (suc i) (items_of t) in
     gathering-next g t start i j s (blocks ++ opened turns (mark_of s) ∷ []) e
     (ap (λ (blocks : List (OpenBlock (Mark _))). run g rest blocks s) (reverse-append blocks (opened turns (mark_of s) ∷ []))
-    ∙ left-here g t start i s blocks (Begins line turns) p got)
+    ∙ left-here g t start i s blocks (BlockStart line turns) p got)
     (let more : suc (length blocks) ≡ length (blocks ++ opened turns (mark_of s) ∷ []) = omega (arith, length-append blocks (opened turns (mark_of s) ∷ [])) in
-    subst (AreWhole rest) more (whole-here g t start i s blocks (Begins line turns) p got).2)
+    subst (AreWhole rest) more (whole-here g t start i s blocks (BlockStart line turns) p got).2)
 
-pub gathering-some : {P X : Type 0} (g : Gathering P X) (t : Tree) (start : Gathered P X) (i : ℕ) (s : Gathered P X) (blocks : List (OpenBlock (Mark P))) → IsGathering g t start i s blocks → Some Ends ≡ slice_get (items_of t) i → 0 < length blocks
+pub gathering-some : {P X : Type 0} (g : Gathering P X) (t : Tree) (start : Gathered P X) (i : ℕ) (s : Gathered P X) (blocks : List (OpenBlock (Mark P))) → IsGathering g t start i s blocks → Some BlockEnd ≡ slice_get (items_of t) i → 0 < length blocks
 gathering-some g t start i s blocks p got =
-    can_stand Ends (drop (suc i) (items_of t)) (length blocks) (whole-here g t start i s blocks Ends p got)
+    can_stand BlockEnd (drop (suc i) (items_of t)) (length blocks) (whole-here g t start i s blocks BlockEnd p got)
 
-pub gathering-ends : {P X : Type 0} (g : Gathering P X) (t : Tree) (start : Gathered P X) (i j : ℕ) (s : Gathered P X) (blocks rest : List (OpenBlock (Mark P))) (last : OpenBlock (Mark P)) → IsGathering g t start i s blocks → Some Ends ≡ slice_get (items_of t) i → blocks ≡ rest ++ last ∷ [] → j ≡ i + 1 → IsGathering g t start j (closed g last.turns last.before s) rest
+pub gathering-ends : {P X : Type 0} (g : Gathering P X) (t : Tree) (start : Gathered P X) (i j : ℕ) (s : Gathered P X) (blocks rest : List (OpenBlock (Mark P))) (last : OpenBlock (Mark P)) → IsGathering g t start i s blocks → Some BlockEnd ≡ slice_get (items_of t) i → blocks ≡ rest ++ last ∷ [] → j ≡ i + 1 → IsGathering g t start j (closed g last.turns last.before s) rest
 gathering-ends g t start i j s blocks rest last p got o e =
     let items = drop (suc i) (items_of t) in
     let turned : reverse blocks ≡ last ∷ reverse rest = ap reverse o ∙ reverse-append rest (last ∷ []) in
     let count : length blocks ≡ suc (length rest) = ap length o ∙ length-append rest (last ∷ []) ∙ omega arith in
     gathering-next g t start i j (closed g last.turns last.before s) rest e
-    (sym (ap (λ (blocks : List (OpenBlock (Mark _))). run g (Ends ∷ items) blocks s) turned) ∙ left-here g t start i s blocks Ends p got)
-    (subst (AreWhole (Ends ∷ items)) count (whole-here g t start i s blocks Ends p got))
+    (sym (ap (λ (blocks : List (OpenBlock (Mark _))). run g (BlockEnd ∷ items) blocks s) turned) ∙ left-here g t start i s blocks BlockEnd p got)
+    (subst (AreWhole (BlockEnd ∷ items)) count (whole-here g t start i s blocks BlockEnd p got))
 
 pub gathering-done : {P X : Type 0} (g : Gathering P X) (t : Tree) (start : Gathered P X) (i : ℕ) (s : Gathered P X) (blocks : List (OpenBlock (Mark P))) → IsGathering g t start i s blocks → length (items_of t) ≤ i → s ≡ behind (gathering g) t start
 gathering-done g t start i s blocks p h =
@@ -179,11 +179,11 @@ pub record Rises {P X : Type 0} (g : Gathering P X) (size : P → ℕ) : Type 0 
 
 run-rises : {P X : Type 0} (g : Gathering P X) (size : P → ℕ) (items : List Item) (blocks : List (OpenBlock (Mark P))) (s : Gathered P X) → Rises g size → size s.place ≤ size (run g items blocks s).place
 run-rises g size [] blocks s up = omega arith
-run-rises g size (Does i ∷ items) blocks s up =
+run-rises g size (InstructionLine i ∷ items) blocks s up =
     omega (arith, up.next s.place i, run-rises g size items blocks (stepped g i s) up)
-run-rises g size (Begins line turns ∷ items) blocks s up = run-rises g size items (opened turns (mark_of s) ∷ blocks) s up
-run-rises g size (Ends ∷ items) [] s up = omega arith
-run-rises g size (Ends ∷ items) (block ∷ blocks) s up =
+run-rises g size (BlockStart line turns ∷ items) blocks s up = run-rises g size items (opened turns (mark_of s) ∷ blocks) s up
+run-rises g size (BlockEnd ∷ items) [] s up = omega arith
+run-rises g size (BlockEnd ∷ items) (block ∷ blocks) s up =
     omega (arith, up.onward block.turns block.before.place s.place, run-rises g size items blocks (closed g block.turns block.before s) up)
 
 pub gathering-rises : {P X : Type 0} (g : Gathering P X) (size : P → ℕ) (t : Tree) (start : Gathered P X) (i : ℕ) (s : Gathered P X) (blocks : List (OpenBlock (Mark P))) → Rises g size → IsGathering g t start i s blocks → size s.place ≤ size (behind (gathering g) t start).place

@@ -3,11 +3,11 @@ use Rattle.std.proofs.Common.{◌≡◌, ℕ, ◌+◌, ◌-◌, ◌<◌, ◌≤�
 use Rattle.std.specs.Prelude.{All}
 use Rattle.std.proofs.lemmas.List.Elements.{All-map, All-nil, All-weaker}
 use Rattle.stim_parser.specs.declared.operation.Operation.{Operation}
-use Rattle.stim_parser.specs.declared.operation.Operation.TheVariants.{Observes}
+use Rattle.stim_parser.specs.declared.operation.Operation.TheVariants.{ObservableInclude}
 use Rattle.stim_parser.specs.declared.target.Target.{Target}
 use Rattle.stim_parser.specs.declared.target.Target.TheVariants.{Back}
 use Rattle.unroll.specs.declared.inclusions.Inclusion.{Inclusion}
-use Rattle.unroll.specs.Including.{including, inclusion_moved, inclusion_of, observable_named, operation_inclusions}
+use Rattle.unroll.specs.private.Including.{including, inclusion_moved, inclusion_of, observable_named, operation_inclusions}
 use Rattle.unroll.proofs.CountLemmas.{CountsRecords}
 use Rattle.unroll.proofs.DetectorLemmas.{named-within}
 use Rattle.unroll.proofs.RecordLemmas.{AreBack, IsNear}
@@ -23,11 +23,11 @@ each-moved k r d (Back n ∷ ts) h =
 each-moved k r d (t ∷ ts) h = absurd h
 
 inclusions-moved : (r d : ℕ) (o : Operation) (arguments : List (List ℕ)) (ts : List Target) → IsNear r o ts → operation_inclusions (r + d) o arguments ts ≡ map (inclusion_moved d) (operation_inclusions r o arguments ts)
-inclusions-moved r d Observes arguments ts h = each-moved (observable_named arguments) r d ts h
+inclusions-moved r d ObservableInclude arguments ts h = each-moved (observable_named arguments) r d ts h
 inclusions-moved r d o arguments ts h = refl
 
 inclusions-within : (r : ℕ) (o : Operation) (arguments : List (List ℕ)) (ts : List Target) → All (IsIncluded r) (operation_inclusions r o arguments ts)
-inclusions-within r Observes arguments ts =
+inclusions-within r ObservableInclude arguments ts =
     All-map (IsIncluded r) (inclusion_of (observable_named arguments) r) ts (λ j d lt. named-within r (get_or ts j d))
 inclusions-within r o arguments ts = All-nil (IsIncluded r)
 

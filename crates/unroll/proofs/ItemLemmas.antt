@@ -5,13 +5,13 @@ use Rattle.std.proofs.lemmas.List.{drop_all}
 use Rattle.stim_parser.specs.Circuits.{AllFit, Fits, IsCircuit}
 use Rattle.stim_parser.specs.Texts.{Item}
 use Rattle.stim_parser.specs.Trees.{Tree}
-use Rattle.block_text.specs.Trees.{Nothing, Then, Block, Does, Begins, Ends}
+use Rattle.block_text.specs.Trees.{Nothing, Then, Block, InstructionLine, BlockStart, BlockEnd}
 use Rattle.stim_parser.specs.Judged.{items_of}
 use Rattle.stim_parser.specs.Verdicts.{Instruction}
 use Rattle.block_text.specs.Reached.{written}
-use Rattle.unroll.specs.Items.{instructions_in, item_qubits, IsSound}
+use Rattle.unroll.specs.private.Items.{instructions_in, item_qubits, IsSound}
 use Rattle.unroll.specs.Totals.{qubit_total}
-use Rattle.unroll.specs.MadeTotals.{qubits_over}
+use Rattle.unroll.specs.private.MadeTotals.{qubits_over}
 use Rattle.unroll.proofs.FarLemmas.{EachDoes, EachOf, each-tree}
 use Rattle.unroll.proofs.PassLemmas.{drop_got}
 
@@ -19,8 +19,8 @@ instructions_in-more : (t : Tree) (rest : List Item) → instructions_in (items_
 instructions_in-more Nothing rest = refl
 instructions_in-more (Then i t) rest = ap (λ (is : List Instruction). i ∷ is) (instructions_in-more t rest)
 instructions_in-more (Block line turns t u) rest =
-    ap instructions_in (append_assoc (items_of t) (Ends ∷ items_of u) rest)
-    ∙ instructions_in-more t (Ends ∷ (items_of u ++ rest))
+    ap instructions_in (append_assoc (items_of t) (BlockEnd ∷ items_of u) rest)
+    ∙ instructions_in-more t (BlockEnd ∷ (items_of u ++ rest))
     ∙ ap (λ (is : List Instruction). written t ++ is) (instructions_in-more u rest)
     ∙ sym (append_assoc (written t) (written u) (instructions_in rest))
 
@@ -39,14 +39,14 @@ each_sound t circuit = each-tree Fits t (each_fits t circuit.fit)
 -- ---- one item at a time
 
 pub each-next : (P : Instruction → Type 0) (item : Item) (items : List Item) → EachDoes P (item ∷ items) → EachDoes P items
-each-next P (Does i) items h = h.1
-each-next P (Begins line turns) items h = h
-each-next P Ends items h = h
+each-next P (InstructionLine i) items h = h.1
+each-next P (BlockStart line turns) items h = h
+each-next P BlockEnd items h = h
 
 pub sound_of : (item : Item) (items : List Item) → EachDoes Fits (item ∷ items) → IsSound item
-sound_of (Does i) items h = h.0
-sound_of (Begins line turns) items h = tt
-sound_of Ends items h = tt
+sound_of (InstructionLine i) items h = h.0
+sound_of (BlockStart line turns) items h = tt
+sound_of BlockEnd items h = tt
 
 -- each instruction that is left fits
 abbrev pub FitsFrom : Tree → ℕ → Type 0
@@ -80,9 +80,9 @@ abbrev pub qubits_from : Tree → ℕ → ℕ
 qubits_from t i = qubits_over (instructions_in (drop i (items_of t)))
 
 qubits-more : (item : Item) (items : List Item) → qubits_over (instructions_in (item ∷ items)) ≡ max (item_qubits item) (qubits_over (instructions_in items))
-qubits-more (Does i) items = refl
-qubits-more (Begins line turns) items = omega arith
-qubits-more Ends items = omega arith
+qubits-more (InstructionLine i) items = refl
+qubits-more (BlockStart line turns) items = omega arith
+qubits-more BlockEnd items = omega arith
 
 pub qubits_first : (t : Tree) → qubits_from t 0 ≡ qubit_total t
 qubits_first t = ap qubits_over (instructions_in-tree t)

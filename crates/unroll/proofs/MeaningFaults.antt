@@ -14,14 +14,14 @@ use Rattle.programs.specs.Listed.{entry_at, fault_of, made_faults, step_made_fau
 use Rattle.programs.specs.Numbering.{counts_after}
 use Rattle.step_model.specs.Listing.{ListedFault, Effect, Applies, Flips}
 use Rattle.stim_parser.specs.declared.operation.Operation.{Operation}
-use Rattle.stim_parser.specs.declared.operation.Operation.TheVariants.{Applies as Gates, Measures, Resets, MeasuresAndResets, MeasuresProducts, Errs, ErrsTogether}
+use Rattle.stim_parser.specs.declared.operation.Operation.TheVariants.{Applies as Gates, Measurement, QubitReset, MeasurementReset, ProductMeasurement, PauliError, CorrelatedError}
 use Rattle.stim_parser.specs.declared.target.Target.{Target}
 use Rattle.stim_parser.specs.Verdicts.{Instruction}
 use Rattle.unroll.specs.FaultsMade.{fault_with, faults_made, flips_made}
-use Rattle.unroll.specs.Kept.{entry_of, flip_entries, operation_entries}
-use Rattle.unroll.specs.Kept as kept
-use Rattle.unroll.specs.Made.{fault_steps, measure_step, one_step, operation_steps, pair_step, pair_steps, paired, product_steps, record_back, recording, reset_step}
-use Rattle.unroll.specs.MadeTotals.{fault_count, faults_counted, record_count, records_made}
+use Rattle.unroll.specs.private.Kept.{entry_of, flip_entries, operation_entries}
+use Rattle.unroll.specs.private.Kept as kept
+use Rattle.unroll.specs.private.Made.{fault_steps, measure_step, one_step, operation_steps, pair_step, pair_steps, paired, product_steps, record_back, recording, reset_step}
+use Rattle.unroll.specs.private.MadeTotals.{fault_count, faults_counted, record_count, records_made}
 use Rattle.unroll.specs.StepsMade.{flip_of}
 use Rattle.unroll.specs.Targets.{is_product_inverted, term_at, term_of}
 use Rattle.stim_parser.specs.Limits.{products_of}
@@ -100,7 +100,7 @@ module _ (ks : List Kept) where
       (fault-here e x (Applies (entry_at ks e).terms) here ∙ ap (λ (k : Kept). fault_with arguments (Applies k.terms)) here)
       (errors (counts_after c (step.Fault e)) (e + 1) arguments l ts (stands_behind ks e (x ∷ []) xs stands))
 
-  together : (e : ℕ) (arguments : List (List ℕ)) (ts : List Target) → StandsAt ks e (operation_entries ErrsTogether arguments ts) → fault_of ks e (Applies (entry_at ks e).terms) ≡ fault_with arguments (Applies (map term_of ts))
+  together : (e : ℕ) (arguments : List (List ℕ)) (ts : List Target) → StandsAt ks e (operation_entries CorrelatedError arguments ts) → fault_of ks e (Applies (entry_at ks e).terms) ≡ fault_with arguments (Applies (map term_of ts))
   together e arguments ts stands =
       let x = entry_of (map term_of ts) (first_argument arguments) in
       let here = entry-here e x [] stands in
@@ -114,12 +114,12 @@ module _ (ks : List Kept) where
 
   pub faults-made : (c : Counts) (r : ℕ) (o : Operation) (e p : ℕ) (arguments : List (List ℕ)) (ts : List Target) → StandsAt ks e (operation_entries o arguments ts) → c.records ≡ r → made_faults ks c (operation_steps o e p (flip_of e arguments) ts) ≡ faults_made (range_with_len r (records_made o (target_count o ts))) o arguments ts
   faults-made c r (Gates g) e p arguments ts stands h = gates (arity_of g == 1) c g ts ∙ no-flips arguments
-  faults-made c r (Measures l) e p arguments ts stands h = measures c r e arguments l false ts stands h
-  faults-made c r (Resets l) e p arguments ts stands h = resets c l ts ∙ no-flips arguments
-  faults-made c r (MeasuresAndResets l) e p arguments ts stands h = measures c r e arguments l true ts stands h
-  faults-made c r MeasuresProducts e p arguments ts stands h = words c r e p arguments (products_of ts) stands h
-  faults-made c r (Errs l) e p arguments ts stands h = errors c e arguments l ts stands
-  faults-made c r ErrsTogether e p arguments ts stands h = ap (λ f. f ∷ []) (together e arguments ts stands)
+  faults-made c r (Measurement l) e p arguments ts stands h = measures c r e arguments l false ts stands h
+  faults-made c r (QubitReset l) e p arguments ts stands h = resets c l ts ∙ no-flips arguments
+  faults-made c r (MeasurementReset l) e p arguments ts stands h = measures c r e arguments l true ts stands h
+  faults-made c r ProductMeasurement e p arguments ts stands h = words c r e p arguments (products_of ts) stands h
+  faults-made c r (PauliError l) e p arguments ts stands h = errors c e arguments l ts stands
+  faults-made c r CorrelatedError e p arguments ts stands h = ap (λ f. f ∷ []) (together e arguments ts stands)
   faults-made c r o e p arguments ts stands h = no-flips arguments
 
 -- ---- how many there are
@@ -129,8 +129,8 @@ flips-counted [] records = refl
 flips-counted (x ∷ xs) records = length-map records (λ r. fault_with (x ∷ xs) (Flips r))
 
 operation-counted : (records : List ℕ) (o : Operation) (arguments : List (List ℕ)) (ts : List Target) → length records ≡ records_made o (target_count o ts) → length (faults_made records o arguments ts) ≡ faults_counted o (is_some (slice_get arguments 0)) (target_count o ts)
-operation-counted records (Errs l) arguments ts h = length-map ts (λ target. fault_with arguments (Applies (term_at l target ∷ [])))
-operation-counted records ErrsTogether arguments ts h = refl
+operation-counted records (PauliError l) arguments ts h = length-map ts (λ target. fault_with arguments (Applies (term_at l target ∷ [])))
+operation-counted records CorrelatedError arguments ts h = refl
 operation-counted records o arguments ts h =
     flips-counted arguments records ∙ ap (λ n. if is_some (slice_get arguments 0) then n else 0) h
 

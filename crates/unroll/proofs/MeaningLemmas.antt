@@ -16,23 +16,23 @@ use Rattle.programs.specs.Trees.{repeated}
 use Rattle.step_model.specs.declared.step.Term.{Term}
 use Rattle.step_model.specs.Listing.{Listing, ListedFault, ListedStep, is_collapse, step_records}
 use Rattle.stim_parser.specs.declared.operation.Operation.{Operation}
-use Rattle.stim_parser.specs.declared.operation.Operation.TheVariants.{Observes}
+use Rattle.stim_parser.specs.declared.operation.Operation.TheVariants.{ObservableInclude}
 use Rattle.stim_parser.specs.Numbers.{value_of}
 use Rattle.stim_parser.specs.Trees.{Tree}
 use Rattle.block_text.specs.Trees.{Nothing, Then, Block}
 use Rattle.stim_parser.specs.Verdicts.{Instruction}
 use Rattle.unroll.specs.Before.{Before}
-use Rattle.unroll.specs.Coordinates.{coordinates_from, coordinates_of}
-use Rattle.unroll.specs.Detectors.{detectors_from, detectors_of}
+use Rattle.unroll.specs.private.Coordinates.{coordinates_from, coordinates_of}
+use Rattle.unroll.specs.private.Detectors.{detectors_from, detectors_of}
 use Rattle.unroll.specs.FaultsMade.{faults_made}
-use Rattle.unroll.specs.Kept.{entries_of, kept_entries, kept_products, products_in}
+use Rattle.unroll.specs.private.Kept.{entries_of, kept_entries, kept_products, products_in}
 use Rattle.unroll.specs.Meaning.{after, at_start, listing_of, made_in, made_of, new_faults, new_steps}
-use Rattle.unroll.specs.Observables.{added_from, observables_of}
-use Rattle.unroll.specs.Steps.{instruction_steps, steps_from, steps_of}
+use Rattle.unroll.specs.private.Observables.{added_from, observables_of}
+use Rattle.unroll.specs.private.Steps.{instruction_steps, steps_from, steps_of}
 use Rattle.unroll.specs.StepsMade.{operation_made}
 use Rattle.unroll.specs.TargetsMade.{adds_to, operation_adds, operation_coordinates, operation_detectors, records_named}
 use Rattle.unroll.specs.Totals.{first_argument, observable_total, observables_to, qubit_total}
-use Rattle.unroll.specs.MadeTotals.{collapse_total, detector_total, record_count, record_total}
+use Rattle.unroll.specs.private.MadeTotals.{collapse_total, detector_total, record_count, record_total}
 use Rattle.unroll.proofs.InstructionCounts.{instruction-faults, instruction-records}
 use Rattle.unroll.proofs.MadeCounts.{after-records, after_all, after_all-append, listed-collapses, listed-records, made-records, made_of-append}
 use Rattle.unroll.proofs.MadeCounts as made
@@ -163,7 +163,7 @@ coordinates-made n b (i ∷ is) =
     ap (λ later. operation_coordinates b.offset i.operation i.arguments ++ later) (coordinates-made n (after n b i) is)
 
 adds-same : (k : ℕ) (o : Operation) (arguments : List (List ℕ)) → (observables_to o arguments == k + 1) ≡ adds_to k o arguments
-adds-same k Observes arguments = same-number (value_of (first_argument arguments)) k
+adds-same k ObservableInclude arguments = same-number (value_of (first_argument arguments)) k
 adds-same k o arguments = none-named k
 
 added-made : (n k : ℕ) (b : Before) (is : List Instruction) → added_from k b.records is ≡ made_of n (λ b i. operation_adds k b.records i.operation i.arguments i.targets) b is

@@ -11,12 +11,12 @@ use Rattle.programs.specs.Numbering.{counts_after, made_by_flip, named, numbered
 use Rattle.step_model.specs.declared.step.Term.{Term}
 use Rattle.step_model.specs.Listing.{One, Collapse, Fault, Word, Reset, Recorded, word_of_terms}
 use Rattle.stim_parser.specs.declared.operation.Operation.{Operation}
-use Rattle.stim_parser.specs.declared.operation.Operation.TheVariants.{Applies, Measures, Resets, MeasuresAndResets, MeasuresProducts, Errs, ErrsTogether}
+use Rattle.stim_parser.specs.declared.operation.Operation.TheVariants.{Applies, Measurement, QubitReset, MeasurementReset, ProductMeasurement, PauliError, CorrelatedError}
 use Rattle.stim_parser.specs.declared.target.Target.{Target}
 use Rattle.stim_parser.specs.declared.target.Target.TheVariants.{Plain, Inverted, Back, Pauli, Star}
 use Rattle.unroll.specs.Before.{Before}
-use Rattle.unroll.specs.Kept.{operation_products}
-use Rattle.unroll.specs.Made.{fault_steps, measure_step, one_step, operation_steps, pair_step, pair_steps, product_steps, recording, reset_step}
+use Rattle.unroll.specs.private.Kept.{operation_products}
+use Rattle.unroll.specs.private.Made.{fault_steps, measure_step, one_step, operation_steps, pair_step, pair_steps, product_steps, recording, reset_step}
 use Rattle.unroll.specs.StepsMade.{flip_of, numbered_from, operation_made, pair_made, pairs_made}
 use Rattle.unroll.specs.Targets.{is_inverted, is_product_inverted, term_of}
 use Rattle.stim_parser.specs.Limits.{products_of, qubit_of}
@@ -118,13 +118,13 @@ module _ (n : ℕ) (ps : List (List Term)) where
 
   pub steps-made : (b : Before) (c : Counts) (o : Operation) (e p : ℕ) (arguments : List (List ℕ)) (ts : List Target) → StandsAt ps p (operation_products o ts) → c.records ≡ b.records → c.faults ≡ b.faults → listed_steps n ps c (operation_steps o e p (flip_of e arguments) ts) ≡ operation_made n b o arguments ts
   steps-made b c (Applies g) e p arguments ts stands records faults = gates (arity_of g == 1) c b.records g ts records
-  steps-made b c (Measures l) e p arguments ts stands records faults =
+  steps-made b c (Measurement l) e p arguments ts stands records faults =
       measures b c 0 e arguments l false ts (omega (arith, records)) (omega (arith, faults))
-  steps-made b c (Resets l) e p arguments ts stands records faults = resets c l ts
-  steps-made b c (MeasuresAndResets l) e p arguments ts stands records faults =
+  steps-made b c (QubitReset l) e p arguments ts stands records faults = resets c l ts
+  steps-made b c (MeasurementReset l) e p arguments ts stands records faults =
       measures b c 0 e arguments l true ts (omega (arith, records)) (omega (arith, faults))
-  steps-made b c MeasuresProducts e p arguments ts stands records faults =
+  steps-made b c ProductMeasurement e p arguments ts stands records faults =
       words b c 0 e p arguments (products_of ts) stands (omega (arith, records)) (omega (arith, faults))
-  steps-made b c (Errs l) e p arguments ts stands records faults = errors c b.faults e ts faults
-  steps-made b c ErrsTogether e p arguments ts stands records faults = ap (λ f. Fault f ∷ []) faults
+  steps-made b c (PauliError l) e p arguments ts stands records faults = errors c b.faults e ts faults
+  steps-made b c CorrelatedError e p arguments ts stands records faults = ap (λ f. Fault f ∷ []) faults
   steps-made b c o e p arguments ts stands records faults = refl

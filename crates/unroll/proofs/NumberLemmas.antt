@@ -10,18 +10,18 @@ use Rattle.chances.proofs.ChanceLaws.{chance_at-map}
 use Rattle.block_text.specs.Marked.{Marked}
 use Rattle.step_model.specs.Probabilities.{probability_bound}
 use Rattle.stim_parser.specs.declared.operation.Operation.{Operation}
-use Rattle.stim_parser.specs.declared.operation.Operation.TheVariants.{Measures, MeasuresAndResets, MeasuresProducts, Errs, ErrsTogether}
+use Rattle.stim_parser.specs.declared.operation.Operation.TheVariants.{Measurement, MeasurementReset, ProductMeasurement, PauliError, CorrelatedError}
 use Rattle.stim_parser.specs.Circuits.{Fits, IsCircuit}
 use Rattle.stim_parser.specs.Limits.{has_wrong_arguments, has_wrong_probability, is_probability}
 use Rattle.stim_parser.specs.Probabilities.{IsMarked, Keeps, Marks, chance_in, chance_taken, instruction_count}
 use Rattle.stim_parser.specs.Texts.{Item}
-use Rattle.block_text.specs.Trees.{Does, Begins, Ends}
+use Rattle.block_text.specs.Trees.{InstructionLine, BlockStart, BlockEnd}
 use Rattle.stim_parser.specs.Trees.{Tree}
 use Rattle.stim_parser.specs.Judged.{items_of}
 use Rattle.stim_parser.specs.Verdicts.{Instruction, circuit_table}
 use Rattle.stim_parser.proofs.MarkLemmas.{marked_at}
-use Rattle.unroll.specs.Items.{IsSound}
-use Rattle.unroll.specs.Numbered.{IsFlipNumber, IsItemNumber, IsNumberOf, IsOperationNumber, chance_from}
+use Rattle.unroll.specs.private.Items.{IsSound}
+use Rattle.unroll.specs.private.Numbered.{IsFlipNumber, IsItemNumber, IsNumberOf, IsOperationNumber, chance_from}
 use Rattle.unroll.specs.Totals.{step_total, first_argument}
 use Rattle.unroll.proofs.ItemLemmas.{fits_at}
 use Rattle.unroll.proofs.RoomLemmas.{counted_once, counted_once-tree}
@@ -54,33 +54,33 @@ error_number texts (p ∷ rest) mark one accepted few marks =
 
 operation_number : (texts : List ChanceText) (i : Instruction) (o : Operation) (mark : ℕ) → i.operation ≡ o → Fits i → length texts ≤ 2 ^ 32 → Marks texts (chance_taken circuit_table o i.arguments) mark → IsOperationNumber (map chance_of texts) o i.arguments mark
 unfolding has_wrong_arguments has_wrong_probability
-operation_number texts i (Measures l) mark is fits few marks =
+operation_number texts i (Measurement l) mark is fits few marks =
     flip_number texts i.arguments mark (not-false (list_all is_probability i.arguments) (rw is at fits.probability)) few marks
-operation_number texts i (MeasuresAndResets l) mark is fits few marks =
+operation_number texts i (MeasurementReset l) mark is fits few marks =
     flip_number texts i.arguments mark (not-false (list_all is_probability i.arguments) (rw is at fits.probability)) few marks
-operation_number texts i MeasuresProducts mark is fits few marks =
+operation_number texts i ProductMeasurement mark is fits few marks =
     flip_number texts i.arguments mark (not-false (list_all is_probability i.arguments) (rw is at fits.probability)) few marks
-operation_number texts i (Errs l) mark is fits few marks =
+operation_number texts i (PauliError l) mark is fits few marks =
     let one = not-false (length i.arguments == 1) (or_parts (not (length i.arguments == 1)) _ (rw is at fits.arguments)).0 in
     error_number texts i.arguments mark one (not-false (list_all is_probability i.arguments) (rw is at fits.probability)) few marks
-operation_number texts i ErrsTogether mark is fits few marks =
+operation_number texts i CorrelatedError mark is fits few marks =
     let one = not-false (length i.arguments == 1) (or_parts (not (length i.arguments == 1)) _ (rw is at fits.arguments)).0 in
     error_number texts i.arguments mark one (not-false (list_all is_probability i.arguments) (rw is at fits.probability)) few marks
 operation_number texts i o mark is fits few marks = tt
 
 item_number : (texts : List ChanceText) (item : Item) (mark : ℕ) → IsSound item → length texts ≤ 2 ^ 32 → IsMarked circuit_table texts item mark → IsItemNumber (map chance_of texts) item mark
-item_number texts (Does i) mark fits few marks = operation_number texts i i.operation mark refl fits few marks
-item_number texts (Begins line turns) mark fits few marks = tt
-item_number texts Ends mark fits few marks = tt
+item_number texts (InstructionLine i) mark fits few marks = operation_number texts i i.operation mark refl fits few marks
+item_number texts (BlockStart line turns) mark fits few marks = tt
+item_number texts BlockEnd mark fits few marks = tt
 
 -- ---- the items of a circuit
 
 -- each instruction is a step
 few_instructions : (items : List Item) → instruction_count items ≤ counted_once items
 few_instructions [] = omega arith
-few_instructions (Does i ∷ items) = omega (arith, few_instructions items)
-few_instructions (Begins line turns ∷ items) = few_instructions items
-few_instructions (Ends ∷ items) = few_instructions items
+few_instructions (InstructionLine i ∷ items) = omega (arith, few_instructions items)
+few_instructions (BlockStart line turns ∷ items) = few_instructions items
+few_instructions (BlockEnd ∷ items) = few_instructions items
 
 pub number_at : (t : Tree) (texts : List ChanceText) (read : Marked Instruction) (i : ℕ) (item : Item) → IsCircuit t → step_total t < 2 ^ 32 → read.items ≡ items_of t → Keeps circuit_table texts read → Some item ≡ slice_get read.items i → IsItemNumber (map chance_of texts) item (get_or read.marks i 0)
 number_at t texts read i item circuit steps same keeps got =

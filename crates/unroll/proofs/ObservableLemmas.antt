@@ -6,24 +6,24 @@ use Rattle.std.proofs.lemmas.Bool.{cases_eq, eq-eqb, ne_eqb}
 use Rattle.std.proofs.lemmas.List.{drop_all, map-append}
 use Rattle.std.proofs.lemmas.List.Elements.{filter-append}
 use Rattle.stim_parser.specs.declared.operation.Operation.{Operation}
-use Rattle.stim_parser.specs.declared.operation.Operation.TheVariants.{Observes}
+use Rattle.stim_parser.specs.declared.operation.Operation.TheVariants.{ObservableInclude}
 use Rattle.stim_parser.specs.declared.target.Target.{Target}
 use Rattle.stim_parser.specs.Circuits.{AllFit}
 use Rattle.stim_parser.specs.Numbers.{is_number, value_of}
 use Rattle.stim_parser.specs.Texts.{Item}
 use Rattle.stim_parser.specs.Trees.{Tree}
-use Rattle.block_text.specs.Trees.{Nothing, Then, Block, Ends}
+use Rattle.block_text.specs.Trees.{Nothing, Then, Block, BlockEnd}
 use Rattle.stim_parser.specs.Judged.{items_of}
 use Rattle.stim_parser.specs.Verdicts.{Instruction}
 use Rattle.stim_parser.proofs.NumberArguments.{NamesNumber, names_number}
 use Rattle.unroll.specs.declared.inclusions.Inclusion.{Inclusion}
 use Rattle.unroll.specs.TargetsMade.{record_named, records_named}
 use Rattle.block_text.specs.Reached.{copies, reached, written}
-use Rattle.unroll.specs.Gathered.{given}
-use Rattle.unroll.specs.Including.{including, inclusion_of, observable_named, item_observables, named_to, operation_inclusions, places_of}
+use Rattle.unroll.specs.private.Gathered.{given}
+use Rattle.unroll.specs.private.Including.{including, inclusion_of, observable_named, item_observables, named_to, operation_inclusions, places_of}
 use Rattle.unroll.specs.Totals.{first_argument, observable_total, observables_to}
-use Rattle.unroll.specs.MadeTotals.{observables_over}
-use Rattle.unroll.specs.Observables.{added_from, observables_of}
+use Rattle.unroll.specs.private.MadeTotals.{observables_over}
+use Rattle.unroll.specs.private.Observables.{added_from, observables_of}
 use Rattle.unroll.proofs.PassLemmas.{drop_got}
 
 pub same-number : (v k : ℕ) → eqb (v + 1) (k + 1) ≡ eqb v k
@@ -49,7 +49,7 @@ each-adds false v k r (t ∷ ts) h =
     ∙ each-adds false v k r ts h
 
 one-adds : (k r : ℕ) (o : Operation) (arguments : List (List ℕ)) (ts : List Target) → NamesNumber o arguments → places_of k (operation_inclusions r o arguments ts) ≡ cond (eqb (observables_to o arguments) (k + 1)) (records_named r ts) []
-one-adds k r Observes arguments ts h =
+one-adds k r ObservableInclude arguments ts h =
     let v = value_of (first_argument arguments) in
     let number : observable_named arguments ≡ v = ap (λ (n : Option ℕ). unwrap_or n 0) h in
     ap (λ (n : ℕ). places_of k (map (inclusion_of n r) ts)) number
@@ -105,7 +105,7 @@ named_by [] = 0
 named_by (item ∷ items) = max (item_observables item) (named_by items)
 
 one-to : (o : Operation) (arguments : List (List ℕ)) → NamesNumber o arguments → named_to o arguments ≡ observables_to o arguments
-one-to Observes arguments h = ap (λ (n : Option ℕ). unwrap_or n 0 + 1) h
+one-to ObservableInclude arguments h = ap (λ (n : Option ℕ). unwrap_or n 0 + 1) h
 one-to o arguments h = refl
 
 named-tree : (t : Tree) (rest : List Item) → AllFit t → named_by (items_of t ++ rest) ≡ max (observables_over (written t)) (named_by rest)
@@ -113,8 +113,8 @@ named-tree Nothing rest fit = omega arith
 named-tree (Then i t) rest fit =
     omega (arith, one-to i.operation i.arguments (names_number i fit.0), named-tree t rest fit.1)
 named-tree (Block line turns t u) rest fit =
-    let whole = ap named_by (append_assoc (items_of t) (Ends ∷ items_of u) rest) in
-    omega (arith, whole, named-tree t (Ends ∷ (items_of u ++ rest)) fit.1, named-tree u rest fit.2, over-append (written t) (written u))
+    let whole = ap named_by (append_assoc (items_of t) (BlockEnd ∷ items_of u) rest) in
+    omega (arith, whole, named-tree t (BlockEnd ∷ (items_of u ++ rest)) fit.1, named-tree u rest fit.2, over-append (written t) (written u))
 
 pub named-first : (t : Tree) → AllFit t → named_by (items_of t) ≡ observable_total t
 named-first t fit = omega (arith, ap named_by (append-nil (items_of t)), named-tree t [] fit)

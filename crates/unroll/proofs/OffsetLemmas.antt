@@ -1,7 +1,7 @@
 -- Counts at each place, and coordinates that they move.
 use Rattle.std.proofs.Common.{◌≡◌, ℕ, zero, suc, ◌+◌, ◌-◌, ◌*◌, ◌≤◌, ℤ, pos, neg_ℤ, ◌+ℤ◌, List, [], ◌∷◌, length, map, refl, sym, ap, ap₂, ◌∙◌, arith}
 use Rattle.std.proofs.lemmas.Int.{ints}
-use Rattle.unroll.specs.Placing.{added_by, moved_down, moved_to, moved_up, raised_by, turned_by}
+use Rattle.unroll.specs.private.Placing.{added_by, moved_down, moved_to, moved_up, raised_by, turned_by}
 
 abbrev pub scaled : ℕ → List ℕ → List ℕ
 scaled n s = map (λ x. n * x) s

@@ -11,7 +11,7 @@ use Rattle.stim_parser.specs.Pieces.{pieces_of}
 use Rattle.stim_parser.specs.Targets.{target_of, targets_in}
 use Rattle.stim_parser.specs.Verdicts.{line_targets}
 use Rattle.unroll.specs.Meaning.{made_of}
-use Rattle.unroll.specs.Counted.{first_far_from}
+use Rattle.unroll.specs.private.Counted.{first_far_from}
 use Rattle.unroll.specs.Refusals.{first_beyond}
 use Rattle.block_text.specs.Reached.{total}
 

@@ -7,7 +7,7 @@ use Rattle.stim_parser.specs.Circuits.{Fits, IsCircuit}
 use Rattle.stim_parser.specs.Texts.{Item}
 use Rattle.stim_parser.specs.Trees.{Tree}
 use Rattle.stim_parser.specs.Judged.{items_of}
-use Rattle.unroll.specs.Passes.{CanStand, Pass}
+use Rattle.unroll.specs.private.Passes.{CanStand, Pass}
 
 -- items that stand where they may, with so many blocks open before them and none behind
 abbrev pub AreWhole : List Item → ℕ → Type 0

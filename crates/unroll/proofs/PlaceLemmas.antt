@@ -4,7 +4,7 @@ use Rattle.std.proofs.lemmas.Bool.{cases_eq, cases_lt, eq-eqb, le-ltb, lt-ltb, n
 use Rattle.std.proofs.lemmas.List.{get_or-map, get_or-set_other, get_or-set_same, length-map, length-set, map-set, same_lists, take_more}
 use Rattle.std.proofs.lemmas.List.FromFn.{get_or-map-range_with_len, length-map-range_with_len}
 use Rattle.unroll.specs.declared.inclusions.Inclusion.{Inclusion}
-use Rattle.unroll.specs.Including.{places_of, told_apart, with_place}
+use Rattle.unroll.specs.private.Including.{places_of, told_apart, with_place}
 use Rattle.unroll.proofs.ObservableLemmas.{places_of-append}
 
 told-at : (n : ℕ) (xs : List Inclusion) (k : ℕ) (d : List ℕ) → k < n → get_or (told_apart n xs) k d ≡ places_of k xs

@@ -4,7 +4,7 @@ use Rattle.std.specs.Prelude.{⊤}
 use Rattle.std.proofs.lemmas.Int.{ints}
 use Rattle.std.proofs.lemmas.List.{length-map, map-append}
 use Rattle.stim_parser.specs.declared.operation.Operation.{Operation}
-use Rattle.stim_parser.specs.declared.operation.Operation.TheVariants.{Detects, ShiftsCoordinates}
+use Rattle.stim_parser.specs.declared.operation.Operation.TheVariants.{DetectorDeclaration, CoordinateShift}
 use Rattle.stim_parser.specs.Circuits.{AllFit}
 use Rattle.stim_parser.specs.Numbers.{whole_value}
 use Rattle.stim_parser.specs.Trees.{Tree}
@@ -12,13 +12,13 @@ use Rattle.block_text.specs.Trees.{Nothing, Then, Block}
 use Rattle.stim_parser.specs.Verdicts.{Instruction}
 use Rattle.stim_parser.proofs.FewArguments.{HasFewCoordinates, has_few_coordinates}
 use Rattle.unroll.specs.declared.offsets.Offset.{Offset}
-use Rattle.unroll.specs.Coordinates.{coordinates_from, coordinates_of}
+use Rattle.unroll.specs.private.Coordinates.{coordinates_from, coordinates_of}
 use Rattle.stim_parser.specs.Offsets.{moved, shifted}
 use Rattle.unroll.specs.TargetsMade.{offset_after, operation_coordinates}
 use Rattle.block_text.specs.Reached.{copies, reached}
-use Rattle.unroll.specs.Gathered.{Gathered, gathering, given, place_behind}
-use Rattle.unroll.specs.Passes.{behind}
-use Rattle.unroll.specs.Placing.{added_by, down_of, downs, moved_down, moved_to, moved_up, numbers_of, operation_places, placing, raised_by, turned_by, unmoved, unplaced, up_of, ups}
+use Rattle.unroll.specs.private.Gathered.{Gathered, gathering, given, place_behind}
+use Rattle.unroll.specs.private.Passes.{behind}
+use Rattle.unroll.specs.private.Placing.{added_by, down_of, downs, moved_down, moved_to, moved_up, numbers_of, operation_places, placing, raised_by, turned_by, unmoved, unplaced, up_of, ups}
 use Rattle.unroll.proofs.GatherLemmas.{AreSteady, IsSteady, copies-more, gathered, place_behind-append}
 use Rattle.unroll.proofs.OffsetLemmas.{down-added, joined, length-joined, length-raised, moved-raised, raised-joined, raised-more, raised-none, raised-once, raised-swap, scaled, turned-raised, up-added}
 
@@ -59,7 +59,7 @@ sum_down [] = []
 sum_down (i ∷ is) = joined (downs i) (sum_down is)
 
 numbers-few : (o : Operation) (arguments : List (List ℕ)) → HasFewCoordinates o arguments → length (numbers_of o arguments) ≤ 16
-numbers-few ShiftsCoordinates arguments h = omega (arith, h, length-map arguments whole_value)
+numbers-few CoordinateShift arguments h = omega (arith, h, length-map arguments whole_value)
 numbers-few o arguments h = omega arith
 
 up-few : (is : List Instruction) → AreFew is → length (sum_up is) ≤ 16
@@ -112,7 +112,7 @@ wide-behind p (i ∷ is) h = wide-behind (placing.next p i) is (wide-next p i h)
 -- ---- what a later turn gives
 
 places-moved : (u d : List ℕ) (p : Offset) (o : Operation) (arguments : List (List ℕ)) → IsWide p → HasFewCoordinates o arguments → operation_places (offset (raised_by p.up u) (raised_by p.down d)) o arguments ≡ map (moved_to u d) (operation_places p o arguments)
-places-moved u d p Detects arguments wide few =
+places-moved u d p DetectorDeclaration arguments wide few =
     ap (λ (xs : List ℤ). xs ∷ [])
     (moved-raised p.up p.down u d (map whole_value arguments)
     (omega (arith, few, wide.up, length-map arguments whole_value))
@@ -195,7 +195,7 @@ placed-shifted (a ∷ o) (n ∷ s) [] = refl
 placed-shifted (a ∷ o) (n ∷ s) (c ∷ xs) = ap₂ (λ (y : ℤ) (ys : List ℤ). y ∷ ys) (one-shifted a n c) (placed-shifted o s xs)
 
 offset-next : (o : List ℤ) (p : Offset) (op : Operation) (arguments : List (List ℕ)) → IsWide p → IsOffset o p → IsOffset (offset_after o op arguments) (offset (raised_by p.up (map up_of (numbers_of op arguments))) (raised_by p.down (map down_of (numbers_of op arguments))))
-offset-next o p ShiftsCoordinates arguments wide h =
+offset-next o p CoordinateShift arguments wide h =
     λ xs few.
     let s = map whole_value arguments in
     placed-shifted o s xs
@@ -205,7 +205,7 @@ offset-next o p op arguments wide h =
     λ xs few. h xs few ∙ ap₂ (λ (u d : List ℕ). moved_to u d xs) (sym (raised-none p.up)) (sym (raised-none p.down))
 
 places-here : (o : List ℤ) (p : Offset) (op : Operation) (arguments : List (List ℕ)) → HasFewCoordinates op arguments → IsOffset o p → operation_coordinates o op arguments ≡ operation_places p op arguments
-places-here o p Detects arguments few h =
+places-here o p DetectorDeclaration arguments few h =
     ap (λ (xs : List ℤ). xs ∷ []) (h (map whole_value arguments) (omega (arith, few, length-map arguments whole_value)))
 places-here o p op arguments few h = refl
 

@@ -8,21 +8,21 @@ use Rattle.std.proofs.lemmas.List.{get_or_append_left, get_or_default, reverse-a
 use Rattle.std.proofs.lemmas.List.Elements.{All-cons, All-head, All-map, All-nil, All-replicate, All-tail, All-weaker}
 use Rattle.step_model.specs.WellFormed.{CoordinatesFit}
 use Rattle.stim_parser.specs.declared.operation.Operation.{Operation}
-use Rattle.stim_parser.specs.declared.operation.Operation.TheVariants.{ShiftsCoordinates}
+use Rattle.stim_parser.specs.declared.operation.Operation.TheVariants.{CoordinateShift}
 use Rattle.stim_parser.specs.Circuits.{Fits, IsCircuit}
 use Rattle.stim_parser.specs.Texts.{Item}
-use Rattle.block_text.specs.Trees.{Does, Begins, Ends}
+use Rattle.block_text.specs.Trees.{InstructionLine, BlockStart, BlockEnd}
 use Rattle.stim_parser.specs.Trees.{Tree}
 use Rattle.stim_parser.specs.Judged.{items_of}
 use Rattle.stim_parser.specs.Verdicts.{Instruction}
 use Rattle.block_text.specs.declared.blocks.OpenBlock.{OpenBlock}
 use Rattle.unroll.specs.declared.marks.Mark.{Mark}
 use Rattle.unroll.specs.declared.offsets.Offset.{Offset}
-use Rattle.unroll.specs.Coordinates.{coordinates_of}
+use Rattle.unroll.specs.private.Coordinates.{coordinates_of}
 use Rattle.block_text.specs.Reached.{reached}
-use Rattle.unroll.specs.Gathered.{Gathered, closed, gathering, later, mark_of, place_behind, stepped}
-use Rattle.unroll.specs.Passes.{behind, opened}
-use Rattle.unroll.specs.Placing.{IsSmall, IsStated, added_by, down_of, downs, numbers_of, placing, raised_by, turned_by, turned_on, unmoved, unplaced, up_of, ups}
+use Rattle.unroll.specs.private.Gathered.{Gathered, closed, gathering, later, mark_of, place_behind, stepped}
+use Rattle.unroll.specs.private.Passes.{behind, opened}
+use Rattle.unroll.specs.private.Placing.{IsSmall, IsStated, added_by, down_of, downs, numbers_of, placing, raised_by, turned_by, turned_on, unmoved, unplaced, up_of, ups}
 use Rattle.unroll.specs.Totals.{step_total}
 use Rattle.unroll.proofs.CoordinateFits.{HaveCoordinates, coordinates_fit, few-reached, have-coordinates}
 use Rattle.unroll.proofs.CountLoops.{length-turned}
@@ -87,12 +87,12 @@ down-rises j =
 
 run-rises : (size : Offset → ℕ) (items : List Item) (blocks : List (OpenBlock (Mark Offset))) (s : Gathered Offset (List ℤ)) → RisesAt size → HasAxes s.place → HaveAxes blocks → size s.place ≤ size (run placing items blocks s).place
 run-rises size [] blocks s up h k = omega arith
-run-rises size (Does i ∷ items) blocks s up h k =
+run-rises size (InstructionLine i ∷ items) blocks s up h k =
     omega (arith, up.next s.place i, run-rises size items blocks (stepped placing i s) up (axes-next s.place i h) k)
-run-rises size (Begins line turns ∷ items) blocks s up h k =
+run-rises size (BlockStart line turns ∷ items) blocks s up h k =
     run-rises size items (opened turns (mark_of s) ∷ blocks) s up h (h, k)
-run-rises size (Ends ∷ items) [] s up h k = omega arith
-run-rises size (Ends ∷ items) (block ∷ blocks) s up h k =
+run-rises size (BlockEnd ∷ items) [] s up h k = omega arith
+run-rises size (BlockEnd ∷ items) (block ∷ blocks) s up h k =
     omega (arith, up.on (block.turns - 1) block.before.place s.place k.0 h, run-rises size items blocks (closed placing block.turns block.before s) up (axes-on (block.turns - 1) block.before.place s.place k.0 h) k.1)
 
 -- ---- what is found stays
@@ -103,11 +103,11 @@ all-left P xs ys h =
 
 run-found : (P : List ℤ → Type 0) (items : List Item) (blocks : List (OpenBlock (Mark Offset))) (s : Gathered Offset (List ℤ)) → All P (run placing items blocks s).found → All P s.found
 run-found P [] blocks s h = h
-run-found P (Does i ∷ items) blocks s h =
+run-found P (InstructionLine i ∷ items) blocks s h =
     all-left P s.found (placing.gives s.place i) (run-found P items blocks (stepped placing i s) h)
-run-found P (Begins line turns ∷ items) blocks s h = run-found P items (opened turns (mark_of s) ∷ blocks) s h
-run-found P (Ends ∷ items) [] s h = h
-run-found P (Ends ∷ items) (block ∷ blocks) s h =
+run-found P (BlockStart line turns ∷ items) blocks s h = run-found P items (opened turns (mark_of s) ∷ blocks) s h
+run-found P (BlockEnd ∷ items) [] s h = h
+run-found P (BlockEnd ∷ items) (block ∷ blocks) s h =
     all-left P s.found (later (λ n. placing.moved n block.before.place s.place) (block.turns - 1) (drop block.before.found s.found))
     (run-found P items blocks (closed placing block.turns block.before s) h)
 
@@ -148,7 +148,7 @@ downs-within zs h =
     All-map (λ x. x ≤ most) down_of zs (All-weaker (λ z. nat_abs z ≤ most) (λ z. down_of z ≤ most) (λ z k. down-within z most k) zs h)
 
 numbers-within : (o : Operation) (arguments : List (List ℕ)) → HasCoordinates o arguments → AreUpTo most (numbers_of o arguments)
-numbers-within ShiftsCoordinates arguments has = has.within
+numbers-within CoordinateShift arguments has = has.within
 numbers-within o arguments has = All-nil (λ z. nat_abs z ≤ most)
 
 next-up-to : (n : ℕ) (p : Offset) (i : Instruction) → HasCoordinates i.operation i.arguments → IsUpTo n p → IsUpTo (n + most) (placing.next p i)
@@ -233,11 +233,11 @@ placing-up-to t i p found blocks h =
           omega (arith, get_or_default p.down k d 0 low, rise, same, read-up-to limit last.down k end.down));
     }
 
-pub placing-fits : (t : Tree) (i : ℕ) (p : Offset) (found : List (List ℤ)) (blocks : List (OpenBlock (Mark Offset))) (x : Instruction) → IsPlacing t i p found blocks → Some (Does x) ≡ slice_get (items_of t) i → Fits x
+pub placing-fits : (t : Tree) (i : ℕ) (p : Offset) (found : List (List ℤ)) (blocks : List (OpenBlock (Mark Offset))) (x : Instruction) → IsPlacing t i p found blocks → Some (InstructionLine x) ≡ slice_get (items_of t) i → Fits x
 placing-fits t i p found blocks x h got =
     gathering-fits placing t unplaced i (record { place = p; found = found }) blocks x h.passing got
 
-pub placing-does : (t : Tree) (i : ℕ) (p : Offset) (found : List (List ℤ)) (blocks : List (OpenBlock (Mark Offset))) (x : Instruction) → IsPlacing t i p found blocks → Some (Does x) ≡ slice_get (items_of t) i → IsPlacing t (i + 1) (placing.next p x) (found ++ placing.gives p x) blocks
+pub placing-does : (t : Tree) (i : ℕ) (p : Offset) (found : List (List ℤ)) (blocks : List (OpenBlock (Mark Offset))) (x : Instruction) → IsPlacing t i p found blocks → Some (InstructionLine x) ≡ slice_get (items_of t) i → IsPlacing t (i + 1) (placing.next p x) (found ++ placing.gives p x) blocks
 placing-does t i p found blocks x h got =
     record {
       circuit = h.circuit;
@@ -247,11 +247,11 @@ placing-does t i p found blocks x h got =
       open_axes = h.open_axes;
     }
 
-pub placing-room : (t : Tree) (i : ℕ) (p : Offset) (found : List (List ℤ)) (blocks : List (OpenBlock (Mark Offset))) (line turns : ℕ) → IsPlacing t i p found blocks → Some (Begins line turns) ≡ slice_get (items_of t) i → length blocks < 32
+pub placing-room : (t : Tree) (i : ℕ) (p : Offset) (found : List (List ℤ)) (blocks : List (OpenBlock (Mark Offset))) (line turns : ℕ) → IsPlacing t i p found blocks → Some (BlockStart line turns) ≡ slice_get (items_of t) i → length blocks < 32
 placing-room t i p found blocks line turns h got =
     gathering-room placing t unplaced i (record { place = p; found = found }) blocks line turns h.passing got
 
-pub placing-begins : (t : Tree) (i : ℕ) (p : Offset) (found : List (List ℤ)) (blocks : List (OpenBlock (Mark Offset))) (line turns : ℕ) → IsPlacing t i p found blocks → Some (Begins line turns) ≡ slice_get (items_of t) i → IsPlacing t (i + 1) p found (blocks ++ opened turns (record { place = p; found = length found }) ∷ [])
+pub placing-begins : (t : Tree) (i : ℕ) (p : Offset) (found : List (List ℤ)) (blocks : List (OpenBlock (Mark Offset))) (line turns : ℕ) → IsPlacing t i p found blocks → Some (BlockStart line turns) ≡ slice_get (items_of t) i → IsPlacing t (i + 1) p found (blocks ++ opened turns (record { place = p; found = length found }) ∷ [])
 placing-begins t i p found blocks line turns h got =
     let block : OpenBlock (Mark Offset) = opened turns (record { place = p; found = length found }) in
     record {
@@ -262,7 +262,7 @@ placing-begins t i p found blocks line turns h got =
       open_axes = subst HaveAxes (sym (reverse-append blocks (block ∷ []))) (h.axes, h.open_axes);
     }
 
-pub placing-some : (t : Tree) (i : ℕ) (p : Offset) (found : List (List ℤ)) (blocks : List (OpenBlock (Mark Offset))) → IsPlacing t i p found blocks → Some Ends ≡ slice_get (items_of t) i → 0 < length blocks
+pub placing-some : (t : Tree) (i : ℕ) (p : Offset) (found : List (List ℤ)) (blocks : List (OpenBlock (Mark Offset))) → IsPlacing t i p found blocks → Some BlockEnd ≡ slice_get (items_of t) i → 0 < length blocks
 placing-some t i p found blocks h got =
     gathering-some placing t unplaced i (record { place = p; found = found }) blocks h.passing got
 
@@ -287,7 +287,7 @@ pub placing-ends_axes : (t : Tree) (i : ℕ) (p : Offset) (found : List (List �
 placing-ends_axes t i p found blocks rest popped block n h was =
     (popped-axes blocks rest block (last-is blocks rest popped block n was) h.open_axes).0
 
-pub placing-ends : (t : Tree) (i : ℕ) (p : Offset) (found : List (List ℤ)) (blocks rest : List (OpenBlock (Mark Offset))) (popped : Option (OpenBlock (Mark Offset))) (block : OpenBlock (Mark Offset)) (n : ℕ) → IsPlacing t i p found blocks → Some Ends ≡ slice_get (items_of t) i → HasPopped blocks rest popped block n → IsPlacing t (i + 1) (turned_on n block.before.place p) (with_turns n block p found) rest
+pub placing-ends : (t : Tree) (i : ℕ) (p : Offset) (found : List (List ℤ)) (blocks rest : List (OpenBlock (Mark Offset))) (popped : Option (OpenBlock (Mark Offset))) (block : OpenBlock (Mark Offset)) (n : ℕ) → IsPlacing t i p found blocks → Some BlockEnd ≡ slice_get (items_of t) i → HasPopped blocks rest popped block n → IsPlacing t (i + 1) (turned_on n block.before.place p) (with_turns n block p found) rest
 placing-ends t i p found blocks rest popped block n h got was =
     let last = last-is blocks rest popped block n was in
     let axes = popped-axes blocks rest block last h.open_axes in

@@ -7,10 +7,10 @@ use Rattle.programs.specs.declared.step.TextStep.TheVariants as step
 use Rattle.stim_parser.specs.declared.target.Target.{Target}
 use Rattle.stim_parser.specs.declared.target.Target.TheVariants.{Star}
 use Rattle.step_model.specs.declared.step.Term.{Term}
-use Rattle.unroll.specs.Made.{product_steps, recording}
+use Rattle.unroll.specs.private.Made.{product_steps, recording}
 use Rattle.stim_parser.specs.Limits.{products_of}
 use Rattle.unroll.specs.Targets.{is_inverted, is_product_inverted, term_of}
-use Rattle.unroll.specs.Pushed.{FollowsFactor, carried_steps}
+use Rattle.unroll.specs.private.Pushed.{FollowsFactor, carried_steps}
 
 -- ---- where there is a factor there is a product
 

@@ -5,13 +5,13 @@ use Rattle.std.proofs.lemmas.List.Elements.{All-map, All-nil, All-weaker}
 use Rattle.programs.proofs.ProductWords.{product_fits}
 use Rattle.step_model.specs.WellFormed.{ProductFits}
 use Rattle.stim_parser.specs.declared.operation.Operation.{Operation}
-use Rattle.stim_parser.specs.declared.operation.Operation.TheVariants.{MeasuresProducts}
+use Rattle.stim_parser.specs.declared.operation.Operation.TheVariants.{ProductMeasurement}
 use Rattle.stim_parser.specs.declared.target.Target.{Target}
 use Rattle.stim_parser.specs.Circuits.{IsCircuit}
 use Rattle.stim_parser.specs.Limits.{are_of_form, has_same_qubit, products_of}
 use Rattle.stim_parser.specs.Trees.{Tree}
 use Rattle.stim_parser.specs.Verdicts.{Instruction}
-use Rattle.unroll.specs.Kept.{kept_products, operation_products, products_in}
+use Rattle.unroll.specs.private.Kept.{kept_products, operation_products, products_in}
 use Rattle.unroll.specs.Targets.{term_of}
 use Rattle.unroll.specs.Totals.{qubit_total}
 use Rattle.unroll.proofs.EntriesFit.{factors_fit}
@@ -24,7 +24,7 @@ letters_fit n product h = product_fits n (map term_of product) (factors_fit n pr
 
 operation_fits : (n line : ℕ) (o : Operation) (arguments : List (List ℕ)) (ts : List Target) → FitsOn n (record { line = line; operation = o; arguments = arguments; targets = ts }) → All (ProductFits n) (operation_products o ts)
 unfolding are_of_form has_same_qubit
-operation_fits n line MeasuresProducts arguments ts h =
+operation_fits n line ProductMeasurement arguments ts h =
     All-map (ProductFits n) (map term_of) (products_of ts)
     (All-weaker (IsProduct n) (λ product. ProductFits n (map term_of product)) (letters_fit n) (products_of ts) (all_apart n ts h.fits.targets h.fits.different h.fits.targets_written h.within))
 operation_fits n line o arguments ts h = All-nil (ProductFits n)

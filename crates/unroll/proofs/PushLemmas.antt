@@ -2,7 +2,7 @@
 use Rattle.std.proofs.Common.{◌≡◌, List, [], ◌∷◌, ◌++◌, refl, sym, ap, ◌∙◌, append_assoc, append-nil}
 use Rattle.programs.specs.declared.step.TextStep.{TextStep}
 use Rattle.programs.specs.Builders.{Building}
-use Rattle.unroll.specs.Pushed.{Adds}
+use Rattle.unroll.specs.private.Pushed.{Adds}
 
 -- on the way from an old circuit to one with these steps more, of which some are left
 pub record IsAdding (left whole : List TextStep) (old now : Building) : Type 0 where

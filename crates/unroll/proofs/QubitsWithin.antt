@@ -7,7 +7,7 @@ use Rattle.block_text.specs.Trees.{Nothing, Then, Block}
 use Rattle.stim_parser.specs.Verdicts.{Instruction}
 use Rattle.block_text.specs.Reached.{written}
 use Rattle.unroll.specs.Totals.{qubit_total}
-use Rattle.unroll.specs.MadeTotals.{qubits_named, qubits_over}
+use Rattle.unroll.specs.private.MadeTotals.{qubits_named, qubits_over}
 use Rattle.unroll.proofs.FarLemmas.{EachOf}
 
 -- an instruction fits, on so many qubits

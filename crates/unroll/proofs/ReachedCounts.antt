@@ -7,19 +7,19 @@ use Rattle.std.proofs.lemmas.Bool.{ltb-false}
 use Rattle.std.proofs.lemmas.List.FromFn.{length-map-range_with_len}
 use Rattle.std.proofs.lemmas.List.Sums.{sum_by-append, sum_by-cons}
 use Rattle.stim_parser.specs.declared.operation.Operation.{Operation}
-use Rattle.stim_parser.specs.declared.operation.Operation.TheVariants.{Detects}
+use Rattle.stim_parser.specs.declared.operation.Operation.TheVariants.{DetectorDeclaration}
 use Rattle.stim_parser.specs.declared.target.Target.{Target}
 use Rattle.stim_parser.specs.Trees.{Tree}
 use Rattle.block_text.specs.Trees.{Nothing, Then, Block}
 use Rattle.stim_parser.specs.Verdicts.{Instruction}
-use Rattle.unroll.specs.Coordinates.{coordinates_from, coordinates_of}
-use Rattle.unroll.specs.Detectors.{detectors_from, detectors_of}
+use Rattle.unroll.specs.private.Coordinates.{coordinates_from, coordinates_of}
+use Rattle.unroll.specs.private.Detectors.{detectors_from, detectors_of}
 use Rattle.unroll.specs.TargetsMade.{operation_detectors, offset_after, operation_coordinates}
 use Rattle.block_text.specs.Reached.{copies, reached, written, total}
-use Rattle.unroll.specs.Observables.{added_from, observables_of}
+use Rattle.unroll.specs.private.Observables.{added_from, observables_of}
 use Rattle.unroll.specs.Refusals.{first_beyond, most_observables}
 use Rattle.unroll.specs.Totals.{observable_total, observables_to}
-use Rattle.unroll.specs.MadeTotals.{observables_over, detector_count, detector_total, detectors_made, record_count}
+use Rattle.unroll.specs.private.MadeTotals.{observables_over, detector_count, detector_total, detectors_made, record_count}
 use Rattle.unroll.proofs.RefusalLemmas.{not_first}
 
 -- ---- a count summed over the instructions that are reached
@@ -40,7 +40,7 @@ sum-reached f (Block line turns body rest) =
 -- ---- detectors
 
 operation-detectors : (r : ℕ) (o : Operation) (ts : List Target) → length (operation_detectors r o ts) ≡ detectors_made o
-operation-detectors r Detects ts = refl
+operation-detectors r DetectorDeclaration ts = refl
 operation-detectors r o ts = refl
 
 detectors-from : (r : ℕ) (is : List Instruction) → length (detectors_from r is) ≡ sum_by detector_count is
@@ -55,7 +55,7 @@ pub detectors_counted : (t : Tree) → length (detectors_of t) ≡ detector_tota
 detectors_counted t = detectors-from 0 (reached t) ∙ sum-reached detector_count t
 
 operation-coordinates : (offset : List ℤ) (o : Operation) (arguments : List (List ℕ)) → length (operation_coordinates offset o arguments) ≡ detectors_made o
-operation-coordinates offset Detects arguments = refl
+operation-coordinates offset DetectorDeclaration arguments = refl
 operation-coordinates offset o arguments = refl
 
 coordinates-from : (offset : List ℤ) (is : List Instruction) → length (coordinates_from offset is) ≡ sum_by detector_count is

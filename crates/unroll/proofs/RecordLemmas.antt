@@ -7,7 +7,7 @@ use Rattle.std.specs.Option.{option_or}
 use Rattle.std.proofs.lemmas.Bool.{ltb-false, or_parts}
 use Rattle.std.proofs.lemmas.List.{map-append}
 use Rattle.stim_parser.specs.declared.operation.Operation.{Operation}
-use Rattle.stim_parser.specs.declared.operation.Operation.TheVariants.{Detects, Observes}
+use Rattle.stim_parser.specs.declared.operation.Operation.TheVariants.{DetectorDeclaration, ObservableInclude}
 use Rattle.stim_parser.specs.declared.target.Target.{Target}
 use Rattle.stim_parser.specs.declared.target.Target.TheVariants.{Back}
 use Rattle.stim_parser.specs.Circuits.{AllFit, Fits}
@@ -17,10 +17,10 @@ use Rattle.block_text.specs.Trees.{Nothing, Then, Block}
 use Rattle.stim_parser.specs.Verdicts.{Instruction}
 use Rattle.stim_parser.proofs.RecordTargets.{NamesRecords, names_records}
 use Rattle.block_text.specs.Reached.{copies, reached, total}
-use Rattle.unroll.specs.Gathered.{Gathering, given, place_behind}
+use Rattle.unroll.specs.private.Gathered.{Gathering, given, place_behind}
 use Rattle.unroll.specs.Refusals.{reaches_far}
-use Rattle.unroll.specs.Counted.{first_far_from}
-use Rattle.unroll.specs.MadeTotals.{record_count}
+use Rattle.unroll.specs.private.Counted.{first_far_from}
+use Rattle.unroll.specs.private.MadeTotals.{record_count}
 use Rattle.unroll.proofs.GatherLemmas.{AreSteady, IsSteady}
 
 -- ---- how many records instructions make
@@ -56,8 +56,8 @@ AreBack r (Back k ∷ targets) = (k ≤ r) × AreBack r targets
 AreBack r (target ∷ targets) = ⊥
 
 abbrev pub IsNear : ℕ → Operation → List Target → Type 0
-IsNear r Detects targets = AreBack r targets
-IsNear r Observes targets = AreBack r targets
+IsNear r DetectorDeclaration targets = AreBack r targets
+IsNear r ObservableInclude targets = AreBack r targets
 IsNear r operation targets = ⊤
 
 abbrev pub AreNear : ℕ → List Instruction → Type 0
@@ -70,8 +70,8 @@ back-later r d (Back k ∷ ts) h = (omega (arith, h.0), back-later r d ts h.1)
 back-later r d (t ∷ ts) h = absurd h
 
 near-later-one : (r d : ℕ) (o : Operation) (ts : List Target) → IsNear r o ts → IsNear (r + d) o ts
-near-later-one r d Detects ts h = back-later r d ts h
-near-later-one r d Observes ts h = back-later r d ts h
+near-later-one r d DetectorDeclaration ts h = back-later r d ts h
+near-later-one r d ObservableInclude ts h = back-later r d ts h
 near-later-one r d o ts h = h
 
 near-later : (r d : ℕ) (is : List Instruction) → AreNear r is → AreNear (r + d) is
@@ -101,8 +101,8 @@ back-all r (Back n ∷ ts) h k =
 back-all r (t ∷ ts) h k = absurd cc
 
 near-of : (r : ℕ) (o : Operation) (ts : List Target) → NamesRecords o ts → reaches_far r ts ≡ false → IsNear r o ts
-near-of r Detects ts h k = back-all r ts h k
-near-of r Observes ts h k = back-all r ts h k
+near-of r DetectorDeclaration ts h k = back-all r ts h k
+near-of r ObservableInclude ts h k = back-all r ts h k
 near-of r o ts h k = tt
 
 near-one : (r : ℕ) (i : Instruction) → Fits i → reaches_far r i.targets ≡ false → IsNear r i.operation i.targets

@@ -6,20 +6,20 @@ use Rattle.std.proofs.lemmas.Bool.{and_parts, leb-true, ne_eqb}
 use Rattle.std.proofs.lemmas.List.Sums.{sum_by-cons}
 use Rattle.std.proofs.lemmas.List.Elements.{All-append, All-cons, All-head, All-map, All-nil, All-same, All-tail}
 use Rattle.stim_parser.specs.declared.operation.Operation.{Operation}
-use Rattle.stim_parser.specs.declared.operation.Operation.TheVariants.{Detects, Observes}
+use Rattle.stim_parser.specs.declared.operation.Operation.TheVariants.{DetectorDeclaration, ObservableInclude}
 use Rattle.stim_parser.specs.declared.target.Target.{Target}
 use Rattle.stim_parser.specs.declared.target.Target.TheVariants.{Back}
 use Rattle.stim_parser.specs.Circuits.{AllFit, Fits, IsCircuit, target_is_written}
 use Rattle.stim_parser.specs.Trees.{Tree}
 use Rattle.block_text.specs.Trees.{Nothing, Then, Block}
 use Rattle.stim_parser.specs.Verdicts.{Instruction}
-use Rattle.unroll.specs.Detectors.{detectors_from, detectors_of}
+use Rattle.unroll.specs.private.Detectors.{detectors_from, detectors_of}
 use Rattle.unroll.specs.TargetsMade.{operation_detectors, records_named}
 use Rattle.block_text.specs.Reached.{copies, reached}
-use Rattle.unroll.specs.Observables.{added_from, instruction_adds, observables_of}
-use Rattle.unroll.specs.Counted.{first_far_from}
+use Rattle.unroll.specs.private.Observables.{added_from, instruction_adds, observables_of}
+use Rattle.unroll.specs.private.Counted.{first_far_from}
 use Rattle.unroll.specs.Totals.{observable_total, observables_to}
-use Rattle.unroll.specs.MadeTotals.{record_count, record_total}
+use Rattle.unroll.specs.private.MadeTotals.{record_count, record_total}
 use Rattle.unroll.proofs.ReachedCounts.{sum-reached}
 use Rattle.unroll.proofs.RecordLemmas.{AreBack, AreNear, IsNear, near-tree}
 
@@ -49,7 +49,7 @@ named-below r n (Back k ∷ ts) h w le =
 named-below r n (t ∷ ts) h w le = absurd h
 
 operation-below : (r n : ℕ) (o : Operation) (ts : List Target) → IsNear r o ts → list_all target_is_written ts ≡ true → r ≤ n → All (AreBelow n) (operation_detectors r o ts)
-operation-below r n Detects ts h w le =
+operation-below r n DetectorDeclaration ts h w le =
     All-cons (AreBelow n) (records_named r ts) [] (named-below r n ts h w le) (All-nil (AreBelow n))
 operation-below r n o ts h w le = All-nil (AreBelow n)
 
@@ -58,8 +58,8 @@ below_if n true records h = h
 below_if n false records h = All-nil (λ m. m < n)
 
 added-below : (r n k : ℕ) (o : Operation) (arguments : List (List ℕ)) (ts : List Target) → IsNear r o ts → list_all target_is_written ts ≡ true → r ≤ n → AreBelow n (if observables_to o arguments == k + 1 then records_named r ts else [])
-added-below r n k Observes arguments ts h w le =
-    below_if n (observables_to Observes arguments == k + 1) (records_named r ts) (named-below r n ts h w le)
+added-below r n k ObservableInclude arguments ts h w le =
+    below_if n (observables_to ObservableInclude arguments == k + 1) (records_named r ts) (named-below r n ts h w le)
 added-below r n k o arguments ts h w le =
     let other : eqb 0 (k + 1) ≡ false = ne_eqb 0 (k + 1) (λ e. omega (arith, e)) in
     All-same (λ m. m < n) (if 0 == k + 1 then records_named r ts else []) []

@@ -9,9 +9,9 @@ use Rattle.block_text.specs.Texts.{refused}
 use Rattle.stim_parser.specs.Trees.{Tree}
 use Rattle.block_text.specs.Reached.{written}
 use Rattle.unroll.specs.Refusals.{first_beyond, has_many_steps, most_collapses, most_detectors, most_records, most_steps, of_circuit}
-use Rattle.unroll.specs.Counted.{counts_many_detectors, counts_many_records, first_far_from, refusal_counted}
+use Rattle.unroll.specs.private.Counted.{counts_many_detectors, counts_many_records, first_far_from, refusal_counted}
 use Rattle.unroll.specs.Totals.{step_total}
-use Rattle.unroll.specs.MadeTotals.{collapse_total, detector_total, record_total}
+use Rattle.unroll.specs.private.MadeTotals.{collapse_total, detector_total, record_total}
 
 pub record IsWithinLimits (t : Tree) : Type 0 where
   pub near : first_far_from 0 t ≡ None

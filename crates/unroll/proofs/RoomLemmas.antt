@@ -2,19 +2,19 @@
 use Rattle.std.proofs.Common.{ℕ, zero, suc, ◌+◌, ◌*◌, ◌<◌, ◌≤◌, List, [], ◌∷◌, ◌++◌, length, map, ap, append_assoc, append-nil, arith}
 use Rattle.std.proofs.lemmas.List.{length-map}
 use Rattle.stim_parser.specs.declared.operation.Operation.{Operation}
-use Rattle.stim_parser.specs.declared.operation.Operation.TheVariants.{Measures, MeasuresAndResets, MeasuresProducts, Errs, ErrsTogether}
+use Rattle.stim_parser.specs.declared.operation.Operation.TheVariants.{Measurement, MeasurementReset, ProductMeasurement, PauliError, CorrelatedError}
 use Rattle.stim_parser.specs.declared.target.Target.{Target}
 use Rattle.stim_parser.specs.Circuits.{AllFit}
 use Rattle.stim_parser.specs.Texts.{Item}
 use Rattle.stim_parser.specs.Trees.{Tree}
-use Rattle.block_text.specs.Trees.{Nothing, Then, Block, Does, Begins, Ends}
+use Rattle.block_text.specs.Trees.{Nothing, Then, Block, InstructionLine, BlockStart, BlockEnd}
 use Rattle.stim_parser.specs.Judged.{items_of}
 use Rattle.stim_parser.specs.Verdicts.{Instruction}
-use Rattle.unroll.specs.Kept.{entries_of, entry_at, flip_entries, operation_entries, operation_products, products_in}
+use Rattle.unroll.specs.private.Kept.{entries_of, entry_at, flip_entries, operation_entries, operation_products, products_in}
 use Rattle.unroll.specs.Targets.{term_of}
 use Rattle.stim_parser.specs.Limits.{products_of}
 use Rattle.unroll.specs.Totals.{step_total, target_count, first_argument}
-use Rattle.unroll.specs.MadeTotals.{step_count}
+use Rattle.unroll.specs.private.MadeTotals.{step_count}
 use Rattle.block_text.specs.Reached.{total}
 
 -- ---- one instruction
@@ -24,18 +24,18 @@ few_flips [] = omega arith
 few_flips (p ∷ arguments) = omega arith
 
 few_operation_entries : (o : Operation) (arguments : List (List ℕ)) (targets : List Target) → length (operation_entries o arguments targets) ≤ 1 + target_count o targets
-few_operation_entries (Measures l) arguments targets = omega (arith, few_flips arguments)
-few_operation_entries (MeasuresAndResets l) arguments targets = omega (arith, few_flips arguments)
-few_operation_entries MeasuresProducts arguments targets = omega (arith, few_flips arguments)
-few_operation_entries (Errs l) arguments targets = omega (arith, length-map targets (entry_at l (first_argument arguments)))
-few_operation_entries ErrsTogether arguments targets = omega arith
+few_operation_entries (Measurement l) arguments targets = omega (arith, few_flips arguments)
+few_operation_entries (MeasurementReset l) arguments targets = omega (arith, few_flips arguments)
+few_operation_entries ProductMeasurement arguments targets = omega (arith, few_flips arguments)
+few_operation_entries (PauliError l) arguments targets = omega (arith, length-map targets (entry_at l (first_argument arguments)))
+few_operation_entries CorrelatedError arguments targets = omega arith
 few_operation_entries o arguments targets = omega arith
 
 pub few_entries : (i : Instruction) → length (entries_of i) ≤ step_count i
 few_entries i = few_operation_entries i.operation i.arguments i.targets
 
 few_operation_products : (o : Operation) (targets : List Target) → length (operation_products o targets) ≤ 1 + target_count o targets
-few_operation_products MeasuresProducts targets = omega (arith, length-map (products_of targets) (map term_of))
+few_operation_products ProductMeasurement targets = omega (arith, length-map (products_of targets) (map term_of))
 few_operation_products o targets = omega arith
 
 pub few_products : (i : Instruction) → length (products_in i) ≤ step_count i
@@ -46,9 +46,9 @@ few_products i = few_operation_products i.operation i.targets
 -- the counts of the instructions among items, each once
 abbrev pub counted_once : List Item → ℕ
 counted_once [] = 0
-counted_once (Does i ∷ items) = step_count i + counted_once items
-counted_once (Begins line turns ∷ items) = counted_once items
-counted_once (Ends ∷ items) = counted_once items
+counted_once (InstructionLine i ∷ items) = step_count i + counted_once items
+counted_once (BlockStart line turns ∷ items) = counted_once items
+counted_once (BlockEnd ∷ items) = counted_once items
 
 one_turn : (turns n : ℕ) → 0 < turns → n ≤ turns * n
 one_turn zero n h = absurd (omega (arith, h))
@@ -59,8 +59,8 @@ unfolding total
 once_before Nothing rest fit = omega arith
 once_before (Then i t) rest fit = omega (arith, once_before t rest fit.1)
 once_before (Block line turns t u) rest fit =
-    let items = append_assoc (items_of t) (Ends ∷ items_of u) rest in
-    let body = once_before t (Ends ∷ (items_of u ++ rest)) fit.1 in
+    let items = append_assoc (items_of t) (BlockEnd ∷ items_of u) rest in
+    let body = once_before t (BlockEnd ∷ (items_of u ++ rest)) fit.1 in
     let behind = once_before u rest fit.2 in
     let turn = one_turn turns (1 + total 1 step_count t) fit.0 in
     omega (arith, ap counted_once items, body, behind, turn)

@@ -8,8 +8,8 @@ use Rattle.programs.specs.Trees.{repeated}
 use Rattle.stim_parser.specs.Trees.{Tree}
 use Rattle.block_text.specs.Trees.{Nothing, Then, Block}
 use Rattle.stim_parser.specs.Verdicts.{Instruction}
-use Rattle.unroll.specs.Kept.{entries_of, kept_entries, kept_products, products_in}
-use Rattle.unroll.specs.Steps.{instruction_steps, steps_from}
+use Rattle.unroll.specs.private.Kept.{entries_of, kept_entries, kept_products, products_in}
+use Rattle.unroll.specs.private.Steps.{instruction_steps, steps_from}
 use Rattle.unroll.proofs.FarLemmas.{EachOf}
 
 pub both_pass : {X : Type 0} (test : X → Bool) (xs ys : List X) → list_all test xs ≡ true → list_all test ys ≡ true → list_all test (xs ++ ys) ≡ true

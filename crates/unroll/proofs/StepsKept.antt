@@ -14,18 +14,18 @@ use Rattle.programs.specs.Trees.{repeated}
 use Rattle.step_model.specs.declared.step.Term.{Term}
 use Rattle.programs.specs.Kept.{Kept, none_kept}
 use Rattle.stim_parser.specs.declared.operation.Operation.{Operation}
-use Rattle.stim_parser.specs.declared.operation.Operation.TheVariants.{Applies, Measures, Resets, MeasuresAndResets, MeasuresProducts, Errs, ErrsTogether}
+use Rattle.stim_parser.specs.declared.operation.Operation.TheVariants.{Applies, Measurement, QubitReset, MeasurementReset, ProductMeasurement, PauliError, CorrelatedError}
 use Rattle.stim_parser.specs.declared.target.Target.{Target}
 use Rattle.stim_parser.specs.Trees.{Tree}
 use Rattle.block_text.specs.Trees.{Nothing, Then, Block}
 use Rattle.block_text.specs.Reached.{written}
-use Rattle.unroll.specs.Kept.{entries_of, entry_at, entry_of, flip_entries, kept_entries, kept_products, operation_entries, operation_products, products_in}
+use Rattle.unroll.specs.private.Kept.{entries_of, entry_at, entry_of, flip_entries, kept_entries, kept_products, operation_entries, operation_products, products_in}
 use Rattle.unroll.specs.Totals.{first_argument}
-use Rattle.unroll.specs.Made.{fault_steps, gate_steps, measure_step, one_step, operation_steps, pair_step, pair_steps, paired, product_steps, record_back, reset_step}
+use Rattle.unroll.specs.private.Made.{fault_steps, gate_steps, measure_step, one_step, operation_steps, pair_step, pair_steps, paired, product_steps, record_back, reset_step}
 use Rattle.unroll.specs.StepsMade.{flip_of}
 use Rattle.stim_parser.specs.Limits.{products_of}
 use Rattle.unroll.specs.Targets.{term_of}
-use Rattle.unroll.specs.Steps.{instruction_steps, steps_from, steps_of}
+use Rattle.unroll.specs.private.Steps.{instruction_steps, steps_from, steps_of}
 use Rattle.unroll.proofs.PartPlaces.{StandsAt, stands_before, stands_behind, stands_itself}
 use Rattle.unroll.proofs.StepTests.{both_pass, turns_pass}
 
@@ -94,17 +94,17 @@ faults_kept ks ps e (t ∷ ts) le =
 
 operation_kept : (ks : List Kept) (ps : List (List Term)) (e p : ℕ) (o : Operation) (arguments : List (List ℕ)) (ts : List Target) → StandsAt ks e (operation_entries o arguments ts) → StandsAt ps p (operation_products o ts) → list_all (is_kept ks ps) (operation_steps o e p (flip_of e arguments) ts) ≡ true
 operation_kept ks ps e p (Applies g) arguments ts h k = gates_kept ks ps g ts
-operation_kept ks ps e p (Measures l) arguments ts h k =
+operation_kept ks ps e p (Measurement l) arguments ts h k =
     measures_kept ks ps l false (flip_of e arguments) ts (flip_kept ks e arguments h)
-operation_kept ks ps e p (Resets l) arguments ts h k = resets_kept ks ps l ts
-operation_kept ks ps e p (MeasuresAndResets l) arguments ts h k =
+operation_kept ks ps e p (QubitReset l) arguments ts h k = resets_kept ks ps l ts
+operation_kept ks ps e p (MeasurementReset l) arguments ts h k =
     measures_kept ks ps l true (flip_of e arguments) ts (flip_kept ks e arguments h)
-operation_kept ks ps e p MeasuresProducts arguments ts h k =
+operation_kept ks ps e p ProductMeasurement arguments ts h k =
     words_kept ks ps (flip_of e arguments) p (products_of ts) (flip_kept ks e arguments h)
     (omega (arith, k.there, length-map (products_of ts) (map term_of)))
-operation_kept ks ps e p (Errs l) arguments ts h k =
+operation_kept ks ps e p (PauliError l) arguments ts h k =
     faults_kept ks ps e ts (omega (arith, h.there, length-map ts (entry_at l (first_argument arguments))))
-operation_kept ks ps e p ErrsTogether arguments ts h k =
+operation_kept ks ps e p CorrelatedError arguments ts h k =
     and_from (nat_lt e (length ks)) true (lt-ltb e (length ks) (omega (arith, h.there))) refl
 operation_kept ks ps e p o arguments ts h k = refl
 

@@ -12,13 +12,13 @@ use Rattle.stim_parser.specs.Trees.{Tree}
 use Rattle.block_text.specs.Trees.{Nothing, Then, Block}
 use Rattle.stim_parser.specs.Verdicts.{Instruction}
 use Rattle.unroll.specs.declared.totals.Totals.{Totals}
-use Rattle.unroll.specs.Passes.{behind}
+use Rattle.unroll.specs.private.Passes.{behind}
 use Rattle.unroll.specs.Refusals.{is_far, reaches_far}
-use Rattle.unroll.specs.Counted.{first_far_from}
-use Rattle.unroll.specs.Summed.{AreTotals, capped_sum, far_line_after, greatest, nothing_summed, repeated_sum, summing, totals_after, totals_repeated}
+use Rattle.unroll.specs.private.Counted.{first_far_from}
+use Rattle.unroll.specs.private.Summed.{AreTotals, capped_sum, far_line_after, greatest, nothing_summed, repeated_sum, summing, totals_after, totals_repeated}
 use Rattle.block_text.specs.Reached.{total}
-use Rattle.unroll.specs.MadeTotals.{fault_count, made_count, collapse_count, detector_count, record_count, step_count}
-use Rattle.unroll.specs.Pushed.{back_of}
+use Rattle.unroll.specs.private.MadeTotals.{fault_count, made_count, collapse_count, detector_count, record_count, step_count}
+use Rattle.unroll.specs.private.Pushed.{back_of}
 use Rattle.unroll.proofs.FitLemmas.{backs_within}
 
 -- ---- one sum

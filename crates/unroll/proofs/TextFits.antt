@@ -12,7 +12,7 @@ use Rattle.programs.specs.declared.step.TextStep.{TextStep}
 use Rattle.programs.specs.Fits.{text_fits}
 use Rattle.step_model.specs.Listing.{is_I}
 use Rattle.stim_parser.specs.declared.operation.Operation.{Operation}
-use Rattle.stim_parser.specs.declared.operation.Operation.TheVariants.{Applies, Measures, Resets, MeasuresAndResets, MeasuresProducts, Errs}
+use Rattle.stim_parser.specs.declared.operation.Operation.TheVariants.{Applies, Measurement, QubitReset, MeasurementReset, ProductMeasurement, PauliError}
 use Rattle.stim_parser.specs.declared.target.Target.{Target}
 use Rattle.stim_parser.specs.declared.target.Target.TheVariants.{Plain, Inverted}
 use Rattle.stim_parser.specs.Circuits.{IsCircuit}
@@ -20,11 +20,11 @@ use Rattle.stim_parser.specs.Instructions.{gate_targets}
 use Rattle.stim_parser.specs.Limits.{are_of_form, has_same_qubit, is_plain, is_plain_or_inverted, is_same_qubit, products_of, some_pair, qubit_of}
 use Rattle.stim_parser.specs.Trees.{Tree}
 use Rattle.stim_parser.specs.Verdicts.{Instruction}
-use Rattle.unroll.specs.Made.{fault_steps, gate_steps, measure_step, one_step, operation_steps, pair_steps, product_steps, reset_step}
+use Rattle.unroll.specs.private.Made.{fault_steps, gate_steps, measure_step, one_step, operation_steps, pair_steps, product_steps, reset_step}
 use Rattle.unroll.specs.StepsMade.{flip_of}
-use Rattle.unroll.specs.Steps.{instruction_steps, steps_of}
+use Rattle.unroll.specs.private.Steps.{instruction_steps, steps_of}
 use Rattle.unroll.specs.Totals.{qubits_to, qubit_total}
-use Rattle.unroll.specs.MadeTotals.{qubits_named}
+use Rattle.unroll.specs.private.MadeTotals.{qubits_named}
 use Rattle.unroll.proofs.PairSteps.{from_plain, from_record_first, of_pairs, pairs_fit}
 use Rattle.unroll.proofs.QubitsWithin.{FitsOn, circuit_fits_on}
 use Rattle.unroll.proofs.StepTests.{steps_pass}
@@ -91,13 +91,13 @@ faults_fit n e (t ∷ ts) = faults_fit n (e + 1) ts
 operation_fits : (n e p line : ℕ) (o : Operation) (arguments : List (List ℕ)) (ts : List Target) → FitsOn n (record { line = line; operation = o; arguments = arguments; targets = ts }) → list_all (text_fits n) (operation_steps o e p (flip_of e arguments) ts) ≡ true
 unfolding are_of_form
 operation_fits n e p line (Applies g) arguments ts h = gate_fits n g ts h.fits.targets h.fits.different h.within
-operation_fits n e p line (Measures l) arguments ts h =
+operation_fits n e p line (Measurement l) arguments ts h =
     measures_fit n l false (flip_of e arguments) ts h.fits.operation_written h.fits.targets h.within
-operation_fits n e p line (Resets l) arguments ts h = resets_fit n l ts h.fits.operation_written h.fits.targets h.within
-operation_fits n e p line (MeasuresAndResets l) arguments ts h =
+operation_fits n e p line (QubitReset l) arguments ts h = resets_fit n l ts h.fits.operation_written h.fits.targets h.within
+operation_fits n e p line (MeasurementReset l) arguments ts h =
     measures_fit n l true (flip_of e arguments) ts h.fits.operation_written h.fits.targets h.within
-operation_fits n e p line MeasuresProducts arguments ts h = words_fit n (flip_of e arguments) p (products_of ts)
-operation_fits n e p line (Errs l) arguments ts h = faults_fit n e ts
+operation_fits n e p line ProductMeasurement arguments ts h = words_fit n (flip_of e arguments) p (products_of ts)
+operation_fits n e p line (PauliError l) arguments ts h = faults_fit n e ts
 operation_fits n e p line o arguments ts h = refl
 
 instruction_fits : (n e p : ℕ) (i : Instruction) → FitsOn n i → list_all (text_fits n) (instruction_steps e p i) ≡ true

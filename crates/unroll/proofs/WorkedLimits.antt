@@ -8,14 +8,14 @@ use Rattle.step_model.specs.declared.fault.Fault.{Fault}
 use Rattle.step_model.specs.Faults.{unless}
 use Rattle.block_text.specs.Trees.{Nothing, Then, Block}
 use Rattle.block_text.proofs.TreeLemmas.{each_tree_fits}
-use Rattle.stim_parser.specs.declared.operation.Operation.TheVariants.{Applies, Measures, Resets, Detects}
+use Rattle.stim_parser.specs.declared.operation.Operation.TheVariants.{Applies, Measurement, QubitReset, DetectorDeclaration}
 use Rattle.stim_parser.specs.declared.target.Target.TheVariants.{Plain}
 use Rattle.stim_parser.specs.Circuits.{Fits}
 use Rattle.stim_parser.specs.Judged.{Writes}
 use Rattle.stim_parser.specs.Texts.{circuits}
 use Rattle.stim_parser.specs.Trees.{Tree}
 use Rattle.stim_parser.proofs.CircuitFits.{reading_fits}
-use Rattle.unroll.specs.Counted.{refusal_counted}
+use Rattle.unroll.specs.private.Counted.{refusal_counted}
 use Rattle.unroll.specs.Meaning.{listing_of}
 use Rattle.unroll.specs.Programs.{program_in}
 use Rattle.unroll.proofs.FarLines.{refused-as-counted}
@@ -33,21 +33,21 @@ too_many_records : program_in (codes "REPEAT 8000001 {\nM 0\n}\n") ≡ Err (reco
 unfolding on_texts
 too_many_records =
     by_count (codes "REPEAT 8000001 {\nM 0\n}\n")
-    (Block 1 8000001 (Then (record { line = 2; operation = Measures letter.Z; arguments = []; targets = Plain 0 ∷ [] }) Nothing) Nothing)
+    (Block 1 8000001 (Then (record { line = 2; operation = Measurement letter.Z; arguments = []; targets = Plain 0 ∷ [] }) Nothing) Nothing)
     (record { cause = cause.Records; line = 0 }) refl refl
 
 too_many_collapses : program_in (codes "REPEAT 4000001 {\nR 0 1\n}\n") ≡ Err (record { cause = cause.Records; line = 0 })
 unfolding on_texts
 too_many_collapses =
     by_count (codes "REPEAT 4000001 {\nR 0 1\n}\n")
-    (Block 1 4000001 (Then (record { line = 2; operation = Resets letter.Z; arguments = []; targets = Plain 0 ∷ Plain 1 ∷ [] }) Nothing) Nothing)
+    (Block 1 4000001 (Then (record { line = 2; operation = QubitReset letter.Z; arguments = []; targets = Plain 0 ∷ Plain 1 ∷ [] }) Nothing) Nothing)
     (record { cause = cause.Records; line = 0 }) refl refl
 
 too_many_detectors : program_in (codes "REPEAT 1000001 {\nDETECTOR\n}\n") ≡ Err (record { cause = cause.Detectors; line = 0 })
 unfolding on_texts
 too_many_detectors =
     by_count (codes "REPEAT 1000001 {\nDETECTOR\n}\n")
-    (Block 1 1000001 (Then (record { line = 2; operation = Detects; arguments = []; targets = [] }) Nothing) Nothing)
+    (Block 1 1000001 (Then (record { line = 2; operation = DetectorDeclaration; arguments = []; targets = [] }) Nothing) Nothing)
     (record { cause = cause.Detectors; line = 0 }) refl refl
 
 -- a gate of one target counts two, and the turn one more

@@ -8,11 +8,11 @@ use Rattle.step_model.specs.declared.step.Term.{Term}
 use Rattle.programs.specs.Kept.{Kept}
 use Rattle.stim_parser.specs.Texts.{Item}
 use Rattle.stim_parser.specs.Trees.{Tree}
-use Rattle.block_text.specs.Trees.{Nothing, Then, Block, Does, Begins, Ends}
+use Rattle.block_text.specs.Trees.{Nothing, Then, Block, InstructionLine, BlockStart, BlockEnd}
 use Rattle.stim_parser.specs.Judged.{items_of}
 use Rattle.block_text.specs.Reached.{written}
-use Rattle.unroll.specs.Kept.{entries_of, kept_entries, kept_products, products_in}
-use Rattle.unroll.specs.Steps.{instruction_steps, steps_from, steps_of}
+use Rattle.unroll.specs.private.Kept.{entries_of, kept_entries, kept_products, products_in}
+use Rattle.unroll.specs.private.Steps.{instruction_steps, steps_from, steps_of}
 
 -- the steps of a circuit, and what is kept beside them
 pub record Written : Type 0 where
@@ -23,12 +23,12 @@ pub record Written : Type 0 where
 -- what items make behind what is there, where these blocks are open, the innermost first
 abbrev pub written_from : List Item → List OpenBlock → List TextStep → List Kept → List (List Term) → Written
 written_from [] outer here ks ps = record { steps = here; entries = ks; products = ps }
-written_from (Does i ∷ items) outer here ks ps =
+written_from (InstructionLine i ∷ items) outer here ks ps =
     written_from items outer (here ++ instruction_steps (length ks) (length ps) i) (ks ++ entries_of i) (ps ++ products_in i)
-written_from (Begins line turns ∷ items) outer here ks ps =
+written_from (BlockStart line turns ∷ items) outer here ks ps =
     written_from items (record { before = here; turns = turns } ∷ outer) [] ks ps
-written_from (Ends ∷ items) [] here ks ps = record { steps = here; entries = ks; products = ps }
-written_from (Ends ∷ items) (b ∷ outer) here ks ps = written_from items outer (b.before ++ repeated b.turns here) ks ps
+written_from (BlockEnd ∷ items) [] here ks ps = record { steps = here; entries = ks; products = ps }
+written_from (BlockEnd ∷ items) (b ∷ outer) here ks ps = written_from items outer (b.before ++ repeated b.turns here) ks ps
 
 flat_map-append : {X Y : Type 0} (f : X → List Y) (xs ys : List X) → flat_map f (xs ++ ys) ≡ flat_map f xs ++ flat_map f ys
 flat_map-append f [] ys = refl
@@ -58,8 +58,8 @@ written-items (Then i t) rest outer here ks ps =
 written-items (Block line turns t u) rest outer here ks ps =
     let block : OpenBlock = record { before = here; turns = turns } in
     let body = steps_from (length ks) (length ps) t in
-    ap (λ (items : List Item). written_from items (block ∷ outer) [] ks ps) (append_assoc (items_of t) (Ends ∷ items_of u) rest)
-    ∙ written-items t (Ends ∷ (items_of u ++ rest)) (block ∷ outer) [] ks ps
+    ap (λ (items : List Item). written_from items (block ∷ outer) [] ks ps) (append_assoc (items_of t) (BlockEnd ∷ items_of u) rest)
+    ∙ written-items t (BlockEnd ∷ (items_of u ++ rest)) (block ∷ outer) [] ks ps
     ∙ written-items u rest outer (here ++ repeated turns body) (ks ++ kept_entries t) (ps ++ kept_products t)
     ∙ same_written rest outer _ _ _ _ _ _
     (steps_then here (repeated turns body) ks (kept_entries t) ps (kept_products t) u)

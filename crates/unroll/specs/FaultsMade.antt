@@ -7,7 +7,7 @@ use Rattle.std.specs.Prelude.{ℕ, List, [], ◌∷◌, map, unwrap_or}
 use Rattle.step_model.specs.Listing.{ListedFault, Effect, Applies, Flips}
 use Rattle.step_model.specs.Probabilities.{probability_bound}
 use Rattle.stim_parser.specs.declared.operation.Operation.{Operation}
-use Rattle.stim_parser.specs.declared.operation.Operation.TheVariants.{Errs, ErrsTogether}
+use Rattle.stim_parser.specs.declared.operation.Operation.TheVariants.{PauliError, CorrelatedError}
 use Rattle.stim_parser.specs.declared.target.Target.{Target}
 use Rattle.unroll.specs.Targets.{term_at, term_of}
 use Rattle.unroll.specs.Totals.{first_argument}
@@ -25,6 +25,6 @@ flips_made (probability ∷ arguments) records = map (λ r. fault_with (probabil
 
 -- the faults of an operation with these arguments and targets, where its steps make these records
 abbrev pub faults_made : List ℕ → Operation → List (List ℕ) → List Target → List ListedFault
-faults_made records (Errs l) arguments targets = map (λ target. fault_with arguments (Applies (term_at l target ∷ []))) targets
-faults_made records ErrsTogether arguments targets = fault_with arguments (Applies (map term_of targets)) ∷ []
+faults_made records (PauliError l) arguments targets = map (λ target. fault_with arguments (Applies (term_at l target ∷ []))) targets
+faults_made records CorrelatedError arguments targets = fault_with arguments (Applies (map term_of targets)) ∷ []
 faults_made records operation arguments targets = flips_made arguments records

@@ -15,7 +15,7 @@ use Rattle.pauli_word.specs.declared.letter.Letter.TheVariants as letter
 use Rattle.pauli_word.specs.Words.{lone_letter}
 use Rattle.step_model.specs.Listing.{ListedStep, One, Two, Collapse, Fault, Feedback, Measured, Word, Reset, word_of_terms}
 use Rattle.stim_parser.specs.declared.operation.Operation.{Operation}
-use Rattle.stim_parser.specs.declared.operation.Operation.TheVariants.{Applies, Measures, Resets, MeasuresAndResets, MeasuresProducts, Errs, ErrsTogether}
+use Rattle.stim_parser.specs.declared.operation.Operation.TheVariants.{Applies, Measurement, QubitReset, MeasurementReset, ProductMeasurement, PauliError, CorrelatedError}
 use Rattle.stim_parser.specs.declared.target.Target.{Target}
 use Rattle.stim_parser.specs.declared.target.Target.TheVariants.{Back}
 use Rattle.unroll.specs.Before.{Before}
@@ -67,13 +67,13 @@ collapses_made b arguments measured inverted xs =
 -- the steps of an operation with these arguments and targets, on n qubits
 abbrev pub operation_made : ℕ → Before → Operation → List (List ℕ) → List Target → List ListedStep
 operation_made n b (Applies g) arguments targets = gate_made n b.records g targets
-operation_made n b (Measures l) arguments targets =
+operation_made n b (Measurement l) arguments targets =
     collapses_made b arguments (λ target. Word (lone_letter n (qubit_of target) l)) is_inverted targets
-operation_made n b (Resets l) arguments targets = map (λ target. Collapse (Reset l (qubit_of target)) None) targets
-operation_made n b (MeasuresAndResets l) arguments targets =
+operation_made n b (QubitReset l) arguments targets = map (λ target. Collapse (Reset l (qubit_of target)) None) targets
+operation_made n b (MeasurementReset l) arguments targets =
     collapses_made b arguments (λ target. Reset l (qubit_of target)) is_inverted targets
-operation_made n b MeasuresProducts arguments targets =
+operation_made n b ProductMeasurement arguments targets =
     collapses_made b arguments (λ product. Word (word_of_terms n (map term_of product))) is_product_inverted (products_of targets)
-operation_made n b (Errs l) arguments targets = numbered_from b.faults (λ f target. Fault f) targets
-operation_made n b ErrsTogether arguments targets = Fault b.faults ∷ []
+operation_made n b (PauliError l) arguments targets = numbered_from b.faults (λ f target. Fault f) targets
+operation_made n b CorrelatedError arguments targets = Fault b.faults ∷ []
 operation_made n b operation arguments targets = []

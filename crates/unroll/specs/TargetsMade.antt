@@ -6,7 +6,7 @@
 -- github.com/quantumlib/Stim, doc/gates.md, "DETECTOR", "SHIFT_COORDS", "OBSERVABLE_INCLUDE".)
 use Rattle.std.specs.Prelude.{ℕ, ◌-◌, ◌==◌, Bool, false, if◌then◌else◌, ℤ, List, [], ◌∷◌, map}
 use Rattle.stim_parser.specs.declared.operation.Operation.{Operation}
-use Rattle.stim_parser.specs.declared.operation.Operation.TheVariants.{Detects, Observes, ShiftsCoordinates}
+use Rattle.stim_parser.specs.declared.operation.Operation.TheVariants.{DetectorDeclaration, ObservableInclude, CoordinateShift}
 use Rattle.stim_parser.specs.declared.target.Target.{Target}
 use Rattle.stim_parser.specs.declared.target.Target.TheVariants.{Back}
 use Rattle.stim_parser.specs.Numbers.{value_of, whole_value}
@@ -23,22 +23,22 @@ records_named r targets = map (record_named r) targets
 
 -- the detectors of an operation with these targets after r records: one or none
 abbrev pub operation_detectors : ℕ → Operation → List Target → List (List ℕ)
-operation_detectors r Detects targets = records_named r targets ∷ []
+operation_detectors r DetectorDeclaration targets = records_named r targets ∷ []
 operation_detectors r operation targets = []
 
 -- their coordinates, with this offset
 abbrev pub operation_coordinates : List ℤ → Operation → List (List ℕ) → List (List ℤ)
-operation_coordinates offset Detects arguments = moved offset (map whole_value arguments) ∷ []
+operation_coordinates offset DetectorDeclaration arguments = moved offset (map whole_value arguments) ∷ []
 operation_coordinates offset operation arguments = []
 
 -- the offset after an operation with these arguments
 abbrev pub offset_after : List ℤ → Operation → List (List ℕ) → List ℤ
-offset_after offset ShiftsCoordinates arguments = shifted offset (map whole_value arguments)
+offset_after offset CoordinateShift arguments = shifted offset (map whole_value arguments)
 offset_after offset operation arguments = offset
 
 -- whether an operation with these arguments adds to the observable k
 abbrev pub adds_to : ℕ → Operation → List (List ℕ) → Bool
-adds_to k Observes arguments = value_of (first_argument arguments) == k
+adds_to k ObservableInclude arguments = value_of (first_argument arguments) == k
 adds_to k operation arguments = false
 
 -- what it adds to it after r records

@@ -5,7 +5,7 @@
 use Rattle.std.specs.Prelude.{ℕ, ◌+◌, List, [], length, slice_index_or}
 use Rattle.block_text.specs.Reached.{greatest_by, total, written}
 use Rattle.stim_parser.specs.declared.operation.Operation.{Operation}
-use Rattle.stim_parser.specs.declared.operation.Operation.TheVariants.{MeasuresProducts, Observes}
+use Rattle.stim_parser.specs.declared.operation.Operation.TheVariants.{ProductMeasurement, ObservableInclude}
 use Rattle.stim_parser.specs.declared.target.Target.{Target}
 use Rattle.stim_parser.specs.declared.target.Target.TheVariants.{Plain, Inverted, Pauli}
 use Rattle.stim_parser.specs.Trees.{Tree}
@@ -16,7 +16,7 @@ use Rattle.stim_parser.specs.Limits.{products_of}
 
 -- how many targets an operation has in these, a product being one
 abbrev pub target_count : Operation → List Target → ℕ
-target_count MeasuresProducts targets = length (products_of targets)
+target_count ProductMeasurement targets = length (products_of targets)
 target_count operation targets = length targets
 
 -- the steps of a tree as its limit counts them
@@ -44,7 +44,7 @@ first_argument arguments = slice_index_or arguments 0 []
 
 -- how many observables there must be for an operation with these arguments: one more than the number that it names
 abbrev pub observables_to : Operation → List (List ℕ) → ℕ
-observables_to Observes arguments = value_of (first_argument arguments) + 1
+observables_to ObservableInclude arguments = value_of (first_argument arguments) + 1
 observables_to operation arguments = 0
 
 abbrev pub observable_total : Tree → ℕ

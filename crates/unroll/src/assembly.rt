@@ -1,9 +1,9 @@
 ghost use Rattle.std.specs.Prelude.{◌≡◌, ◌⊎◌, None, Ok, Err, IfOk, IfErr};
 ghost use Rattle.step_model.specs.Faults.{memory_fault};
 ghost use Rattle.programs.specs.Made.{kept_program, PartsFit};
-ghost use Rattle.unroll.specs.Assembled.{ArePartsOf, HasLists};
-ghost use Rattle.unroll.specs.Counted.{refusal_counted};
-ghost use Rattle.unroll.specs.Summed.{AreTotals};
+ghost use Rattle.unroll.specs.private.Assembled.{ArePartsOf, HasLists};
+ghost use Rattle.unroll.specs.private.Counted.{refusal_counted};
+ghost use Rattle.unroll.specs.private.Summed.{AreTotals};
 ghost use Rattle.unroll.specs.Meaning.{listing_of};
 ghost use Rattle.unroll.specs.Programs.{program_of};
 

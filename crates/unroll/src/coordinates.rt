@@ -1,9 +1,9 @@
 ghost use Rattle.std.specs.Prelude.{◌≡◌, ◌<◌, ◌≤◌, ◌^◌, ◌++◌, All, drop, length, map, slice_range, IfOk, OnOk};
 ghost use Rattle.stim_parser.specs.Circuits.{Fits};
 ghost use Rattle.block_text.specs.Kept.{instruction_in};
-ghost use Rattle.unroll.specs.Coordinates.{coordinates_of};
-ghost use Rattle.unroll.specs.Gathered.{later};
-ghost use Rattle.unroll.specs.Placing.{IsStated, added_by, placing};
+ghost use Rattle.unroll.specs.private.Coordinates.{coordinates_of};
+ghost use Rattle.unroll.specs.private.Gathered.{later};
+ghost use Rattle.unroll.specs.private.Placing.{IsStated, added_by, placing};
 ghost use Rattle.unroll.specs.Totals.{step_total};
 
 use crate::marks::Mark;
@@ -79,7 +79,7 @@ fn push_coordinates<A: Allocator + Copy>(
     ensures { OnOk result (lists.new ≡ lists.old ++ placing.gives offset.now (instruction_in instruction.entry)) }
 {
     match instruction.operation {
-        Operation::Detects => {
+        Operation::DetectorDeclaration => {
             let stated = coordinates_read(instruction);
             let placed = moved(stated.as_slice(), &offset.up, &offset.down);
             lists.push(placed.as_slice())
@@ -140,18 +140,18 @@ pub(crate) fn coordinates_of<A: Allocator + Copy>(
     let mut blocks: ArrayVec<OpenBlock<Mark<Offset>>, LEVELS> = ArrayVec::new();
     for i in 0..circuit.len() {
         match circuit.item(i) {
-            Item::Does(instruction) => {
+            Item::InstructionLine(instruction) => {
                 push_coordinates(&mut coordinates, &offset, instruction)?;
                 shift(&mut offset, instruction);
             }
-            Item::Begins { turns, .. } => blocks.push(OpenBlock {
+            Item::BlockStart { turns, .. } => blocks.push(OpenBlock {
                 turns,
                 before: Mark {
                     place: offset,
                     found: coordinates.len(),
                 },
             }),
-            Item::Ends => {
+            Item::BlockEnd => {
                 let block = blocks.pop().unwrap();
                 let later = block.turns.saturating_sub(1);
                 push_later_turns(alloc, &mut coordinates, &block.before, later, &offset)?;

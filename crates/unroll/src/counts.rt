@@ -1,5 +1,5 @@
 ghost use Rattle.std.specs.Prelude.{◌≡◌};
-ghost use Rattle.unroll.specs.MadeTotals.{faults_counted, steps_made, records_made, collapses_made, detectors_made};
+ghost use Rattle.unroll.specs.private.MadeTotals.{faults_counted, steps_made, records_made, collapses_made, detectors_made};
 
 use stim_parser::Operation;
 
@@ -9,8 +9,9 @@ pub(crate) fn records_made(operation: Operation, targets: usize) -> usize
     ensures { result ≡ records_made operation targets }
 {
     match operation {
-        Operation::Measures(_) | Operation::MeasuresAndResets(_) | Operation::MeasuresProducts =>
-            targets,
+        Operation::Measurement(_)
+        | Operation::MeasurementReset(_)
+        | Operation::ProductMeasurement => targets,
         _ => 0,
     }
 }
@@ -21,7 +22,7 @@ pub(crate) fn collapses_made(operation: Operation, targets: usize) -> usize
     ensures { result ≡ collapses_made operation targets }
 {
     match operation {
-        Operation::Resets(_) => targets,
+        Operation::QubitReset(_) => targets,
         _ => records_made(operation, targets),
     }
 }
@@ -32,7 +33,7 @@ pub(crate) fn detectors_made(operation: Operation) -> usize
     ensures { result ≡ detectors_made operation }
 {
     match operation {
-        Operation::Detects => 1,
+        Operation::DetectorDeclaration => 1,
         _ => 0,
     }
 }
@@ -43,8 +44,8 @@ pub(crate) fn faults_counted(operation: Operation, flips: bool, targets: usize) 
     ensures { result ≡ faults_counted operation flips targets }
 {
     match operation {
-        Operation::Errs(_) => targets,
-        Operation::ErrsTogether => 1,
+        Operation::PauliError(_) => targets,
+        Operation::CorrelatedError => 1,
         _ => {
             if flips {
                 records_made(operation, targets)
@@ -68,8 +69,8 @@ pub(crate) fn steps_made(operation: Operation, targets: usize) -> usize
                 targets / 2
             }
         }
-        Operation::Errs(_) => targets,
-        Operation::ErrsTogether => 1,
+        Operation::PauliError(_) => targets,
+        Operation::CorrelatedError => 1,
         _ => collapses_made(operation, targets),
     }
 }

@@ -1,10 +1,10 @@
 ghost use Rattle.std.specs.Prelude.{◌≡◌, ◌+◌, ◌-◌, ◌*◌, ◌<◌, ◌≤◌, ◌^◌, ◌++◌, All, None, drop, length, map, slice_range, IfOk, OnOk};
-ghost use Rattle.unroll.specs.Detecting.{records_moved};
-ghost use Rattle.unroll.specs.Detectors.{detectors_of};
+ghost use Rattle.unroll.specs.private.Detecting.{records_moved};
+ghost use Rattle.unroll.specs.private.Detectors.{detectors_of};
 ghost use Rattle.unroll.specs.TargetsMade.{operation_detectors, record_named, records_named};
-ghost use Rattle.unroll.specs.Gathered.{later};
-ghost use Rattle.unroll.specs.Counted.{first_far_from};
-ghost use Rattle.unroll.specs.MadeTotals.{record_count, record_total};
+ghost use Rattle.unroll.specs.private.Gathered.{later};
+ghost use Rattle.unroll.specs.private.Counted.{first_far_from};
+ghost use Rattle.unroll.specs.private.MadeTotals.{record_count, record_total};
 
 use crate::counts::records_made;
 use crate::marks::Mark;
@@ -54,7 +54,7 @@ fn push_detector<A: Allocator + Copy>(
     ensures { OnOk result (detectors.new ≡ detectors.old ++ operation_detectors records operation targets.now) }
 {
     match operation {
-        Operation::Detects => {
+        Operation::DetectorDeclaration => {
             let named = records_named(alloc, records, targets)?;
             detectors.push(&named)
         }
@@ -138,20 +138,20 @@ pub(crate) fn detectors_of<A: Allocator + Copy>(
     let mut blocks: ArrayVec<OpenBlock<Mark<u64>>, LEVELS> = ArrayVec::new();
     for i in 0..circuit.len() {
         match circuit.item(i) {
-            Item::Does(instruction) => {
+            Item::InstructionLine(instruction) => {
                 let operation = instruction.operation;
                 let targets = instruction.targets;
                 push_detector(alloc, &mut detectors, records, operation, targets)?;
                 records += records_made(operation, target_count(operation, targets)) as u64;
             }
-            Item::Begins { turns, .. } => blocks.push(OpenBlock {
+            Item::BlockStart { turns, .. } => blocks.push(OpenBlock {
                 turns,
                 before: Mark {
                     place: records,
                     found: detectors.len(),
                 },
             }),
-            Item::Ends => {
+            Item::BlockEnd => {
                 let block = blocks.pop().unwrap();
                 let later = block.turns.saturating_sub(1);
                 let by = records.saturating_sub(block.before.place);

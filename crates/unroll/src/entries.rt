@@ -2,10 +2,10 @@ ghost use Rattle.std.specs.Prelude.{◌≡◌, ◌<◌, ◌≤◌, [], ◌∷◌
 ghost use Rattle.chances.specs.Chances.{no_chance};
 ghost use Rattle.block_text.specs.Kept.{instruction_in};
 ghost use Rattle.programs.specs.Entries.{entry_from};
-ghost use Rattle.unroll.specs.Kept.{entries_of as entries_made, flip_entries};
+ghost use Rattle.unroll.specs.private.Kept.{entries_of as entries_made, flip_entries};
 ghost use Rattle.unroll.specs.Targets.{pauli_letter, term_at, term_of};
-ghost use Rattle.unroll.specs.Numbered.{IsFlipNumber, IsInstructionNumber, with_entries};
-ghost use Rattle.unroll.specs.Pushed.{IsSmall};
+ghost use Rattle.unroll.specs.private.Numbered.{IsFlipNumber, IsInstructionNumber, with_entries};
+ghost use Rattle.unroll.specs.private.Pushed.{IsSmall};
 ghost use Rattle.unroll.specs.Totals.{qubits_to};
 
 use crate::targets::qubit_of;
@@ -95,11 +95,11 @@ pub(crate) fn push_instruction<A: Allocator + Copy>(
 {
     let number = instruction.mark as usize;
     match instruction.operation {
-        Operation::Measures(_) | Operation::MeasuresAndResets(_) | Operation::MeasuresProducts => {
-            push_flip(entries, instruction)
-        }
-        Operation::Errs(letter) => push_entries(entries, number, letter, instruction.targets),
-        Operation::ErrsTogether => {
+        Operation::Measurement(_)
+        | Operation::MeasurementReset(_)
+        | Operation::ProductMeasurement => { push_flip(entries, instruction) }
+        Operation::PauliError(letter) => push_entries(entries, number, letter, instruction.targets),
+        Operation::CorrelatedError => {
             name_terms(terms, instruction.targets)?;
             entries.push(number, terms)
         }

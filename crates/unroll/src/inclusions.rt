@@ -1,10 +1,10 @@
 ghost use Rattle.std.specs.Prelude.{◌≡◌, ◌+◌, ◌-◌, ◌*◌, ◌<◌, ◌≤◌, ◌^◌, ◌++◌, All, None, drop, length, map, slice_range, vec_len, IfOk, OnOk};
 ghost use Rattle.block_text.specs.Kept.{instruction_in};
 ghost use Rattle.block_text.specs.Reached.{reached};
-ghost use Rattle.unroll.specs.Gathered.{given, later};
-ghost use Rattle.unroll.specs.Including.{including, inclusion_moved, inclusion_of};
-ghost use Rattle.unroll.specs.Counted.{first_far_from};
-ghost use Rattle.unroll.specs.MadeTotals.{record_count, record_total};
+ghost use Rattle.unroll.specs.private.Gathered.{given, later};
+ghost use Rattle.unroll.specs.private.Including.{including, inclusion_moved, inclusion_of};
+ghost use Rattle.unroll.specs.private.Counted.{first_far_from};
+ghost use Rattle.unroll.specs.private.MadeTotals.{record_count, record_total};
 
 use crate::counts::records_made;
 use crate::detectors::record_named;
@@ -51,7 +51,7 @@ fn push_inclusions<A: Allocator + Copy>(
     ensures { OnOk result (inclusions.new.items ≡ inclusions.old.items ++ including.gives records (instruction_in instruction.entry)) }
 {
     match instruction.operation {
-        Operation::Observes => {
+        Operation::ObservableInclude => {
             let observable = first_number(instruction.arguments).unwrap_or(0);
             include_records(inclusions, observable, records, instruction.targets)
         }
@@ -119,19 +119,19 @@ pub(crate) fn inclusions_of<A: Allocator + Copy>(
     let mut blocks: ArrayVec<OpenBlock<Mark<u64>>, LEVELS> = ArrayVec::new();
     for i in 0..circuit.len() {
         match circuit.item(i) {
-            Item::Does(instruction) => {
+            Item::InstructionLine(instruction) => {
                 push_inclusions(&mut inclusions, records, instruction)?;
                 let targets = target_count(instruction.operation, instruction.targets);
                 records += records_made(instruction.operation, targets) as u64;
             }
-            Item::Begins { turns, .. } => blocks.push(OpenBlock {
+            Item::BlockStart { turns, .. } => blocks.push(OpenBlock {
                 turns,
                 before: Mark {
                     place: records,
                     found: inclusions.len(),
                 },
             }),
-            Item::Ends => {
+            Item::BlockEnd => {
                 let block = blocks.pop().unwrap();
                 let later = block.turns.saturating_sub(1);
                 let by = records.saturating_sub(block.before.place);

@@ -1,10 +1,10 @@
 ghost use Rattle.std.specs.Prelude.{◌≡◌, ◌<◌, ◌^◌, [], None, map, IfOk, OnOk};
 ghost use Rattle.block_text.specs.Kept.{instruction_in, item_in};
-ghost use Rattle.unroll.specs.Including.{item_observables, named_to, told_apart, with_place};
-ghost use Rattle.unroll.specs.Observables.{observables_of};
-ghost use Rattle.unroll.specs.Counted.{first_far_from};
+ghost use Rattle.unroll.specs.private.Including.{item_observables, named_to, told_apart, with_place};
+ghost use Rattle.unroll.specs.private.Observables.{observables_of};
+ghost use Rattle.unroll.specs.private.Counted.{first_far_from};
 ghost use Rattle.unroll.specs.Totals.{observable_total};
-ghost use Rattle.unroll.specs.MadeTotals.{record_total};
+ghost use Rattle.unroll.specs.private.MadeTotals.{record_total};
 
 use crate::inclusions::{Inclusion, inclusions_of};
 use flat_lists::FlatLists;
@@ -16,7 +16,7 @@ pub(crate) fn named_to(instruction: Instruction<'_, '_>) -> u64
     ensures { result ≡ named_to (instruction_in instruction.entry).operation (instruction_in instruction.entry).arguments }
 {
     match instruction.operation {
-        Operation::Observes => first_number(instruction.arguments)
+        Operation::ObservableInclude => first_number(instruction.arguments)
             .unwrap_or(0)
             .saturating_add(1),
         _ => 0,
@@ -28,7 +28,7 @@ fn item_observables(item: Item<'_, '_>) -> u64
     ensures { result ≡ item_observables (item_in item.entry) }
 {
     match item {
-        Item::Does(instruction) => named_to(instruction),
+        Item::InstructionLine(instruction) => named_to(instruction),
         _ => 0,
     }
 }

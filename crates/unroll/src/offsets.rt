@@ -1,5 +1,5 @@
 ghost use Rattle.std.specs.Prelude.{◌≡◌, ◌-◌, ◌*◌, ◌<◌, ◌≤◌, ◌^◌, ◌≤ℤ◌, pos, neg_ℤ, All, length, map};
-ghost use Rattle.unroll.specs.Placing.{IsSmall, down_of, moved_to, raised_by, turned_by, up_of};
+ghost use Rattle.unroll.specs.private.Placing.{IsSmall, down_of, moved_to, raised_by, turned_by, up_of};
 
 use arrayvec::ArrayVec;
 

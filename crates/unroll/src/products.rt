@@ -1,8 +1,8 @@
 ghost use Rattle.std.specs.Prelude.{◌≡◌, ◌++◌, All, map, OnOk};
-ghost use Rattle.unroll.specs.Kept.{operation_products};
+ghost use Rattle.unroll.specs.private.Kept.{operation_products};
 ghost use Rattle.stim_parser.specs.Limits.{products_of};
 ghost use Rattle.unroll.specs.Targets.{term_of};
-ghost use Rattle.unroll.specs.Pushed.{IsSmall};
+ghost use Rattle.unroll.specs.private.Pushed.{IsSmall};
 
 use crate::entries::{pauli_letter, term_at};
 use crate::targets::end_of_factor;
@@ -46,7 +46,7 @@ pub(crate) fn push_kept_products<A: Allocator + Copy>(
     ensures { OnOk result (products.new ≡ products.old ++ operation_products operation targets.now) }
 {
     match operation {
-        Operation::MeasuresProducts => push_each_product(products, terms, targets),
+        Operation::ProductMeasurement => push_each_product(products, terms, targets),
         _ => Ok(()),
     }
 }

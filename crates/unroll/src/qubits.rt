@@ -1,6 +1,6 @@
 ghost use Rattle.std.specs.Prelude.{◌≡◌, ◌≤◌};
 ghost use Rattle.block_text.specs.Kept.{item_in};
-ghost use Rattle.unroll.specs.Items.{IsSound, item_qubits};
+ghost use Rattle.unroll.specs.private.Items.{IsSound, item_qubits};
 ghost use Rattle.unroll.specs.Totals.{qubit_total};
 
 use crate::targets::qubits_named;
@@ -14,7 +14,7 @@ fn item_qubits(item: Item<'_, '_>) -> u32
     ensures small { result ≤ 4096 }
 {
     match item {
-        Item::Does(instruction) => qubits_named(instruction.targets),
+        Item::InstructionLine(instruction) => qubits_named(instruction.targets),
         _ => 0,
     }
 }

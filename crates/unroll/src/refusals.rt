@@ -1,11 +1,11 @@
 ghost use Rattle.std.specs.Prelude.{◌≡◌};
 ghost use Rattle.block_text.specs.Kept.{item_in};
-ghost use Rattle.unroll.specs.Beyond.{line_beyond};
-ghost use Rattle.unroll.specs.Counted.{refusal_counted};
+ghost use Rattle.unroll.specs.private.Beyond.{line_beyond};
+ghost use Rattle.unroll.specs.private.Counted.{refusal_counted};
 ghost use Rattle.block_text.specs.Reached.{written};
-ghost use Rattle.unroll.specs.Items.{IsSound};
+ghost use Rattle.unroll.specs.private.Items.{IsSound};
 ghost use Rattle.unroll.specs.Refusals.{first_beyond, of_circuit};
-ghost use Rattle.unroll.specs.Summed.{AreTotals};
+ghost use Rattle.unroll.specs.private.Summed.{AreTotals};
 
 use crate::observables::named_to;
 use crate::totals::Totals;
@@ -29,7 +29,7 @@ fn line_beyond(item: Item<'_, '_>) -> Option<u64>
     ensures { result ≡ line_beyond (item_in item.entry) }
 {
     match item {
-        Item::Does(instruction) => {
+        Item::InstructionLine(instruction) => {
             if named_to(instruction) > MOST_OBSERVABLES {
                 Some(instruction.line)
             } else {

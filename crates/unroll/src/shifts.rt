@@ -2,7 +2,7 @@ ghost use Rattle.std.specs.Prelude.{◌≡◌, ◌<◌, ◌^◌, [], All, unwrap
 ghost use Rattle.stim_parser.specs.Circuits.{Fits};
 ghost use Rattle.stim_parser.specs.Coordinates.{coordinates_in};
 ghost use Rattle.block_text.specs.Kept.{instruction_in};
-ghost use Rattle.unroll.specs.Placing.{downs, placing, raised_by, turned_by, turned_on, ups};
+ghost use Rattle.unroll.specs.private.Placing.{downs, placing, raised_by, turned_by, turned_on, ups};
 
 use crate::offsets::{AXES, Offset, downs, raise, turn, ups};
 use arrayvec::ArrayVec;
@@ -26,7 +26,7 @@ pub(crate) fn shift(offset: &mut Offset, instruction: Instruction<'_, '_>)
     ensures { offset.new ≡ placing.next offset.old (instruction_in instruction.entry) }
 {
     match instruction.operation {
-        Operation::ShiftsCoordinates => {
+        Operation::CoordinateShift => {
             let numbers = coordinates_read(instruction);
             let up = ups(numbers.as_slice());
             let down = downs(numbers.as_slice());

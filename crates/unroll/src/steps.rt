@@ -1,10 +1,10 @@
 ghost use Rattle.std.specs.Prelude.{◌≡◌, ◌+◌, ◌<◌, ◌^◌, ◌≤◌, All, length, map, OnOk};
 ghost use Rattle.pauli_word.specs.Parity.{exclusive_or};
-ghost use Rattle.unroll.specs.Made.{fault_steps, operation_steps, pair_step, pair_steps, product_steps, record_back};
+ghost use Rattle.unroll.specs.private.Made.{fault_steps, operation_steps, pair_step, pair_steps, product_steps, record_back};
 ghost use Rattle.unroll.specs.StepsMade.{fed_letter};
 ghost use Rattle.stim_parser.specs.Limits.{products_of, qubit_of};
 ghost use Rattle.unroll.specs.Targets.{is_inverted};
-ghost use Rattle.unroll.specs.Pushed.{Adds, IsSmall, single_step};
+ghost use Rattle.unroll.specs.private.Pushed.{Adds, IsSmall, single_step};
 ghost use Rattle.unroll.specs.Totals.{qubits_to, target_count};
 
 use crate::targets::{end_of_factor, qubit_of};
@@ -18,12 +18,12 @@ use stim_parser::{Operation, Target};
 #[derive(Clone, Copy)]
 enum Single {
     Applies(Gate),
-    Measures {
+    Measurement {
         letter: Letter,
         reset: bool,
         flip: Option<u32>,
     },
-    Resets(Letter),
+    QubitReset(Letter),
 }
 
 /// Whether a target has a `!`.
@@ -76,7 +76,7 @@ fn single_step(single: Single, target: Target) -> TextStep
     let (q, inverted) = qubit_and_sign(target);
     match single {
         Single::Applies(gate) => TextStep::One { gate, q },
-        Single::Measures {
+        Single::Measurement {
             letter,
             reset,
             flip,
@@ -86,7 +86,7 @@ fn single_step(single: Single, target: Target) -> TextStep
             reset,
             recording: Some(Recording { inverted, flip }),
         },
-        Single::Resets(letter) => TextStep::Collapse {
+        Single::QubitReset(letter) => TextStep::Collapse {
             letter,
             qubit: q,
             reset: true,
@@ -240,28 +240,28 @@ pub(crate) fn push_steps<A: Allocator + Copy>(
                 push_pairs(builder, gate, targets)
             }
         }
-        Operation::Measures(letter) => push_singles(
+        Operation::Measurement(letter) => push_singles(
             builder,
-            Single::Measures {
+            Single::Measurement {
                 letter,
                 reset: false,
                 flip,
             },
             targets,
         ),
-        Operation::MeasuresAndResets(letter) => push_singles(
+        Operation::MeasurementReset(letter) => push_singles(
             builder,
-            Single::Measures {
+            Single::Measurement {
                 letter,
                 reset: true,
                 flip,
             },
             targets,
         ),
-        Operation::Resets(letter) => push_singles(builder, Single::Resets(letter), targets),
-        Operation::MeasuresProducts => push_products(builder, flip, products, targets),
-        Operation::Errs(_) => push_faults(builder, entries, targets),
-        Operation::ErrsTogether => builder.push(TextStep::Fault(entries)),
+        Operation::QubitReset(letter) => push_singles(builder, Single::QubitReset(letter), targets),
+        Operation::ProductMeasurement => push_products(builder, flip, products, targets),
+        Operation::PauliError(_) => push_faults(builder, entries, targets),
+        Operation::CorrelatedError => builder.push(TextStep::Fault(entries)),
         _ => Ok(()),
     }
 }

@@ -1,10 +1,10 @@
 ghost use Rattle.std.specs.Prelude.{◌≡◌, ◌≤◌, All, length};
-ghost use Rattle.stim_parser.specs.Products.{is_joining};
+ghost use Rattle.stim_parser.specs.private.Products.{is_joining};
 ghost use Rattle.stim_parser.specs.Limits.{products_of, qubit_of};
-ghost use Rattle.unroll.specs.Pushed.{FollowsFactor};
+ghost use Rattle.unroll.specs.private.Pushed.{FollowsFactor};
 ghost use Rattle.unroll.specs.Refusals.{is_far, reaches_far};
 ghost use Rattle.unroll.specs.Totals.{qubits_to, target_count};
-ghost use Rattle.unroll.specs.MadeTotals.{qubits_named};
+ghost use Rattle.unroll.specs.private.MadeTotals.{qubits_named};
 
 use stim_parser::{Operation, Target};
 
@@ -118,7 +118,7 @@ pub(crate) fn target_count(operation: Operation, targets: &[Target]) -> usize
     ensures few { result ≤ length targets.now }
 {
     match operation {
-        Operation::MeasuresProducts => product_count(targets),
+        Operation::ProductMeasurement => product_count(targets),
         _ => targets.len(),
     }
 }

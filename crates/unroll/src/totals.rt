@@ -2,9 +2,9 @@ ghost use Rattle.std.specs.Prelude.{◌≡◌, ◌<◌, Some, IsSome, ◌↔◌}
 ghost use Rattle.arrayvec.specs.ArrayVec.{array_vec_len};
 ghost use Rattle.stim_parser.specs.Circuits.{Fits};
 ghost use Rattle.block_text.specs.Kept.{instruction_in, item_in};
-ghost use Rattle.unroll.specs.Passes.{CanStand, Passes};
-ghost use Rattle.unroll.specs.Summed.{AreTotals, capped_sum, far_line_after, nothing_summed, repeated_sum, summing, totals_after, totals_repeated};
-ghost use Rattle.unroll.specs.MadeTotals.{fault_count, has_argument};
+ghost use Rattle.unroll.specs.private.Passes.{CanStand, Passes};
+ghost use Rattle.unroll.specs.private.Summed.{AreTotals, capped_sum, far_line_after, nothing_summed, repeated_sum, summing, totals_after, totals_repeated};
+ghost use Rattle.unroll.specs.private.MadeTotals.{fault_count, has_argument};
 
 use crate::counts::{collapses_made, detectors_made, faults_counted, records_made, steps_made};
 use crate::targets::{reaches_far, target_count};
@@ -140,12 +140,12 @@ impl Summing {
         ensures { Passes summing (item_in item.entry) self.old.totals self.old.blocks.items self.new.totals self.new.blocks.items }
     {
         match item {
-            Item::Does(instruction) => self.totals = self.totals.after(instruction),
-            Item::Begins { turns, .. } => self.blocks.push(OpenBlock {
+            Item::InstructionLine(instruction) => self.totals = self.totals.after(instruction),
+            Item::BlockStart { turns, .. } => self.blocks.push(OpenBlock {
                 turns,
                 before: self.totals,
             }),
-            Item::Ends => {
+            Item::BlockEnd => {
                 let block = self.blocks.pop().unwrap();
                 self.totals = self.totals.repeated(block.turns, block.before);
             }

@@ -2,14 +2,14 @@ ghost use Rattle.std.specs.Prelude.{◌≡◌, ◌<◌, ◌^◌, [], map, None, 
 ghost use Rattle.chances.specs.Chances.{chance_of};
 ghost use Rattle.programs.specs.Trees.{IsCircuit, tree_of, unrolled};
 ghost use Rattle.block_text.specs.Kept.{instruction_in, item_in, mark_in};
-ghost use Rattle.unroll.specs.Drafts.{CanWrite, HasRoom, Writes, draft_of, with_instruction};
-ghost use Rattle.unroll.specs.Kept.{kept_entries, kept_products};
+ghost use Rattle.unroll.specs.private.Drafts.{CanWrite, HasRoom, Writes, draft_of, with_instruction};
+ghost use Rattle.unroll.specs.private.Kept.{kept_entries, kept_products};
 ghost use Rattle.unroll.specs.StepsMade.{flip_of};
-ghost use Rattle.unroll.specs.Numbered.{IsInstructionNumber, IsItemNumber};
-ghost use Rattle.unroll.specs.Counted.{first_far_from};
-ghost use Rattle.unroll.specs.Steps.{steps_of};
+ghost use Rattle.unroll.specs.private.Numbered.{IsInstructionNumber, IsItemNumber};
+ghost use Rattle.unroll.specs.private.Counted.{first_far_from};
+ghost use Rattle.unroll.specs.private.Steps.{steps_of};
 ghost use Rattle.unroll.specs.Totals.{step_total};
-ghost use Rattle.unroll.specs.MadeTotals.{record_total};
+ghost use Rattle.unroll.specs.private.MadeTotals.{record_total};
 
 use crate::entries::push_instruction;
 use crate::products::push_kept_products;
@@ -96,9 +96,9 @@ impl<'a, A: Allocator + Copy> Writing<'a, A> {
         ensures chances { OnOk result (self.new.entries.chances ≡ self.old.entries.chances) }
     {
         match item {
-            Item::Does(instruction) => self.write_instruction(instruction),
-            Item::Begins { turns, .. } => self.builder.open(turns),
-            Item::Ends => self.builder.close(),
+            Item::InstructionLine(instruction) => self.write_instruction(instruction),
+            Item::BlockStart { turns, .. } => self.builder.open(turns),
+            Item::BlockEnd => self.builder.close(),
         }
     }
 

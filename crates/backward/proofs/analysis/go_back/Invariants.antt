@@ -1,5 +1,5 @@
 use Rattle.std.proofs.Common.{◌≡◌, ◌≤◌, length, drop}
-use Rattle.backward.specs.Passes.{IsPassedWith}
+use Rattle.backward.specs.private.Passes.{IsPassedWith}
 use Rattle.backward.proofs.analysis.go_back.Given as goal
 
 -- what is kept is what is found from the place of the walk on

@@ -1,5 +1,5 @@
 use Rattle.std.proofs.Common.{ℕ, List, length, get_or, Option, None, ap, sym, ◌∙◌, arith}
-use Rattle.backward.specs.Passes.{lines_found}
+use Rattle.backward.specs.private.Passes.{lines_found}
 use Rattle.backward.proofs.Judging.{none_left, random_found, none_found}
 use Rattle.backward.proofs.PassPlaces.{length-latest_before}
 use Rattle.backward.proofs.WantedLines.{held_at_last, no_latest}

@@ -2,7 +2,7 @@ use Rattle.std.proofs.Common.{◌<◌, ◌+◌, length, drop, get_or, ap, sym, �
 use Rattle.std.proofs.lemmas.List.{drop_more}
 use Rattle.pauli_word.specs.declared.letter.Letter.TheVariants.{I}
 use Rattle.step_model.specs.declared.step.Term.{Term}
-use Rattle.backward.specs.Collapses.{times_terms}
+use Rattle.backward.specs.private.Collapses.{times_terms}
 use Rattle.backward.proofs.PassWords.{length-added}
 use Rattle.backward.proofs.collapse.multiply.Goals as goal
 

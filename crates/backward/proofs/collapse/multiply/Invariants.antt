@@ -1,5 +1,5 @@
 use Rattle.std.proofs.Common.{◌≡◌, length, drop}
-use Rattle.backward.specs.Collapses.{times_terms}
+use Rattle.backward.specs.private.Collapses.{times_terms}
 use Rattle.backward.proofs.collapse.multiply.Given as goal
 
 -- the terms that are left make of the words what all terms make of those at the start

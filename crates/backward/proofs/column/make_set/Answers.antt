@@ -1,6 +1,6 @@
 use Rattle.std.proofs.Common.{◌≡◌, ◌<◌, ◌+◌, ◌-◌, List, ℕ, false, [], length, drop, get_or, ap, subst, sym, ◌∙◌, arith}
 use Rattle.std.proofs.lemmas.List.{drop_all, length-replicate}
-use Rattle.backward.specs.Transposed.{Multiplies}
+use Rattle.backward.specs.private.Transposed.{Multiplies}
 use Rattle.backward.proofs.TimesAll.{multiplies_none, multiplies_more}
 use Rattle.backward.proofs.column.make_set.Goals as goal
 

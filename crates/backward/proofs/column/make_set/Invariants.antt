@@ -1,5 +1,5 @@
 use Rattle.std.proofs.Common.{◌≡◌, ◌≤◌, length, drop}
-use Rattle.backward.specs.Transposed.{Multiplies}
+use Rattle.backward.specs.private.Transposed.{Multiplies}
 use Rattle.backward.proofs.column.make_set.Given as goal
 
 -- the set is of the targets from this one on

@@ -1,7 +1,7 @@
 use Rattle.std.proofs.Common.{map, ap, sym, ◌∙◌}
 use Rattle.std.proofs.lemmas.Result.{on_ok_weaker}
 use Rattle.pauli_word.specs.Words.{letters_product}
-use Rattle.backward.specs.Transposed.{combined}
+use Rattle.backward.specs.private.Transposed.{combined}
 use Rattle.backward.proofs.MultiplyLemmas.{lost-letters}
 use Rattle.backward.proofs.column.multiply_both.Goals as goal
 

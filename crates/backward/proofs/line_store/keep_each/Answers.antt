@@ -1,7 +1,7 @@
 use Rattle.std.proofs.Common.{◌∷◌, [], length, ap, subst, sym, ◌∙◌, arith, length-append}
 use Rattle.std.proofs.lemmas.List.{get_or_default}
 use Rattle.chances.specs.declared.table.ChanceText.{ChanceText}
-use Rattle.backward.specs.Numbered.{AreNumbers}
+use Rattle.backward.specs.private.Numbered.{AreNumbers}
 use Rattle.backward.proofs.NumberedLemmas.{numbers_kept, numbers_more}
 use Rattle.backward.proofs.line_store.keep_each.Goals as goal
 

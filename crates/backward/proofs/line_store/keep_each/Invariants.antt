@@ -1,5 +1,5 @@
 use Rattle.std.proofs.Common.{◌≡◌, length}
-use Rattle.backward.specs.Numbered.{AreNumbers}
+use Rattle.backward.specs.private.Numbered.{AreNumbers}
 use Rattle.backward.proofs.line_store.keep_each.Given as goal
 
 -- the texts of the parts before this one are kept

@@ -4,7 +4,7 @@ use Rattle.std.proofs.lemmas.List.{get_or_default}
 use Rattle.std.proofs.lemmas.List.Elements.{All-set}
 use Rattle.std.proofs.lemmas.Result.{on_ok_weaker}
 use Rattle.pauli_word.specs.declared.letter.Letter.{Letter}
-use Rattle.backward.specs.Transposed.{combined}
+use Rattle.backward.specs.private.Transposed.{combined}
 use Rattle.backward.proofs.ExchangeLemmas.{written_over}
 use Rattle.backward.proofs.pairs.exchange_pair.Goals as goal
 

@@ -4,7 +4,7 @@ use Rattle.std.proofs.lemmas.Result.{on_ok_weaker}
 use Rattle.gate_table.specs.Images.{image2, inverse_of}
 use Rattle.pauli_word.specs.declared.letter.Letter.TheVariants.{I, X, Z}
 use Rattle.pauli_word.specs.Words.{letters_product}
-use Rattle.backward.specs.Transposed.{combined}
+use Rattle.backward.specs.private.Transposed.{combined}
 use Rattle.backward.proofs.pairs.image_pair.Goals as goal
 
 pub returns-clause-first : goal.returns-clause-first

@@ -3,8 +3,8 @@ use Rattle.std.specs.Prelude.{All, vec_len}
 use Rattle.std.specs.List.Sorted.{IsStrictlyIncreasing}
 use Rattle.std.proofs.lemmas.Result.{on_ok_weaker}
 use Rattle.step_model.specs.Targets.{targets_of}
-use Rattle.backward.specs.Collapses.{undone_collapse, members_at, noted}
-use Rattle.backward.specs.Passes.{HeldOrNoted, with_flip}
+use Rattle.backward.specs.private.Collapses.{undone_collapse, members_at, noted}
+use Rattle.backward.specs.private.Passes.{HeldOrNoted, with_flip}
 use Rattle.backward.proofs.PassPlaces.{hit_in_range}
 use Rattle.backward.proofs.RangeLemmas.{members_at-ascend, members_at-within, record_has_set, record_named}
 use Rattle.backward.proofs.WantedLines.{held_over_collapse}

@@ -3,7 +3,7 @@ use Rattle.std.specs.Prelude.{All}
 use Rattle.std.proofs.lemmas.Result.{on_ok_weaker}
 use Rattle.programs.specs.Kept.{kept_at}
 use Rattle.step_model.specs.Targets.{targets_of}
-use Rattle.backward.specs.Passes.{with_line}
+use Rattle.backward.specs.private.Passes.{with_line}
 use Rattle.backward.specs.Tracked.{anticommuting}
 use Rattle.backward.proofs.PassPlaces.{hit_in_range}
 use Rattle.backward.proofs.WantedLines.{held_over}

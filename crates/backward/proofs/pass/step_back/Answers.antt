@@ -7,8 +7,8 @@ use Rattle.programs.specs.Kept.{kept_at}
 use Rattle.step_model.specs.Listing as listing
 use Rattle.programs.specs.declared.step.Step.TheVariants.{One, Two, Collapse, CollapseWord, Fault, Feedback}
 use Rattle.programs.specs.Listed.{listed, measured, recorded}
-use Rattle.backward.specs.Collapses.{members_at}
-use Rattle.backward.specs.Passes.{HeldOrNoted, lines_found, with_flip, with_line}
+use Rattle.backward.specs.private.Collapses.{members_at}
+use Rattle.backward.specs.private.Passes.{HeldOrNoted, lines_found, with_flip, with_line}
 use Rattle.backward.specs.Tracked.{anticommuting}
 use Rattle.backward.proofs.PassWords.{IsMeasured}
 use Rattle.backward.proofs.PassSteps.{walk_step, walk_named, gone_over, of_size, later_fit, collapse_is_left, held_on, reset_within, passed-one, passed-two, passed-collapse, passed-fault, passed-feedback, measured-letter, measured-product}

@@ -3,8 +3,8 @@ use Rattle.std.specs.Prelude.{All, replicate}
 use Rattle.pauli_word.specs.declared.letter.Letter.TheVariants.{Z}
 use Rattle.step_model.specs.declared.step.Term.{Term}
 use Rattle.step_model.specs.Targets.{targets_of}
-use Rattle.backward.specs.Collapses.{noted}
-use Rattle.backward.specs.Passes.{tracked_before}
+use Rattle.backward.specs.private.Collapses.{noted}
+use Rattle.backward.specs.private.Passes.{tracked_before}
 use Rattle.backward.specs.Tracked.{anticommuting}
 use Rattle.backward.proofs.PassPlaces.{lowest_below-none, lowest_below-more, length-lowest_below, hit_in_range}
 use Rattle.backward.proofs.PassWords.{words_count}

@@ -1,5 +1,5 @@
 use Rattle.std.proofs.Common.{◌≡◌}
-use Rattle.backward.specs.Passes.{tracked_before, lowest_below}
+use Rattle.backward.specs.private.Passes.{tracked_before, lowest_below}
 use Rattle.backward.proofs.places.lowest_at_start.Given as goal
 
 abbrev pub invariant-loop-qubit : goal.invariant-loop-qubit

@@ -1,5 +1,5 @@
 use Rattle.std.proofs.Common.{◌≡◌, length, drop}
-use Rattle.backward.specs.Collapses.{noted}
+use Rattle.backward.specs.private.Collapses.{noted}
 use Rattle.backward.proofs.places.note.Given as goal
 
 abbrev pub invariant-loop-t : goal.invariant-loop-t

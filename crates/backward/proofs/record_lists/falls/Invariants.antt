@@ -1,5 +1,5 @@
 use Rattle.std.proofs.Common.{◌-◌, ◌≤◌, drop, length}
-use Rattle.backward.specs.Links.{Falls}
+use Rattle.backward.specs.private.Links.{Falls}
 use Rattle.backward.proofs.record_lists.falls.Given as goal
 
 abbrev pub invariant-loop-left : goal.invariant-loop-left

@@ -1,5 +1,5 @@
 use Rattle.std.proofs.Common.{◌-◌, ◌≤◌, get_or, arith}
-use Rattle.backward.specs.Links.{no_link}
+use Rattle.backward.specs.private.Links.{no_link}
 use Rattle.backward.proofs.LinkLemmas.{list_at-read}
 use Rattle.backward.proofs.record_lists.list_from.Goals as goal
 

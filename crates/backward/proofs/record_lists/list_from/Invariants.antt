@@ -1,5 +1,5 @@
 use Rattle.std.proofs.Common.{◌≡◌, ◌≤◌, ◌++◌, length}
-use Rattle.backward.specs.Links.{list_at}
+use Rattle.backward.specs.private.Links.{list_at}
 use Rattle.backward.proofs.record_lists.list_from.Given as goal
 
 abbrev pub invariant-loop-left : goal.invariant-loop-left

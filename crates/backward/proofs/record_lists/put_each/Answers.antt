@@ -1,6 +1,6 @@
 use Rattle.std.proofs.Common.{◌≡◌, ◌+◌, ◌∷◌, get_or, drop, refl, ap, sym, ◌∙◌}
 use Rattle.std.proofs.lemmas.List.{drop_more}
-use Rattle.backward.specs.Links.{list_at, put_before}
+use Rattle.backward.specs.private.Links.{list_at, put_before}
 use Rattle.backward.proofs.LinkLemmas.{grown_on, grown_none}
 use Rattle.backward.proofs.record_lists.put_each.Goals as goal
 

@@ -1,5 +1,5 @@
 use Rattle.std.proofs.Common.{◌≡◌, ◌≤◌, drop, length}
-use Rattle.backward.specs.Links.{IsGrown, list_at, put_before}
+use Rattle.backward.specs.private.Links.{IsGrown, list_at, put_before}
 use Rattle.backward.proofs.record_lists.put_each.Given as goal
 
 -- the targets that are left make of the list what all targets make of that at the start

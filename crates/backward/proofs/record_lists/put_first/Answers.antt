@@ -1,6 +1,6 @@
 use Rattle.std.proofs.Common.{◌≡◌, ◌∷◌, ◌++◌, [], List, length, ap, subst, sym, arith}
 use Rattle.backward.specs.declared.record_lists.Link.{Link}
-use Rattle.backward.specs.Links.{IsGrown, IsPutAt}
+use Rattle.backward.specs.private.Links.{IsGrown, IsPutAt}
 use Rattle.backward.proofs.LinkLemmas.{put_in_front}
 use Rattle.backward.proofs.record_lists.put_first.Goals as goal
 

@@ -1,7 +1,7 @@
 use Rattle.std.proofs.Common.{◌≡◌, set, ◌<◌, ◌+◌, ◌∷◌, [], length, get_or, drop, length-set, ap, sym, ◌∙◌, arith}
 use Rattle.std.proofs.lemmas.List.{drop_more}
-use Rattle.backward.specs.Links.{rows_at}
-use Rattle.backward.specs.RecordSets.{toggled_in, toggled_in_each}
+use Rattle.backward.specs.private.Links.{rows_at}
+use Rattle.backward.specs.private.RecordSets.{toggled_in, toggled_in_each}
 use Rattle.backward.proofs.LinkLemmas.{lists_put, rows_put, below_one}
 use Rattle.backward.proofs.record_lists.put_in_each.Goals as goal
 

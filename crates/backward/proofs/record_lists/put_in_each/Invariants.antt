@@ -1,6 +1,6 @@
 use Rattle.std.proofs.Common.{◌≡◌, ◌<◌, ◌+◌, ℕ, length, drop}
-use Rattle.backward.specs.Links.{rows_at, AreLists}
-use Rattle.backward.specs.RecordSets.{toggled_in_each}
+use Rattle.backward.specs.private.Links.{rows_at, AreLists}
+use Rattle.backward.specs.private.RecordSets.{toggled_in_each}
 use Rattle.backward.proofs.record_lists.put_in_each.Given as goal
 
 -- the records that are left make of the rows what all records make of those at the start

@@ -1,6 +1,6 @@
 use Rattle.std.proofs.Common.{◌∙◌, ap, sym}
 use Rattle.std.specs.Prelude.{reverse}
-use Rattle.backward.specs.Sets.{xor_sets}
+use Rattle.backward.specs.private.Sets.{xor_sets}
 use Rattle.backward.proofs.SetLemmas.{no_elements, xor_sets-nil}
 use Rattle.backward.proofs.sparse_set.list_sum.Goals as goal
 

@@ -1,5 +1,5 @@
 use Rattle.std.proofs.Common.{◌≡◌, ◌≤◌, ◌+◌, ◌-◌, ◌++◌, length, drop}
-use Rattle.backward.specs.Sets.{xor_sets}
+use Rattle.backward.specs.private.Sets.{xor_sets}
 use Rattle.backward.proofs.sparse_set.merge.Given as goal
 
 -- what is there, and what is made of those that are left

@@ -1,5 +1,5 @@
 use Rattle.std.proofs.Common.{◌≡◌, ◌<◌, ◌-◌, ◌∷◌, [], ℕ, List, length, get_or, ap, subst, sym, ◌∙◌, arith}
-use Rattle.backward.specs.Sets.{DescendsBelow}
+use Rattle.backward.specs.private.Sets.{DescendsBelow}
 use Rattle.backward.proofs.SetLemmas.{removed, inserted, DescendsBelow-xor_sets}
 use Rattle.backward.proofs.sparse_set.toggle_in.Goals as goal
 use Rattle.backward.proofs.sparse_set.toggle_in.Goals.{else-place-gt0-via-then-place-gt0+else-as_slice-place, else-place-gt0-via-else-place-gt0}

@@ -1,5 +1,5 @@
 use Rattle.std.proofs.Common.{◌≡◌, length, drop}
-use Rattle.backward.specs.Collapses.{toggled_each}
+use Rattle.backward.specs.private.Collapses.{toggled_each}
 use Rattle.backward.proofs.target_set.toggle_each.Given as goal
 
 -- the targets that are left make of the set what all targets make of that at the start

@@ -9,7 +9,7 @@ use Rattle.pauli_word.specs.Words.{anticommute}
 use Rattle.pauli_word.proofs.Parities.{exclusive_or-false}
 use Rattle.step_model.specs.declared.step.Term.{Term}
 use Rattle.step_model.specs.Listing.{word_of_terms}
-use Rattle.backward.specs.Transposed.{word_at}
+use Rattle.backward.specs.private.Transposed.{word_at}
 use Rattle.backward.proofs.TransposedLemmas.{get_or-xor_rows, clash_more, clash_none, clash_rows}
 use Rattle.backward.proofs.words.clashing.Goals as goal
 

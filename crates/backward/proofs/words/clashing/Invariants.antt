@@ -2,7 +2,7 @@ use Rattle.std.proofs.Common.{◌≡◌, ℕ, ◌<◌, false, length, drop, get_
 use Rattle.pauli_word.specs.Parity.{exclusive_or}
 use Rattle.pauli_word.specs.Words.{anticommute}
 use Rattle.step_model.specs.Listing.{word_of_terms}
-use Rattle.backward.specs.Transposed.{word_at}
+use Rattle.backward.specs.private.Transposed.{word_at}
 use Rattle.backward.proofs.words.clashing.Given as goal
 
 -- for each target, the terms so far and those that are left make all

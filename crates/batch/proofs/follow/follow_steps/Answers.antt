@@ -6,7 +6,7 @@ use Rattle.programs.specs.Listed.{listed}
 use Rattle.step_model.specs.Frames.{zero_coins}
 use Rattle.step_model.specs.Listing.{ListedStep}
 use Rattle.batch.specs.Batches.{start_frame}
-use Rattle.batch.specs.Followed.{TurnsAt, followed}
+use Rattle.batch.specs.private.Followed.{TurnsAt, followed}
 use Rattle.batch.specs.LaneFrames.{GoesTo}
 use Rattle.batch.proofs.Beside.{Beside, beside-start, beside-other, beside-collapse, beside-room, beside-end, entry-next}
 use Rattle.batch.proofs.FollowLoop.{Over, over, at_end}

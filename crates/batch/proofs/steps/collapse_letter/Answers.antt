@@ -3,7 +3,7 @@ use Rattle.lanes.specs.Lanes.{lane_bit}
 use Rattle.pauli_word.specs.Letters.{letters_clash}
 use Rattle.pauli_word.specs.Words.{anticommute, lone_letter}
 use Rattle.run_laws.proofs.ShiftWords.{anticommute-lone}
-use Rattle.batch.specs.Followed.{terms_of}
+use Rattle.batch.specs.private.Followed.{terms_of}
 use Rattle.batch.specs.LaneLetters.{word_in}
 use Rattle.batch.proofs.FollowedSteps.{flips_turned, goes_cleared, goes_left, goes_turned}
 use Rattle.batch.proofs.LaneFrameLaws.{length-word_in}

@@ -1,7 +1,7 @@
 use Rattle.std.proofs.Common.{length, refl}
 use Rattle.pauli_word.specs.declared.letter.Letter.TheVariants.{I}
 use Rattle.step_model.specs.Listing.{word_of_terms}
-use Rattle.batch.specs.Followed.{terms_of}
+use Rattle.batch.specs.private.Followed.{terms_of}
 use Rattle.batch.proofs.FollowedSteps.{flips_turned, goes_turned}
 use Rattle.batch.proofs.steps.collapse_product.Goals as goal
 

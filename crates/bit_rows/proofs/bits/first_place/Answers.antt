@@ -2,7 +2,7 @@ use Rattle.std.proofs.Common.{◌≡◌, ◌<◌, ◌≤◌, ◌+◌, ◌*◌, a
 use Rattle.std.specs.Int.{trailing_zeros}
 use Rattle.std.proofs.lemmas.Bool.{cases_lt}
 use Rattle.std.proofs.lemmas.List.{get_or_past}
-use Rattle.bit_rows.specs.Words.{bit_in}
+use Rattle.bit_rows.specs.private.Words.{bit_in}
 use Rattle.bit_rows.proofs.BitLaws.{lowest_bit}
 use Rattle.bit_rows.proofs.Places.{bit_in_word, bit_in_zeros, first_of_word}
 use Rattle.bit_rows.proofs.bits.first_place.Goals as goal

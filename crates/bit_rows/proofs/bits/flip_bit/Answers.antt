@@ -1,5 +1,5 @@
 use Rattle.std.proofs.Common.{◌%◌, ◌/◌, ◌<◌, arith, ◌∙◌, not, get_or}
-use Rattle.bit_rows.specs.Words.{bit_in}
+use Rattle.bit_rows.specs.private.Words.{bit_in}
 use Rattle.bit_rows.proofs.BitLaws.{bit_of_flip}
 use Rattle.bit_rows.proofs.Places.{bit_in-set, turned}
 use Rattle.bit_rows.proofs.bits.flip_bit.Goals as goal

@@ -1,5 +1,5 @@
 use Rattle.std.proofs.Common.{◌%◌, ◌/◌, ◌<◌, get_or, arith, sym, ap, ◌∙◌, cond, eqb}
-use Rattle.bit_rows.specs.Words.{bit_of}
+use Rattle.bit_rows.specs.private.Words.{bit_of}
 use Rattle.bit_rows.proofs.BitLaws.{bit_of_put, bit_of_take}
 use Rattle.bit_rows.proofs.Places.{bit_in-set}
 use Rattle.bit_rows.proofs.bits.put_bit.Goals as goal

@@ -1,5 +1,5 @@
 use Rattle.std.proofs.Common.{sym, ◌∙◌}
-use Rattle.bit_rows.specs.Words.{bit_of}
+use Rattle.bit_rows.specs.private.Words.{bit_of}
 use Rattle.bit_rows.proofs.BitLaws.{bit_of-or}
 use Rattle.bit_rows.proofs.Marked.{neither}
 use Rattle.bit_rows.proofs.marks.either.Goals as goal

@@ -1,6 +1,6 @@
 use Rattle.std.proofs.Common.{true, arith, sym, ap, cond}
 use Rattle.std.proofs.lemmas.Bool.{ne_eqb}
-use Rattle.bit_rows.specs.Words.{bit_of}
+use Rattle.bit_rows.specs.private.Words.{bit_of}
 use Rattle.bit_rows.proofs.BitLaws.{bit_of_put}
 use Rattle.bit_rows.proofs.marks.mark.Goals as goal
 

@@ -1,6 +1,6 @@
 use Rattle.std.proofs.Common.{◌≡◌, true, sym, ◌∙◌, eqb, inl, inr, ⊎_elim}
 use Rattle.std.proofs.lemmas.Bool.{eqb-true}
-use Rattle.bit_rows.specs.Words.{bit_of}
+use Rattle.bit_rows.specs.private.Words.{bit_of}
 use Rattle.bit_rows.proofs.Marked.{set_where}
 use Rattle.bit_rows.proofs.marks.mark_where.Goals as goal
 

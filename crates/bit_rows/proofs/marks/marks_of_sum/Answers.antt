@@ -1,5 +1,5 @@
 use Rattle.std.proofs.Common.{◌≡◌, ◌||◌, ◌&&◌, not, true, false, sym, ap₂, ◌∙◌, inl, inr, ⊎_elim, bit_or}
-use Rattle.bit_rows.specs.Words.{bit_of}
+use Rattle.bit_rows.specs.private.Words.{bit_of}
 use Rattle.bit_rows.proofs.BitLaws.{bit_of-or, bit_of-and, bit_of-not}
 use Rattle.bit_rows.proofs.Marked.{neither, taken_away}
 use Rattle.bit_rows.proofs.marks.marks_of_sum.Goals as goal

@@ -1,6 +1,6 @@
 use Rattle.std.proofs.Common.{◌≡◌, ◌+◌, ◌*◌, ◌/◌, ◌%◌, length, slice_index, arith, ap, ◌∙◌, sym, subst}
-use Rattle.bit_rows.specs.Spans.{XorsWithin}
-use Rattle.bit_rows.specs.WordTotals.{carried, carried_by, words_phase}
+use Rattle.bit_rows.specs.private.Spans.{XorsWithin}
+use Rattle.bit_rows.specs.private.WordTotals.{carried, carried_by, words_phase}
 use Rattle.bit_rows.proofs.Blanks.{ahead_phase}
 use Rattle.bit_rows.proofs.Blocks.{XorsWithin-none, XorsWithin-join}
 use Rattle.bit_rows.proofs.Carries.{words_phase-zero}

@@ -1,6 +1,6 @@
 use Rattle.std.proofs.Common.{◌≡◌, ◌*◌, ◌%◌}
-use Rattle.bit_rows.specs.Spans.{XorsWithin}
-use Rattle.bit_rows.specs.WordTotals.{carried_by, words_phase}
+use Rattle.bit_rows.specs.private.Spans.{XorsWithin}
+use Rattle.bit_rows.specs.private.WordTotals.{carried_by, words_phase}
 use Rattle.bit_rows.proofs.multiply.multiply_all.Given as goal
 
 abbrev pub invariant-loop-block : goal.invariant-loop-block

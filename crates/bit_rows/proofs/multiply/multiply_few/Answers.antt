@@ -1,5 +1,5 @@
 use Rattle.std.proofs.Common.{◌≡◌, ◌+◌, ◌%◌, arith, ap, ◌∙◌, refl, length}
-use Rattle.bit_rows.specs.WordTotals.{carried, words_phase}
+use Rattle.bit_rows.specs.private.WordTotals.{carried, words_phase}
 use Rattle.bit_rows.proofs.Blanks.{here_phase, all_multiplied, no_blocks}
 use Rattle.bit_rows.proofs.Blocks.{XorsWithin-none, XorsWithin-join, XorsWithin-one}
 use Rattle.bit_rows.proofs.Carries.{power_more}

@@ -1,6 +1,6 @@
 use Rattle.std.proofs.Common.{subst, ◌≡◌, ◌+◌, ◌%◌, arith, ap, ◌∙◌, length}
-use Rattle.bit_rows.specs.Marks.{BlanksBelow}
-use Rattle.bit_rows.specs.WordTotals.{carried, words_phase}
+use Rattle.bit_rows.specs.private.Marks.{BlanksBelow}
+use Rattle.bit_rows.specs.private.WordTotals.{carried, words_phase}
 use Rattle.bit_rows.proofs.Blanks.{here_phase, all_multiplied}
 use Rattle.bit_rows.proofs.Blocks.{XorsWithin-join, XorsWithin-one}
 use Rattle.bit_rows.proofs.Carries.{power_more}

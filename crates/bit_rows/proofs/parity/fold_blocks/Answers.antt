@@ -1,5 +1,5 @@
 use Rattle.std.proofs.Common.{◌≡◌, ◌+◌, ◌*◌, ◌/◌, ◌%◌, length, arith, ap, ◌∙◌, sym, refl}
-use Rattle.bit_rows.specs.WordTotals.{ones_of, common_ones, word_ones}
+use Rattle.bit_rows.specs.private.WordTotals.{ones_of, common_ones, word_ones}
 use Rattle.bit_rows.proofs.Carries.{ones_of-zeros, common_ones-zero, word_ones-zero, fold_more, fold-xor}
 use Rattle.bit_rows.proofs.parity.fold_blocks.Goals as goal
 

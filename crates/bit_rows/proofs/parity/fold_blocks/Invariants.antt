@@ -1,5 +1,5 @@
 use Rattle.std.proofs.Common.{◌≡◌, ◌*◌, ◌%◌}
-use Rattle.bit_rows.specs.WordTotals.{ones_of, common_ones}
+use Rattle.bit_rows.specs.private.WordTotals.{ones_of, common_ones}
 use Rattle.bit_rows.proofs.parity.fold_blocks.Given as goal
 
 abbrev pub invariant-loop-block : goal.invariant-loop-block

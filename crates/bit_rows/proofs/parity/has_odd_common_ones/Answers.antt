@@ -1,5 +1,5 @@
 use Rattle.std.proofs.Common.{◌≡◌, ◌%◌, arith, ap, ◌∙◌, eqb, length}
-use Rattle.bit_rows.specs.WordTotals.{common_ones}
+use Rattle.bit_rows.specs.private.WordTotals.{common_ones}
 use Rattle.bit_rows.proofs.BitLaws.{ones_by_bits}
 use Rattle.bit_rows.proofs.Carries.{odd_more}
 use Rattle.bit_rows.proofs.parity.has_odd_common_ones.Goals as goal

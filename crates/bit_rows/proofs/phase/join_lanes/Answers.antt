@@ -1,5 +1,5 @@
 use Rattle.std.proofs.Common.{◌≡◌, ◌%◌, arith, ap, ◌∙◌, sym, length}
-use Rattle.bit_rows.specs.WordTotals.{carried, carried_by}
+use Rattle.bit_rows.specs.private.WordTotals.{carried, carried_by}
 use Rattle.bit_rows.proofs.Carries.{carried-zero}
 use Rattle.bit_rows.proofs.Lanes.{carried_by-zero, lanes_more}
 use Rattle.bit_rows.proofs.phase.join_lanes.Goals as goal

@@ -1,5 +1,5 @@
 use Rattle.std.proofs.Common.{◌≡◌, ◌%◌}
-use Rattle.bit_rows.specs.WordTotals.{carried, carried_by}
+use Rattle.bit_rows.specs.private.WordTotals.{carried, carried_by}
 use Rattle.bit_rows.proofs.phase.join_lanes.Given as goal
 
 abbrev pub invariant-loop-k : goal.invariant-loop-k

@@ -1,5 +1,5 @@
 use Rattle.std.proofs.Common.{◌≡◌, ◌*◌, ◌%◌}
-use Rattle.bit_rows.specs.WordTotals.{carried_by, words_phase}
+use Rattle.bit_rows.specs.private.WordTotals.{carried_by, words_phase}
 use Rattle.bit_rows.proofs.phase.power_of_blocks.Given as goal
 
 abbrev pub invariant-loop-block : goal.invariant-loop-block

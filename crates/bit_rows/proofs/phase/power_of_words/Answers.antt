@@ -1,5 +1,5 @@
 use Rattle.std.proofs.Common.{◌≡◌, ◌+◌, ◌%◌, arith, ap, ◌∙◌, length}
-use Rattle.bit_rows.specs.WordTotals.{carried, words_phase}
+use Rattle.bit_rows.specs.private.WordTotals.{carried, words_phase}
 use Rattle.bit_rows.proofs.Carries.{power_more, carried_after, carried-zero}
 use Rattle.bit_rows.proofs.phase.power_of_words.Goals as goal
 

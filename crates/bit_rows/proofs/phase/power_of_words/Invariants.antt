@@ -1,5 +1,5 @@
 use Rattle.std.proofs.Common.{◌≡◌, ◌+◌, ◌%◌}
-use Rattle.bit_rows.specs.WordTotals.{carried, words_phase}
+use Rattle.bit_rows.specs.private.WordTotals.{carried, words_phase}
 use Rattle.bit_rows.proofs.phase.power_of_words.Given as goal
 
 abbrev pub invariant-loop-i : goal.invariant-loop-i

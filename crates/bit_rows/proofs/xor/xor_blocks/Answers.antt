@@ -1,5 +1,5 @@
 use Rattle.std.proofs.Common.{◌≡◌, ◌+◌, ◌*◌, ◌/◌, length, arith, subst}
-use Rattle.bit_rows.specs.Spans.{XorsWithin}
+use Rattle.bit_rows.specs.private.Spans.{XorsWithin}
 use Rattle.bit_rows.proofs.Blocks.{XorsWithin-none, XorsWithin-join}
 use Rattle.bit_rows.proofs.xor.xor_blocks.Goals as goal
 

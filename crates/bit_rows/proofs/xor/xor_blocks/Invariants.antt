@@ -1,5 +1,5 @@
 use Rattle.std.proofs.Common.{◌*◌}
-use Rattle.bit_rows.specs.Spans.{XorsWithin}
+use Rattle.bit_rows.specs.private.Spans.{XorsWithin}
 use Rattle.bit_rows.proofs.xor.xor_blocks.Given as goal
 
 abbrev pub invariant-loop-block : goal.invariant-loop-block

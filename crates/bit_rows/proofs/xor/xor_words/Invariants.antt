@@ -1,4 +1,4 @@
-use Rattle.bit_rows.specs.Spans.{XorsWithin}
+use Rattle.bit_rows.specs.private.Spans.{XorsWithin}
 use Rattle.bit_rows.proofs.xor.xor_words.Given as goal
 
 abbrev pub invariant-loop-i : goal.invariant-loop-i

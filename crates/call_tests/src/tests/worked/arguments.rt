@@ -28,7 +28,9 @@ fn first_has_argument(circuit: &Circuit<'_, Global>) -> Option<bool> {
         return None;
     }
     match circuit.item(0) {
-        Item::Does(instruction) => Some(stim_parser::has_argument(instruction.arguments)),
+        Item::InstructionLine(instruction) => Some(stim_parser::has_argument(
+            instruction.arguments,
+        )),
         _ => None,
     }
 }

@@ -99,7 +99,7 @@ fn opens(alloc: Global, text: &[u8], turns: u64) -> bool {
     match parse(alloc, text) {
         Ok(circuit) => matches!(
             circuit.get(31),
-            Some(Item::Begins { turns: found, .. }) if found == turns
+            Some(Item::BlockStart { turns: found, .. }) if found == turns
         ),
         Err(_) => false,
     }
@@ -147,7 +147,7 @@ fn blocks_close(rt: HostRuntime) -> Result<(), Fail> {
 /// Whether a line inside 32 blocks is an instruction.
 fn is_taken(alloc: Global, text: &[u8]) -> bool {
     match parse(alloc, text) {
-        Ok(circuit) => matches!(circuit.get(32), Some(Item::Does(_))),
+        Ok(circuit) => matches!(circuit.get(32), Some(Item::InstructionLine(_))),
         Err(_) => false,
     }
 }
@@ -165,7 +165,7 @@ fn instructions_are_taken(rt: HostRuntime) -> Result<(), Fail> {
 /// Whether an item is CX of the record two back and of qubit 3, with no arguments.
 fn is_feedback(item: Option<Item<'_, '_>>) -> bool {
     match item {
-        Some(Item::Does(found)) => {
+        Some(Item::InstructionLine(found)) => {
             found.operation == Operation::Applies(Gate::CX)
                 && first_argument(found.arguments).is_none()
                 && found.targets

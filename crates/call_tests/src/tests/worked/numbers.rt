@@ -39,7 +39,7 @@ fn is_told(chance: ChanceText<'_>, told: (&[u8], u128)) -> bool {
 
 fn mark_is(item: Item<'_, '_>, number: Option<u32>) -> bool {
     match (item, number) {
-        (Item::Does(instruction), Some(number)) => instruction.mark == number,
+        (Item::InstructionLine(instruction), Some(number)) => instruction.mark == number,
         (_, number) => number.is_none(),
     }
 }

@@ -19,14 +19,15 @@ fn are_named(targets: &[Target], wanted: &[Named]) -> bool {
 
 fn says(item: Item, wanted: Wanted) -> bool {
     match (item, wanted) {
-        (Item::Does(found), Wanted::Does(line, operation, arguments, targets)) => {
+        (Item::InstructionLine(found), Wanted::Does(line, operation, arguments, targets)) => {
             found.line == line
                 && found.operation == operation
                 && found.arguments == arguments
                 && are_named(found.targets, targets)
         }
-        (Item::Begins { line, turns }, Wanted::Begins(at, times)) => line == at && turns == times,
-        (Item::Ends, Wanted::Ends) => true,
+        (Item::BlockStart { line, turns }, Wanted::BlockStart(at, times)) => line == at
+            && turns == times,
+        (Item::BlockEnd, Wanted::BlockEnd) => true,
         _ => false,
     }
 }
@@ -105,7 +106,7 @@ fn instruction_of<'c, 'a>(
     place: usize,
 ) -> Option<Instruction<'c, 'a>> {
     match circuit.get(place) {
-        Some(Item::Does(instruction)) => Some(instruction),
+        Some(Item::InstructionLine(instruction)) => Some(instruction),
         _ => None,
     }
 }

@@ -1,5 +1,5 @@
 use Rattle.std.proofs.Common.{◌<◌, length}
-use Rattle.dem_parser.specs.ErrorTexts.{IsNumberFront}
+use Rattle.dem_parser.specs.private.ErrorTexts.{IsNumberFront}
 use Rattle.dem_parser.proofs.error_targets.front_number.Given as goal
 
 abbrev pub invariant-loop-digit : goal.invariant-loop-digit

@@ -1,7 +1,7 @@
 use Rattle.std.proofs.Common.{◌<◌, ap, sym, subst, take, ◌∙◌, get_or}
 use Rattle.std.specs.Prelude.{All}
 use Rattle.std.proofs.lemmas.List.{take_more, take_all}
-use Rattle.dem_parser.specs.Numbered.{odd_below}
+use Rattle.dem_parser.specs.private.Numbered.{odd_below}
 use Rattle.dem_parser.proofs.FlipLemmas.{none-above, odd-none, odd-step}
 use Rattle.dem_parser.proofs.flips.keep_odd.Goals as goal
 

@@ -1,6 +1,6 @@
 use Rattle.std.proofs.Common.{◌≡◌, ℕ, ◌<◌, take}
 use Rattle.std.specs.Prelude.{All}
-use Rattle.dem_parser.specs.Numbered.{odd_below}
+use Rattle.dem_parser.specs.private.Numbered.{odd_below}
 use Rattle.dem_parser.proofs.flips.keep_odd.Given as goal
 
 abbrev pub invariant-loop-number : goal.invariant-loop-number

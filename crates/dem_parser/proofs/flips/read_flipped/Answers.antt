@@ -2,7 +2,7 @@ use Rattle.std.proofs.Common.{◌+◌, ◌<◌, List, ℕ, ap, map, subst, sym, 
 use Rattle.std.specs.Prelude.{All}
 use Rattle.std.specs.List.Sorted.{IsNonDecreasing}
 use Rattle.std.proofs.lemmas.List.Sorted.{All-permutation}
-use Rattle.dem_parser.specs.Numbered.{odd_below}
+use Rattle.dem_parser.specs.private.Numbered.{odd_below}
 use Rattle.dem_parser.specs.Shifts.{target_at}
 use Rattle.dem_parser.proofs.NumberLemmas.{all-numbers, same-odd}
 use Rattle.dem_parser.proofs.flips.read_flipped.Goals as goal

@@ -5,7 +5,7 @@ use Rattle.block_text.specs.Reached.{reached}
 use Rattle.block_text.specs.Texts.{refused}
 use Rattle.dem_parser.specs.Models.{is_beyond, placed_lines}
 use Rattle.dem_parser.specs.Shifts.{no_shift}
-use Rattle.dem_parser.specs.Summed.{HasCounted}
+use Rattle.dem_parser.specs.private.Summed.{HasCounted}
 use Rattle.dem_parser.proofs.FrontLemmas.{matched, matched_none}
 use Rattle.dem_parser.proofs.SummedLemmas.{passed-few}
 use Rattle.dem_parser.proofs.WalkLemmas.{judging-beyond, judging-done, judging-first, judging-next}

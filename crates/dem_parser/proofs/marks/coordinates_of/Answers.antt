@@ -1,5 +1,5 @@
 use Rattle.std.proofs.Common.{ap, map, refl, ◌∙◌}
-use Rattle.dem_parser.specs.Marked.{list_numbered}
+use Rattle.dem_parser.specs.private.Marked.{list_numbered}
 use Rattle.dem_parser.specs.Models.{placed_lines}
 use Rattle.dem_parser.proofs.MarkLemmas.{marking-done, marking-first, marking-next}
 use Rattle.dem_parser.proofs.WalkLemmas.{near-next}

@@ -1,5 +1,5 @@
 use Rattle.std.proofs.Common.{◌≡◌, drop, map}
-use Rattle.dem_parser.specs.Marked.{marked}
+use Rattle.dem_parser.specs.private.Marked.{marked}
 use Rattle.dem_parser.specs.Shifts.{target_at}
 use Rattle.dem_parser.proofs.marks.mark_all.Given as goal
 

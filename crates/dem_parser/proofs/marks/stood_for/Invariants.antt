@@ -1,5 +1,5 @@
 use Rattle.std.proofs.Common.{◌≡◌, ◌++◌, drop, map}
-use Rattle.dem_parser.specs.Marked.{list_numbered}
+use Rattle.dem_parser.specs.private.Marked.{list_numbered}
 use Rattle.dem_parser.proofs.marks.stood_for.Given as goal
 
 abbrev pub invariant-loop-mark : goal.invariant-loop-mark

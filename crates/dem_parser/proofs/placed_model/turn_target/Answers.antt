@@ -1,7 +1,7 @@
 use Rattle.std.proofs.Common.{ap, sym, ◌∙◌, arith}
 use Rattle.dem_parser.specs.Meanings.{numbered}
 use Rattle.dem_parser.specs.Shifts.{target_at}
-use Rattle.dem_parser.specs.Turned.{turned}
+use Rattle.dem_parser.specs.private.Turned.{turned}
 use Rattle.dem_parser.proofs.SumLemmas.{turned_at-past}
 use Rattle.dem_parser.proofs.placed_model.turn_target.Goals as goal
 

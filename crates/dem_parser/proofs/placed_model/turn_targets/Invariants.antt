@@ -1,7 +1,7 @@
 use Rattle.std.proofs.Common.{◌≡◌, drop, map}
-use Rattle.dem_parser.specs.Numbered.{numbers_of}
+use Rattle.dem_parser.specs.private.Numbered.{numbers_of}
 use Rattle.dem_parser.specs.Shifts.{target_at}
-use Rattle.dem_parser.specs.Turned.{turned}
+use Rattle.dem_parser.specs.private.Turned.{turned}
 use Rattle.dem_parser.proofs.placed_model.turn_targets.Given as goal
 
 abbrev pub invariant-loop-target : goal.invariant-loop-target

@@ -2,7 +2,7 @@ use Rattle.std.proofs.Common.{◌≡◌, None, false, sym, ◌∙◌}
 use Rattle.dem_lines.specs.Reached.{has_many_lines}
 use Rattle.dem_parser.specs.declared.counts.LineCounts.{LineCounts}
 use Rattle.dem_parser.specs.Models.{first_beyond, placed_lines}
-use Rattle.dem_parser.specs.Summed.{AreCounts, IsJudged}
+use Rattle.dem_parser.specs.private.Summed.{AreCounts, IsJudged}
 use Rattle.dem_parser.proofs.ChainLemmas.{chain-judged}
 use Rattle.dem_parser.proofs.ReadLemmas.{both-ok}
 use Rattle.dem_parser.proofs.WalkSteps.{few-lines}

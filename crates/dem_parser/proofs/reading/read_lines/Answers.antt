@@ -4,7 +4,7 @@ use Rattle.stim_lexer.proofs.ScanLemmas.{lines_of-none}
 use Rattle.dem_lines.specs.Texts.{Item}
 use Rattle.dem_lines.proofs.TreeLemmas.{items_are_written}
 use Rattle.step_model.specs.declared.fault.Cause.{Cause}
-use Rattle.dem_parser.specs.LinesRead.{PassesFirst}
+use Rattle.dem_parser.specs.private.LinesRead.{PassesFirst}
 use Rattle.dem_parser.proofs.ReadingLemmas.{all-read, first-before, first-read, first-refused, left-open, none_open, same-text}
 use Rattle.dem_parser.proofs.reading.read_lines.Goals as goal
 

@@ -1,7 +1,7 @@
 use Rattle.std.proofs.Common.{◌≡◌, ◌+◌, ◌<◌, ◌∙◌, suc, false, drop, get_or, length, replicate, if◌then◌else◌, sym, ap, ap₂, arith}
 use Rattle.std.proofs.lemmas.List.{with_items_is}
 use Rattle.dem_text.specs.ErrorLines.{no_line}
-use Rattle.dem_parser.specs.Turned.{turned, turned_by}
+use Rattle.dem_parser.specs.private.Turned.{turned, turned_by}
 use Rattle.dem_parser.proofs.SumLemmas.{length-turned_if, past_either, symptom-turned, turned_by-done, turned_by-more}
 use Rattle.dem_parser.proofs.sums.symptom.Goals as goal
 

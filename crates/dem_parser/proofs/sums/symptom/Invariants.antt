@@ -1,6 +1,6 @@
 use Rattle.std.proofs.Common.{◌≡◌, drop}
 use Rattle.dem_parser.specs.Sums.{symptom_of}
-use Rattle.dem_parser.specs.Turned.{turned_by}
+use Rattle.dem_parser.specs.private.Turned.{turned_by}
 use Rattle.dem_parser.proofs.sums.symptom.Given as goal
 
 abbrev pub invariant-loop-line : goal.invariant-loop-line

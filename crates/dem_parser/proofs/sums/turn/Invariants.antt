@@ -1,5 +1,5 @@
 use Rattle.std.proofs.Common.{◌≡◌, drop}
-use Rattle.dem_parser.specs.Turned.{turned}
+use Rattle.dem_parser.specs.private.Turned.{turned}
 use Rattle.dem_parser.proofs.sums.turn.Given as goal
 
 abbrev pub invariant-loop-target : goal.invariant-loop-target

@@ -4,8 +4,8 @@ use Rattle.arrayvec.specs.ArrayVec.{array_vec_len}
 use Rattle.block_text.specs.Trees.{items_of}
 use Rattle.dem_lines.proofs.PassLemmas.{passing-first, passing-can, passing-next, passing-done}
 use Rattle.dem_parser.specs.declared.table_line.Stand.{Stand}
-use Rattle.dem_parser.specs.TableLines.{CanStandAt}
-use Rattle.dem_parser.specs.Unrolled.{Counts, counting, nothing_counted}
+use Rattle.dem_parser.specs.private.TableLines.{CanStandAt}
+use Rattle.dem_parser.specs.private.Unrolled.{Counts, counting, nothing_counted}
 use Rattle.dem_parser.proofs.UnrolledLemmas.{counted, counts_item}
 use Rattle.dem_parser.proofs.WalkSteps.{can_stand_at, got_within, item_found, none_found, none_within}
 use Rattle.dem_parser.proofs.unrolled.has_many_lines.Goals as goal

@@ -1,6 +1,6 @@
 use Rattle.std.proofs.Common.{ℕ, ◌-◌, ◌<◌, ◌≤◌}
 use Rattle.dem_text.specs.ErrorLines.{line_at}
-use Rattle.dem_text.specs.ShortLines.{IsShort}
+use Rattle.dem_text.specs.private.ShortLines.{IsShort}
 use Rattle.dem_text.proofs.line_runs.end_of_short.Given as goal
 
 abbrev pub invariant-loop-next : goal.invariant-loop-next

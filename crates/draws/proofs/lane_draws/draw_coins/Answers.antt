@@ -4,7 +4,7 @@ use Rattle.std.specs.Prelude.{ℕ}
 use Rattle.rand_pcg.specs.Lcg.{Lcg, next}
 use Rattle.rand_pcg.specs.Pcg.{pcg64, multiplier_128}
 use Rattle.draws.specs.Drawn.{after_words, word_at}
-use Rattle.draws.specs.LaneDraws.{DrawsInto, coin_hits}
+use Rattle.draws.specs.private.LaneDraws.{DrawsInto, coin_hits}
 use Rattle.draws.proofs.LaneLemmas.{draws_nothing, draws_joined, draws_like}
 use Rattle.draws.proofs.WordLemmas.{after_words-none, after_words-more}
 use Rattle.draws.proofs.lane_draws.draw_coins.Goals as goal

@@ -1,6 +1,6 @@
 use Rattle.std.proofs.Common.{◌≡◌}
 use Rattle.draws.specs.Drawn.{after_words}
-use Rattle.draws.specs.LaneDraws.{DrawsInto, coin_hits}
+use Rattle.draws.specs.private.LaneDraws.{DrawsInto, coin_hits}
 use Rattle.draws.proofs.lane_draws.draw_coins.Given as goal
 
 -- a word was taken for each coin so far

@@ -3,9 +3,9 @@ use Rattle.std.proofs.Common.{◌≡◌, ◌+◌, ◌-◌, ◌≤◌, length, ge
 use Rattle.std.specs.Prelude.{nat_lt}
 use Rattle.std.proofs.lemmas.List.{take_all}
 use Rattle.draws.specs.declared.runs.BoundRun.{BoundRun}
-use Rattle.draws.specs.BoundRuns.{bounds_in}
+use Rattle.draws.specs.private.BoundRuns.{bounds_in}
 use Rattle.draws.specs.Drawn.{after_words, word_at}
-use Rattle.draws.specs.LaneDraws.{DrawsInto, fault_hits}
+use Rattle.draws.specs.private.LaneDraws.{DrawsInto, fault_hits}
 use Rattle.draws.proofs.LaneLemmas.{draws_nothing, draws_joined, draws_like}
 use Rattle.draws.proofs.RunLemmas.{run_fits, run_counts, run_bound, word_behind, words_behind}
 use Rattle.draws.proofs.WordLemmas.{after_words-none}

@@ -1,7 +1,7 @@
 use Rattle.std.proofs.Common.{◌≡◌}
-use Rattle.draws.specs.BoundRuns.{bounds_in}
+use Rattle.draws.specs.private.BoundRuns.{bounds_in}
 use Rattle.draws.specs.Drawn.{after_words}
-use Rattle.draws.specs.LaneDraws.{DrawsInto, fault_hits}
+use Rattle.draws.specs.private.LaneDraws.{DrawsInto, fault_hits}
 use Rattle.draws.proofs.RunLemmas.{bounds_before}
 use Rattle.draws.proofs.lane_draws.draw_faults.Given as goal
 

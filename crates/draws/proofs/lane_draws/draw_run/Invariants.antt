@@ -1,7 +1,7 @@
 use Rattle.std.proofs.Common.{◌≡◌, ◌-◌}
 use Rattle.std.specs.Prelude.{nat_lt}
 use Rattle.draws.specs.Drawn.{after_words, word_at}
-use Rattle.draws.specs.LaneDraws.{DrawsInto}
+use Rattle.draws.specs.private.LaneDraws.{DrawsInto}
 use Rattle.draws.proofs.lane_draws.draw_run.Given as goal
 
 -- a word was taken for each fault so far

@@ -1,8 +1,8 @@
 -- Each coin takes the next words.
 use Rattle.std.proofs.Common.{◌≡◌, ◌+◌, ◌%◌, ◌==◌, length, sym, ap, subst, ◌∙◌, arith}
 use Rattle.draws.specs.Drawn.{after_words, word_at}
-use Rattle.draws.specs.LaneDraws.{coin_hits}
-use Rattle.draws.specs.PairDraws.{DrawsIntoBoth}
+use Rattle.draws.specs.private.LaneDraws.{coin_hits}
+use Rattle.draws.specs.private.PairDraws.{DrawsIntoBoth}
 use Rattle.draws.proofs.PairLemmas.{both_nothing, both_joined, both_in_turn}
 use Rattle.draws.proofs.WordLemmas.{after_words-none, word_taken, word_left}
 use Rattle.draws.proofs.pair_draws.draw_coins.Goals as goal

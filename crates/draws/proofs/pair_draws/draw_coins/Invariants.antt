@@ -1,7 +1,7 @@
 use Rattle.std.proofs.Common.{◌≡◌}
 use Rattle.draws.specs.Drawn.{after_words}
-use Rattle.draws.specs.LaneDraws.{coin_hits}
-use Rattle.draws.specs.PairDraws.{DrawsIntoBoth}
+use Rattle.draws.specs.private.LaneDraws.{coin_hits}
+use Rattle.draws.specs.private.PairDraws.{DrawsIntoBoth}
 use Rattle.draws.proofs.pair_draws.draw_coins.Given as goal
 
 -- each generator gave a word for each coin so far

@@ -2,7 +2,7 @@
 use Rattle.std.proofs.Common.{◌≡◌, ◌+◌, ◌-◌, sym, ap, subst, ◌∙◌, arith}
 use Rattle.std.specs.Prelude.{ℕ, Bool, nat_le, nat_lt}
 use Rattle.draws.specs.Drawn.{after_words, word_at}
-use Rattle.draws.specs.PairDraws.{DrawsIntoBoth}
+use Rattle.draws.specs.private.PairDraws.{DrawsIntoBoth}
 use Rattle.draws.proofs.PairLemmas.{both_nothing, both_missed, both_joined, both_in_turn}
 use Rattle.draws.proofs.RunLemmas.{none_below}
 use Rattle.draws.proofs.WordLemmas.{after_words-none, word_taken, word_left}

@@ -1,7 +1,7 @@
 use Rattle.std.proofs.Common.{◌≡◌, ◌-◌}
 use Rattle.std.specs.Prelude.{nat_lt}
 use Rattle.draws.specs.Drawn.{after_words, word_at}
-use Rattle.draws.specs.PairDraws.{DrawsIntoBoth}
+use Rattle.draws.specs.private.PairDraws.{DrawsIntoBoth}
 use Rattle.draws.proofs.pair_draws.draw_run.Given as goal
 
 -- each generator gave a word for each fault so far

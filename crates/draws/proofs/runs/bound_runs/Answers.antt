@@ -6,7 +6,7 @@ use Rattle.step_model.specs.WellFormed.{IsWellFormed, faults_named}
 use Rattle.programs.specs.Kept.{KeptProgram}
 use Rattle.fault_walk.specs.Found.{IsFaultOf, faults_left}
 use Rattle.fault_walk.proofs.Orders.{takes_number, none_left_of}
-use Rattle.draws.specs.BoundRuns.{bounds_in, bounds_of_run}
+use Rattle.draws.specs.private.BoundRuns.{bounds_in, bounds_of_run}
 use Rattle.draws.specs.Drawn.{bounds_of}
 use Rattle.draws.proofs.BoundLemmas.{bounds_more, bounds_all}
 use Rattle.draws.proofs.RunLemmas.{run_more, last_below}

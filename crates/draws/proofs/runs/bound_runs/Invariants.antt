@@ -1,7 +1,7 @@
 use Rattle.std.proofs.Common.{◌≡◌, ◌-◌, ◌++◌, length, take}
 use Rattle.std.specs.List.{range_with_len}
 use Rattle.fault_walk.specs.Found.{faults_left}
-use Rattle.draws.specs.BoundRuns.{bounds_in, bounds_of_run}
+use Rattle.draws.specs.private.BoundRuns.{bounds_in, bounds_of_run}
 use Rattle.draws.specs.Drawn.{bounds_of}
 use Rattle.draws.proofs.runs.bound_runs.Given as goal
 

@@ -1,6 +1,6 @@
 -- The last run is one longer, or it is kept and another begins.
 use Rattle.std.proofs.Common.{◌++◌, ◌∷◌, [], ap, ◌∙◌}
-use Rattle.draws.specs.BoundRuns.{bounds_in}
+use Rattle.draws.specs.private.BoundRuns.{bounds_in}
 use Rattle.draws.proofs.RunLemmas.{run_more, count_one}
 use Rattle.draws.proofs.runs.count_fault.Goals as goal
 

@@ -1,9 +1,9 @@
 -- Each pair of shots goes into the next lanes of the halves.
 use Rattle.std.proofs.Common.{◌≡◌, ◌+◌, ◌*◌, length, replicate, sym, ap, ap₂, subst, ◌∙◌, arith}
-use Rattle.draws.specs.BoundRuns.{bounds_in}
+use Rattle.draws.specs.private.BoundRuns.{bounds_in}
 use Rattle.draws.specs.Drawn.{after_words, after_shots}
-use Rattle.draws.specs.LaneDraws.{coin_hits, fault_hits}
-use Rattle.draws.specs.PairDraws.{DrawsIntoBoth}
+use Rattle.draws.specs.private.LaneDraws.{coin_hits, fault_hits}
+use Rattle.draws.specs.private.PairDraws.{DrawsIntoBoth}
 use Rattle.draws.proofs.HalfLemmas.{HalvesDrawn, no_halves, one_more_each}
 use Rattle.draws.proofs.SideLemmas.{none_taken, one_more_taken}
 use Rattle.draws.proofs.side_draws.draw_halves.Goals as goal

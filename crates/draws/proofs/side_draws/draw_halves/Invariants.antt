@@ -1,5 +1,5 @@
 use Rattle.std.proofs.Common.{◌≡◌, ◌+◌, length}
-use Rattle.draws.specs.BoundRuns.{bounds_in}
+use Rattle.draws.specs.private.BoundRuns.{bounds_in}
 use Rattle.draws.specs.Drawn.{after_shots}
 use Rattle.draws.proofs.HalfLemmas.{HalvesDrawn}
 use Rattle.draws.proofs.side_draws.draw_halves.Given as goal

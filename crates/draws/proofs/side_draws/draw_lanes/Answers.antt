@@ -1,9 +1,9 @@
 -- An odd shot goes into the last lane.
 use Rattle.std.proofs.Common.{◌≡◌, ◌+◌, ◌*◌, ◌/◌, ◌%◌, length, sym, ap, ap₂, subst, ◌∙◌, arith}
 use Rattle.std.specs.Prelude.{ℕ, ◌-◌}
-use Rattle.draws.specs.BoundRuns.{bounds_in}
+use Rattle.draws.specs.private.BoundRuns.{bounds_in}
 use Rattle.draws.specs.Drawn.{after_words, after_shots}
-use Rattle.draws.specs.LaneDraws.{DrawsInto, coin_hits, fault_hits}
+use Rattle.draws.specs.private.LaneDraws.{DrawsInto, coin_hits, fault_hits}
 use Rattle.draws.specs.Shots.{AreDrawn}
 use Rattle.draws.proofs.SideLemmas.{one_more_drawn, one_more_taken}
 use Rattle.draws.proofs.side_draws.draw_lanes.Goals as goal

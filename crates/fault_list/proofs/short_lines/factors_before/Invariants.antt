@@ -1,5 +1,5 @@
 use Rattle.std.proofs.Common.{◌≡◌, ◌≤◌, ◌+◌, ◌*◌, ◌++◌, length, drop}
-use Rattle.fault_list.specs.TermLetters.{starred_factors}
+use Rattle.fault_list.specs.private.TermLetters.{starred_factors}
 use Rattle.fault_list.proofs.short_lines.factors_before.Given as goal
 
 -- the factors from this one on are written

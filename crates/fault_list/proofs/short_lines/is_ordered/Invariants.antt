@@ -1,5 +1,5 @@
 use Rattle.std.proofs.Common.{◌≡◌, drop}
-use Rattle.fault_list.specs.TermLetters.{is_ordered}
+use Rattle.fault_list.specs.private.TermLetters.{is_ordered}
 use Rattle.fault_list.proofs.short_lines.is_ordered.Given as goal
 
 -- the terms that are left decide

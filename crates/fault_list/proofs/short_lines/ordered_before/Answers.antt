@@ -1,7 +1,7 @@
 use Rattle.std.proofs.Common.{◌-◌, ◌++◌, length, drop, sym, ap, ◌∙◌, append_assoc, arith, length-drop}
 use Rattle.std.proofs.lemmas.List.{take_all}
 use Rattle.fault_list.specs.FaultLines.{factor_text}
-use Rattle.fault_list.specs.TermLetters.{starred_factors}
+use Rattle.fault_list.specs.private.TermLetters.{starred_factors}
 use Rattle.fault_list.proofs.TermLemmas.{term_at}
 use Rattle.fault_list.proofs.ShortLineLemmas.{ordered_text}
 use Rattle.fault_list.proofs.short_lines.ordered_before.Goals as goal

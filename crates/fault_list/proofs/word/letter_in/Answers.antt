@@ -5,7 +5,7 @@ use Rattle.std.proofs.lemmas.Bool.Decides.{nat_tests}
 use Rattle.pauli_word.specs.declared.letter.Letter.TheVariants.{I}
 use Rattle.pauli_word.specs.Letters.{letter_product}
 use Rattle.pauli_word.proofs.LetterLaws.{letter_product-I}
-use Rattle.fault_list.specs.TermLetters.{letter_here, letter_in}
+use Rattle.fault_list.specs.private.TermLetters.{letter_here, letter_in}
 use Rattle.fault_list.proofs.TermLemmas.{term_at, letter_more}
 use Rattle.fault_list.proofs.word.letter_in.Goals as goal
 use Rattle.fault_list.proofs.word.letter_in.Goals.{then-term-qubit, else-term-qubit}

@@ -1,6 +1,6 @@
 use Rattle.std.proofs.Common.{◌≡◌, drop}
 use Rattle.pauli_word.specs.Letters.{letter_product}
-use Rattle.fault_list.specs.TermLetters.{letter_in}
+use Rattle.fault_list.specs.private.TermLetters.{letter_in}
 use Rattle.fault_list.proofs.word.letter_in.Given as goal
 
 -- the letter so far, times that of the terms that are left, is the letter of all

@@ -3,8 +3,8 @@ use Rattle.std.proofs.Common.{◌≡◌, length, subst}
 use Rattle.std.specs.Prelude.{IfSome}
 use Rattle.pauli_word.specs.Words.{lone_letter}
 use Rattle.tableau.specs.Rows.{destabilizer_at}
-use Rattle.forward_sim.specs.Kept.{entry_for}
-use Rattle.forward_sim.specs.Machines.{qubit_count}
+use Rattle.forward_sim.specs.private.Kept.{entry_for}
+use Rattle.forward_sim.specs.private.Machines.{qubit_count}
 use Rattle.forward_sim.proofs.KeptWords.{kept_entry}
 use Rattle.forward_sim.proofs.following.follow_letter.Goals as goal
 

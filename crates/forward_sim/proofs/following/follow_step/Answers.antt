@@ -4,7 +4,7 @@ use Rattle.std.specs.Prelude.{is_some}
 use Rattle.pauli_word.specs.Words.{lone_letter}
 use Rattle.programs.specs.Listed.{listed, measured}
 use Rattle.step_model.specs.Runs.{after_collapse, correction, next}
-use Rattle.forward_sim.specs.Machines.{qubit_count, run_of, ComesTo}
+use Rattle.forward_sim.specs.private.Machines.{qubit_count, run_of, ComesTo}
 use Rattle.forward_sim.proofs.ReferenceSteps.{letter_ends, letter_next}
 use Rattle.forward_sim.proofs.following.follow_step.Goals as goal
 

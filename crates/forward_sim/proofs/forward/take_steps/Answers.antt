@@ -5,8 +5,8 @@ use Rattle.programs.specs.Kept.{KeptProgram}
 use Rattle.programs.specs.Listed.{listed}
 use Rattle.step_model.specs.Listing.{ListedStep}
 use Rattle.step_model.specs.Runs.{next, records_of, start}
-use Rattle.forward_sim.specs.Machines.{run_of}
-use Rattle.forward_sim.specs.SameRuns.{IsSameRun}
+use Rattle.forward_sim.specs.private.Machines.{run_of}
+use Rattle.forward_sim.specs.private.SameRuns.{IsSameRun}
 use Rattle.forward_sim.proofs.RunRecords.{MakesRest, StepIsNext, rest_at_start, step_is_next, rest_after_step, records_at_end, place_after, length-records_of}
 use Rattle.forward_sim.proofs.forward.take_steps.Given.{Over}
 use Rattle.forward_sim.proofs.forward.take_steps.Goals as goal

@@ -1,6 +1,6 @@
 use Rattle.std.proofs.Common.{◌≡◌, ◌-◌, length}
 use Rattle.forward_sim.proofs.RunRecords.{MakesRest}
-use Rattle.forward_sim.specs.Machines.{qubit_count, run_of}
+use Rattle.forward_sim.specs.private.Machines.{qubit_count, run_of}
 use Rattle.forward_sim.proofs.forward.take_steps.Given as goal
 
 -- the steps that are left make the records of the whole run

@@ -2,8 +2,8 @@
 use Rattle.std.proofs.Common.{◌≡◌, ap, subst, ◌∙◌}
 use Rattle.pauli_word.specs.Words.{lone_letter}
 use Rattle.tableau.specs.Rows.{Rows, row_count}
-use Rattle.forward_sim.specs.Kept.{NamesRow}
-use Rattle.forward_sim.specs.Machines.{Running}
+use Rattle.forward_sim.specs.private.Kept.{NamesRow}
+use Rattle.forward_sim.specs.private.Machines.{Running}
 use Rattle.forward_sim.proofs.KeptWords.{names_row}
 use Rattle.forward_sim.proofs.letters.collapse_letter.Goals as goal
 

@@ -4,7 +4,7 @@ use Rattle.std.proofs.lemmas.Iterator.Consumers.{YieldsList-turn, YieldsList-end
 use Rattle.std.proofs.lemmas.Iterator.Splits.{YieldsList-from_slice_split}
 use Rattle.std.proofs.lemmas.List.{at_drop_all, length_push}
 use Rattle.forward_sim.specs.Lists.{numbers_of}
-use Rattle.forward_sim.specs.Numbers.{is_comma}
+use Rattle.forward_sim.specs.private.Numbers.{is_comma}
 use Rattle.forward_sim.proofs.NumberLemmas.{marked, marked-all, marked-more, marked-not, marked-twice}
 use Rattle.forward_sim.proofs.lists.mark_numbers.Goals as goal
 use Rattle.forward_sim.proofs.lists.mark_numbers.Goals.{In-Some}

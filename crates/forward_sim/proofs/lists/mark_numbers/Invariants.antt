@@ -1,6 +1,6 @@
 use Rattle.std.proofs.Common.{◌≡◌, length, drop}
 use Rattle.std.specs.List.{slice_split}
-use Rattle.forward_sim.specs.Numbers.{is_comma}
+use Rattle.forward_sim.specs.private.Numbers.{is_comma}
 use Rattle.forward_sim.proofs.NumberLemmas.{marked}
 use Rattle.forward_sim.proofs.lists.mark_numbers.Given as goal
 

@@ -1,7 +1,7 @@
 use Rattle.std.proofs.Common.{◌≡◌, min, take, true}
 use Rattle.std.specs.Char.{is_ascii_digit}
 use Rattle.std.specs.List.{list_all}
-use Rattle.forward_sim.specs.Numbers.{number_of}
+use Rattle.forward_sim.specs.private.Numbers.{number_of}
 use Rattle.forward_sim.proofs.lists.number_below.Given as goal
 
 -- so far there are digits alone, and the number is theirs, or the count where they reach it

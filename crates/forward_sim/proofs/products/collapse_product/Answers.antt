@@ -4,8 +4,8 @@ use Rattle.pauli_word.specs.Words.{Signed}
 use Rattle.step_model.specs.Listing.{word_of_terms}
 use Rattle.step_model.proofs.StepNumbers.{length-word_of_terms}
 use Rattle.tableau.specs.Rows.{Rows, row_count}
-use Rattle.forward_sim.specs.Kept.{NamesRow}
-use Rattle.forward_sim.specs.Machines.{Running}
+use Rattle.forward_sim.specs.private.Kept.{NamesRow}
+use Rattle.forward_sim.specs.private.Machines.{Running}
 use Rattle.forward_sim.proofs.KeptWords.{names_row}
 use Rattle.forward_sim.proofs.products.collapse_product.Goals as goal
 

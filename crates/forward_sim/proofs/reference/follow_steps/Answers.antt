@@ -6,9 +6,9 @@ use Rattle.programs.specs.Listed.{listed}
 use Rattle.step_model.specs.Frames.{zero_coins}
 use Rattle.step_model.specs.Listing.{ListedStep}
 use Rattle.step_model.specs.Runs.{next}
-use Rattle.forward_sim.specs.Machines.{run_of}
+use Rattle.forward_sim.specs.private.Machines.{run_of}
 use Rattle.forward_sim.specs.References.{IsReferenceOf}
-use Rattle.forward_sim.specs.SameRuns.{IsSameRun}
+use Rattle.forward_sim.specs.private.SameRuns.{IsSameRun}
 use Rattle.forward_sim.proofs.ReferenceSteps.{KeepsRest, keeps_at_start, keeps_after_step, reference_at_end, length-replaced}
 use Rattle.forward_sim.proofs.RunRecords.{MakesRest, StepIsNext, rest_at_start, step_is_next, rest_after_step, place_after, length-records_of}
 use Rattle.forward_sim.proofs.reference.follow_steps.Given.{Over}

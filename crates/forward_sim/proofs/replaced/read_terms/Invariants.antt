@@ -1,5 +1,5 @@
 use Rattle.std.proofs.Common.{◌≡◌, ◌++◌, drop}
-use Rattle.forward_sim.specs.Kept.{terms_from}
+use Rattle.forward_sim.specs.private.Kept.{terms_from}
 use Rattle.forward_sim.proofs.replaced.read_terms.Given as goal
 
 -- the terms so far, and those of the letters that are left, are all

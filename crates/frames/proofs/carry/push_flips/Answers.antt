@@ -4,7 +4,7 @@ use Rattle.programs.specs.Listed.{listed}
 use Rattle.step_model.specs.Frames.{Frame, flips_from}
 use Rattle.step_model.proofs.StepNumbers.{fits_at}
 use Rattle.run_laws.proofs.PairParity.{length-carried}
-use Rattle.frames.specs.Flips.{flip_of}
+use Rattle.frames.specs.private.Flips.{flip_of}
 use Rattle.frames.proofs.FrameSteps.{flips-on}
 use Rattle.frames.proofs.Walking.{goes_over, rests}
 use Rattle.frames.proofs.carry.push_flips.Goals as goal

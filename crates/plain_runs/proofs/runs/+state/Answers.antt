@@ -1,6 +1,6 @@
 use Rattle.std.proofs.Common.{rules, ◌-◌, option_map, ap, sym, ◌∙◌, arith, subst}
 use Rattle.step_model.specs.Runs.{run_state_after}
-use Rattle.plain_runs.specs.PlainSteps.{listed_step, measured, recorded, WordsFit}
+use Rattle.plain_runs.specs.private.PlainSteps.{listed_step, measured, recorded, WordsFit}
 use Rattle.pauli_word.specs.Words.{Signed}
 use Rattle.plain_runs.proofs.RunFacts.{IfOk-along, state-more, records-more, collapse-records, no_collapse, numbered}
 use Rattle.plain_runs.proofs.runs.+state.Goals as goal

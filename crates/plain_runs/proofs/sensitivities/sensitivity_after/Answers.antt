@@ -1,6 +1,6 @@
 use Rattle.std.proofs.Common.{◌≡◌, ◌+◌, ◌-◌, ◌<◌, length, sym, ap, ◌∙◌, arith}
 use Rattle.step_model.specs.Sensitivities.{sensitivity_before}
-use Rattle.plain_runs.specs.PlainSteps.{step_at}
+use Rattle.plain_runs.specs.private.PlainSteps.{step_at}
 use Rattle.plain_runs.proofs.SensitivityFacts.{sensitivity-more}
 use Rattle.plain_runs.proofs.sensitivities.sensitivity_after.Goals as goal
 

@@ -6,7 +6,7 @@ use Rattle.draws.specs.Drawn.{bounds_of, after_shots}
 use Rattle.draws.specs.Shots.{AreDrawn}
 use Rattle.lanes.specs.Lanes.{lane}
 use Rattle.pieces.specs.Pushed.{Pushes}
-use Rattle.sampling.specs.LaneLines.{lane_lines}
+use Rattle.sampling.specs.private.LaneLines.{lane_lines}
 use Rattle.sampling.specs.Sampled.{lines_from}
 use Rattle.sampling.specs.Shown.{shown_line}
 use Rattle.sampling.proofs.TextLemmas.{batch_lines, drawn_line}

@@ -2,7 +2,7 @@
 use Rattle.std.proofs.Common.{◌≡◌, refl, ◌∙◌, arith}
 use Rattle.pieces.proofs.Items.{Pushes-number}
 use Rattle.pieces.proofs.Pushing.{Pushes-nil}
-use Rattle.sampling.specs.LaneLines.{lane_line}
+use Rattle.sampling.specs.private.LaneLines.{lane_line}
 use Rattle.sampling.proofs.lines.push_lines.Goals as goal
 
 pub loop-shot-init : goal.loop-shot-init

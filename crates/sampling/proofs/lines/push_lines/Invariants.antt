@@ -1,6 +1,6 @@
 use Rattle.std.proofs.Common.{◌≡◌, length}
 use Rattle.pieces.specs.Pushed.{Pushes}
-use Rattle.sampling.specs.LaneLines.{lane_lines}
+use Rattle.sampling.specs.private.LaneLines.{lane_lines}
 use Rattle.sampling.proofs.lines.push_lines.Given as goal
 
 -- the lines of the first shots were pushed

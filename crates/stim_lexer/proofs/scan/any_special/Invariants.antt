@@ -1,6 +1,6 @@
 use Rattle.std.proofs.Common.{◌≡◌, take}
 use Rattle.std.specs.List.{list_any}
-use Rattle.stim_lexer.specs.Special.{is_special}
+use Rattle.stim_lexer.specs.private.Special.{is_special}
 use Rattle.stim_lexer.proofs.scan.any_special.Given as goal
 
 abbrev pub invariant-loop-byte : goal.invariant-loop-byte

@@ -1,7 +1,7 @@
 use Rattle.std.proofs.Common.{◌≡◌, Some, ap₂, sym, ◌∙◌}
 use Rattle.stim_lexer.specs.Lexing.{cut_in}
 use Rattle.stim_parser.specs.Judging.{first_of}
-use Rattle.stim_parser.specs.Questions.{refusals_of_arguments}
+use Rattle.stim_parser.specs.private.Questions.{refusals_of_arguments}
 use Rattle.stim_parser.proofs.JudgeLemmas.{keyword-arguments}
 use Rattle.stim_parser.proofs.judge.refusal_of.Goals as goal
 

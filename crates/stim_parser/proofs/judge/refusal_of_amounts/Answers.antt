@@ -1,7 +1,7 @@
 use Rattle.std.proofs.Common.{◌≡◌, false, ◌||◌, List, None, Some, ap, ap₂, sym, ◌∙◌}
 use Rattle.stim_lexer.specs.Lexing.{cut_in}
 use Rattle.stim_parser.specs.Judging.{first_of, read_targets}
-use Rattle.stim_parser.specs.Questions.{has_number_beyond, refusals_of_block}
+use Rattle.stim_parser.specs.private.Questions.{has_number_beyond, refusals_of_block}
 use Rattle.stim_parser.proofs.JudgeLemmas.{amounts-targets}
 use Rattle.stim_parser.proofs.judge.refusal_of_amounts.Goals as goal
 

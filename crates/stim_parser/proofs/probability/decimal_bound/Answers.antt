@@ -1,7 +1,7 @@
 use Rattle.std.proofs.Common.{◌≡◌, ◌+◌, ◌∙◌, sym, ap, Bool, true, false, length, refl, arith}
 use Rattle.std.specs.Prelude.{if◌then◌else◌}
 use Rattle.std.proofs.lemmas.Bool.{eq-eqb, ne_eqb}
-use Rattle.stim_parser.specs.Decimals.{decimal_in}
+use Rattle.stim_parser.specs.private.Decimals.{decimal_in}
 use Rattle.stim_parser.proofs.SignificantLemmas.{bound-read}
 use Rattle.stim_parser.proofs.probability.decimal_bound.Goals as goal
 use Rattle.stim_parser.proofs.probability.decimal_bound.Goals.{then-parts, else-parts}

@@ -1,5 +1,5 @@
 use Rattle.std.proofs.Common.{◌∙◌, sym}
-use Rattle.stim_parser.specs.QubitSets.{is_named}
+use Rattle.stim_parser.specs.private.QubitSets.{is_named}
 use Rattle.stim_parser.proofs.ProductSteps.{back-step, beyond-second, cut_two}
 use Rattle.stim_parser.proofs.products.go_back.Goals as goal
 

@@ -1,5 +1,5 @@
 use Rattle.std.proofs.Common.{length}
-use Rattle.stim_parser.specs.QubitSets.{is_named}
+use Rattle.stim_parser.specs.private.QubitSets.{is_named}
 use Rattle.stim_parser.proofs.ProductSteps.{IsOver}
 use Rattle.stim_parser.proofs.products.go_over.Given as goal
 

@@ -1,4 +1,4 @@
-use Rattle.stim_parser.specs.QubitSets.{is_named}
+use Rattle.stim_parser.specs.private.QubitSets.{is_named}
 use Rattle.stim_parser.proofs.ProductSteps.{between-again, between-step, beyond-first, cut_one}
 use Rattle.stim_parser.proofs.products.has_product_of_one.Goals as goal
 

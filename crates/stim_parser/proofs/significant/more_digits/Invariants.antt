@@ -1,5 +1,5 @@
 use Rattle.std.proofs.Common.{◌≡◌, ◌+◌, ◌≤◌, drop}
-use Rattle.stim_parser.specs.Significant.{more_digits, IsWithin}
+use Rattle.stim_parser.specs.private.Significant.{more_digits, IsWithin}
 use Rattle.stim_parser.proofs.significant.more_digits.Given as goal
 
 abbrev pub invariant-loop-digit : goal.invariant-loop-digit

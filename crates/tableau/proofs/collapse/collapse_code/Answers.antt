@@ -1,6 +1,6 @@
 use Rattle.std.proofs.Common.{length, get_or, sym, subst, ◌∙◌}
 use Rattle.pauli_word.proofs.LowestLetters.{lowest-clash}
-use Rattle.tableau.specs.Encoding.{HasLength}
+use Rattle.tableau.specs.private.Encoding.{HasLength}
 use Rattle.tableau.proofs.PairWords.{pair_long}
 use Rattle.tableau.proofs.RowClashes.{clashes_told}
 use Rattle.tableau.proofs.TwistRows.{turned_size}

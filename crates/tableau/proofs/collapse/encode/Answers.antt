@@ -1,7 +1,7 @@
 use Rattle.std.proofs.Common.{◌<◌, false, length, ap, sym, ◌∙◌, arith}
 use Rattle.pauli_word.specs.Words.{no_letters}
 use Rattle.pauli_word.specs.Groups.{identity_word}
-use Rattle.tableau.specs.EncodingSteps.{code_of}
+use Rattle.tableau.specs.private.EncodingSteps.{code_of}
 use Rattle.tableau.proofs.FirstLetters.{first-all}
 use Rattle.tableau.proofs.PairWords.{encode_size, encode_commutes, encode_more}
 use Rattle.tableau.proofs.collapse.encode.Goals as goal

@@ -1,5 +1,5 @@
 use Rattle.std.proofs.Common.{◌≡◌, length}
-use Rattle.tableau.specs.EncodingSteps.{code_of}
+use Rattle.tableau.specs.private.EncodingSteps.{code_of}
 use Rattle.tableau.proofs.FirstLetters.{first_letters}
 use Rattle.tableau.proofs.collapse.encode.Given as goal
 

@@ -1,7 +1,7 @@
 use Rattle.std.proofs.Common.{length, rules, sym, ap, ◌∙◌}
 use Rattle.pauli_word.specs.Letters.{letters_clash}
 use Rattle.pauli_word.specs.Parity.{exclusive_or}
-use Rattle.tableau.specs.EncodingSteps.{turning_gate}
+use Rattle.tableau.specs.private.EncodingSteps.{turning_gate}
 use Rattle.tableau.proofs.RowsThatStay.{row_kept}
 use Rattle.tableau.proofs.collapse.turn_row.Goals as goal
 

@@ -2,9 +2,9 @@ use Rattle.std.proofs.Common.{◌<◌, length, sym, subst, ◌∙◌, arith}
 use Rattle.gate_table.specs.WordImages.{image_at}
 use Rattle.pauli_word.specs.declared.letter.Letter.TheVariants.{Z}
 use Rattle.pauli_word.specs.Words.{Signed, letter_at}
-use Rattle.tableau.specs.CliffordMaps.{twisted}
-use Rattle.tableau.specs.Encoding.{HasLength}
-use Rattle.tableau.specs.EncodingSteps.{lone, turning_gate}
+use Rattle.tableau.specs.private.CliffordMaps.{twisted}
+use Rattle.tableau.specs.private.Encoding.{HasLength}
+use Rattle.tableau.specs.private.EncodingSteps.{lone, turning_gate}
 use Rattle.tableau.proofs.RowClashes.{clashes_read}
 use Rattle.tableau.proofs.TwistRows.{current, mapped_more}
 use Rattle.tableau.proofs.collapse.turn_rows.Goals as goal

@@ -1,8 +1,8 @@
 use Rattle.std.proofs.Common.{◌≡◌, ◌++◌, length, take, drop}
 use Rattle.gate_table.specs.WordImages.{image_at}
 use Rattle.pauli_word.specs.declared.letter.Letter.TheVariants.{Z}
-use Rattle.tableau.specs.CliffordMaps.{twisted}
-use Rattle.tableau.specs.EncodingSteps.{lone, mapped, turning_gate}
+use Rattle.tableau.specs.private.CliffordMaps.{twisted}
+use Rattle.tableau.specs.private.EncodingSteps.{lone, mapped, turning_gate}
 use Rattle.tableau.proofs.collapse.turn_rows.Given as goal
 
 abbrev pub invariant-loop-row : goal.invariant-loop-row

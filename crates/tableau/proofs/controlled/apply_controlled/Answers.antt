@@ -1,6 +1,6 @@
 use Rattle.std.proofs.Common.{◌≤◌, length, drop, ap, sym, subst, ◌∙◌, arith}
-use Rattle.tableau.specs.Encoding.{IsTableau}
-use Rattle.tableau.specs.ControlledSteps.{after_controlled}
+use Rattle.tableau.specs.private.Encoding.{IsTableau}
+use Rattle.tableau.specs.private.ControlledSteps.{after_controlled}
 use Rattle.tableau.proofs.ControlledRows.{comes_after, written_back}
 use Rattle.tableau.proofs.controlled.apply_controlled.Goals as goal
 

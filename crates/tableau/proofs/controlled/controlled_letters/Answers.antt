@@ -1,6 +1,6 @@
 use Rattle.std.proofs.Common.{sym, subst}
 use Rattle.pauli_word.specs.declared.letter.Letter.TheVariants.{X, Y, Z}
-use Rattle.tableau.specs.ControlledSteps.{IsControlled}
+use Rattle.tableau.specs.private.ControlledSteps.{IsControlled}
 use Rattle.tableau.proofs.ControlledGates.{CX_is, CY_is, CZ_is, XCX_is, XCY_is, XCZ_is}
 use Rattle.tableau.proofs.controlled.controlled_letters.Goals as goal
 

@@ -1,6 +1,6 @@
 use Rattle.std.proofs.Common.{length, sym, subst}
 use Rattle.pauli_word.specs.declared.letter.Letter.TheVariants.{X, Z}
-use Rattle.tableau.specs.Encoding.{HasLength}
+use Rattle.tableau.specs.private.Encoding.{HasLength}
 use Rattle.tableau.proofs.ControlledRows.{controlled_size, second_multiplied}
 use Rattle.tableau.proofs.controlled.multiply_both.Goals as goal
 

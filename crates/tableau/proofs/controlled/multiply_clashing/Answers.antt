@@ -1,7 +1,7 @@
 use Rattle.std.proofs.Common.{length, ap, ap₂, sym, subst, ◌∙◌}
 use Rattle.pauli_word.specs.Words.{product}
 use Rattle.gate_table.specs.Images.{factor}
-use Rattle.tableau.specs.Encoding.{HasLength, word_of}
+use Rattle.tableau.specs.private.Encoding.{HasLength, word_of}
 use Rattle.tableau.proofs.ControlledRows.{factor_is_Y}
 use Rattle.tableau.proofs.controlled.multiply_clashing.Goals as goal
 

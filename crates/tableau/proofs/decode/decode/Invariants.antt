@@ -1,7 +1,7 @@
 use Rattle.std.proofs.Common.{◌≡◌, ◌<◌, ℕ, length}
 use Rattle.pauli_word.specs.declared.letter.Letter.TheVariants.{X}
 use Rattle.pauli_word.specs.Words.{lone_letter, letter_at}
-use Rattle.tableau.specs.Decoding.{decoded_letters}
+use Rattle.tableau.specs.private.Decoding.{decoded_letters}
 use Rattle.tableau.proofs.decode.decode.Given as goal
 
 abbrev pub invariant-loop-qubit : goal.invariant-loop-qubit

@@ -1,6 +1,6 @@
 use Rattle.std.proofs.Common.{length, set, ap₂, sym, subst, ◌∙◌, get_or-set_other}
 use Rattle.pauli_word.specs.declared.letter.Letter.TheVariants.{I, X, Z}
-use Rattle.tableau.specs.Encoding.{HasLength}
+use Rattle.tableau.specs.private.Encoding.{HasLength}
 use Rattle.tableau.proofs.NewSizes.{two_size}
 use Rattle.tableau.proofs.PairWords.{pair_size, first_made, second_made, two_commute}
 use Rattle.tableau.proofs.gates.apply_by_images.Goals as goal

@@ -1,5 +1,5 @@
 use Rattle.std.proofs.Common.{◌<◌, length, ap, sym, ◌∙◌, arith}
-use Rattle.tableau.specs.EncodingSteps.{after_word}
+use Rattle.tableau.specs.private.EncodingSteps.{after_word}
 use Rattle.tableau.proofs.FirstLetters.{after_no_letters, letter_applied, first-all}
 use Rattle.tableau.proofs.gates.apply_letters.Goals as goal
 

@@ -1,5 +1,5 @@
 use Rattle.std.proofs.Common.{◌≡◌}
-use Rattle.tableau.specs.EncodingSteps.{after_word}
+use Rattle.tableau.specs.private.EncodingSteps.{after_word}
 use Rattle.tableau.proofs.FirstLetters.{first_letters}
 use Rattle.tableau.proofs.gates.apply_letters.Given as goal
 

@@ -1,8 +1,8 @@
 use Rattle.std.proofs.Common.{length, set, refl, ap, sym, subst, ◌∙◌}
 use Rattle.pauli_word.specs.declared.letter.Letter.TheVariants.{X, Z}
 use Rattle.pauli_word.specs.Words.{product}
-use Rattle.tableau.specs.Encoding.{HasLength}
-use Rattle.tableau.specs.EncodingSteps.{preimage_word}
+use Rattle.tableau.specs.private.Encoding.{HasLength}
+use Rattle.tableau.specs.private.EncodingSteps.{preimage_word}
 use Rattle.tableau.proofs.NewSizes.{one_size}
 use Rattle.tableau.proofs.PairWords.{pair_size, one_made}
 use Rattle.tableau.proofs.Turns.{changed_back}

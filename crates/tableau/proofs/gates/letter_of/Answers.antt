@@ -1,6 +1,6 @@
 use Rattle.std.proofs.Common.{ap}
 use Rattle.pauli_word.specs.declared.letter.Letter.TheVariants.{X, Z}
-use Rattle.tableau.specs.EncodingSteps.{preimage_word}
+use Rattle.tableau.specs.private.EncodingSteps.{preimage_word}
 use Rattle.tableau.proofs.gates.letter_of.Goals as goal
 
 pub returns-in-I : goal.returns-in-I

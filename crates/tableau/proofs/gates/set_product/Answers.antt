@@ -1,7 +1,7 @@
 use Rattle.std.proofs.Common.{length, ap, sym, subst, ◌∙◌}
 use Rattle.pauli_word.specs.Words.{product, with_sign_changed}
 use Rattle.pauli_word.proofs.SignedLaws.{product_of_identity}
-use Rattle.tableau.specs.Encoding.{HasLength, word_of}
+use Rattle.tableau.specs.private.Encoding.{HasLength, word_of}
 use Rattle.tableau.proofs.PairWords.{started_size, then_times}
 use Rattle.tableau.proofs.RowMaps.{word_of_size}
 use Rattle.tableau.proofs.gates.set_product.Goals as goal

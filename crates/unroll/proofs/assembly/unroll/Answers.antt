@@ -1,6 +1,6 @@
 use Rattle.std.proofs.Common.{◌≡◌, inr, None, Ok, ap, sym, ◌∙◌}
 use Rattle.programs.specs.Kept.{KeptProgram}
-use Rattle.unroll.specs.Counted.{refusal_counted}
+use Rattle.unroll.specs.private.Counted.{refusal_counted}
 use Rattle.unroll.proofs.FarLines.{refused-as-counted}
 use Rattle.unroll.proofs.AssemblyLemmas.{parts_fit, program_made, program_refused}
 use Rattle.unroll.proofs.assembly.unroll.Goals as goal

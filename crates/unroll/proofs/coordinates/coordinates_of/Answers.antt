@@ -1,9 +1,9 @@
 use Rattle.std.proofs.Common.{◌+◌, ◌++◌, [], ◌∷◌, ℕ, length, refl, ap, ◌∙◌, arith}
 use Rattle.block_text.specs.Kept.{instruction_in}
-use Rattle.unroll.specs.Placing.{downs, placing, raised_by, turned_by, turned_on, ups}
+use Rattle.unroll.specs.private.Placing.{downs, placing, raised_by, turned_by, turned_on, ups}
 use Rattle.unroll.proofs.PlacingLoops.{HasPopped, placing-begins, placing-does, placing-done, placing-ends, placing-first, placing-fits, placing-room, placing-same, placing-some, placing-stated, placing-up-to, small-added, small-counts, with_turns}
 use Rattle.unroll.proofs.coordinates.coordinates_of.Goals as goal
-use Rattle.unroll.proofs.coordinates.coordinates_of.Goals.{in-Does+in_ok-push_coordinates-in-Does, in-Begins, in-Ends+in_ok-push_later_turns-in-Ends}
+use Rattle.unroll.proofs.coordinates.coordinates_of.Goals.{in-InstructionLine+in_ok-push_coordinates-in-InstructionLine, in-BlockStart, in-BlockEnd+in_ok-push_later_turns-in-BlockEnd}
 
 pub loop-i-init : goal.loop-i-init
 loop-i-init g c =
@@ -11,7 +11,7 @@ loop-i-init g c =
 
 pub push_coordinates-requires-clause-fits : goal.push_coordinates-requires-clause-fits
 push_coordinates-requires-clause-fits g c =
-    placing-fits c.args.circuit.now c.loop-i.i c.loop-i.offset c.loop-i.coordinates c.loop-i.blocks.items (instruction_in c.in-Does.instruction) c.loop-i.invariant c.in-Does.ensures
+    placing-fits c.args.circuit.now c.loop-i.i c.loop-i.offset c.loop-i.coordinates c.loop-i.blocks.items (instruction_in c.in-InstructionLine.instruction) c.loop-i.invariant c.in-InstructionLine.ensures
 
 pub push_coordinates-requires-clause-small_up : goal.push_coordinates-requires-clause-small_up
 push_coordinates-requires-clause-small_up g c =
@@ -25,7 +25,7 @@ push_coordinates-requires-clause-small_down g c =
 
 pub shift-requires-clause-fits : goal.shift-requires-clause-fits
 shift-requires-clause-fits g c =
-    placing-fits c.args.circuit.now c.loop-i.i c.loop-i.offset c.loop-i.coordinates c.loop-i.blocks.items (instruction_in c.in-Does.instruction) c.loop-i.invariant c.in-Does.ensures
+    placing-fits c.args.circuit.now c.loop-i.i c.loop-i.offset c.loop-i.coordinates c.loop-i.blocks.items (instruction_in c.in-InstructionLine.instruction) c.loop-i.invariant c.in-InstructionLine.ensures
 
 pub shift-requires-clause-small_up : goal.shift-requires-clause-small_up
 shift-requires-clause-small_up g c =
@@ -34,8 +34,8 @@ shift-requires-clause-small_up g c =
     let p = c.loop-i.offset in
     let found = c.loop-i.coordinates in
     let blocks = c.loop-i.blocks.items in
-    let x = instruction_in c.in-Does.instruction in
-    let next = placing-does t i p found blocks x c.loop-i.invariant c.in-Does.ensures in
+    let x = instruction_in c.in-InstructionLine.instruction in
+    let next = placing-does t i p found blocks x c.loop-i.invariant c.in-InstructionLine.ensures in
     let within = placing-up-to t (i + 1) (placing.next p x) (found ++ placing.gives p x) blocks next in
     small-counts (raised_by p.up (ups x)) within.up
 
@@ -46,18 +46,18 @@ shift-requires-clause-small_down g c =
     let p = c.loop-i.offset in
     let found = c.loop-i.coordinates in
     let blocks = c.loop-i.blocks.items in
-    let x = instruction_in c.in-Does.instruction in
-    let next = placing-does t i p found blocks x c.loop-i.invariant c.in-Does.ensures in
+    let x = instruction_in c.in-InstructionLine.instruction in
+    let next = placing-does t i p found blocks x c.loop-i.invariant c.in-InstructionLine.ensures in
     let within = placing-up-to t (i + 1) (placing.next p x) (found ++ placing.gives p x) blocks next in
     small-counts (raised_by p.down (downs x)) within.down
 
 pub push-requires : goal.push-requires
 push-requires g c =
-    (omega arith, placing-room c.args.circuit.now c.loop-i.i c.loop-i.offset c.loop-i.coordinates c.loop-i.blocks.items c.in-Begins.line c.in-Begins.turns c.loop-i.invariant c.in-Begins.ensures)
+    (omega arith, placing-room c.args.circuit.now c.loop-i.i c.loop-i.offset c.loop-i.coordinates c.loop-i.blocks.items c.in-BlockStart.line c.in-BlockStart.turns c.loop-i.invariant c.in-BlockStart.ensures)
 
 pub unwrap-block-requires : goal.unwrap-block-requires
 unwrap-block-requires g c =
-    c.pop.ensures.variant.1 (placing-some c.args.circuit.now c.loop-i.i c.loop-i.offset c.loop-i.coordinates c.loop-i.blocks.items c.loop-i.invariant c.in-Ends.ensures)
+    c.pop.ensures.variant.1 (placing-some c.args.circuit.now c.loop-i.i c.loop-i.offset c.loop-i.coordinates c.loop-i.blocks.items c.loop-i.invariant c.in-BlockEnd.ensures)
 
 pub push_later_turns-requires-clause-stated : goal.push_later_turns-requires-clause-stated
 push_later_turns-requires-clause-stated g c =
@@ -73,7 +73,7 @@ push_later_turns-requires-clause-small_up g c =
     let n = c.saturating_sub-later.result in
     let block = c.unwrap-block.result in
     let popped : HasPopped blocks c.pop.new.self.items c.pop.result block n = record { rest_is = c.pop.ensures.items; block_is = c.unwrap-block.ensures; turns_is = c.saturating_sub-later.ensures } in
-    let next = placing-ends t i p found blocks c.pop.new.self.items c.pop.result block n c.loop-i.invariant c.in-Ends.ensures popped in
+    let next = placing-ends t i p found blocks c.pop.new.self.items c.pop.result block n c.loop-i.invariant c.in-BlockEnd.ensures popped in
     let within = placing-up-to t (i + 1) (turned_on n block.before.place p) (with_turns n block p found) c.pop.new.self.items next in
     small-added n block.before.place.up p.up (small-counts (turned_by n block.before.place.up p.up) within.up)
 
@@ -87,7 +87,7 @@ push_later_turns-requires-clause-small_down g c =
     let n = c.saturating_sub-later.result in
     let block = c.unwrap-block.result in
     let popped : HasPopped blocks c.pop.new.self.items c.pop.result block n = record { rest_is = c.pop.ensures.items; block_is = c.unwrap-block.ensures; turns_is = c.saturating_sub-later.ensures } in
-    let next = placing-ends t i p found blocks c.pop.new.self.items c.pop.result block n c.loop-i.invariant c.in-Ends.ensures popped in
+    let next = placing-ends t i p found blocks c.pop.new.self.items c.pop.result block n c.loop-i.invariant c.in-BlockEnd.ensures popped in
     let within = placing-up-to t (i + 1) (turned_on n block.before.place p) (with_turns n block p found) c.pop.new.self.items next in
     small-added n block.before.place.down p.down (small-counts (turned_by n block.before.place.down p.down) within.down)
 
@@ -101,7 +101,7 @@ turn_on-requires-clause-small_up g c =
     let n = c.saturating_sub-later.result in
     let block = c.unwrap-block.result in
     let popped : HasPopped blocks c.pop.new.self.items c.pop.result block n = record { rest_is = c.pop.ensures.items; block_is = c.unwrap-block.ensures; turns_is = c.saturating_sub-later.ensures } in
-    let next = placing-ends t i p found blocks c.pop.new.self.items c.pop.result block n c.loop-i.invariant c.in-Ends.ensures popped in
+    let next = placing-ends t i p found blocks c.pop.new.self.items c.pop.result block n c.loop-i.invariant c.in-BlockEnd.ensures popped in
     let within = placing-up-to t (i + 1) (turned_on n block.before.place p) (with_turns n block p found) c.pop.new.self.items next in
     small-counts (turned_by n block.before.place.up p.up) within.up
 
@@ -115,7 +115,7 @@ turn_on-requires-clause-small_down g c =
     let n = c.saturating_sub-later.result in
     let block = c.unwrap-block.result in
     let popped : HasPopped blocks c.pop.new.self.items c.pop.result block n = record { rest_is = c.pop.ensures.items; block_is = c.unwrap-block.ensures; turns_is = c.saturating_sub-later.ensures } in
-    let next = placing-ends t i p found blocks c.pop.new.self.items c.pop.result block n c.loop-i.invariant c.in-Ends.ensures popped in
+    let next = placing-ends t i p found blocks c.pop.new.self.items c.pop.result block n c.loop-i.invariant c.in-BlockEnd.ensures popped in
     let within = placing-up-to t (i + 1) (turned_on n block.before.place p) (with_turns n block p found) c.pop.new.self.items next in
     small-counts (turned_by n block.before.place.down p.down) within.down
 
@@ -127,29 +127,29 @@ loop-i-preserved g c =
     let found = c.loop-i.coordinates in
     let blocks = c.loop-i.blocks.items in
     elim c.match-item.branch [
-      | in-Does+in_ok-push_coordinates-in-Does w ↦
-          let x = instruction_in w.in-Does.instruction in
+      | in-InstructionLine+in_ok-push_coordinates-in-InstructionLine w ↦
+          let x = instruction_in w.in-InstructionLine.instruction in
           placing-same t (i + 1) (placing.next p x) c.match-item.offset (found ++ placing.gives p x) c.match-item.coordinates blocks c.match-item.blocks.items
-          (placing-does t i p found blocks x c.loop-i.invariant w.in-Does.ensures)
+          (placing-does t i p found blocks x c.loop-i.invariant w.in-InstructionLine.ensures)
           (w.offset-is ∙ w.shift.ensures)
-          (w.coordinates-is ∙ w.in_ok-push_coordinates-in-Does.ensures)
+          (w.coordinates-is ∙ w.in_ok-push_coordinates-in-InstructionLine.ensures)
           (ap (λ v. v.items) w.blocks-is)
-      | in-Begins w ↦
-          placing-same t (i + 1) p c.match-item.offset found c.match-item.coordinates (blocks ++ record { turns = w.in-Begins.turns; before = record { place = p; found = length found } } ∷ []) c.match-item.blocks.items
-          (placing-begins t i p found blocks w.in-Begins.line w.in-Begins.turns c.loop-i.invariant w.in-Begins.ensures)
+      | in-BlockStart w ↦
+          placing-same t (i + 1) p c.match-item.offset found c.match-item.coordinates (blocks ++ record { turns = w.in-BlockStart.turns; before = record { place = p; found = length found } } ∷ []) c.match-item.blocks.items
+          (placing-begins t i p found blocks w.in-BlockStart.line w.in-BlockStart.turns c.loop-i.invariant w.in-BlockStart.ensures)
           w.offset-is
           w.coordinates-is
           (ap (λ v. v.items) w.blocks-is
           ∙ w.push.ensures.items
-          ∙ ap (λ (n : ℕ). blocks ++ record { turns = w.in-Begins.turns; before = record { place = p; found = n } } ∷ []) w.len.ensures)
-      | in-Ends+in_ok-push_later_turns-in-Ends w ↦
+          ∙ ap (λ (n : ℕ). blocks ++ record { turns = w.in-BlockStart.turns; before = record { place = p; found = n } } ∷ []) w.len.ensures)
+      | in-BlockEnd+in_ok-push_later_turns-in-BlockEnd w ↦
           let n = w.saturating_sub-later.result in
           let block = w.unwrap-block.result in
           let popped : HasPopped blocks w.pop.new.self.items w.pop.result block n = record { rest_is = w.pop.ensures.items; block_is = w.unwrap-block.ensures; turns_is = w.saturating_sub-later.ensures } in
           placing-same t (i + 1) (turned_on n block.before.place p) c.match-item.offset (with_turns n block p found) c.match-item.coordinates w.pop.new.self.items c.match-item.blocks.items
-          (placing-ends t i p found blocks w.pop.new.self.items w.pop.result block n c.loop-i.invariant w.in-Ends.ensures popped)
+          (placing-ends t i p found blocks w.pop.new.self.items w.pop.result block n c.loop-i.invariant w.in-BlockEnd.ensures popped)
           (w.offset-is ∙ w.turn_on.ensures)
-          (w.coordinates-is ∙ w.in_ok-push_later_turns-in-Ends.ensures)
+          (w.coordinates-is ∙ w.in_ok-push_later_turns-in-BlockEnd.ensures)
           (ap (λ v. v.items) w.blocks-is)
     ]
 

@@ -1,7 +1,7 @@
 use Rattle.std.proofs.Common.{◌≡◌, ◌<◌, ◌≤◌, pos, length, ◌∙◌, arith, rules}
 use Rattle.std.proofs.lemmas.Int.{ints}
 use Rattle.std.proofs.lemmas.List.{take_all}
-use Rattle.unroll.specs.Placing.{added_by, moved_to}
+use Rattle.unroll.specs.private.Placing.{added_by, moved_to}
 use Rattle.unroll.proofs.CountLoops.{length-added, length-moved, moved-at, step-added, taken-next}
 use Rattle.unroll.proofs.coordinates.copy_moved.Goals as goal
 

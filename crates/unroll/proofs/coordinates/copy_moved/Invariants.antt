@@ -1,5 +1,5 @@
 use Rattle.std.proofs.Common.{◌≡◌, take}
-use Rattle.unroll.specs.Placing.{placing}
+use Rattle.unroll.specs.private.Placing.{placing}
 use Rattle.unroll.proofs.coordinates.copy_moved.Given as goal
 
 abbrev pub invariant-loop-j : goal.invariant-loop-j

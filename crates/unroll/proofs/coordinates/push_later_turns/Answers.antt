@@ -1,5 +1,5 @@
 use Rattle.std.proofs.Common.{◌+◌, arith}
-use Rattle.unroll.specs.Placing.{placing}
+use Rattle.unroll.specs.private.Placing.{placing}
 use Rattle.unroll.proofs.PlacingLoops.{fewer-added}
 use Rattle.unroll.proofs.TurnLemmas.{turns-none}
 use Rattle.unroll.proofs.coordinates.push_later_turns.Goals as goal

@@ -1,6 +1,6 @@
 use Rattle.std.proofs.Common.{◌≡◌, ◌++◌, drop}
-use Rattle.unroll.specs.Gathered.{later}
-use Rattle.unroll.specs.Placing.{placing}
+use Rattle.unroll.specs.private.Gathered.{later}
+use Rattle.unroll.specs.private.Placing.{placing}
 use Rattle.unroll.proofs.coordinates.push_later_turns.Given as goal
 
 abbrev pub invariant-loop-turn : goal.invariant-loop-turn

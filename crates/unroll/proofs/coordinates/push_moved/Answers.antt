@@ -1,6 +1,6 @@
 use Rattle.std.proofs.Common.{◌≡◌, ◌<◌, ◌++◌, ◌∷◌, [], List, ℤ, length, get_or, sym, ap, ◌∙◌, subst, arith}
 use Rattle.std.proofs.lemmas.List.{get_or_append_left}
-use Rattle.unroll.specs.Placing.{IsStated, placing}
+use Rattle.unroll.specs.private.Placing.{IsStated, placing}
 use Rattle.unroll.proofs.TurnLemmas.{part-at, turn-more}
 use Rattle.unroll.proofs.coordinates.push_moved.Goals as goal
 

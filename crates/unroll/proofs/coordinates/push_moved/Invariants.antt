@@ -1,5 +1,5 @@
 use Rattle.std.proofs.Common.{◌≡◌, ◌-◌, ◌++◌, map, take, drop}
-use Rattle.unroll.specs.Placing.{placing}
+use Rattle.unroll.specs.private.Placing.{placing}
 use Rattle.unroll.proofs.coordinates.push_moved.Given as goal
 
 abbrev pub invariant-loop-k : goal.invariant-loop-k

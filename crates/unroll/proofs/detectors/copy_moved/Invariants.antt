@@ -1,5 +1,5 @@
 use Rattle.std.proofs.Common.{◌≡◌, take}
-use Rattle.unroll.specs.Detecting.{records_moved}
+use Rattle.unroll.specs.private.Detecting.{records_moved}
 use Rattle.unroll.proofs.detectors.copy_moved.Given as goal
 
 abbrev pub invariant-loop-record : goal.invariant-loop-record

@@ -1,12 +1,12 @@
 use Rattle.std.proofs.Common.{◌+◌, ◌*◌, ◌++◌, [], ◌∷◌, ℕ, length, refl, ap, ◌∙◌, arith}
 use Rattle.block_text.specs.Kept.{instruction_in}
-use Rattle.unroll.specs.Detecting.{detecting, records_moved}
+use Rattle.unroll.specs.private.Detecting.{detecting, records_moved}
 use Rattle.unroll.specs.TargetsMade.{operation_detectors}
-use Rattle.unroll.specs.MadeTotals.{record_count, records_made}
+use Rattle.unroll.specs.private.MadeTotals.{record_count, records_made}
 use Rattle.unroll.proofs.CountLemmas.{HasPopped, counting-begins, counting-does, counting-does_few, counting-ends, counting-ends_few, counting-few, counting-first, counting-room, counting-same, counting-some, with_turns}
 use Rattle.unroll.proofs.DetectorLemmas.{IsWithin, detecting-counts, detecting-done, within-limit}
 use Rattle.unroll.proofs.detectors.detectors_of.Goals as goal
-use Rattle.unroll.proofs.detectors.detectors_of.Goals.{in-Does+in_ok-push_detector-in-Does, in-Begins, in-Ends+in_ok-push_later_turns-in-Ends}
+use Rattle.unroll.proofs.detectors.detectors_of.Goals.{in-InstructionLine+in_ok-push_detector-in-InstructionLine, in-BlockStart, in-BlockEnd+in_ok-push_later_turns-in-BlockEnd}
 
 pub loop-i-init : goal.loop-i-init
 loop-i-init g c =
@@ -19,40 +19,40 @@ push_detector-requires g c =
 
 pub overflow_add-records : goal.overflow_add-records
 overflow_add-records g c =
-    let few = counting-does_few detecting-counts c.args.circuit.now c.loop-i.i c.loop-i.records c.loop-i.detectors c.loop-i.blocks.items (instruction_in c.in-Does.instruction) c.loop-i.invariant c.in-Does.ensures in
-    let made = c.records_made.ensures ∙ ap (records_made c.in-Does.instruction.operation) c.target_count.ensures.value in
+    let few = counting-does_few detecting-counts c.args.circuit.now c.loop-i.i c.loop-i.records c.loop-i.detectors c.loop-i.blocks.items (instruction_in c.in-InstructionLine.instruction) c.loop-i.invariant c.in-InstructionLine.ensures in
+    let made = c.records_made.ensures ∙ ap (records_made c.in-InstructionLine.instruction.operation) c.target_count.ensures.value in
     omega (arith, few, made, c.requires.few)
 
 pub push-requires : goal.push-requires
 push-requires g c =
-    (omega arith, counting-room c.args.circuit.now c.loop-i.i c.loop-i.records c.loop-i.detectors c.loop-i.blocks.items c.in-Begins.line c.in-Begins.turns c.loop-i.invariant c.in-Begins.ensures)
+    (omega arith, counting-room c.args.circuit.now c.loop-i.i c.loop-i.records c.loop-i.detectors c.loop-i.blocks.items c.in-BlockStart.line c.in-BlockStart.turns c.loop-i.invariant c.in-BlockStart.ensures)
 
 pub unwrap-block-requires : goal.unwrap-block-requires
 unwrap-block-requires g c =
-    c.pop.ensures.variant.1 (counting-some c.args.circuit.now c.loop-i.i c.loop-i.records c.loop-i.detectors c.loop-i.blocks.items c.loop-i.invariant c.in-Ends.ensures)
+    c.pop.ensures.variant.1 (counting-some c.args.circuit.now c.loop-i.i c.loop-i.records c.loop-i.detectors c.loop-i.blocks.items c.loop-i.invariant c.in-BlockEnd.ensures)
 
 pub push_later_turns-requires-clause-few : goal.push_later_turns-requires-clause-few
 push_later_turns-requires-clause-few g c =
     let popped : HasPopped c.loop-i.blocks.items c.pop.new.self.items c.pop.result c.unwrap-block.result c.loop-i.records c.saturating_sub-later.result c.saturating_sub-by.result = record { rest_is = c.pop.ensures.items; block_is = c.unwrap-block.ensures; turns_is = c.saturating_sub-later.ensures; by_is = c.saturating_sub-by.ensures } in
-    let few = counting-ends_few detecting-counts c.args.circuit.now c.loop-i.i c.loop-i.records c.loop-i.detectors c.loop-i.blocks.items c.pop.new.self.items c.pop.result c.unwrap-block.result c.saturating_sub-later.result c.saturating_sub-by.result c.loop-i.invariant c.in-Ends.ensures popped in
+    let few = counting-ends_few detecting-counts c.args.circuit.now c.loop-i.i c.loop-i.records c.loop-i.detectors c.loop-i.blocks.items c.pop.new.self.items c.pop.result c.unwrap-block.result c.saturating_sub-later.result c.saturating_sub-by.result c.loop-i.invariant c.in-BlockEnd.ensures popped in
     omega (arith, few, c.requires.few)
 
 pub push_later_turns-requires-clause-small : goal.push_later_turns-requires-clause-small
 push_later_turns-requires-clause-small g c =
     let popped : HasPopped c.loop-i.blocks.items c.pop.new.self.items c.pop.result c.unwrap-block.result c.loop-i.records c.saturating_sub-later.result c.saturating_sub-by.result = record { rest_is = c.pop.ensures.items; block_is = c.unwrap-block.ensures; turns_is = c.saturating_sub-later.ensures; by_is = c.saturating_sub-by.ensures } in
-    let few = counting-ends_few detecting-counts c.args.circuit.now c.loop-i.i c.loop-i.records c.loop-i.detectors c.loop-i.blocks.items c.pop.new.self.items c.pop.result c.unwrap-block.result c.saturating_sub-later.result c.saturating_sub-by.result c.loop-i.invariant c.in-Ends.ensures popped in
+    let few = counting-ends_few detecting-counts c.args.circuit.now c.loop-i.i c.loop-i.records c.loop-i.detectors c.loop-i.blocks.items c.pop.new.self.items c.pop.result c.unwrap-block.result c.saturating_sub-later.result c.saturating_sub-by.result c.loop-i.invariant c.in-BlockEnd.ensures popped in
     within-limit c.loop-i.records (c.saturating_sub-later.result * c.saturating_sub-by.result) 4294967296 c.loop-i.detectors (omega (arith, few, c.requires.few)) c.loop-i.invariant.within
 
 pub overflow_mul-records : goal.overflow_mul-records
 overflow_mul-records g c =
     let popped : HasPopped c.loop-i.blocks.items c.pop.new.self.items c.pop.result c.unwrap-block.result c.loop-i.records c.saturating_sub-later.result c.saturating_sub-by.result = record { rest_is = c.pop.ensures.items; block_is = c.unwrap-block.ensures; turns_is = c.saturating_sub-later.ensures; by_is = c.saturating_sub-by.ensures } in
-    let few = counting-ends_few detecting-counts c.args.circuit.now c.loop-i.i c.loop-i.records c.loop-i.detectors c.loop-i.blocks.items c.pop.new.self.items c.pop.result c.unwrap-block.result c.saturating_sub-later.result c.saturating_sub-by.result c.loop-i.invariant c.in-Ends.ensures popped in
+    let few = counting-ends_few detecting-counts c.args.circuit.now c.loop-i.i c.loop-i.records c.loop-i.detectors c.loop-i.blocks.items c.pop.new.self.items c.pop.result c.unwrap-block.result c.saturating_sub-later.result c.saturating_sub-by.result c.loop-i.invariant c.in-BlockEnd.ensures popped in
     omega (arith, few, c.requires.few)
 
-pub overflow_add-records-in-Ends : goal.overflow_add-records-in-Ends
-overflow_add-records-in-Ends g c =
+pub overflow_add-records-in-BlockEnd : goal.overflow_add-records-in-BlockEnd
+overflow_add-records-in-BlockEnd g c =
     let popped : HasPopped c.loop-i.blocks.items c.pop.new.self.items c.pop.result c.unwrap-block.result c.loop-i.records c.saturating_sub-later.result c.saturating_sub-by.result = record { rest_is = c.pop.ensures.items; block_is = c.unwrap-block.ensures; turns_is = c.saturating_sub-later.ensures; by_is = c.saturating_sub-by.ensures } in
-    let few = counting-ends_few detecting-counts c.args.circuit.now c.loop-i.i c.loop-i.records c.loop-i.detectors c.loop-i.blocks.items c.pop.new.self.items c.pop.result c.unwrap-block.result c.saturating_sub-later.result c.saturating_sub-by.result c.loop-i.invariant c.in-Ends.ensures popped in
+    let few = counting-ends_few detecting-counts c.args.circuit.now c.loop-i.i c.loop-i.records c.loop-i.detectors c.loop-i.blocks.items c.pop.new.self.items c.pop.result c.unwrap-block.result c.saturating_sub-later.result c.saturating_sub-by.result c.loop-i.invariant c.in-BlockEnd.ensures popped in
     omega (arith, few, c.requires.few)
 
 pub loop-i-preserved : goal.loop-i-preserved
@@ -63,31 +63,31 @@ loop-i-preserved g c =
     let lists = c.loop-i.detectors in
     let blocks = c.loop-i.blocks.items in
     elim c.match-item.branch [
-      | in-Does+in_ok-push_detector-in-Does w ↦
-          let x = instruction_in w.in-Does.instruction in
-          let made = w.records_made.ensures ∙ ap (records_made w.in-Does.instruction.operation) w.target_count.ensures.value in
+      | in-InstructionLine+in_ok-push_detector-in-InstructionLine w ↦
+          let x = instruction_in w.in-InstructionLine.instruction in
+          let made = w.records_made.ensures ∙ ap (records_made w.in-InstructionLine.instruction.operation) w.target_count.ensures.value in
           counting-same t (i + 1) (r + record_count x) c.match-item.records (lists ++ operation_detectors r x.operation x.targets) c.match-item.detectors blocks c.match-item.blocks.items
-          (counting-does detecting-counts t i r lists blocks x c.loop-i.invariant w.in-Does.ensures)
+          (counting-does detecting-counts t i r lists blocks x c.loop-i.invariant w.in-InstructionLine.ensures)
           (w.records-is ∙ ap (λ (n : ℕ). r + n) made)
-          (w.detectors-is ∙ w.in_ok-push_detector-in-Does.ensures)
+          (w.detectors-is ∙ w.in_ok-push_detector-in-InstructionLine.ensures)
           (ap (λ v. v.items) w.blocks-is)
-      | in-Begins w ↦
-          counting-same t (i + 1) r c.match-item.records lists c.match-item.detectors (blocks ++ record { turns = w.in-Begins.turns; before = record { place = r; found = length lists } } ∷ []) c.match-item.blocks.items
-          (counting-begins t i r lists blocks w.in-Begins.line w.in-Begins.turns c.loop-i.invariant w.in-Begins.ensures)
+      | in-BlockStart w ↦
+          counting-same t (i + 1) r c.match-item.records lists c.match-item.detectors (blocks ++ record { turns = w.in-BlockStart.turns; before = record { place = r; found = length lists } } ∷ []) c.match-item.blocks.items
+          (counting-begins t i r lists blocks w.in-BlockStart.line w.in-BlockStart.turns c.loop-i.invariant w.in-BlockStart.ensures)
           w.records-is
           w.detectors-is
           (ap (λ v. v.items) w.blocks-is
           ∙ w.push.ensures.items
-          ∙ ap (λ (n : ℕ). blocks ++ record { turns = w.in-Begins.turns; before = record { place = r; found = n } } ∷ []) w.len.ensures)
-      | in-Ends+in_ok-push_later_turns-in-Ends w ↦
+          ∙ ap (λ (n : ℕ). blocks ++ record { turns = w.in-BlockStart.turns; before = record { place = r; found = n } } ∷ []) w.len.ensures)
+      | in-BlockEnd+in_ok-push_later_turns-in-BlockEnd w ↦
           let n = w.saturating_sub-later.result in
           let by = w.saturating_sub-by.result in
           let block = w.unwrap-block.result in
           let popped : HasPopped blocks w.pop.new.self.items w.pop.result block r n by = record { rest_is = w.pop.ensures.items; block_is = w.unwrap-block.ensures; turns_is = w.saturating_sub-later.ensures; by_is = w.saturating_sub-by.ensures } in
           counting-same t (i + 1) (r + n * by) c.match-item.records (with_turns records_moved block n by lists) c.match-item.detectors w.pop.new.self.items c.match-item.blocks.items
-          (counting-ends detecting-counts t i r lists blocks w.pop.new.self.items w.pop.result block n by c.loop-i.invariant w.in-Ends.ensures popped)
+          (counting-ends detecting-counts t i r lists blocks w.pop.new.self.items w.pop.result block n by c.loop-i.invariant w.in-BlockEnd.ensures popped)
           w.records-is
-          (w.detectors-is ∙ w.in_ok-push_later_turns-in-Ends.ensures)
+          (w.detectors-is ∙ w.in_ok-push_later_turns-in-BlockEnd.ensures)
           (ap (λ v. v.items) w.blocks-is)
     ]
 

@@ -1,4 +1,4 @@
-use Rattle.unroll.specs.Detecting.{detecting}
+use Rattle.unroll.specs.private.Detecting.{detecting}
 use Rattle.unroll.proofs.CountLemmas.{IsCounting}
 use Rattle.unroll.proofs.DetectorLemmas.{IsWithin}
 use Rattle.unroll.proofs.detectors.detectors_of.Given as goal

@@ -1,5 +1,5 @@
 use Rattle.std.proofs.Common.{◌*◌, arith}
-use Rattle.unroll.specs.Detecting.{records_moved}
+use Rattle.unroll.specs.private.Detecting.{records_moved}
 use Rattle.unroll.proofs.TurnLemmas.{turns-none}
 use Rattle.unroll.proofs.detectors.push_later_turns.Goals as goal
 

@@ -1,7 +1,7 @@
 use Rattle.std.proofs.Common.{◌≡◌, ◌+◌, ◌<◌, ◌++◌, ◌∷◌, [], List, ℕ, length, get_or, sym, ap, ◌∙◌, subst, arith}
 use Rattle.std.specs.Prelude.{All}
 use Rattle.std.proofs.lemmas.List.{get_or_append_left}
-use Rattle.unroll.specs.Detecting.{records_moved}
+use Rattle.unroll.specs.private.Detecting.{records_moved}
 use Rattle.unroll.proofs.TurnLemmas.{part-at, turn-more}
 use Rattle.unroll.proofs.detectors.push_moved.Goals as goal
 

@@ -1,5 +1,5 @@
 use Rattle.std.proofs.Common.{◌≡◌, ◌-◌, ◌++◌, map, take, drop}
-use Rattle.unroll.specs.Detecting.{records_moved}
+use Rattle.unroll.specs.private.Detecting.{records_moved}
 use Rattle.unroll.proofs.detectors.push_moved.Given as goal
 
 abbrev pub invariant-loop-k : goal.invariant-loop-k

@@ -2,7 +2,7 @@ use Rattle.std.proofs.Common.{◌≡◌, ◌∷◌, [], map, take, get_or}
 use Rattle.chances.specs.Chances.{no_chance}
 use Rattle.programs.specs.Entries.{entry_from}
 use Rattle.unroll.specs.Targets.{term_at}
-use Rattle.unroll.specs.Numbered.{with_entries}
+use Rattle.unroll.specs.private.Numbered.{with_entries}
 use Rattle.unroll.proofs.entries.push_entries.Given as goal
 
 abbrev pub invariant-loop-target : goal.invariant-loop-target

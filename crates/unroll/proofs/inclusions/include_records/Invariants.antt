@@ -1,5 +1,5 @@
 use Rattle.std.proofs.Common.{◌≡◌, ◌++◌, map, take}
-use Rattle.unroll.specs.Including.{inclusion_of}
+use Rattle.unroll.specs.private.Including.{inclusion_of}
 use Rattle.unroll.proofs.inclusions.include_records.Given as goal
 
 abbrev pub invariant-loop-target : goal.invariant-loop-target

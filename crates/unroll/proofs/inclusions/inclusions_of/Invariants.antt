@@ -1,4 +1,4 @@
-use Rattle.unroll.specs.Including.{including}
+use Rattle.unroll.specs.private.Including.{including}
 use Rattle.unroll.proofs.CountLemmas.{IsCounting}
 use Rattle.unroll.proofs.InclusionLemmas.{IsIncluded}
 use Rattle.unroll.proofs.inclusions.inclusions_of.Given as goal

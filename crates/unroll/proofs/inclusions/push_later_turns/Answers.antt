@@ -1,5 +1,5 @@
 use Rattle.std.proofs.Common.{◌*◌, arith}
-use Rattle.unroll.specs.Including.{inclusion_moved}
+use Rattle.unroll.specs.private.Including.{inclusion_moved}
 use Rattle.unroll.proofs.TurnLemmas.{turns-none}
 use Rattle.unroll.proofs.inclusions.push_later_turns.Goals as goal
 

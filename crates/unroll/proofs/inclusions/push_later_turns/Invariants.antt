@@ -1,6 +1,6 @@
 use Rattle.std.proofs.Common.{◌≡◌, ◌*◌, ◌++◌, drop}
-use Rattle.unroll.specs.Gathered.{later}
-use Rattle.unroll.specs.Including.{inclusion_moved}
+use Rattle.unroll.specs.private.Gathered.{later}
+use Rattle.unroll.specs.private.Including.{inclusion_moved}
 use Rattle.unroll.proofs.inclusions.push_later_turns.Given as goal
 
 abbrev pub invariant-loop-turn : goal.invariant-loop-turn

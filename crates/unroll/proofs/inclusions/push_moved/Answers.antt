@@ -1,7 +1,7 @@
 use Rattle.std.proofs.Common.{◌≡◌, ◌+◌, ◌<◌, ◌≤◌, List, length, get_or, sym, ap, ◌∙◌, subst, arith}
 use Rattle.std.proofs.lemmas.List.{get_or_append_left}
 use Rattle.unroll.specs.declared.inclusions.Inclusion.{Inclusion}
-use Rattle.unroll.specs.Including.{inclusion_moved}
+use Rattle.unroll.specs.private.Including.{inclusion_moved}
 use Rattle.unroll.proofs.TurnLemmas.{part-at, turn-more}
 use Rattle.unroll.proofs.inclusions.push_moved.Goals as goal
 

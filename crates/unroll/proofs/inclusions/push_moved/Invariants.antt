@@ -1,5 +1,5 @@
 use Rattle.std.proofs.Common.{◌≡◌, ◌-◌, ◌++◌, map, take, drop}
-use Rattle.unroll.specs.Including.{inclusion_moved}
+use Rattle.unroll.specs.private.Including.{inclusion_moved}
 use Rattle.unroll.proofs.inclusions.push_moved.Given as goal
 
 abbrev pub invariant-loop-k : goal.invariant-loop-k

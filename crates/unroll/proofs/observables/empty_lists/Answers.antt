@@ -1,7 +1,7 @@
 use Rattle.std.proofs.Common.{Vec, ◌++◌, ◌∷◌, [], List, ℕ, map, sym, ap, ap₂, ◌∙◌, arith}
 use Rattle.std.proofs.lemmas.List.{map-append}
 use Rattle.std.proofs.lemmas.List.FromFn.{map-range_with_len_more}
-use Rattle.unroll.specs.Including.{places_of}
+use Rattle.unroll.specs.private.Including.{places_of}
 use Rattle.unroll.proofs.observables.empty_lists.Goals as goal
 
 pub loop-preserved : goal.loop-preserved

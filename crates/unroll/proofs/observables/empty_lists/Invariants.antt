@@ -1,5 +1,5 @@
 use Rattle.std.proofs.Common.{◌≡◌, [], map}
-use Rattle.unroll.specs.Including.{told_apart}
+use Rattle.unroll.specs.private.Including.{told_apart}
 use Rattle.unroll.proofs.observables.empty_lists.Given as goal
 
 abbrev pub invariant-loop : goal.invariant-loop

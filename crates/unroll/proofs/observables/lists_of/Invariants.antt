@@ -1,5 +1,5 @@
 use Rattle.std.proofs.Common.{◌≡◌, map, take}
-use Rattle.unroll.specs.Including.{told_apart}
+use Rattle.unroll.specs.private.Including.{told_apart}
 use Rattle.unroll.proofs.observables.lists_of.Given as goal
 
 abbrev pub invariant-loop-inclusion : goal.invariant-loop-inclusion

@@ -1,7 +1,7 @@
 use Rattle.std.proofs.Common.{◌<◌, pos, length, ◌∙◌, arith}
 use Rattle.std.proofs.lemmas.Int.{ints}
 use Rattle.std.proofs.lemmas.List.{take_all}
-use Rattle.unroll.specs.Placing.{moved_to}
+use Rattle.unroll.specs.private.Placing.{moved_to}
 use Rattle.unroll.proofs.CountLoops.{length-moved, moved-at, taken-next}
 use Rattle.unroll.proofs.offsets.moved.Goals as goal
 

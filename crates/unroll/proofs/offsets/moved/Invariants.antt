@@ -1,5 +1,5 @@
 use Rattle.std.proofs.Common.{◌≡◌, take}
-use Rattle.unroll.specs.Placing.{moved_to}
+use Rattle.unroll.specs.private.Placing.{moved_to}
 use Rattle.unroll.proofs.offsets.moved.Given as goal
 
 abbrev pub invariant-loop-j : goal.invariant-loop-j

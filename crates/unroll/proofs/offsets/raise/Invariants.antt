@@ -1,5 +1,5 @@
 use Rattle.std.proofs.Common.{◌≡◌, take}
-use Rattle.unroll.specs.Placing.{raised_by}
+use Rattle.unroll.specs.private.Placing.{raised_by}
 use Rattle.unroll.proofs.offsets.raise.Given as goal
 
 abbrev pub invariant-loop-j : goal.invariant-loop-j

@@ -1,5 +1,5 @@
 use Rattle.std.proofs.Common.{◌≡◌, ◌++◌, take, drop}
-use Rattle.unroll.specs.Placing.{turned_by}
+use Rattle.unroll.specs.private.Placing.{turned_by}
 use Rattle.unroll.proofs.offsets.turn.Given as goal
 
 abbrev pub invariant-loop-j : goal.invariant-loop-j

@@ -1,5 +1,5 @@
 use Rattle.std.proofs.Common.{◌≡◌, map, take}
-use Rattle.unroll.specs.Placing.{up_of}
+use Rattle.unroll.specs.private.Placing.{up_of}
 use Rattle.unroll.proofs.offsets.ups.Given as goal
 
 abbrev pub invariant-loop-number : goal.invariant-loop-number

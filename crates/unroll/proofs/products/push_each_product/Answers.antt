@@ -6,7 +6,7 @@ use Rattle.step_model.specs.declared.step.Term.{Term}
 use Rattle.stim_parser.specs.declared.target.Target.{Target}
 use Rattle.stim_parser.specs.Limits.{products_of}
 use Rattle.unroll.specs.Targets.{term_at, term_of}
-use Rattle.unroll.specs.Pushed.{IsSmall}
+use Rattle.unroll.specs.private.Pushed.{IsSmall}
 use Rattle.unroll.proofs.ProductLemmas.{carried_products, products-joined, products-ended}
 use Rattle.unroll.proofs.products.push_each_product.Goals as goal
 

@@ -2,7 +2,7 @@ use Rattle.std.proofs.Common.{◌≡◌, ◌++◌, length, map}
 use Rattle.std.specs.Prelude.{All}
 use Rattle.stim_parser.specs.Limits.{products_of}
 use Rattle.unroll.specs.Targets.{term_of}
-use Rattle.unroll.specs.Pushed.{IsSmall}
+use Rattle.unroll.specs.private.Pushed.{IsSmall}
 use Rattle.unroll.proofs.ProductLemmas.{carried_products}
 use Rattle.unroll.proofs.products.push_each_product.Given as goal
 

@@ -1,7 +1,7 @@
 use Rattle.std.proofs.Common.{refl, ap, arith}
 use Rattle.std.proofs.lemmas.List.{at_drop_more, drop_all}
 use Rattle.stim_parser.specs.declared.target.Target.TheVariants.{Star}
-use Rattle.unroll.specs.Made.{fault_steps}
+use Rattle.unroll.specs.private.Made.{fault_steps}
 use Rattle.unroll.proofs.PushLemmas.{adding-first, adding-next, added}
 use Rattle.unroll.proofs.steps.push_faults.Goals as goal
 

@@ -1,5 +1,5 @@
 use Rattle.std.proofs.Common.{◌≡◌, ◌+◌, drop}
-use Rattle.unroll.specs.Made.{fault_steps}
+use Rattle.unroll.specs.private.Made.{fault_steps}
 use Rattle.unroll.proofs.PushLemmas.{IsAdding}
 use Rattle.unroll.proofs.steps.push_faults.Given as goal
 

@@ -1,6 +1,6 @@
 use Rattle.std.proofs.Common.{List, ◌∷◌, ap, ◌∙◌}
 use Rattle.stim_parser.specs.declared.target.Target.{Target}
-use Rattle.unroll.specs.Made.{pair_steps}
+use Rattle.unroll.specs.private.Made.{pair_steps}
 use Rattle.unroll.proofs.FitLemmas.{pair_small}
 use Rattle.unroll.proofs.PushLemmas.{adding-next}
 use Rattle.unroll.proofs.steps.push_pairs.Goals as goal

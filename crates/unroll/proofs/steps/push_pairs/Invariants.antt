@@ -1,7 +1,7 @@
 use Rattle.std.proofs.Common.{length}
 use Rattle.std.specs.Prelude.{All}
-use Rattle.unroll.specs.Made.{pair_steps}
-use Rattle.unroll.specs.Pushed.{IsSmall}
+use Rattle.unroll.specs.private.Made.{pair_steps}
+use Rattle.unroll.specs.private.Pushed.{IsSmall}
 use Rattle.unroll.proofs.PushLemmas.{IsAdding}
 use Rattle.unroll.proofs.steps.push_pairs.Given as goal
 

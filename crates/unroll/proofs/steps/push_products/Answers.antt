@@ -2,9 +2,9 @@ use Rattle.std.proofs.Common.{Bool, List, Some, length, ap, sym, ◌∙◌, arit
 use Rattle.pauli_word.specs.Parity.{exclusive_or}
 use Rattle.programs.specs.declared.step.TextStep.TheVariants as step
 use Rattle.stim_parser.specs.declared.target.Target.{Target}
-use Rattle.unroll.specs.Made.{recording}
+use Rattle.unroll.specs.private.Made.{recording}
 use Rattle.stim_parser.specs.Limits.{products_of}
-use Rattle.unroll.specs.Pushed.{carried_steps}
+use Rattle.unroll.specs.private.Pushed.{carried_steps}
 use Rattle.unroll.proofs.ProductLemmas.{carried-joined, carried-ended, count-joined, count-ended}
 use Rattle.unroll.proofs.PushLemmas.{adding-next, adding-same}
 use Rattle.unroll.proofs.steps.push_products.Goals as goal

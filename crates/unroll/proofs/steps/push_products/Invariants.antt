@@ -1,7 +1,7 @@
 use Rattle.std.proofs.Common.{◌+◌, ◌≤◌, length}
-use Rattle.unroll.specs.Made.{product_steps}
+use Rattle.unroll.specs.private.Made.{product_steps}
 use Rattle.stim_parser.specs.Limits.{products_of}
-use Rattle.unroll.specs.Pushed.{carried_steps}
+use Rattle.unroll.specs.private.Pushed.{carried_steps}
 use Rattle.unroll.proofs.PushLemmas.{IsAdding}
 use Rattle.unroll.proofs.steps.push_products.Given as goal
 

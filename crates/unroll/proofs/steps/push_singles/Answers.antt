@@ -1,7 +1,7 @@
 use Rattle.std.proofs.Common.{◌≤◌, List, map, ap, sym, ◌∙◌, subst, arith}
 use Rattle.std.proofs.lemmas.List.{at_drop_more, drop_all}
 use Rattle.stim_parser.specs.declared.target.Target.{Target}
-use Rattle.unroll.specs.Pushed.{single_step}
+use Rattle.unroll.specs.private.Pushed.{single_step}
 use Rattle.unroll.specs.Totals.{qubits_to}
 use Rattle.unroll.proofs.PushLemmas.{adding-first, adding-next, added}
 use Rattle.unroll.proofs.steps.push_singles.Goals as goal

@@ -1,5 +1,5 @@
 use Rattle.std.proofs.Common.{map, drop}
-use Rattle.unroll.specs.Pushed.{single_step}
+use Rattle.unroll.specs.private.Pushed.{single_step}
 use Rattle.unroll.proofs.PushLemmas.{IsAdding}
 use Rattle.unroll.proofs.steps.push_singles.Given as goal
 

@@ -1,7 +1,7 @@
 use Rattle.std.proofs.Common.{ap, arith}
 use Rattle.std.proofs.lemmas.List.{at_drop_more, at_drop_all}
 use Rattle.unroll.specs.Totals.{qubits_to}
-use Rattle.unroll.specs.MadeTotals.{qubits_named}
+use Rattle.unroll.specs.private.MadeTotals.{qubits_named}
 use Rattle.unroll.proofs.targets.qubits_named.Goals as goal
 
 pub loop-target-preserved : goal.loop-target-preserved

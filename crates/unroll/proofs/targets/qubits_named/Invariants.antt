@@ -1,6 +1,6 @@
 use Rattle.std.proofs.Common.{◌≡◌, ◌≤◌, drop}
 use Rattle.std.specs.Prelude.{max}
-use Rattle.unroll.specs.MadeTotals.{qubits_named}
+use Rattle.unroll.specs.private.MadeTotals.{qubits_named}
 use Rattle.unroll.proofs.targets.qubits_named.Given as goal
 
 abbrev pub invariant-loop-target : goal.invariant-loop-target

@@ -1,6 +1,6 @@
 use Rattle.std.proofs.Common.{refl, subst, sym, arith}
 use Rattle.block_text.specs.Kept.{item_in}
-use Rattle.unroll.specs.Summed.{AreTotals, nothing_summed, summing}
+use Rattle.unroll.specs.private.Summed.{AreTotals, nothing_summed, summing}
 use Rattle.unroll.proofs.PassLemmas.{passing-first, passing-can, passing-next, passing-done}
 use Rattle.unroll.proofs.SumLemmas.{summed}
 use Rattle.unroll.proofs.totals.totals_of.Goals as goal

@@ -1,4 +1,4 @@
-use Rattle.unroll.specs.Summed.{nothing_summed, summing}
+use Rattle.unroll.specs.private.Summed.{nothing_summed, summing}
 use Rattle.unroll.proofs.PassLemmas.{IsPassing}
 use Rattle.unroll.proofs.totals.totals_of.Given as goal
 

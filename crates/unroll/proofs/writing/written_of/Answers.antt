@@ -3,8 +3,8 @@ use Rattle.std.specs.Prelude.{slice_get}
 use Rattle.chances.specs.Chances.{Chance, chance_of}
 use Rattle.block_text.specs.Kept.{item_in, mark_in}
 use Rattle.stim_parser.specs.Texts.{Item}
-use Rattle.unroll.specs.Drafts.{Draft, draft_of}
-use Rattle.unroll.specs.Numbered.{IsItemNumber}
+use Rattle.unroll.specs.private.Drafts.{Draft, draft_of}
+use Rattle.unroll.specs.private.Numbered.{IsItemNumber}
 use Rattle.unroll.proofs.DraftLemmas.{IsDrafting, drafting-can, drafting-done, drafting-first, drafting-next}
 use Rattle.unroll.proofs.NumberLemmas.{number_at}
 use Rattle.unroll.proofs.writing.written_of.Goals as goal

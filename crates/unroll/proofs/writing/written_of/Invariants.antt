@@ -1,5 +1,5 @@
 use Rattle.std.proofs.Common.{◌≡◌}
-use Rattle.unroll.specs.Drafts.{draft_of}
+use Rattle.unroll.specs.private.Drafts.{draft_of}
 use Rattle.unroll.proofs.DraftLemmas.{IsDrafting}
 use Rattle.unroll.proofs.writing.written_of.Given as goal
 

@@ -3,7 +3,7 @@ use Rattle.std.proofs.lemmas.Result.{on_ok_weaker}
 use Rattle.pauli_word.specs.Bits.{letters_of}
 use Rattle.pauli_word.specs.Words.{letters_product}
 use Rattle.pauli_word.proofs.BitWords.{length-letters_of}
-use Rattle.backward.specs.Transposed.{combined, xor_where}
+use Rattle.backward.specs.private.Transposed.{combined, xor_where}
 use Rattle.backward.proofs.ColumnLemmas.{rows_long, image_of_rows}
 use Rattle.backward.proofs.column.Column.add_image.Goals as goal
 

@@ -1,5 +1,5 @@
 use Rattle.std.proofs.Common.{map, ap₂, sym, ◌∙◌}
-use Rattle.backward.specs.Transposed.{combined}
+use Rattle.backward.specs.private.Transposed.{combined}
 use Rattle.backward.proofs.MultiplyLemmas.{kept-letters}
 use Rattle.backward.proofs.column.Column.become_image.Goals as goal
 

@@ -1,7 +1,7 @@
 use Rattle.std.proofs.Common.{map, ap, ap₂, ◌∙◌}
 use Rattle.pauli_word.specs.declared.letter.Letter.TheVariants.{X, Z}
 use Rattle.pauli_word.specs.Bits.{letters_of}
-use Rattle.backward.specs.Transposed.{combined}
+use Rattle.backward.specs.private.Transposed.{combined}
 use Rattle.backward.proofs.MultiplyLemmas.{exchanged_rows}
 use Rattle.backward.proofs.column.Column.exchange.Goals as goal
 

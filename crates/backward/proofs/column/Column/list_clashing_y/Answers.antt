@@ -3,7 +3,7 @@ use Rattle.std.proofs.lemmas.Result.{IfOk-weaker}
 use Rattle.bit_rows.specs.Rows.{xor_rows}
 use Rattle.pauli_word.specs.declared.letter.Letter.TheVariants.{Y}
 use Rattle.pauli_word.specs.Letters.{letters_clash}
-use Rattle.backward.specs.TargetSets.{members}
+use Rattle.backward.specs.private.TargetSets.{members}
 use Rattle.backward.proofs.ColumnLemmas.{rows_long}
 use Rattle.backward.proofs.LoneTerms.{clashes_of_Y}
 use Rattle.backward.proofs.column.Column.list_clashing_y.Goals as goal

@@ -3,7 +3,7 @@ use Rattle.std.specs.Prelude.{All}
 use Rattle.std.proofs.lemmas.Result.{on_ok_weaker}
 use Rattle.pauli_word.specs.Bits.{letters_of}
 use Rattle.pauli_word.proofs.BitWords.{length-letters_of}
-use Rattle.backward.specs.Transposed.{xor_where, times_each}
+use Rattle.backward.specs.private.Transposed.{xor_where, times_each}
 use Rattle.backward.proofs.ColumnLemmas.{rows_long}
 use Rattle.backward.proofs.column.Column.times_all.Goals as goal
 

@@ -2,7 +2,7 @@ use Rattle.std.proofs.Common.{ap, ap₂, sym, ◌∙◌, arith}
 use Rattle.std.proofs.lemmas.Result.{on_ok_weaker}
 use Rattle.pauli_word.specs.Bits.{letters_of}
 use Rattle.pauli_word.proofs.BitWords.{length-letters_of}
-use Rattle.backward.specs.Transposed.{flipped_where, times_at}
+use Rattle.backward.specs.private.Transposed.{flipped_where, times_at}
 use Rattle.backward.proofs.ColumnLemmas.{rows_long, flipped_rows}
 use Rattle.backward.proofs.column.Column.times_at.Goals as goal
 

@@ -1,5 +1,5 @@
 use Rattle.std.proofs.Common.{◌≡◌, ◌<◌, ◌+◌, ◌-◌, length, get_or, ap, ◌∙◌, arith}
-use Rattle.backward.specs.Transposed.{times_at}
+use Rattle.backward.specs.private.Transposed.{times_at}
 use Rattle.backward.proofs.TimesEach.{one_before}
 use Rattle.backward.proofs.column.Column.times_one_by_one.Goals as goal
 

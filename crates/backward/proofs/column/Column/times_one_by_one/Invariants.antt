@@ -1,5 +1,5 @@
 use Rattle.std.proofs.Common.{◌≡◌, ◌≤◌, length, drop}
-use Rattle.backward.specs.Transposed.{times_each}
+use Rattle.backward.specs.private.Transposed.{times_each}
 use Rattle.backward.proofs.column.Column.times_one_by_one.Given as goal
 
 -- the targets from this one on are done

@@ -2,7 +2,7 @@ use Rattle.std.proofs.Common.{map, ap, ap₂, ◌∙◌}
 use Rattle.std.proofs.lemmas.Result.{on_ok_weaker}
 use Rattle.bit_rows.specs.Rows.{xor_rows}
 use Rattle.pauli_word.specs.Letters.{letters_clash}
-use Rattle.backward.specs.Transposed.{xor_where}
+use Rattle.backward.specs.private.Transposed.{xor_where}
 use Rattle.backward.proofs.ColumnLemmas.{rows_long, clashes_of_rows}
 use Rattle.backward.proofs.column.Column.toggle_clashing.Goals as goal
 

@@ -2,8 +2,8 @@ use Rattle.std.proofs.Common.{◌≡◌, ◌<◌, ℕ, Bool, false, [], List, le
 use Rattle.std.specs.Prelude.{All, replicate}
 use Rattle.std.proofs.lemmas.Bool.{cases_eq}
 use Rattle.std.proofs.lemmas.List.{ext_get_or, get_or-replicate, get_or-set_other, get_or-set_same, length-map, length-replicate}
-use Rattle.backward.specs.Links.{list_at}
-use Rattle.backward.specs.Sets.{row_of_set}
+use Rattle.backward.specs.private.Links.{list_at}
+use Rattle.backward.specs.private.Sets.{row_of_set}
 use Rattle.backward.proofs.LinkLemmas.{rows_of_length, put_members}
 use Rattle.backward.proofs.RangeLemmas.{members_within}
 use Rattle.backward.proofs.record_lists.RecordLists.anew.Goals as goal

@@ -2,9 +2,9 @@ use Rattle.std.proofs.Common.{◌≡◌, ◌<◌, false, length, ap, ap₂, subs
 use Rattle.std.specs.Prelude.{All, reverse}
 use Rattle.std.proofs.lemmas.List.{length-replicate}
 use Rattle.std.proofs.lemmas.Result.{on_ok_weaker}
-use Rattle.backward.specs.Collapses.{toggled_each}
-use Rattle.backward.specs.Links.{list_at, Falls}
-use Rattle.backward.specs.TargetSets.{members}
+use Rattle.backward.specs.private.Collapses.{toggled_each}
+use Rattle.backward.specs.private.Links.{list_at, Falls}
+use Rattle.backward.specs.private.TargetSets.{members}
 use Rattle.backward.proofs.LinkLemmas.{below_at, falls_below, row_at, toggled_from_none}
 use Rattle.backward.proofs.SetLemmas.{reverse_is_members}
 use Rattle.backward.proofs.record_lists.RecordLists.list.Goals as goal

@@ -2,10 +2,10 @@ use Rattle.std.proofs.Common.{◌≡◌, [], ℕ, List, length, false, ap, ap₂
 use Rattle.std.specs.Prelude.{replicate}
 use Rattle.std.proofs.lemmas.List.{length-map}
 use Rattle.backward.specs.declared.record_lists.Link.{Link}
-use Rattle.backward.specs.Links.{list_at, rows_at, AreLists}
+use Rattle.backward.specs.private.Links.{list_at, rows_at, AreLists}
 use Rattle.step_model.specs.Targets.{targets_of}
-use Rattle.backward.specs.RecordSets.{toggled_in_each}
-use Rattle.backward.specs.Sets.{row_of_set}
+use Rattle.backward.specs.private.RecordSets.{toggled_in_each}
+use Rattle.backward.specs.private.Sets.{row_of_set}
 use Rattle.backward.proofs.LinkLemmas.{no_lists, no_rows}
 use Rattle.backward.proofs.PassSets.{listing_below, length-listing_below, listing_below-none, listing_below-more, listing_below-all, records_within}
 use Rattle.backward.proofs.record_lists.RecordLists.new.Goals as goal

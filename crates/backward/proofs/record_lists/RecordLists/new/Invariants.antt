@@ -1,5 +1,5 @@
 use Rattle.std.proofs.Common.{◌≡◌}
-use Rattle.backward.specs.Links.{rows_at, AreLists}
+use Rattle.backward.specs.private.Links.{rows_at, AreLists}
 use Rattle.backward.proofs.PassSets.{listing_below}
 use Rattle.backward.proofs.record_lists.RecordLists.new.Given as goal
 

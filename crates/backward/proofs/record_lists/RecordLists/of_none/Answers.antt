@@ -1,7 +1,7 @@
 use Rattle.std.proofs.Common.{◌≡◌, [], List, ap₂, subst, sym, ◌∙◌}
 use Rattle.std.specs.Prelude.{replicate}
 use Rattle.backward.specs.declared.record_lists.Link.{Link}
-use Rattle.backward.specs.Links.{rows_at, AreLists}
+use Rattle.backward.specs.private.Links.{rows_at, AreLists}
 use Rattle.backward.proofs.LinkLemmas.{no_lists, no_rows}
 use Rattle.backward.proofs.record_lists.RecordLists.of_none.Goals as goal
 

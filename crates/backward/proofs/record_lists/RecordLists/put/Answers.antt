@@ -1,9 +1,9 @@
 use Rattle.std.proofs.Common.{◌≡◌, ◌<◌, [], List, Bool, length, get_or, set, ap, subst, sym, ◌∙◌, arith}
 use Rattle.std.specs.Prelude.{All}
 use Rattle.std.proofs.lemmas.List.{length-map}
-use Rattle.backward.specs.Collapses.{toggled_each}
-use Rattle.backward.specs.Links.{list_at}
-use Rattle.backward.specs.Sets.{row_of_set}
+use Rattle.backward.specs.private.Collapses.{toggled_each}
+use Rattle.backward.specs.private.Links.{list_at}
+use Rattle.backward.specs.private.Sets.{row_of_set}
 use Rattle.backward.proofs.LinkLemmas.{lists_put, rows_put, row_at}
 use Rattle.backward.proofs.SetLemmas.{length-row_of_set}
 use Rattle.backward.proofs.record_lists.RecordLists.put.Goals as goal

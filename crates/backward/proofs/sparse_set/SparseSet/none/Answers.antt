@@ -1,5 +1,5 @@
 use Rattle.std.proofs.Common.{ap, ◌∙◌}
-use Rattle.backward.specs.Sets.{row_of_set}
+use Rattle.backward.specs.private.Sets.{row_of_set}
 use Rattle.backward.proofs.SetLemmas.{row_of_no_set}
 use Rattle.backward.proofs.sparse_set.SparseSet.none.Goals as goal
 

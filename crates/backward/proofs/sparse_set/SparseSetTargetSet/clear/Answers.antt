@@ -1,6 +1,6 @@
 use Rattle.std.proofs.Common.{false, length, ap, sym, ◌∙◌}
 use Rattle.std.specs.Prelude.{replicate}
-use Rattle.backward.specs.Sets.{row_of_set}
+use Rattle.backward.specs.private.Sets.{row_of_set}
 use Rattle.backward.proofs.SetLemmas.{row_of_no_set, length-row_of_set}
 use Rattle.backward.proofs.sparse_set.SparseSetTargetSet.clear.Goals as goal
 

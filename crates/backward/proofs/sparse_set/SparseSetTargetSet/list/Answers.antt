@@ -1,7 +1,7 @@
 use Rattle.std.proofs.Common.{ap, ◌∙◌}
 use Rattle.std.specs.Prelude.{reverse}
 use Rattle.std.proofs.lemmas.Result.{on_ok_weaker}
-use Rattle.backward.specs.TargetSets.{members}
+use Rattle.backward.specs.private.TargetSets.{members}
 use Rattle.backward.proofs.SetLemmas.{reverse_is_members}
 use Rattle.backward.proofs.sparse_set.SparseSetTargetSet.list.Goals as goal
 

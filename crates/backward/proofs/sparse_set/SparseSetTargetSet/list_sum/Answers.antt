@@ -2,8 +2,8 @@ use Rattle.std.proofs.Common.{ap, ap₂, subst, sym, ◌∙◌}
 use Rattle.std.specs.Prelude.{reverse}
 use Rattle.std.proofs.lemmas.Result.{IfOk-weaker}
 use Rattle.bit_rows.specs.Rows.{xor_rows}
-use Rattle.backward.specs.Sets.{DescendsBelow, row_of_set, xor_sets}
-use Rattle.backward.specs.TargetSets.{members}
+use Rattle.backward.specs.private.Sets.{DescendsBelow, row_of_set, xor_sets}
+use Rattle.backward.specs.private.TargetSets.{members}
 use Rattle.backward.proofs.SetLemmas.{row_of_xor_sets, same_count, DescendsBelow-xor_sets, reverse_is_members}
 use Rattle.backward.proofs.sparse_set.SparseSetTargetSet.list_sum.Goals as goal
 

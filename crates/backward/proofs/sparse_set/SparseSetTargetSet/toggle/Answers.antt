@@ -1,6 +1,6 @@
 use Rattle.std.proofs.Common.{false, not, length, get_or, set, ap, ◌∙◌, arith}
 use Rattle.std.proofs.lemmas.Result.{on_ok_weaker}
-use Rattle.backward.specs.Sets.{row_of_set}
+use Rattle.backward.specs.private.Sets.{row_of_set}
 use Rattle.backward.proofs.SetLemmas.{length-row_of_set, row_of_toggled}
 use Rattle.backward.proofs.sparse_set.SparseSetTargetSet.toggle.Goals as goal
 

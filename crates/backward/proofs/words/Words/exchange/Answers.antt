@@ -2,7 +2,7 @@ use Rattle.std.proofs.Common.{◌<◌, [], length, ap, ◌∙◌, arith}
 use Rattle.std.proofs.lemmas.List.{with_items_is}
 use Rattle.std.proofs.lemmas.Result.{on_ok_weaker}
 use Rattle.backward.specs.Tracked.{Tracked, each_word}
-use Rattle.backward.specs.Transposed.{exchanged_at, exchanged_columns, tracked_of}
+use Rattle.backward.specs.private.Transposed.{exchanged_at, exchanged_columns, tracked_of}
 use Rattle.backward.proofs.ExchangeLemmas.{tracked_exchanged}
 use Rattle.backward.proofs.words.Words.exchange.Goals as goal
 

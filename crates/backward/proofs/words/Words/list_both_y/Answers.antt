@@ -4,7 +4,7 @@ use Rattle.std.proofs.lemmas.List.{get_or_default}
 use Rattle.bit_rows.specs.Rows.{xor_rows}
 use Rattle.pauli_word.specs.declared.letter.Letter.TheVariants.{Y}
 use Rattle.pauli_word.specs.Letters.{letters_clash}
-use Rattle.backward.specs.TargetSets.{members}
+use Rattle.backward.specs.private.TargetSets.{members}
 use Rattle.backward.specs.Tracked.{anticommuting}
 use Rattle.backward.proofs.LoneTerms.{pair_clash}
 use Rattle.backward.proofs.TransposedLemmas.{ones_are_hit}

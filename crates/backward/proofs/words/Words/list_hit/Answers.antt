@@ -10,7 +10,7 @@ use Rattle.pauli_word.specs.Words.{anticommute}
 use Rattle.step_model.specs.declared.step.Term.{Term}
 use Rattle.step_model.specs.Listing.{word_of_terms}
 use Rattle.backward.specs.Tracked.{anticommuting}
-use Rattle.backward.specs.Transposed.{word_at}
+use Rattle.backward.specs.private.Transposed.{word_at}
 use Rattle.backward.proofs.LoneTerms.{lone_clash, lone_term}
 use Rattle.backward.proofs.TransposedLemmas.{ones_are_hit}
 use Rattle.backward.proofs.words.Words.list_hit.Goals as goal

@@ -2,7 +2,7 @@ use Rattle.std.proofs.Common.{◌<◌, [], length, refl, ap, ◌∙◌, arith}
 use Rattle.std.proofs.lemmas.List.{with_items_is}
 use Rattle.std.proofs.lemmas.Result.{on_ok_weaker}
 use Rattle.backward.specs.Tracked.{Tracked, each_word}
-use Rattle.backward.specs.Transposed.{multiplied_at, multiplied_columns, tracked_of}
+use Rattle.backward.specs.private.Transposed.{multiplied_at, multiplied_columns, tracked_of}
 use Rattle.backward.proofs.MultiplyLemmas.{tracked_multiplied}
 use Rattle.backward.proofs.words.Words.multiply.Goals as goal
 

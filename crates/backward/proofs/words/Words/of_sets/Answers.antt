@@ -3,7 +3,7 @@ use Rattle.std.specs.Prelude.{replicate}
 use Rattle.std.proofs.lemmas.List.{replicate-append-replicate, length-replicate}
 use Rattle.pauli_word.specs.declared.letter.Letter.{Letter}
 use Rattle.pauli_word.specs.Words.{no_letters}
-use Rattle.backward.specs.Transposed.{tracked_of}
+use Rattle.backward.specs.private.Transposed.{tracked_of}
 use Rattle.backward.proofs.TransposedLemmas.{tracked_fresh, columns_fresh, column_of_none}
 use Rattle.backward.proofs.words.Words.of_sets.Goals as goal
 

@@ -3,7 +3,7 @@ use Rattle.std.specs.Prelude.{All}
 use Rattle.std.proofs.lemmas.List.Elements.{All-set}
 use Rattle.pauli_word.specs.declared.letter.Letter.{Letter}
 use Rattle.backward.specs.Tracked.{Tracked, each_word, undone_two}
-use Rattle.backward.specs.Transposed.{first_before, second_before}
+use Rattle.backward.specs.private.Transposed.{first_before, second_before}
 use Rattle.backward.proofs.TransposedLemmas.{tracked_two}
 use Rattle.backward.proofs.words.Words.undo_by_images.Goals as goal
 

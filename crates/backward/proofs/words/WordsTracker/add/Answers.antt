@@ -3,7 +3,7 @@ use Rattle.std.proofs.lemmas.List.{get_or_default}
 use Rattle.std.proofs.lemmas.List.FromFn.{length-map-range_with_len}
 use Rattle.std.proofs.lemmas.Result.{on_ok_weaker}
 use Rattle.backward.specs.Tracked.{Tracked, added}
-use Rattle.backward.specs.Transposed.{tracked_of, word_at, times_each}
+use Rattle.backward.specs.private.Transposed.{tracked_of, word_at, times_each}
 use Rattle.backward.proofs.TransposedLemmas.{tracked_added}
 use Rattle.backward.proofs.words.WordsTracker.add.Goals as goal
 

@@ -1,6 +1,6 @@
 use Rattle.std.proofs.Common.{◌≡◌, ◌<◌, length, set, ap, ◌∙◌, arith}
 use Rattle.backward.specs.Tracked.{Tracked, each_word, with_I_at}
-use Rattle.backward.specs.Transposed.{tracked_of}
+use Rattle.backward.specs.private.Transposed.{tracked_of}
 use Rattle.backward.proofs.TransposedLemmas.{tracked_clear}
 use Rattle.backward.proofs.words.WordsTracker.clear.Goals as goal
 

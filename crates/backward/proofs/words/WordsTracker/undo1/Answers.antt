@@ -4,7 +4,7 @@ use Rattle.std.proofs.lemmas.Result.{on_ok_weaker}
 use Rattle.gate_table.specs.Images.{image1, inverse_of}
 use Rattle.pauli_word.specs.declared.letter.Letter.TheVariants.{X, Z}
 use Rattle.backward.specs.Tracked.{Tracked, each_word, undone_one}
-use Rattle.backward.specs.Transposed.{tracked_of, combined}
+use Rattle.backward.specs.private.Transposed.{tracked_of, combined}
 use Rattle.backward.proofs.TransposedLemmas.{tracked_one}
 use Rattle.backward.proofs.words.WordsTracker.undo1.Goals as goal
 

@@ -1,6 +1,6 @@
 use Rattle.std.proofs.Common.{◌≡◌, length, arith, ap, ◌∙◌}
-use Rattle.bit_rows.specs.Marks.{KeepsRow}
-use Rattle.bit_rows.specs.Words.{row_of}
+use Rattle.bit_rows.specs.private.Marks.{KeepsRow}
+use Rattle.bit_rows.specs.private.Words.{row_of}
 use Rattle.bit_rows.proofs.Marked.{marked_by_slice}
 use Rattle.bit_rows.proofs.Places.{same_places, held_by_slice, seen_by_slice, rewritten}
 use Rattle.bit_rows.proofs.row.BitRow.copy_from.Goals as goal

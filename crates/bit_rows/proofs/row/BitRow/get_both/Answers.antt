@@ -1,6 +1,6 @@
 use Rattle.std.proofs.Common.{◌<◌, ◌≡◌, length, arith, ap, ◌∙◌, sym, refl, get_or, false, ℕ, List, Bool}
 use Rattle.bit_rows.proofs.Places.{row_long, word_within, seen_by_slice, get_or-row_of}
-use Rattle.bit_rows.specs.Words.{row_of, bit_in}
+use Rattle.bit_rows.specs.private.Words.{row_of, bit_in}
 use Rattle.bit_rows.proofs.row.BitRow.get_both.Goals as goal
 
 -- the bit of a row that a list of words holds

@@ -1,5 +1,5 @@
 use Rattle.std.proofs.Common.{◌≡◌, refl}
-use Rattle.bit_rows.specs.Words.{HoldsRow, row_of}
+use Rattle.bit_rows.specs.private.Words.{HoldsRow, row_of}
 use Rattle.bit_rows.proofs.Places.{zero_row, zero_places, held_by_slice, seen_by_slice}
 use Rattle.bit_rows.proofs.row.BitRow.is_zero.Goals as goal
 

@@ -1,7 +1,7 @@
 use Rattle.std.proofs.Common.{◌≡◌, ◌∙◌, ap, sym, length, arith, refl}
-use Rattle.bit_rows.specs.Marks.{KeepsRow}
+use Rattle.bit_rows.specs.private.Marks.{KeepsRow}
 use Rattle.bit_rows.specs.Rows.{xor_rows}
-use Rattle.bit_rows.specs.Words.{row_of}
+use Rattle.bit_rows.specs.private.Words.{row_of}
 use Rattle.bit_rows.proofs.Marked.{marked_by_slice, marked_more, marked_after_sum}
 use Rattle.bit_rows.proofs.Places.{same_places, held_by_slice, seen_by_slice, rewritten, held_after_xor, row_of_xor, same_length}
 use Rattle.bit_rows.proofs.RowTotals.{phase_of_rows}

@@ -1,6 +1,6 @@
 use Rattle.std.proofs.Common.{◌≡◌, ◌<◌, length, arith, ap, ◌∙◌, refl, set}
-use Rattle.bit_rows.specs.Marks.{KeepsRow}
-use Rattle.bit_rows.specs.Words.{row_of}
+use Rattle.bit_rows.specs.private.Marks.{KeepsRow}
+use Rattle.bit_rows.specs.private.Words.{row_of}
 use Rattle.bit_rows.proofs.Marked.{marked_by_slice, marked_after_put}
 use Rattle.bit_rows.proofs.Places.{row_long, word_within, held_by_slice, seen_by_slice, rewritten, held_after_put, row_of_put}
 use Rattle.bit_rows.proofs.row.BitRow.set.Goals as goal

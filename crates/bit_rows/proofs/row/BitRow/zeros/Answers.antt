@@ -1,6 +1,6 @@
 use Rattle.std.proofs.Common.{◌≡◌, ◌∙◌, sym, ap, subst, arith}
-use Rattle.bit_rows.specs.Marks.{KeepsRow}
-use Rattle.bit_rows.specs.Words.{row_of, words_for}
+use Rattle.bit_rows.specs.private.Marks.{KeepsRow}
+use Rattle.bit_rows.specs.private.Words.{row_of, words_for}
 use Rattle.bit_rows.proofs.Marked.{marked_zeros}
 use Rattle.bit_rows.proofs.Places.{held_zeros, row_of_zero_words}
 use Rattle.bit_rows.proofs.row.BitRow.zeros.Goals as goal

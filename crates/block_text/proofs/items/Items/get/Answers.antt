@@ -7,54 +7,54 @@ use Rattle.block_text.specs.Marked.{Marked}
 use Rattle.block_text.proofs.FlatLemmas.{item_at, mark_at}
 use Rattle.block_text.proofs.items.Items.get.Goals as goal
 
-pub returns-in-Does-clause-item : goal.returns-in-Does-clause-item
-returns-in-Does-clause-item g c =
+pub returns-in-InstructionLine-clause-item : goal.returns-in-InstructionLine-clause-item
+returns-in-InstructionLine-clause-item g c =
     let inside = c.self.inside in
-    let here = c.in-Does in
+    let here = c.in-InstructionLine in
     let at = item_at inside.targets inside.nodes.items c.args.i c.index.result.now (ap (λ (m : Marked (Instruction g.row.O.Denot g.row.T.Denot)). m.items) c.self.view_is) c.self.invariant c.requires c.index.ensures in
     sym
     (at
     ∙ ap (λ (n : Node g.row.O.Denot). Some (item_kept (get_or inside.targets c.args.i []) n)) here.is
-    ∙ ap (λ (targets : List g.row.T.Denot). Some (item_kept targets (node.Does here.operation here.mark here.line here.arguments))) (sym c.get.ensures.value))
+    ∙ ap (λ (targets : List g.row.T.Denot). Some (item_kept targets (node.InstructionLine here.operation here.mark here.line here.arguments))) (sym c.get.ensures.value))
 
-pub returns-in-Begins-clause-item : goal.returns-in-Begins-clause-item
-returns-in-Begins-clause-item g c =
+pub returns-in-BlockStart-clause-item : goal.returns-in-BlockStart-clause-item
+returns-in-BlockStart-clause-item g c =
     let inside = c.self.inside in
     let at = item_at inside.targets inside.nodes.items c.args.i c.index.result.now (ap (λ (m : Marked (Instruction g.row.O.Denot g.row.T.Denot)). m.items) c.self.view_is) c.self.invariant c.requires c.index.ensures in
-    sym (at ∙ ap (λ (n : Node g.row.O.Denot). Some (item_kept (get_or inside.targets c.args.i []) n)) c.in-Begins.is)
+    sym (at ∙ ap (λ (n : Node g.row.O.Denot). Some (item_kept (get_or inside.targets c.args.i []) n)) c.in-BlockStart.is)
 
-pub returns-in-Ends-clause-item : goal.returns-in-Ends-clause-item
-returns-in-Ends-clause-item g c =
+pub returns-in-BlockEnd-clause-item : goal.returns-in-BlockEnd-clause-item
+returns-in-BlockEnd-clause-item g c =
     let inside = c.self.inside in
     let at = item_at inside.targets inside.nodes.items c.args.i c.index.result.now (ap (λ (m : Marked (Instruction g.row.O.Denot g.row.T.Denot)). m.items) c.self.view_is) c.self.invariant c.requires c.index.ensures in
-    sym (at ∙ ap (λ (n : Node g.row.O.Denot). Some (item_kept (get_or inside.targets c.args.i []) n)) c.in-Ends.is)
+    sym (at ∙ ap (λ (n : Node g.row.O.Denot). Some (item_kept (get_or inside.targets c.args.i []) n)) c.in-BlockEnd.is)
 
-pub returns-in-Does-clause-mark : goal.returns-in-Does-clause-mark
-returns-in-Does-clause-mark g c =
+pub returns-in-InstructionLine-clause-mark : goal.returns-in-InstructionLine-clause-mark
+returns-in-InstructionLine-clause-mark g c =
     let inside = c.self.inside in
     let views = c.self.view_is in
     sym
     (mark_at inside.targets inside.nodes.items c.args.i c.index.result.now
     (ap (λ (m : Marked (Instruction g.row.O.Denot g.row.T.Denot)). m.items) views) (ap (λ (m : Marked (Instruction g.row.O.Denot g.row.T.Denot)). m.marks) views)
     c.self.invariant c.requires c.index.ensures
-    ∙ ap (λ (n : Node g.row.O.Denot). mark_kept n) c.in-Does.is)
+    ∙ ap (λ (n : Node g.row.O.Denot). mark_kept n) c.in-InstructionLine.is)
 
-pub returns-in-Begins-clause-mark : goal.returns-in-Begins-clause-mark
-returns-in-Begins-clause-mark g c =
+pub returns-in-BlockStart-clause-mark : goal.returns-in-BlockStart-clause-mark
+returns-in-BlockStart-clause-mark g c =
     let inside = c.self.inside in
     let views = c.self.view_is in
     sym
     (mark_at inside.targets inside.nodes.items c.args.i c.index.result.now
     (ap (λ (m : Marked (Instruction g.row.O.Denot g.row.T.Denot)). m.items) views) (ap (λ (m : Marked (Instruction g.row.O.Denot g.row.T.Denot)). m.marks) views)
     c.self.invariant c.requires c.index.ensures
-    ∙ ap (λ (n : Node g.row.O.Denot). mark_kept n) c.in-Begins.is)
+    ∙ ap (λ (n : Node g.row.O.Denot). mark_kept n) c.in-BlockStart.is)
 
-pub returns-in-Ends-clause-mark : goal.returns-in-Ends-clause-mark
-returns-in-Ends-clause-mark g c =
+pub returns-in-BlockEnd-clause-mark : goal.returns-in-BlockEnd-clause-mark
+returns-in-BlockEnd-clause-mark g c =
     let inside = c.self.inside in
     let views = c.self.view_is in
     sym
     (mark_at inside.targets inside.nodes.items c.args.i c.index.result.now
     (ap (λ (m : Marked (Instruction g.row.O.Denot g.row.T.Denot)). m.items) views) (ap (λ (m : Marked (Instruction g.row.O.Denot g.row.T.Denot)). m.marks) views)
     c.self.invariant c.requires c.index.ensures
-    ∙ ap (λ (n : Node g.row.O.Denot). mark_kept n) c.in-Ends.is)
+    ∙ ap (λ (n : Node g.row.O.Denot). mark_kept n) c.in-BlockEnd.is)

@@ -29,8 +29,8 @@ pub(crate) fn name_of(target: Target) -> Named {
 #[derive(Clone, Copy, Debug)]
 pub(crate) enum Wanted {
     Does(u64, Operation, &'static [u8], &'static [Named]),
-    Begins(u64, u64),
-    Ends,
+    BlockStart(u64, u64),
+    BlockEnd,
 }
 
 /// A text and its items.
@@ -38,7 +38,7 @@ pub(crate) type Written = (&'static [u8], &'static [Wanted]);
 
 const H: Operation = Operation::Applies(Gate::H);
 
-const M: Operation = Operation::Measures(Letter::Z);
+const M: Operation = Operation::Measurement(Letter::Z);
 
 pub(crate) const WRITTEN: &[Written] = &[
     (b"", &[]),
@@ -51,31 +51,34 @@ pub(crate) const WRITTEN: &[Written] = &[
             Wanted::Does(5, M, b"0.1", &[Named::Inverted(2)]),
         ],
     ),
-    (b"REPEAT 2 {\n}", &[Wanted::Begins(1, 2), Wanted::Ends]),
+    (
+        b"REPEAT 2 {\n}",
+        &[Wanted::BlockStart(1, 2), Wanted::BlockEnd],
+    ),
     (
         b"H 3\nREPEAT 2 {\n  M 3\n  REPEAT 005{ # five\n    H 4\n  }\n\n} # both\nTICK",
         &[
             Wanted::Does(1, H, b"", &[Named::Plain(3)]),
-            Wanted::Begins(2, 2),
+            Wanted::BlockStart(2, 2),
             Wanted::Does(3, M, b"", &[Named::Plain(3)]),
-            Wanted::Begins(4, 5),
+            Wanted::BlockStart(4, 5),
             Wanted::Does(5, H, b"", &[Named::Plain(4)]),
-            Wanted::Ends,
-            Wanted::Ends,
-            Wanted::Does(9, Operation::Ticks, b"", &[]),
+            Wanted::BlockEnd,
+            Wanted::BlockEnd,
+            Wanted::Does(9, Operation::Tick, b"", &[]),
         ],
     ),
     (
         b"REPEAT 1 {\n REPEAT 2 {\n }\n REPEAT 3 {\n }\n}\nREPEAT 999999999999999999 {\n}\n",
         &[
-            Wanted::Begins(1, 1),
-            Wanted::Begins(2, 2),
-            Wanted::Ends,
-            Wanted::Begins(4, 3),
-            Wanted::Ends,
-            Wanted::Ends,
-            Wanted::Begins(7, 999_999_999_999_999_999),
-            Wanted::Ends,
+            Wanted::BlockStart(1, 1),
+            Wanted::BlockStart(2, 2),
+            Wanted::BlockEnd,
+            Wanted::BlockStart(4, 3),
+            Wanted::BlockEnd,
+            Wanted::BlockEnd,
+            Wanted::BlockStart(7, 999_999_999_999_999_999),
+            Wanted::BlockEnd,
         ],
     ),
     (
@@ -89,7 +92,7 @@ pub(crate) const WRITTEN: &[Written] = &[
         b"DETECTOR( 1 , -2,007 ) rec[-1] rec[-03]",
         &[Wanted::Does(
             1,
-            Operation::Detects,
+            Operation::DetectorDeclaration,
             b" 1 , -2,007 ",
             &[Named::Back(1), Named::Back(3)],
         )],
@@ -97,10 +100,10 @@ pub(crate) const WRITTEN: &[Written] = &[
     (
         b"OBSERVABLE_INCLUDE(01023)\nE(0.1) X1 z2\nMPP X0*Y1",
         &[
-            Wanted::Does(1, Operation::Observes, b"01023", &[]),
+            Wanted::Does(1, Operation::ObservableInclude, b"01023", &[]),
             Wanted::Does(
                 2,
-                Operation::ErrsTogether,
+                Operation::CorrelatedError,
                 b"0.1",
                 &[
                     Named::Pauli(false, Letter::X, 1),
@@ -109,7 +112,7 @@ pub(crate) const WRITTEN: &[Written] = &[
             ),
             Wanted::Does(
                 3,
-                Operation::MeasuresProducts,
+                Operation::ProductMeasurement,
                 b"",
                 &[
                     Named::Pauli(false, Letter::X, 0),
@@ -136,16 +139,21 @@ pub(crate) const WRITTEN: &[Written] = &[
     (
         b"X_ERROR(1) 4\nRY 1\nMRX 2\nQUBIT_COORDS(1.5) 0\nSHIFT_COORDS(1)",
         &[
-            Wanted::Does(1, Operation::Errs(Letter::X), b"1", &[Named::Plain(4)]),
-            Wanted::Does(2, Operation::Resets(Letter::Y), b"", &[Named::Plain(1)]),
+            Wanted::Does(
+                1,
+                Operation::PauliError(Letter::X),
+                b"1",
+                &[Named::Plain(4)],
+            ),
+            Wanted::Does(2, Operation::QubitReset(Letter::Y), b"", &[Named::Plain(1)]),
             Wanted::Does(
                 3,
-                Operation::MeasuresAndResets(Letter::X),
+                Operation::MeasurementReset(Letter::X),
                 b"",
                 &[Named::Plain(2)],
             ),
-            Wanted::Does(4, Operation::PlacesQubits, b"1.5", &[Named::Plain(0)]),
-            Wanted::Does(5, Operation::ShiftsCoordinates, b"1", &[]),
+            Wanted::Does(4, Operation::QubitCoordinates, b"1.5", &[Named::Plain(0)]),
+            Wanted::Does(5, Operation::CoordinateShift, b"1", &[]),
         ],
     ),
 ];

@@ -2,7 +2,7 @@ use Rattle.std.proofs.Common.{ℕ, List, [], ◌∷◌, ◌++◌, ap, ap₂, len
 use Rattle.dem_lines.specs.Texts.{Item}
 use Rattle.dem_parser.specs.declared.entries.Entry.{Entry}
 use Rattle.dem_parser.specs.declared.entries.Entry.TheVariants as entry
-use Rattle.dem_parser.specs.Kept.{Kept, item_of_rare, with_item}
+use Rattle.dem_parser.specs.private.Kept.{Kept, item_of_rare, with_item}
 use Rattle.dem_parser.proofs.KeptLemmas.{rare-items}
 use Rattle.dem_parser.proofs.kept_lines.KeptLines.push_rare.Goals as goal
 

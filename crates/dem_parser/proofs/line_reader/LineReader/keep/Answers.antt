@@ -2,7 +2,7 @@ use Rattle.std.proofs.Common.{ℕ, List, ap, length, subst, sym, ◌≤◌, ◌�
 use Rattle.dem_lines.specs.Verdicts.{number_in}
 use Rattle.dem_parser.specs.Meanings.{detectors_to, observables_to}
 use Rattle.block_text.specs.Reached.{greatest_by}
-use Rattle.dem_parser.specs.Standing.{instruction_at}
+use Rattle.dem_parser.specs.private.Standing.{instruction_at}
 use Rattle.dem_parser.proofs.KeptLemmas.{read-kept}
 use Rattle.dem_parser.proofs.ShiftLemmas.{few_arguments}
 use Rattle.dem_parser.proofs.line_reader.LineReader.keep.Goals as goal

@@ -1,5 +1,5 @@
 use Rattle.std.proofs.Common.{ap, ◌∙◌}
-use Rattle.dem_parser.specs.TableLines.{instruction_of}
+use Rattle.dem_parser.specs.private.TableLines.{instruction_of}
 use Rattle.dem_parser.specs.Meanings.{observables_to}
 use Rattle.block_text.specs.Reached.{greatest_by}
 use Rattle.dem_parser.specs.Shifts.{Placed}

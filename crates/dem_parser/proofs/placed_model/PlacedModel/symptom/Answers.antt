@@ -1,7 +1,7 @@
 use Rattle.std.proofs.Common.{◌≡◌, ◌+◌, length, ap, sym, ◌∙◌, arith}
 use Rattle.std.proofs.lemmas.List.{with_items_is}
 use Rattle.dem_parser.specs.Models.{placed_lines}
-use Rattle.dem_parser.specs.Summed.{turned_past}
+use Rattle.dem_parser.specs.private.Summed.{turned_past}
 use Rattle.dem_parser.proofs.SummedLemmas.{length-past}
 use Rattle.dem_parser.proofs.WalkLemmas.{summing-done, summing-first, summing-named, summing-next}
 use Rattle.dem_parser.proofs.placed_model.PlacedModel.symptom.Goals as goal

@@ -1,8 +1,8 @@
 use Rattle.std.proofs.Common.{◌≡◌, ◌+◌, ◌-◌, ◌≤◌, drop, length, subst, sym, ◌∙◌, arith}
 use Rattle.block_text.specs.Trees.{items_of}
 use Rattle.dem_parser.specs.declared.counts.LineCounts.{LineCounts}
-use Rattle.dem_parser.specs.Chains.{IsChain}
-use Rattle.dem_parser.specs.TableLines.{instruction_of}
+use Rattle.dem_parser.specs.private.Chains.{IsChain}
+use Rattle.dem_parser.specs.private.TableLines.{instruction_of}
 use Rattle.dem_parser.proofs.ChainLemmas.{chain-next, chain-none, counted-few}
 use Rattle.dem_parser.proofs.table.LineTable.chain_counts.Goals as goal
 

@@ -1,6 +1,6 @@
 use Rattle.std.proofs.Common.{◌+◌, ◌≤◌, drop, length}
 use Rattle.block_text.specs.Trees.{items_of}
-use Rattle.dem_parser.specs.Chains.{IsChain}
+use Rattle.dem_parser.specs.private.Chains.{IsChain}
 use Rattle.dem_parser.proofs.table.LineTable.chain_counts.Given as goal
 
 abbrev pub invariant-loop-place : goal.invariant-loop-place

@@ -4,8 +4,8 @@ use Rattle.std.proofs.lemmas.List.{length-reverse}
 use Rattle.arrayvec.specs.ArrayVec.{array_vec_len}
 use Rattle.block_text.specs.Trees.{items_of}
 use Rattle.dem_parser.specs.declared.table_line.Stand.{Stand}
-use Rattle.dem_parser.specs.TableLines.{CanStandAt}
-use Rattle.dem_parser.specs.Walks.{IsAtLine, after_stand, is_at_line}
+use Rattle.dem_parser.specs.private.TableLines.{CanStandAt}
+use Rattle.dem_parser.specs.private.Walks.{IsAtLine, after_stand, is_at_line}
 use Rattle.dem_parser.proofs.WalkSteps.{goes-can, goes-on, item_found, none_found}
 use Rattle.dem_parser.proofs.walk.Place.go_to_line.Goals as goal
 

@@ -1,6 +1,6 @@
 use Rattle.std.proofs.Common.{◌≡◌, length, reverse}
 use Rattle.block_text.specs.Trees.{items_of}
-use Rattle.dem_parser.specs.Walks.{IsWalk, items_left, lines_left}
+use Rattle.dem_parser.specs.private.Walks.{IsWalk, items_left, lines_left}
 use Rattle.dem_parser.proofs.walk.Place.go_to_line.Given as goal
 
 abbrev pub invariant-loop-stand : goal.invariant-loop-stand

@@ -1,5 +1,5 @@
 use Rattle.std.proofs.Common.{sym, ◌∙◌, arith}
-use Rattle.dem_parser.specs.TableLines.{instruction_of}
+use Rattle.dem_parser.specs.private.TableLines.{instruction_of}
 use Rattle.block_text.specs.Trees.{items_of}
 use Rattle.dem_parser.proofs.ShiftLemmas.{room-one}
 use Rattle.dem_parser.proofs.WalkSteps.{behind-first, passes, passes-none}

@@ -2,9 +2,9 @@ use Rattle.std.proofs.Common.{◌≡◌, List, ℤ, length, ap, reverse, subst, 
 use Rattle.block_text.specs.Reached.{reached}
 use Rattle.block_text.specs.Trees.{items_of}
 use Rattle.dem_parser.specs.declared.walk.Turns.{Turns}
-use Rattle.dem_parser.specs.Offsets.{HasRoom}
+use Rattle.dem_parser.specs.private.Offsets.{HasRoom}
 use Rattle.dem_parser.specs.Shifts.{Shift, no_shift, placed_from}
-use Rattle.dem_parser.specs.Walks.{IsWalk, lines_left}
+use Rattle.dem_parser.specs.private.Walks.{IsWalk, lines_left}
 use Rattle.dem_parser.proofs.WalkSteps.{left-first, room-first, walk-first}
 use Rattle.dem_parser.proofs.walk.Walk.new.Goals as goal
 

@@ -1,9 +1,9 @@
 use Rattle.std.proofs.Common.{List, drop, length, reverse, ap, ap₂, subst, sym, ◌∙◌, arith}
-use Rattle.dem_parser.specs.TableLines.{instruction_of}
+use Rattle.dem_parser.specs.private.TableLines.{instruction_of}
 use Rattle.block_text.specs.Trees.{items_of}
-use Rattle.dem_parser.specs.Offsets.{HasRoom}
+use Rattle.dem_parser.specs.private.Offsets.{HasRoom}
 use Rattle.dem_parser.specs.Shifts.{Placed, Shift, placed_from, shift_after}
-use Rattle.dem_parser.specs.Walks.{lines_left}
+use Rattle.dem_parser.specs.private.Walks.{lines_left}
 use Rattle.dem_parser.proofs.ShiftLemmas.{room-next, room-one}
 use Rattle.dem_parser.proofs.WalkSteps.{passes, passes-none}
 use Rattle.dem_parser.proofs.walk.Walk.pass.Goals as goal

@@ -1,6 +1,6 @@
 use Rattle.std.proofs.Common.{◌+◌, length, ap, sym, subst, ◌∙◌}
 use Rattle.dem_text.specs.ModelText.{target_text}
-use Rattle.dem_text.specs.TargetNames.{AreNames}
+use Rattle.dem_text.specs.private.TargetNames.{AreNames}
 use Rattle.dem_text.proofs.ErrorLineLemmas.{length-one_more}
 use Rattle.dem_text.proofs.NameLemmas.{texts_pushed}
 use Rattle.dem_text.proofs.names.Names.new.Goals as goal

@@ -1,5 +1,5 @@
 use Rattle.std.proofs.Common.{◌≡◌, length, vec_capacity}
-use Rattle.dem_text.specs.TargetNames.{AreNames}
+use Rattle.dem_text.specs.private.TargetNames.{AreNames}
 use Rattle.dem_text.proofs.names.Names.new.Given as goal
 
 -- the targets so far have their texts

@@ -1,7 +1,7 @@
 -- The gate of a letter's name applies the letter.
 use Rattle.std.proofs.Common.{◌≡◌, sym, ap, ◌∙◌}
 use Rattle.gate_table.specs.WordImages.{preimage_at}
-use Rattle.forward_sim.specs.Machines.{qubit_count, run_of}
+use Rattle.forward_sim.specs.private.Machines.{qubit_count, run_of}
 use Rattle.forward_sim.proofs.LetterGates.{gate_of, preimage_at-letter}
 use Rattle.forward_sim.proofs.machine.Machine.apply_letter.Goals as goal
 use Rattle.forward_sim.proofs.machine.Machine.apply_letter.Goals.{in-I, in-X, in-Y, in-Z}

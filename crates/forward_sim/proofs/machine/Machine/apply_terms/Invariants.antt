@@ -1,7 +1,7 @@
 use Rattle.std.proofs.Common.{◌≡◌, true}
 use Rattle.pauli_word.specs.States.{applied}
 use Rattle.step_model.specs.Listing.{word_of_terms}
-use Rattle.forward_sim.specs.Machines.{qubit_count, run_of}
+use Rattle.forward_sim.specs.private.Machines.{qubit_count, run_of}
 use Rattle.forward_sim.proofs.TermWords.{AppliesRest}
 use Rattle.forward_sim.proofs.machine.Machine.apply_terms.Given as goal
 

@@ -3,7 +3,7 @@ use Rattle.pauli_word.specs.declared.letter.Letter.TheVariants.{I}
 use Rattle.pauli_word.specs.Letters.{letters_clash}
 use Rattle.pauli_word.specs.Words.{Signed, letter_at}
 use Rattle.step_model.specs.Frames.{Frame}
-use Rattle.frames.specs.Flips.{recorded_flips}
+use Rattle.frames.specs.private.Flips.{recorded_flips}
 use Rattle.frames.proofs.FrameSteps.{frame, flip_of-letter, carried-reset, carried-measured}
 use Rattle.frames.proofs.frame.Frame.carry.Goals as goal
 

@@ -1,7 +1,7 @@
 use Rattle.std.proofs.Common.{List, subst, sym}
 use Rattle.programs.specs.Kept.{KeptProgram}
 use Rattle.programs.specs.declared.node.Node.{Node}
-use Rattle.programs.specs.Held.{Held}
+use Rattle.programs.specs.private.Held.{Held}
 use Rattle.programs.specs.Made.{kept_program}
 use Rattle.programs.proofs.MadeLaws.{text_is_held}
 use Rattle.programs.proofs.program.Program.text.Goals as goal

@@ -5,7 +5,7 @@ use Rattle.programs.specs.declared.step.Step.{Step}
 use Rattle.programs.specs.Listed.{listed}
 use Rattle.programs.specs.Named.{IsStepOf}
 use Rattle.programs.specs.Walks.{Walked}
-use Rattle.programs.specs.WalkStates.{IsWalkOf}
+use Rattle.programs.specs.private.WalkStates.{IsWalkOf}
 use Rattle.programs.proofs.WalkSteps.{goes, ends, taken, not_taken}
 use Rattle.programs.proofs.walk.Walk.next_step.Goals as goal
 

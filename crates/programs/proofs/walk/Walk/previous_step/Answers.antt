@@ -5,7 +5,7 @@ use Rattle.programs.specs.Listed.{listed}
 use Rattle.programs.specs.Named.{IsStepOf}
 use Rattle.programs.specs.Numbering.{feeds_back, numbered_step}
 use Rattle.programs.specs.Walks.{Walked}
-use Rattle.programs.specs.WalkStates.{IsWalkOf}
+use Rattle.programs.specs.private.WalkStates.{IsWalkOf}
 use Rattle.programs.proofs.WalkSteps.{returns_over, stepped_back}
 use Rattle.programs.proofs.walk.Walk.previous_step.Goals as goal
 

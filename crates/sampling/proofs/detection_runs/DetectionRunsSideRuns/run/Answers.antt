@@ -4,7 +4,7 @@ use Rattle.lanes.specs.Lanes.{lane}
 use Rattle.step_model.specs.Frames.{zero_coins}
 use Rattle.step_model.specs.Runs.{records_of}
 use Rattle.step_model.specs.Targets.{difference}
-use Rattle.sampling.specs.ShownRuns.{ShownRuns, detections_of}
+use Rattle.sampling.specs.private.ShownRuns.{ShownRuns, detections_of}
 use Rattle.sampling.proofs.ShownLemmas.{lane_shows, length-difference, rewritten}
 use Rattle.sampling.proofs.detection_runs.DetectionRunsSideRuns.run.Goals as goal
 

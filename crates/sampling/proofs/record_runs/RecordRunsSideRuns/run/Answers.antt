@@ -3,7 +3,7 @@ use Rattle.std.proofs.Common.{◌≡◌, ℕ, ◌<◌, false, length, get_or, sy
 use Rattle.lanes.specs.Lanes.{lane}
 use Rattle.step_model.specs.Runs.{records_of}
 use Rattle.forward_sim.proofs.RunRecords.{length-records_of}
-use Rattle.sampling.specs.ShownRuns.{ShownRuns}
+use Rattle.sampling.specs.private.ShownRuns.{ShownRuns}
 use Rattle.sampling.proofs.ShownLemmas.{lane_shows, rewritten}
 use Rattle.sampling.proofs.record_runs.RecordRunsSideRuns.run.Goals as goal
 

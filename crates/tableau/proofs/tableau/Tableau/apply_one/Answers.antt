@@ -2,7 +2,7 @@ use Rattle.std.proofs.Common.{length}
 use Rattle.gate_table.specs.Images.{inverse_of}
 use Rattle.gate_table.specs.WordImages.{preimage_at}
 use Rattle.gate_table.proofs.GateGroups.{image_at_keeps}
-use Rattle.tableau.specs.EncodingSteps.{after_one}
+use Rattle.tableau.specs.private.EncodingSteps.{after_one}
 use Rattle.tableau.proofs.EncodingGates.{one_encodes}
 use Rattle.tableau.proofs.KeptRows.{inside, step_tableau, step_long, step_count, step_state}
 use Rattle.tableau.proofs.tableau.Tableau.apply_one.Goals as goal

@@ -2,7 +2,7 @@ use Rattle.std.proofs.Common.{length}
 use Rattle.gate_table.specs.Images.{inverse_of}
 use Rattle.gate_table.specs.WordImages.{preimage_at_two}
 use Rattle.gate_table.proofs.GateGroups.{image_at_two_keeps}
-use Rattle.tableau.specs.EncodingSteps.{after_two}
+use Rattle.tableau.specs.private.EncodingSteps.{after_two}
 use Rattle.tableau.proofs.EncodingGates.{two_encodes}
 use Rattle.tableau.proofs.KeptRows.{inside, step_tableau, step_long, step_count, step_state}
 use Rattle.tableau.proofs.tableau.Tableau.apply_two.Goals as goal

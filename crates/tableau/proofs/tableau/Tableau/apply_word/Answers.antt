@@ -1,5 +1,5 @@
 use Rattle.std.proofs.Common.{length, sym, ◌∙◌}
-use Rattle.tableau.specs.EncodingSteps.{after_word}
+use Rattle.tableau.specs.private.EncodingSteps.{after_word}
 use Rattle.tableau.proofs.EncodingGates.{word_map, word_encodes}
 use Rattle.tableau.proofs.KeptRows.{kept_size, step_tableau, step_long, step_count, step_state}
 use Rattle.tableau.proofs.tableau.Tableau.apply_word.Goals as goal

@@ -3,8 +3,8 @@ use Rattle.std.proofs.lemmas.List.{length-replicate}
 use Rattle.pauli_word.specs.declared.letter.Letter.TheVariants.{I}
 use Rattle.pauli_word.specs.Words.{letter_at, lone_letter}
 use Rattle.pauli_word.proofs.LoneLetters.{length-lone_letter}
-use Rattle.tableau.specs.Encoding.{HasLength}
-use Rattle.tableau.specs.EncodingSteps.{code_of}
+use Rattle.tableau.specs.private.Encoding.{HasLength}
+use Rattle.tableau.specs.private.EncodingSteps.{code_of}
 use Rattle.tableau.specs.Rows.{row_count}
 use Rattle.tableau.proofs.LoneWords.{letter_elsewhere}
 use Rattle.tableau.proofs.PairWords.{pair_size}

@@ -1,6 +1,6 @@
 use Rattle.std.proofs.Common.{◌≡◌, ◌++◌, ◌∷◌, [], ap₂, sym, ◌∙◌, arith}
 use Rattle.std.proofs.lemmas.List.FromFn.{map-range_with_len_more}
-use Rattle.tableau.specs.EncodingSteps.{start_pair}
+use Rattle.tableau.specs.private.EncodingSteps.{start_pair}
 use Rattle.tableau.proofs.StartLaws.{start_tableau, start_size, identity_long, start_seen}
 use Rattle.tableau.proofs.tableau.Tableau.start.Goals as goal
 

@@ -1,6 +1,6 @@
 use Rattle.std.proofs.Common.{◌≡◌, map}
 use Rattle.std.specs.List.{range_with_len}
-use Rattle.tableau.specs.EncodingSteps.{start_pair}
+use Rattle.tableau.specs.private.EncodingSteps.{start_pair}
 use Rattle.tableau.proofs.tableau.Tableau.start.Given as goal
 
 abbrev pub invariant-loop-q : goal.invariant-loop-q

@@ -1,0 +1,5 @@
+pub mod Marks
+pub mod Spans
+pub mod Totals
+pub mod WordTotals
+pub mod Words

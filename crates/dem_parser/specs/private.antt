@@ -1,0 +1,15 @@
+pub mod Chains
+pub mod ErrorTexts
+pub mod Kept
+pub mod LinesRead
+pub mod Marked
+pub mod Numbered
+pub mod Offsets
+pub mod Placed
+pub mod Standing
+pub mod Summed
+pub mod TableLines
+pub mod Tables
+pub mod Turned
+pub mod Unrolled
+pub mod Walks

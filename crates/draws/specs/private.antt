@@ -1,0 +1,3 @@
+pub mod BoundRuns
+pub mod LaneDraws
+pub mod PairDraws

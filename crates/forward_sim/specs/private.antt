@@ -1,0 +1,4 @@
+pub mod Kept
+pub mod Machines
+pub mod Numbers
+pub mod SameRuns

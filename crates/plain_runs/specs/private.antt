@@ -1,0 +1,2 @@
+pub mod PlainSteps
+pub mod Unrolled

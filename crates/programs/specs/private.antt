@@ -1,0 +1,4 @@
+pub mod Held
+pub mod KeptLists
+pub mod Moves
+pub mod WalkStates

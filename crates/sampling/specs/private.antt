@@ -1,0 +1,2 @@
+pub mod LaneLines
+pub mod ShownRuns

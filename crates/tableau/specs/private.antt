@@ -1,0 +1,5 @@
+pub mod CliffordMaps
+pub mod ControlledSteps
+pub mod Decoding
+pub mod Encoding
+pub mod EncodingSteps

@@ -1,0 +1,40 @@
+-- The parts that make the program of a circuit: its steps with their blocks, how many there are once unrolled, and what
+-- stands beside them.
+-- (Stim's circuit format, github.com/quantumlib/Stim, doc/file_format_stim_circuit.md.)
+use Rattle.std.specs.Prelude.{◌≡◌}
+use Rattle.programs.specs.declared.program.Parts.{Parts}
+use Rattle.programs.specs.declared.step.Counts.{Counts}
+use Rattle.programs.specs.Made.{text_steps}
+use Rattle.programs.specs.Trees.{IsCircuit}
+use Rattle.stim_parser.specs.Trees.{Tree}
+use Rattle.unroll.specs.declared.assembly.Lists.{Lists}
+use Rattle.unroll.specs.private.Coordinates.{coordinates_of}
+use Rattle.unroll.specs.private.Detectors.{detectors_of}
+use Rattle.unroll.specs.private.Kept.{kept_entries, kept_products}
+use Rattle.unroll.specs.private.Observables.{observables_of}
+use Rattle.unroll.specs.private.Steps.{steps_of}
+use Rattle.unroll.specs.Totals.{qubit_total}
+use Rattle.unroll.specs.private.MadeTotals.{fault_total, made_total, collapse_total, record_total}
+
+-- the counts of a tree: its records, its collapses and its faults
+abbrev pub counts_in : Tree → Counts
+counts_in tree = record { records = record_total tree; collapses = collapse_total tree; faults = fault_total tree }
+
+-- the parts are those of the tree's program
+pub record ArePartsOf {A : Type 0} (tree : Tree) (parts : Parts A) : Type 0 where
+  pub qubits : parts.qubits ≡ qubit_total tree
+  pub steps : parts.steps ≡ made_total tree
+  pub counts : parts.counts ≡ counts_in tree
+  pub circuit : IsCircuit parts.nodes.items
+  pub unrolled : text_steps parts ≡ steps_of tree
+  pub detectors : parts.detectors ≡ detectors_of tree
+  pub observables : parts.observables ≡ observables_of tree
+  pub coordinates : parts.coordinates ≡ coordinates_of tree
+  pub kept : parts.entries ≡ kept_entries tree
+  pub products : parts.products ≡ kept_products tree
+
+-- these are the tree's targets, and the coordinates of its detectors
+pub record HasLists {A : Type 0} (tree : Tree) (lists : Lists A) : Type 0 where
+  pub detectors : lists.detectors ≡ detectors_of tree
+  pub observables : lists.observables ≡ observables_of tree
+  pub coordinates : lists.coordinates ≡ coordinates_of tree
