@@ -1,5 +1,6 @@
 -- A tree kept flat, as its text writes it: a list of items. The tree is found again by reading them from the last to the
--- first: the end of a block starts a body, and the start of a block takes the body that was found.
+-- first: the end of a block starts a body, and the start of a block takes the body that was found. (Circuits and
+-- error models alike: Stim's formats, "REPEAT" and "repeat".)
 use Rattle.std.specs.Prelude.{List, [], ◌∷◌}
 use Rattle.block_text.specs.Trees.{Item, InstructionLine, BlockStart, BlockEnd, Tree, Nothing, Then, Block}
 
@@ -12,13 +13,16 @@ onto (BlockStart line turns) [] = []
 onto (BlockStart line turns) (t ∷ []) = []
 onto (BlockStart line turns) (t ∷ u ∷ ts) = Block line turns t u ∷ ts
 
+-- the trees that items write, the innermost first
 abbrev pub trees_of : {I : Type 0} → List (Item I) → List (Tree I)
 trees_of [] = Nothing ∷ []
 trees_of (item ∷ items) = onto item (trees_of items)
 
+-- the first of these trees
 abbrev pub first_tree : {I : Type 0} → List (Tree I) → Tree I
 first_tree [] = Nothing
 first_tree (t ∷ ts) = t
 
+-- the tree that items write
 abbrev pub tree_of : {I : Type 0} → List (Item I) → Tree I
 tree_of items = first_tree (trees_of items)

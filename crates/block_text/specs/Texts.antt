@@ -1,6 +1,7 @@
 -- What a whole text says: the items of its lines in their order, or its refusal. Lines that say nothing are passed over.
 -- The first line that is refused is the text's refusal. Where there is none but a block is left open, the text is refused
--- by the line of the innermost open block. Lines are numbered from 1.
+-- by the line of the innermost open block. Lines are numbered from 1. (Stim's circuit
+-- format and detector error model format, "Syntax"; the order of refusals is this project's.)
 use Rattle.std.specs.Prelude.{ℕ, ◌+◌, if◌then◌else◌, List, [], ◌∷◌, length, drop, Result, Ok, Err}
 use Rattle.step_model.specs.declared.fault.Fault.{Fault}
 use Rattle.step_model.specs.declared.fault.Cause.{Cause}
@@ -22,6 +23,7 @@ pub record Format (I : Type 0) : Type 0 where
   pub reading_of : ℕ → ℕ → Cut → Reading I
   pub left_open : Cause
 
+-- a refusal for this cause, by a line
 abbrev pub refused : Cause → ℕ → Fault
 refused c line = record { cause = c; line = line }
 

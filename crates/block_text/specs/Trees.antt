@@ -1,5 +1,7 @@
 -- What a text of lines and blocks writes, as a tree: instructions, and blocks with the number of their turns and what
--- stands in them. A tree and its text say the same items in the same order, and so no two trees have one text.
+-- stands in them. A tree and its text say the same items in the same order, and so no two trees have one text. (Stim's
+-- circuit format, github.com/quantumlib/Stim, doc/file_format_stim_circuit.md, "REPEAT blocks"; its detector error model
+-- format, "repeat".)
 use Rattle.std.specs.Prelude.{ℕ, List, [], ◌∷◌, ◌++◌}
 
 -- an instruction, the start of a block with its line and turns, or the end of a block

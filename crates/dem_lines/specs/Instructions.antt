@@ -31,6 +31,7 @@ target_form (Does ObservableInclude) = Observables
 target_form (Does Shifts) = OneNumber
 target_form Repeats = OneNumber
 
+-- each name with what it names
 abbrev pub names : List (List ℕ × Keyword Operation)
 names =
     (codes "error", Does PauliError)

@@ -12,10 +12,12 @@ use Rattle.dem_lines.specs.declared.target.Target.TheVariants.{Plain, Detector, 
 
 -- ---- forms of targets
 
+-- whether a target is a detector
 abbrev pub is_detector : Target → Bool
 is_detector (Detector d) = true
 is_detector target = false
 
+-- whether a target is an observable
 abbrev pub is_observable : Target → Bool
 is_observable (Observable k) = true
 is_observable target = false
@@ -25,6 +27,7 @@ abbrev pub is_effect : Target → Bool
 is_effect (Plain n) = false
 is_effect target = true
 
+-- whether targets are one number
 abbrev pub is_one_number : List Target → Bool
 is_one_number (Plain n ∷ []) = true
 is_one_number targets = false
@@ -38,17 +41,21 @@ are_of_form OneNumber targets = is_one_number targets
 
 -- ---- limits of targets
 
+-- the greatest number of a detector
 abbrev pub greatest_detector : ℕ
 greatest_detector = 999_999
 
+-- the greatest number of an observable
 abbrev pub greatest_observable : ℕ
 greatest_observable = 1023
 
+-- whether the number of a target is beyond its limit
 abbrev pub is_target_beyond : Target → Bool
 is_target_beyond (Plain n) = is_number_beyond n
 is_target_beyond (Detector d) = nat_lt greatest_detector d
 is_target_beyond (Observable k) = nat_lt greatest_observable k
 is_target_beyond Separator = false
 
+-- whether that of some target is
 unfoldable pub has_target_beyond : List Target → Bool
 has_target_beyond targets = list_any is_target_beyond targets

@@ -17,5 +17,6 @@ block_lines (Block line turns body rest) = turns * (1 + total 1 (λ i. 1) body) 
 abbrev pub most_lines : ℕ
 most_lines = 4_000_000
 
+-- whether the blocks of a tree unroll to more
 abbrev pub has_many_lines : Tree → Bool
 has_many_lines tree = nat_lt most_lines (block_lines tree)

@@ -32,6 +32,7 @@ abbrev pub number_in : List Target → ℕ
 number_in (Plain n ∷ rest) = n
 number_in targets = 0
 
+-- the table of error models
 abbrev pub model_table : Table Operation Target TargetForm
 model_table =
     record {

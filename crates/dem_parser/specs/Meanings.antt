@@ -19,19 +19,21 @@ use Rattle.dem_parser.specs.Shifts.{Placed}
 
 -- ---- how many detectors and observables
 
--- one more than the detector that a target names, or 0; and so for observables
+-- one more than the detector that a target names, or 0
 abbrev pub detectors_to : Target → ℕ
 detectors_to (Detector d) = d + 1
 detectors_to target = 0
 
+-- one more than the observable that a target names, or 0
 abbrev pub observables_to : Target → ℕ
 observables_to (Observable k) = k + 1
 observables_to target = 0
 
--- one more than the greatest detector that lines name, or 0; and so for observables
+-- one more than the greatest detector that lines name, or 0
 abbrev pub detector_count : List Placed → ℕ
 detector_count lines = greatest_by (λ placed. greatest_by detectors_to placed.targets) lines
 
+-- one more than the greatest observable that lines name, or 0
 abbrev pub observable_count : List Placed → ℕ
 observable_count lines = greatest_by (λ placed. greatest_by observables_to placed.targets) lines
 
@@ -51,6 +53,7 @@ flipped detectors observables targets =
 
 -- ---- error lines
 
+-- whether a line is an error
 abbrev pub is_error : Operation → Bool
 is_error PauliError = true
 is_error operation = false
@@ -60,6 +63,7 @@ abbrev pub error_line : ℕ → ℕ → Placed → ErrorLine
 error_line detectors observables placed =
     record { text = placed.text; targets = flipped detectors observables placed.targets }
 
+-- the error lines among lines, as lines of the model
 abbrev pub error_lines : ℕ → ℕ → List Placed → List ErrorLine
 error_lines detectors observables lines =
     map (error_line detectors observables) (filter (λ placed. is_error placed.operation) lines)

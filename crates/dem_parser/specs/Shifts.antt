@@ -18,11 +18,13 @@ pub record Shift : Type 0 where
   pub detectors : ℕ
   pub offset : List ℤ
 
+-- the shift before the first line: none
 abbrev pub no_shift : Shift
 no_shift = record { detectors = 0; offset = [] }
 
 -- ---- shifts
 
+-- the shift after an operation with these arguments and targets
 abbrev pub shifted_by : Operation → List (List ℕ) → List Target → Shift → Shift
 shifted_by Shifts arguments targets s =
     record { detectors = s.detectors + number_in targets; offset = shifted s.offset (map whole_value arguments) }

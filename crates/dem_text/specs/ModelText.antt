@@ -43,10 +43,12 @@ observable_text observable = codes "logical_observable L" ++ decimal observable 
 abbrev pub lines_text : ErrorModel → List ℕ
 lines_text model = flat_map (line_text model.detectors) model.lines
 
+-- the lines of the detectors of a model
 abbrev pub detectors_text : ErrorModel → List ℕ
 detectors_text model =
     flat_map (λ d. detector_text d (slice_index_or model.coordinates d [])) (range_with_len 0 model.detectors)
 
+-- the lines of its observables
 abbrev pub observables_text : ErrorModel → List ℕ
 observables_text model = flat_map observable_text (range_with_len 0 model.observables)
 

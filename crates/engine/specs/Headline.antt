@@ -46,6 +46,7 @@ pub record IsExactFor (text bytes : List ℕ) : Type 0 where
   pub stands_for : program_in text ≡ Ok program
   pub exact : IsExactIn program bytes
 
+-- and so of a random target
 pub record IsRandomFor (text bytes : List ℕ) : Type 0 where
   pub program : Listing
   pub stands_for : program_in text ≡ Ok program

@@ -49,6 +49,7 @@ abbrev pub refusal_line : Fault → List ℕ
 refusal_line fault =
     codes "refused " ++ decimal (cause_number fault.cause) ++ codes " line " ++ decimal fault.line ++ 10 ∷ []
 
+-- what is written where an order is refused
 abbrev pub refusal : Fault → Output
 refusal fault = record { bytes = refusal_line fault; status = Refused }
 
@@ -85,6 +86,7 @@ abbrev pub finding : Listing → Option (ℕ × Place) → Output
 finding program None = done (model_text (model_of program))
 finding program (Some (d, place)) = record { bytes = random_lines program d place; status = Random }
 
+-- what is found of a program, by its lowest target that has a place
 abbrev pub found_in : Listing → Output
 found_in program = finding program (lowest_placed program)
 

@@ -53,6 +53,7 @@ abbrev pub fault_line : Listing → ℕ → List ℕ
 fault_line program f =
     decimal f ++ codes " " ++ (fault_at program f).text ++ codes " " ++ effect_text program.qubits (effect_at program f) ++ codes "\n"
 
+-- the lines of all faults
 abbrev pub fault_lines : Listing → List ℕ
 fault_lines program = flat_map (fault_line program) (range_with_len 0 (length program.faults))
 

@@ -19,6 +19,7 @@ SignedPair = Letter × Letter × Bool
 abbrev pub plus : Bool
 plus = false
 
+-- the sign minus
 abbrev pub minus : Bool
 minus = true
 

@@ -20,6 +20,7 @@ use Rattle.sampling.specs.Lines.{line_of}
 abbrev pub shot_faults : Listing → Lcg → List Bool
 shot_faults program generator = drawn_faults (bounds_of program) generator
 
+-- the coins of that shot
 abbrev pub shot_coins : Listing → Lcg → List Bool
 shot_coins program generator = drawn_coins program.collapses (after_words (length program.faults) generator)
 
@@ -36,6 +37,7 @@ shot_detections program generator =
 abbrev pub record_line : Listing → Lcg → List ℕ
 record_line program generator = line_of (shot_records program generator)
 
+-- the line of its detections
 abbrev pub detection_line : Listing → Lcg → List ℕ
 detection_line program generator = line_of (shot_detections program generator)
 

@@ -7,6 +7,7 @@ use Rattle.std.specs.Int.{is_in_range}
 
 -- ---- bytes
 
+-- the line feed
 abbrev pub is_line_feed : ℕ → Bool
 is_line_feed b = b == 10
 
@@ -18,27 +19,31 @@ is_blank b = b == 32 || b == 9 || b == 13
 abbrev pub is_hash : ℕ → Bool
 is_hash b = b == 35
 
--- `(` and `)`
+-- `(`
 abbrev pub is_open_parenthesis : ℕ → Bool
 is_open_parenthesis b = b == 40
 
+-- `)`
 abbrev pub is_close_parenthesis : ℕ → Bool
 is_close_parenthesis b = b == 41
 
--- `[` and `]`
+-- `[`
 abbrev pub is_open_bracket : ℕ → Bool
 is_open_bracket b = b == 91
 
+-- `]`
 abbrev pub is_close_bracket : ℕ → Bool
 is_close_bracket b = b == 93
 
--- `{`, `}`, and either
+-- `{`
 abbrev pub is_open_brace : ℕ → Bool
 is_open_brace b = b == 123
 
+-- `}`
 abbrev pub is_close_brace : ℕ → Bool
 is_close_brace b = b == 125
 
+-- `{` or `}`
 abbrev pub is_brace : ℕ → Bool
 is_brace b = b == 123 || b == 125
 
@@ -52,6 +57,7 @@ is_bad_byte b = not (is_blank b || is_in_range 32 126 b)
 
 -- ---- texts
 
+-- whether a list has no element
 abbrev pub is_empty : {X : Type 0} → List X → Bool
 is_empty [] = true
 is_empty (x ∷ xs) = false

@@ -37,12 +37,15 @@ leaves_open opening closing text = has_opening opening text && not (list_any clo
 
 -- ---- the name, and what follows it and the tag
 
+-- the name of a line
 abbrev pub name_of : List ℕ → List ℕ
 name_of line = before_first ends_name (after_blanks line)
 
+-- what follows the name
 abbrev pub after_name : List ℕ → List ℕ
 after_name line = from_first ends_name (after_blanks line)
 
+-- whether the tag stays open
 abbrev pub leaves_tag_open : List ℕ → Bool
 leaves_tag_open line = leaves_open is_open_bracket is_close_bracket (after_name line)
 
@@ -63,6 +66,7 @@ braces_in closes body =
     if closes then ClosingAlone
     else (if not (list_any is_brace body) then NoBrace else (if has_opening_last body then OpeningLast else Misplaced))
 
+-- the braces of a line
 abbrev pub braces_of : List ℕ → Braces
 braces_of line = braces_in (is_closing line) (body_of line)
 

@@ -90,6 +90,7 @@ other_names =
     ∷ (codes "REPEAT", Repeats)
     ∷ []
 
+-- what a name other than that of a gate names
 abbrev pub other_named : List ℕ → Option (Keyword Operation)
 other_named name = named_in other_names name
 
@@ -132,5 +133,6 @@ left_out_names =
     ∷ codes "C_ZYNX"
     ∷ []
 
+-- whether a name is known and left out
 abbrev pub is_left_out : List ℕ → Bool
 is_left_out name = list_any (λ left_out. str_eq_ignore_ascii_case left_out name) left_out_names

@@ -62,6 +62,7 @@ misplaces_brace keyword braces = true
 abbrev pub read_targets : {O T F : Type 0} → Table O T F → F → List ℕ → List T
 read_targets table form text = unwrap_or (table.line_targets form text) []
 
+-- whether a keyword opens a block
 abbrev pub opens_block : {O : Type 0} → Keyword O → Bool
 opens_block Repeats = true
 opens_block keyword = false
@@ -99,6 +100,7 @@ accepted table number (Some (Does operation)) cut =
     let targets = read_targets table (table.target_form (Does operation)) cut.targets in
     Accepts (record { line = number; operation = operation; arguments = arguments_in cut.arguments; targets = targets })
 
+-- what a line says, where it isn't refused
 abbrev pub unless_refused : {I : Type 0} → Option Cause → Reading I → Reading I
 unless_refused None reading = reading
 unless_refused (Some c) reading = Refuses c

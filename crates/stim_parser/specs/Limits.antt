@@ -31,18 +31,22 @@ is_argument Decimals text = is_some (decimal_of (without_minus text))
 is_argument OneNumber text = is_number text
 is_argument form text = not (is_empty text)
 
+-- a wrong number of arguments, or one of another form
 unfoldable pub has_wrong_arguments : ArgumentForm → List (List ℕ) → Bool
 has_wrong_arguments form arguments =
     is_wrong_count form (length arguments) || not (list_all (is_argument form) arguments)
 
+-- whether an argument of this form is a probability
 abbrev pub takes_probability : ArgumentForm → Bool
 takes_probability ProbabilityAtWill = true
 takes_probability OneProbability = true
 takes_probability form = false
 
+-- whether a text is accepted as a probability
 abbrev pub is_probability : List ℕ → Bool
 is_probability text = is_some (probability_bound text)
 
+-- an argument that has to be a probability and isn't one that is accepted
 unfoldable pub has_wrong_probability : ArgumentForm → List (List ℕ) → Bool
 has_wrong_probability form arguments = takes_probability form && not (list_all is_probability arguments)
 
@@ -54,19 +58,23 @@ has_argument_beyond greatest form arguments = false
 
 -- ---- forms of targets
 
+-- a number alone
 abbrev pub is_plain : Target → Bool
 is_plain (Plain n) = true
 is_plain target = false
 
+-- a number, with a `!` or without
 abbrev pub is_plain_or_inverted : Target → Bool
 is_plain_or_inverted (Plain n) = true
 is_plain_or_inverted (Inverted n) = true
 is_plain_or_inverted target = false
 
+-- a record
 abbrev pub is_back : Target → Bool
 is_back (Back k) = true
 is_back target = false
 
+-- a number alone, or a record
 abbrev pub is_plain_or_back : Target → Bool
 is_plain_or_back target = is_plain target || is_back target
 
@@ -113,16 +121,19 @@ qubit_of (Inverted q) = q
 qubit_of (Pauli inverted l q) = q
 qubit_of target = 0
 
+-- whether the number of a target is beyond its limit
 abbrev pub is_target_beyond : TargetForm → Target → Bool
 is_target_beyond form (Back k) = is_number_beyond k
 is_target_beyond Turns (Plain n) = is_number_beyond n
 is_target_beyond form target = is_qubit_beyond (qubit_of target)
 
+-- whether that of some target is
 unfoldable pub has_target_beyond : TargetForm → List Target → Bool
 has_target_beyond form targets = list_any (is_target_beyond form) targets
 
 -- ---- how many targets
 
+-- whether targets of this form go in pairs
 abbrev pub takes_pairs : TargetForm → Bool
 takes_pairs QubitPairs = true
 takes_pairs PairsRecordFirst = true
@@ -136,10 +147,12 @@ has_wrong_count form targets = takes_pairs form && length targets % 2 == 1
 
 -- ---- qubits named twice
 
+-- whether two numbers alone name one qubit
 abbrev pub is_same_qubit : Target → Target → Bool
 is_same_qubit (Plain p) (Plain q) = p == q
 is_same_qubit a b = false
 
+-- whether two factors name one qubit
 abbrev pub is_same_factor : Target → Target → Bool
 is_same_factor (Pauli inverted l p) (Pauli other_inverted k q) = p == q
 is_same_factor a b = false
@@ -149,6 +162,7 @@ abbrev pub names_twice : List Target → Bool
 names_twice [] = false
 names_twice (factor ∷ factors) = list_any (is_same_factor factor) factors || names_twice factors
 
+-- a pair or a product that names one qubit twice
 unfoldable pub has_same_qubit : TargetForm → List Target → Bool
 has_same_qubit Products targets = list_any names_twice (products_of targets)
 has_same_qubit form targets = takes_pairs form && some_pair is_same_qubit targets

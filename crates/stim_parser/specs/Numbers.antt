@@ -16,6 +16,7 @@ is_number text = not (is_empty text) && list_all is_ascii_digit text
 abbrev pub value_of : List ℕ → ℕ
 value_of digits = min (digits_value digits) 1_000_000_000_000_000_000
 
+-- the number that a text writes, where it is one
 abbrev pub number_of : List ℕ → Option ℕ
 number_of text = if is_number text then Some (value_of text) else None
 
@@ -24,6 +25,7 @@ abbrev pub without_minus : List ℕ → List ℕ
 without_minus [] = []
 without_minus (b ∷ text) = if b == 45 then text else b ∷ text
 
+-- whether a text begins with `-`
 abbrev pub has_minus : List ℕ → Bool
 has_minus [] = false
 has_minus (b ∷ text) = b == 45
@@ -32,21 +34,26 @@ has_minus (b ∷ text) = b == 45
 abbrev pub magnitude_of : List ℕ → ℕ
 magnitude_of text = value_of (without_minus text)
 
+-- the value of a whole number
 abbrev pub whole_value : List ℕ → ℤ
 whole_value text = if has_minus text then neg_ℤ (pos (magnitude_of text)) else pos (magnitude_of text)
 
--- the greatest number of a qubit, the greatest magnitude of a coordinate, and the greatest of all other numbers
+-- the greatest number of a qubit
 abbrev pub greatest_qubit : ℕ
 greatest_qubit = 4095
 
+-- the greatest magnitude of a coordinate
 abbrev pub greatest_coordinate : ℕ
 greatest_coordinate = 1_000_000_000
 
+-- the greatest of all other numbers
 abbrev pub greatest_number : ℕ
 greatest_number = 999_999_999_999_999_999
 
+-- whether the number of a qubit is beyond its limit
 abbrev pub is_qubit_beyond : ℕ → Bool
 is_qubit_beyond q = nat_lt greatest_qubit q
 
+-- whether any other number is beyond its limit
 abbrev pub is_number_beyond : ℕ → Bool
 is_number_beyond n = nat_lt greatest_number n

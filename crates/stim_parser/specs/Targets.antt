@@ -10,7 +10,7 @@ use Rattle.pauli_word.specs.declared.letter.Letter.TheVariants as letter
 use Rattle.stim_lexer.specs.Bytes.{is_empty}
 use Rattle.stim_parser.specs.declared.target.Target.{Target}
 use Rattle.stim_parser.specs.declared.target.Target.TheVariants.{Plain, Inverted, Back, Pauli, Star}
-use Rattle.stim_parser.specs.Names.{named_in}
+use Rattle.gate_table.specs.Names.{named_in}
 use Rattle.stim_parser.specs.Numbers.{number_of}
 use Rattle.stim_parser.specs.Pieces.{is_star, pieces_of}
 

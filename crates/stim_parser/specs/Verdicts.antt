@@ -33,6 +33,7 @@ use Rattle.stim_parser.specs.Targets.{targets_in}
 abbrev pub Instruction : Type 0
 Instruction = lines.Instruction Operation Target
 
+-- whether a form of targets takes none
 abbrev pub takes_none : TargetForm → Bool
 takes_none NoTargets = true
 takes_none form = false
@@ -53,6 +54,7 @@ abbrev pub turns_of : List Target → ℕ
 turns_of (Plain n ∷ rest) = n
 turns_of targets = 0
 
+-- the table of circuits
 abbrev pub circuit_table : Table Operation Target TargetForm
 circuit_table =
     record {

@@ -1,4 +1,5 @@
--- What came before an instruction, of all instructions that are reached before it.
+-- What came before an instruction, of all instructions that are reached before it. (Stim's circuit format: `rec[-k]` and
+-- SHIFT_COORDS are relative to their place.)
 use Rattle.std.specs.Prelude.{ℕ, ℤ, List}
 
 -- how many records and faults were made, and by how much SHIFT_COORDS has shifted each coordinate

@@ -21,9 +21,11 @@ at_start = record { records = 0; faults = 0; offset = [] }
 abbrev pub new_steps : ℕ → Before → Instruction → List ListedStep
 new_steps n b i = operation_made n b i.operation i.arguments i.targets
 
+-- the records that these make
 abbrev pub new_records : ℕ → Before → Instruction → List ℕ
 new_records n b i = flat_map step_records (new_steps n b i)
 
+-- the faults that the instruction makes
 abbrev pub new_faults : ℕ → Before → Instruction → List ListedFault
 new_faults n b i = faults_made (new_records n b i) i.operation i.arguments i.targets
 

@@ -22,18 +22,23 @@ use Rattle.unroll.specs.Totals.{observables_to, step_total}
 
 -- ---- the limits
 
+-- the most records
 abbrev pub most_records : ℕ
 most_records = 8_000_000
 
+-- the most collapses
 abbrev pub most_collapses : ℕ
 most_collapses = 8_000_000
 
+-- the most detectors
 abbrev pub most_detectors : ℕ
 most_detectors = 1_000_000
 
+-- the most observables
 abbrev pub most_observables : ℕ
 most_observables = 1024
 
+-- the most steps
 abbrev pub most_steps : ℕ
 most_steps = 64_000_000
 
@@ -44,6 +49,7 @@ abbrev pub is_far : ℕ → Target → Bool
 is_far r (Back k) = nat_lt r k
 is_far r target = false
 
+-- whether some of these targets does
 abbrev pub reaches_far : ℕ → List Target → Bool
 reaches_far r targets = list_any (is_far r) targets
 
@@ -59,12 +65,15 @@ first_beyond (i ∷ instructions) =
 
 -- ---- the whole circuit
 
+-- whether a program has more records or collapses than it may
 abbrev pub has_many_records : Listing → Bool
 has_many_records program = nat_lt most_records program.records || nat_lt most_collapses program.collapses
 
+-- whether it has more detectors
 abbrev pub has_many_detectors : Listing → Bool
 has_many_detectors program = nat_lt most_detectors (length program.detectors)
 
+-- whether a tree takes more steps
 abbrev pub has_many_steps : Tree → Bool
 has_many_steps tree = nat_lt most_steps (step_total tree)
 

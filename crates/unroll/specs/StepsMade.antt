@@ -44,6 +44,7 @@ abbrev pub pairs_made : ℕ → ℕ → Gate → List Target → List ListedStep
 pairs_made n r g (a ∷ b ∷ targets) = pair_made n r g a b ∷ pairs_made n r g targets
 pairs_made n r g targets = []
 
+-- the steps of a gate: one for each target, or one for each pair
 abbrev pub gate_made : ℕ → ℕ → Gate → List Target → List ListedStep
 gate_made n r g targets =
     if arity_of g == 1 then map (λ target. One g (qubit_of target)) targets else pairs_made n r g targets

@@ -24,6 +24,7 @@ pauli_letter target = letter.I
 abbrev pub term_at : Letter → Target → Term
 term_at l target = record { qubit = qubit_of target; letter = l }
 
+-- a Pauli target as it is written
 abbrev pub term_of : Target → Term
 term_of target = term_at (pauli_letter target) target
 

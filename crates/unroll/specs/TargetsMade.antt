@@ -18,6 +18,7 @@ abbrev pub record_named : ℕ → Target → ℕ
 record_named r (Back k) = r - k
 record_named r target = 0
 
+-- the records that targets name after r records
 abbrev pub records_named : ℕ → List Target → List ℕ
 records_named r targets = map (record_named r) targets
 

@@ -47,5 +47,6 @@ abbrev pub observables_to : Operation → List (List ℕ) → ℕ
 observables_to ObservableInclude arguments = value_of (first_argument arguments) + 1
 observables_to operation arguments = 0
 
+-- how many observables a tree has: up to the greatest that any instruction names
 abbrev pub observable_total : Tree → ℕ
 observable_total tree = greatest_by (λ i. observables_to i.operation i.arguments) (written tree)
