@@ -11,7 +11,7 @@ use Rattle.pauli_word.specs.Words.{anticommute}
 use Rattle.pauli_word.proofs.Parities.{exclusive_or-false}
 use Rattle.step_model.specs.declared.step.Term.{Term}
 use Rattle.step_model.specs.ErrorModels.{ErrorLine}
-use Rattle.step_model.specs.HitModels.{targets_hit, line_of, model_of}
+use Rattle.step_model.specs.HitModels.{targets_hit, error_line_of, model_of}
 use Rattle.step_model.specs.Hits.{hits_at, hits_among}
 use Rattle.step_model.specs.Listing.{Listing, ListedStep, One, Two, Collapse, Fault, Feedback, Measured, Recorded, word_of_terms, fault_at, fault_word}
 use Rattle.step_model.specs.Sensitivities.{Sensitivity, sensitivity}
@@ -146,17 +146,17 @@ lines_found-among program (step ∷ steps) k m h = by_names (names_few step) (λ
         ∙ ap (λ fs. reverse (flat_map (line_among program (step ∷ steps)) fs)) (ap (λ fs. e ∷ fs) (sym later.1) ∙ whole))))
 
 -- the lines for all faults are those of the faults that hit something
-lines_of_hits : (program : Listing) (fs : List ℕ) → flat_map (line_among program program.steps) fs ≡ map (line_of program) (filter (λ f. not (length (targets_hit program f) == 0)) fs)
+lines_of_hits : (program : Listing) (fs : List ℕ) → flat_map (line_among program program.steps) fs ≡ map (error_line_of program) (filter (λ f. not (length (targets_hit program f) == 0)) fs)
 lines_of_hits program [] = refl
 lines_of_hits program (f ∷ fs) = by_hit (targets_hit program f) refl (lines_of_hits program fs)
   where
     rest : List ErrorLine
-    rest = map (line_of program) (filter (λ f. not (length (targets_hit program f) == 0)) fs)
+    rest = map (error_line_of program) (filter (λ f. not (length (targets_hit program f) == 0)) fs)
 
     chosen : Bool → List ErrorLine
-    chosen b = map (line_of program) (cond (not b) (f ∷ filter (λ f. not (length (targets_hit program f) == 0)) fs) (filter (λ f. not (length (targets_hit program f) == 0)) fs))
+    chosen b = map (error_line_of program) (cond (not b) (f ∷ filter (λ f. not (length (targets_hit program f) == 0)) fs) (filter (λ f. not (length (targets_hit program f) == 0)) fs))
 
-    by_hit : (ts : List ℕ) → targets_hit program f ≡ ts → flat_map (line_among program program.steps) fs ≡ rest → flat_map (line_among program program.steps) (f ∷ fs) ≡ map (line_of program) (filter (λ f. not (length (targets_hit program f) == 0)) (f ∷ fs))
+    by_hit : (ts : List ℕ) → targets_hit program f ≡ ts → flat_map (line_among program program.steps) fs ≡ rest → flat_map (line_among program program.steps) (f ∷ fs) ≡ map (error_line_of program) (filter (λ f. not (length (targets_hit program f) == 0)) (f ∷ fs))
     by_hit [] e more_is =
         ap₂ (λ hit more. line_for (fault_at program f).text hit ++ more) e more_is
         ∙ sym (ap chosen (eq-eqb (length (targets_hit program f)) 0 (ap length e)))

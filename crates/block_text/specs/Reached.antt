@@ -10,10 +10,10 @@ copies zero xs = []
 copies (suc n) xs = xs ++ copies n xs
 
 -- each instruction of the text once
-abbrev pub written : {I : Type 0} → Tree I → List I
-written Nothing = []
-written (Then instruction rest) = instruction ∷ written rest
-written (Block line turns body rest) = written body ++ written rest
+abbrev pub instructions_of : {I : Type 0} → Tree I → List I
+instructions_of Nothing = []
+instructions_of (Then instruction rest) = instruction ∷ instructions_of rest
+instructions_of (Block line turns body rest) = instructions_of body ++ instructions_of rest
 
 -- each instruction each time that it is reached
 abbrev pub reached : {I : Type 0} → Tree I → List I

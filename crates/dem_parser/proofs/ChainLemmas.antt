@@ -26,7 +26,7 @@ use Rattle.dem_parser.specs.private.Chains.{IsChain, counted_with, is_shift}
 use Rattle.dem_parser.specs.Meanings.{is_error, meaning_of}
 use Rattle.dem_parser.specs.private.Summed.{AreCounts, error_count}
 use Rattle.dem_parser.specs.private.Tables.{IsKnown}
-use Rattle.dem_parser.specs.Models.{first_beyond, is_beyond, is_far, model_in, placed_lines}
+use Rattle.dem_parser.specs.Models.{first_beyond, is_beyond, is_coordinate_beyond, model_in, placed_lines}
 use Rattle.dem_parser.specs.Shifts.{Placed, coordinates_given, no_shift, placed_at, placed_from, shifted_by}
 use Rattle.stim_parser.specs.Offsets.{moved}
 use Rattle.dem_parser.proofs.PlaceLemmas.{unmoved}
@@ -68,17 +68,17 @@ magnitude_kept text = by (has_minus text) (magnitude_of text)
     by true (suc n) = refl
     by false n = refl
 
-values_near : (arguments : List (List ℕ)) → list_any (λ text. is_number_beyond (magnitude_of text)) arguments ≡ false → list_any is_far (map whole_value arguments) ≡ false
+values_near : (arguments : List (List ℕ)) → list_any (λ text. is_number_beyond (magnitude_of text)) arguments ≡ false → list_any is_coordinate_beyond (map whole_value arguments) ≡ false
 values_near [] h = refl
 values_near (a ∷ arguments) h =
     let parts = or_parts (is_number_beyond (magnitude_of a)) (list_any (λ text. is_number_beyond (magnitude_of text)) arguments) h in
-    or_from (is_far (whole_value a)) (list_any is_far (map whole_value arguments)) (ap is_number_beyond (magnitude_kept a) ∙ parts.0) (values_near arguments parts.1)
+    or_from (is_coordinate_beyond (whole_value a)) (list_any is_coordinate_beyond (map whole_value arguments)) (ap is_number_beyond (magnitude_kept a) ∙ parts.0) (values_near arguments parts.1)
 
 coordinates_near : (line : ℕ) (o : Operation) (arguments : List (List ℕ)) (targets : List Target) → Fits (record { line = line; operation = o; arguments = arguments; targets = targets })
-    → list_any is_far (coordinates_given o arguments []) ≡ false
+    → list_any is_coordinate_beyond (coordinates_given o arguments []) ≡ false
 coordinates_near line PauliError arguments targets fits = refl
 coordinates_near line DetectorDeclaration arguments targets fits =
-    ap (list_any is_far) (moved_by_nothing (map whole_value arguments)) ∙ values_near arguments fits.arguments_within
+    ap (list_any is_coordinate_beyond) (moved_by_nothing (map whole_value arguments)) ∙ values_near arguments fits.arguments_within
 coordinates_near line ObservableInclude arguments targets fits = refl
 coordinates_near line Shifts arguments targets fits = refl
 
@@ -86,7 +86,7 @@ none_beyond : (is : List Instruction) → AllFit (chain is) → find is_beyond (
 none_beyond [] h = refl
 none_beyond (i ∷ is) h =
     let here : is_beyond (placed i) ≡ false =
-    or_from (has_target_beyond i.targets) (list_any is_far (coordinates_given i.operation i.arguments [])) h.0.targets_within
+    or_from (has_target_beyond i.targets) (list_any is_coordinate_beyond (coordinates_given i.operation i.arguments [])) h.0.targets_within
     (coordinates_near i.line i.operation i.arguments i.targets h.0) in
     rw here (none_beyond is h.1)
 

@@ -19,7 +19,7 @@ use Rattle.dem_lines.specs.Verdicts.{Instruction}
 use Rattle.dem_parser.specs.declared.counts.Extent.{Extent}
 use Rattle.dem_parser.specs.Meanings.{detectors_to, observables_to}
 use Rattle.block_text.specs.Reached.{greatest_by}
-use Rattle.dem_parser.specs.Shifts.{Shift, coordinates_given, placed_at, target_at}
+use Rattle.dem_parser.specs.Shifts.{Shift, coordinates_given, placed_at, shifted_target}
 use Rattle.dem_parser.specs.private.Tables.{IsKnown, coordinates_from, count_at, most_detectors, numbers_of_line, numbers_stated}
 use Rattle.dem_parser.specs.private.Offsets.{AreSmall}
 use Rattle.dem_parser.proofs.ShiftLemmas.{few_arguments, left, right, small_values}
@@ -47,19 +47,19 @@ count-max s (suc a) (suc b) =
     let sum : max (suc a + s) (suc b + s) ≡ suc (max a b) + s = omega arith in
     sum ∙ ap (count_at s) (sym same)
 
-pub counted : (s : ℕ) (ts : List Target) → greatest_by detectors_to (map (target_at s) ts) ≡ count_at s (greatest_by detectors_to ts)
+pub counted : (s : ℕ) (ts : List Target) → greatest_by detectors_to (map (shifted_target s) ts) ≡ count_at s (greatest_by detectors_to ts)
 counted s [] = refl
 counted s (Plain n ∷ ts) = ap (max 0) (counted s ts) ∙ count-max s 0 (greatest_by detectors_to ts)
 counted s (Detector d ∷ ts) =
     let same : suc d ≡ d + 1 = omega arith in
     let one : d + s + 1 ≡ suc d + s = omega arith in
-    ap (λ n. max n (greatest_by detectors_to (map (target_at s) ts))) (one ∙ ap (count_at s) same)
+    ap (λ n. max n (greatest_by detectors_to (map (shifted_target s) ts))) (one ∙ ap (count_at s) same)
     ∙ ap (max (count_at s (d + 1))) (counted s ts)
     ∙ count-max s (d + 1) (greatest_by detectors_to ts)
 counted s (Observable k ∷ ts) = ap (max 0) (counted s ts) ∙ count-max s 0 (greatest_by detectors_to ts)
 counted s (Separator ∷ ts) = ap (max 0) (counted s ts) ∙ count-max s 0 (greatest_by detectors_to ts)
 
-pub observables-stay : (s : ℕ) (ts : List Target) → greatest_by observables_to (map (target_at s) ts) ≡ greatest_by observables_to ts
+pub observables-stay : (s : ℕ) (ts : List Target) → greatest_by observables_to (map (shifted_target s) ts) ≡ greatest_by observables_to ts
 observables-stay s [] = refl
 observables-stay s (Plain n ∷ ts) = ap (max 0) (observables-stay s ts)
 observables-stay s (Detector d ∷ ts) = ap (max 0) (observables-stay s ts)
@@ -73,7 +73,7 @@ one-more : (m d : ℕ) → nat_lt m d ≡ nat_lt (m + 1) (d + 1)
 one-more m d = grind (arith, nat_tests)
 
 far-targets : (s : ℕ) (ts : List Target) → list_any is_target_beyond ts ≡ false
-    → list_any is_target_beyond (map (target_at s) ts) ≡ nat_lt most_detectors (greatest_by detectors_to (map (target_at s) ts))
+    → list_any is_target_beyond (map (shifted_target s) ts) ≡ nat_lt most_detectors (greatest_by detectors_to (map (shifted_target s) ts))
 far-targets s [] h = refl
 far-targets s (Plain n ∷ ts) h =
     either-above most_detectors _ _ 0 _ (left (is_target_beyond (Plain n)) _ h) (far-targets s ts (right (is_target_beyond (Plain n)) _ h))

@@ -26,12 +26,12 @@ abbrev pub placed_lines : Tree → List Placed
 placed_lines tree = placed_from no_shift (reached tree)
 
 -- a coordinate beyond its limit
-abbrev pub is_far : ℤ → Bool
-is_far c = is_number_beyond (nat_abs c)
+abbrev pub is_coordinate_beyond : ℤ → Bool
+is_coordinate_beyond c = is_number_beyond (nat_abs c)
 
 -- a number that is beyond its limit where the line is reached
 abbrev pub is_beyond : Placed → Bool
-is_beyond placed = has_target_beyond placed.targets || list_any is_far placed.coordinates
+is_beyond placed = has_target_beyond placed.targets || list_any is_coordinate_beyond placed.coordinates
 
 -- the first line that has such a number
 abbrev pub first_beyond : List Placed → Option ℕ

@@ -42,9 +42,9 @@ coordinates_given DetectorDeclaration arguments offset = moved offset (map whole
 coordinates_given operation arguments offset = []
 
 -- a target, its detector shifted
-abbrev pub target_at : ℕ → Target → Target
-target_at shift (Detector d) = Detector (d + shift)
-target_at shift target = target
+abbrev pub shifted_target : ℕ → Target → Target
+shifted_target shift (Detector d) = Detector (d + shift)
+shifted_target shift target = target
 
 -- a line as it is reached: its number, what it says, the text of its first argument as it stood, its coordinates and
 -- its targets
@@ -63,7 +63,7 @@ placed_at s i =
       operation = i.operation;
       text = slice_index_or i.arguments 0 [];
       coordinates = coordinates_given i.operation i.arguments s.offset;
-      targets = map (target_at s.detectors) i.targets;
+      targets = map (shifted_target s.detectors) i.targets;
     }
 
 -- instructions as they are reached, from this shift on

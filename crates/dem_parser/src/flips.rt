@@ -3,7 +3,7 @@ ghost use Rattle.std.specs.List.Sorted.{IsNonDecreasing};
 ghost use Rattle.dem_parser.specs.Meanings.{detectors_to, flipped, observables_to, numbered};
 ghost use Rattle.block_text.specs.Reached.{greatest_by};
 ghost use Rattle.dem_parser.specs.private.Numbered.{odd_below, numbers_of};
-ghost use Rattle.dem_parser.specs.Shifts.{target_at};
+ghost use Rattle.dem_parser.specs.Shifts.{shifted_target};
 
 use crate::counts::LineCounts;
 use dem_lines::Target;
@@ -33,9 +33,9 @@ fn push_number<A: Allocator + Copy>(
     shift: u128,
     target: Target,
 ) -> Result<(), AllocError>
-    requires detector { detectors_to (target_at shift target) ≤ 2 ^ 32 }
-    requires observable { detectors + observables_to (target_at shift target) ≤ 2 ^ 32 }
-    ensures { IfOk result (λ _. numbers.new.items ≡ numbers.old.items ++ numbered detectors (target_at shift target)) }
+    requires detector { detectors_to (shifted_target shift target) ≤ 2 ^ 32 }
+    requires observable { detectors + observables_to (shifted_target shift target) ≤ 2 ^ 32 }
+    ensures { IfOk result (λ _. numbers.new.items ≡ numbers.old.items ++ numbered detectors (shifted_target shift target)) }
 {
     match target {
         Target::Detector(detector) => numbers.push(detector_at(shift, detector))?,
@@ -52,9 +52,9 @@ fn read_numbers<A: Allocator + Copy>(
     shift: u128,
     targets: &[Target],
 ) -> Result<(), AllocError>
-    requires detectors { greatest_by detectors_to (map (target_at shift) targets.now) ≤ 2 ^ 32 }
-    requires observables { detectors + greatest_by observables_to (map (target_at shift) targets.now) ≤ 2 ^ 32 }
-    ensures { IfOk result (λ _. numbers.new.items ≡ numbers_of detectors (map (target_at shift) targets.now)) }
+    requires detectors { greatest_by detectors_to (map (shifted_target shift) targets.now) ≤ 2 ^ 32 }
+    requires observables { detectors + greatest_by observables_to (map (shifted_target shift) targets.now) ≤ 2 ^ 32 }
+    ensures { IfOk result (λ _. numbers.new.items ≡ numbers_of detectors (map (shifted_target shift) targets.now)) }
 {
     numbers.clear();
     for target in targets {
@@ -111,10 +111,10 @@ pub(crate) fn read_flipped<A: Allocator + Copy>(
     shift: u128,
     targets: &[Target],
 ) -> Result<(), AllocError>
-    requires detectors { greatest_by detectors_to (map (target_at shift) targets.now) ≤ counts.detectors }
-    requires observables { greatest_by observables_to (map (target_at shift) targets.now) ≤ counts.observables }
+    requires detectors { greatest_by detectors_to (map (shifted_target shift) targets.now) ≤ counts.detectors }
+    requires observables { greatest_by observables_to (map (shifted_target shift) targets.now) ≤ counts.observables }
     requires few { counts.detectors + counts.observables ≤ 2 ^ 32 }
-    ensures { IfOk result (λ _. kept.new.items ≡ flipped counts.detectors counts.observables (map (target_at shift) targets.now)) }
+    ensures { IfOk result (λ _. kept.new.items ≡ flipped counts.detectors counts.observables (map (shifted_target shift) targets.now)) }
 {
     read_numbers(numbers, counts.detectors, shift, targets)?;
     put_in_order(numbers)?;

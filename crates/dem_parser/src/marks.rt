@@ -4,7 +4,7 @@ ghost use Rattle.block_text.specs.Reached.{reached};
 ghost use Rattle.dem_parser.specs.private.Marked.{HasMarked, list_numbered, marked, marked_at};
 ghost use Rattle.dem_parser.specs.Meanings.{last_coordinates};
 ghost use Rattle.dem_parser.specs.Models.{first_beyond, is_beyond, placed_lines};
-ghost use Rattle.dem_parser.specs.Shifts.{target_at};
+ghost use Rattle.dem_parser.specs.Shifts.{shifted_target};
 
 use crate::placed_line::PlacedLine;
 use crate::table::LineTable;
@@ -15,7 +15,7 @@ use std::alloc::{AllocError, Allocator};
 
 /// Marks a detector where detectors are shifted, if there is one of this number.
 fn mark_at(marks: &mut [usize], mark: usize, shift: u128, target: Target)
-    ensures { marks.new ≡ marked_at mark marks.old (target_at shift target) }
+    ensures { marks.new ≡ marked_at mark marks.old (shifted_target shift target) }
 {
     if let Target::Detector(detector) = target {
         if let Some(number) = shift.checked_add(detector as u128) {
@@ -28,7 +28,7 @@ fn mark_at(marks: &mut [usize], mark: usize, shift: u128, target: Target)
 
 /// Marks the detectors that targets name.
 fn mark_all(marks: &mut [usize], mark: usize, shift: u128, targets: &[Target])
-    ensures { marks.new ≡ marked mark marks.old (map (target_at shift) targets.now) }
+    ensures { marks.new ≡ marked mark marks.old (map (shifted_target shift) targets.now) }
 {
     for target in targets {
         mark_at(marks, mark, shift, *target);

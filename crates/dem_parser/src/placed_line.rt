@@ -3,9 +3,9 @@ ghost use Rattle.std.specs.List.{list_any};
 ghost use Rattle.dem_lines.specs.Limits.{has_target_beyond};
 ghost use Rattle.dem_parser.specs.Meanings.{detectors_to, is_error, observables_to};
 ghost use Rattle.block_text.specs.Reached.{greatest_by};
-ghost use Rattle.dem_parser.specs.Models.{is_far};
+ghost use Rattle.dem_parser.specs.Models.{is_coordinate_beyond};
 ghost use Rattle.dem_parser.specs.private.Offsets.{AreSmall, beyond_stated};
-ghost use Rattle.dem_parser.specs.Shifts.{target_at};
+ghost use Rattle.dem_parser.specs.Shifts.{shifted_target};
 ghost use Rattle.stim_parser.specs.Offsets.{moved};
 ghost use Rattle.dem_parser.specs.private.Tables.{coordinates_from, count_at, most_detectors};
 
@@ -62,7 +62,7 @@ fn shifted(shift: u128, detectors: u32) -> Option<u32>
 
 /// A coordinate within its limit; none where it is beyond.
 fn near(coordinate: i128) -> Option<i64>
-    ensures { MatchOption result (is_far coordinate ≡ true) (λ found. (found ≡ coordinate) × (is_far coordinate ≡ false)) }
+    ensures { MatchOption result (is_coordinate_beyond coordinate ≡ true) (λ found. (found ≡ coordinate) × (is_coordinate_beyond coordinate ≡ false)) }
 {
     if coordinate.unsigned_abs() > GREATEST_NUMBER as u128 {
         None
@@ -81,8 +81,8 @@ fn move_all<A: Allocator + Copy>(
     requires room { All (λ o. nat_abs o + beyond_stated < 2 ^ 127) offset.now }
     requires small { AreSmall stated.now }
     ensures { IfOk result (λ within. MatchBool within
-        ((found.new.items ≡ moved offset.now stated.now) × (list_any is_far (moved offset.now stated.now) ≡ false))
-        (list_any is_far (moved offset.now stated.now) ≡ true)) }
+        ((found.new.items ≡ moved offset.now stated.now) × (list_any is_coordinate_beyond (moved offset.now stated.now) ≡ false))
+        (list_any is_coordinate_beyond (moved offset.now stated.now) ≡ true)) }
 {
     found.clear();
     for place in 0..stated.len() {
@@ -105,8 +105,8 @@ fn move_stated<A: Allocator + Copy>(
     requires room { All (λ o. nat_abs o + beyond_stated < 2 ^ 127) offset.now }
     requires small { AreSmall stated.now }
     ensures { IfOk result (λ within. MatchBool within
-        ((found.new.items ≡ coordinates_from operation stated.now offset.now) × (list_any is_far (coordinates_from operation stated.now offset.now) ≡ false))
-        (list_any is_far (coordinates_from operation stated.now offset.now) ≡ true)) }
+        ((found.new.items ≡ coordinates_from operation stated.now offset.now) × (list_any is_coordinate_beyond (coordinates_from operation stated.now offset.now) ≡ false))
+        (list_any is_coordinate_beyond (coordinates_from operation stated.now offset.now) ≡ true)) }
 {
     match operation {
         Operation::DetectorDeclaration => move_all(found, offset, stated),
@@ -148,7 +148,7 @@ impl<'w, 'a> PlacedLine<'w, 'a> {
         &self,
         targets: &mut Vec<Target, A>,
     ) -> Result<u128, AllocError>
-        ensures { IfOk result (λ shift. map (target_at shift) targets.new.items ≡ self.now.targets) }
+        ensures { IfOk result (λ shift. map (shifted_target shift) targets.new.items ≡ self.now.targets) }
     {
         let line = self.line;
         let shift = self.shift;
@@ -179,8 +179,8 @@ impl<'w, 'a> PlacedLine<'w, 'a> {
         found: &mut Vec<i64, A>,
     ) -> Result<bool, AllocError>
         ensures { IfOk result (λ within. MatchBool within
-            ((found.new.items ≡ self.now.coordinates) × (list_any is_far self.now.coordinates ≡ false))
-            (list_any is_far self.now.coordinates ≡ true)) }
+            ((found.new.items ≡ self.now.coordinates) × (list_any is_coordinate_beyond self.now.coordinates ≡ false))
+            (list_any is_coordinate_beyond self.now.coordinates ≡ true)) }
     {
         let shift = self.shift;
         let operation = self.line.operation;

@@ -1,7 +1,7 @@
 ghost use Rattle.std.specs.Prelude.{◌≡◌, ◌≤◌, ◌+◌, ◌<◌, ◌^◌, ℕ, false, true, length, map, slice_index_or, IfOk};
 ghost use Rattle.dem_parser.specs.Meanings.{numbered};
 ghost use Rattle.dem_parser.specs.private.Numbered.{numbers_of};
-ghost use Rattle.dem_parser.specs.Shifts.{target_at};
+ghost use Rattle.dem_parser.specs.Shifts.{shifted_target};
 ghost use Rattle.dem_parser.specs.private.Summed.{passed_after, turned_past};
 ghost use Rattle.dem_parser.specs.Sums.{symptom_of};
 ghost use Rattle.dem_parser.specs.private.Turned.{turned};
@@ -58,7 +58,7 @@ fn is_named(named: &[bool], line: usize) -> bool
 
 /// Flips the truth value of a target, in a model with this many detectors, where these are shifted. A separator has none.
 fn turn_target(bits: &mut [bool], detectors: u32, shift: u128, target: Target)
-    ensures { bits.new ≡ turned bits.old (numbered detectors (target_at shift target)) }
+    ensures { bits.new ≡ turned bits.old (numbered detectors (shifted_target shift target)) }
 {
     match target {
         Target::Detector(detector) => {
@@ -74,7 +74,7 @@ fn turn_target(bits: &mut [bool], detectors: u32, shift: u128, target: Target)
 
 /// The same for targets, one after another.
 fn turn_targets(bits: &mut [bool], detectors: u32, shift: u128, targets: &[Target])
-    ensures { bits.new ≡ turned bits.old (numbers_of detectors (map (target_at shift) targets.now)) }
+    ensures { bits.new ≡ turned bits.old (numbers_of detectors (map (shifted_target shift) targets.now)) }
 {
     for target in targets {
         turn_target(bits, detectors, shift, *target);

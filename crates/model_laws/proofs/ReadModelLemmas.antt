@@ -24,7 +24,7 @@ use Rattle.dem_lines.specs.private.Flat.{tree_of}
 use Rattle.dem_lines.specs.Limits.{has_target_beyond, is_target_beyond}
 use Rattle.dem_parser.specs.Meanings.{detector_count, detectors_to, error_line, error_lines, gives_coordinates, is_error, last_coordinates, meaning_of, observable_count, observables_to}
 use Rattle.dem_parser.specs.private.Summed.{greatest_over}
-use Rattle.dem_parser.specs.Models.{first_beyond, is_beyond, is_far, model_in, model_of_tree, placed_lines, refusal_of_tree}
+use Rattle.dem_parser.specs.Models.{first_beyond, is_beyond, is_coordinate_beyond, model_in, model_of_tree, placed_lines, refusal_of_tree}
 use Rattle.dem_lines.specs.Reached.{has_many_lines}
 use Rattle.block_text.specs.Reached.{copies, reached, greatest_by}
 use Rattle.dem_parser.specs.Shifts.{Placed, Shift, no_shift, placed_at, placed_from, shift_after}
@@ -132,7 +132,7 @@ lines_within : (count : Target → ℕ) (n : ℕ) → ((t : Target) → is_targe
 unfolding AreKept has_target_beyond
 lines_within count n each [] h = omega arith
 lines_within count n each (p ∷ lines) h =
-    let near = (or_parts (has_target_beyond p.targets) (list_any is_far p.coordinates) h.1).0 in
+    let near = (or_parts (has_target_beyond p.targets) (list_any is_coordinate_beyond p.coordinates) h.1).0 in
     omega (arith, targets_within count n each p.targets near, lines_within count n each lines h.2)
 
 detector_within : (t : Target) → is_target_beyond t ≡ false → detectors_to t ≤ 1000000
@@ -177,10 +177,10 @@ lines_writable detectors observables (p ∷ lines) h =
 
 -- ---- coordinates
 
-none_far : (coordinates : List ℤ) → list_any is_far coordinates ≡ false → All (λ c. nat_abs c < 10 ^ 18) coordinates
+none_far : (coordinates : List ℤ) → list_any is_coordinate_beyond coordinates ≡ false → All (λ c. nat_abs c < 10 ^ 18) coordinates
 none_far [] h = All-nil (λ c. nat_abs c < 10 ^ 18)
 none_far (c ∷ coordinates) h =
-    let parts = or_parts (is_far c) (list_any is_far coordinates) h in
+    let parts = or_parts (is_coordinate_beyond c) (list_any is_coordinate_beyond coordinates) h in
     let most = ltb-false 999_999_999_999_999_999 (nat_abs c) parts.0 in
     All-cons (λ c. nat_abs c < 10 ^ 18) c coordinates (omega (arith, most)) (none_far coordinates parts.1)
 
@@ -189,7 +189,7 @@ no_coordinates = record { few = omega arith; within = All-nil (λ c. nat_abs c <
 
 coordinates_kept : (p : Placed) → IsSaid p → is_beyond p ≡ false → CoordinatesFit p.coordinates
 coordinates_kept p h near =
-    record { few = h.few; within = none_far p.coordinates (or_parts (has_target_beyond p.targets) (list_any is_far p.coordinates) near).1 }
+    record { few = h.few; within = none_far p.coordinates (or_parts (has_target_beyond p.targets) (list_any is_coordinate_beyond p.coordinates) near).1 }
 
 last_kept : (d : ℕ) (found : List ℤ) (lines : List Placed) → CoordinatesFit found → AreKept lines → CoordinatesFit (last_coordinates d found lines)
 unfolding AreKept last_coordinates

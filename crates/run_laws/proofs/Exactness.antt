@@ -7,7 +7,7 @@ use Rattle.std.proofs.lemmas.List.Elements.{All-from_recursion}
 use Rattle.std.specs.List.{range_with_len, list_any, filter, AllByRecursion}
 use Rattle.pauli_word.specs.Parity.{exclusive_or}
 use Rattle.step_model.specs.ErrorModels.{LinesFit, Fits, is_in_sum, IsExact}
-use Rattle.step_model.specs.HitModels.{targets_hit, hitting_faults, line_of, model_of}
+use Rattle.step_model.specs.HitModels.{targets_hit, hitting_faults, error_line_of, model_of}
 use Rattle.step_model.specs.Hits.{is_hit}
 use Rattle.run_laws.specs.Duality.{odd_hits_among}
 use Rattle.step_model.specs.Listing.{Listing}
@@ -65,14 +65,14 @@ and_false : (b : Bool) → (b && false) ≡ false
 and_false false = refl
 and_false true = refl
 
-one_more : (program : Listing) (d : ℕ) (happening : List Bool) (f : ℕ) (fs : List ℕ) (b : Bool) → d < length (targets_of program) → hits_some program f ≡ b → exclusive_or (happens happening f && is_hit program d f) (is_in_sum fs (map (line_of program) fs) happening d) ≡ is_in_sum (cond b (f ∷ fs) fs) (map (line_of program) (cond b (f ∷ fs) fs)) happening d
+one_more : (program : Listing) (d : ℕ) (happening : List Bool) (f : ℕ) (fs : List ℕ) (b : Bool) → d < length (targets_of program) → hits_some program f ≡ b → exclusive_or (happens happening f && is_hit program d f) (is_in_sum fs (map (error_line_of program) fs) happening d) ≡ is_in_sum (cond b (f ∷ fs) fs) (map (error_line_of program) (cond b (f ∷ fs) fs)) happening d
 one_more program d happening f fs true h some =
-    ap (λ t. exclusive_or (happens happening f && t) (is_in_sum fs (map (line_of program) fs) happening d)) (sym (is_hit_among program f d h))
+    ap (λ t. exclusive_or (happens happening f && t) (is_in_sum fs (map (error_line_of program) fs) happening d)) (sym (is_hit_among program f d h))
 one_more program d happening f fs false h none =
-    ap (λ t. exclusive_or t (is_in_sum fs (map (line_of program) fs) happening d))
+    ap (λ t. exclusive_or t (is_in_sum fs (map (error_line_of program) fs) happening d))
     (ap (λ t. happens happening f && t) (no_hit program f d h none) ∙ and_false (happens happening f))
 
-sums_agree : (program : Listing) (d : ℕ) (happening : List Bool) (fs : List ℕ) → d < length (targets_of program) → odd_hits_among program d happening fs ≡ is_in_sum (filter (hits_some program) fs) (map (line_of program) (filter (hits_some program) fs)) happening d
+sums_agree : (program : Listing) (d : ℕ) (happening : List Bool) (fs : List ℕ) → d < length (targets_of program) → odd_hits_among program d happening fs ≡ is_in_sum (filter (hits_some program) fs) (map (error_line_of program) (filter (hits_some program) fs)) happening d
 sums_agree program d happening [] h = refl
 sums_agree program d happening (f ∷ fs) h =
     ap (exclusive_or (happens happening f && is_hit program d f)) (sums_agree program d happening fs h)
@@ -104,7 +104,7 @@ model_is_exact program well placeless happening first second first_coins second_
 
 -- the lines stand for the faults
 
-lines_fit : (program : Listing) (fs : List ℕ) → AllByRecursion (λ f. f < length program.faults) fs → AllByRecursion (λ f. hits_some program f ≡ true) fs → LinesFit program fs (map (line_of program) fs)
+lines_fit : (program : Listing) (fs : List ℕ) → AllByRecursion (λ f. f < length program.faults) fs → AllByRecursion (λ f. hits_some program f ≡ true) fs → LinesFit program fs (map (error_line_of program) fs)
 lines_fit program [] h k = tt
 lines_fit program (f ∷ fs) h k = (
   record {

@@ -24,7 +24,7 @@ use Rattle.unroll.specs.private.Detectors.{detectors_of}
 use Rattle.unroll.specs.private.Kept.{kept_entries, kept_products}
 use Rattle.unroll.specs.private.Observables.{observables_of}
 use Rattle.unroll.specs.private.Counted.{refusal_counted}
-use Rattle.unroll.specs.Refusals.{refusal_of}
+use Rattle.unroll.specs.Refusals.{circuit_refusal}
 use Rattle.unroll.specs.private.Steps.{steps_of}
 use Rattle.unroll.specs.private.Summed.{AreTotals, greatest}
 use Rattle.unroll.specs.Totals.{qubit_total}
@@ -51,11 +51,11 @@ listing_is t parts p = kept_is ∙ stands_for t
     kept_is : (made.kept_program parts).listing ≡ kept_listing t
     kept_is = rw (p.qubits, p.counts, p.kept, p.products, p.detectors, p.observables, p.coordinates, p.unrolled) refl
 
-pub program_made : {A : Type 0} (t : Tree) (parts : Parts A) → refusal_of t ≡ None → ArePartsOf t parts → program_of t ≡ Ok (made.kept_program parts).listing
+pub program_made : {A : Type 0} (t : Tree) (parts : Parts A) → circuit_refusal t ≡ None → ArePartsOf t parts → program_of t ≡ Ok (made.kept_program parts).listing
 program_made t parts h p =
     ap (λ r. unless r (listing_of t)) h ∙ ap (λ (l : Listing). Ok l) (sym (listing_is t parts p))
 
-pub program_refused : (t : Tree) (fault : Fault) → refusal_of t ≡ Some fault → program_of t ≡ Err fault
+pub program_refused : (t : Tree) (fault : Fault) → circuit_refusal t ≡ Some fault → program_of t ≡ Err fault
 program_refused t fault h = ap (λ r. unless r (listing_of t)) h
 
 -- ---- they fit

@@ -14,11 +14,11 @@ use Rattle.stim_parser.specs.Judged.{items_of}
 use Rattle.stim_parser.specs.Verdicts.{Instruction}
 use Rattle.stim_parser.proofs.NumberArguments.{NamesNumber, names_number}
 use Rattle.unroll.specs.private.Beyond.{line_beyond}
-use Rattle.block_text.specs.Reached.{written}
+use Rattle.block_text.specs.Reached.{instructions_of}
 use Rattle.unroll.specs.private.Including.{named_to}
 use Rattle.unroll.specs.private.Items.{instructions_in}
 use Rattle.unroll.specs.Totals.{observables_to}
-use Rattle.unroll.specs.Refusals.{first_beyond, most_observables}
+use Rattle.unroll.specs.Refusals.{first_observable_beyond, most_observables}
 use Rattle.unroll.proofs.ItemLemmas.{drop_next, instructions_in-tree}
 
 named-number : (o : Operation) (arguments : List (List ℕ)) → NamesNumber o arguments → named_to o arguments ≡ observables_to o arguments
@@ -39,25 +39,25 @@ line-none i n fits e few =
 -- ---- items one after another
 
 abbrev pub beyond_from : Tree → ℕ → Option ℕ
-beyond_from t i = first_beyond (instructions_in (drop i (items_of t)))
+beyond_from t i = first_observable_beyond (instructions_in (drop i (items_of t)))
 
 if-or : (b : Bool) (line : ℕ) (rest : Option ℕ) → (if b then Some line else rest) ≡ option_or (if b then Some line else None) rest
 if-or true line rest = refl
 if-or false line rest = refl
 
-beyond-more : (item : Item) (items : List Item) → first_beyond (instructions_in (item ∷ items)) ≡ option_or (line_beyond item) (first_beyond (instructions_in items))
-unfolding first_beyond
+beyond-more : (item : Item) (items : List Item) → first_observable_beyond (instructions_in (item ∷ items)) ≡ option_or (line_beyond item) (first_observable_beyond (instructions_in items))
+unfolding first_observable_beyond
 beyond-more (InstructionLine i) items =
-    if-or (nat_lt most_observables (observables_to i.operation i.arguments)) i.line (first_beyond (instructions_in items))
+    if-or (nat_lt most_observables (observables_to i.operation i.arguments)) i.line (first_observable_beyond (instructions_in items))
 beyond-more (BlockStart line turns) items = refl
 beyond-more BlockEnd items = refl
 
-pub beyond-first : (t : Tree) → beyond_from t 0 ≡ first_beyond (written t)
-beyond-first t = ap first_beyond (instructions_in-tree t)
+pub beyond-first : (t : Tree) → beyond_from t 0 ≡ first_observable_beyond (instructions_of t)
+beyond-first t = ap first_observable_beyond (instructions_in-tree t)
 
 beyond-at : (t : Tree) (i : ℕ) (item : Item) (o : Option ℕ) → Some item ≡ slice_get (items_of t) i → o ≡ line_beyond item → beyond_from t i ≡ option_or o (beyond_from t (i + 1))
 beyond-at t i item o got is =
-    ap (λ (items : List Item). first_beyond (instructions_in items)) (drop_next t i item got)
+    ap (λ (items : List Item). first_observable_beyond (instructions_in items)) (drop_next t i item got)
     ∙ beyond-more item (drop (i + 1) (items_of t))
     ∙ ap (λ (p : Option ℕ). option_or p (beyond_from t (i + 1))) (sym is)
 
@@ -70,5 +70,5 @@ beyond-next t i item o got is none =
     beyond-at t i item o got is ∙ ap (λ (p : Option ℕ). option_or p (beyond_from t (i + 1))) none
 
 pub beyond-done : (t : Tree) (i : ℕ) → length (items_of t) ≤ i → beyond_from t i ≡ None
-unfolding first_beyond
-beyond-done t i h = ap (λ (items : List Item). first_beyond (instructions_in items)) (drop_all i (items_of t) h)
+unfolding first_observable_beyond
+beyond-done t i h = ap (λ (items : List Item). first_observable_beyond (instructions_in items)) (drop_all i (items_of t) h)

@@ -13,7 +13,7 @@ use Rattle.stim_parser.specs.Judged.{items_of}
 use Rattle.stim_parser.specs.Verdicts.{Instruction}
 use Rattle.stim_parser.proofs.TargetNumbers.{none_passes}
 use Rattle.unroll.specs.private.Pushed.{back_of}
-use Rattle.unroll.specs.Refusals.{is_far, reaches_far}
+use Rattle.unroll.specs.Refusals.{is_before_start, reaches_far}
 use Rattle.unroll.specs.private.Counted.{first_far_from}
 use Rattle.unroll.specs.private.MadeTotals.{record_count}
 use Rattle.block_text.specs.Reached.{total}
@@ -43,7 +43,7 @@ each-tree P t h = subst (EachDoes P) (append-nil (items_of t)) (each-items P t [
 
 -- ---- no line reaches too far back
 
-near_target : (r : ℕ) (t : Target) → is_far r t ≡ false → back_of t ≤ r
+near_target : (r : ℕ) (t : Target) → is_before_start r t ≡ false → back_of t ≤ r
 near_target r (Back k) h = ltb-false r k h
 near_target r t h = omega arith
 
@@ -52,7 +52,7 @@ AreNear n i = All (λ t. back_of t ≤ n) i.targets
 
 near_targets : (r n : ℕ) (ts : List Target) → r ≤ n → reaches_far r ts ≡ false → All (λ t. back_of t ≤ n) ts
 near_targets r n ts le h =
-    none_passes (λ t. back_of t ≤ n) (is_far r) ts (λ t near. omega (arith, near_target r t near, le)) h
+    none_passes (λ t. back_of t ≤ n) (is_before_start r) ts (λ t near. omega (arith, near_target r t near, le)) h
 
 split_if : (b : Bool) (line : ℕ) (rest : Option ℕ) → (if b then Some line else rest) ≡ None → (b ≡ false) × (rest ≡ None)
 split_if true line rest h = absurd cc

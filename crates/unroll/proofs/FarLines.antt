@@ -4,7 +4,7 @@ use Rattle.std.proofs.Common.{◌≡◌, ℕ, zero, suc, ◌+◌, ◌*◌, ◌<�
 use Rattle.std.specs.Prelude.{nat_lt, ◌||◌, if◌then◌else◌, option_map, slice_get}
 use Rattle.std.specs.Option.{option_or}
 use Rattle.std.specs.List.{sum_by}
-use Rattle.block_text.specs.Reached.{copies, reached, written}
+use Rattle.block_text.specs.Reached.{copies, reached, instructions_of}
 use Rattle.step_model.specs.declared.fault.Fault.{Fault}
 use Rattle.step_model.specs.declared.fault.Cause.TheVariants as cause
 use Rattle.stim_parser.specs.declared.target.Target.{Target}
@@ -19,7 +19,7 @@ use Rattle.unroll.specs.Before.{Before}
 use Rattle.unroll.specs.private.Counted.{counts_many_detectors, counts_many_records, first_far_from, refusal_counted}
 use Rattle.unroll.specs.private.MadeTotals.{record_count, record_total}
 use Rattle.unroll.specs.Meaning.{after, at_start, listing_of, made_of}
-use Rattle.unroll.specs.Refusals.{first_beyond, first_far_line, has_many_detectors, has_many_records, has_many_steps, is_far, most_collapses, most_detectors, most_records, of_circuit, reaches_far, refusal_of}
+use Rattle.unroll.specs.Refusals.{first_observable_beyond, first_far_line, has_many_detectors, has_many_records, has_many_steps, is_before_start, most_collapses, most_detectors, most_records, of_circuit, reaches_far, circuit_refusal}
 use Rattle.unroll.specs.Totals.{qubit_total}
 use Rattle.unroll.proofs.MadeCounts.{after-records, after_all, after_all-records, made_of-append}
 use Rattle.unroll.proofs.MeaningLemmas.{collapses_made, detectors_made, records_made}
@@ -48,14 +48,14 @@ no-line true line h = absurd cc
 no-line false line h = refl
 
 -- what is near stays near behind more records
-near-target : (r s : ℕ) (t : Target) → r ≤ s → is_far r t ≡ false → is_far s t ≡ false
+near-target : (r s : ℕ) (t : Target) → r ≤ s → is_before_start r t ≡ false → is_before_start s t ≡ false
 near-target r s (Back k) le h = le-ltb s k (omega (arith, ltb-false r k h, le))
 near-target r s t le h = refl
 
 near-later : (r s : ℕ) (ts : List Target) → r ≤ s → reaches_far r ts ≡ false → reaches_far s ts ≡ false
 near-later r s [] le h = refl
 near-later r s (t ∷ ts) le h =
-    let parts = or_parts (is_far r t) (reaches_far r ts) h in
+    let parts = or_parts (is_before_start r t) (reaches_far r ts) h in
     ap₂ ◌||◌ (near-target r s t le parts.0) (near-later r s ts le parts.1)
 
 module _ (n : ℕ) where
@@ -130,10 +130,10 @@ abbrev refusal_by : Tree → Option ℕ → Bool → Bool → Option Fault
 refusal_by t far records detectors =
     option_or (option_map (refused cause.RecordBeforeStart) far)
     (option_or (of_circuit records cause.Records)
-    (option_or (option_map (refused cause.Detectors) (first_beyond (written t)))
+    (option_or (option_map (refused cause.Detectors) (first_observable_beyond (instructions_of t)))
     (option_or (of_circuit detectors cause.Detectors) (of_circuit (has_many_steps t) cause.Steps))))
 
-pub refused-as-counted : (t : Tree) → AllFit t → refusal_counted t ≡ refusal_of t
+pub refused-as-counted : (t : Tree) → AllFit t → refusal_counted t ≡ circuit_refusal t
 refused-as-counted t fit =
     let far : first_far_line t ≡ first_far_from 0 t = far-tree (qubit_total t) at_start t fit in
     let records : has_many_records (listing_of t) ≡ counts_many_records t = ap₂ (λ r k. nat_lt most_records r || nat_lt most_collapses k) (records_made t) (collapses_made t) in

@@ -24,7 +24,7 @@ use Rattle.unroll.specs.private.Kept.{entries_of, kept_entries, kept_products, p
 use Rattle.unroll.specs.private.Made.{fault_steps, measure_step, one_step, operation_steps, pair_step, pair_steps, product_steps, reset_step}
 use Rattle.unroll.specs.StepsMade.{flip_of}
 use Rattle.stim_parser.specs.Limits.{products_of}
-use Rattle.unroll.specs.Refusals.{is_far, reaches_far}
+use Rattle.unroll.specs.Refusals.{is_before_start, reaches_far}
 use Rattle.unroll.specs.private.Counted.{first_far_from}
 use Rattle.unroll.specs.private.Steps.{instruction_steps, steps_from, steps_of}
 use Rattle.unroll.specs.private.MadeTotals.{record_count}
@@ -51,7 +51,7 @@ abbrev pub IsThere : ℕ → Target → Type 0
 IsThere r (Back k) = (1 ≤ k) × (k ≤ r)
 IsThere r target = ⊤
 
-is_there : (r : ℕ) (t : Target) → target_is_written t ≡ true → is_far r t ≡ false → IsThere r t
+is_there : (r : ℕ) (t : Target) → target_is_written t ≡ true → is_before_start r t ≡ false → IsThere r t
 is_there r (Back k) h near = (leb-true 1 k h, ltb-false r k near)
 is_there r t h near = tt
 
@@ -59,7 +59,7 @@ are_there : (r : ℕ) (ts : List Target) → list_all target_is_written ts ≡ t
 are_there r [] h near = All-nil (IsThere r)
 are_there r (t ∷ ts) h near =
     let one = and_parts (target_is_written t) (list_all target_is_written ts) h in
-    let close = or_parts (is_far r t) (reaches_far r ts) near in
+    let close = or_parts (is_before_start r t) (reaches_far r ts) near in
     All-cons (IsThere r) t ts (is_there r t one.0 close.0) (are_there r ts one.1 close.1)
 
 -- ---- the steps of an instruction

@@ -8,25 +8,25 @@ use Rattle.stim_parser.specs.Trees.{Tree}
 use Rattle.block_text.specs.Trees.{Nothing, Then, Block, InstructionLine, BlockStart, BlockEnd}
 use Rattle.stim_parser.specs.Judged.{items_of}
 use Rattle.stim_parser.specs.Verdicts.{Instruction}
-use Rattle.block_text.specs.Reached.{written}
+use Rattle.block_text.specs.Reached.{instructions_of}
 use Rattle.unroll.specs.private.Items.{instructions_in, item_qubits, IsSound}
 use Rattle.unroll.specs.Totals.{qubit_total}
 use Rattle.unroll.specs.private.MadeTotals.{qubits_over}
 use Rattle.unroll.proofs.FarLemmas.{EachDoes, EachOf, each-tree}
 use Rattle.unroll.proofs.PassLemmas.{drop_got}
 
-instructions_in-more : (t : Tree) (rest : List Item) → instructions_in (items_of t ++ rest) ≡ written t ++ instructions_in rest
+instructions_in-more : (t : Tree) (rest : List Item) → instructions_in (items_of t ++ rest) ≡ instructions_of t ++ instructions_in rest
 instructions_in-more Nothing rest = refl
 instructions_in-more (Then i t) rest = ap (λ (is : List Instruction). i ∷ is) (instructions_in-more t rest)
 instructions_in-more (Block line turns t u) rest =
     ap instructions_in (append_assoc (items_of t) (BlockEnd ∷ items_of u) rest)
     ∙ instructions_in-more t (BlockEnd ∷ (items_of u ++ rest))
-    ∙ ap (λ (is : List Instruction). written t ++ is) (instructions_in-more u rest)
-    ∙ sym (append_assoc (written t) (written u) (instructions_in rest))
+    ∙ ap (λ (is : List Instruction). instructions_of t ++ is) (instructions_in-more u rest)
+    ∙ sym (append_assoc (instructions_of t) (instructions_of u) (instructions_in rest))
 
-pub instructions_in-tree : (t : Tree) → instructions_in (items_of t) ≡ written t
+pub instructions_in-tree : (t : Tree) → instructions_in (items_of t) ≡ instructions_of t
 instructions_in-tree t =
-    ap instructions_in (sym (append-nil (items_of t))) ∙ instructions_in-more t [] ∙ append-nil (written t)
+    ap instructions_in (sym (append-nil (items_of t))) ∙ instructions_in-more t [] ∙ append-nil (instructions_of t)
 
 each_fits : (t : Tree) → AllFit t → EachOf Fits t
 each_fits Nothing h = tt

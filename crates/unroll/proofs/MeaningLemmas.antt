@@ -6,7 +6,7 @@ use Rattle.std.specs.List.{filter, flat_map, range_with_len, sum_by}
 use Rattle.programs.proofs.Orders.{collapses-total}
 use Rattle.std.proofs.lemmas.List.FromFn.{length-range_with_len}
 use Rattle.std.proofs.lemmas.List.Concat.{flat_map-append}
-use Rattle.block_text.specs.Reached.{copies, reached, written}
+use Rattle.block_text.specs.Reached.{copies, reached, instructions_of}
 use Rattle.programs.specs.Kept.{Kept}
 use Rattle.programs.specs.declared.step.Counts.{Counts}
 use Rattle.programs.specs.declared.step.TextStep.{TextStep}
@@ -136,8 +136,8 @@ module _ (n : ℕ) (ks : List Kept) (ps : List (List Term)) where
   stand_tree e p (Block line turns body rest) h k =
       let e' = e + length (kept_entries body) in
       let p' = p + length (kept_products body) in
-      let h' : StandsAt ks e (kept_entries body ++ kept_entries rest) = subst (StandsAt ks e) (flat_map-append entries_of (written body) (written rest)) h in
-      let k' : StandsAt ps p (kept_products body ++ kept_products rest) = subst (StandsAt ps p) (flat_map-append products_in (written body) (written rest)) k in
+      let h' : StandsAt ks e (kept_entries body ++ kept_entries rest) = subst (StandsAt ks e) (flat_map-append entries_of (instructions_of body) (instructions_of rest)) h in
+      let k' : StandsAt ps p (kept_products body ++ kept_products rest) = subst (StandsAt ps p) (flat_map-append products_in (instructions_of body) (instructions_of rest)) k in
       stand_both (repeated turns (steps_from e p body)) (steps_from e' p' rest) (copies turns (reached body)) (reached rest)
       (stand_copies turns (steps_from e p body) (reached body)
       (stand_tree e p body (stands_before ks e (kept_entries body) (kept_entries rest) h') (stands_before ps p (kept_products body) (kept_products rest) k')))

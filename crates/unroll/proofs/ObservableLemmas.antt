@@ -18,7 +18,7 @@ use Rattle.stim_parser.specs.Verdicts.{Instruction}
 use Rattle.stim_parser.proofs.NumberArguments.{NamesNumber, names_number}
 use Rattle.unroll.specs.declared.inclusions.Inclusion.{Inclusion}
 use Rattle.unroll.specs.TargetsMade.{record_named, records_named}
-use Rattle.block_text.specs.Reached.{copies, reached, written}
+use Rattle.block_text.specs.Reached.{copies, reached, instructions_of}
 use Rattle.unroll.specs.private.Gathered.{given}
 use Rattle.unroll.specs.private.Including.{including, inclusion_of, observable_named, item_observables, named_to, operation_inclusions, places_of}
 use Rattle.unroll.specs.Totals.{first_argument, observable_total, observables_to}
@@ -108,13 +108,13 @@ one-to : (o : Operation) (arguments : List (List ℕ)) → NamesNumber o argumen
 one-to ObservableInclude arguments h = ap (λ (n : Option ℕ). unwrap_or n 0 + 1) h
 one-to o arguments h = refl
 
-named-tree : (t : Tree) (rest : List Item) → AllFit t → named_by (items_of t ++ rest) ≡ max (observables_over (written t)) (named_by rest)
+named-tree : (t : Tree) (rest : List Item) → AllFit t → named_by (items_of t ++ rest) ≡ max (observables_over (instructions_of t)) (named_by rest)
 named-tree Nothing rest fit = omega arith
 named-tree (Then i t) rest fit =
     omega (arith, one-to i.operation i.arguments (names_number i fit.0), named-tree t rest fit.1)
 named-tree (Block line turns t u) rest fit =
     let whole = ap named_by (append_assoc (items_of t) (BlockEnd ∷ items_of u) rest) in
-    omega (arith, whole, named-tree t (BlockEnd ∷ (items_of u ++ rest)) fit.1, named-tree u rest fit.2, over-append (written t) (written u))
+    omega (arith, whole, named-tree t (BlockEnd ∷ (items_of u ++ rest)) fit.1, named-tree u rest fit.2, over-append (instructions_of t) (instructions_of u))
 
 pub named-first : (t : Tree) → AllFit t → named_by (items_of t) ≡ observable_total t
 named-first t fit = omega (arith, ap named_by (append-nil (items_of t)), named-tree t [] fit)

@@ -12,12 +12,12 @@ use Rattle.stim_parser.specs.Targets.{target_of, targets_in}
 use Rattle.stim_parser.specs.Verdicts.{line_targets}
 use Rattle.unroll.specs.Meaning.{made_of}
 use Rattle.unroll.specs.private.Counted.{first_far_from}
-use Rattle.unroll.specs.Refusals.{first_beyond}
+use Rattle.unroll.specs.Refusals.{first_observable_beyond}
 use Rattle.block_text.specs.Reached.{total}
 
 unfoldable pub on_texts : ⊤
 unfolding
     lines_of says_nothing cut_of has_bad_byte pieces_of arguments_in has_wrong_arguments has_wrong_probability
     keyword_named are_of_form has_target_beyond has_wrong_count has_same_qubit target_of targets_in line_targets
-    items_from refusal_of judged reading_of made_of first_far_from first_beyond total
+    items_from refusal_of judged reading_of made_of first_far_from first_observable_beyond total
 on_texts = tt

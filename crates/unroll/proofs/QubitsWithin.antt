@@ -5,7 +5,7 @@ use Rattle.stim_parser.specs.Circuits.{AllFit, Fits, IsCircuit}
 use Rattle.stim_parser.specs.Trees.{Tree}
 use Rattle.block_text.specs.Trees.{Nothing, Then, Block}
 use Rattle.stim_parser.specs.Verdicts.{Instruction}
-use Rattle.block_text.specs.Reached.{written}
+use Rattle.block_text.specs.Reached.{instructions_of}
 use Rattle.unroll.specs.Totals.{qubit_total}
 use Rattle.unroll.specs.private.MadeTotals.{qubits_named, qubits_over}
 use Rattle.unroll.proofs.FarLemmas.{EachOf}
@@ -19,11 +19,11 @@ qubits_over-append : (is js : List Instruction) → qubits_over (is ++ js) ≡ m
 qubits_over-append [] js = omega arith
 qubits_over-append (i ∷ is) js = omega (arith, qubits_over-append is js)
 
-fits_on : (n : ℕ) (t : Tree) → AllFit t → qubits_over (written t) ≤ n → EachOf (FitsOn n) t
+fits_on : (n : ℕ) (t : Tree) → AllFit t → qubits_over (instructions_of t) ≤ n → EachOf (FitsOn n) t
 fits_on n Nothing h le = tt
 fits_on n (Then i rest) h le = (record { fits = h.0; within = omega (arith, le) }, fits_on n rest h.1 (omega (arith, le)))
 fits_on n (Block line turns body rest) h le =
-    let both = qubits_over-append (written body) (written rest) in
+    let both = qubits_over-append (instructions_of body) (instructions_of rest) in
     (fits_on n body h.1 (omega (arith, le, both)), fits_on n rest h.2 (omega (arith, le, both)))
 
 pub circuit_fits_on : (t : Tree) → IsCircuit t → EachOf (FitsOn (qubit_total t)) t

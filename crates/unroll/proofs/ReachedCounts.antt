@@ -15,9 +15,9 @@ use Rattle.stim_parser.specs.Verdicts.{Instruction}
 use Rattle.unroll.specs.private.Coordinates.{coordinates_from, coordinates_of}
 use Rattle.unroll.specs.private.Detectors.{detectors_from, detectors_of}
 use Rattle.unroll.specs.TargetsMade.{operation_detectors, offset_after, operation_coordinates}
-use Rattle.block_text.specs.Reached.{copies, reached, written, total}
+use Rattle.block_text.specs.Reached.{copies, reached, instructions_of, total}
 use Rattle.unroll.specs.private.Observables.{added_from, observables_of}
-use Rattle.unroll.specs.Refusals.{first_beyond, most_observables}
+use Rattle.unroll.specs.Refusals.{first_observable_beyond, most_observables}
 use Rattle.unroll.specs.Totals.{observable_total, observables_to}
 use Rattle.unroll.specs.private.MadeTotals.{observables_over, detector_count, detector_total, detectors_made, record_count}
 use Rattle.unroll.proofs.RefusalLemmas.{not_first}
@@ -71,14 +71,14 @@ coordinates_counted t = coordinates-from [] (reached t) ∙ sum-reached detector
 
 -- ---- observables
 
-observables-over : (is : List Instruction) → first_beyond is ≡ None → observables_over is ≤ 1024
-unfolding first_beyond
+observables-over : (is : List Instruction) → first_observable_beyond is ≡ None → observables_over is ≤ 1024
+unfolding first_observable_beyond
 observables-over [] h = omega arith
 observables-over (i ∷ is) h =
     let n = observables_to i.operation i.arguments in
-    let parts = not_first (nat_lt most_observables n) i.line (first_beyond is) h in
+    let parts = not_first (nat_lt most_observables n) i.line (first_observable_beyond is) h in
     omega (arith, ltb-false most_observables n parts.0, observables-over is parts.1)
 
-pub observables_few : (t : Tree) → first_beyond (written t) ≡ None → length (observables_of t) ≤ 1024
+pub observables_few : (t : Tree) → first_observable_beyond (instructions_of t) ≡ None → length (observables_of t) ≤ 1024
 observables_few t h =
-    omega (arith, length-map-range_with_len (λ k. added_from k 0 (reached t)) 0 (observable_total t), observables-over (written t) h)
+    omega (arith, length-map-range_with_len (λ k. added_from k 0 (reached t)) 0 (observable_total t), observables-over (instructions_of t) h)

@@ -18,7 +18,7 @@ use Rattle.stim_parser.specs.declared.operation.Operation.TheVariants.{Applies, 
 use Rattle.stim_parser.specs.declared.target.Target.{Target}
 use Rattle.stim_parser.specs.Trees.{Tree}
 use Rattle.block_text.specs.Trees.{Nothing, Then, Block}
-use Rattle.block_text.specs.Reached.{written}
+use Rattle.block_text.specs.Reached.{instructions_of}
 use Rattle.unroll.specs.private.Kept.{entries_of, entry_at, entry_of, flip_entries, kept_entries, kept_products, operation_entries, operation_products, products_in}
 use Rattle.unroll.specs.Totals.{first_argument}
 use Rattle.unroll.specs.private.Made.{fault_steps, gate_steps, measure_step, one_step, operation_steps, pair_step, pair_steps, paired, product_steps, record_back, reset_step}
@@ -123,8 +123,8 @@ kept_at ks ps e p (Then i rest) h k =
 kept_at ks ps e p (Block line turns body rest) h k =
     let e' = e + length (kept_entries body) in
     let p' = p + length (kept_products body) in
-    let h' : StandsAt ks e (kept_entries body ++ kept_entries rest) = subst (StandsAt ks e) (flat_map-append entries_of (written body) (written rest)) h in
-    let k' : StandsAt ps p (kept_products body ++ kept_products rest) = subst (StandsAt ps p) (flat_map-append products_in (written body) (written rest)) k in
+    let h' : StandsAt ks e (kept_entries body ++ kept_entries rest) = subst (StandsAt ks e) (flat_map-append entries_of (instructions_of body) (instructions_of rest)) h in
+    let k' : StandsAt ps p (kept_products body ++ kept_products rest) = subst (StandsAt ps p) (flat_map-append products_in (instructions_of body) (instructions_of rest)) k in
     both_pass (is_kept ks ps) (repeated turns (steps_from e p body)) (steps_from e' p' rest)
     (turns_pass (is_kept ks ps) turns (steps_from e p body)
     (kept_at ks ps e p body (stands_before ks e (kept_entries body) (kept_entries rest) h') (stands_before ps p (kept_products body) (kept_products rest) k')))

@@ -13,7 +13,7 @@ use Rattle.block_text.specs.Trees.{Nothing, Then, Block}
 use Rattle.stim_parser.specs.Verdicts.{Instruction}
 use Rattle.unroll.specs.declared.totals.Totals.{Totals}
 use Rattle.unroll.specs.private.Passes.{behind}
-use Rattle.unroll.specs.Refusals.{is_far, reaches_far}
+use Rattle.unroll.specs.Refusals.{is_before_start, reaches_far}
 use Rattle.unroll.specs.private.Counted.{first_far_from}
 use Rattle.unroll.specs.private.Summed.{AreTotals, capped_sum, far_line_after, greatest, nothing_summed, repeated_sum, summing, totals_after, totals_repeated}
 use Rattle.block_text.specs.Reached.{total}
@@ -177,7 +177,7 @@ same_far r k small =
       | inr near ↦ le-ltb (min r greatest) k (omega (arith, near, small)) ∙ sym (le-ltb r k near)
     ]
 
-same_far_target : (r : ℕ) (t : Target) → back_of t ≤ 999_999_999_999_999_999 → is_far (min r greatest) t ≡ is_far r t
+same_far_target : (r : ℕ) (t : Target) → back_of t ≤ 999_999_999_999_999_999 → is_before_start (min r greatest) t ≡ is_before_start r t
 same_far_target r (Back k) small = same_far r k small
 same_far_target r t small = refl
 

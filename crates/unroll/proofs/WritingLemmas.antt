@@ -10,7 +10,7 @@ use Rattle.stim_parser.specs.Texts.{Item}
 use Rattle.stim_parser.specs.Trees.{Tree}
 use Rattle.block_text.specs.Trees.{Nothing, Then, Block, InstructionLine, BlockStart, BlockEnd}
 use Rattle.stim_parser.specs.Judged.{items_of}
-use Rattle.block_text.specs.Reached.{written}
+use Rattle.block_text.specs.Reached.{instructions_of}
 use Rattle.unroll.specs.private.Kept.{entries_of, kept_entries, kept_products, products_in}
 use Rattle.unroll.specs.private.Steps.{instruction_steps, steps_from, steps_of}
 
@@ -63,8 +63,8 @@ written-items (Block line turns t u) rest outer here ks ps =
     ∙ written-items u rest outer (here ++ repeated turns body) (ks ++ kept_entries t) (ps ++ kept_products t)
     ∙ same_written rest outer _ _ _ _ _ _
     (steps_then here (repeated turns body) ks (kept_entries t) ps (kept_products t) u)
-    (append_assoc ks (kept_entries t) (kept_entries u) ∙ ap (λ (es : List Kept). ks ++ es) (sym (flat_map-append entries_of (written t) (written u))))
-    (append_assoc ps (kept_products t) (kept_products u) ∙ ap (λ (qs : List (List Term)). ps ++ qs) (sym (flat_map-append products_in (written t) (written u))))
+    (append_assoc ks (kept_entries t) (kept_entries u) ∙ ap (λ (es : List Kept). ks ++ es) (sym (flat_map-append entries_of (instructions_of t) (instructions_of u))))
+    (append_assoc ps (kept_products t) (kept_products u) ∙ ap (λ (qs : List (List Term)). ps ++ qs) (sym (flat_map-append products_in (instructions_of t) (instructions_of u))))
 
 pub written-tree : (t : Tree) → written_from (items_of t) [] [] [] [] ≡ record { steps = steps_of t; entries = kept_entries t; products = kept_products t }
 written-tree t =

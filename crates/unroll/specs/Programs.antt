@@ -9,11 +9,11 @@ use Rattle.block_text.specs.Flat.{tree_of}
 use Rattle.stim_parser.specs.Texts.{items_in}
 use Rattle.stim_parser.specs.Trees.{Tree}
 use Rattle.unroll.specs.Meaning.{listing_of}
-use Rattle.unroll.specs.Refusals.{refusal_of}
+use Rattle.unroll.specs.Refusals.{circuit_refusal}
 
 -- the program of a tree, or its refusal
 abbrev pub program_of : Tree → Result Listing Fault
-program_of tree = unless (refusal_of tree) (listing_of tree)
+program_of tree = unless (circuit_refusal tree) (listing_of tree)
 
 -- the program of a text, or its refusal
 abbrev pub program_in : List ℕ → Result Listing Fault

@@ -16,7 +16,7 @@ use Rattle.stim_parser.specs.declared.target.Target.TheVariants.{Back}
 use Rattle.block_text.specs.Texts.{refused}
 use Rattle.stim_parser.specs.Trees.{Tree}
 use Rattle.stim_parser.specs.Verdicts.{Instruction}
-use Rattle.block_text.specs.Reached.{written}
+use Rattle.block_text.specs.Reached.{instructions_of}
 use Rattle.unroll.specs.Meaning.{listing_of, made_in}
 use Rattle.unroll.specs.Totals.{observables_to, step_total}
 
@@ -45,23 +45,23 @@ most_steps = 64_000_000
 -- ---- lines
 
 -- a record target that reaches back further than this many records
-abbrev pub is_far : ℕ → Target → Bool
-is_far r (Back k) = nat_lt r k
-is_far r target = false
+abbrev pub is_before_start : ℕ → Target → Bool
+is_before_start r (Back k) = nat_lt r k
+is_before_start r target = false
 
 -- whether some of these targets does
 abbrev pub reaches_far : ℕ → List Target → Bool
-reaches_far r targets = list_any (is_far r) targets
+reaches_far r targets = list_any (is_before_start r) targets
 
 -- the first line that reaches back before the first record
 abbrev pub first_far_line : Tree → Option ℕ
 first_far_line tree = slice_get (made_in tree (λ b i. if reaches_far b.records i.targets then i.line ∷ [] else [])) 0
 
 -- the first line that names an observable beyond the limit
-unfoldable pub first_beyond : List Instruction → Option ℕ
-first_beyond [] = None
-first_beyond (i ∷ instructions) =
-    if nat_lt most_observables (observables_to i.operation i.arguments) then Some i.line else first_beyond instructions
+unfoldable pub first_observable_beyond : List Instruction → Option ℕ
+first_observable_beyond [] = None
+first_observable_beyond (i ∷ instructions) =
+    if nat_lt most_observables (observables_to i.operation i.arguments) then Some i.line else first_observable_beyond instructions
 
 -- ---- the whole circuit
 
@@ -82,9 +82,9 @@ abbrev pub of_circuit : Bool → Cause → Option Fault
 of_circuit holds c = if holds then Some (without_line c) else None
 
 -- the refusal of a tree, where it has one
-abbrev pub refusal_of : Tree → Option Fault
-refusal_of tree =
+abbrev pub circuit_refusal : Tree → Option Fault
+circuit_refusal tree =
     option_or (option_map (refused cause.RecordBeforeStart) (first_far_line tree))
     (option_or (of_circuit (has_many_records (listing_of tree)) cause.Records)
-    (option_or (option_map (refused cause.Detectors) (first_beyond (written tree)))
+    (option_or (option_map (refused cause.Detectors) (first_observable_beyond (instructions_of tree)))
     (option_or (of_circuit (has_many_detectors (listing_of tree)) cause.Detectors) (of_circuit (has_many_steps tree) cause.Steps))))

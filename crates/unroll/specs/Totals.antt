@@ -3,7 +3,7 @@
 -- are those up to the greatest that any instruction names, and so are the observables. (What counts as a step is this
 -- project's choice.)
 use Rattle.std.specs.Prelude.{ℕ, ◌+◌, List, [], length, slice_index_or}
-use Rattle.block_text.specs.Reached.{greatest_by, total, written}
+use Rattle.block_text.specs.Reached.{greatest_by, total, instructions_of}
 use Rattle.stim_parser.specs.declared.operation.Operation.{Operation}
 use Rattle.stim_parser.specs.declared.operation.Operation.TheVariants.{ProductMeasurement, ObservableInclude}
 use Rattle.stim_parser.specs.declared.target.Target.{Target}
@@ -34,7 +34,7 @@ qubits_to target = 0
 
 -- one more than the greatest qubit that a tree names, and 0 where it names none
 abbrev pub qubit_total : Tree → ℕ
-qubit_total tree = greatest_by (λ i. greatest_by qubits_to i.targets) (written tree)
+qubit_total tree = greatest_by (λ i. greatest_by qubits_to i.targets) (instructions_of tree)
 
 -- ---- observables
 
@@ -49,4 +49,4 @@ observables_to operation arguments = 0
 
 -- how many observables a tree has: up to the greatest that any instruction names
 abbrev pub observable_total : Tree → ℕ
-observable_total tree = greatest_by (λ i. observables_to i.operation i.arguments) (written tree)
+observable_total tree = greatest_by (λ i. observables_to i.operation i.arguments) (instructions_of tree)

@@ -2,9 +2,9 @@ ghost use Rattle.std.specs.Prelude.{◌≡◌};
 ghost use Rattle.block_text.specs.Kept.{item_in};
 ghost use Rattle.unroll.specs.private.Beyond.{line_beyond};
 ghost use Rattle.unroll.specs.private.Counted.{refusal_counted};
-ghost use Rattle.block_text.specs.Reached.{written};
+ghost use Rattle.block_text.specs.Reached.{instructions_of};
 ghost use Rattle.unroll.specs.private.Items.{IsSound};
-ghost use Rattle.unroll.specs.Refusals.{first_beyond, of_circuit};
+ghost use Rattle.unroll.specs.Refusals.{first_observable_beyond, of_circuit};
 ghost use Rattle.unroll.specs.private.Summed.{AreTotals};
 
 use crate::observables::named_to;
@@ -42,7 +42,7 @@ fn line_beyond(item: Item<'_, '_>) -> Option<u64>
 
 /// The first line that names an observable beyond the limit.
 fn first_beyond<A: Allocator + Copy>(circuit: &Circuit<'_, A>) -> Option<u64>
-    ensures { result ≡ first_beyond (written circuit.now) }
+    ensures { result ≡ first_observable_beyond (instructions_of circuit.now) }
 {
     circuit.fits();
     for i in 0..circuit.len() {

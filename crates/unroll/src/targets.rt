@@ -2,7 +2,7 @@ ghost use Rattle.std.specs.Prelude.{◌≡◌, ◌≤◌, All, length};
 ghost use Rattle.stim_parser.specs.private.Products.{is_joining};
 ghost use Rattle.stim_parser.specs.Limits.{products_of, qubit_of};
 ghost use Rattle.unroll.specs.private.Pushed.{FollowsFactor};
-ghost use Rattle.unroll.specs.Refusals.{is_far, reaches_far};
+ghost use Rattle.unroll.specs.Refusals.{is_before_start, reaches_far};
 ghost use Rattle.unroll.specs.Totals.{qubits_to, target_count};
 ghost use Rattle.unroll.specs.private.MadeTotals.{qubits_named};
 
@@ -48,7 +48,7 @@ pub(crate) fn qubits_named(targets: &[Target]) -> u32
 /// Whether a target is a record that reaches back further than this many records.
 #[inline(always)]
 fn is_far(records: u64, target: Target) -> bool
-    ensures { result ≡ is_far records target }
+    ensures { result ≡ is_before_start records target }
 {
     match target {
         Target::Back(k) => records < k.value(),

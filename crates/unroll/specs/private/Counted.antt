@@ -2,14 +2,14 @@
 -- of all blocks around it, and the blocks before it count with all their turns.
 use Rattle.std.specs.Prelude.{ℕ, ◌+◌, ◌*◌, nat_lt, Bool, ◌||◌, if◌then◌else◌, Option, None, Some, option_map}
 use Rattle.std.specs.Option.{option_or}
-use Rattle.block_text.specs.Reached.{written}
+use Rattle.block_text.specs.Reached.{instructions_of}
 use Rattle.step_model.specs.declared.fault.Fault.{Fault}
 use Rattle.step_model.specs.declared.fault.Cause.TheVariants as cause
 use Rattle.block_text.specs.Texts.{refused}
 use Rattle.stim_parser.specs.Trees.{Tree}
 use Rattle.block_text.specs.Trees.{Nothing, Then, Block}
 use Rattle.unroll.specs.private.MadeTotals.{collapse_total, detector_total, record_count, record_total}
-use Rattle.unroll.specs.Refusals.{first_beyond, has_many_steps, most_collapses, most_detectors, most_records, of_circuit, reaches_far}
+use Rattle.unroll.specs.Refusals.{first_observable_beyond, has_many_steps, most_collapses, most_detectors, most_records, of_circuit, reaches_far}
 
 -- the first line of a tree that reaches back before the first record, where this many records come before the tree
 unfoldable pub first_far_from : ℕ → Tree → Option ℕ
@@ -30,5 +30,5 @@ abbrev pub refusal_counted : Tree → Option Fault
 refusal_counted tree =
     option_or (option_map (refused cause.RecordBeforeStart) (first_far_from 0 tree))
     (option_or (of_circuit (counts_many_records tree) cause.Records)
-    (option_or (option_map (refused cause.Detectors) (first_beyond (written tree)))
+    (option_or (option_map (refused cause.Detectors) (first_observable_beyond (instructions_of tree)))
     (option_or (of_circuit (counts_many_detectors tree) cause.Detectors) (of_circuit (has_many_steps tree) cause.Steps))))

@@ -12,7 +12,7 @@ use Rattle.step_model.specs.Probabilities.{probability_bound}
 use Rattle.stim_parser.specs.declared.operation.Operation.{Operation}
 use Rattle.stim_parser.specs.declared.operation.Operation.TheVariants.{Measurement, MeasurementReset, ProductMeasurement, PauliError, CorrelatedError}
 use Rattle.stim_parser.specs.declared.target.Target.{Target}
-use Rattle.block_text.specs.Reached.{written}
+use Rattle.block_text.specs.Reached.{instructions_of}
 use Rattle.stim_parser.specs.Trees.{Tree}
 use Rattle.stim_parser.specs.Verdicts.{Instruction}
 use Rattle.stim_parser.specs.Limits.{products_of}
@@ -55,7 +55,7 @@ products_in instruction = operation_products instruction.operation instruction.t
 
 -- all that is kept of a tree, in the order of its text
 abbrev pub kept_entries : Tree → List Kept
-kept_entries tree = flat_map entries_of (written tree)
+kept_entries tree = flat_map entries_of (instructions_of tree)
 
 abbrev pub kept_products : Tree → List (List Term)
-kept_products tree = flat_map products_in (written tree)
+kept_products tree = flat_map products_in (instructions_of tree)

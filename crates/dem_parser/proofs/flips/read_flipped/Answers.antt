@@ -3,7 +3,7 @@ use Rattle.std.specs.Prelude.{All}
 use Rattle.std.specs.List.Sorted.{IsNonDecreasing}
 use Rattle.std.proofs.lemmas.List.Sorted.{All-permutation}
 use Rattle.dem_parser.specs.private.Numbered.{odd_below}
-use Rattle.dem_parser.specs.Shifts.{target_at}
+use Rattle.dem_parser.specs.Shifts.{shifted_target}
 use Rattle.dem_parser.proofs.NumberLemmas.{all-numbers, same-odd}
 use Rattle.dem_parser.proofs.flips.read_flipped.Goals as goal
 
@@ -15,7 +15,7 @@ pub returns : goal.returns
 returns g c =
     let detectors = c.args.counts.detectors in
     let observables = c.args.counts.observables in
-    let targets = map (target_at c.args.shift) c.args.targets.now in
+    let targets = map (shifted_target c.args.shift) c.args.targets.now in
     let n : ℕ = detectors + observables in
     let read = c.read_numbers.new.numbers.items in
     let sorted = c.put_in_order.new.numbers.items in

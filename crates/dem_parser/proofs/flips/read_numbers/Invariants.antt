@@ -2,12 +2,12 @@ use Rattle.std.proofs.Common.{◌≡◌, ◌+◌, ◌^◌, ◌≤◌, ◌++◌, 
 use Rattle.dem_parser.specs.Meanings.{detectors_to, observables_to}
 use Rattle.dem_parser.specs.private.Numbered.{numbers_of}
 use Rattle.block_text.specs.Reached.{greatest_by}
-use Rattle.dem_parser.specs.Shifts.{target_at}
+use Rattle.dem_parser.specs.Shifts.{shifted_target}
 use Rattle.dem_parser.proofs.flips.read_numbers.Given as goal
 
 abbrev pub invariant-loop-target : goal.invariant-loop-target
 invariant-loop-target g l = record {
-  numbers : l.numbers.items ++ numbers_of l.detectors (map (target_at l.shift) (drop l.target-index l.targets)) ≡ numbers_of l.detectors (map (target_at l.shift) l.targets);
-  low : greatest_by detectors_to (map (target_at l.shift) (drop l.target-index l.targets)) ≤ 2 ^ 32;
-  few : l.detectors + greatest_by observables_to (map (target_at l.shift) (drop l.target-index l.targets)) ≤ 2 ^ 32;
+  numbers : l.numbers.items ++ numbers_of l.detectors (map (shifted_target l.shift) (drop l.target-index l.targets)) ≡ numbers_of l.detectors (map (shifted_target l.shift) l.targets);
+  low : greatest_by detectors_to (map (shifted_target l.shift) (drop l.target-index l.targets)) ≤ 2 ^ 32;
+  few : l.detectors + greatest_by observables_to (map (shifted_target l.shift) (drop l.target-index l.targets)) ≤ 2 ^ 32;
 }

@@ -1,10 +1,10 @@
 use Rattle.std.proofs.Common.{◌≡◌, drop, map}
 use Rattle.dem_parser.specs.private.Numbered.{numbers_of}
-use Rattle.dem_parser.specs.Shifts.{target_at}
+use Rattle.dem_parser.specs.Shifts.{shifted_target}
 use Rattle.dem_parser.specs.private.Turned.{turned}
 use Rattle.dem_parser.proofs.placed_model.turn_targets.Given as goal
 
 abbrev pub invariant-loop-target : goal.invariant-loop-target
 invariant-loop-target l =
-    turned l.bits (numbers_of l.detectors (map (target_at l.shift) (drop l.target-index l.targets)))
-    ≡ turned l.fn.bits (numbers_of l.detectors (map (target_at l.shift) l.targets))
+    turned l.bits (numbers_of l.detectors (map (shifted_target l.shift) (drop l.target-index l.targets)))
+    ≡ turned l.fn.bits (numbers_of l.detectors (map (shifted_target l.shift) l.targets))
