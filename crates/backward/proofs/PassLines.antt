@@ -1,22 +1,20 @@
 -- The lines found going back over all steps are those of the error model, the last fault's first.
-use Rattle.std.proofs.Common.{◌≡◌, ◌≢◌, ℕ, zero, suc, ◌+◌, ◌<◌, ◌≤◌, ◌==◌, Bool, false, not, ◌&&◌, cond, List, [], ◌∷◌, ◌++◌, map, length, get_or, Option, None, Some, refl, ap, ap₂, subst, sym, ◌∙◌, arith}
-use Rattle.std.specs.Prelude.{⊤, filter, reverse}
+use Rattle.std.proofs.Common.{◌≡◌, ℕ, zero, suc, ◌+◌, ◌<◌, ◌≤◌, ◌==◌, Bool, false, not, ◌&&◌, ◌||◌, cond, List, [], ◌∷◌, ◌++◌, map, length, get_or, Some, refl, ap, ap₂, sym, ◌∙◌, arith}
+use Rattle.std.specs.Prelude.{filter, reverse}
 use Rattle.std.specs.List.{range_with_len, flat_map}
-use Rattle.std.specs.Option.{option_to_list}
 use Rattle.std.proofs.lemmas.Bool.{eq-eqb, ne_eqb}
 use Rattle.std.proofs.lemmas.List.{append-nil, reverse-append}
 use Rattle.std.proofs.lemmas.List.FromFn.{get_or-map-range_with_len, length-map-range_with_len}
-use Rattle.pauli_word.specs.Parity.{exclusive_or}
 use Rattle.pauli_word.specs.Words.{anticommute}
-use Rattle.pauli_word.proofs.Parities.{exclusive_or-false}
 use Rattle.step_model.specs.declared.step.Term.{Term}
 use Rattle.step_model.specs.ErrorModels.{ErrorLine}
 use Rattle.step_model.specs.HitModels.{targets_hit, error_line_of, model_of}
 use Rattle.step_model.specs.Hits.{hits_at, hits_among}
-use Rattle.step_model.specs.Listing.{Listing, ListedStep, One, Two, Collapse, Fault, Feedback, Measured, Recorded, word_of_terms, fault_at, fault_word}
-use Rattle.step_model.specs.Sensitivities.{Sensitivity, sensitivity}
+use Rattle.step_model.specs.Listing.{Listing, ListedStep, Collapse, Fault, Measured, Recorded, word_of_terms, fault_at, fault_word}
+use Rattle.step_model.specs.Sensitivities.{sensitivity}
 use Rattle.step_model.specs.Targets.{targets_of, target_at, is_listed}
 use Rattle.step_model.specs.WellFormed.{IsWellFormed, faults_named, step_faults}
+use Rattle.step_model.proofs.HitSteps.{NamesFew, Nothing, One_fault, earlier, first_of_range, names_few, or_none, rest_of_range, unnamed}
 use Rattle.backward.specs.private.Collapses.{members_at}
 use Rattle.backward.specs.private.Passes.{sensitivity_before, tracked_before, listing_set, listing_sets, line_for, hit_at, line_at, lines_found}
 use Rattle.backward.specs.private.TargetSets.{members}
@@ -27,79 +25,10 @@ use Rattle.backward.proofs.RangeLemmas.{filter_range_agree}
 abbrev target_count : Listing → ℕ
 target_count program = length (targets_of program)
 
-first_of_range : (f k m : ℕ) (rest : List ℕ) → f ∷ rest ≡ range_with_len k m → f ≡ k
-first_of_range f k zero rest h = cc
-first_of_range f k (suc m) rest h = cc
-
-rest_of_range : (f k m : ℕ) (rest : List ℕ) → f ∷ rest ≡ range_with_len k m → (j : ℕ) × (rest ≡ range_with_len (k + 1) j)
-rest_of_range f k zero rest h = cc
-rest_of_range f k (suc m) rest h = (m, cc)
-
--- ---- what a step hits, by the faults that it names
--- the first of a list is another
-abbrev OtherFirst : ℕ → List ℕ → Type 0
-OtherFirst f [] = ⊤
-OtherFirst f (e ∷ rest) = e ≢ f
-
--- a step hits nothing with a fault that it does not name
-unnamed : (program : Listing) (f : ℕ) (step : ListedStep) (s : Sensitivity) (named : List ℕ) → step_faults step ≡ named → OtherFirst f named → hits_at program f step s ≡ false
-unnamed program f (One gate q) s named e h = refl
-unnamed program f (Two gate a b) s named e h = refl
-unnamed program f (Collapse c None) s named e h = refl
-unnamed program f (Collapse c (Some r)) s named e h = by_flip r.flip refl
-  where
-    by_flip : (flip : Option ℕ) → r.flip ≡ flip → hits_at program f (Collapse c (Some r)) s ≡ false
-    by_flip None p = ap (λ flip. hits_at program f (Collapse c (Some (record r { flip = flip }))) s) p
-    by_flip (Some g) p =
-        let is : g ∷ [] ≡ named = ap option_to_list (sym p) ∙ e in
-        let other : g ≢ f = subst (OtherFirst f) (sym is) h in
-        ap (λ flip. hits_at program f (Collapse c (Some (record r { flip = flip }))) s) p ∙ ap (λ b. b && is_listed s.records r.number) (ne_eqb g f other)
-unnamed program f (Fault g) s named e h =
-    let other : g ≢ f = subst (OtherFirst f) (sym e) h in
-    ap (λ b. b && anticommute s.word (fault_word program f)) (ne_eqb g f other)
-unnamed program f (Feedback w r) s named e h = refl
-
--- a step names one fault or none
-pub data NamesFew (named : List ℕ) : Type 0 where
-  Nothing : named ≡ [] → NamesFew named
-  One_fault : (e : ℕ) → named ≡ e ∷ [] → NamesFew named
-
-names_few : (step : ListedStep) → NamesFew (step_faults step)
-names_few (One gate q) = Nothing refl
-names_few (Two gate a b) = Nothing refl
-names_few (Collapse c None) = Nothing refl
-names_few (Collapse c (Some r)) = by_flip r.flip
-  where
-    by_flip : (flip : Option ℕ) → NamesFew (option_to_list flip)
-    by_flip None = Nothing refl
-    by_flip (Some g) = One_fault g refl
-names_few (Fault f) = One_fault f refl
-names_few (Feedback w r) = Nothing refl
-
 -- ---- all steps
 -- the line of a fault for what it hits at these steps
 abbrev line_among : Listing → List ListedStep → ℕ → List ErrorLine
 line_among program steps f = line_for (fault_at program f).text (filter (λ d. hits_among program (target_at program d) f steps) (range_with_len 0 (target_count program)))
-
--- a fault before all that these steps name hits nothing at them
-earlier : (program : Listing) (named : List ℕ) (f : ℕ) (steps : List ListedStep) (k m : ℕ) → faults_named steps ≡ range_with_len k m → f < k → hits_among program named f steps ≡ false
-earlier program named f [] k m h less = refl
-earlier program named f (step ∷ steps) k m h less = by_names (names_few step) (λ a b p q. earlier program named f steps a b p q)
-  where
-    s : Sensitivity
-    s = sensitivity program.qubits named steps
-
-    by_names : NamesFew (step_faults step) → ((a b : ℕ) → faults_named steps ≡ range_with_len a b → f < a → hits_among program named f steps ≡ false) → hits_among program named f (step ∷ steps) ≡ false
-    by_names (Nothing none) later_hits =
-        ap₂ exclusive_or (unnamed program f step s [] none tt)
-        (later_hits k m (sym (ap (λ fs. fs ++ faults_named steps) none) ∙ h) less)
-    by_names (One_fault e one) later_hits =
-        let whole : e ∷ faults_named steps ≡ range_with_len k m = sym (ap (λ fs. fs ++ faults_named steps) one) ∙ h in
-        let first : e ≡ k = first_of_range e k m (faults_named steps) whole in
-        let later = rest_of_range e k m (faults_named steps) whole in
-        ap₂ exclusive_or
-        (unnamed program f step s (e ∷ []) one (λ p. omega (arith, p, first, less)))
-        (later_hits (k + 1) later.0 later.1 (omega (arith, less)))
 
 reverse_line : (text ts : List ℕ) → reverse (line_for text ts) ≡ line_for text ts
 reverse_line text [] = refl
@@ -112,7 +41,7 @@ others_same program step steps k zero none = refl
 others_same program step steps k (suc m) none =
     ap₂ (λ hit rest. line_for (fault_at program k).text hit ++ rest)
     (filter_range_agree (λ d. hits_among program (target_at program d) k steps) (λ d. hits_among program (target_at program d) k (step ∷ steps)) 0 (target_count program)
-    (λ d lt. ap (λ b. exclusive_or b (hits_among program (target_at program d) k steps)) (sym (none (target_at program d) k (omega arith)))))
+    (λ d lt. ap (λ b. b || hits_among program (target_at program d) k steps) (sym (none (target_at program d) k (omega arith)))))
     (others_same program step steps (k + 1) m (λ named f le. none named f (omega (arith, le))))
 
 pub lines_found-among : (program : Listing) (steps : List ListedStep) (k m : ℕ) → faults_named steps ≡ range_with_len k m → lines_found program steps ≡ reverse (flat_map (line_among program steps) (range_with_len k m))
@@ -134,8 +63,8 @@ lines_found-among program (step ∷ steps) k m h = by_names (names_few step) (λ
         let own : line_among program (step ∷ steps) e ≡ line_at program step steps e =
         ap (line_for (fault_at program e).text)
         (filter_range_agree (λ d. hits_among program (target_at program d) e (step ∷ steps)) (λ d. hits_at program e step (sensitivity_before program steps d)) 0 (target_count program)
-        (λ d lt. ap (exclusive_or (hits_at program e step (sensitivity_before program steps d))) (earlier program (target_at program d) e steps (k + 1) later.0 later.1 (omega (arith, first)))
-        ∙ exclusive_or-false (hits_at program e step (sensitivity_before program steps d)))) in
+        (λ d lt. ap (λ b. hits_at program e step (sensitivity_before program steps d) || b) (earlier program (target_at program d) e steps (k + 1) later.0 later.1 (omega (arith, first)))
+        ∙ or_none (hits_at program e step (sensitivity_before program steps d)))) in
         let found : lines_found program steps ≡ reverse rest =
         found_later (k + 1) later.0 later.1
         ∙ ap reverse (others_same program step steps (k + 1) later.0 (λ named f le. unnamed program f step (sensitivity program.qubits named steps) (e ∷ []) one (λ p. omega (arith, p, first, le)))) in

@@ -9,7 +9,8 @@ use Rattle.pauli_word.specs.Words.{letters_power, anticommute, signed}
 use Rattle.pauli_word.proofs.Parities.{exclusive_or-false, exclusive_or_self, exclusive_or_middle, same_truth, same_truth-true, at_four_truths}
 use Rattle.run_laws.specs.Constants.{sign_brought, signs_brought}
 use Rattle.run_laws.specs.Duality.{AddsUp, OneFaultLaw, odd_hits_among}
-use Rattle.step_model.specs.Hits.{is_flip_of, hits_at, hits_among, is_hit}
+use Rattle.step_model.specs.Hits.{is_flip_of, hits_at, is_hit}
+use Rattle.step_model.proofs.HitSteps.{hits_oddly, oddly}
 use Rattle.gate_table.specs.WordImages.{preimage_at, preimage_at_two}
 use Rattle.step_model.specs.Listing.{ListedStep, One, Two, Collapse, Fault, Feedback, Recorded, measured_word, Listing, fault_word, effect_at}
 use Rattle.step_model.specs.Runs.{happens, flip_happens, records_of}
@@ -113,12 +114,12 @@ and_exclusive_or true b c = refl
 and_exclusive_or false b c = refl
 
 -- the faults that happen and hit at these steps
-hits_in_all : (program : Listing) (happening : List Bool) (named : List ℕ) (steps : List ListedStep) → AllPass (step_fits program) steps → sum_over (λ f. happens happening f && hits_among program named f steps) (range_with_len 0 (length program.faults)) ≡ flipped_among program happening named steps
+hits_in_all : (program : Listing) (happening : List Bool) (named : List ℕ) (steps : List ListedStep) → AllPass (step_fits program) steps → sum_over (λ f. happens happening f && hits_oddly program named f steps) (range_with_len 0 (length program.faults)) ≡ flipped_among program happening named steps
 hits_in_all program happening named [] fits =
     sum_over-never (λ f. happens happening f && false) (λ f. and_right (happens happening f) false refl) (range_with_len 0 (length program.faults))
 hits_in_all program happening named (step ∷ steps) fits =
-    sum_over-split (λ f. happens happening f && hits_among program named f (step ∷ steps)) (λ f. happens happening f && hits_at program f step s) (λ f. happens happening f && hits_among program named f steps)
-    (λ f. and_exclusive_or (happens happening f) (hits_at program f step s) (hits_among program named f steps))
+    sum_over-split (λ f. happens happening f && hits_oddly program named f (step ∷ steps)) (λ f. happens happening f && hits_at program f step s) (λ f. happens happening f && hits_oddly program named f steps)
+    (λ f. and_exclusive_or (happens happening f) (hits_at program f step s) (hits_oddly program named f steps))
     (range_with_len 0 (length program.faults))
     ∙ ap₂ exclusive_or
     (hits_at_step program happening step s (fits 0 step (omega arith)))
@@ -126,6 +127,11 @@ hits_in_all program happening named (step ∷ steps) fits =
   where
     s : Sensitivity
     s = sensitivity program.qubits named steps
+
+-- sums of what is the same for each
+sum_same : (g h : ℕ → Bool) → ((f : ℕ) → g f ≡ h f) → (fs : List ℕ) → sum_over g fs ≡ sum_over h fs
+sum_same g h same [] = refl
+sum_same g h same (f ∷ fs) = ap₂ exclusive_or (same f) (sum_same g h same fs)
 
 -- the definition's sum is this one
 odd_hits_among-sum : (program : Listing) (d : ℕ) (happening : List Bool) (faults : List ℕ) → odd_hits_among program d happening faults ≡ sum_over (λ f. happens happening f && is_hit program d f) faults
@@ -137,6 +143,9 @@ faults_add_up program d fits none happening first second =
     ap₂ exclusive_or (parity-brought program d fits none happening first) (parity-brought program d fits none [] second)
     ∙ difference program happening (target_at program d) program.steps
     ∙ sym (hits_in_all program happening (target_at program d) program.steps fits.steps_fit)
+    ∙ sym (sum_same (λ f. happens happening f && is_hit program d f) (λ f. happens happening f && hits_oddly program (target_at program d) f program.steps)
+    (λ f. ap (λ b. happens happening f && b) (oddly program (target_at program d) f program.steps 0 (length program.faults) fits.faults_in_order))
+    (range_with_len 0 (length program.faults)))
     ∙ sym (odd_hits_among-sum program d happening (range_with_len 0 (length program.faults)))
 
 -- what two parities differ by is what both differ from a third by

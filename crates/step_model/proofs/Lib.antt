@@ -3,3 +3,4 @@ pub mod MemoryLemmas
 pub mod RangeLemmas
 pub mod StateIsGroup
 pub mod StepNumbers
+pub mod HitSteps

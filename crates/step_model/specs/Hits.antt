@@ -1,12 +1,9 @@
 -- Which faults hit a target: a fault hits it where its word anticommutes with the sensitivity of the target just after
 -- it, or where it flips a record that the sensitivity there lists an odd number of times. (Gottesman,
 -- arXiv:quant-ph/9807006: words carried through a circuit; Stim's detector error model format.)
-use Rattle.std.specs.Prelude.{◌==◌, ℕ, Bool, false, ◌&&◌, List, [], ◌∷◌, length, Option, None, Some}
-use Rattle.std.specs.List.{range_with_len}
-use Rattle.pauli_word.specs.Parity.{exclusive_or}
+use Rattle.std.specs.Prelude.{◌==◌, ℕ, Bool, false, ◌&&◌, ◌||◌, List, [], ◌∷◌, Option, None, Some}
 use Rattle.pauli_word.specs.Words.{anticommute}
-use Rattle.step_model.specs.Listing.{Listing, ListedStep, One, Two, Collapse, Fault, Feedback, Recorded, fault_word}
-use Rattle.step_model.specs.Runs.{happens}
+use Rattle.step_model.specs.Listing.{Listing, ListedStep, Collapse, Fault, Recorded, fault_word}
 use Rattle.step_model.specs.Targets.{target_at}
 use Rattle.step_model.specs.Sensitivities.{Sensitivity, sensitivity, record_counts}
 
@@ -26,11 +23,11 @@ hits_at program f (Collapse c r) s = is_recorded_flip f r && record_counts s.rec
 hits_at program f (Fault g) s = g == f && anticommute s.word (fault_word program f)
 hits_at program f step s = false
 
--- whether a fault hits the target with these records at an odd number of these steps, which are the program's last
+-- whether a fault hits the target with these records at one of these steps, which are the program's last
 abbrev pub hits_among : Listing → List ℕ → ℕ → List ListedStep → Bool
 hits_among program named f [] = false
 hits_among program named f (step ∷ steps) =
-    exclusive_or (hits_at program f step (sensitivity program.qubits named steps)) (hits_among program named f steps)
+    hits_at program f step (sensitivity program.qubits named steps) || hits_among program named f steps
 
 -- whether a fault hits a target
 abbrev pub is_hit : Listing → ℕ → ℕ → Bool
