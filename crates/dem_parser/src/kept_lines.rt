@@ -41,7 +41,7 @@ impl<'a, A: Allocator + Copy> Model for KeptLines<'a, A> {
 fn line_of_rare<'t, 'a>(text: &'a [u8], rare: Rare, numbers: &'t [i64]) -> Option<TableLine<'t, 'a>>
     requires { IsRareKept text.now rare numbers.now }
     ensures { MatchOption result (HasNoLine (Some (item_of_rare text.now rare)))
-        (λ line. (Does (instruction_of line) ≡ item_of_rare text.now rare) × IsTableLine line) }
+        (λ line. (InstructionLine (instruction_of line) ≡ item_of_rare text.now rare) × IsTableLine line) }
 {
     match rare {
         Rare::Line {
@@ -87,7 +87,7 @@ impl<'a, A: Allocator + Copy> KeptLines<'a, A> {
     #[inline(always)]
     pub(crate) fn push_error(&mut self, at: usize, extent: Extent) -> Result<(), AllocError>
         requires { IsKept self.old.text at PauliError extent 0 [] }
-        ensures { IfOk result (λ _. self.new ≡ with_item self.old (Does (instruction_at self.old.text at PauliError))) }
+        ensures { IfOk result (λ _. self.new ≡ with_item self.old (InstructionLine (instruction_at self.old.text at PauliError))) }
     {
         self.entries.push(Entry::Error {
             observables: extent.observables,
@@ -135,7 +135,7 @@ impl<'a, A: Allocator + Copy> KeptLines<'a, A> {
     pub(crate) fn line_at(&self, place: usize) -> Option<TableLine<'_, 'a>>
         ensures few { IfSome result (λ line. place < 2 ^ 63) }
         ensures line { MatchOption result (HasNoLine (slice_get self.now.items place))
-            (λ line. (Some (Does (instruction_of line)) ≡ slice_get self.now.items place) × IsTableLine line) }
+            (λ line. (Some (InstructionLine (instruction_of line)) ≡ slice_get self.now.items place) × IsTableLine line) }
     {
         if place >= self.entries.len() {
             return None;

@@ -64,7 +64,7 @@ impl<'a, A: Allocator + Copy> LineReader<'a, A> {
         requires fits { Fits (instruction_at self.old.lines.text at operation) }
         requires arguments { arguments_in arguments.now ≡ (instruction_at self.old.lines.text at operation).arguments }
         requires targets { self.old.targets.items ≡ (instruction_at self.old.lines.text at operation).targets }
-        ensures lines { IfOk result (λ _. self.new.lines ≡ with_item self.old.lines (Does (instruction_at self.old.lines.text at operation))) }
+        ensures lines { IfOk result (λ _. self.new.lines ≡ with_item self.old.lines (InstructionLine (instruction_at self.old.lines.text at operation))) }
         ensures opened { IfOk result (λ _. self.new.opened.items ≡ self.old.opened.items) }
     {
         let extent = extent_of(self.targets.as_slice());
