@@ -19,7 +19,7 @@ mod PieceLemmas
 mod PieceValueLemmas
 mod SignificantLemmas
 pub mod FitLemmas
-mod CircuitFits
+pub mod CircuitFits
 mod CoordinateLemmas
 mod WrittenLemmas
 pub mod TargetNumbers

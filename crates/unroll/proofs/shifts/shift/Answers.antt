@@ -32,4 +32,4 @@ returns-in-CoordinateShift c =
 
 pub returns-in_default : goal.returns-in_default
 returns-in_default c =
-    sym (unshifted c.args.offset.now (instruction_in c.args.instruction) c.in_default.not-ShiftsCoordinates)
+    sym (unshifted c.args.offset.now (instruction_in c.args.instruction) c.in_default.not-CoordinateShift)
