@@ -3,3 +3,4 @@ pub mod FindingLemmas
 pub mod PlacedLemmas
 pub mod QuietRuns
 pub mod ServingLemmas
+pub mod RefusedLemmas

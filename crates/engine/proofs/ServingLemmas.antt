@@ -26,14 +26,14 @@ not_refused : (program : Listing) (found : Option (ℕ × Place)) → (finding p
 not_refused program None h = cc
 not_refused program (Some f) h = cc
 
-same_program : (p q : Listing) → Ok {E = Fault} p ≡ Ok q → p ≡ q
+same_program : (p q : Listing) → ◌≡◌ {A = Result Listing Fault} (Ok p) (Ok q) → p ≡ q
 same_program p q h = cc
 
 module _ (Goes : List ℕ → Type 0) (text : List ℕ) (status : Status) where
-  Exact : Type 0
+  abbrev Exact : Type 0
   Exact = status ≡ Done → (bytes : List ℕ) × Goes bytes × IsExactFor text bytes
 
-  Randoms : Type 0
+  abbrev Randoms : Type 0
   Randoms = status ≡ Random → (bytes : List ℕ) × Goes bytes × IsRandomFor text bytes
 
   is_decided : status ≡ (output_of Analyze text).status → Exact → Randoms → IsDecided text status
@@ -41,18 +41,18 @@ module _ (Goes : List ℕ → Type 0) (text : List ℕ) (status : Status) where
     where
       named : status ≡ Random → HasRandomTarget program
       named e =
-          let found = (random e).1.1 in
+          let found = (random e).2 in
           let r = found.random in
           let same = same_program found.program program (sym found.stands_for ∙ stands) in
           subst HasRandomTarget same
-          (r.target, (r.in_range, (r.first, (r.second, (r.first_coins, (r.second_coins, r.disagree))))))
+          (r.target, r.in_range, (r.first, r.second, r.first_coins, r.second_coins, r.disagree))
 
       decide : HasRandomTarget program → (s : Status) → status ≡ s → status ≡ Random
       decide has Done e =
-          let found = (exact e).1.1 in
+          let found = (exact e).2 in
           let same = same_program program found.program (sym stands ∙ found.stands_for) in
           let there = subst HasRandomTarget same has in
-          absurd (found.exact.none_random there.0 there.1.0 there.1.1)
+          absurd (found.exact.none_random there.0 there.1 there.2)
       decide has Refused e =
           let output = ap (λ r. (refused_or r).status) (found_of_text text program stands) in
           absurd (not_refused program (lowest_placed program) (sym output ∙ (sym is ∙ e)))

@@ -1,4 +1,6 @@
 //! A batch of runs in which two qubits are measured alike: each run's outcomes are its coin.
+ghost use Rattle.std.specs.Prelude.{◌<◌};
+
 use crate::tests::NOTHING;
 use crate::tests::worked::made;
 use batch::Batch;
