@@ -17,6 +17,20 @@ pub struct Place {
     pub turns: ArrayVec<u64, LEVELS>,
 }
 
+impl Place {
+    /// The same place.
+    pub(crate) fn copy(&self) -> Self
+        ensures { result ≡ self.now }
+    {
+        let mut turns = ArrayVec::new();
+        let _fits = turns.try_extend_from_slice(self.turns.as_slice());
+        Place {
+            index: self.index,
+            turns,
+        }
+    }
+}
+
 // The node after a place.
 #[inline(always)]
 fn node_at(nodes: &[Node], index: usize) -> Option<Node>

@@ -71,6 +71,27 @@ impl<'a, 'p, A: Allocator + Copy> Walk<'a, 'p, A> {
         }
     }
 
+    /// A walk at the same place.
+    pub fn copy(&self) -> Self
+        ensures { result ≡ self.now }
+    {
+        Walk {
+            program: self.program,
+            text: self.text,
+            place: self.place.copy(),
+            counts: self.counts,
+            steps: self.steps,
+        }
+    }
+
+    /// How many steps are before the place.
+    #[inline(always)]
+    pub fn place(&self) -> usize
+        ensures { result ≡ self.now.place }
+    {
+        self.steps
+    }
+
     /// Answers the step after this place and goes over it. None at the end, where nothing changes.
     #[inline(always)]
     pub fn next_step(&mut self) -> Option<Step>
