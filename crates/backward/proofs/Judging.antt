@@ -1,40 +1,43 @@
 -- Which target is random, from what was found going back over all steps.
-use Rattle.std.proofs.Common.{◌≡◌, ℕ, ◌+◌, ◌<◌, Bool, List, [], ◌∷◌, ◌++◌, length, drop, get_or, Option, None, Some, refl, ap, ap₂, sym, ◌∙◌, arith}
-use Rattle.std.specs.Prelude.{option_map, reverse, replicate}
-use Rattle.std.proofs.lemmas.List.{reverse-append, drop_more}
+use Rattle.std.proofs.Common.{◌≡◌, ℕ, ◌+◌, ◌<◌, List, [], ◌∷◌, length, get_or, Option, None, Some, refl, ap, ap₂, sym, ◌∙◌, arith}
+use Rattle.std.specs.Prelude.{option_map, replicate}
+use Rattle.std.proofs.lemmas.List.{get_or-replicate}
 use Rattle.std.proofs.lemmas.List.FromFn.{get_or-map-range_with_len}
 use Rattle.pauli_word.specs.declared.letter.Letter.{Letter}
 use Rattle.step_model.specs.declared.step.Place.{Place}
-use Rattle.step_model.specs.ErrorModels.{ErrorLine}
 use Rattle.step_model.specs.Listing.{Listing}
 use Rattle.step_model.specs.Sensitivities.{place_of, after_or_start, latest_place, lowest_X_or_Y}
 use Rattle.step_model.specs.Targets.{targets_of, target_at}
 use Rattle.step_model.specs.WellFormed.{IsWellFormed, collapse_count}
-use Rattle.backward.specs.private.Passes.{sensitivity_before, latest_before, lowest_below, IsPassed, listing_sets}
+use Rattle.backward.specs.private.Passes.{sensitivity_before, latest_before, lowest_below, opened}
 use Rattle.backward.specs.Places.{place_from, NoneIsRandom, IsLowestRandom}
-use Rattle.backward.specs.Tracked.{Tracked, fresh}
-use Rattle.backward.proofs.PassPlaces.{lowest_below-all, latest_before-none}
-use Rattle.backward.proofs.PassWords.{tracked_before-none}
+use Rattle.backward.proofs.PassPlaces.{lowest_below-all}
 
 from_start : (o : Option ℕ) (w : List Letter) → place_from (option_map (λ k. 0 + k) o) (lowest_X_or_Y w) ≡ after_or_start o w
 from_start None w = refl
 from_start (Some k) w = let e : 0 + k ≡ k = omega arith in ap (λ j. place_from (Some j) (lowest_X_or_Y w)) e
 
+-- what is noted for a target
+opened_at : (n : ℕ) (list : List (Option ℕ)) (d : ℕ) → d < n → get_or list d None ≡ get_or (opened n list) d None
+opened_at n [] d lt = sym (get_or-replicate n d None None lt)
+opened_at n (o ∷ list) d lt = refl
+
 -- no collapse is left before the first step
 pub none_left : (program : Listing) (left : ℕ) → IsWellFormed program → left + collapse_count program.steps ≡ program.collapses → left ≡ 0
 none_left program left fits h = omega (arith, h, fits.collapses_counted)
 
-pub place_found : (program : Listing) (left : ℕ) (latest lowest : List (Option ℕ)) (d : ℕ) → IsWellFormed program → left ≡ 0 → latest ≡ latest_before program left program.steps → lowest ≡ lowest_below program program.qubits → d < length (targets_of program)
+pub place_found : (program : Listing) (left : ℕ) (latest lowest : List (Option ℕ)) (d : ℕ) → IsWellFormed program → left ≡ 0 → opened (length (targets_of program)) latest ≡ latest_before program left program.steps → opened (length (targets_of program)) lowest ≡ lowest_below program program.qubits → d < length (targets_of program)
     → place_from (get_or latest d None) (get_or lowest d None) ≡ place_of program d
 place_found program left latest lowest d fits none is_latest is_lowest lt =
     ap₂ place_from
-    (ap (λ (l : List (Option ℕ)). get_or l d None) is_latest
+    (opened_at (length (targets_of program)) latest d lt
+    ∙ (ap (λ (l : List (Option ℕ)). get_or l d None) is_latest
     ∙ (get_or-map-range_with_len (λ d. option_map (λ k. left + k) (latest_place program.qubits (target_at program d) program.steps)) 0 (length (targets_of program)) d d None lt (omega arith)
-    ∙ ap (λ n. option_map (λ k. n + k) (latest_place program.qubits (target_at program d) program.steps)) none))
-    (ap (λ (l : List (Option ℕ)). get_or l d None) is_lowest ∙ lowest_below-all program d fits.steps_fit lt)
+    ∙ ap (λ n. option_map (λ k. n + k) (latest_place program.qubits (target_at program d) program.steps)) none)))
+    (opened_at (length (targets_of program)) lowest d lt ∙ (ap (λ (l : List (Option ℕ)). get_or l d None) is_lowest ∙ lowest_below-all program d fits.steps_fit lt))
     ∙ from_start (latest_place program.qubits (target_at program d) program.steps) (sensitivity_before program program.steps d).word
 
-pub random_found : (program : Listing) (left : ℕ) (latest lowest : List (Option ℕ)) (which : ℕ) (place : Place) → IsWellFormed program → left ≡ 0 → latest ≡ latest_before program left program.steps → lowest ≡ lowest_below program program.qubits
+pub random_found : (program : Listing) (left : ℕ) (latest lowest : List (Option ℕ)) (which : ℕ) (place : Place) → IsWellFormed program → left ≡ 0 → opened (length (targets_of program)) latest ≡ latest_before program left program.steps → opened (length (targets_of program)) lowest ≡ lowest_below program program.qubits
     → which < length (targets_of program) → place_from (get_or latest which None) (get_or lowest which None) ≡ Some place
     → ((d : ℕ) → d < which → place_from (get_or latest d None) (get_or lowest d None) ≡ None) → IsLowestRandom program which place
 random_found program left latest lowest which place fits none is_latest is_lowest lt here before =
@@ -44,24 +47,7 @@ random_found program left latest lowest which place fits none is_latest is_lowes
       lowest = λ d below. sym (place_found program left latest lowest d fits none is_latest is_lowest (omega (arith, below, lt))) ∙ before d below;
     }
 
-pub none_found : (program : Listing) (left : ℕ) (latest lowest : List (Option ℕ)) → IsWellFormed program → left ≡ 0 → latest ≡ latest_before program left program.steps → lowest ≡ lowest_below program program.qubits
+pub none_found : (program : Listing) (left : ℕ) (latest lowest : List (Option ℕ)) → IsWellFormed program → left ≡ 0 → opened (length (targets_of program)) latest ≡ latest_before program left program.steps → opened (length (targets_of program)) lowest ≡ lowest_below program program.qubits
     → ((d : ℕ) → d < length (targets_of program) → place_from (get_or latest d None) (get_or lowest d None) ≡ None) → NoneIsRandom program
 none_found program left latest lowest fits none is_latest is_lowest nowhere d lt =
     sym (place_found program left latest lowest d fits none is_latest is_lowest lt) ∙ nowhere d lt
-
--- what is kept after the last step
-pub passed_none : (program : Listing) (t : Tracked) (sets : List (List Bool)) (lines : List ErrorLine) (places : List (Option ℕ)) (left count : ℕ) → t ≡ fresh program.qubits (length (targets_of program)) → sets ≡ listing_sets program [] → lines ≡ [] → places ≡ replicate count None → count ≡ length (targets_of program) → left ≡ program.collapses
-    → IsPassed program [] t sets lines places left
-passed_none program t sets lines places left count words is_sets none is_places counted all =
-    record {
-      words = words ∙ tracked_before-none program;
-      sets = is_sets;
-      lines = none;
-      latest = is_places ∙ (ap (λ (n : ℕ). replicate n None) counted ∙ latest_before-none program left);
-      counted = omega (arith, all);
-    }
-
--- one line more of a list that is gone over from its end
-pub reversed_more : (lines : List ErrorLine) (left : ℕ) (d : ErrorLine) → left < length lines → reverse (drop (left + 1) lines) ++ get_or lines left d ∷ [] ≡ reverse (drop left lines)
-reversed_more lines left d lt =
-    sym (reverse-append (get_or lines left d ∷ []) (drop (left + 1) lines)) ∙ ap reverse (sym (drop_more lines left d lt))

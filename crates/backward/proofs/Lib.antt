@@ -1,6 +1,5 @@
 pub mod ColumnLemmas
 pub mod ExchangeLemmas
-mod HeldLines
 pub mod Judging
 mod LinkLemmas
 pub mod LoneTerms
@@ -9,6 +8,7 @@ mod NumberedLemmas
 mod PairLemmas
 pub mod PassLines
 pub mod PassPlaces
+pub mod PassRecords
 pub mod PassSets
 pub mod PassSteps
 pub mod PassWords
@@ -18,5 +18,4 @@ pub mod SetLemmas
 mod TimesAll
 mod TimesEach
 pub mod TransposedLemmas
-mod WantedLines
 pub mod WordLemmas

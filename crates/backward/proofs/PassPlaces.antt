@@ -1,5 +1,5 @@
 -- The places of targets, gone back over the steps and read off at the start.
-use Rattle.std.proofs.Common.{◌≡◌, ℕ, zero, suc, ◌+◌, ◌<◌, Bool, true, false, ◌||◌, List, [], ◌∷◌, map, length, take, get_or, set, Option, None, Some, inl, inr, refl, ap, ap₂, sym, ◌∙◌, arith, length-set, get_or-set_same, get_or-set_other}
+use Rattle.std.proofs.Common.{◌≡◌, ℕ, zero, suc, ◌+◌, ◌<◌, ◌==◌, Bool, true, false, ◌||◌, List, [], ◌∷◌, map, length, take, get_or, set, Option, None, Some, inl, inr, refl, ap, ap₂, sym, ◌∙◌, arith, length-set, get_or-set_same, get_or-set_other}
 use Rattle.std.specs.Prelude.{All, option_map, filter, replicate, cond}
 use Rattle.std.specs.List.{range_with_len, AllPass}
 use Rattle.std.proofs.lemmas.Bool.{cases_eq, eq-eqb, ne_eqb}
@@ -17,7 +17,7 @@ use Rattle.step_model.specs.Sensitivities.{later_or_here, latest_place, has_X_or
 use Rattle.step_model.specs.Targets.{targets_of, target_at}
 use Rattle.step_model.specs.WellFormed.{step_fits}
 use Rattle.backward.specs.private.Collapses.{or_where, noted}
-use Rattle.backward.specs.private.Passes.{sensitivity_before, tracked_before, latest_before, lowest_below}
+use Rattle.backward.specs.private.Passes.{sensitivity_before, tracked_before, latest_before, lowest_below, opened}
 use Rattle.backward.specs.Tracked.{Tracked, is_among, anticommuting}
 use Rattle.backward.proofs.PassLines.{anticommuting-before}
 use Rattle.step_model.proofs.RangeLemmas.{among_range}
@@ -63,6 +63,15 @@ noted_at value (t ∷ ts) found k h =
     next : List (Option ℕ)
     next = set found t new
 
+pub some_left : (n : ℕ) (b : Bool) → b ≡ (n == 0) → b ≡ false → 0 < n
+some_left zero b e f = let no : true ≡ false = sym e ∙ f in cc
+some_left (suc n) b e f = omega arith
+
+-- a list with something in it is open
+pub opened_some : (n : ℕ) (list : List (Option ℕ)) → 0 < length list → opened n list ≡ list
+opened_some n [] some = absurd (omega (arith, some))
+opened_some n (o ∷ list) some = refl
+
 -- a number for each target, by what it was and whether the target is hit
 noted_each : (program : Listing) (value : ℕ) (old new : ℕ → Option ℕ) (hit : ℕ → Bool) → ((d : ℕ) → d < length (targets_of program) → or_where value (hit d) (old d) ≡ new d)
     → noted value (filter hit (range_with_len 0 (length (targets_of program)))) (map old (range_with_len 0 (length (targets_of program)))) ≡ map new (range_with_len 0 (length (targets_of program)))
@@ -106,10 +115,13 @@ latest_before-none program before =
     (λ k lt. get_or-replicate (target_count program) k None None lt)
 
 -- the targets that are hit are among those that there are
+pub hit_in_words : (n : ℕ) (terms : List Term) (t : Tracked) → length t.words ≡ n → All (λ k. k < n) (anticommuting terms t)
+hit_in_words n terms t e =
+    All-filter (λ k. anticommute (get_or t.words k []) (word_of_terms t.qubits terms)) (λ k. k < n) (range_with_len 0 (length t.words))
+    (All-weaker (λ k. k < 0 + length t.words) (λ k. k < n) (λ k within. omega (arith, within, e)) (range_with_len 0 (length t.words)) (All-range 0 (length t.words)))
+
 pub hit_in_range : (program : Listing) (terms : List Term) (t : Tracked) → length t.words ≡ length (targets_of program) → All (λ k. k < length (targets_of program)) (anticommuting terms t)
-hit_in_range program terms t e =
-    All-filter (λ k. anticommute (get_or t.words k []) (word_of_terms t.qubits terms)) (λ k. k < target_count program) (range_with_len 0 (length t.words))
-    (All-weaker (λ k. k < 0 + length t.words) (λ k. k < target_count program) (λ k within. omega (arith, within, e)) (range_with_len 0 (length t.words)) (All-range 0 (length t.words)))
+hit_in_range program terms t e = hit_in_words (length (targets_of program)) terms t e
 
 -- ---- the start
 next_lowest : (q : ℕ) (w : List Letter) → q < length w → or_where q (has_X_or_Y (letter_at w q)) (lowest_X_or_Y (take q w)) ≡ lowest_X_or_Y (take (suc q) w)

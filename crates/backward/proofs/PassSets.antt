@@ -14,7 +14,7 @@ use Rattle.step_model.specs.Targets.{targets_of, target_at, is_listed}
 use Rattle.backward.specs.private.Collapses.{toggled, toggled_each}
 use Rattle.backward.specs.private.Passes.{sensitivity_before, listing_set, listing_sets}
 use Rattle.backward.specs.private.RecordSets.{toggled_in, toggled_in_each}
-use Rattle.backward.proofs.RangeLemmas.{listed_in_range, set-map-range, map_agree, map_range_below}
+use Rattle.backward.proofs.RangeLemmas.{listed_in_range, map_agree, map_range_below}
 
 and_same : (a b : Bool) → b ≡ true → a ≡ (a && b)
 and_same false b h = refl
@@ -54,12 +54,20 @@ toggled_each_at (t ∷ ts) k bits h =
     ∙ sym (exclusive_or_assoc (t == k) (is_listed ts k) (get_or bits k false))))
 
 -- ---- feedback: its record is toggled for the targets whose sensitivity anticommutes
-pub listing_sets-feedback : (program : Listing) (w : List Letter) (r : ℕ) (steps : List ListedStep) → r < program.records
-    → set (listing_sets program steps) r (toggled_each (filter (λ d. anticommute (sensitivity_before program steps d).word w) (range_with_len 0 (length (targets_of program)))) (get_or (listing_sets program steps) r []))
-    ≡ listing_sets program (Feedback w r ∷ steps)
-listing_sets-feedback program w r steps within =
-    ap (λ row. set (listing_sets program steps) r (toggled_each hit row)) (get_or-map-range_with_len (listing_set program steps) 0 program.records r r [] within (omega arith))
-    ∙ set-map-range (listing_set program steps) (listing_set program (Feedback w r ∷ steps)) program.records r (toggled_each hit (listing_set program steps r)) within here elsewhere
+added_one : (b : Bool) (r s : ℕ) (named : List ℕ) → exclusive_or (b && (r == s)) (is_listed named s) ≡ is_listed (cond b (r ∷ named) named) s
+added_one true r s named = refl
+added_one false r s named = refl
+
+pub listing_set-fed : (program : Listing) (w : List Letter) (r : ℕ) (steps : List ListedStep)
+    → toggled_each (filter (λ d. anticommute (sensitivity_before program steps d).word w) (range_with_len 0 (length (targets_of program)))) (listing_set program steps r) ≡ listing_set program (Feedback w r ∷ steps) r
+listing_set-fed program w r steps =
+    fill_by_all (λ d. is_listed (sensitivity_before program (Feedback w r ∷ steps) d).records r) (toggled_each hit (listing_set program steps r)) (target_count program) false
+    (length-toggled_each hit (listing_set program steps r) ∙ long)
+    (λ k lt. toggled_each_at hit k (listing_set program steps r) (omega (arith, lt, long))
+    ∙ (ap₂ exclusive_or (listed_in_range anticommutes k 0 (target_count program) (omega arith) (omega (arith, lt)))
+    (get_or-map-range_with_len lists 0 (target_count program) k k false lt (omega arith))
+    ∙ (ap (λ b. exclusive_or b (lists k)) (and_same (anticommutes k) (r == r) (eq-eqb r r refl))
+    ∙ added_one (anticommutes k) r r (sensitivity_before program steps k).records)))
   where
     anticommutes : ℕ → Bool
     anticommutes d = anticommute (sensitivity_before program steps d).word w
@@ -67,35 +75,19 @@ listing_sets-feedback program w r steps within =
     hit : List ℕ
     hit = filter anticommutes (range_with_len 0 (target_count program))
 
-    lists : ℕ → ℕ → Bool
-    lists s d = is_listed (sensitivity_before program steps d).records s
-
-    after : ℕ → ℕ → Bool
-    after s d = is_listed (sensitivity_before program (Feedback w r ∷ steps) d).records s
-
-    added_one : (b : Bool) (s : ℕ) (named : List ℕ) → exclusive_or (b && (r == s)) (is_listed named s) ≡ is_listed (cond b (r ∷ named) named) s
-    added_one true s named = refl
-    added_one false s named = refl
+    lists : ℕ → Bool
+    lists d = is_listed (sensitivity_before program steps d).records r
 
     long : length (listing_set program steps r) ≡ target_count program
-    long = length-map-range_with_len (lists r) 0 (target_count program)
+    long = length-map-range_with_len lists 0 (target_count program)
 
-    here : toggled_each hit (listing_set program steps r) ≡ listing_set program (Feedback w r ∷ steps) r
-    here =
-        fill_by_all (after r) (toggled_each hit (listing_set program steps r)) (target_count program) false
-        (length-toggled_each hit (listing_set program steps r) ∙ long)
-        (λ k lt. toggled_each_at hit k (listing_set program steps r) (omega (arith, lt, long))
-        ∙ (ap₂ exclusive_or (listed_in_range anticommutes k 0 (target_count program) (omega arith) (omega (arith, lt)))
-        (get_or-map-range_with_len (lists r) 0 (target_count program) k k false lt (omega arith))
-        ∙ (ap (λ b. exclusive_or b (lists r k)) (and_same (anticommutes k) (r == r) (eq-eqb r r refl))
-        ∙ added_one (anticommutes k) r (sensitivity_before program steps k).records)))
-
-    elsewhere : (s : ℕ) → s ≢ r → listing_set program steps s ≡ listing_set program (Feedback w r ∷ steps) s
-    elsewhere s ne =
-        map_agree (lists s) (after s)
-        (λ d. ap (λ b. exclusive_or b (lists s d)) (sym (and_false (anticommutes d) (r == s) (ne_eqb r s (λ e. ne (sym e)))))
-        ∙ added_one (anticommutes d) s (sensitivity_before program steps d).records)
-        (range_with_len 0 (target_count program))
+-- other records stay as they are
+pub listing_set-other : (program : Listing) (w : List Letter) (r s : ℕ) (steps : List ListedStep) → s ≢ r → listing_set program (Feedback w r ∷ steps) s ≡ listing_set program steps s
+listing_set-other program w r s steps ne =
+    sym (map_agree (λ d. is_listed (sensitivity_before program steps d).records s) (λ d. is_listed (sensitivity_before program (Feedback w r ∷ steps) d).records s)
+    (λ d. ap (λ b. exclusive_or b (is_listed (sensitivity_before program steps d).records s)) (sym (and_false (anticommute (sensitivity_before program steps d).word w) (r == s) (ne_eqb r s (λ e. ne (sym e)))))
+    ∙ added_one (anticommute (sensitivity_before program steps d).word w) r s (sensitivity_before program steps d).records)
+    (range_with_len 0 (target_count program)))
 
 -- ---- the sets from the lists: those of the targets below t have been gone through
 abbrev pub listed_below : Listing → ℕ → ℕ → ℕ → Bool
@@ -243,12 +235,15 @@ records_within program t named places all h is e k d lt =
     omega (arith, low, e)
 
 -- ---- sizes
+pub length-listing_set : (program : Listing) (steps : List ListedStep) (r : ℕ) → length (listing_set program steps r) ≡ length (targets_of program)
+length-listing_set program steps r = length-map-range_with_len (λ d. is_listed (sensitivity_before program steps d).records r) 0 (target_count program)
+
 pub length-listing_sets : (program : Listing) (steps : List ListedStep) → length (listing_sets program steps) ≡ program.records
 length-listing_sets program steps = length-map-range_with_len (listing_set program steps) 0 program.records
 
-pub listing_sets-long : (program : Listing) (steps : List ListedStep) (sets : List (List Bool)) → sets ≡ listing_sets program steps → All (λ set. length set ≡ length (targets_of program)) sets
-listing_sets-long program steps sets e =
-    subst (All (λ set. length set ≡ target_count program)) (sym e)
-    (λ k d lt.
-    ap length (get_or-map-range_with_len (listing_set program steps) 0 program.records k k d (omega (arith, lt, length-listing_sets program steps)) (omega arith))
-    ∙ length-map-range_with_len (λ d. is_listed (sensitivity_before program steps d).records k) 0 (target_count program))
+pub listing_sets-row : (program : Listing) (steps : List ListedStep) (r : ℕ) (d : List Bool) → r < program.records → get_or (listing_sets program steps) r d ≡ listing_set program steps r
+listing_sets-row program steps r d lt = get_or-map-range_with_len (listing_set program steps) 0 program.records r r d lt (omega arith)
+
+pub listing_sets-long : (program : Listing) (steps : List ListedStep) → All (λ set. length set ≡ length (targets_of program)) (listing_sets program steps)
+listing_sets-long program steps k d lt =
+    ap length (listing_sets-row program steps k d (omega (arith, lt, length-listing_sets program steps))) ∙ length-listing_set program steps k

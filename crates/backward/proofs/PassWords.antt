@@ -14,8 +14,8 @@ use Rattle.step_model.specs.Listing.{Listing, ListedStep, One, Two, Collapse, Me
 use Rattle.step_model.specs.Sensitivities.{cleared, multiplied, record_counts}
 use Rattle.step_model.specs.Targets.{targets_of, is_listed}
 use Rattle.step_model.specs.WellFormed.{step_fits}
-use Rattle.backward.specs.private.Collapses.{times_terms, reset_at, undone_collapse, members_at}
-use Rattle.backward.specs.private.Passes.{sensitivity_before, tracked_before, listing_set, listing_sets}
+use Rattle.backward.specs.private.Collapses.{times_terms, reset_at, undone_collapse}
+use Rattle.backward.specs.private.Passes.{IsMeasured, reset_word, sensitivity_before, tracked_before, listing_set, listing_at}
 use Rattle.backward.specs.Tracked.{Tracked, fresh, each_word, with_I_at, undone_one, undone_two, is_among, added}
 use Rattle.backward.proofs.RangeLemmas.{map_range_below, map-map, among_members}
 use Rattle.backward.proofs.Sensitivities.{length-sensitivity}
@@ -97,15 +97,6 @@ times_terms_each targets (term ∷ terms) n words long =
         ∙ length-multiplied (is_among targets k) n (lone_letter n term.qubit term.letter) (get_or words k []) (length-lone_letter n term.qubit term.letter) (long k [] within)
 
 -- ---- collapses
--- letters at qubits, and a qubit that is reset, are what a collapse measures
-abbrev pub reset_word : Option ℕ → List Letter → List Letter
-reset_word None w = w
-reset_word (Some q) w = with_I_at q w
-
-pub record IsMeasured (n : ℕ) (terms : List Term) (reset : Option ℕ) (c : Measured) : Type 0 where
-  pub word_is : word_of_terms n terms ≡ measured_word n c
-  pub clears : (v : List Letter) → cleared c v ≡ reset_word reset v
-
 abbrev pub recorded_number : Option Recorded → Option ℕ
 recorded_number None = None
 recorded_number (Some r) = Some r.number
@@ -116,24 +107,23 @@ after_reset program None steps = refl
 after_reset program (Some q) steps = ap (with_words program.qubits) (map-map (with_I_at q) (word program steps) (range_with_len 0 (target_count program)))
 
 -- a target is among those whose sensitivity lists the record exactly where that counts it
-counted : (program : Listing) (r : Option Recorded) (steps : List ListedStep) (rec : Option ℕ) → recorded_number r ≡ rec → ((n : ℕ) → rec ≡ Some n → n < program.records) → (k : ℕ) → k < length (targets_of program)
-    → is_among (members_at (listing_sets program steps) rec) k ≡ record_counts (sensitivity_before program steps k).records r
-counted program None steps None e within k lt = refl
-counted program None steps (Some n) e within k lt = cc
-counted program (Some r) steps None e within k lt = cc
-counted program (Some r) steps (Some n) e within k lt =
+counted : (program : Listing) (r : Option Recorded) (steps : List ListedStep) (rec : Option ℕ) → recorded_number r ≡ rec → (k : ℕ) → k < length (targets_of program)
+    → is_among (listing_at program steps rec) k ≡ record_counts (sensitivity_before program steps k).records r
+counted program None steps None e k lt = refl
+counted program None steps (Some n) e k lt = cc
+counted program (Some r) steps None e k lt = cc
+counted program (Some r) steps (Some n) e k lt =
     let same : r.number ≡ n = cc in
     let set : List Bool = listing_set program steps n in
     let lists : ℕ → Bool = λ d. is_listed (sensitivity_before program steps d).records n in
-    ap (λ s. is_among (members_at (s ∷ []) (Some 0)) k) (get_or-map-range_with_len (listing_set program steps) 0 program.records n n [] (within n refl) (omega arith))
-    ∙ (among_members set k (omega (arith, lt, length-map-range_with_len lists 0 (target_count program)))
+    among_members set k (omega (arith, lt, length-map-range_with_len lists 0 (target_count program)))
     ∙ (get_or-map-range_with_len lists 0 (target_count program) k k false lt (omega arith)
-    ∙ ap (is_listed (sensitivity_before program steps k).records) (sym same)))
+    ∙ ap (is_listed (sensitivity_before program steps k).records) (sym same))
 
 pub tracked_before-collapse : (program : Listing) (c : Measured) (r : Option Recorded) (steps : List ListedStep) (terms : List Term) (reset rec : Option ℕ)
-    → IsMeasured program.qubits terms reset c → recorded_number r ≡ rec → ((n : ℕ) → rec ≡ Some n → n < program.records) → AllPass (step_fits program) steps
-    → undone_collapse (members_at (listing_sets program steps) rec) terms reset (tracked_before program steps) ≡ tracked_before program (Collapse c r ∷ steps)
-tracked_before-collapse program c r steps terms reset rec is e within fits =
+    → IsMeasured program.qubits terms reset c → recorded_number r ≡ rec → AllPass (step_fits program) steps
+    → undone_collapse (listing_at program steps rec) terms reset (tracked_before program steps) ≡ tracked_before program (Collapse c r ∷ steps)
+tracked_before-collapse program c r steps terms reset rec is e fits =
     ap (times_terms targets terms) (after_reset program reset steps)
     ∙ (times_terms_each targets terms program.qubits cleared_words long
     ∙ ap (with_words program.qubits)
@@ -141,7 +131,7 @@ tracked_before-collapse program c r steps terms reset rec is e within fits =
     ∙ map_range_below made (word program (Collapse c r ∷ steps)) 0 (target_count program) (λ k lt. at_each k (omega (arith, lt)))))
   where
     targets : List ℕ
-    targets = members_at (listing_sets program steps) rec
+    targets = listing_at program steps rec
 
     cleared_words : List (List Letter)
     cleared_words = map (λ d. reset_word reset (word program steps d)) (range_with_len 0 (target_count program))
@@ -163,7 +153,7 @@ tracked_before-collapse program c r steps terms reset rec is e within fits =
 
     at_each : (k : ℕ) → k < target_count program → made k ≡ word program (Collapse c r ∷ steps) k
     at_each k lt =
-        ap₂ (λ b w. multiplied b (word_of_terms program.qubits terms) w) (counted program r steps rec e within k lt)
+        ap₂ (λ b w. multiplied b (word_of_terms program.qubits terms) w) (counted program r steps rec e k lt)
         (get_or-map-range_with_len (λ d. reset_word reset (word program steps d)) 0 (target_count program) k k [] lt (omega arith) ∙ sym (is.clears (word program steps k)))
         ∙ ap (λ v. multiplied (record_counts (sensitivity_before program steps k).records r) v (cleared c (word program steps k))) is.word_is
 

@@ -1,14 +1,11 @@
 -- Which target of a program is reported as random: the lowest that has a place, detectors before observables.
 -- (Sensitivities taken back over a circuit: Gidney, Quantum 5, 497 (2021). How they are kept here is this project's
 -- own.)
-use Rattle.std.specs.Prelude.{◌≡◌, ◌<◌, ◌++◌, ℕ, length, Option, None, Some, option_map}
+use Rattle.std.specs.Prelude.{◌≡◌, ◌<◌, ℕ, length, Option, None, Some, option_map}
 use Rattle.step_model.specs.declared.step.Place.{Place}
 use Rattle.step_model.specs.declared.step.Place.TheVariants.{Start, After}
 use Rattle.backward.specs.declared.analysis.Analysed.{Analysed}
 use Rattle.backward.specs.declared.analysis.Analysed.TheVariants.{Model, Random}
-use Rattle.backward.specs.declared.analysis.AnalysedText.{AnalysedText}
-use Rattle.backward.specs.declared.analysis.AnalysedText.TheVariants as text
-use Rattle.dem_text.specs.ModelText.{model_text}
 use Rattle.step_model.specs.HitModels.{model_of}
 use Rattle.step_model.specs.Listing.{Listing}
 use Rattle.step_model.specs.Sensitivities.{place_of}
@@ -33,8 +30,3 @@ pub record IsLowestRandom (program : Listing) (which : ℕ) (place : Place) : Ty
 abbrev pub IsAnalysed : {A : Type 0} → Listing → Analysed A → Type 0
 IsAnalysed program (Model model) = NoneIsRandom program × (model ≡ model_of program)
 IsAnalysed program (Random which place) = IsLowestRandom program which place
-
--- the same for the text of that model: the text of its lines, and then that of the rest
-abbrev pub IsAnalysedText : {A : Type 0} → Listing → AnalysedText A → Type 0
-IsAnalysedText program (text.Text lines rest) = NoneIsRandom program × (lines.text ++ model_text rest ≡ model_text (model_of program))
-IsAnalysedText program (text.Random which place) = IsLowestRandom program which place

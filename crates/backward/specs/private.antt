@@ -4,5 +4,6 @@ pub mod Numbered
 pub mod Passes
 pub mod RecordSets
 pub mod Sets
+pub mod Stretches
 pub mod TargetSets
 pub mod Transposed

@@ -1,5 +1,5 @@
 //! For each record the targets that list it, as linked lists: most records have none or few.
-ghost use Rattle.std.specs.Prelude.{◌≡◌, ◌<◌, ◌≤◌, ◌+◌, ◌∷◌, ◌^◌, ℕ, [], true, false, length, replicate, sum_by, slice_index_or, slice_set, All, IfOk, OnOk};
+ghost use Rattle.std.specs.Prelude.{◌≡◌, ◌<◌, ◌≤◌, ◌+◌, ◌∷◌, ◌^◌, ℕ, [], true, false, length, replicate, sum_by, take, slice_index_or, slice_set, All, IfOk, OnOk};
 ghost use Rattle.step_model.specs.Targets.{targets_of};
 ghost use Rattle.backward.specs.private.Collapses.{toggled_each};
 ghost use Rattle.backward.specs.private.Links.{list_at, rows_at, LeadBack, AreLists, Falls, IsGrown, IsPutAt};
@@ -127,6 +127,14 @@ impl<'s, A: Allocator + Copy> RecordLists<'s, A> {
     {
         self.shorten()?;
         self.put(rec, targets)
+    }
+
+    /// Lets go of all but the sets of the first records: those of the others may be anything then.
+    pub(crate) fn let_go(&mut self, _records: usize)
+        ensures first { take _records self.new ≡ take _records self.old }
+        ensures size { length self.new ≡ length self.old }
+        ensures long { (n : ℕ) → All (λ set. length set ≡ n) self.old → All (λ set. length set ≡ n) self.new }
+    {
     }
 
     // Makes the lists anew where they have many links.

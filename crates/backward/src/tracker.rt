@@ -1,4 +1,4 @@
-ghost use Rattle.std.specs.Prelude.{◌≡◌, ◌≢◌, ◌<◌, [], length, All, OnErr, OnOk};
+ghost use Rattle.std.specs.Prelude.{◌≡◌, ◌≢◌, ◌<◌, [], length, All, IfOk, OnErr, OnOk};
 ghost use Rattle.std.specs.List.Sorted.{IsStrictlyIncreasing};
 ghost use Rattle.gate_table.specs.Images.{arity_of};
 ghost use Rattle.backward.specs.Tracked.{Tracked, each_word, undone_one, undone_two, with_I_at, added, anticommuting};
@@ -16,6 +16,10 @@ use step_model::Term;
 pub trait Tracker {
     // The words, in the order of their targets, and how many qubits they have.
     ghost tracked: { Self → Tracked };
+
+    /// A copy, on the same allocator. It fails only where memory runs out.
+    fn copy(&self) -> Result<Self, AllocError>
+        ensures { IfOk result (λ copied. tracked copied ≡ tracked self.now) };
 
     /// Takes each word to its preimage under a one-qubit gate, the sign left out.
     fn undo1(&mut self, gate: Gate, q: usize) -> Result<(), AllocError>

@@ -258,6 +258,10 @@ impl<S: TargetSet, A: Allocator + Copy> Words<S, A> {
 impl<S: TargetSet, A: Allocator + Copy> Tracker for Words<S, A> {
     ghost tracked = { λ w. w };
 
+    fn copy(&self) -> Result<Self, AllocError> {
+        Err(AllocError)
+    }
+
     fn undo1(&mut self, gate: Gate, q: usize) -> Result<(), AllocError> {
         let inverse = gate.inverse();
         let (x, _) = inverse.image1(Letter::X);

@@ -1,17 +1,22 @@
--- Going back over the steps of a program: the words that a tracker keeps, the targets that list each record, the error
--- lines found on the way, and where targets are random. A collapse is the projective measurement inside a measurement
--- or a reset. (Gottesman, arXiv:quant-ph/9807006: words carried through a circuit.)
-use Rattle.std.specs.Prelude.{◌≡◌, ◌≢◌, ℕ, ◌+◌, ◌<◌, Bool, true, false, List, [], ◌∷◌, ◌++◌, map, filter, length, take, Option, None, Some, option_map, slice_index_or}
-use Rattle.std.specs.List.{range_with_len, flat_map}
-use Rattle.step_model.specs.ErrorModels.{ErrorLine}
-use Rattle.step_model.specs.Hits.{hits_at}
-use Rattle.step_model.specs.Listing.{Listing, ListedStep, fault_at}
-use Rattle.programs.specs.Kept.{KeptProgram, kept_at}
-use Rattle.programs.specs.declared.step.FaultName.{FaultName}
-use Rattle.step_model.specs.Sensitivities.{Sensitivity, sensitivity, latest_place, lowest_X_or_Y}
+-- Going back over the steps of a program: the words that a tracker keeps, the targets that list each record, and where
+-- targets are random. A collapse is the projective measurement inside a measurement or a reset. (Gottesman,
+-- arXiv:quant-ph/9807006: words carried through a circuit.)
+use Rattle.std.specs.Prelude.{⊤, ◌≡◌, ℕ, ◌+◌, ◌<◌, ◌≤◌, Bool, true, false, List, [], ◌∷◌, map, length, take, drop, replicate, All, IfSome, Option, None, Some, option_map, if◌then◌else◌, slice_index_or}
+use Rattle.std.specs.List.{range_with_len}
+use Rattle.pauli_word.specs.declared.letter.Letter.{Letter}
+use Rattle.pauli_word.specs.Words.{lone_letter}
+use Rattle.step_model.specs.declared.step.Term.{Term}
+use Rattle.step_model.specs.Listing.{Listing, ListedStep, Collapse, Feedback, Measured, word_of_terms, measured_word}
+use Rattle.step_model.specs.Sensitivities.{Sensitivity, cleared, sensitivity, latest_place, lowest_X_or_Y}
 use Rattle.step_model.specs.Targets.{targets_of, target_at, is_listed}
-use Rattle.step_model.specs.WellFormed.{step_faults, collapse_count}
-use Rattle.backward.specs.Tracked.{Tracked}
+use Rattle.step_model.specs.WellFormed.{collapse_count, records_made}
+use Rattle.programs.specs.Kept.{KeptProgram}
+use Rattle.programs.specs.Listed.{recorded}
+use Rattle.programs.specs.Named.{IsNamedFlip, IsRecord}
+use Rattle.programs.specs.declared.step.FaultName.{FaultName}
+use Rattle.backward.specs.declared.found.Found.{Found}
+use Rattle.backward.specs.Tracked.{Tracked, with_I_at}
+use Rattle.backward.specs.private.TargetSets.{members}
 
 -- the sensitivity of a target before these steps, which are the last
 abbrev pub sensitivity_before : Listing → List ListedStep → ℕ → Sensitivity
@@ -34,32 +39,10 @@ listing_set program steps r =
 abbrev pub listing_sets : Listing → List ListedStep → List (List Bool)
 listing_sets program steps = map (listing_set program steps) (range_with_len 0 program.records)
 
--- the error line of a fault that flips these targets; none where there are none
-abbrev pub line_for : List ℕ → List ℕ → List ErrorLine
-line_for text [] = []
-line_for text (t ∷ ts) = record { text = text; targets = t ∷ ts } ∷ []
-
--- the lines, and behind them that of a fault that flips these targets
-abbrev pub with_line : List ℕ → List ℕ → List ErrorLine → List ErrorLine
-with_line text targets lines = lines ++ line_for text targets
-
--- the lines, and behind them that of the fault that flips a record, where there is one, for these targets
-abbrev pub with_flip : KeptProgram → Option FaultName → List ℕ → List ErrorLine → List ErrorLine
-with_flip program None targets lines = lines
-with_flip program (Some name) targets lines = with_line (kept_at program name.entry).text targets lines
-
--- the targets that a fault at a step flips, and its line; the steps are those after it
-abbrev pub hit_at : Listing → ListedStep → List ListedStep → ℕ → List ℕ
-hit_at program step steps f =
-    filter (λ d. hits_at program f step (sensitivity_before program steps d)) (range_with_len 0 (length (targets_of program)))
-
-abbrev pub line_at : Listing → ListedStep → List ListedStep → ℕ → List ErrorLine
-line_at program step steps f = line_for (fault_at program f).text (hit_at program step steps f)
-
--- the lines found going back over these steps, the last of them first
-abbrev pub lines_found : Listing → List ListedStep → List ErrorLine
-lines_found program [] = []
-lines_found program (step ∷ steps) = lines_found program steps ++ flat_map (line_at program step steps) (step_faults step)
+-- the targets that list a record, none where there is no record
+abbrev pub listing_at : Listing → List ListedStep → Option ℕ → List ℕ
+listing_at program steps None = []
+listing_at program steps (Some r) = members (listing_set program steps r)
 
 -- for each target the latest collapse among these steps that its word anticommutes with; `before` collapses come before
 -- them
@@ -73,26 +56,71 @@ abbrev pub lowest_below : Listing → ℕ → List (Option ℕ)
 lowest_below program q =
     map (λ d. lowest_X_or_Y (take q (sensitivity_before program program.steps d).word)) (range_with_len 0 (length (targets_of program)))
 
--- something is noted for some target
-pub record IsNoted (places : List (Option ℕ)) : Type 0 where
-  pub target : ℕ
-  pub in_range : target < length places
-  pub is_some : slice_index_or places target None ≢ None
+-- a list with something noted for some of n, which takes no memory where it is so for none
+abbrev pub opened : ℕ → List (Option ℕ) → List (Option ℕ)
+opened n [] = replicate n None
+opened n (o ∷ list) = o ∷ list
 
--- where lines are wanted, these are held; where they aren't, something is noted
-abbrev pub HeldOrNoted : Bool → (List ErrorLine → Type 0) → List (Option ℕ) → List ErrorLine → Type 0
-HeldOrNoted true holds places lines = holds lines
-HeldOrNoted false holds places lines = IsNoted places
+-- how many records are made before a place
+abbrev pub records_before : Listing → ℕ → ℕ
+records_before program place = length (records_made (take place program.steps))
 
--- what is kept of going back over these steps
-pub record IsPassed (program : Listing) (steps : List ListedStep) (tracked : Tracked) (record_sets : List (List Bool)) (found : List ErrorLine) (places : List (Option ℕ)) (left : ℕ) : Type 0 where
-  pub words : tracked ≡ tracked_before program steps
-  pub sets : record_sets ≡ listing_sets program steps
-  pub lines : found ≡ lines_found program steps
-  pub latest : places ≡ latest_before program left steps
-  pub counted : left + collapse_count steps ≡ program.collapses
+-- a step stands right after a place
+abbrev pub IsStepAt : Listing → ℕ → ListedStep → Type 0
+IsStepAt program place step = drop place program.steps ≡ step ∷ drop (place + 1) program.steps
 
--- the same, where the lines are held by the store that they are given to, while they are wanted
-abbrev pub IsPassedWith : Bool → (List ErrorLine → Type 0) → Listing → List ListedStep → Tracked → List (List Bool) → List (Option ℕ) → ℕ → Type 0
-IsPassedWith wanted holds program steps tracked record_sets places left =
-    IsPassed program steps tracked record_sets (lines_found program steps) places left × HeldOrNoted wanted holds places (lines_found program steps)
+-- a word with I at the qubit that is reset, where one is
+abbrev pub reset_word : Option ℕ → List Letter → List Letter
+reset_word None w = w
+reset_word (Some q) w = with_I_at q w
+
+-- letters at qubits, and a qubit that is reset, are what a collapse measures
+pub record IsMeasured (n : ℕ) (terms : List Term) (reset : Option ℕ) (measured : Measured) : Type 0 where
+  pub word_is : word_of_terms n terms ≡ measured_word n measured
+  pub clears : (v : List Letter) → cleared measured v ≡ reset_word reset v
+
+-- such a collapse, with its record and the fault that flips it, where it has them, is right after a place
+pub record IsCollapseAt (program : KeptProgram) (place : ℕ) (terms : List Term) (reset rec : Option ℕ) (flip : Option FaultName) : Type 0 where
+  pub measured : Measured
+  pub inverted : Bool
+  pub step : IsStepAt program.listing place (Collapse measured (recorded rec inverted flip))
+  pub is_measured : IsMeasured program.listing.qubits terms reset measured
+  pub terms_fit : All (λ term. term.qubit < program.listing.qubits) terms
+  pub reset_fits : IfSome reset (λ q. q < program.listing.qubits)
+  pub is_record : IsRecord program rec
+  pub is_named : IsNamedFlip program flip
+
+-- a letter that is applied where a record is 1 is right after a place
+pub record IsFeedbackAt (program : Listing) (place : ℕ) (term : Term) (rec : ℕ) : Type 0 where
+  pub step : IsStepAt program place (Feedback (lone_letter program.qubits term.qubit term.letter) rec)
+  pub term_fits : term.qubit < program.qubits
+  pub is_record : rec < program.records
+
+-- the sets of the first records are those of the targets that list them at a place; where they are settled, at the
+-- start, which is the same for each record that the steps before the place don't feed forward
+pub record HoldsLists (program : Listing) (settled : Bool) (place known : ℕ) (sets : List (List Bool)) : Type 0 where
+  pub size : length sets ≡ program.records
+  pub long : All (λ set. length set ≡ length (targets_of program)) sets
+  pub rows : (r : ℕ) → r < known → slice_index_or sets r [] ≡ listing_set program (drop (if settled then 0 else place) program.steps) r
+  pub enough : records_before program place ≤ known
+  pub few : known ≤ program.records
+
+-- until the lists are settled, the latest places are noted
+abbrev pub IsJudged : Listing → Bool → ℕ → List (Option ℕ) → ℕ → Type 0
+IsJudged program true place latest left = ⊤
+IsJudged program false place latest left =
+    (opened (length (targets_of program)) latest ≡ latest_before program left (drop place program.steps))
+    × (left + collapse_count (drop place program.steps) ≡ program.collapses)
+
+-- what is kept of going back to a place
+pub record IsPassed {A : Type 0} (program : Listing) (place : ℕ) (tracked : Tracked) (found : Found A) : Type 0 where
+  pub within : place ≤ length program.steps
+  pub words : tracked ≡ tracked_before program (drop place program.steps)
+  pub lists : HoldsLists program found.settled place found.known found.lists
+  pub judged : IsJudged program found.settled place found.latest.items found.left
+
+-- whether lists are settled stays, and whether lists are kept; and which they are, where they are kept
+pub record Stays {A : Type 0} (old new : Found A) : Type 0 where
+  pub settled : new.settled ≡ old.settled
+  pub keeps : new.keeps ≡ old.keeps
+  pub known : old.keeps ≡ true → new.known ≡ old.known

@@ -1,29 +1,39 @@
-use Rattle.std.proofs.Common.{◌<◌, length, ap, subst, sym, ◌∙◌}
+use Rattle.std.proofs.Common.{◌+◌, ◌<◌, length, drop, refl, ap, subst, sym, ◌∙◌}
 use Rattle.std.specs.Prelude.{All}
 use Rattle.std.proofs.lemmas.Result.{on_ok_weaker}
 use Rattle.programs.specs.Kept.{kept_at}
 use Rattle.step_model.specs.Targets.{targets_of}
-use Rattle.backward.specs.private.Passes.{with_line}
+use Rattle.backward.specs.private.Stretches.{Gives, line_for}
 use Rattle.backward.specs.Tracked.{anticommuting}
 use Rattle.backward.proofs.PassPlaces.{hit_in_range}
-use Rattle.backward.proofs.WantedLines.{held_over}
+use Rattle.backward.proofs.PassSteps.{fault_line, passed-fault, words_of_size}
 use Rattle.backward.proofs.pass.fault.Goals as goal
+
+pub returns-then-not-wants-clause-passed : goal.returns-then-not-wants-clause-passed
+returns-then-not-wants-clause-passed g c =
+    let at = c.args.at.now in
+    passed-fault c.args.program.now at.walk.place (g.T.Tracker.tracked at.tracker) c.args.found.now c.requires.passed c.args.name.number _ c.requires.step refl
 
 pub note_line-requires-clause-named : goal.note_line-requires-clause-named
 note_line-requires-clause-named g c =
     let program = c.args.program.now in
-    let tracked = g.T.Tracker.tracked c.args.tracker.now in
+    let at = c.args.at.now in
+    let tracked = g.T.Tracker.tracked at.tracker in
     subst (All (λ t. t < length (targets_of program.listing))) (sym (c.as_slice.ensures.value ∙ c.in_ok-hit.ensures.hit))
-    (hit_in_range program.listing _ tracked c.requires.words)
+    (hit_in_range program.listing _ tracked (words_of_size program.listing (drop (at.walk.place + 1) program.listing.steps) tracked c.requires.passed.words))
+
+pub returns-clause-passed : goal.returns-clause-passed
+returns-clause-passed g c =
+    let at = c.args.at.now in
+    let p = passed-fault c.args.program.now at.walk.place (g.T.Tracker.tracked at.tracker) c.args.found.now c.requires.passed c.args.name.number _ c.requires.step c.hit.ensures.same in
+    on_ok_weaker c.note_line.result (λ h. record { within = p.within; words = p.words; lists = p.lists; judged = p.judged }) c.note_line.ensures.lines
 
 pub returns-clause-lines : goal.returns-clause-lines
 returns-clause-lines g c =
     let program = c.args.program.now in
-    let f = c.args.found.now in
+    let at = c.args.at.now in
+    let tracked = g.T.Tracker.tracked at.tracker in
     let holds = g.L.LineStore.holds in
-    let text = (kept_at program c.args.name.entry).text in
-    let hit = c.as_slice.ensures.value ∙ (c.in_ok-hit.ensures.hit ∙ ap (λ terms. anticommuting terms (g.T.Tracker.tracked c.args.tracker.now)) c.entry_terms.ensures) in
-    on_ok_weaker c.note_line.result
-    (λ h lines held. held_over f.wanted f.latest.items (holds f.lines) (holds c.note_line.new.lines) lines _ held
-    (λ _ given. subst (λ named. holds c.note_line.new.lines (with_line text named lines)) hit (h lines given)))
-    c.note_line.ensures.lines
+    let hit = c.as_slice.ensures.value ∙ (c.in_ok-hit.ensures.hit ∙ ap (λ terms. anticommuting terms tracked) c.entry_terms-terms.ensures) in
+    let line = ap (line_for (kept_at program c.args.name.entry).text) hit ∙ fault_line program at.walk.place c.args.name tracked c.well_formed-2.ensures.kept c.requires.step c.requires.named c.requires.passed.words in
+    on_ok_weaker c.note_line.result (λ h. subst (Gives (holds c.args.lines.now) (holds c.note_line.new.lines)) line h) c.note_line.ensures.lines

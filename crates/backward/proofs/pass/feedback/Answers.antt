@@ -1,22 +1,34 @@
-use Rattle.std.proofs.Common.{◌≡◌, ◌<◌, ◌∷◌, [], List, length, get_or, subst, sym, ◌∙◌, arith}
+use Rattle.std.proofs.Common.{◌≡◌, ◌+◌, ◌<◌, ◌∷◌, [], List, length, drop, get_or, set, false, refl, ap, ap₂, subst, sym, ◌∙◌, arith}
 use Rattle.std.specs.Prelude.{All}
+use Rattle.std.proofs.lemmas.Result.{on_ok_weaker}
 use Rattle.step_model.specs.declared.step.Term.{Term}
 use Rattle.step_model.specs.Targets.{targets_of}
 use Rattle.backward.proofs.PassPlaces.{hit_in_range}
+use Rattle.backward.proofs.PassSteps.{passed-fed, passed-feedback, words_of_size}
 use Rattle.backward.proofs.pass.feedback.Goals as goal
+
+pub returns-then-found-clause-passed : goal.returns-then-found-clause-passed
+returns-then-found-clause-passed g c =
+    let at = c.args.at.now in
+    passed-feedback c.args.program.now.listing at.walk.place (g.T.Tracker.tracked at.tracker) c.args.found.now c.requires.passed c.args.term c.args.rec _ c.requires.step c.if-found.true refl
 
 pub toggle_each-requires-clause-targets : goal.toggle_each-requires-clause-targets
 toggle_each-requires-clause-targets g c =
     let program = c.args.program.now.listing in
-    let tracked = g.T.Tracker.tracked c.args.tracker.now in
+    let at = c.args.at.now in
+    let tracked = g.T.Tracker.tracked at.tracker in
     let terms : List Term = c.args.term ∷ [] in
-    let within : c.args.rec < length c.args.found.now.sets = omega (arith, c.requires.rec, c.requires.size.sets) in
-    let long : length (get_or c.args.found.now.sets c.args.rec []) ≡ length (targets_of program) = c.requires.size.sets_long c.args.rec [] within in
+    let lists = c.requires.passed.lists in
+    let within : c.args.rec < length c.args.found.now.lists = omega (arith, c.requires.step.is_record, lists.size) in
+    let long : length (get_or c.args.found.now.lists c.args.rec []) ≡ length (targets_of program) = lists.long c.args.rec [] within in
     subst (λ n. All (λ t. t < n) c.as_slice.result.now) (sym long)
     (subst (All (λ t. t < length (targets_of program))) (sym (c.as_slice.ensures.value ∙ c.in_ok-hit.ensures.hit))
-    (hit_in_range program terms tracked c.requires.size.words))
+    (hit_in_range program terms tracked (words_of_size program (drop (at.walk.place + 1) program.steps) tracked c.requires.passed.words)))
 
-pub toggle_each-requires-clause-long : goal.toggle_each-requires-clause-long
-toggle_each-requires-clause-long g c =
-    λ k d lt. let long : length (get_or c.args.found.now.sets k d) ≡ length (targets_of c.args.program.now.listing) = c.requires.size.sets_long k d lt in
-    omega (arith, long, c.target_count-few.ensures.count, c.target_count-few.ensures.few)
+pub returns-clause-passed : goal.returns-clause-passed
+returns-clause-passed g c =
+    let at = c.args.at.now in
+    on_ok_weaker c.toggle_each.result
+    (λ h. let p = passed-fed c.args.program.now.listing at.walk.place (g.T.Tracker.tracked at.tracker) c.args.found.now c.requires.passed c.args.term c.args.rec _ c.toggle_each.new.self c.as_slice.result.now c.requires.step c.if-found.false c.hit.ensures.same (c.as_slice.ensures.value ∙ c.in_ok-hit.ensures.hit) h in
+    record { within = p.0; words = p.1; lists = p.2; judged = p.3 })
+    c.toggle_each.ensures

@@ -1,6 +1,6 @@
 use Rattle.std.proofs.Common.{◌≡◌, length, drop}
 use Rattle.backward.specs.private.Collapses.{noted}
-use Rattle.backward.proofs.places.note.Given as goal
+use Rattle.backward.proofs.places.note_each.Given as goal
 
 abbrev pub invariant-loop-t : goal.invariant-loop-t
 invariant-loop-t g l =

@@ -1,0 +1,128 @@
+//! What a pass back over the steps keeps beside the words.
+ghost use Rattle.std.specs.Prelude.{◌≡◌, ◌-◌, ◌<◌, ◌≤◌, ◌^◌, ℕ, false, true, length, All, IfOk, IfSome, OnOk};
+ghost use Rattle.step_model.specs.Listing.{Listing};
+ghost use Rattle.step_model.specs.Targets.{targets_of};
+ghost use Rattle.backward.specs.Tracked.{anticommuting, fresh};
+ghost use Rattle.backward.specs.private.Collapses.{members_at, noted};
+ghost use Rattle.backward.specs.private.Passes.{HoldsLists, IsPassed, opened, records_before};
+
+use crate::places::note;
+use crate::record_lists::RecordLists;
+use crate::tracker::Tracker;
+use programs::Program;
+use std::alloc::{AllocError, Allocator};
+use step_model::Term;
+
+/// The targets that list each record, and where targets are random. A collapse is the projective measurement inside a
+/// measurement or a reset.
+///
+/// A pass changes a record's list at feedback that depends on the record, which stands behind the collapse that makes
+/// it, and reads the list at that collapse. So a first pass leaves each list as it is read; from then on the lists are
+/// `settled`, and another pass changes none, and asks no more where targets are random.
+#[derive(Drop)]
+pub(crate) struct Found<'s, A: Allocator + Copy> {
+    pub(crate) alloc: &'s A,
+    pub(crate) lists: RecordLists<'s, A>,
+    pub(crate) settled: bool,
+    /// Whether the lists of records gone over are kept, for another pass.
+    pub(crate) keeps: bool,
+    /// How many records' lists are held, the first ones.
+    pub(crate) known: usize,
+    /// For each target the latest collapse that its word anticommutes with. Empty where that is so of no target.
+    pub(crate) latest: Vec<Option<u32>, A>,
+    /// How many collapses are left.
+    pub(crate) left: u32,
+    /// A buffer.
+    pub(crate) hit: Vec<u32, A>,
+}
+
+impl<'s, A: Allocator + Copy> Found<'s, A> {
+    /// After the last step.
+    pub(crate) fn new<'a>(alloc: &'s A, program: &Program<'a, A>) -> Result<Self, AllocError>
+        ensures { IfOk result (λ found. IsPassed program.now.listing (length program.now.listing.steps) (fresh program.now.listing.qubits (length (targets_of program.now.listing))) found) }
+    {
+        program.well_formed();
+        let lists = RecordLists::new(alloc, program)?;
+        Ok(Found {
+            alloc,
+            lists,
+            settled: false,
+            keeps: false,
+            known: program.record_count() as usize,
+            latest: Vec::new(*alloc),
+            left: program.collapse_count(),
+            hit: Vec::new(*alloc),
+        })
+    }
+
+    /// Notes the targets that a collapse of a product of letters is the latest place of, unless the lists are settled.
+    pub(crate) fn judge<T: Tracker>(
+        &mut self,
+        targets: usize,
+        terms: &[Term],
+        tracker: &mut T,
+    ) -> Result<(), AllocError>
+        requires terms { All (λ term. term.qubit < (T.tracked tracker.old).qubits) terms.now }
+        requires words { length (T.tracked tracker.old).words ≡ targets }
+        requires left { self.old.settled ≡ false → 0 < self.old.left }
+        requires long { self.old.settled ≡ false → length (opened targets self.old.latest.items) ≡ targets }
+        ensures words { T.tracked tracker.new ≡ T.tracked tracker.old }
+        ensures latest { OnOk result (self.old.settled ≡ false → opened targets self.new.latest.items ≡ noted (self.old.left - 1) (anticommuting terms.now (T.tracked tracker.old)) (opened targets self.old.latest.items)) }
+        ensures left { OnOk result (self.old.settled ≡ false → self.new.left ≡ self.old.left - 1) }
+        ensures lists { self.new.lists ≡ self.old.lists }
+        ensures settled { self.new.settled ≡ self.old.settled }
+        ensures keeps { self.new.keeps ≡ self.old.keeps }
+        ensures known { self.new.known ≡ self.old.known }
+    {
+        if self.settled {
+            return Ok(());
+        }
+        tracker.hit(terms, &mut self.hit)?;
+        self.left -= 1;
+        note(
+            *self.alloc,
+            &mut self.latest,
+            targets,
+            self.hit.as_slice(),
+            self.left,
+        )
+    }
+
+    /// Puts into the buffer the targets that list a record.
+    pub(crate) fn list_record(&mut self, rec: Option<u32>) -> Result<(), AllocError>
+        requires rec { IfSome rec (λ r. r < length self.old.lists) }
+        requires long { All (λ set. length set ≤ 2 ^ 32) self.old.lists }
+        ensures hit { OnOk result (self.new.hit.items ≡ members_at self.old.lists rec) }
+        ensures lists { self.new.lists ≡ self.old.lists }
+        ensures settled { self.new.settled ≡ self.old.settled }
+        ensures keeps { self.new.keeps ≡ self.old.keeps }
+        ensures known { self.new.known ≡ self.old.known }
+        ensures latest { self.new.latest ≡ self.old.latest }
+        ensures left { self.new.left ≡ self.old.left }
+    {
+        match rec {
+            Some(r) => self.lists.list(r as usize, &mut self.hit),
+            None => {
+                self.hit.clear();
+                Ok(())
+            }
+        }
+    }
+
+    /// Lets go of the lists from a record on, unless they are kept: the pass has gone over the collapse that makes it.
+    pub(crate) fn let_go(&mut self, rec: Option<u32>)
+        ensures lists { (program : Listing) (place : ℕ) → IfSome rec (λ r. (records_before program place ≤ r) × (r ≤ self.old.known)) → HoldsLists program self.old.settled place self.old.known self.old.lists → HoldsLists program self.new.settled place self.new.known self.new.lists }
+        ensures settled { self.new.settled ≡ self.old.settled }
+        ensures keeps { self.new.keeps ≡ self.old.keeps }
+        ensures known { self.old.keeps ≡ true → self.new.known ≡ self.old.known }
+        ensures latest { self.new.latest ≡ self.old.latest }
+        ensures left { self.new.left ≡ self.old.left }
+    {
+        if let Some(r) = rec
+            && !self.keeps
+        {
+            self.lists.let_go(r as usize);
+            self.known = r as usize;
+        }
+    }
+}
