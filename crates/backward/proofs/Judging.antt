@@ -1,6 +1,6 @@
 -- Which target is random, from what was found going back over all steps.
 use Rattle.std.proofs.Common.{◌≡◌, ℕ, ◌+◌, ◌<◌, List, [], ◌∷◌, length, get_or, Option, None, Some, refl, ap, ap₂, sym, ◌∙◌, arith}
-use Rattle.std.specs.Prelude.{option_map, replicate}
+use Rattle.std.specs.Prelude.{option_map, replicate, IfNone, IfSome}
 use Rattle.std.proofs.lemmas.List.{get_or-replicate}
 use Rattle.std.proofs.lemmas.List.FromFn.{get_or-map-range_with_len}
 use Rattle.pauli_word.specs.declared.letter.Letter.{Letter}
@@ -51,3 +51,16 @@ pub none_found : (program : Listing) (left : ℕ) (latest lowest : List (Option 
     → ((d : ℕ) → d < length (targets_of program) → place_from (get_or latest d None) (get_or lowest d None) ≡ None) → NoneIsRandom program
 none_found program left latest lowest fits none is_latest is_lowest nowhere d lt =
     sym (place_found program left latest lowest d fits none is_latest is_lowest lt) ∙ nowhere d lt
+
+-- by cases on what is found
+pub none_weaker : {X : Type 0} (o : Option X) (P Q : Type 0) → (P → Q) → IfNone o P → IfNone o Q
+none_weaker None P Q f h = f h
+none_weaker (Some x) P Q f h = tt
+
+pub some_weaker : {X : Type 0} (o : Option X) (P Q R : X → Type 0) → ((x : X) → P x → Q x → R x) → IfSome o P → IfSome o Q → IfSome o R
+some_weaker None P Q R f p q = tt
+some_weaker (Some x) P Q R f p q = f x p q
+
+pub some_both : {X : Type 0} (o : Option X) (P Q : X → Type 0) → IfSome o P → IfSome o Q → IfSome o (λ x. P x × Q x)
+some_both None P Q p q = tt
+some_both (Some x) P Q p q = (p, q)

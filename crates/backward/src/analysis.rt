@@ -6,7 +6,6 @@ ghost use Rattle.step_model.specs.Targets.{targets_of};
 ghost use Rattle.backward.specs.Places.{IsAnalysed};
 ghost use Rattle.backward.specs.Tracked.{fresh};
 ghost use Rattle.backward.specs.private.Passes.{IsPassed};
-ghost use Rattle.backward.specs.private.Stretches.{lines_between};
 
 use crate::found::Found;
 use crate::line_store::ModelStore;
@@ -58,6 +57,7 @@ fn find_model<'a, A: Allocator + Copy, T: Tracker + Drop>(
     requires { T.tracked tracker ≡ fresh program.now.listing.qubits (length (targets_of program.now.listing)) }
     ensures { IfOk result (IsAnalysed program.now.listing) }
 {
+    program.well_formed();
     let mut found = Found::new(&alloc, program)?;
     let mut lines = ModelStore {
         program,
@@ -89,8 +89,9 @@ fn go_back<'s, 'p, 'a, A: Allocator + Copy, T: Tracker>(
     requires passed { IsPassed program.now.listing at.old.walk.place (T.tracked at.old.tracker) found.old }
     ensures first { found.new.settled ≡ false }
     ensures passed { OnOk result (IsPassed program.now.listing 0 (T.tracked at.new.tracker) found.new) }
-    ensures lines { OnOk result (lines.new.model.lines ≡ reverse (lines_between program.now.listing 0 (length program.now.listing.steps))) }
+    ensures lines { OnOk result (lines.new.model.lines ≡ reverse (model_of program.now.listing).lines) }
 {
+    program.well_formed();
     while at.walk.place() > 0 {
         step_back(program, at, found, lines)?;
     }
@@ -103,7 +104,7 @@ fn model_from<'a, A: Allocator + Copy>(
     program: &Program<'a, A>,
     found: Model<'a, A>,
 ) -> Result<Model<'a, A>, AllocError>
-    requires { found.lines ≡ reverse (lines_between program.now.listing 0 (length program.now.listing.steps)) }
+    requires { found.lines ≡ reverse (model_of program.now.listing).lines }
     ensures { IfOk result (λ model. model ≡ model_of program.now.listing) }
 {
     let coordinates = coordinates_of(alloc, program)?;

@@ -39,7 +39,8 @@ pub(crate) struct Found<'s, A: Allocator + Copy> {
 impl<'s, A: Allocator + Copy> Found<'s, A> {
     /// After the last step.
     pub(crate) fn new<'a>(alloc: &'s A, program: &Program<'a, A>) -> Result<Self, AllocError>
-        ensures { IfOk result (λ found. IsPassed program.now.listing (length program.now.listing.steps) (fresh program.now.listing.qubits (length (targets_of program.now.listing))) found) }
+        ensures first { IfOk result (λ found. found.settled ≡ false) }
+        ensures passed { IfOk result (λ found. IsPassed program.now.listing (length program.now.listing.steps) (fresh program.now.listing.qubits (length (targets_of program.now.listing))) found) }
     {
         program.well_formed();
         let lists = RecordLists::new(alloc, program)?;
