@@ -12,6 +12,7 @@ pub mod PassRecords
 pub mod PassSets
 pub mod PassSteps
 pub mod PassWords
+mod PointLemmas
 pub mod RangeLemmas
 pub mod Sensitivities
 pub mod SetLemmas

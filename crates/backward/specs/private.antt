@@ -2,6 +2,7 @@ pub mod Collapses
 pub mod Links
 pub mod Numbered
 pub mod Passes
+pub mod Points
 pub mod RecordSets
 pub mod Sets
 pub mod Stretches

@@ -9,6 +9,7 @@ mod pairs;
 mod pass;
 mod places;
 mod point;
+mod points;
 mod record_lists;
 mod sparse_set;
 mod target_set;

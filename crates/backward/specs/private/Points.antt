@@ -1,0 +1,51 @@
+-- Points left on the way back over a stretch of steps, from where other passes start; and what such a pass pushes.
+-- (Gottesman, arXiv:quant-ph/9807006: words carried through a circuit. How a pass is cut is this project's own.)
+use Rattle.std.specs.Prelude.{◌≡◌, ℕ, ◌<◌, ◌≤◌, ◌++◌, Bool, true, List, [], ◌∷◌, length, drop, All, Option}
+use Rattle.std.specs.List.{AllPairs}
+use Rattle.step_model.specs.Listing.{Listing}
+use Rattle.programs.specs.Kept.{KeptProgram}
+use Rattle.pieces.specs.Held.{Held}
+use Rattle.pieces.specs.Pushed.{Pushes}
+use Rattle.backward.specs.declared.found.Found.{Found}
+use Rattle.backward.specs.declared.point.Point.{Point}
+use Rattle.backward.specs.Tracked.{Tracked}
+use Rattle.backward.specs.private.Passes.{HoldsLists, records_before, tracked_before}
+
+-- a point's words are those at its place
+pub record IsPointOf {A T : Type 0} (tracked : T → Tracked) (program : KeptProgram) (point : Point A T) : Type 0 where
+  pub program_is : point.walk.program ≡ program
+  pub within : point.walk.place ≤ length program.listing.steps
+  pub words : tracked point.tracker ≡ tracked_before program.listing (drop point.walk.place program.listing.steps)
+
+-- the place of the first of some points, where there is one
+abbrev pub first_place : {A T : Type 0} → ℕ → List (Point A T) → ℕ
+first_place from [] = from
+first_place from (point ∷ points) = point.walk.place
+
+-- points between `from` and a cut, the first of them at the cut, each before the one in front of it
+pub record ArePoints {A T : Type 0} (tracked : T → Tracked) (program : KeptProgram) (from cut : ℕ) (points : List (Point A T)) : Type 0 where
+  pub first : first_place from points ≡ cut
+  pub each : All (IsPointOf tracked program) points
+  pub above : All (λ point. from < point.walk.place) points
+  pub below : All (λ point. point.walk.place ≤ cut) points
+  pub fall : AllPairs (λ early late. late.walk.place < early.walk.place) points
+
+-- a point was left: a copy of this one behind those that there were
+pub record IsLeft {A T : Type 0} (tracked : T → Tracked) (at : Point A T) (old new : List (Point A T)) : Type 0 where
+  pub point : Point A T
+  pub walk : point.walk ≡ at.walk
+  pub words : tracked point.tracker ≡ tracked at.tracker
+  pub items : new ≡ old ++ point ∷ []
+
+-- the lists are settled, and kept as far as a place needs them
+pub record IsReady {A : Type 0} (program : Listing) (place : ℕ) (found : Found A) : Type 0 where
+  pub settled : found.settled ≡ true
+  pub keeps : found.keeps ≡ true
+  pub lists : HoldsLists program true place found.known found.lists
+
+-- a beginning of some bytes was pushed
+pub record PushesSome {S : Type 0} (taken : S → Option (List ℕ)) (failures : S → ℕ) (old new : S) (held_old held_new : Held) (bytes : List ℕ) : Type 0 where
+  pub front : List ℕ
+  pub rest : List ℕ
+  pub whole : front ++ rest ≡ bytes
+  pub pushes : Pushes taken failures old new held_old held_new front

@@ -1,0 +1,57 @@
+//! Points left on the way back over a stretch of steps, from where further passes start.
+ghost use Rattle.std.specs.Prelude.{◌≡◌, ◌<◌, ◌≤◌, IfOk, OnOk};
+ghost use Rattle.backward.specs.private.Passes.{IsPassed, Stays};
+ghost use Rattle.backward.specs.private.Points.{ArePoints, IsLeft};
+
+use crate::found::Found;
+use crate::line_store::NoLines;
+use crate::pass::step_back;
+use crate::point::Point;
+use crate::tracker::Tracker;
+use programs::Program;
+use std::alloc::{AllocError, Allocator};
+
+/// Goes back to `from`, finds no lines, and leaves points on the way: one where it begins, and further ones `distance`
+/// steps apart.
+pub(crate) fn leave_points<'s, 'p, 'a, A: Allocator + Copy, T: Tracker + Drop>(
+    program: &Program<'a, A>,
+    from: usize,
+    distance: usize,
+    at: &mut Point<'p, 'a, A, T>,
+    found: &mut Found<'s, A>,
+) -> Result<Vec<Point<'p, 'a, A, T>, A>, AllocError>
+    requires program { at.old.walk.program ≡ program.now }
+    requires from { from ≤ at.old.walk.place }
+    requires passed { IsPassed program.now.listing at.old.walk.place (T.tracked at.old.tracker) found.old }
+    ensures program { at.new.walk.program ≡ at.old.walk.program }
+    ensures place { OnOk result (at.new.walk.place ≡ from) }
+    ensures passed { OnOk result (IsPassed program.now.listing at.new.walk.place (T.tracked at.new.tracker) found.new) }
+    ensures stays { Stays found.old found.new }
+    ensures points { IfOk result (λ points. ArePoints T.tracked program.now from at.old.walk.place points.items) }
+{
+    let mut points = Vec::new(*found.alloc);
+    if at.walk.place() > from {
+        leave(&mut points, at)?;
+    }
+    let mut next = at.walk.place().saturating_sub(distance);
+    while at.walk.place() > from {
+        step_back(program, at, found, &mut NoLines { program })?;
+        if at.walk.place() > from && at.walk.place() <= next {
+            leave(&mut points, at)?;
+            next = next.saturating_sub(distance);
+        }
+    }
+    Ok(points)
+}
+
+// Leaves a copy of a point.
+fn leave<'p, 'a, A: Allocator + Copy, T: Tracker + Drop>(
+    points: &mut Vec<Point<'p, 'a, A, T>, A>,
+    at: &Point<'p, 'a, A, T>,
+) -> Result<(), AllocError>
+    ensures { OnOk result (IsLeft T.tracked at.now points.old.items points.new.items) }
+{
+    let point = at.copy()?;
+    points.push(point)?;
+    Ok(())
+}
