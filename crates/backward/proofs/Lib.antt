@@ -1,6 +1,7 @@
 pub mod ColumnLemmas
 pub mod ExchangeLemmas
 pub mod Judging
+mod HeldLines
 mod LinkLemmas
 pub mod LoneTerms
 pub mod MultiplyLemmas
@@ -16,6 +17,7 @@ mod PointLemmas
 pub mod RangeLemmas
 pub mod Sensitivities
 pub mod SetLemmas
+mod StretchLemmas
 mod TimesAll
 mod TimesEach
 pub mod TransposedLemmas

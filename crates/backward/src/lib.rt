@@ -12,11 +12,15 @@ mod point;
 mod points;
 mod record_lists;
 mod sparse_set;
+mod stretch;
 mod target_set;
 mod targets;
+mod text_store;
 mod tracker;
 mod words;
+mod writing;
 
 pub use analysis::{Analysed, analyse};
 pub use tracker::Tracker;
 pub use words::{DenseWords, QubitSets, Words};
+pub use writing::{write_analysis, write_in_parts};

@@ -8,8 +8,10 @@ use Rattle.pieces.specs.Held.{Held}
 use Rattle.pieces.specs.Pushed.{Pushes}
 use Rattle.backward.specs.declared.found.Found.{Found}
 use Rattle.backward.specs.declared.point.Point.{Point}
+use Rattle.backward.specs.declared.stretch.Parts.{Parts}
 use Rattle.backward.specs.Tracked.{Tracked}
 use Rattle.backward.specs.private.Passes.{HoldsLists, records_before, tracked_before}
+use Rattle.backward.specs.private.Stretches.{text_between}
 
 -- a point's words are those at its place
 pub record IsPointOf {A T : Type 0} (tracked : T → Tracked) (program : KeptProgram) (point : Point A T) : Type 0 where
@@ -36,6 +38,16 @@ pub record IsLeft {A T : Type 0} (tracked : T → Tracked) (at : Point A T) (old
   pub walk : point.walk ≡ at.walk
   pub words : tracked point.tracker ≡ tracked at.tracker
   pub items : new ≡ old ++ point ∷ []
+
+-- the text of the end of a stretch, and points where it is cut and before that; `known` records are enough for them
+pub record AreParts {A T : Type 0} (tracked : T → Tracked) (program : KeptProgram) (from to known : ℕ) (parts : Parts A T) : Type 0 where
+  pub cut : ℕ
+  pub above : from ≤ cut
+  pub below : cut ≤ to
+  pub back : from < to → cut < to
+  pub points : ArePoints tracked program from cut parts.points.items
+  pub text : parts.end ≡ text_between program.listing cut to
+  pub enough : records_before program.listing cut ≤ known
 
 -- the lists are settled, and kept as far as a place needs them
 pub record IsReady {A : Type 0} (program : Listing) (place : ℕ) (found : Found A) : Type 0 where

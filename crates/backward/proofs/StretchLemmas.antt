@@ -1,0 +1,90 @@
+-- The text of a stretch, written part by part.
+use Rattle.std.proofs.Common.{◌≡◌, ℕ, ◌+◌, ◌<◌, ◌≤◌, Bool, true, false, List, [], ◌∷◌, ◌++◌, length, Option, Some, refl, ap, subst, sym, ◌∙◌, arith, append_assoc}
+use Rattle.std.specs.Prelude.{Result, Ok, Err, OnErr}
+use Rattle.std.specs.List.{flat_map}
+use Rattle.dem_text.specs.ModelText.{line_text}
+use Rattle.step_model.specs.Listing.{Listing}
+use Rattle.programs.specs.Kept.{KeptProgram}
+use Rattle.pieces.specs.Held.{Held}
+use Rattle.pieces.specs.Pushed.{IsPushed, Outlet, Pushes, Rests}
+use Rattle.pieces.proofs.Pushing.{Pushes-trans}
+use Rattle.backward.specs.declared.found.Found.{Found}
+use Rattle.backward.specs.declared.point.Point.{Point}
+use Rattle.backward.specs.Tracked.{Tracked}
+use Rattle.backward.specs.private.Passes.{HoldsLists, IsJudged, IsPassed, records_before}
+use Rattle.backward.specs.private.Points.{ArePoints, IsPointOf, IsReady, PushesSome, first_place}
+use Rattle.backward.specs.private.Stretches.{text_between}
+use Rattle.backward.proofs.PassLines.{lines_between-none, text_between-parts}
+use Rattle.backward.proofs.PassRecords.{records_before-earlier, settled-at}
+
+-- ---- where a pass may start
+settled_judged : (program : Listing) (settled : Bool) (place : ℕ) (latest : List (Option ℕ)) (left : ℕ) → settled ≡ true → IsJudged program settled place latest left
+settled_judged program true place latest left e = tt
+settled_judged program false place latest left e = cc
+
+pub passed_at_point : {A T : Type 0} (tracked : T → Tracked) (program : KeptProgram) (cut : ℕ) (point : Point A T) (found : Found A) → IsReady program.listing cut found → IsPointOf tracked program point → point.walk.place ≤ cut → IsPassed program.listing point.walk.place (tracked point.tracker) found
+passed_at_point tracked program cut point found ready at le =
+    record {
+      within = at.within;
+      words = at.words;
+      lists = subst (λ s. HoldsLists program.listing s point.walk.place found.known found.lists) (sym ready.settled)
+          (settled-at program.listing cut point.walk.place found.known found.lists (omega (arith, records_before-earlier program.listing point.walk.place cut le, ready.lists.enough)) ready.lists);
+      judged = settled_judged program.listing found.settled point.walk.place found.latest.items found.left ready.settled;
+    }
+
+-- the lists are settled at a pass's end as they were, for each place that they know enough for
+pub ready_after : {A : Type 0} (program : Listing) (place cut : ℕ) (t : Tracked) (found : Found A) → found.settled ≡ true → found.keeps ≡ true → IsPassed program place t found → records_before program cut ≤ found.known → IsReady program cut found
+ready_after program place cut t found settled keeps h enough =
+    record {
+      settled = settled;
+      keeps = keeps;
+      lists = settled-at program place cut found.known found.lists enough (subst (λ s. HoldsLists program s place found.known found.lists) settled h.lists);
+    }
+
+pub ready_at : {A : Type 0} (program : Listing) (from cut : ℕ) (found : Found A) → IsReady program from found → records_before program cut ≤ found.known → IsReady program cut found
+ready_at program from cut found h enough = record { settled = h.settled; keeps = h.keeps; lists = settled-at program from cut found.known found.lists enough h.lists }
+
+-- ---- what was pushed
+module _ {S : Type 0} {taken : S → Option (List ℕ)} {failures : S → ℕ} where
+  -- after a failure nothing more happens
+  pub Pushes-failed : (s : S) (held : Held) (bytes : List ℕ) → held.failed ≡ true → Pushes taken failures s s held held bytes
+  Pushes-failed s held bytes failed = record { pushed = by_state held.failed failed }
+    where
+      by_state : (b : Bool) → b ≡ true → IsPushed b b (record { taken = taken s; failures = failures s; held = held.bytes }) (record { taken = taken s; failures = failures s; held = held.bytes }) bytes
+      by_state true e = (record { same_taken = refl; same_count = refl }, refl)
+      by_state false e = cc
+
+  pub Pushes-as : (s t : S) (h k : Held) (xs ys : List ℕ) → xs ≡ ys → Pushes taken failures s t h k xs → Pushes taken failures s t h k ys
+  Pushes-as s t h k xs ys e p = subst (Pushes taken failures s t h k) e p
+
+  -- all of a beginning, and some of what follows
+  pub some-first : (s t : S) (h k : Held) (xs ys whole : List ℕ) → xs ++ ys ≡ whole → Pushes taken failures s t h k xs → PushesSome taken failures s t h k whole
+  some-first s t h k xs ys whole e p = record { front = xs; rest = ys; whole = e; pushes = p }
+
+  pub some-then : (s t u : S) (h k m : Held) (xs ys zs whole : List ℕ) → xs ++ (ys ++ zs) ≡ whole → Pushes taken failures s t h k xs → PushesSome taken failures t u k m ys → PushesSome taken failures s u h m whole
+  some-then s t u h k m xs ys zs whole e p some =
+      record {
+        front = xs ++ some.front;
+        rest = some.rest ++ zs;
+        whole =
+            append_assoc xs some.front (some.rest ++ zs)
+            ∙ (ap (λ (l : List ℕ). xs ++ l) (sym (append_assoc some.front some.rest zs) ∙ ap (λ (l : List ℕ). l ++ zs) some.whole) ∙ e);
+        pushes = Pushes-trans p some.pushes;
+      }
+
+-- ---- texts of stretches
+pub text_between-none : (program : Listing) (k : ℕ) → text_between program k k ≡ []
+text_between-none program k = ap (flat_map (line_text (length program.detectors))) (lines_between-none program k)
+
+-- no point is left: the end is reached
+pub reached : {A T : Type 0} (start cut : ℕ) (points : List (Point A T)) → points ≡ [] → first_place start points ≡ cut → start ≡ cut
+reached start cut points none e = sym (ap (first_place start) none) ∙ e
+
+-- three stretches, one after another
+pub text_between-three : (program : Listing) (a b c d : ℕ) → a ≤ b → b ≤ c → c ≤ d → text_between program a b ++ (text_between program b c ++ text_between program c d) ≡ text_between program a d
+text_between-three program a b c d ab bc cd =
+    ap (λ (l : List ℕ). text_between program a b ++ l) (text_between-parts program b c d bc cd) ∙ text_between-parts program a b d ab (omega (arith, bc, cd))
+
+pub on_err_any : {T E P : Type 0} (r : Result T E) → P → OnErr r P
+on_err_any (Ok x) p = tt
+on_err_any (Err e) p = p

@@ -1,0 +1,5 @@
+use Rattle.pieces.proofs.Pushing.{Pushes-trans}
+use Rattle.backward.proofs.writing.push_declarations.Goals as goal
+
+pub returns : goal.returns
+returns g c = Pushes-trans c.push_detectors.ensures c.push_observables.ensures

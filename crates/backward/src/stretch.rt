@@ -1,0 +1,135 @@
+//! The text of a stretch of a program's steps, whose memory doesn't grow with the text.
+ghost use Rattle.std.specs.Prelude.{◌≡◌, ◌<◌, ◌≤◌, ◌++◌, [], ℕ, List, reverse, true, IfOk, OnOk, OnErr};
+ghost use Rattle.step_model.specs.ErrorModels.{ErrorLine};
+ghost use Rattle.dem_text.specs.HeldText.{HoldsLines};
+ghost use Rattle.pieces.specs.Pushed.{Pushes};
+ghost use Rattle.backward.specs.private.Passes.{IsPassed, Stays};
+ghost use Rattle.backward.specs.private.Stretches.{lines_between, text_between};
+ghost use Rattle.backward.specs.private.Points.{AreParts, ArePoints, IsReady, PushesSome, first_place};
+
+use crate::found::Found;
+use crate::pass::step_back;
+use crate::point::Point;
+use crate::points::leave_points;
+use crate::text_store::TextStore;
+use crate::tracker::Tracker;
+use dem_text::HeldText;
+use pieces::Pieces;
+use programs::Program;
+use std::alloc::{AllocError, Allocator};
+use step_model::Sink;
+
+/// How many points are left on the way to the start of a stretch, at most.
+const POINTS: usize = 60;
+
+/// Goes back to `from`, over one step at least where there is one, until the text of the lines found is full.
+fn find_back<'s, 'p, 'a, A: Allocator + Copy, T: Tracker>(
+    program: &Program<'a, A>,
+    from: usize,
+    at: &mut Point<'p, 'a, A, T>,
+    found: &mut Found<'s, A>,
+    lines: &mut TextStore<'_, 'a, A>,
+) -> Result<(), AllocError>
+    requires program { at.old.walk.program ≡ program.now }
+    requires from { from ≤ at.old.walk.place }
+    requires store { lines.old.program.now ≡ program.now }
+    requires passed { IsPassed program.now.listing at.old.walk.place (T.tracked at.old.tracker) found.old }
+    ensures program { at.new.walk.program ≡ at.old.walk.program }
+    ensures from { OnOk result (from ≤ at.new.walk.place) }
+    ensures back { at.new.walk.place ≤ at.old.walk.place }
+    ensures some { OnOk result (from < at.old.walk.place → at.new.walk.place < at.old.walk.place) }
+    ensures passed { OnOk result (IsPassed program.now.listing at.new.walk.place (T.tracked at.new.tracker) found.new) }
+    ensures stays { Stays found.old found.new }
+    ensures lines { OnOk result ((given : List ErrorLine) → HoldsLines lines.old.text given → HoldsLines lines.new.text (given ++ reverse (lines_between program.now.listing at.new.walk.place at.old.walk.place))) }
+    ensures store { lines.new.program.now ≡ lines.old.program.now }
+{
+    while at.walk.place() > from {
+        step_back(program, at, found, lines)?;
+        if lines.is_full() {
+            return Ok(());
+        }
+    }
+    Ok(())
+}
+
+/// What is left of a stretch when its start is reached: the text of its end, and points before that, the first of them
+/// where that text begins.
+#[derive(Drop)]
+pub(crate) struct Parts<'p, 'a, A: Allocator + Copy, T> {
+    pub(crate) points: Vec<Point<'p, 'a, A, T>, A>,
+    pub(crate) end: HeldText<A>,
+}
+
+/// Goes back over a stretch: finds lines until their text is full, and leaves points on the rest of the way.
+pub(crate) fn cut<'s, 'p, 'a, A: Allocator + Copy, T: Tracker + Drop>(
+    program: &Program<'a, A>,
+    from: usize,
+    at: &mut Point<'p, 'a, A, T>,
+    found: &mut Found<'s, A>,
+    lines: &mut TextStore<'_, 'a, A>,
+) -> Result<Parts<'p, 'a, A, T>, AllocError>
+    requires program { at.old.walk.program ≡ program.now }
+    requires from { from ≤ at.old.walk.place }
+    requires store { lines.old.program.now ≡ program.now }
+    requires none { lines.old.text.text ≡ [] }
+    requires passed { IsPassed program.now.listing at.old.walk.place (T.tracked at.old.tracker) found.old }
+    ensures program { at.new.walk.program ≡ at.old.walk.program }
+    ensures place { OnOk result (at.new.walk.place ≡ from) }
+    ensures passed { OnOk result (IsPassed program.now.listing from (T.tracked at.new.tracker) found.new) }
+    ensures settled { found.new.settled ≡ found.old.settled }
+    ensures keeps { OnOk result (found.new.keeps ≡ true) }
+    ensures known { found.old.keeps ≡ true → found.new.known ≡ found.old.known }
+    ensures parts { IfOk result (AreParts T.tracked program.now from at.old.walk.place found.new.known) }
+    ensures none { OnOk result (lines.new.text.text ≡ []) }
+    ensures store { lines.new.program.now ≡ lines.old.program.now }
+{
+    let to = at.walk.place();
+    find_back(program, from, at, found, lines)?;
+    let end = lines.take_text();
+    let place = at.walk.place();
+    let distance = distance_for(place - from, to - place);
+    found.keeps = true;
+    let points = leave_points(program, from, distance, at, found)?;
+    Ok(Parts { points, end })
+}
+
+// How far apart points are left on a way of this many steps, where the text of the steps behind them is full.
+fn distance_for(way: usize, full: usize) -> usize {
+    (full - full / 4).max(way / POINTS).max(1)
+}
+
+/// Writes the text of what is before a cut, from the first of its points' parts to the last: from the last point on.
+pub(crate) fn write_parts<'s, 'p, 'a, A: Allocator + Copy, T: Tracker + Drop, W: Sink>(
+    program: &Program<'a, A>,
+    from: usize,
+    mut points: Vec<Point<'p, 'a, A, T>, A>,
+    found: &mut Found<'s, A>,
+    lines: &mut TextStore<'_, 'a, A>,
+    out: &mut Pieces,
+    sink: &mut W,
+) -> Result<(), AllocError>
+    requires points { ArePoints T.tracked program.now from (first_place from points.items) points.items }
+    requires ready { IsReady program.now.listing (first_place from points.items) found.old }
+    requires store { lines.old.program.now ≡ program.now }
+    requires none { lines.old.text.text ≡ [] }
+    ensures ready { OnOk result (IsReady program.now.listing (first_place from points.entry.items) found.new) }
+    ensures known { found.new.known ≡ found.old.known }
+    ensures none { OnOk result (lines.new.text.text ≡ []) }
+    ensures store { lines.new.program.now ≡ lines.old.program.now }
+    ensures text { OnOk result (Pushes W.taken W.failures sink.old sink.new out.old out.new (text_between program.now.listing from (first_place from points.entry.items))) }
+    ensures some { OnErr result (PushesSome W.taken W.failures sink.old sink.new out.old out.new (text_between program.now.listing from (first_place from points.entry.items))) }
+{
+    let mut start = from;
+    while let Some(mut point) = points.pop() {
+        if out.has_failed() {
+            return Ok(());
+        }
+        let end = point.walk.place();
+        let parts = cut(program, start, &mut point, found, lines)?;
+        write_parts(program, start, parts.points, found, lines, out, sink)?;
+        parts.end.push_to(out, sink);
+        lines.reuse(parts.end);
+        start = end;
+    }
+    Ok(())
+}

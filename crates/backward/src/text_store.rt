@@ -1,0 +1,123 @@
+//! The text of error lines that a pass finds, up to a limit.
+ghost use Rattle.std.specs.Prelude.{◌≡◌, [], length, IfOk, OnOk};
+ghost use Rattle.backward.specs.private.Numbered.{AreNumbers, IsTextFor};
+ghost use Rattle.dem_text.specs.HeldText.{HoldsLines};
+
+use crate::line_store::LineStore;
+use crate::targets::target_count;
+use chances::ChanceText;
+use dem_text::{HeldText, LinesText};
+use programs::{ChanceTable, Program};
+use std::alloc::{AllocError, Allocator};
+
+/// The text of a program's lines.
+#[derive(Drop)]
+pub(crate) struct TextStore<'p, 'a, A: Allocator + Copy> {
+    program: &'p Program<'a, A>,
+    chances: ChanceTable<'p, 'a>,
+    // For each part of the table the number of its text among those that are kept beside the lines.
+    numbers: Vec<usize, A>,
+    text: LinesText<'a, A>,
+    // From how many bytes on the text is full.
+    room: usize,
+    ghost fits: { IsTextFor program.now chances numbers.items text },
+}
+
+impl<'p, 'a, A: Allocator + Copy> TextStore<'p, 'a, A> {
+    /// No lines, and from how many bytes on their text is full.
+    pub(crate) fn new(
+        alloc: A,
+        program: &'p Program<'a, A>,
+        room: usize,
+    ) -> Result<Self, AllocError>
+        ensures none { IfOk result (λ store. store.text.text ≡ []) }
+        ensures program { IfOk result (λ store. store.program.now ≡ program.now) }
+    {
+        program.well_formed();
+        let chances = program.chances();
+        let mut text = LinesText::new(alloc, program.detector_count(), target_count(program))?;
+        let numbers = kept_numbers(alloc, chances.parts, &mut text)?;
+        Ok(TextStore {
+            program,
+            chances,
+            numbers,
+            text,
+            room,
+        })
+    }
+
+    /// Whether the text is to be taken before more lines are found.
+    pub(crate) fn is_full(&self) -> bool {
+        self.text.len() >= self.room
+    }
+
+    /// Takes the text out.
+    pub(crate) fn take_text(&mut self) -> HeldText<A>
+        ensures text { result ≡ self.old.text.text }
+        ensures none { self.new.text.text ≡ [] }
+        ensures detectors { self.old.text.detectors ≡ length self.old.program.now.listing.detectors }
+        ensures program { self.new.program.now ≡ self.old.program.now }
+    {
+        self.text.take_text()
+    }
+
+    /// Uses the memory of a text again.
+    pub(crate) fn reuse(&mut self, held: HeldText<A>)
+        ensures text { self.new.text ≡ self.old.text }
+        ensures program { self.new.program.now ≡ self.old.program.now }
+    {
+        self.text.reuse(held);
+    }
+}
+
+// Keeps the text of each part, and answers its number for each.
+fn kept_numbers<'a, A: Allocator + Copy>(
+    alloc: A,
+    parts: &[ChanceText<'a>],
+    text: &mut LinesText<'a, A>,
+) -> Result<Vec<usize, A>, AllocError>
+    ensures numbers { IfOk result (λ numbers. AreNumbers parts.now text.new.texts numbers.items) }
+    ensures counted { IfOk result (λ numbers. length numbers.items ≡ length parts.now) }
+    ensures detectors { text.new.detectors ≡ text.old.detectors }
+    ensures targets { text.new.targets ≡ text.old.targets }
+    ensures text { text.new.text ≡ text.old.text }
+{
+    let mut numbers = Vec::with_capacity(alloc, parts.len())?;
+    keep_each(parts, text, &mut numbers)?;
+    Ok(numbers)
+}
+
+// The same, with the numbers put in a list of none.
+fn keep_each<'a, A: Allocator + Copy>(
+    parts: &[ChanceText<'a>],
+    text: &mut LinesText<'a, A>,
+    numbers: &mut Vec<usize, A>,
+) -> Result<(), AllocError>
+    requires { numbers.old.items ≡ [] }
+    ensures numbers { OnOk result (AreNumbers parts.now text.new.texts numbers.new.items) }
+    ensures counted { OnOk result (length numbers.new.items ≡ length parts.now) }
+    ensures detectors { text.new.detectors ≡ text.old.detectors }
+    ensures targets { text.new.targets ≡ text.old.targets }
+    ensures text { text.new.text ≡ text.old.text }
+{
+    for part in parts {
+        let number = text.keep_text(part.text)?;
+        numbers.push(number)?;
+    }
+    Ok(())
+}
+
+impl<'p, 'a, A: Allocator + Copy> LineStore for TextStore<'p, 'a, A> {
+    ghost program = { λ store. store.program.now };
+
+    ghost holds = { λ store lines. HoldsLines store.text lines };
+
+    fn wants(&self) -> bool {
+        true
+    }
+
+    fn give(&mut self, entry: u32, targets: &[u32]) -> Result<(), AllocError> {
+        let chance = self.chances.numbers[entry as usize];
+        self.text.put_line(self.numbers[chance], targets)
+    }
+}

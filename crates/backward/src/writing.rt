@@ -1,0 +1,153 @@
+//! The text of a program's error model, written to a sink.
+ghost use Rattle.std.specs.Prelude.{◌≡◌, ◌⊎◌, ◌++◌, [], false, length, IfOk, IfErr, IfNone, IfSome, OnErr};
+ghost use Rattle.dem_text.specs.ModelText.{detectors_text, model_text, observables_text};
+ghost use Rattle.pieces.specs.Pushed.{Pushes};
+ghost use Rattle.step_model.specs.Ends.{Takes, TakesSome, write_failures};
+ghost use Rattle.step_model.specs.Faults.{memory_fault, write_fault};
+ghost use Rattle.step_model.specs.HitModels.{model_of};
+ghost use Rattle.step_model.specs.Targets.{targets_of};
+ghost use Rattle.backward.specs.Places.{IsLowestRandom, NoneIsRandom};
+ghost use Rattle.backward.specs.Tracked.{fresh};
+ghost use Rattle.backward.specs.private.Points.{PushesSome};
+
+use crate::analysis::NO_MEMORY;
+use crate::found::Found;
+use crate::places::random_target;
+use crate::point::Point;
+use crate::stretch::{cut, write_parts};
+use crate::text_store::TextStore;
+use crate::tracker::Tracker;
+use dem_text::{push_detector, push_observable};
+use pieces::Pieces;
+use programs::{Program, Walk};
+use std::alloc::{AllocError, Allocator};
+use step_model::{Cause, Fault, Place, Sink};
+
+/// How much text of error lines is held at once. A longer text is found in parts, in a second pass.
+const ROOM: usize = 4 << 20;
+
+const NO_WRITE: Fault = Fault {
+    cause: Cause::Write,
+    line: 0,
+};
+
+/// Writes the text of the error model of a program; or answers the lowest target that is random, observable k being the
+/// number of detectors and k more, and its place. Then nothing is written.
+///
+/// It fails where memory runs out or the sink fails: nothing was written then, or a beginning of the model's text. Its
+/// memory grows with the program and with the words that the tracker keeps, and not with the text.
+pub fn write_analysis<'a, A: Allocator + Copy, T: Tracker + Drop, W: Sink>(
+    alloc: A,
+    program: &Program<'a, A>,
+    tracker: T,
+    sink: &mut W,
+) -> Result<Option<(u32, Place)>, Fault>
+    requires { T.tracked tracker ≡ fresh program.now.listing.qubits (length (targets_of program.now.listing)) }
+    ensures none { IfOk result (λ random. IfNone random (NoneIsRandom program.now.listing)) }
+    ensures written { IfOk result (λ random. IfNone random (Takes (W.taken sink.old) (W.taken sink.new) (model_text (model_of program.now.listing)))) }
+    ensures lowest { IfOk result (λ random. IfSome random (λ random. IsLowestRandom program.now.listing random.0 random.1)) }
+    ensures nothing { IfOk result (λ random. IfSome random (λ _. sink.new ≡ sink.old)) }
+    ensures fault { IfErr result (λ e. (e ≡ memory_fault) ⊎ (e ≡ write_fault)) }
+    ensures beginning { OnErr result ((sink.new ≡ sink.old) ⊎ (NoneIsRandom program.now.listing × TakesSome (W.taken sink.old) (W.taken sink.new) (model_text (model_of program.now.listing)))) }
+    ensures writes { W.failures sink.new ≡ write_failures result (W.failures sink.old) }
+{
+    write_in_parts(alloc, program, tracker, ROOM, sink)
+}
+
+/// The same, with a text of error lines held up to this many bytes and a line.
+pub fn write_in_parts<'a, A: Allocator + Copy, T: Tracker + Drop, W: Sink>(
+    alloc: A,
+    program: &Program<'a, A>,
+    tracker: T,
+    room: usize,
+    sink: &mut W,
+) -> Result<Option<(u32, Place)>, Fault>
+    requires { T.tracked tracker ≡ fresh program.now.listing.qubits (length (targets_of program.now.listing)) }
+    ensures none { IfOk result (λ random. IfNone random (NoneIsRandom program.now.listing)) }
+    ensures written { IfOk result (λ random. IfNone random (Takes (W.taken sink.old) (W.taken sink.new) (model_text (model_of program.now.listing)))) }
+    ensures lowest { IfOk result (λ random. IfSome random (λ random. IsLowestRandom program.now.listing random.0 random.1)) }
+    ensures nothing { IfOk result (λ random. IfSome random (λ _. sink.new ≡ sink.old)) }
+    ensures fault { IfErr result (λ e. (e ≡ memory_fault) ⊎ (e ≡ write_fault)) }
+    ensures beginning { OnErr result ((sink.new ≡ sink.old) ⊎ (NoneIsRandom program.now.listing × TakesSome (W.taken sink.old) (W.taken sink.new) (model_text (model_of program.now.listing)))) }
+    ensures writes { W.failures sink.new ≡ write_failures result (W.failures sink.old) }
+{
+    let mut out = Pieces::new();
+    match push_analysis(alloc, program, tracker, room, &mut out, sink) {
+        Ok(None) => {
+            out.finish(sink)?;
+            Ok(None)
+        }
+        Ok(random) => Ok(random),
+        Err(_) if out.has_failed() => Err(NO_WRITE),
+        Err(_) => Err(NO_MEMORY),
+    }
+}
+
+fn push_analysis<'a, A: Allocator + Copy, T: Tracker + Drop, W: Sink>(
+    alloc: A,
+    program: &Program<'a, A>,
+    tracker: T,
+    room: usize,
+    out: &mut Pieces,
+    sink: &mut W,
+) -> Result<Option<(u32, Place)>, AllocError>
+    requires { T.tracked tracker ≡ fresh program.now.listing.qubits (length (targets_of program.now.listing)) }
+    ensures none { IfOk result (λ random. IfNone random (NoneIsRandom program.now.listing)) }
+    ensures text { IfOk result (λ random. IfNone random (Pushes W.taken W.failures sink.old sink.new out.old out.new (model_text (model_of program.now.listing)))) }
+    ensures lowest { IfOk result (λ random. IfSome random (λ random. IsLowestRandom program.now.listing random.0 random.1)) }
+    ensures nothing { IfOk result (λ random. IfSome random (λ _. (sink.new ≡ sink.old) × (out.new ≡ out.old))) }
+    ensures some { OnErr result (((sink.new ≡ sink.old) × (out.new ≡ out.old)) ⊎ (NoneIsRandom program.now.listing × PushesSome W.taken W.failures sink.old sink.new out.old out.new (model_text (model_of program.now.listing)))) }
+{
+    let mut found = Found::new(&alloc, program)?;
+    let mut lines = TextStore::new(alloc, program, room)?;
+    let mut at = Point {
+        walk: Walk::end(program),
+        tracker,
+    };
+    let parts = cut(program, 0, &mut at, &mut found, &mut lines)?;
+    if let Some(random) = random_target(program, &mut at.tracker, &mut found)? {
+        return Ok(Some(random));
+    }
+    found.settled = true;
+    write_parts(program, 0, parts.points, &mut found, &mut lines, out, sink)?;
+    parts.end.push_to(out, sink);
+    push_declarations(program, out, sink);
+    Ok(None)
+}
+
+// Pushes the lines of the detectors and the observables.
+fn push_declarations<'a, A: Allocator + Copy, W: Sink>(
+    program: &Program<'a, A>,
+    out: &mut Pieces,
+    sink: &mut W,
+)
+    ensures { Pushes W.taken W.failures sink.old sink.new out.old out.new (detectors_text (model_of program.now.listing) ++ observables_text (model_of program.now.listing)) }
+{
+    push_detectors(program, out, sink);
+    push_observables(program, out, sink);
+}
+
+fn push_detectors<'a, A: Allocator + Copy, W: Sink>(
+    program: &Program<'a, A>,
+    out: &mut Pieces,
+    sink: &mut W,
+)
+    ensures { Pushes W.taken W.failures sink.old sink.new out.old out.new (detectors_text (model_of program.now.listing)) }
+{
+    program.well_formed();
+    for detector in 0..program.detector_count() {
+        push_detector(out, sink, detector, program.coordinates(detector));
+    }
+}
+
+fn push_observables<'a, A: Allocator + Copy, W: Sink>(
+    program: &Program<'a, A>,
+    out: &mut Pieces,
+    sink: &mut W,
+)
+    ensures { Pushes W.taken W.failures sink.old sink.new out.old out.new (observables_text (model_of program.now.listing)) }
+{
+    for observable in 0..program.observable_count() {
+        push_observable(out, sink, observable);
+    }
+}
