@@ -1,10 +1,15 @@
 -- The text of a stretch, written part by part.
-use Rattle.std.proofs.Common.{◌≡◌, ℕ, ◌+◌, ◌<◌, ◌≤◌, Bool, true, false, List, [], ◌∷◌, ◌++◌, length, Option, Some, refl, ap, subst, sym, ◌∙◌, arith, append_assoc}
+use Rattle.std.proofs.Common.{◌≡◌, ℕ, ◌+◌, ◌<◌, ◌≤◌, Bool, true, false, List, [], ◌∷◌, ◌++◌, length, take, Option, Some, refl, ap, subst, sym, ◌∙◌, arith, append_assoc}
 use Rattle.std.specs.Prelude.{Result, Ok, Err, OnErr}
 use Rattle.std.specs.List.{flat_map}
-use Rattle.dem_text.specs.ModelText.{line_text}
+use Rattle.std.proofs.Math.Seq.{take-append_seam}
+use Rattle.std.proofs.lemmas.List.{take-append-le}
 use Rattle.step_model.specs.Listing.{Listing}
 use Rattle.programs.specs.Kept.{KeptProgram}
+use Rattle.step_model.specs.Ends.{Takes, TakesSome}
+use Rattle.step_model.specs.HitModels.{model_of}
+use Rattle.step_model.specs.WellFormed.{IsWellFormed}
+use Rattle.dem_text.specs.ModelText.{detectors_text, line_text, lines_text, model_text, observables_text}
 use Rattle.pieces.specs.Held.{Held}
 use Rattle.pieces.specs.Pushed.{IsPushed, Outlet, Pushes, Rests}
 use Rattle.pieces.proofs.Pushing.{Pushes-trans}
@@ -14,8 +19,9 @@ use Rattle.backward.specs.Tracked.{Tracked}
 use Rattle.backward.specs.private.Passes.{HoldsLists, IsJudged, IsPassed, records_before}
 use Rattle.backward.specs.private.Points.{ArePoints, IsPointOf, IsReady, PushesSome, first_place}
 use Rattle.backward.specs.private.Stretches.{text_between}
-use Rattle.backward.proofs.PassLines.{lines_between-none, text_between-parts}
-use Rattle.backward.proofs.PassRecords.{records_before-earlier, settled-at}
+use Rattle.backward.proofs.PassLines.{lines_between-all, lines_between-none, text_between-parts}
+use Rattle.backward.proofs.PassRecords.{records_before-earlier, settled-at, settled-first}
+use Rattle.backward.proofs.PassSteps.{holds_same}
 
 -- ---- where a pass may start
 settled_judged : (program : Listing) (settled : Bool) (place : ℕ) (latest : List (Option ℕ)) (left : ℕ) → settled ≡ true → IsJudged program settled place latest left
@@ -88,3 +94,46 @@ text_between-three program a b c d ab bc cd =
 pub on_err_any : {T E P : Type 0} (r : Result T E) → P → OnErr r P
 on_err_any (Ok x) p = tt
 on_err_any (Err e) p = p
+
+-- ---- the whole program
+-- what a first pass leaves at the start is settled
+pub ready_first : {A : Type 0} (program : Listing) (cut : ℕ) (t : Tracked) (found now : Found A) → found.settled ≡ false → IsPassed program 0 t found → records_before program cut ≤ found.known
+    → now.settled ≡ true → now.keeps ≡ true → now.known ≡ found.known → now.lists ≡ found.lists → IsReady program cut now
+ready_first program cut t found now first h enough settled keeps known lists =
+    record {
+      settled = settled;
+      keeps = keeps;
+      lists = holds_same program true true cut found.known now.known found.lists now.lists refl known lists
+          (settled-first program cut found.known found.lists enough (subst (λ s. HoldsLists program s 0 found.known found.lists) first h.lists));
+    }
+
+pub whole_model : (program : Listing) (cut : ℕ) → IsWellFormed program → cut ≤ length program.steps
+    → text_between program 0 cut ++ (text_between program cut (length program.steps) ++ (detectors_text (model_of program) ++ observables_text (model_of program))) ≡ model_text (model_of program)
+whole_model program cut fits within =
+    let behind : List ℕ = detectors_text (model_of program) ++ observables_text (model_of program) in
+    let first : 0 ≤ cut = omega arith in
+    sym (append_assoc (text_between program 0 cut) (text_between program cut (length program.steps)) behind)
+    ∙ (ap (λ (l : List ℕ). l ++ behind) (text_between-parts program 0 cut (length program.steps) first within ∙ ap (flat_map (line_text (length program.detectors))) (lines_between-all program fits))
+    ∙ sym (append_assoc (lines_text (model_of program)) (detectors_text (model_of program)) (observables_text (model_of program))))
+
+-- what is pushed to a buffer that is empty went out, or is held
+pub some_taken : {S : Type 0} {taken : S → Option (List ℕ)} {failures : S → ℕ} (s t : S) (held : Held) (whole : List ℕ) → PushesSome taken failures s t (record { bytes = []; failed = false }) held whole → TakesSome (taken s) (taken t) whole
+some_taken {S} {taken} {failures} s t held whole some = by_state held.failed some.pushes.pushed
+  where
+    old : Outlet
+    old = record { taken = taken s; failures = failures s; held = [] }
+
+    new : Outlet
+    new = record { taken = taken t; failures = failures t; held = held.bytes }
+
+    by_state : (b : Bool) → IsPushed false b (record { taken = taken s; failures = failures s; held = [] }) (record { taken = taken t; failures = failures t; held = held.bytes }) some.front → TakesSome (taken s) (taken t) whole
+    by_state false h =
+        let all : h.gone ++ (held.bytes ++ some.rest) ≡ whole = sym (append_assoc h.gone held.bytes some.rest) ∙ (ap (λ (l : List ℕ). l ++ some.rest) h.rest ∙ some.whole) in
+        (length h.gone, subst (Takes (taken s) (taken t)) (sym (take-append_seam h.gone (held.bytes ++ some.rest)) ∙ ap (take (length h.gone)) all) h.takes)
+    by_state true h =
+        let n : ℕ = h.beginning.0 in
+        (n, subst (Takes (taken s) (taken t)) (sym (take-append-le n some.front some.rest (omega (arith, h.beginning.1))) ∙ ap (take n) some.whole) h.beginning.2)
+
+pub on_err_told : {T E P : Type 0} (r : Result T E) (e : E) → r ≡ Err e → OnErr r P → P
+on_err_told (Ok x) e is p = cc
+on_err_told (Err d) e is p = p

@@ -98,6 +98,7 @@ fn push_analysis<'a, A: Allocator + Copy, T: Tracker + Drop, W: Sink>(
     ensures nothing { IfOk result (λ random. IfSome random (λ _. (sink.new ≡ sink.old) × (out.new ≡ out.old))) }
     ensures some { OnErr result (((sink.new ≡ sink.old) × (out.new ≡ out.old)) ⊎ (NoneIsRandom program.now.listing × PushesSome W.taken W.failures sink.old sink.new out.old out.new (model_text (model_of program.now.listing)))) }
 {
+    program.well_formed();
     let mut found = Found::new(&alloc, program)?;
     let mut lines = TextStore::new(alloc, program, room)?;
     let mut at = Point {
@@ -105,14 +106,16 @@ fn push_analysis<'a, A: Allocator + Copy, T: Tracker + Drop, W: Sink>(
         tracker,
     };
     let parts = cut(program, 0, &mut at, &mut found, &mut lines)?;
-    if let Some(random) = random_target(program, &mut at.tracker, &mut found)? {
-        return Ok(Some(random));
+    match random_target(program, &mut at.tracker, &mut found)? {
+        Some(random) => Ok(Some(random)),
+        None => {
+            found.settled = true;
+            write_parts(program, 0, parts.points, &mut found, &mut lines, out, sink)?;
+            parts.end.push_to(out, sink);
+            push_declarations(program, out, sink);
+            Ok(None)
+        }
     }
-    found.settled = true;
-    write_parts(program, 0, parts.points, &mut found, &mut lines, out, sink)?;
-    parts.end.push_to(out, sink);
-    push_declarations(program, out, sink);
-    Ok(None)
 }
 
 // Pushes the lines of the detectors and the observables.
