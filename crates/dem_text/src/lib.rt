@@ -1,6 +1,7 @@
 //! Error models, with a line for each fault that flips some detector or observable; and their text.
 #![tactic(auto)]
 
+mod held_text;
 mod line_runs;
 mod line_text;
 mod lines;
@@ -11,8 +12,10 @@ mod short_detectors;
 mod short_lines;
 mod text;
 mod text_block;
+mod text_blocks;
 mod texts;
 
+pub use held_text::HeldText;
 pub use lines_text::LinesText;
 pub use model::Model;
-pub use text::{write, write_behind};
+pub use text::{push_detector, push_observable, write, write_behind};

@@ -1,39 +1,33 @@
 //! The text of error lines that are found from the last to the first.
-ghost use Rattle.std.specs.Prelude.{◌≡◌, ◌<◌, ◌≤◌, ◌+◌, ◌++◌, [], All, length, IfOk, OnOk};
+ghost use Rattle.std.specs.Prelude.{◌≡◌, ◌<◌, ◌≤◌, ◌+◌, ◌-◌, ◌^◌, ◌++◌, [], All, length, min, IfOk, OnOk};
 ghost use Rattle.dem_text.specs.ErrorLines.{text_at, KeepsTexts};
-ghost use Rattle.dem_text.specs.HeldText.{text_in, texts_of, EndsIn};
+ghost use Rattle.dem_text.specs.HeldText.{EndsIn};
 ghost use Rattle.dem_text.specs.ModelText.{line_text, targets_text};
 ghost use Rattle.pieces.specs.Pushed.{Pushes};
 
+use crate::held_text::HeldText;
 use crate::line_text::LineText;
 use crate::names::Names;
 use crate::short_lines::{SHORT_TARGETS, SHORT_TEXT};
-use crate::text_block::TextBlock;
+use crate::text_blocks::{PART, TextBlocks};
 use crate::texts::number_of;
 use pieces::Pieces;
 use std::alloc::{AllocError, Allocator};
 use std::marker::Model;
-use std::mem;
 use step_model::Sink;
-
-/// How much room a short line takes at most. What is longer is put in parts of at most this length.
-const PART: usize = 240;
 
 /// The text of error lines, each put before those that were there. So a pass that finds the last line first can write
 /// each when it finds it. The text grows by blocks of 64 KiB, and what was written isn't moved. The texts of targets
 /// are made once, and that of a probability when it is kept, so a line is made of copies.
 #[derive(Drop)]
 pub struct LinesText<'a, A: Allocator + Copy> {
-    alloc: A,
     names: Names<A>,
     texts: Vec<LineText<'a>, A>,
-    // The blocks that are full, in the order in which they were filled: the last part of the text first.
-    full: Vec<TextBlock<A>, A>,
-    block: TextBlock<A>,
+    blocks: TextBlocks<A>,
 }
 
 impl<'a, A: Allocator + Copy> Model for LinesText<'a, A> {
-    ghost use Rattle.dem_text.specs.HeldText.{Held, text_in};
+    ghost use Rattle.dem_text.specs.HeldText.{Held};
 
     ghost Value = { Held };
 
@@ -41,39 +35,8 @@ impl<'a, A: Allocator + Copy> Model for LinesText<'a, A> {
       detectors = t.names.detectors;
       targets = t.names.targets;
       texts = t.texts.items;
-      text = text_in t.block t.full.items;
+      text = t.blocks.text;
     } };
-}
-
-// Makes room for a part, where there isn't any.
-#[inline(always)]
-fn make_room<A: Allocator + Copy>(
-    alloc: A,
-    full: &mut Vec<TextBlock<A>, A>,
-    block: &mut TextBlock<A>,
-) -> Result<(), AllocError>
-    ensures room { OnOk result (240 ≤ block.new.room) }
-    ensures same { text_in block.new full.new.items ≡ text_in block.old full.old.items }
-{
-    if block.room() >= PART {
-        return Ok(());
-    }
-    next_block(alloc, full, block)
-}
-
-#[inline(never)]
-fn next_block<A: Allocator + Copy>(
-    alloc: A,
-    full: &mut Vec<TextBlock<A>, A>,
-    block: &mut TextBlock<A>,
-) -> Result<(), AllocError>
-    ensures room { OnOk result (240 ≤ block.new.room) }
-    ensures same { text_in block.new full.new.items ≡ text_in block.old full.old.items }
-{
-    full.reserve(1)?;
-    let filled = mem::replace(block, TextBlock::new(alloc)?);
-    full.push_reserved(filled);
-    Ok(())
 }
 
 impl<'a, A: Allocator + Copy> LinesText<'a, A> {
@@ -85,11 +48,9 @@ impl<'a, A: Allocator + Copy> LinesText<'a, A> {
         ensures { IfOk result (λ lines. lines ≡ record { detectors = detectors; targets = targets; texts = []; text = [] }) }
     {
         Ok(LinesText {
-            alloc,
             names: Names::new(alloc, detectors, targets)?,
             texts: Vec::new(alloc),
-            full: Vec::new(alloc),
-            block: TextBlock::none(alloc),
+            blocks: TextBlocks::new(alloc),
         })
     }
 
@@ -123,8 +84,8 @@ impl<'a, A: Allocator + Copy> LinesText<'a, A> {
             let text = text.text();
             return self.put_long_line(text, targets);
         }
-        make_room(self.alloc, &mut self.full, &mut self.block)?;
-        self.block.put_line(&self.names, text, targets);
+        self.blocks.make_room()?;
+        self.blocks.put_line(&self.names, text, targets);
         Ok(())
     }
 
@@ -155,8 +116,8 @@ impl<'a, A: Allocator + Copy> LinesText<'a, A> {
         let mut left = bytes.len();
         while left > 0 {
             let from = left.saturating_sub(PART);
-            make_room(self.alloc, &mut self.full, &mut self.block)?;
-            self.block.put(&bytes[from..left]);
+            self.blocks.make_room()?;
+            self.blocks.put(&bytes[from..left]);
             left = from;
         }
         Ok(())
@@ -174,29 +135,40 @@ impl<'a, A: Allocator + Copy> LinesText<'a, A> {
         let mut left = targets.len();
         while left > 0 {
             let from = left.saturating_sub(SHORT_TARGETS);
-            make_room(self.alloc, &mut self.full, &mut self.block)?;
-            self.block.put_targets(&self.names, &targets[from..left]);
+            self.blocks.make_room()?;
+            self.blocks.put_targets(&self.names, &targets[from..left]);
             left = from;
         }
         Ok(())
     }
 
+    /// How many bytes the text has, at most the greatest number.
+    pub fn len(&self) -> usize
+        ensures { result ≡ min (length self.now.text) (2 ^ 64 - 1) }
+    {
+        self.blocks.len()
+    }
+
+    /// Takes the text out, so that it is written when those before it are. Takes no memory.
+    pub fn take_text(&mut self) -> HeldText<A>
+        ensures text { result ≡ self.old.text }
+        ensures left { self.new ≡ record self.old { text = [] } }
+    {
+        self.blocks.take()
+    }
+
+    /// Keeps the blocks of a text that was written, so that they are filled again before new ones are taken. Takes no
+    /// memory.
+    pub fn reuse(&mut self, held: HeldText<A>)
+        ensures { self.new ≡ self.old }
+    {
+        self.blocks.reuse(held);
+    }
+
     /// Pushes the text, block by block.
-    pub(crate) fn push_to<W: Sink>(&self, out: &mut Pieces, sink: &mut W)
+    pub fn push_to<W: Sink>(&self, out: &mut Pieces, sink: &mut W)
         ensures { Pushes W.taken W.failures sink.old sink.new out.old out.new self.now.text }
     {
-        out.push(sink, self.block.text());
-        push_blocks(out, sink, self.full.as_slice());
-    }
-}
-
-// Pushes the texts of blocks, that of the last block first.
-fn push_blocks<W: Sink, A: Allocator + Copy>(out: &mut Pieces, sink: &mut W, full: &[TextBlock<A>])
-    ensures { Pushes W.taken W.failures sink.old sink.new out.old out.new (texts_of full.now) }
-{
-    let mut left = full.len();
-    while left > 0 {
-        left -= 1;
-        out.push(sink, full[left].text());
+        self.blocks.push_to(out, sink);
     }
 }

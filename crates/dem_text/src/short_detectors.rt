@@ -3,20 +3,23 @@ ghost use Rattle.std.specs.Prelude.{◌≡◌, ◌≤◌, ◌+◌, ◌*◌, ◌+
 ghost use Rattle.std.specs.Fmt.{signed_decimal};
 ghost use Rattle.dem_text.specs.ModelText.{more_coordinates_text, coordinates_text, detector_text};
 
-use crate::short_lines::{ROOM, number_before, text_before};
+use crate::short_lines::{number_before, text_before};
 use itoa::write_digits;
 
 /// How many coordinates a detector may have for its line to be written here.
-pub(crate) const SHORT_COORDINATES: usize = 16;
+pub(crate) const SHORT_COORDINATES: usize = 8;
+
+/// How long a buffer for the line of a detector is. It is small, so that each line can have its own.
+pub(crate) const DETECTOR_ROOM: usize = 256;
 
 /// Writes the line of a detector so that it ends where the buffer does, and answers where it starts.
 pub(crate) fn detector_before(buffer: &mut [u8], detector: u32, coordinates: &[i64]) -> usize
-    requires room { length buffer.old ≡ 4096 }
-    requires few { length coordinates.now ≤ 16 }
-    ensures within { result ≤ 4096 }
+    requires room { length buffer.old ≡ 256 }
+    requires few { length coordinates.now ≤ 8 }
+    ensures within { result ≤ 256 }
     ensures written { drop result buffer.new ≡ detector_text detector coordinates.now }
 {
-    let at = text_before(buffer, ROOM, b"\n");
+    let at = text_before(buffer, DETECTOR_ROOM, b"\n");
     let at = number_before(buffer, at, b'D', detector);
     let at = coordinates_before(buffer, at, coordinates);
     text_before(buffer, at, b"detector")

@@ -8,7 +8,7 @@ ghost use Rattle.step_model.specs.Ends.{Takes, TakesBeginning, write_failures};
 ghost use Rattle.step_model.specs.Faults.{write_fault};
 
 use crate::line_runs::{end_of_short, lines_before};
-use crate::short_detectors::{SHORT_COORDINATES, detector_before};
+use crate::short_detectors::{DETECTOR_ROOM, SHORT_COORDINATES, detector_before};
 use crate::short_lines::{ROOM, SHORT_TARGETS, targets_before};
 use crate::{LinesText, Model};
 use itoa::Buffer;
@@ -158,30 +158,18 @@ fn write_detectors<'a, A: Allocator + Copy, W: Sink>(
 )
     ensures { Pushes W.taken W.failures sink.old sink.new out.old out.new (detectors_text model.now) }
 {
-    let mut buffer = [0; ROOM];
     for detector in 0..model.detector_count() {
-        write_detector(
-            out,
-            sink,
-            &mut buffer,
-            detector,
-            model.coordinates(detector),
-        );
+        push_detector(out, sink, detector, model.coordinates(detector));
     }
 }
 
-// Most detectors have few coordinates, and their lines go out as one text.
-fn write_detector<W: Sink>(
-    out: &mut Pieces,
-    sink: &mut W,
-    buffer: &mut [u8; ROOM],
-    detector: usize,
-    coordinates: &[i64],
-)
+/// Pushes the line of a detector. Most have few coordinates, and their lines go out as one text.
+pub fn push_detector<W: Sink>(out: &mut Pieces, sink: &mut W, detector: usize, coordinates: &[i64])
     ensures { Pushes W.taken W.failures sink.old sink.new out.old out.new (detector_text detector coordinates.now) }
 {
     if coordinates.len() <= SHORT_COORDINATES && detector <= u32::MAX as usize {
-        let start = detector_before(buffer, detector as u32, coordinates);
+        let mut buffer = [0; DETECTOR_ROOM];
+        let start = detector_before(&mut buffer, detector as u32, coordinates);
         out.push(sink, &buffer[start..]);
     } else {
         write_long_detector(out, sink, detector, coordinates);
@@ -231,11 +219,12 @@ fn write_observables<'a, A: Allocator + Copy, W: Sink>(
     ensures { Pushes W.taken W.failures sink.old sink.new out.old out.new (observables_text model.now) }
 {
     for observable in 0..model.observable_count() {
-        write_observable(out, sink, observable);
+        push_observable(out, sink, observable);
     }
 }
 
-fn write_observable<W: Sink>(out: &mut Pieces, sink: &mut W, observable: usize)
+/// Pushes the line of an observable.
+pub fn push_observable<W: Sink>(out: &mut Pieces, sink: &mut W, observable: usize)
     ensures { Pushes W.taken W.failures sink.old sink.new out.old out.new (observable_text observable) }
 {
     out.push(sink, b"logical_observable L");

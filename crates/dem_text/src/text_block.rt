@@ -1,5 +1,5 @@
 //! A block of text that is filled from its end.
-ghost use Rattle.std.specs.Prelude.{◌≡◌, ◌<◌, ◌≤◌, ◌*◌, ◌++◌, [], All, length, IfOk};
+ghost use Rattle.std.specs.Prelude.{◌≡◌, ◌<◌, ◌≤◌, ◌+◌, ◌*◌, ◌++◌, [], All, length, IfOk};
 ghost use Rattle.dem_text.specs.HeldText.{no_text};
 ghost use Rattle.dem_text.specs.ModelText.{line_text, targets_text};
 
@@ -59,10 +59,24 @@ impl<A: Allocator + Copy> TextBlock<A> {
         self.start
     }
 
+    /// How long the text is.
+    pub(crate) fn len(&self) -> usize
+        ensures { result ≡ length self.now.text }
+    {
+        self.bytes.len() - self.start
+    }
+
     pub(crate) fn text(&self) -> &[u8]
         ensures { result.now ≡ self.now.text }
     {
         &self.bytes[self.start..]
+    }
+
+    /// Takes its text away.
+    pub(crate) fn clear(&mut self)
+        ensures { self.new ≡ no_text (self.old.room + length self.old.text) }
+    {
+        self.start = self.bytes.len();
     }
 
     /// Puts bytes before the text.

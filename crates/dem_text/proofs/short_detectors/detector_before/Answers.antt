@@ -14,5 +14,5 @@ returns-clause-written c =
     ∙ ap (λ l. codes "detector" ++ l) (c.coordinates_before-at.ensures.written
     ∙ (ap (λ l. coordinates ++ l) (c.number_before-at.ensures.written
     ∙ ap (λ l. 32 ∷ 68 ∷ (number ++ l)) (c.text_before-at.ensures.written
-    ∙ ap (λ l. 10 ∷ l) (drop_all 4096 c.args.buffer.now (omega (arith, c.requires.room)))))
+    ∙ ap (λ l. 10 ∷ l) (drop_all 256 c.args.buffer.now (omega (arith, c.requires.room)))))
     ∙ detector_parts coordinates number))

@@ -6,4 +6,4 @@ use Rattle.dem_text.proofs.text.write_detectors.Goals as goal
 pub loop-detector-preserved : goal.loop-detector-preserved
 loop-detector-preserved g c =
     Pushes-number (λ d. detector_text d (get_or c.args.model.now.coordinates d [])) c.loop-detector.detector
-    c.loop-detector.invariant (rw c.coordinates.ensures at c.write_detector.ensures)
+    c.loop-detector.invariant (rw c.coordinates.ensures at c.push_detector.ensures)

@@ -4,4 +4,4 @@ use Rattle.dem_text.proofs.text.write_observables.Goals as goal
 
 pub loop-observable-preserved : goal.loop-observable-preserved
 loop-observable-preserved g c =
-    Pushes-number observable_text c.loop-observable.observable c.loop-observable.invariant c.write_observable.ensures
+    Pushes-number observable_text c.loop-observable.observable c.loop-observable.invariant c.push_observable.ensures

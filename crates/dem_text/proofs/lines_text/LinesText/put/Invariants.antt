@@ -1,5 +1,4 @@
 use Rattle.std.proofs.Common.{◌≡◌, ◌≤◌, ◌++◌, length, drop}
-use Rattle.dem_text.specs.HeldText.{text_in}
 use Rattle.dem_text.proofs.lines_text.LinesText.put.Given as goal
 
 -- the bytes from this one on are there
@@ -9,7 +8,7 @@ invariant-loop-left g l =
       within : l.left ≤ length l.bytes;
       names : l.self-inside.names ≡ record { detectors = l.fn.self.detectors; targets = l.fn.self.targets };
       texts : l.self-inside.texts.items ≡ l.fn.self.texts;
-      text : text_in l.self-inside.block l.self-inside.full.items ≡ drop l.left l.bytes ++ l.fn.self.text;
+      text : l.self-inside.blocks.text ≡ drop l.left l.bytes ++ l.fn.self.text;
     }
 
 abbrev pub decreases-loop-left : goal.decreases-loop-left

@@ -1,5 +1,4 @@
 use Rattle.std.proofs.Common.{◌≡◌, ◌≤◌, ◌++◌, length, drop}
-use Rattle.dem_text.specs.HeldText.{text_in}
 use Rattle.dem_text.specs.ModelText.{targets_text}
 use Rattle.dem_text.proofs.lines_text.LinesText.put_targets.Given as goal
 
@@ -10,7 +9,7 @@ invariant-loop-left g l =
       within : l.left ≤ length l.targets;
       names : l.self-inside.names ≡ record { detectors = l.fn.self.detectors; targets = l.fn.self.targets };
       texts : l.self-inside.texts.items ≡ l.fn.self.texts;
-      text : text_in l.self-inside.block l.self-inside.full.items ≡ targets_text l.fn.self.detectors (drop l.left l.targets) ++ l.fn.self.text;
+      text : l.self-inside.blocks.text ≡ targets_text l.fn.self.detectors (drop l.left l.targets) ++ l.fn.self.text;
     }
 
 abbrev pub decreases-loop-left : goal.decreases-loop-left

@@ -2,7 +2,7 @@ use Rattle.std.proofs.Common.{◌≡◌, ◌<◌, ◌+◌, ◌-◌, ◌++◌, le
 use Rattle.dem_text.specs.HeldText.{texts_of}
 use Rattle.dem_text.proofs.HeldTextLemmas.{one_block_more}
 use Rattle.dem_text.proofs.ShortLineLemmas.{Pushes-one}
-use Rattle.dem_text.proofs.lines_text.push_blocks.Goals as goal
+use Rattle.dem_text.proofs.held_text.push_full.Goals as goal
 
 pub loop-left-preserved : goal.loop-left-preserved
 loop-left-preserved g c =
