@@ -1,5 +1,5 @@
 //! For each record the targets that list it, as linked lists: most records have none or few.
-ghost use Rattle.std.specs.Prelude.{◌≡◌, ◌<◌, ◌≤◌, ◌+◌, ◌∷◌, ◌^◌, ℕ, [], true, false, length, replicate, sum_by, slice_index_or, slice_set, All, IfOk, OnOk};
+ghost use Rattle.std.specs.Prelude.{◌≡◌, ◌<◌, ◌≤◌, ◌+◌, ◌∷◌, ◌^◌, ℕ, [], true, false, length, replicate, sum_by, slice_index_or, slice_set, All, IfOk, IsPermutation, OnOk};
 ghost use Rattle.step_model.specs.Targets.{targets_of};
 ghost use Rattle.backward.specs.private.Collapses.{toggled_each};
 ghost use Rattle.backward.specs.private.Links.{list_at, rows_at, LeadBack, AreLists, Falls, IsGrown, IsPutAt};
@@ -18,8 +18,11 @@ use std::marker::Model;
 #[derive(Clone, Copy, Drop)]
 struct Link {
     target: u32,
-    next: usize,
+    next: u32,
 }
+
+// With no more links than this each place of a list fits 32 bits.
+const MOST_LINKS: usize = u32::MAX as usize;
 
 /// For each record the set of the targets that list it an odd number of times. Feedback alone changes them.
 ///
@@ -31,7 +34,7 @@ pub(crate) struct RecordLists<'s, A: Allocator + Copy> {
     alloc: &'s A,
     targets: usize,
     links: Vec<Link, A>,
-    places: Vec<usize, A>,
+    places: Vec<u32, A>,
     // From how many links on the lists are made anew.
     many: usize,
 }
@@ -113,6 +116,7 @@ impl<'s, A: Allocator + Copy> RecordLists<'s, A> {
             into.reverse();
             return Ok(());
         }
+        put_falling(into);
         let mut set = SparseSet::none(self.alloc, self.targets);
         toggle_each(&mut set, into.as_slice())?;
         set.list(into)
@@ -170,13 +174,13 @@ impl<'s, A: Allocator + Copy> RecordLists<'s, A> {
     }
 }
 
-// From how many links on the lists are made anew, when there are this many links and records: many more, so that it is
+// From how many links on the lists are made anew, when there are this many links and records: so many more that it is
 // done seldom.
 fn many_links(links: usize, records: usize) -> usize
     ensures { links ≤ result }
 {
     links
-        .saturating_mul(4)
+        .saturating_mul(2)
         .saturating_add(records)
         .saturating_add(1024)
 }
@@ -195,7 +199,7 @@ fn listed_count<'a, A: Allocator + Copy>(program: &Program<'a, A>) -> usize
 // Puts a target, which is above all that are there, in front of the list of each of these records.
 fn put_in_each<A: Allocator + Copy>(
     links: &mut Vec<Link, A>,
-    places: &mut Vec<usize, A>,
+    places: &mut Vec<u32, A>,
     named: &[u32],
     target: u32,
 ) -> Result<(), AllocError>
@@ -215,9 +219,9 @@ fn put_in_each<A: Allocator + Copy>(
 // put before an error stays, and no list has it.
 fn put_each<A: Allocator + Copy>(
     links: &mut Vec<Link, A>,
-    place: usize,
+    place: u32,
     targets: &[u32],
-) -> Result<usize, AllocError>
+) -> Result<u32, AllocError>
     requires back { LeadBack links.old.items }
     requires placed { place ≤ length links.old.items }
     ensures put { IfOk result (λ first. IsPutAt targets.now links.old.items place links.new.items first) }
@@ -230,22 +234,25 @@ fn put_each<A: Allocator + Copy>(
     Ok(first)
 }
 
-// Puts a target in front of a list, and answers the place of that list. It fails only where memory runs out.
+// Puts a target in front of a list, and answers the place of that list. It fails where memory runs out, or links do.
 fn put_first<A: Allocator + Copy>(
     links: &mut Vec<Link, A>,
-    place: usize,
+    place: u32,
     target: u32,
-) -> Result<usize, AllocError>
+) -> Result<u32, AllocError>
     requires back { LeadBack links.old.items }
     requires placed { place ≤ length links.old.items }
     ensures put { IfOk result (λ first. IsPutAt (target ∷ []) links.old.items place links.new.items first) }
     ensures grown { IsGrown links.old.items links.new.items }
 {
+    if links.len() >= MOST_LINKS {
+        return Err(AllocError);
+    }
     links.push(Link {
         target,
         next: place,
     })?;
-    Ok(links.len())
+    Ok(links.len() as u32)
 }
 
 // Whether each target is less than the one before it.
@@ -262,10 +269,19 @@ fn falls(targets: &[u32]) -> bool
     true
 }
 
+// Puts these in descending order: a set that is given them so puts each behind all others, or takes the last out, and
+// moves none.
+fn put_falling<B: Allocator + Copy>(targets: &mut Vec<u32, B>)
+    ensures { IsPermutation targets.old.items targets.new.items }
+{
+    targets.sort_unstable();
+    targets.reverse();
+}
+
 // Puts the targets of a list into `into`, in place of what it held.
 fn list_from<B: Allocator + Copy>(
     links: &[Link],
-    place: usize,
+    place: u32,
     into: &mut Vec<u32, B>,
 ) -> Result<(), AllocError>
     requires back { LeadBack links.now }
@@ -273,11 +289,11 @@ fn list_from<B: Allocator + Copy>(
     ensures { OnOk result (into.new.items ≡ list_at links.now place) }
 {
     into.clear();
-    let mut left = place;
+    let mut left = place as usize;
     while left > 0 {
         let link = links[left - 1];
         into.push(link.target)?;
-        left = link.next;
+        left = link.next as usize;
     }
     Ok(())
 }
