@@ -1,11 +1,15 @@
 -- Lists of targets as links of one list of links: what a link more leaves, and targets put in front.
-use Rattle.std.proofs.Common.{◌≡◌, ℕ, zero, suc, ◌+◌, ◌-◌, ◌<◌, ◌≤◌, Bool, false, List, [], ◌∷◌, ◌++◌, length, map, drop, get_or, set, inl, inr, refl, ap, ap₂, subst, sym, ◌∙◌, arith}
-use Rattle.std.specs.Prelude.{All, replicate}
+use Rattle.std.proofs.Common.{◌≡◌, ℕ, zero, suc, ◌+◌, ◌-◌, ◌<◌, ◌≤◌, Bool, true, false, not, ◌==◌, List, [], ◌∷◌, ◌++◌, length, map, take, drop, get_or, set, inl, inr, refl, ap, ap₂, subst, sym, ◌∙◌, arith}
+use Rattle.std.specs.Prelude.{All, cond, replicate}
+use Rattle.std.specs.List.{range_with_len, sum_by}
+use Rattle.std.specs.List.Sorted.{IsPermutation}
 use Rattle.std.proofs.Math.ListN.{get_or-append}
 use Rattle.std.proofs.Math.Seq.{get_or-append_seam}
-use Rattle.std.proofs.lemmas.List.{append_assoc, drop_more, ext_get_or, get_or_default, get_or-map, get_or-replicate, length-append, length-replicate, length-map, map-set}
-use Rattle.std.proofs.lemmas.List.Elements.{All-set}
+use Rattle.std.proofs.lemmas.List.{append_assoc, drop_more, length-drop, length-take, take-append-le, take-map, take-take, ext_get_or, get_or_default, get_or-map, get_or-replicate, length-append, length-replicate, length-map, map-set}
+use Rattle.std.proofs.lemmas.List.Elements.{All-append, All-drop, All-replicate, All-set, All-take}
 use Rattle.std.proofs.lemmas.List.FromFn.{fill_by_all}
+use Rattle.std.proofs.lemmas.List.Sorted.{sum_by-IsPermutation}
+use Rattle.std.proofs.lemmas.List.Sums.{sum_by-append}
 use Rattle.std.proofs.lemmas.Bool.{cases_lt}
 use Rattle.pauli_word.specs.Parity.{exclusive_or}
 use Rattle.pauli_word.proofs.Parities.{exclusive_or-false}
@@ -271,3 +275,81 @@ put_members row list none is blank =
     (λ k lt.
     let within : k < length row = omega (arith, lt, length-row_of_set (length row) (members row)) in
     get_or-row_of_set (length row) (members row) k within ∙ listed_in_range (λ t. get_or row t false) k 0 (length row) (omega arith) (omega (arith, within))))
+
+-- ---- the order of a list doesn't matter
+abbrev odd : ℕ → Bool
+odd zero = false
+odd (suc n) = not (odd n)
+
+abbrev once : ℕ → ℕ → ℕ
+once t u = cond (u == t) 1 0
+
+odd_more : (b : Bool) (n : ℕ) → exclusive_or b (odd n) ≡ odd (cond b 1 0 + n)
+odd_more true n = let e : suc n ≡ 1 + n = omega arith in turned (odd n) ∙ ap odd e
+  where
+    turned : (b : Bool) → exclusive_or true b ≡ not b
+    turned true = refl
+    turned false = refl
+odd_more false n = let e : n ≡ 0 + n = omega arith in kept (odd n) ∙ ap odd e
+  where
+    kept : (b : Bool) → exclusive_or false b ≡ b
+    kept true = refl
+    kept false = refl
+
+listed_by_count : (t : ℕ) (xs : List ℕ) → is_listed xs t ≡ odd (sum_by (once t) xs)
+listed_by_count t [] = refl
+listed_by_count t (x ∷ xs) =
+    let first : 0 + once t x ≡ once t x = omega arith in
+    ap (exclusive_or (x == t)) (listed_by_count t xs)
+    ∙ odd_more (x == t) (sum_by (once t) xs)
+    ∙ ap (λ n. odd (n + sum_by (once t) xs)) (sym first)
+    ∙ ap odd (sym (sum_by-append (once t) (x ∷ []) xs))
+
+pub row_of_permutation : (m : ℕ) (xs ys : List ℕ) → IsPermutation xs ys → row_of_set m ys ≡ row_of_set m xs
+row_of_permutation m xs ys p =
+    map_agree_on (is_listed ys) (is_listed xs) (range_with_len 0 m) (λ k d lt. same (get_or (range_with_len 0 m) k d))
+  where
+    same : (t : ℕ) → is_listed ys t ≡ is_listed xs t
+    same t = listed_by_count t ys ∙ (ap odd (sum_by-IsPermutation (once t) xs ys p) ∙ sym (listed_by_count t xs))
+
+-- ---- some lists made empty
+all_emptied : (P : ℕ → Type 0) (from to : ℕ) (places : List ℕ) → P 0 → All P places → All P (take from places ++ (replicate (to - from) 0 ++ drop to places))
+all_emptied P from to places none all =
+    All-append P (take from places) (replicate (to - from) 0 ++ drop to places) (All-take P from places all)
+    (All-append P (replicate (to - from) 0) (drop to places) (All-replicate P (to - from) 0 none) (All-drop P to places all))
+
+pub lists_emptied : (m from to : ℕ) (links : List Link) (places new_places : List ℕ) → AreLists m links places → new_places ≡ take from places ++ (replicate (to - from) 0 ++ drop to places) → AreLists m links new_places
+lists_emptied m from to links places new_places lists is =
+    record {
+      back = lists.back;
+      placed = subst (All (λ place. place ≤ length links)) (sym is) (all_emptied (λ place. place ≤ length links) from to places (omega arith) lists.placed);
+      below = subst (All Below) (sym is) (all_emptied Below from to places (subst (All (λ t. t < m)) (sym (list_at-none links)) (λ k d lt. absurd (omega (arith, lt)))) lists.below);
+    }
+  where
+    Below : ℕ → Type 0
+    Below place = All (λ t. t < m) (list_at links place)
+
+pub length_emptied : (from to : ℕ) (places new_places : List ℕ) → from ≤ to → to ≤ length places → new_places ≡ take from places ++ (replicate (to - from) 0 ++ drop to places) → length new_places ≡ length places
+length_emptied from to places new_places le within is =
+    let zeros : List ℕ = replicate (to - from) 0 in
+    let many : length zeros ≡ to - from = length-replicate {A = ℕ} (to - from) 0 in
+    omega (arith, le, within, many, ap length is, length-append (take from places) (zeros ++ drop to places), length-append zeros (drop to places), length-take from places, length-drop to places)
+
+pub rows_emptied : (m from to : ℕ) (links : List Link) (places new_places : List ℕ) → from ≤ length places → new_places ≡ take from places ++ (replicate (to - from) 0 ++ drop to places) → take from (rows_at m links new_places) ≡ take from (rows_at m links places)
+rows_emptied m from to links places new_places within is =
+    take-map row from new_places
+    ∙ (ap (λ ps. map row (take from ps)) is
+    ∙ (ap (map row) (take-append-le from (take from places) (replicate (to - from) 0 ++ drop to places) (omega (arith, within, length-take from places)) ∙ take-take from from places (omega arith))
+    ∙ sym (take-map row from places)))
+  where
+    row : ℕ → List Bool
+    row place = row_of_set m (list_at links place)
+
+-- all rows are of the number of targets, so a number that is the length of each stays it
+pub rows_stay_long : (m n : ℕ) (links : List Link) (places new_places : List ℕ) (rows : List (List Bool)) → rows_at m links places ≡ rows → length new_places ≡ length places → All (λ set. length set ≡ n) rows → All (λ set. length set ≡ n) (rows_at m links new_places)
+rows_stay_long m n links places new_places rows is same all k d lt =
+    let row = λ (place : ℕ). row_of_set m (list_at links place) in
+    let within : k < length rows = omega (arith, lt, length-map new_places row, same, ap length is, length-map places row) in
+    ap length (get_or_default (rows_at m links new_places) k d [] lt)
+    ∙ (rows_of_length m links new_places (rows_at m links new_places) k refl lt
+    ∙ (sym (rows_of_length m links places rows k is within) ∙ all k [] within))

@@ -1,5 +1,5 @@
 //! For each record the targets that list it, as linked lists: most records have none or few.
-ghost use Rattle.std.specs.Prelude.{◌≡◌, ◌<◌, ◌≤◌, ◌+◌, ◌∷◌, ◌^◌, ℕ, [], true, false, length, replicate, sum_by, take, slice_index_or, slice_set, All, IfOk, OnOk};
+ghost use Rattle.std.specs.Prelude.{◌≡◌, ◌<◌, ◌≤◌, ◌+◌, ◌-◌, ◌∷◌, ◌++◌, ◌^◌, ℕ, [], true, false, length, replicate, sum_by, slice_index_or, slice_set, take, drop, All, IfOk, IsPermutation, OnOk};
 ghost use Rattle.step_model.specs.Targets.{targets_of};
 ghost use Rattle.backward.specs.private.Collapses.{toggled_each};
 ghost use Rattle.backward.specs.private.Links.{list_at, rows_at, LeadBack, AreLists, Falls, IsGrown, IsPutAt};
@@ -18,20 +18,26 @@ use std::marker::Model;
 #[derive(Clone, Copy, Drop)]
 struct Link {
     target: u32,
-    next: usize,
+    next: u32,
 }
+
+// With no more links than this each place of a list fits 32 bits.
+const MOST_LINKS: usize = u32::MAX as usize;
 
 /// For each record the set of the targets that list it an odd number of times. Feedback alone changes them.
 ///
 /// They are kept as linked lists, and a target is in a set where it is in the list an odd number of times: to toggle
 /// it, it is put in front. A list's place is how many links there are up to and with its first, and 0 where it is
-/// empty. Where feedback has put many, the lists are made anew, so the links don't grow with the number of steps.
+/// empty. Where feedback has put many, the lists are made anew, so the links don't grow with the number of steps. Those
+/// of records that were let go are empty, and what they had is left out then.
 #[derive(Drop)]
 pub(crate) struct RecordLists<'s, A: Allocator + Copy> {
     alloc: &'s A,
     targets: usize,
     links: Vec<Link, A>,
-    places: Vec<usize, A>,
+    places: Vec<u32, A>,
+    // The records from this one on were let go.
+    asked: usize,
     // From how many links on the lists are made anew.
     many: usize,
 }
@@ -57,6 +63,7 @@ impl<'s, A: Allocator + Copy> RecordLists<'s, A> {
             targets: 0,
             links: Vec::new(*alloc),
             places: Vec::new(*alloc),
+            asked: 0,
             many: 0,
         }
     }
@@ -73,12 +80,14 @@ impl<'s, A: Allocator + Copy> RecordLists<'s, A> {
         for t in 0..targets {
             put_in_each(&mut links, &mut places, target(program, t), t as u32)?;
         }
-        let many = many_links(links.len(), places.len());
+        let asked = places.len();
+        let many = many_links(links.len(), asked);
         Ok(RecordLists {
             alloc,
             targets,
             links,
             places,
+            asked,
             many,
         })
     }
@@ -93,6 +102,7 @@ impl<'s, A: Allocator + Copy> RecordLists<'s, A> {
             targets,
             links: Vec::new(*alloc),
             places,
+            asked: records,
             many: many_links(0, records),
         })
     }
@@ -113,6 +123,7 @@ impl<'s, A: Allocator + Copy> RecordLists<'s, A> {
             into.reverse();
             return Ok(());
         }
+        put_falling(into);
         let mut set = SparseSet::none(self.alloc, self.targets);
         toggle_each(&mut set, into.as_slice())?;
         set.list(into)
@@ -129,12 +140,18 @@ impl<'s, A: Allocator + Copy> RecordLists<'s, A> {
         self.put(rec, targets)
     }
 
-    /// Lets go of all but the sets of the first records: those of the others may be anything then.
-    pub(crate) fn let_go(&mut self, _records: usize)
-        ensures first { take _records self.new ≡ take _records self.old }
-        ensures size { length self.new ≡ length self.old }
+    /// Lets the sets of all but the first `records` go: they are not asked for any more. It takes no memory, and a number
+    /// of steps only for each that goes.
+    pub(crate) fn let_go(&mut self, records: usize)
+        ensures kept { take records self.new ≡ take records self.old }
+        ensures len { length self.new ≡ length self.old }
         ensures long { (n : ℕ) → All (λ set. length set ≡ n) self.old → All (λ set. length set ≡ n) self.new }
     {
+        let end = self.asked.min(self.places.len());
+        if records < end {
+            empty_lists(&mut self.places, records, end);
+            self.asked = records;
+        }
     }
 
     // Makes the lists anew where they have many links.
@@ -145,8 +162,10 @@ impl<'s, A: Allocator + Copy> RecordLists<'s, A> {
         if self.links.len() < self.many {
             return Ok(());
         }
+        let asked = self.asked;
         let lists = self.anew()?;
         *self = lists;
+        self.asked = asked;
         self.many = many_links(self.links.len(), self.places.len());
         Ok(())
     }
@@ -178,13 +197,13 @@ impl<'s, A: Allocator + Copy> RecordLists<'s, A> {
     }
 }
 
-// From how many links on the lists are made anew, when there are this many links and records: many more, so that it is
+// From how many links on the lists are made anew, when there are this many links and records: so many more that it is
 // done seldom.
 fn many_links(links: usize, records: usize) -> usize
     ensures { links ≤ result }
 {
     links
-        .saturating_mul(4)
+        .saturating_mul(2)
         .saturating_add(records)
         .saturating_add(1024)
 }
@@ -203,7 +222,7 @@ fn listed_count<'a, A: Allocator + Copy>(program: &Program<'a, A>) -> usize
 // Puts a target, which is above all that are there, in front of the list of each of these records.
 fn put_in_each<A: Allocator + Copy>(
     links: &mut Vec<Link, A>,
-    places: &mut Vec<usize, A>,
+    places: &mut Vec<u32, A>,
     named: &[u32],
     target: u32,
 ) -> Result<(), AllocError>
@@ -223,9 +242,9 @@ fn put_in_each<A: Allocator + Copy>(
 // put before an error stays, and no list has it.
 fn put_each<A: Allocator + Copy>(
     links: &mut Vec<Link, A>,
-    place: usize,
+    place: u32,
     targets: &[u32],
-) -> Result<usize, AllocError>
+) -> Result<u32, AllocError>
     requires back { LeadBack links.old.items }
     requires placed { place ≤ length links.old.items }
     ensures put { IfOk result (λ first. IsPutAt targets.now links.old.items place links.new.items first) }
@@ -238,22 +257,34 @@ fn put_each<A: Allocator + Copy>(
     Ok(first)
 }
 
-// Puts a target in front of a list, and answers the place of that list. It fails only where memory runs out.
+// Puts a target in front of a list, and answers the place of that list. It fails where memory runs out, or links do.
 fn put_first<A: Allocator + Copy>(
     links: &mut Vec<Link, A>,
-    place: usize,
+    place: u32,
     target: u32,
-) -> Result<usize, AllocError>
+) -> Result<u32, AllocError>
     requires back { LeadBack links.old.items }
     requires placed { place ≤ length links.old.items }
     ensures put { IfOk result (λ first. IsPutAt (target ∷ []) links.old.items place links.new.items first) }
     ensures grown { IsGrown links.old.items links.new.items }
 {
+    if links.len() >= MOST_LINKS {
+        return Err(AllocError);
+    }
     links.push(Link {
         target,
         next: place,
     })?;
-    Ok(links.len())
+    Ok(links.len() as u32)
+}
+
+// Makes the lists of the records from one on and below another empty.
+fn empty_lists<A: Allocator + Copy>(places: &mut Vec<u32, A>, from: usize, to: usize)
+    requires order { from ≤ to }
+    requires within { to ≤ length places.old.items }
+    ensures { places.new.items ≡ take from places.old.items ++ (replicate (to - from) 0 ++ drop to places.old.items) }
+{
+    places.as_mut_slice()[from..to].fill(0);
 }
 
 // Whether each target is less than the one before it.
@@ -270,10 +301,19 @@ fn falls(targets: &[u32]) -> bool
     true
 }
 
+// Puts these in descending order: a set that is given them so puts each behind all others, or takes the last out, and
+// moves none.
+fn put_falling<B: Allocator + Copy>(targets: &mut Vec<u32, B>)
+    ensures { IsPermutation targets.old.items targets.new.items }
+{
+    targets.sort_unstable();
+    targets.reverse();
+}
+
 // Puts the targets of a list into `into`, in place of what it held.
 fn list_from<B: Allocator + Copy>(
     links: &[Link],
-    place: usize,
+    place: u32,
     into: &mut Vec<u32, B>,
 ) -> Result<(), AllocError>
     requires back { LeadBack links.now }
@@ -281,11 +321,11 @@ fn list_from<B: Allocator + Copy>(
     ensures { OnOk result (into.new.items ≡ list_at links.now place) }
 {
     into.clear();
-    let mut left = place;
+    let mut left = place as usize;
     while left > 0 {
         let link = links[left - 1];
         into.push(link.target)?;
-        left = link.next;
+        left = link.next as usize;
     }
     Ok(())
 }

@@ -11,8 +11,8 @@ returns-clause-put g c =
     let place = c.args.place in
     let more = links ++ record { target = target; next = place } ∷ [] in
     let is_more : c.push.new.self.items ≡ more = c.in_ok-push.ensures.items in
-    let long : c.len.result ≡ length more = omega (arith, c.len.ensures, c.push.new.self.ok.0, ap length is_more) in
-    subst (λ (l : List Link). IsPutAt (target ∷ []) links place l c.len.result) (sym is_more)
+    let long : c.len-2.result ≡ length more = omega (arith, c.len-2.ensures, c.push.new.self.ok.0, ap length is_more) in
+    subst (λ (l : List Link). IsPutAt (target ∷ []) links place l c.len-2.result) (sym is_more)
     (subst (IsPutAt (target ∷ []) links place more) (sym long) (put_in_front target links place c.requires.back c.requires.placed))
 
 pub returns-clause-grown : goal.returns-clause-grown
