@@ -8,4 +8,4 @@ pub returns-then-not-self-clause-lists : goal.returns-then-not-self-clause-lists
 returns-then-not-self-clause-lists g c program place enough h =
     let f = c.args.self.now in
     let some = subst (λ o. IfSome o (λ r. (records_before program place ≤ r) × (r ≤ f.known))) c.in-Some.is enough in
-    holds-first program f.settled place f.known c.in-Some.r f.lists c.let_go.new.self c.let_go.ensures.first c.let_go.ensures.size c.let_go.ensures.long some.0 some.1 h
+    holds-first program f.settled place f.known c.in-Some.r f.lists c.let_go.new.self c.let_go.ensures.kept c.let_go.ensures.len c.let_go.ensures.long some.0 some.1 h
