@@ -45,6 +45,15 @@ impl<S: TargetSet> Column<S> {
         Ok(Column { x, z })
     }
 
+    /// A copy, which has room for no more than the sets hold.
+    pub(crate) fn copy(&self) -> Result<Self, AllocError>
+        ensures { IfOk result (λ column. column ≡ self.now) }
+    {
+        let x = self.x.copy()?;
+        let z = self.z.copy()?;
+        Ok(Column { x, z })
+    }
+
     /// Makes every letter I.
     pub(crate) fn clear(&mut self)
         ensures { self.new ≡ no_letters (length self.old) }

@@ -258,6 +258,22 @@ impl<S: TargetSet, A: Allocator + Copy> Words<S, A> {
 impl<S: TargetSet, A: Allocator + Copy> Tracker for Words<S, A> {
     ghost tracked = { λ w. w };
 
+    fn copy(&self) -> Result<Self, AllocError> {
+        let none = self.spare.none_like()?;
+        let columns = copies(&self.columns)?;
+        let first = Column::of_copies(&none)?;
+        let second = Column::of_copies(&none)?;
+        let set = none.copy()?;
+        Ok(Words {
+            targets: self.targets,
+            columns,
+            first,
+            second,
+            set,
+            spare: none,
+        })
+    }
+
     fn undo1(&mut self, gate: Gate, q: usize) -> Result<(), AllocError> {
         let inverse = gate.inverse();
         let (x, _) = inverse.image1(Letter::X);
@@ -301,6 +317,19 @@ impl<S: TargetSet, A: Allocator + Copy> Tracker for Words<S, A> {
         }
         listed
     }
+}
+
+// Copies of these columns, on the same allocator.
+fn copies<S: TargetSet, A: Allocator + Copy>(
+    columns: &Vec<Column<S>, A>,
+) -> Result<Vec<Column<S>, A>, AllocError>
+    ensures { IfOk result (λ made. made.items ≡ columns.now.items) }
+{
+    let mut made = Vec::with_capacity(*columns.allocator(), columns.len())?;
+    for column in columns {
+        made.push(column.copy()?)?;
+    }
+    Ok(made)
 }
 
 // The targets whose words anticommute with the product of these letters at qubits.
