@@ -145,6 +145,7 @@ impl<S: TargetSet> Column<S> {
     }
 
     /// Multiplies each letter by the image of that of another column, from the images of X and Z.
+    #[inline(always)]
     pub(crate) fn add_image(
         &mut self,
         from: &Column<S>,
@@ -279,6 +280,7 @@ impl<S: TargetSet> Column<S> {
 
 /// Multiplies the letters of each of two columns by an image of those of the other. What the first is multiplied by has
 /// the image I at the second, so the order doesn't matter.
+#[inline(always)]
 pub(crate) fn multiply_both<S: TargetSet>(
     first: &mut Column<S>,
     second: &mut Column<S>,
