@@ -45,6 +45,15 @@ impl<S: TargetSet> Column<S> {
         Ok(Column { x, z })
     }
 
+    /// A copy, which has room for no more than the sets hold.
+    pub(crate) fn copy(&self) -> Result<Self, AllocError>
+        ensures { IfOk result (λ column. column ≡ self.now) }
+    {
+        let x = self.x.copy()?;
+        let z = self.z.copy()?;
+        Ok(Column { x, z })
+    }
+
     /// Makes every letter I.
     pub(crate) fn clear(&mut self)
         ensures { self.new ≡ no_letters (length self.old) }
@@ -136,6 +145,7 @@ impl<S: TargetSet> Column<S> {
     }
 
     /// Multiplies each letter by the image of that of another column, from the images of X and Z.
+    #[inline(always)]
     pub(crate) fn add_image(
         &mut self,
         from: &Column<S>,
@@ -270,6 +280,7 @@ impl<S: TargetSet> Column<S> {
 
 /// Multiplies the letters of each of two columns by an image of those of the other. What the first is multiplied by has
 /// the image I at the second, so the order doesn't matter.
+#[inline(always)]
 pub(crate) fn multiply_both<S: TargetSet>(
     first: &mut Column<S>,
     second: &mut Column<S>,

@@ -13,13 +13,13 @@ use step_model::Term;
 ///
 /// After an error in `undo1`, `undo2` or `add` nothing is promised about the words, and the tracker is not used again.
 /// After one in `hit` it is as it was.
-pub trait Tracker {
+pub trait Tracker: Sized {
     // The words, in the order of their targets, and how many qubits they have.
     ghost tracked: { Self → Tracked };
 
-    /// A copy, on the same allocator. It fails only where memory runs out.
+    /// A copy, on the same allocator. It fails only where memory runs out; this one stays as it was.
     fn copy(&self) -> Result<Self, AllocError>
-        ensures { IfOk result (λ copied. tracked copied ≡ tracked self.now) };
+        ensures { IfOk result (λ t. tracked t ≡ tracked self.now) };
 
     /// Takes each word to its preimage under a one-qubit gate, the sign left out.
     fn undo1(&mut self, gate: Gate, q: usize) -> Result<(), AllocError>

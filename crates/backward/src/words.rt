@@ -1,5 +1,6 @@
 ghost use Rattle.std.specs.Prelude.{◌≡◌, ◌<◌, ◌≤◌, ◌≢◌, ◌^◌, ◌∷◌, [], ℕ, false, true, length, All, IfOk, OnOk, map, replicate};
 ghost use Rattle.gate_table.specs.Images.{arity_of};
+ghost use Rattle.gate_table.specs.declared.gate.Gate.TheVariants.{CX};
 ghost use Rattle.pauli_word.specs.declared.letter.Letter.TheVariants.{I, Y};
 ghost use Rattle.std.specs.List.{range_with_len};
 ghost use Rattle.pauli_word.specs.Words.{anticommute};
@@ -112,6 +113,7 @@ impl<S: TargetSet, A: Allocator + Copy> Words<S, A> {
     }
 
     // Multiplies the letters at each of two qubits by an image of those at the other.
+    #[inline(always)]
     fn multiply(
         &mut self,
         a: usize,
@@ -232,6 +234,40 @@ impl<S: TargetSet, A: Allocator + Copy> Words<S, A> {
         self.columns[first.qubit as usize].list_clashing_y(other, hit)
     }
 
+    // The commonest gate of two qubits, whose images the compiler then knows.
+    #[inline(always)]
+    fn undo_cx(&mut self, a: usize, b: usize) -> Result<(), AllocError>
+        requires first_in_range { a < self.old.qubits }
+        requires second_in_range { b < self.old.qubits }
+        requires different { a ≢ b }
+        ensures { OnOk result (self.new ≡ each_word (undone_two CX a b) self.old) }
+    {
+        self.multiply(a, b, (Letter::I, Letter::Z), (Letter::X, Letter::I))
+    }
+
+    // Any gate of two qubits, by what its images show.
+    fn undo_by_table(&mut self, gate: Gate, a: usize, b: usize) -> Result<(), AllocError>
+        requires arity { arity_of gate ≡ 2 }
+        requires first_in_range { a < self.old.qubits }
+        requires second_in_range { b < self.old.qubits }
+        requires different { a ≢ b }
+        ensures { OnOk result (self.new ≡ each_word (undone_two gate a b) self.old) }
+    {
+        let inverse = gate.inverse();
+        let xa = inverse.image2(Letter::X, Letter::I);
+        let za = inverse.image2(Letter::Z, Letter::I);
+        let xb = inverse.image2(Letter::I, Letter::X);
+        let zb = inverse.image2(Letter::I, Letter::Z);
+        let kept = is_kept(xa.0, za.0) && is_kept(xb.1, zb.1);
+        if kept && is_lost(xa.1, za.1, xb.0) && is_lost(xa.1, za.1, zb.0) {
+            self.multiply(a, b, (xb.0, zb.0), (xa.1, za.1))
+        } else if is_left(xa.0, za.0) && is_left(xb.1, zb.1) {
+            self.exchange(a, b, (xb.0, zb.0), (xa.1, za.1))
+        } else {
+            self.undo_by_images(gate, a, b)
+        }
+    }
+
     // Any gate of two qubits, by the images of the letters at both.
     fn undo_by_images(&mut self, gate: Gate, a: usize, b: usize) -> Result<(), AllocError>
         requires arity { arity_of gate ≡ 2 }
@@ -259,7 +295,19 @@ impl<S: TargetSet, A: Allocator + Copy> Tracker for Words<S, A> {
     ghost tracked = { λ w. w };
 
     fn copy(&self) -> Result<Self, AllocError> {
-        Err(AllocError)
+        let none = self.spare.none_like()?;
+        let columns = copies(&self.columns)?;
+        let first = Column::of_copies(&none)?;
+        let second = Column::of_copies(&none)?;
+        let set = none.copy()?;
+        Ok(Words {
+            targets: self.targets,
+            columns,
+            first,
+            second,
+            set,
+            spare: none,
+        })
     }
 
     fn undo1(&mut self, gate: Gate, q: usize) -> Result<(), AllocError> {
@@ -270,18 +318,9 @@ impl<S: TargetSet, A: Allocator + Copy> Tracker for Words<S, A> {
     }
 
     fn undo2(&mut self, gate: Gate, a: usize, b: usize) -> Result<(), AllocError> {
-        let inverse = gate.inverse();
-        let xa = inverse.image2(Letter::X, Letter::I);
-        let za = inverse.image2(Letter::Z, Letter::I);
-        let xb = inverse.image2(Letter::I, Letter::X);
-        let zb = inverse.image2(Letter::I, Letter::Z);
-        let kept = is_kept(xa.0, za.0) && is_kept(xb.1, zb.1);
-        if kept && is_lost(xa.1, za.1, xb.0) && is_lost(xa.1, za.1, zb.0) {
-            self.multiply(a, b, (xb.0, zb.0), (xa.1, za.1))
-        } else if is_left(xa.0, za.0) && is_left(xb.1, zb.1) {
-            self.exchange(a, b, (xb.0, zb.0), (xa.1, za.1))
-        } else {
-            self.undo_by_images(gate, a, b)
+        match gate {
+            Gate::CX => self.undo_cx(a, b),
+            _ => self.undo_by_table(gate, a, b),
         }
     }
 
@@ -305,6 +344,19 @@ impl<S: TargetSet, A: Allocator + Copy> Tracker for Words<S, A> {
         }
         listed
     }
+}
+
+// Copies of these columns, on the same allocator.
+fn copies<S: TargetSet, A: Allocator + Copy>(
+    columns: &Vec<Column<S>, A>,
+) -> Result<Vec<Column<S>, A>, AllocError>
+    ensures { IfOk result (λ made. made.items ≡ columns.now.items) }
+{
+    let mut made = Vec::with_capacity(*columns.allocator(), columns.len())?;
+    for column in columns {
+        made.push(column.copy()?)?;
+    }
+    Ok(made)
 }
 
 // The targets whose words anticommute with the product of these letters at qubits.
