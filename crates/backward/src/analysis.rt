@@ -121,7 +121,7 @@ fn coordinates_of<'a, A: Allocator + Copy>(
     program.well_formed();
     let mut lists = FlatLists::new(alloc);
     for detector in 0..program.detector_count() {
-        lists.push(program.coordinates(detector))?;
+        lists.push(program.coordinates(detector).as_slice())?;
     }
     Ok(lists)
 }

@@ -1,17 +1,20 @@
 //! A list of lists kept flat: all items one after another, and where each list ends. Millions of short lists
-//! take two blocks of memory in all, instead of one each.
+//! take two blocks of memory in all, instead of one each. Lists of whole numbers are kept in bytes.
 #![tactic(auto)]
 
-ghost use Rattle.std.specs.Prelude.{◌≡◌, ◌<◌, ◌==◌, [], ◌∷◌, ◌++◌, length, OnOk, OnErr, Some, slice_get, slice_index, slice_index_or};
+ghost use Rattle.std.specs.Prelude.{◌≡◌, ◌+◌, ◌<◌, ◌==◌, [], ◌∷◌, ◌++◌, length, IfOk, OnOk, OnErr, Some, slice_get, slice_index, slice_index_or};
 
+mod number_lists;
+
+pub use number_lists::{MOST_NUMBERS, NumberLists};
 use std::alloc::{AllocError, Allocator};
 use std::marker::Model;
 
-/// Lists of items, in the order in which they were pushed.
+/// Lists of items, in the order in which they were pushed. They have less than 2^32 items in all.
 #[derive(Drop)]
 pub struct FlatLists<T: Copy, A: Allocator + Copy> {
     items: Vec<T, A>,
-    ends: Vec<usize, A>,
+    ends: Vec<u32, A>,
 }
 
 impl<T: Copy, A: Allocator + Copy> Model for FlatLists<T, A> {
@@ -36,6 +39,16 @@ impl<T: Copy, A: Allocator + Copy> FlatLists<T, A> {
         }
     }
 
+    /// No lists, with room for the ends of this many.
+    pub fn with_room(alloc: A, lists: usize) -> Result<Self, AllocError>
+        ensures { IfOk result (λ none. none ≡ []) }
+    {
+        Ok(FlatLists {
+            items: Vec::new(alloc),
+            ends: Vec::with_capacity(alloc, lists)?,
+        })
+    }
+
     /// How many lists there are.
     #[inline(always)]
     #[tactic(auto, using(crate::proofs::CutLemmas::counts))]
@@ -52,17 +65,27 @@ impl<T: Copy, A: Allocator + Copy> FlatLists<T, A> {
         self.len() == 0
     }
 
-    /// Appends a copy of the list. It fails only where memory runs out.
+    /// Appends a copy of the list. It fails only where memory runs out, or where there would be 2^32 items or more.
     #[tactic(auto, using(crate::proofs::CutLemmas::pushes))]
     pub fn push(&mut self, list: &[T]) -> Result<(), AllocError>
         ensures ok { OnOk result (self.new ≡ self.old ++ list.now ∷ []) }
         ensures err { OnErr result (self.new ≡ self.old) }
     {
+        let end = end_after(self.items.len(), list.len())?;
+
         // Room for the end first, so that nothing changes where memory runs out.
         self.ends.reserve(1)?;
         self.items.extend_from_slice(list)?;
-        self.ends.push_reserved(self.items.len());
+        self.ends.push_reserved(end);
         Ok(())
+    }
+
+    /// Gives back the memory that the lists don't take.
+    pub fn shrink_to_fit(&mut self)
+        ensures { self.new ≡ self.old }
+    {
+        self.items.shrink_to_fit();
+        self.ends.shrink_to_fit();
     }
 
     /// The list at an index.
@@ -74,16 +97,31 @@ impl<T: Copy, A: Allocator + Copy> FlatLists<T, A> {
         ensures value { result.now ≡ slice_index_or self.now index [] }
     {
         let start = start_of(&self.ends, index);
-        let end = self.ends[index];
+        let end = self.ends[index] as usize;
         &self.items[start..end]
     }
 }
 
 // Where the list at an index starts: where the one before it ends, and the first at 0.
 #[inline(always)]
-fn start_of(ends: &[usize], index: usize) -> usize
+fn start_of(ends: &[u32], index: usize) -> usize
     requires { index < length ends.now }
     ensures { result ≡ slice_index (0 ∷ ends.now) index }
 {
-    if index == 0 { 0 } else { ends[index - 1] }
+    if index == 0 {
+        0
+    } else {
+        ends[index - 1] as usize
+    }
+}
+
+// Where a list of this length ends after so many items.
+fn end_after(items: usize, list: usize) -> Result<u32, AllocError>
+    ensures { IfOk result (λ end. end ≡ items + list) }
+{
+    let end = items.saturating_add(list);
+    if end > u32::MAX as usize {
+        return Err(AllocError);
+    }
+    Ok(end as u32)
 }

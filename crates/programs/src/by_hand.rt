@@ -19,7 +19,7 @@ use crate::program::{Parts, Program};
 use crate::step::{Counts, TextStep};
 use chances::ChanceText;
 use fit::checked;
-use flat_lists::FlatLists;
+use flat_lists::{FlatLists, MOST_NUMBERS, NumberLists};
 use std::alloc::{AllocError, Allocator};
 use step_model::Term;
 
@@ -74,7 +74,10 @@ pub fn program_of<'a, A: Allocator + Copy>(
         return Ok(None);
     };
     let mut parts = bare(alloc, qubits, nodes, entries);
-    keep(&mut parts, lists)?;
+    let kept = keep(&mut parts, lists)?;
+    if !kept {
+        return Ok(None);
+    }
     Ok(checked(parts))
 }
 
@@ -101,27 +104,27 @@ fn bare<'a, A: Allocator + Copy>(
         nodes,
         detectors: FlatLists::new(alloc),
         observables: FlatLists::new(alloc),
-        coordinates: FlatLists::new(alloc),
+        coordinates: NumberLists::new(alloc),
         entries,
         products: FlatLists::new(alloc),
     }
 }
 
-// Keeps these lists in parts without any.
+// Keeps these lists in parts without any, where no detector has too many coordinates.
 fn keep<'a, A: Allocator + Copy>(
     parts: &mut Parts<'a, A>,
     lists: Lists<'a>,
-) -> Result<(), AllocError>
+) -> Result<bool, AllocError>
     requires { KeepsNothing parts.old }
     ensures qubits { OnOk result (parts.new.qubits ≡ parts.old.qubits) }
     ensures nodes { OnOk result (parts.new.nodes ≡ parts.old.nodes) }
     ensures entries { OnOk result (parts.new.entries ≡ parts.old.entries) }
-    ensures lists { OnOk result (Keeps parts.new lists.entry) }
+    ensures lists { IfOk result (λ kept. kept ≡ true → Keeps parts.new lists.entry) }
 {
     keep_lists(&mut parts.detectors, lists.detectors)?;
     keep_lists(&mut parts.observables, lists.observables)?;
-    keep_lists(&mut parts.coordinates, lists.coordinates)?;
-    keep_lists(&mut parts.products, lists.products)
+    keep_lists(&mut parts.products, lists.products)?;
+    keep_coordinates(&mut parts.coordinates, lists.coordinates)
 }
 
 // The nodes of a circuit in pieces, where its blocks are whole, have a turn and aren't too deep.
@@ -222,6 +225,23 @@ fn keep_lists<T: Copy, A: Allocator + Copy>(
         kept.push(*list)?;
     }
     Ok(())
+}
+
+// Keeps these coordinates, where no detector has too many.
+fn keep_coordinates<A: Allocator + Copy>(
+    kept: &mut NumberLists<A>,
+    lists: &[&[i64]],
+) -> Result<bool, AllocError>
+    requires { kept.old ≡ [] }
+    ensures { IfOk result (λ all. all ≡ true → kept.new ≡ map (λ list. list.now) lists.now) }
+{
+    for list in lists {
+        if list.len() > MOST_NUMBERS {
+            return Ok(false);
+        }
+        kept.push(*list)?;
+    }
+    Ok(true)
 }
 
 // The floor of a probability times 2^64.

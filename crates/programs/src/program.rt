@@ -11,7 +11,8 @@ ghost use Rattle.programs.specs.Made.{kept_program, PartsFit};
 use crate::entries::{ChanceTable, Entries};
 use crate::node::Node;
 use crate::step::Counts;
-use flat_lists::FlatLists;
+use arrayvec::ArrayVec;
+use flat_lists::{FlatLists, MOST_NUMBERS, NumberLists};
 use std::alloc::Allocator;
 use std::marker::Model;
 use step_model::Term;
@@ -27,7 +28,7 @@ pub struct Parts<'a, A: Allocator + Copy> {
     pub nodes: Vec<Node, A>,
     pub detectors: FlatLists<u32, A>,
     pub observables: FlatLists<u32, A>,
-    pub coordinates: FlatLists<i64, A>,
+    pub coordinates: NumberLists<A>,
     pub entries: Entries<'a, A>,
     pub products: FlatLists<Term, A>,
 }
@@ -164,9 +165,9 @@ impl<'a, A: Allocator + Copy> Program<'a, A> {
     }
 
     /// The coordinates of a detector.
-    pub fn coordinates(&self, d: usize) -> &[i64]
+    pub fn coordinates(&self, d: usize) -> ArrayVec<i64, MOST_NUMBERS>
         requires { d < length self.now.listing.detectors }
-        ensures { result.now ≡ slice_index_or self.now.listing.coordinates d [] }
+        ensures { result.items ≡ slice_index_or self.now.listing.coordinates d [] }
     {
         self.parts.coordinates.get(d)
     }

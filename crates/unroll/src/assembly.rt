@@ -14,7 +14,7 @@ use crate::qubits::qubit_total;
 use crate::refusals::refusal_of;
 use crate::totals::{Totals, totals_of};
 use crate::writing::written_of;
-use flat_lists::FlatLists;
+use flat_lists::{FlatLists, NumberLists};
 use programs::{Counts, Parts, Program};
 use std::alloc::{AllocError, Allocator};
 use step_model::Fault;
@@ -25,17 +25,22 @@ use stim_parser::Circuit;
 struct Lists<A: Allocator + Copy> {
     detectors: FlatLists<u32, A>,
     observables: FlatLists<u32, A>,
-    coordinates: FlatLists<i64, A>,
+    coordinates: NumberLists<A>,
 }
 
-/// The targets of a circuit's program, and the coordinates of its detectors, from a circuit that isn't refused.
-fn lists_of<A: Allocator + Copy>(alloc: A, circuit: &Circuit<'_, A>) -> Result<Lists<A>, AllocError>
+/// The targets of a circuit's program, and the coordinates of its detectors, from a circuit that isn't refused. `count`
+/// says for how many detectors to make room first.
+fn lists_of<A: Allocator + Copy>(
+    alloc: A,
+    circuit: &Circuit<'_, A>,
+    count: usize,
+) -> Result<Lists<A>, AllocError>
     requires { refusal_counted circuit.now ≡ None }
     ensures { IfOk result (HasLists circuit.now) }
 {
-    let detectors = detectors_of(alloc, circuit)?;
+    let detectors = detectors_of(alloc, circuit, count)?;
     let observables = observables_of(alloc, circuit)?;
-    let coordinates = coordinates_of(alloc, circuit)?;
+    let coordinates = coordinates_of(alloc, circuit, count)?;
     Ok(Lists {
         detectors,
         observables,
@@ -55,7 +60,7 @@ fn parts_of<'a, A: Allocator + Copy>(
 {
     circuit.fits();
     let qubits = qubit_total(&circuit);
-    let lists = lists_of(alloc, &circuit)?;
+    let lists = lists_of(alloc, &circuit, totals.detectors as usize)?;
     let written = written_of(alloc, circuit)?;
     Ok(Parts {
         qubits,

@@ -11,7 +11,7 @@ use crate::offsets::{AXES, Offset, moved};
 use crate::shifts::{coordinates_read, shift, turn_on};
 use arrayvec::ArrayVec;
 use block_text::{LEVELS, OpenBlock};
-use flat_lists::FlatLists;
+use flat_lists::NumberLists;
 use std::alloc::{AllocError, Allocator};
 use stim_parser::{Circuit, Instruction, Item, Operation};
 
@@ -46,7 +46,7 @@ fn copy_moved<A: Allocator + Copy>(
 /// before and after one turn.
 fn push_moved<A: Allocator + Copy>(
     moved: &mut Vec<i64, A>,
-    lists: &mut FlatLists<i64, A>,
+    lists: &mut NumberLists<A>,
     first: usize,
     end: usize,
     turns: u64,
@@ -61,7 +61,8 @@ fn push_moved<A: Allocator + Copy>(
     ensures { OnOk result (lists.new ≡ lists.old ++ map (placing.moved turns before.now after.now) (slice_range lists.old first end)) }
 {
     for k in first..end {
-        copy_moved(moved, lists.get(k), turns, before, after)?;
+        let stated = lists.get(k);
+        copy_moved(moved, stated.as_slice(), turns, before, after)?;
         lists.push(moved.as_slice())?;
     }
     Ok(())
@@ -69,7 +70,7 @@ fn push_moved<A: Allocator + Copy>(
 
 /// Appends the coordinates that an instruction gives at this offset, where it is a detector.
 fn push_coordinates<A: Allocator + Copy>(
-    lists: &mut FlatLists<i64, A>,
+    lists: &mut NumberLists<A>,
     offset: &Offset,
     instruction: Instruction<'_, '_>,
 ) -> Result<(), AllocError>
@@ -92,7 +93,7 @@ fn push_coordinates<A: Allocator + Copy>(
 /// `after` the offset after it. No turn is gone over where the first gave nothing.
 fn push_later_turns<A: Allocator + Copy>(
     alloc: A,
-    lists: &mut FlatLists<i64, A>,
+    lists: &mut NumberLists<A>,
     before: &Mark<Offset>,
     turns: u64,
     after: &Offset,
@@ -123,16 +124,17 @@ fn push_later_turns<A: Allocator + Copy>(
 }
 
 /// The coordinates of each detector of a circuit, in the order in which the detectors are reached. Each instruction is
-/// gone over once.
+/// gone over once. `count` says for how many detectors to make room first.
 pub(crate) fn coordinates_of<A: Allocator + Copy>(
     alloc: A,
     circuit: &Circuit<'_, A>,
-) -> Result<FlatLists<i64, A>, AllocError>
+    count: usize,
+) -> Result<NumberLists<A>, AllocError>
     requires few { step_total circuit.now ≤ 64_000_000 }
     ensures { IfOk result (λ coordinates. coordinates ≡ coordinates_of circuit.now) }
 {
     circuit.fits();
-    let mut coordinates = FlatLists::new(alloc);
+    let mut coordinates = NumberLists::with_room(alloc, count)?;
     let mut offset = Offset {
         up: [0; AXES],
         down: [0; AXES],
@@ -159,5 +161,6 @@ pub(crate) fn coordinates_of<A: Allocator + Copy>(
             }
         }
     }
+    coordinates.shrink_to_fit();
     Ok(coordinates)
 }

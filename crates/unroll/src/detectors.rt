@@ -123,17 +123,18 @@ fn push_later_turns<A: Allocator + Copy>(
 }
 
 /// The records of each detector of a circuit, in the order in which the detectors are reached. Each instruction is gone
-/// over once.
+/// over once. `count` says for how many detectors to make room first.
 pub(crate) fn detectors_of<A: Allocator + Copy>(
     alloc: A,
     circuit: &Circuit<'_, A>,
+    count: usize,
 ) -> Result<FlatLists<u32, A>, AllocError>
     requires near { first_far_from 0 circuit.now ≡ None }
     requires few { record_total circuit.now < 2 ^ 32 }
     ensures { IfOk result (λ detectors. detectors ≡ detectors_of circuit.now) }
 {
     circuit.fits();
-    let mut detectors = FlatLists::new(alloc);
+    let mut detectors = FlatLists::with_room(alloc, count)?;
     let mut records: u64 = 0;
     let mut blocks: ArrayVec<OpenBlock<Mark<u64>>, LEVELS> = ArrayVec::new();
     for i in 0..circuit.len() {
@@ -160,5 +161,6 @@ pub(crate) fn detectors_of<A: Allocator + Copy>(
             }
         }
     }
+    detectors.shrink_to_fit();
     Ok(detectors)
 }

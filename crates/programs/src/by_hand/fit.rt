@@ -14,7 +14,7 @@ use crate::place::{Place, next};
 use crate::program::{Parts, Program};
 use crate::step::{Counts, Recording, TextStep, after};
 use arrayvec::ArrayVec;
-use flat_lists::FlatLists;
+use flat_lists::{FlatLists, NumberLists};
 use pauli_word::Letter;
 use std::alloc::Allocator;
 use step_model::Term;
@@ -238,11 +238,12 @@ fn are_made(named: &[u32], records: u32) -> bool
     named.iter().all(|number| *number < records)
 }
 
-fn coordinates_fit<A: Allocator + Copy>(lists: &FlatLists<i64, A>) -> bool
+fn coordinates_fit<A: Allocator + Copy>(lists: &NumberLists<A>) -> bool
     ensures { result ≡ true → All CoordinatesFit lists.now }
 {
     for list in 0..lists.len() {
-        if lists.get(list).len() > 16 || !are_small(lists.get(list)) {
+        let coordinates = lists.get(list);
+        if !are_small(coordinates.as_slice()) {
             return false;
         }
     }

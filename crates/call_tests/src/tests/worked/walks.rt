@@ -137,7 +137,7 @@ fn lists_are_answered(program: &Program<'_, Global>) -> bool {
     }
     (program.detector(1) == READ.detectors[1])
         & (program.observable(2) == READ.observables[2])
-        & (program.coordinates(1) == READ.coordinates[1])
+        & (program.coordinates(1).as_slice() == READ.coordinates[1])
 }
 
 // What is kept at a number, as it is listed, with this bound.

@@ -7,7 +7,7 @@ use Rattle.unroll.proofs.coordinates.coordinates_of.Goals.{in-InstructionLine+in
 
 pub loop-i-init : goal.loop-i-init
 loop-i-init g c =
-    placing-first c.args.circuit.now _ c.new-coordinates.result c.new-blocks.result.items c.fits.ensures c.requires.few refl c.new-coordinates.ensures c.new-blocks.ensures
+    placing-first c.args.circuit.now _ c.in_ok-coordinates.coordinates c.new-blocks.result.items c.fits.ensures c.requires.few refl c.in_ok-coordinates.ensures c.new-blocks.ensures
 
 pub push_coordinates-requires-clause-fits : goal.push_coordinates-requires-clause-fits
 push_coordinates-requires-clause-fits g c =
@@ -155,4 +155,5 @@ loop-i-preserved g c =
 
 pub returns : goal.returns
 returns g c =
-    placing-done c.args.circuit.now c.loop-i.i c.loop-i.offset c.loop-i.coordinates c.loop-i.blocks.items c.loop-i.invariant (omega (arith, c.len-i-end.ensures))
+    c.shrink_to_fit.ensures
+    ∙ placing-done c.args.circuit.now c.loop-i.i c.loop-i.offset c.loop-i.coordinates c.loop-i.blocks.items c.loop-i.invariant (omega (arith, c.len-i-end.ensures))

@@ -10,7 +10,7 @@ use Rattle.unroll.proofs.detectors.detectors_of.Goals.{in-InstructionLine+in_ok-
 
 pub loop-i-init : goal.loop-i-init
 loop-i-init g c =
-    counting-first detecting IsWithin c.args.circuit.now 0 c.new-detectors.result c.new-blocks.result.items c.fits.ensures c.requires.near refl c.new-detectors.ensures c.new-blocks.ensures
+    counting-first detecting IsWithin c.args.circuit.now 0 c.in_ok-detectors.detectors c.new-blocks.result.items c.fits.ensures c.requires.near refl c.in_ok-detectors.ensures c.new-blocks.ensures
 
 pub push_detector-requires : goal.push_detector-requires
 push_detector-requires g c =
@@ -93,4 +93,5 @@ loop-i-preserved g c =
 
 pub returns : goal.returns
 returns g c =
-    detecting-done c.args.circuit.now c.loop-i.i c.loop-i.records c.loop-i.detectors c.loop-i.blocks.items c.loop-i.invariant (omega (arith, c.len-i-end.ensures))
+    c.shrink_to_fit.ensures
+    ∙ detecting-done c.args.circuit.now c.loop-i.i c.loop-i.records c.loop-i.detectors c.loop-i.blocks.items c.loop-i.invariant (omega (arith, c.len-i-end.ensures))
