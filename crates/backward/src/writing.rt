@@ -139,7 +139,8 @@ fn push_detectors<'a, A: Allocator + Copy, W: Sink>(
 {
     program.well_formed();
     for detector in 0..program.detector_count() {
-        push_detector(out, sink, detector, program.coordinates(detector));
+        let coordinates = program.coordinates(detector);
+        push_detector(out, sink, detector, coordinates.as_slice());
     }
 }
 

@@ -3,6 +3,7 @@ ghost use Rattle.std.specs.Prelude.{◌≡◌, ◌⊎◌, ℕ, List, length, Ok,
 ghost use Rattle.step_model.specs.Ends.{Takes, TakesSome, write_failures};
 ghost use Rattle.step_model.specs.Faults.{memory_fault, write_fault};
 ghost use Rattle.step_model.specs.Targets.{targets_of};
+ghost use Rattle.backward.specs.Places.{IsLowestRandom};
 ghost use Rattle.backward.specs.Tracked.{fresh};
 ghost use Rattle.engine.specs.declared.order.Status.TheVariants.{Done, Random};
 ghost use Rattle.engine.specs.Headline.{IsExactFor, IsExactIn, IsRandomFor, IsRandomIn};
@@ -12,8 +13,7 @@ ghost use Rattle.engine.specs.Output as output;
 use crate::lines::random_lines;
 use crate::order::Status;
 use crate::refusing::refuse;
-use backward::{AnalysedText, QubitSets, Words, analyse_to_text};
-use dem_text::write_behind;
+use backward::{QubitSets, Words, write_analysis};
 use frames::coin_pair;
 use programs::Program;
 use std::alloc::Allocator;
@@ -59,17 +59,33 @@ fn write_finding<W: Sink, A: Allocator + Copy>(
     ensures beginning { OnErr result (TakesSome (W.taken sink.old) (W.taken sink.new) (found_in program.now.listing).bytes) }
 {
     program.well_formed();
-    match analyse_to_text(alloc, program, fresh_words(&alloc, program)?)? {
-        AnalysedText::Text { lines, rest } => {
-            write_behind(&lines, &rest, sink)?;
-            Ok(Status::Done)
-        }
-        AnalysedText::Random { which, place } => {
-            let lines = random_text(alloc, program, which as usize, place)?;
-            write_all(sink, lines.as_slice())?;
-            Ok(Status::Random)
-        }
+    let words = fresh_words(&alloc, program)?;
+    match write_analysis(alloc, program, words, sink)? {
+        None => Ok(Status::Done),
+        Some((which, place)) => write_random(alloc, program, which, place, sink),
     }
+}
+
+/// Writes the lowest target that is random and two coin lists that show it.
+fn write_random<W: Sink, A: Allocator + Copy>(
+    alloc: A,
+    program: &Program<'_, A>,
+    which: u32,
+    place: Place,
+    sink: &mut W,
+) -> Result<Status, Fault>
+    requires { IsLowestRandom program.now.listing which place }
+    ensures written { OnOk result (Takes (W.taken sink.old) (W.taken sink.new) (found_in program.now.listing).bytes) }
+    ensures status { IfOk result (λ status. status ≡ (found_in program.now.listing).status) }
+    ensures random { IfOk result (λ status. (status ≡ Random) × ((bytes : List ℕ) × Takes (W.taken sink.old) (W.taken sink.new) bytes × IsRandomIn program.now.listing bytes)) }
+    ensures fault { IfErr result (λ e. (e ≡ memory_fault) ⊎ (e ≡ write_fault)) }
+    ensures writes { W.failures sink.new ≡ write_failures result (W.failures sink.old) }
+    ensures beginning { OnErr result (TakesSome (W.taken sink.old) (W.taken sink.new) (found_in program.now.listing).bytes) }
+{
+    program.well_formed();
+    let lines = random_text(alloc, program, which as usize, place)?;
+    write_all(sink, lines.as_slice())?;
+    Ok(Status::Random)
 }
 
 /// Words for the targets of a program, each the identity.
