@@ -13,6 +13,7 @@ follow from the formulas beside them. The sizes, and a test that passes each:
                 sets of 300 merged              LargeAnalyses, sets that overlap, equal sets, and sets by feedback
                 300 coins of a random target    LargeRandomAnalyses
                 a text of 20,000 bytes          LargeAnalyses, 3000 detectors written out
+                an output of 4 MiB              LargeAnalyses, 2000 faults that flip 1000 detectors each
     sample,     500 records, 300 detectors      LargeShots, on 201 qubits and in a block
     detect      64 qubits                       the same, and 300 qubits at once
                 1,000 faults                    LargeShots, all three
@@ -81,6 +82,12 @@ class LargePredictions(ProgramTest):
 
 class LargeAnalyses(ProgramTest):
     """`analyze`"""
+
+    def test_more_text_than_is_held(self):
+        """2,000 faults that flip 1,000 detectors each: 9.8 million bytes, found in parts."""
+        circuit = "REPEAT 2000 {\n    X_ERROR(0.1) 0\n}\nREPEAT 1000 {\n    M 0\n    DETECTOR rec[-1]\n}\n"
+        lines = ("error(0.1)" + named("D", range(1000)) + "\n") * 2000
+        self.check(["analyze"], circuit, lines + "".join(f"detector D{k}\n" for k in range(1000)))
 
     def test_block_of_3000_turns(self):
         """3,000 faults, records and detectors; an output of 99,000 bytes."""
