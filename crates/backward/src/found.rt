@@ -1,5 +1,5 @@
 //! What a pass back over the steps keeps beside the words.
-ghost use Rattle.std.specs.Prelude.{◌≡◌, ◌-◌, ◌<◌, ◌≤◌, ◌^◌, ℕ, false, true, length, All, IfOk, IfSome, OnOk};
+ghost use Rattle.std.specs.Prelude.{◌≡◌, ◌==◌, ◌-◌, ◌<◌, ◌≤◌, ◌^◌, ℕ, false, true, not, length, All, IfOk, IfSome, OnOk};
 ghost use Rattle.step_model.specs.Listing.{Listing};
 ghost use Rattle.step_model.specs.Targets.{targets_of};
 ghost use Rattle.backward.specs.Tracked.{anticommuting, fresh};
@@ -54,6 +54,13 @@ impl<'s, A: Allocator + Copy> Found<'s, A> {
             left: program.collapse_count(),
             hit: Vec::new(*alloc),
         })
+    }
+
+    /// Whether some target is known to be random.
+    pub(crate) fn is_random(&self) -> bool
+        ensures { result ≡ not (length self.now.latest.items == 0) }
+    {
+        !self.latest.is_empty()
     }
 
     /// Notes the targets that a collapse of a product of letters is the latest place of, unless the lists are settled.

@@ -22,7 +22,8 @@ use step_model::Sink;
 /// How many points are left on the way to the start of a stretch, at most.
 const POINTS: usize = 60;
 
-/// Goes back to `from`, over one step at least where there is one, until the text of the lines found is full.
+/// Goes back to `from`, over one step at least where there is one, until the text of the lines found is full, or some
+/// target is known to be random: then no text is written.
 fn find_back<'s, 'p, 'a, A: Allocator + Copy, T: Tracker>(
     program: &Program<'a, A>,
     from: usize,
@@ -45,7 +46,7 @@ fn find_back<'s, 'p, 'a, A: Allocator + Copy, T: Tracker>(
 {
     while at.walk.place() > from {
         step_back(program, at, found, lines)?;
-        if lines.is_full() {
+        if lines.is_full() || found.is_random() {
             return Ok(());
         }
     }
@@ -87,7 +88,11 @@ pub(crate) fn cut<'s, 'p, 'a, A: Allocator + Copy, T: Tracker + Drop>(
     find_back(program, from, at, found, lines)?;
     let end = lines.take_text();
     let place = at.walk.place();
-    let distance = distance_for(place - from, to - place);
+    let distance = if found.is_random() {
+        usize::MAX
+    } else {
+        distance_for(place - from, to - place)
+    };
     found.keeps = true;
     let points = leave_points(program, from, distance, at, found)?;
     Ok(Parts { points, end })
