@@ -12,6 +12,7 @@ mod lines;
 mod lists;
 mod long_streams;
 mod numbers;
+mod parts;
 mod reader_ends;
 mod texts;
 mod walks;

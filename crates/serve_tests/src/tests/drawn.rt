@@ -7,6 +7,7 @@ mod marks;
 mod models;
 mod names;
 mod page;
+mod parts;
 mod products;
 mod randoms;
 mod runs;

@@ -1,24 +1,26 @@
 //! Analyses of a program, and frames.
 use super::growths::{Call, Memory, Ration};
 use super::lent::{Lent, are_false, identity_of};
-use backward::{Analysed, AnalysedText, Words, analyse, analyse_to_text};
+use backward::{Analysed, Words, analyse, write_analysis, write_in_parts};
 use frames::{coin_pair, flips};
 use programs::Program;
-use step_model::{Fault, Place};
+use step_model::{Fault, MemorySink, Place};
 
 #[derive(Clone, Copy, Debug)]
 pub(super) enum Analysis {
     Sparse,
     Dense,
     Text,
+    Parts,
     Flips,
     CoinPair,
 }
 
-pub(super) const ANALYSES: [Analysis; 5] = [
+pub(super) const ANALYSES: [Analysis; 6] = [
     Analysis::Sparse,
     Analysis::Dense,
     Analysis::Text,
+    Analysis::Parts,
     Analysis::Flips,
     Analysis::CoinPair,
 ];
@@ -30,6 +32,7 @@ impl Call for Analysis {
             Analysis::Sparse => sparse_is_right(ration, program),
             Analysis::Dense => dense_is_right(ration, program),
             Analysis::Text => text_is_right(ration, program),
+            Analysis::Parts => parts_are_right(ration, program),
             Analysis::Flips => flips_are_right(ration, program),
             Analysis::CoinPair => pair_is_right(ration.begin(), program),
         }
@@ -64,18 +67,52 @@ fn dense_is_right<'m>(
     }
 }
 
-fn text_is_right<'m>(ration: Ration<'m>, program: &Program<'_, Memory<'m>>) -> Result<bool, Fault> {
-    match Words::sparse_for(&ration.memory, program) {
-        Ok(words) => Ok(is_text(&analyse_to_text(ration.begin(), program, words)?)),
-        Err(_) => Err(Fault::MEMORY),
+/// X at qubit 0 stays there, so that a turn's flips the records of qubit 1 from then on. Each of those turns qubit 4, which the
+/// first turn's leave as it was.
+const TEXT: &str = "\
+error(0.25) D0 D1
+error(0.5) D0 D1
+error(1) D0 L1
+error(0) D0
+error(0.25) D1 L1
+error(0.5) D1 L1
+error(1) D1 L1
+error(0) D1
+detector(5, 0) D0
+detector(5, 1) D1
+logical_observable L0
+logical_observable L1
+";
+
+/// Whether the whole text is written, or a beginning of it where the call is refused.
+fn is_text(answer: Result<Option<(u32, Place)>, Fault>, bytes: &[u8]) -> Result<bool, Fault> {
+    match answer {
+        Ok(random) => Ok(random.is_none() && bytes == TEXT.as_bytes()),
+        Err(fault) if TEXT.as_bytes().starts_with(bytes) => Err(fault),
+        Err(_) => Ok(false),
     }
 }
 
-fn is_text<'m>(analysed: &AnalysedText<'_, Memory<'m>>) -> bool {
-    match analysed {
-        AnalysedText::Text { rest, .. } => rest.detector_count() == 2,
-        AnalysedText::Random { .. } => false,
-    }
+fn text_is_right<'m>(ration: Ration<'m>, program: &Program<'_, Memory<'m>>) -> Result<bool, Fault> {
+    let Ok(words) = Words::sparse_for(&ration.memory, program) else {
+        return Err(Fault::MEMORY);
+    };
+    let mut sink = MemorySink::new(ration.alloc);
+    let answer = write_analysis(ration.begin(), program, words, &mut sink);
+    is_text(answer, sink.bytes())
+}
+
+/// With no room each step that has a line is a cut.
+fn parts_are_right<'m>(
+    ration: Ration<'m>,
+    program: &Program<'_, Memory<'m>>,
+) -> Result<bool, Fault> {
+    let Ok(words) = Words::sparse_for(&ration.memory, program) else {
+        return Err(Fault::MEMORY);
+    };
+    let mut sink = MemorySink::new(ration.alloc);
+    let answer = write_in_parts(ration.begin(), program, words, 0, &mut sink);
+    is_text(answer, sink.bytes())
 }
 
 /// The identity flips none of the collapses.

@@ -43,10 +43,11 @@ impl Call for Reader {
         }
     }
 
-    /// Coins are collected, which goes on in smaller steps where the room for all of them is refused.
+    /// Coins are collected, which goes on in smaller steps where the room for all of them is refused. A program's coordinates
+    /// move to a block that is just as long, or else stay.
     fn spared(self) -> u64 {
         match self {
-            Reader::Coins => 1,
+            Reader::Program | Reader::Coins => 1,
             _ => 0,
         }
     }

@@ -2,6 +2,7 @@
 
 use super::drawing::Drawing;
 use super::models::model_holds;
+use super::parts::parts_hold;
 use super::randoms::random_holds;
 use super::{Finding, Tally};
 use backward::{Analysed, Words, analyse};
@@ -9,8 +10,8 @@ use programs::Program;
 use std::alloc::Global;
 use step_model::{Fault, Place};
 
-/// What is found of a program: the dense tracker's answer is compared with runs, with the sparse tracker's, and with
-/// what is served.
+/// What is found of a program: the dense tracker's answer is compared with runs, with the sparse tracker's, with what is
+/// written in parts, and with what is served.
 pub(super) fn finding_of(
     alloc: Global,
     program: &Program<'_, Global>,
@@ -21,6 +22,9 @@ pub(super) fn finding_of(
     let analysed = analyse_dense(alloc, program)?;
     if random_of(&analysed) != sparse {
         return Ok(Finding::Wrong("the trackers differ"));
+    }
+    if !parts_hold(alloc, program, &analysed)? {
+        return Ok(Finding::Wrong("something else is written in parts"));
     }
     answer_holds(alloc, program, &analysed, drawing, tally)
 }

@@ -1,0 +1,134 @@
+//! The text of an error model, written in parts to a device that fails at one of its calls.
+use backward::{Words, write_in_parts};
+use programs::Program;
+use std::alloc::{AllocError, Global};
+use std::io::{Error, ErrorKind, Write};
+use std::process::Abort;
+use std::test::Fail;
+use step_model::{Fault, Place};
+use streams::WriterSink;
+use unroll::read_program;
+
+/// Each turn has a fault, which flips the turn's detector alone.
+const CIRCUIT: &[u8] = b"REPEAT 3000 {\nX_ERROR(0.1) 0\nMR 0\nDETECTOR rec[-1]\n}\n";
+
+/// How much text is held at once: none, and some sixty lines.
+const ROOMS: [usize; 2] = [0, 1_000];
+
+/// Keeps what it is given, and fails at the call with the number `fails_at`, counted from 1: at none where that is 0.
+#[derive(Drop)]
+struct Device {
+    taken: Vec<u8>,
+    calls: u64,
+    fails_at: u64,
+}
+
+impl Write for Device {
+    fn write(&mut self, buf: &[u8]) -> std::io::Result<usize> {
+        self.calls = self.calls.saturating_add(1);
+        if self.calls == self.fails_at {
+            return Err(Error::from(ErrorKind::BrokenPipe));
+        }
+        self.taken
+            .extend_from_slice(buf)
+            .map_err(|_| Error::from(ErrorKind::OutOfMemory))?;
+        Ok(buf.len())
+    }
+
+    fn flush(&mut self) -> std::io::Result<()> {
+        Ok(())
+    }
+}
+
+/// Of 93,780 bytes, of which the error lines have 49,890: more than three pieces of 16 KiB.
+fn whole_text(alloc: Global) -> Result<Vec<u8>, AllocError> {
+    let mut text = Vec::new(alloc);
+    for n in 0..3_000u32 {
+        text.extend_from_slice(format!(in alloc; "error(0.1) D{n}\n")?.as_bytes())?;
+    }
+    for n in 0..3_000u32 {
+        text.extend_from_slice(format!(in alloc; "detector D{n}\n")?.as_bytes())?;
+    }
+    Ok(text)
+}
+
+type Answer = Result<Option<(u32, Place)>, Fault>;
+
+fn write_to(
+    alloc: Global,
+    program: &Program<'_, Global>,
+    room: usize,
+    sink: &mut WriterSink<Device>,
+) -> Answer {
+    match Words::sparse_for(&alloc, program) {
+        Ok(words) => write_in_parts(alloc, program, words, room, sink),
+        Err(_) => Err(Fault::MEMORY),
+    }
+}
+
+/// Writes to a device that fails at this call.
+fn written(
+    alloc: Global,
+    program: &Program<'_, Global>,
+    room: usize,
+    fails_at: u64,
+) -> (Answer, WriterSink<Device>) {
+    let mut sink = WriterSink::new(Device {
+        taken: Vec::new(alloc),
+        calls: 0,
+        fails_at,
+    });
+    let answer = write_to(alloc, program, room, &mut sink);
+    (answer, sink)
+}
+
+/// How many calls the text takes, where all of it goes out.
+fn calls_of(alloc: Global, program: &Program<'_, Global>, room: usize, text: &[u8]) -> Option<u64> {
+    let (answer, sink) = written(alloc, program, room, 0);
+    let device = sink.writer();
+    let is_whole = answer == Ok(None) && device.taken.as_slice() == text;
+    is_whole.then_some(device.calls)
+}
+
+/// Whether the failure is told, a beginning went out, and no call followed.
+fn stops_at(
+    alloc: Global,
+    program: &Program<'_, Global>,
+    room: usize,
+    text: &[u8],
+    call: u64,
+) -> bool {
+    let (answer, sink) = written(alloc, program, room, call);
+    let device = sink.writer();
+    answer == Err(Fault::WRITE)
+        && device.calls == call
+        && text.starts_with(device.taken.as_slice())
+}
+
+/// The first three calls fail while error lines are written, and the later ones among the detectors.
+fn stops_at_each(
+    rt: &impl Abort,
+    alloc: Global,
+    program: &Program<'_, Global>,
+    room: usize,
+    text: &[u8],
+) {
+    let calls = calls_of(alloc, program, room, text).unwrap_or(0);
+    assert!(rt; calls > 4, "{calls} calls with room {room}");
+    for call in 1..=calls {
+        assert!(rt;
+            stops_at(alloc, program, room, text, call),
+            "call {call} with room {room}"
+        );
+    }
+}
+
+#[test]
+fn a_failed_call_is_the_last(rt: HostRuntime) -> Result<(), Fail> {
+    let text = whole_text(rt.alloc())?;
+    let program = read_program(rt.alloc(), CIRCUIT)?;
+    for room in ROOMS {
+        stops_at_each(&rt, rt.alloc(), &program, room, text.as_slice());
+    }
+    Ok(())
+}

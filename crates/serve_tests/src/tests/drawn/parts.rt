@@ -1,0 +1,80 @@
+//! The analysis of a drawn text's program that is written in parts, by both trackers.
+
+use backward::{Analysed, Words, write_in_parts};
+use dem_text::Model;
+use programs::Program;
+use std::alloc::Global;
+use step_model::{Fault, MemorySink, Place};
+
+/// How much text of error lines is held at once: none, so that each step with a line is a cut; and a few lines.
+const ROOMS: [usize; 2] = [0, 100];
+
+/// Whether the model's text is written, or nothing where the same target is random at the same place.
+pub(super) fn parts_hold(
+    alloc: Global,
+    program: &Program<'_, Global>,
+    analysed: &Analysed<'_, Global>,
+) -> Result<bool, Fault> {
+    match analysed {
+        Analysed::Model(model) => model_is_written(alloc, program, model),
+        Analysed::Random { which, place } => {
+            are_written(alloc, program, Some((*which, *place)), b"")
+        }
+    }
+}
+
+fn model_is_written(
+    alloc: Global,
+    program: &Program<'_, Global>,
+    model: &Model<'_, Global>,
+) -> Result<bool, Fault> {
+    let mut sink = MemorySink::new(alloc);
+    dem_text::write(model, &mut sink)?;
+    are_written(alloc, program, None, sink.bytes())
+}
+
+fn are_written(
+    alloc: Global,
+    program: &Program<'_, Global>,
+    random: Option<(u32, Place)>,
+    text: &[u8],
+) -> Result<bool, Fault> {
+    for room in ROOMS {
+        if !writes_by_sparse(alloc, program, room, random, text)?
+            || !writes_by_dense(alloc, program, room, random, text)?
+        {
+            return Ok(false);
+        }
+    }
+    Ok(true)
+}
+
+fn writes_by_sparse(
+    alloc: Global,
+    program: &Program<'_, Global>,
+    room: usize,
+    random: Option<(u32, Place)>,
+    text: &[u8],
+) -> Result<bool, Fault> {
+    let Ok(words) = Words::sparse_for(&alloc, program) else {
+        return Err(Fault::MEMORY);
+    };
+    let mut sink = MemorySink::new(alloc);
+    let answer = write_in_parts(alloc, program, words, room, &mut sink)?;
+    Ok(answer == random && sink.bytes() == text)
+}
+
+fn writes_by_dense(
+    alloc: Global,
+    program: &Program<'_, Global>,
+    room: usize,
+    random: Option<(u32, Place)>,
+    text: &[u8],
+) -> Result<bool, Fault> {
+    let Ok(words) = Words::dense_for(alloc, program) else {
+        return Err(Fault::MEMORY);
+    };
+    let mut sink = MemorySink::new(alloc);
+    let answer = write_in_parts(alloc, program, words, room, &mut sink)?;
+    Ok(answer == random && sink.bytes() == text)
+}
