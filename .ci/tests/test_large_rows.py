@@ -13,7 +13,7 @@ follow from the formulas beside them. The sizes, and a test that passes each:
                 sets of 300 merged              LargeAnalyses, sets that overlap, equal sets, and sets by feedback
                 300 coins of a random target    LargeRandomAnalyses
                 a text of 20,000 bytes          LargeAnalyses, 3000 detectors written out
-                an output of 4 MiB              LargeAnalyses, 2000 faults that flip 1000 detectors each
+                an output of 2 MiB              LargeAnalyses, 2000 faults that flip 1000 detectors each
     sample,     500 records, 300 detectors      LargeShots, on 201 qubits and in a block
     detect      64 qubits                       the same, and 300 qubits at once
                 1,000 faults                    LargeShots, all three

@@ -1,8 +1,8 @@
 -- The text of a program's error lines, held while they are found from the last to the first.
-use Rattle.std.proofs.Common.{◌≡◌, ℕ, ◌+◌, ◌<◌, List, [], ◌∷◌, ◌++◌, length, refl, ap, ap₂, subst, sym, ◌∙◌, append_assoc}
+use Rattle.std.proofs.Common.{◌≡◌, ℕ, ◌+◌, ◌<◌, List, [], ◌∷◌, ◌++◌, length, ap, ap₂, subst, sym, ◌∙◌, append_assoc}
 use Rattle.std.specs.Prelude.{reverse}
 use Rattle.std.specs.List.{flat_map}
-use Rattle.std.proofs.lemmas.List.{append-nil, reverse-reverse, reverse-append}
+use Rattle.std.proofs.lemmas.List.{reverse-reverse, reverse-append}
 use Rattle.step_model.specs.ErrorModels.{ErrorLine}
 use Rattle.step_model.specs.Listing.{Listing}
 use Rattle.dem_text.specs.ErrorLines.{text_at}

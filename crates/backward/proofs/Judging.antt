@@ -1,6 +1,6 @@
 -- Which target is random, from what was found going back over all steps.
 use Rattle.std.proofs.Common.{◌≡◌, ℕ, ◌+◌, ◌<◌, List, [], ◌∷◌, length, get_or, Option, None, Some, refl, ap, ap₂, sym, ◌∙◌, arith}
-use Rattle.std.specs.Prelude.{option_map, replicate, IfNone, IfSome}
+use Rattle.std.specs.Prelude.{option_map, IfNone, IfSome}
 use Rattle.std.proofs.lemmas.List.{get_or-replicate}
 use Rattle.std.proofs.lemmas.List.FromFn.{get_or-map-range_with_len}
 use Rattle.pauli_word.specs.declared.letter.Letter.{Letter}

@@ -3,7 +3,7 @@ use Rattle.std.proofs.Common.{◌≡◌, ℕ, zero, suc, ◌+◌, ◌-◌, ◌<�
 use Rattle.std.specs.Prelude.{All, IfSome, filter, option_map, slice_get, if◌then◌else◌}
 use Rattle.std.specs.List.{AllPass, flat_map, range_with_len}
 use Rattle.std.proofs.lemmas.Bool.{cases_eq, eq-eqb, ne_eqb}
-use Rattle.std.proofs.lemmas.List.{append-nil, drop_more, get_or-drop, length-drop, length-replicate}
+use Rattle.std.proofs.lemmas.List.{append-nil, drop_more, get_or-drop, length-drop}
 use Rattle.std.proofs.lemmas.Option.{slice_get_within, get_or_from_slice_get, slice_get-get_or}
 use Rattle.gate_table.specs.declared.gate.Gate.{Gate}
 use Rattle.pauli_word.specs.declared.letter.Letter.{Letter}
@@ -11,7 +11,7 @@ use Rattle.pauli_word.specs.Words.{anticommute, lone_letter, no_letters}
 use Rattle.pauli_word.proofs.WordLaws.{anticommute_of_none}
 use Rattle.step_model.specs.declared.step.Term.{Term}
 use Rattle.step_model.specs.ErrorModels.{ErrorLine}
-use Rattle.step_model.specs.Listing.{Listing, ListedStep, One, Two, Collapse, Fault, Feedback, Measured, Word, Recorded, word_of_terms, fault_at, is_collapse}
+use Rattle.step_model.specs.Listing.{Listing, ListedStep, One, Two, Collapse, Fault, Feedback, Measured, Word, Recorded, word_of_terms, is_collapse}
 use Rattle.step_model.specs.Sensitivities.{collapse_word, latest_place, later_or_here}
 use Rattle.step_model.specs.Targets.{targets_of, target_at}
 use Rattle.step_model.specs.WellFormed.{IsWellFormed, step_faults, step_fits, collapse_count}
@@ -175,12 +175,11 @@ judged-collapse : (program : Listing) (settled : Bool) (place : ℕ) (terms : Li
 judged-collapse program true place terms c r t latest new_latest left new_left at word words some is fewer h = tt
 judged-collapse program false place terms c r t latest new_latest left new_left at word words some is fewer h =
     let steps : List ListedStep = drop (place + 1) program.steps in
-    let next : left ≡ left - 1 + 1 = omega (arith, some refl) in
-    (
+    let next : left ≡ left - 1 + 1 = omega (arith, some refl) in (
       is refl
-      ∙ (ap₂ (λ t known. noted (left - 1) (anticommuting terms t) known) words (h.0 ∙ ap (λ k. latest_before program k steps) next)
-      ∙ (latest_before-collapse program (left - 1) terms c r steps word
-      ∙ ap₂ (λ k l. latest_before program k l) (sym (fewer refl)) (sym at))),
+          ∙ (ap₂ (λ t known. noted (left - 1) (anticommuting terms t) known) words (h.0 ∙ ap (λ k. latest_before program k steps) next)
+          ∙ (latest_before-collapse program (left - 1) terms c r steps word
+          ∙ ap₂ (λ k l. latest_before program k l) (sym (fewer refl)) (sym at))),
       omega (arith, h.1, fewer refl, some refl, ap collapse_count at),
     )
 
@@ -241,14 +240,13 @@ module _ {A : Type 0} (program : Listing) (place : ℕ) (t : Tracked) (found : F
       let steps : List ListedStep = drop (place + 1) program.steps in
       let listed_hit : hit ≡ filter (λ d. anticommute (sensitivity_before program steps d).word w) (range_with_len 0 (length (targets_of program))) =
       is ∙ (ap (anticommuting (term ∷ [])) h.words
-      ∙ (anticommuting-before program (term ∷ []) steps ∙ ap (λ v. filter (λ d. anticommute (sensitivity_before program steps d).word v) (range_with_len 0 (length (targets_of program)))) (word_of_one_term program.qubits term))) in
-      (
+      ∙ (anticommuting-before program (term ∷ []) steps ∙ ap (λ v. filter (λ d. anticommute (sensitivity_before program steps d).word v) (range_with_len 0 (length (targets_of program)))) (word_of_one_term program.qubits term))) in (
         omega (arith, h.within),
         e ∙ (h.words ∙ ap (tracked_before program) (sym at.step)),
         subst (λ b. HoldsLists program b place found.known sets) (sym settled)
-        (holds-fed program place found.known found.lists sets w rec at.step at.is_record
-        (fed ∙ ap (λ hit. set found.lists rec (toggled_each hit (get_or found.lists rec []))) listed_hit)
-        (subst (λ b. HoldsLists program b (place + 1) found.known found.lists) settled h.lists)),
+            (holds-fed program place found.known found.lists sets w rec at.step at.is_record
+            (fed ∙ ap (λ hit. set found.lists rec (toggled_each hit (get_or found.lists rec []))) listed_hit)
+            (subst (λ b. HoldsLists program b (place + 1) found.known found.lists) settled h.lists)),
         judged-other program found.settled place step found.latest.items found.left at.step refl refl h.judged,
       )
 

@@ -10,7 +10,7 @@ use Rattle.pauli_word.specs.Words.{letters_product, no_letters, lone_letter}
 use Rattle.pauli_word.proofs.LoneLetters.{length-lone_letter, letters_product_of_no_letters}
 use Rattle.pauli_word.proofs.WordLaws.{length-letters_product, letters_product_assoc, letters_product_comm}
 use Rattle.step_model.specs.declared.step.Term.{Term}
-use Rattle.step_model.specs.Listing.{Listing, ListedStep, One, Two, Collapse, Measured, Recorded, measured_word, word_of_terms}
+use Rattle.step_model.specs.Listing.{Listing, ListedStep, One, Two, Collapse, Measured, Recorded, word_of_terms}
 use Rattle.step_model.specs.Sensitivities.{cleared, multiplied, record_counts}
 use Rattle.step_model.specs.Targets.{targets_of, is_listed}
 use Rattle.step_model.specs.WellFormed.{step_fits}

@@ -1,12 +1,10 @@
 -- Points left on the way back, and taken from their end.
-use Rattle.std.proofs.Common.{◌≡◌, ℕ, ◌+◌, ◌<◌, ◌≤◌, Bool, true, List, [], ◌∷◌, ◌++◌, length, drop, get_or, refl, ap, subst, sym, ◌∙◌, arith}
+use Rattle.std.proofs.Common.{◌≡◌, ℕ, ◌+◌, ◌<◌, ◌≤◌, List, [], ◌∷◌, ◌++◌, length, drop, get_or, refl, ap, subst, sym, ◌∙◌, arith}
 use Rattle.std.specs.Prelude.{All}
-use Rattle.std.specs.List.{AllPairs}
 use Rattle.std.proofs.Math.Seq.{get_or-append_seam}
 use Rattle.std.proofs.lemmas.List.{length-append, get_or_append_left}
 use Rattle.std.proofs.lemmas.List.Elements.{All-push}
 use Rattle.std.proofs.lemmas.List.Quantifiers.{all_pairs_push}
-use Rattle.step_model.specs.Listing.{Listing}
 use Rattle.programs.specs.Kept.{KeptProgram}
 use Rattle.backward.specs.declared.found.Found.{Found}
 use Rattle.backward.specs.declared.point.Point.{Point}
@@ -95,8 +93,7 @@ module _ {A T : Type 0} (tracked : T → Tracked) (program : KeptProgram) where
   popped from cut points rest point e h =
       let n : length points ≡ length rest + 1 = ap length e ∙ length-append rest (point ∷ []) in
       let last : (d : Point A T) → get_or points (length rest) d ≡ point = λ d. ap (λ (l : List (Point A T)). get_or l (length rest) d) e ∙ get_or-append_seam rest point [] d in
-      let front : (k : ℕ) (d : Point A T) → k < length rest → get_or points k d ≡ get_or rest k d = λ k d lt. ap (λ (l : List (Point A T)). get_or l k d) e ∙ get_or_append_left rest (point ∷ []) d k lt in
-      (
+      let front : (k : ℕ) (d : Point A T) → k < length rest → get_or points k d ≡ get_or rest k d = λ k d lt. ap (λ (l : List (Point A T)). get_or l k d) e ∙ get_or_append_left rest (point ∷ []) d k lt in (
         record {
           first = sym (one_first from rest point) ∙ (ap (first_place from) (sym e) ∙ h.first);
           each = λ k d lt. subst (IsPointOf tracked program) (front k d lt) (h.each k d (omega (arith, lt, n)));

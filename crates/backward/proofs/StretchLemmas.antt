@@ -1,5 +1,5 @@
 -- The text of a stretch, written part by part.
-use Rattle.std.proofs.Common.{◌≡◌, ℕ, ◌+◌, ◌<◌, ◌≤◌, Bool, true, false, List, [], ◌∷◌, ◌++◌, length, take, Option, Some, refl, ap, subst, sym, ◌∙◌, arith, append_assoc}
+use Rattle.std.proofs.Common.{◌≡◌, ℕ, ◌≤◌, Bool, true, false, List, [], ◌++◌, length, take, Option, refl, ap, subst, sym, ◌∙◌, arith, append_assoc}
 use Rattle.std.specs.Prelude.{Result, Ok, Err, OnErr}
 use Rattle.std.specs.List.{flat_map}
 use Rattle.std.proofs.Math.Seq.{take-append_seam}
@@ -11,13 +11,13 @@ use Rattle.step_model.specs.HitModels.{model_of}
 use Rattle.step_model.specs.WellFormed.{IsWellFormed}
 use Rattle.dem_text.specs.ModelText.{detectors_text, line_text, lines_text, model_text, observables_text}
 use Rattle.pieces.specs.Held.{Held}
-use Rattle.pieces.specs.Pushed.{IsPushed, Outlet, Pushes, Rests}
+use Rattle.pieces.specs.Pushed.{IsPushed, Outlet, Pushes}
 use Rattle.pieces.proofs.Pushing.{Pushes-trans}
 use Rattle.backward.specs.declared.found.Found.{Found}
 use Rattle.backward.specs.declared.point.Point.{Point}
 use Rattle.backward.specs.Tracked.{Tracked}
 use Rattle.backward.specs.private.Passes.{HoldsLists, IsJudged, IsPassed, records_before}
-use Rattle.backward.specs.private.Points.{ArePoints, IsPointOf, IsReady, PushesSome, first_place}
+use Rattle.backward.specs.private.Points.{IsPointOf, IsReady, PushesSome, first_place}
 use Rattle.backward.specs.private.Stretches.{text_between}
 use Rattle.backward.proofs.PassLines.{lines_between-all, lines_between-none, text_between-parts}
 use Rattle.backward.proofs.PassRecords.{records_before-earlier, settled-at, settled-first}

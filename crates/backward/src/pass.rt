@@ -79,7 +79,10 @@ fn go_over<'s, 'p, 'a, A: Allocator + Copy, T: Tracker, L: LineStore>(
             collapse(program, &terms, reset, rec, flip, at, found, lines)
         }
         Step::CollapseWord {
-            product, rec, flip, ..
+            product,
+            rec,
+            flip,
+            ..
         } => {
             let terms = program.product(product);
             collapse(program, terms, None, rec, flip, at, found, lines)

@@ -115,11 +115,7 @@ pub(crate) fn random_target<'s, 'a, A: Allocator + Copy, T: Tracker>(
     program.well_formed();
     let targets = target_count(program);
     let lowest = lowest_at_start(*found.alloc, program, tracker, &mut found.hit)?;
-    Ok(lowest_random(
-        targets,
-        found.latest.as_slice(),
-        lowest.as_slice(),
-    ))
+    Ok(lowest_random(targets, found.latest.as_slice(), lowest.as_slice()))
 }
 
 // The lowest of some targets with a place, by the latest collapse of each and the lowest qubit of each at the start.

@@ -24,7 +24,7 @@ use std::alloc::{AllocError, Allocator};
 use step_model::{Cause, Fault, Place, Sink};
 
 /// How much text of error lines is held at once. A longer text is found in parts, in a second pass.
-const ROOM: usize = 4 << 20;
+const ROOM: usize = 2 << 20;
 
 const NO_WRITE: Fault = Fault {
     cause: Cause::Write,

@@ -1,12 +1,11 @@
 -- Parts that fit make a program that is well formed.
-use Rattle.std.proofs.Common.{◌≡◌, ℕ, suc, ◌<◌, ◌==◌, nat_lt, true, List, [], ◌∷◌, length, get_or, Option, None, Some, refl, sym, ap, ◌∙◌, arith}
+use Rattle.std.proofs.Common.{◌≡◌, ℕ, ◌==◌, nat_lt, true, List, [], ◌∷◌, length, Option, None, Some, refl, sym, ap, ◌∙◌, arith}
 use Rattle.std.specs.List.{range_with_len, list_all}
 use Rattle.std.specs.Prelude.{All}
-use Rattle.std.proofs.lemmas.Bool.{and_parts, ltb-true, eqb-true}
+use Rattle.std.proofs.lemmas.Bool.{and_parts, ltb-true}
 use Rattle.std.proofs.lemmas.List.Elements.{All-from_recursion, All-append}
 use Rattle.std.proofs.lemmas.List.Sums.{AllPass-from_list_all}
-use Rattle.step_model.specs.declared.step.Term.{Term}
-use Rattle.step_model.specs.Listing.{Listing, ListedFault, Effect, Applies, Flips}
+use Rattle.step_model.specs.Listing.{ListedFault, Effect, Applies, Flips}
 use Rattle.programs.specs.Kept.{Kept, KeptProgram, IsWellKept, none_kept}
 use Rattle.step_model.specs.WellFormed.{IsWellFormed, FaultFits, EffectFits, step_fits, collapse_count}
 use Rattle.programs.specs.declared.program.Parts.{Parts}

@@ -1,6 +1,6 @@
 -- Points left on the way back over a stretch of steps, from where other passes start; and what such a pass pushes.
 -- (Gottesman, arXiv:quant-ph/9807006: words carried through a circuit. How a pass is cut is this project's own.)
-use Rattle.std.specs.Prelude.{◌≡◌, ℕ, ◌<◌, ◌≤◌, ◌++◌, Bool, true, List, [], ◌∷◌, length, drop, All, Option}
+use Rattle.std.specs.Prelude.{◌≡◌, ℕ, ◌<◌, ◌≤◌, ◌++◌, true, List, [], ◌∷◌, length, drop, All, Option}
 use Rattle.std.specs.List.{AllPairs}
 use Rattle.step_model.specs.Listing.{Listing}
 use Rattle.programs.specs.Kept.{KeptProgram}

@@ -1,6 +1,6 @@
 -- The error lines of a stretch of a program's steps: those of its faults, the first fault's first. The lines of all
 -- steps are the model's. (Stim's detector error model format: a line an error.)
-use Rattle.std.specs.Prelude.{⊤, ◌≡◌, ℕ, ◌-◌, ◌<◌, ◌≤◌, ◌++◌, Bool, true, List, [], ◌∷◌, map, filter, length, drop, Option, None, Some, slice_index_or}
+use Rattle.std.specs.Prelude.{ℕ, ◌-◌, ◌++◌, List, [], ◌∷◌, filter, length, drop, Option, None, Some}
 use Rattle.std.specs.List.{range_with_len, flat_map}
 use Rattle.step_model.specs.ErrorModels.{ErrorLine}
 use Rattle.step_model.specs.Hits.{hits_at}

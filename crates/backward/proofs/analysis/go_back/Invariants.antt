@@ -1,4 +1,4 @@
-use Rattle.std.proofs.Common.{◌≡◌, ◌≤◌, false, length}
+use Rattle.std.proofs.Common.{◌≡◌, false, length}
 use Rattle.std.specs.Prelude.{reverse}
 use Rattle.backward.specs.private.Passes.{IsPassed}
 use Rattle.backward.specs.private.Stretches.{lines_between}

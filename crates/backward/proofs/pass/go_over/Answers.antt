@@ -1,10 +1,9 @@
-use Rattle.std.proofs.Common.{List, ap, refl, subst, sym, ◌∙◌, get_or, [], ◌∷◌}
+use Rattle.std.proofs.Common.{subst}
 use Rattle.std.proofs.lemmas.Result.{on_ok_weaker}
-use Rattle.programs.specs.declared.step.Step.TheVariants.{One, Two, Collapse, CollapseWord, Fault, Feedback}
 use Rattle.programs.specs.Listed.{listed}
 use Rattle.programs.specs.Named.{IsStepOf}
 use Rattle.backward.specs.private.Passes.{IsStepAt}
-use Rattle.backward.proofs.PassSteps.{letter_at_place, product_at_place, passed-one, passed-two, gives_none, no_line}
+use Rattle.backward.proofs.PassSteps.{letter_at_place, passed-one, passed-two}
 use Rattle.backward.proofs.pass.go_over.Goals as goal
 
 pub collapse-requires-clause-step : goal.collapse-requires-clause-step

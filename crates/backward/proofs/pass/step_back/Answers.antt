@@ -1,4 +1,4 @@
-use Rattle.std.proofs.Common.{◌≡◌, ◌<◌, None, Some, ap, sym, ◌∙◌, arith}
+use Rattle.std.proofs.Common.{arith}
 use Rattle.backward.proofs.PassSteps.{walk_at, walk_end}
 use Rattle.backward.proofs.pass.step_back.Goals as goal
 

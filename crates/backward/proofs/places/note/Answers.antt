@@ -1,4 +1,4 @@
-use Rattle.std.proofs.Common.{◌<◌, ◌≤◌, ap, arith, get_or, length, sym, ◌∙◌}
+use Rattle.std.proofs.Common.{◌<◌, ap, arith, get_or, length, ◌∙◌}
 use Rattle.backward.specs.private.Collapses.{noted}
 use Rattle.backward.proofs.PassPlaces.{length-noted, opened_some, some_left}
 use Rattle.backward.proofs.places.note.Goals as goal

@@ -1,7 +1,5 @@
-use Rattle.std.proofs.Common.{◌≡◌, ◌+◌, ◌<◌, ℕ, None, Some, get_or, length, subst, sym, ◌∙◌, arith}
-use Rattle.std.specs.Prelude.{IfSome}
+use Rattle.std.proofs.Common.{◌≡◌, ◌<◌, ℕ, None, get_or, length, subst, sym, arith}
 use Rattle.step_model.specs.Targets.{targets_of}
-use Rattle.step_model.specs.WellFormed.{collapse_count}
 use Rattle.backward.specs.Places.{IsLowestRandom, NoneIsRandom, place_from}
 use Rattle.backward.specs.private.Passes.{IsJudged, latest_before, lowest_below, opened}
 use Rattle.backward.proofs.Judging.{none_left, none_weaker, some_both, some_weaker, random_found, none_found}

@@ -1,4 +1,4 @@
-use Rattle.std.proofs.Common.{◌≡◌, ◌≤◌, ◌<◌, ◌++◌, refl, rules, ap, subst, sym, ◌∙◌, arith}
+use Rattle.std.proofs.Common.{◌≤◌, ◌<◌, ◌++◌, refl, rules, ap, subst, sym, ◌∙◌, arith}
 use Rattle.std.specs.Option.{option_to_list}
 use Rattle.pieces.proofs.Pushing.{Pushes-nil, Pushes-trans}
 use Rattle.backward.specs.private.Passes.{records_before}
@@ -6,7 +6,7 @@ use Rattle.backward.specs.private.Points.{ArePoints, first_place}
 use Rattle.backward.specs.private.Stretches.{text_between}
 use Rattle.backward.proofs.PassLines.{text_between-parts}
 use Rattle.backward.proofs.PointLemmas.{popped}
-use Rattle.backward.proofs.StretchLemmas.{Pushes-as, Pushes-failed, on_err_any, passed_at_point, reached, ready_after, ready_at, some-first, some-then, text_between-none, text_between-three}
+use Rattle.backward.proofs.StretchLemmas.{Pushes-as, Pushes-failed, on_err_any, passed_at_point, ready_after, ready_at, some-first, some-then, text_between-none, text_between-three}
 use Rattle.backward.proofs.stretch.+write_parts.Goals as goal
 
 pub loop-point-init : goal.loop-point-init
@@ -88,8 +88,7 @@ write_parts-requires g t c κs now =
     let above : l.start ≤ inner = omega (arith, part.above, part.points.first) in
     let below : inner ≤ point.walk.place = omega (arith, part.below, part.points.first) in
     let back : inner < point.walk.place = omega (arith, part.back all.2, part.points.first) in
-    let within : point.walk.place ≤ whole = all.3 in
-    (
+    let within : point.walk.place ≤ whole = all.3 in (
       omega (arith, above, back, within, l.invariant.from),
       (
         search rules,

@@ -1,4 +1,4 @@
-use Rattle.std.proofs.Common.{◌≡◌, ◌++◌, [], length, refl, ap, subst, sym, ◌∙◌, arith}
+use Rattle.std.proofs.Common.{[], length, refl, ap, ◌∙◌, arith}
 use Rattle.backward.proofs.HeldLines.{holds_none, stretch_text}
 use Rattle.backward.proofs.stretch.cut.Goals as goal
 

@@ -1,9 +1,8 @@
-use Rattle.std.proofs.Common.{◌≡◌, ◌<◌, ◌≤◌, ◌+◌, ◌++◌, [], List, refl, ap, append_assoc, subst, sym, ◌∙◌, arith}
+use Rattle.std.proofs.Common.{◌≡◌, ◌<◌, ◌+◌, ◌++◌, List, refl, ap, subst, sym, ◌∙◌, arith}
 use Rattle.std.specs.Prelude.{reverse}
 use Rattle.std.proofs.lemmas.List.{append-nil}
 use Rattle.step_model.specs.ErrorModels.{ErrorLine}
 use Rattle.dem_text.specs.HeldText.{HoldsLines}
-use Rattle.backward.specs.private.Stretches.{lines_at, lines_between}
 use Rattle.backward.proofs.HeldLines.{lines_more}
 use Rattle.backward.proofs.PassLines.{lines_between-none}
 use Rattle.backward.proofs.PointLemmas.{stays_on}

@@ -1,4 +1,4 @@
-use Rattle.std.proofs.Common.{◌≡◌, ◌≤◌, ◌++◌, inr, refl, ap, subst, sym, ◌∙◌, arith, length}
+use Rattle.std.proofs.Common.{◌≤◌, ◌++◌, inr, refl, ap, subst, sym, ◌∙◌, arith, length}
 use Rattle.step_model.specs.HitModels.{model_of}
 use Rattle.dem_text.specs.ModelText.{detectors_text, observables_text}
 use Rattle.pieces.proofs.Pushing.{Pushes-nil, Pushes-trans}
@@ -28,7 +28,7 @@ returns-in_err-write_parts-in-None-clause-some g c =
     (inr (
       subst (λ o. IfNone o (NoneIsRandom program)) c.in-None.is c.in_ok-random.ensures.none,
       some-then c.args.sink.now c.args.sink.now c.write_parts.new.sink c.args.out.now c.args.out.now c.write_parts.new.out _ (text_between program 0 inner) (text_between program inner (length program.steps) ++ (detectors_text (model_of program) ++ observables_text (model_of program))) _
-      (whole_model program inner c.well_formed-2.ensures.listing within) Pushes-nil c.in_err-write_parts-in-None.ensures.some,
+          (whole_model program inner c.well_formed-2.ensures.listing within) Pushes-nil c.in_err-write_parts-in-None.ensures.some,
     ))
 
 pub returns-clause-text : goal.returns-clause-text

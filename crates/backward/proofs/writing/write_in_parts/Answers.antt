@@ -1,4 +1,4 @@
-use Rattle.std.proofs.Common.{◌≡◌, inl, inr, ap, subst, sym, ◌∙◌}
+use Rattle.std.proofs.Common.{◌≡◌, inl, inr, subst}
 use Rattle.std.specs.Prelude.{◌⊎◌, IfNone}
 use Rattle.step_model.specs.Ends.{TakesSome}
 use Rattle.step_model.specs.HitModels.{model_of}

@@ -1,4 +1,4 @@
-use Rattle.std.proofs.Common.{◌<◌, length, subst, sym, ◌∙◌}
+use Rattle.std.proofs.Common.{◌<◌, subst, sym, ◌∙◌}
 use Rattle.std.specs.Prelude.{All}
 use Rattle.backward.proofs.PassPlaces.{hit_in_words}
 use Rattle.backward.proofs.found.Found.judge.Goals as goal
