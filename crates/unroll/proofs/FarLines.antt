@@ -1,9 +1,8 @@
 -- A circuit is refused for what it makes exactly where it is for what is counted on its tree: the first line that is
 -- reached and reaches back too far is the first to do so at the first turns of blocks, for records only grow.
-use Rattle.std.proofs.Common.{◌≡◌, ℕ, zero, suc, ◌+◌, ◌*◌, ◌<◌, ◌≤◌, Bool, true, false, List, [], ◌∷◌, ◌++◌, length, Option, None, Some, refl, sym, ap, ap₂, ◌∙◌, arith}
+use Rattle.std.proofs.Common.{◌≡◌, ℕ, zero, suc, ◌+◌, ◌*◌, ◌<◌, ◌≤◌, Bool, true, false, List, [], ◌∷◌, ◌++◌, Option, None, Some, refl, sym, ap, ap₂, ◌∙◌, arith}
 use Rattle.std.specs.Prelude.{nat_lt, ◌||◌, if◌then◌else◌, option_map, slice_get}
 use Rattle.std.specs.Option.{option_or}
-use Rattle.std.specs.List.{sum_by}
 use Rattle.block_text.specs.Reached.{copies, reached, instructions_of}
 use Rattle.step_model.specs.declared.fault.Fault.{Fault}
 use Rattle.step_model.specs.declared.fault.Cause.TheVariants as cause

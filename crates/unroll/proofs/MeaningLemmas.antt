@@ -1,6 +1,6 @@
 -- What is kept of a circuit stands for its meaning: its steps, numbered as they are unrolled, and their faults are what
 -- its instructions make one after another as they are reached; and so are its detectors, observables and coordinates.
-use Rattle.std.proofs.Common.{◌≡◌, ℕ, ℤ, zero, suc, ◌+◌, ◌==◌, map, List, [], ◌∷◌, ◌++◌, length, refl, sym, ap, ap₂, ◌∙◌, subst, append_assoc, arith}
+use Rattle.std.proofs.Common.{◌≡◌, ℕ, ℤ, zero, suc, ◌+◌, ◌==◌, List, [], ◌∷◌, ◌++◌, length, refl, sym, ap, ap₂, ◌∙◌, subst, append_assoc, arith}
 use Rattle.std.specs.Prelude.{if◌then◌else◌}
 use Rattle.std.specs.List.{filter, flat_map, range_with_len, sum_by}
 use Rattle.programs.proofs.Orders.{collapses-total}
@@ -29,10 +29,9 @@ use Rattle.unroll.specs.private.Kept.{entries_of, kept_entries, kept_products, p
 use Rattle.unroll.specs.Meaning.{after, at_start, listing_of, made_in, made_of, new_faults, new_steps}
 use Rattle.unroll.specs.private.Observables.{added_from, observables_of}
 use Rattle.unroll.specs.private.Steps.{instruction_steps, steps_from, steps_of}
-use Rattle.unroll.specs.StepsMade.{operation_made}
 use Rattle.unroll.specs.TargetsMade.{adds_to, operation_adds, operation_coordinates, operation_detectors, records_named}
 use Rattle.unroll.specs.Totals.{first_argument, observable_total, observables_to, qubit_total}
-use Rattle.unroll.specs.private.MadeTotals.{collapse_total, detector_total, record_count, record_total}
+use Rattle.unroll.specs.private.MadeTotals.{collapse_total, detector_total, record_total}
 use Rattle.unroll.proofs.InstructionCounts.{instruction-faults, instruction-records}
 use Rattle.unroll.proofs.MadeCounts.{after-records, after_all, after_all-append, listed-collapses, listed-records, made-records, made_of-append}
 use Rattle.unroll.proofs.MadeCounts as made
