@@ -100,9 +100,7 @@ fn stops_at(
 ) -> bool {
     let (answer, sink) = written(alloc, program, room, call);
     let device = sink.writer();
-    answer == Err(Fault::WRITE)
-        && device.calls == call
-        && text.starts_with(device.taken.as_slice())
+    answer == Err(Fault::WRITE) && device.calls == call && text.starts_with(device.taken.as_slice())
 }
 
 /// The first three calls fail while error lines are written, and the later ones among the detectors.
