@@ -91,7 +91,7 @@ class WantOfMemory(ProgramTest):
                 refused, limit = 0, start
                 while not self.check_limit(limit, words, content, output, status):
                     refused += 1
-                    limit += 8 * PAGE
+                    limit += 4 * PAGE
                     self.assertLess(limit, ENOUGH)
                 # Most of these limits are met on the way, and not only by the first growth.
                 self.assertGreater(refused, 3)
