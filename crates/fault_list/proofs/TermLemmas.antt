@@ -2,13 +2,13 @@
 use Rattle.std.proofs.Common.{◌≡◌, ◌≢◌, ℕ, inl, inr, ◌+◌, ◌<◌, ◌≤◌, List, [], ◌∷◌, length, get_or, drop, refl, sym, ap, ap₂, ◌∙◌, arith}
 use Rattle.std.specs.Prelude.{if◌then◌else◌, All, ◌⊎◌}
 use Rattle.std.proofs.lemmas.Bool.Decides.{eqb_tells}
-use Rattle.std.proofs.lemmas.List.{length-replicate, get_or-replicate, get_or-set_same, get_or-set_other, drop_more, drop_all}
+use Rattle.std.proofs.lemmas.List.{length-replicate, get_or-replicate, get_or-set_same, get_or-set_other, drop_more}
 use Rattle.std.proofs.lemmas.List.Elements.{All-head, All-tail}
 use Rattle.pauli_word.specs.declared.letter.Letter.{Letter}
 use Rattle.pauli_word.specs.declared.letter.Letter.TheVariants.{I}
 use Rattle.pauli_word.specs.Letters.{letter_product}
 use Rattle.pauli_word.specs.Words.{letter_at, letters_product, lone_letter, no_letters}
-use Rattle.pauli_word.proofs.LetterLaws.{letter_product_assoc, letter_product-I}
+use Rattle.pauli_word.proofs.LetterLaws.{letter_product_assoc}
 use Rattle.pauli_word.proofs.LoneLetters.{length-lone_letter}
 use Rattle.pauli_word.proofs.WordLaws.{letters_product_assoc, letters_product_comm}
 use Rattle.pauli_word.proofs.WordPlaces.{letter_at-product}
@@ -63,20 +63,11 @@ none_between terms from next q lowest after below =
       | inr past ↦ omega (arith, past, below, e)
     ])
 
--- the letter so far, times that of the terms from i on, is the letter of all
-pub letter_none : (terms : List Term) (q : ℕ) → letter_product I (letter_in (drop 0 terms) q) ≡ letter_in terms q
-letter_none terms q = refl
-
+-- the letter so far, times that of the terms from i on, stays the same by one term more
 pub letter_more : (terms : List Term) (i q : ℕ) (letter : Letter) → i < length terms → letter_product letter (letter_in (drop i terms) q) ≡ letter_in terms q → letter_product (letter_product letter (letter_here (term_at terms i) q)) (letter_in (drop (i + 1) terms) q) ≡ letter_in terms q
 letter_more terms i q letter more so_far =
     letter_product_assoc letter (letter_here (term_at terms i) q) (letter_in (drop (i + 1) terms) q)
     ∙ (ap (λ ts. letter_product letter (letter_in ts q)) (sym (drop_more terms i no_term more))
-    ∙ so_far)
-
-pub letter_all : (terms : List Term) (i q : ℕ) (letter : Letter) → length terms ≤ i → letter_product letter (letter_in (drop i terms) q) ≡ letter_in terms q → letter ≡ letter_in terms q
-letter_all terms i q letter past so_far =
-    sym (letter_product-I letter)
-    ∙ (ap (λ ts. letter_product letter (letter_in ts q)) (sym (drop_all i terms past))
     ∙ so_far)
 
 -- two letters at qubits make one word, whichever comes first

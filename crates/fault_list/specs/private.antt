@@ -1,1 +1,2 @@
 pub mod TermLetters
+pub mod FactorTexts

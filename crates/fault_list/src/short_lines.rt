@@ -7,7 +7,7 @@ ghost use Rattle.step_model.specs.WellFormed.{TermsFit};
 ghost use Rattle.fault_list.specs.FaultLines.{effect_text, factor_text, fault_line, letter_text, record_text, word_text};
 ghost use Rattle.fault_list.specs.private.TermLetters.{is_ordered, starred_factors};
 
-use crate::word::acts;
+use crate::letters::acts;
 use fault_walk::FoundFault;
 use itoa::write_digits;
 use pauli_word::Letter;
@@ -176,9 +176,9 @@ fn factors_before(buffer: &mut [u8], end: usize, terms: &[Term]) -> usize
     at
 }
 
-// Writes a factor after `*`.
+/// Writes a factor after `*`.
 #[inline(always)]
-fn starred_before(buffer: &mut [u8], end: usize, term: Term) -> usize
+pub(crate) fn starred_before(buffer: &mut [u8], end: usize, term: Term) -> usize
     requires within { end ≤ length buffer.old }
     requires room { 12 ≤ end }
     ensures within { result ≤ end }

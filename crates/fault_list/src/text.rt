@@ -8,8 +8,9 @@ ghost use Rattle.fault_walk.specs.Found.{IsFaultOf};
 ghost use Rattle.fault_list.specs.FaultLines.{record_text, effect_text, fault_line, fault_lines, coins_line, list_text};
 
 use crate::short_lines::{ROOM, line_before};
-use crate::word::{write_number, write_word};
+use crate::word::write_word;
 use fault_walk::{FoundFault, next_fault};
+use itoa::Buffer;
 use pieces::Pieces;
 use programs::{Program, Walk};
 use std::alloc::Allocator;
@@ -122,4 +123,10 @@ fn write_coins<W: Sink>(out: &mut Pieces, sink: &mut W, collapses: u32)
     out.push(sink, b"coins ");
     write_number(out, sink, collapses);
     out.push(sink, b"\n");
+}
+
+fn write_number<W: Sink>(out: &mut Pieces, sink: &mut W, number: u32)
+    ensures { Pushes W.taken W.failures sink.old sink.new out.old out.new (decimal number) }
+{
+    out.push(sink, Buffer::new().format(number).as_bytes());
 }

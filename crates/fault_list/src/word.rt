@@ -1,40 +1,41 @@
-//! The text of a Pauli word that is kept as letters at qubits, in any order and a qubit more than once.
-ghost use Rattle.std.specs.Prelude.{◌≡◌, ◌≢◌, ◌<◌, ◌≤◌, ◌⊎◌, ◌++◌, [], codes, decimal, if◌then◌else◌, All, not};
-ghost use Rattle.pauli_word.specs.declared.letter.Letter.TheVariants.{I};
+//! The text of a Pauli word that is kept as terms, letters at qubits, in any order and a qubit more than once.
+ghost use Rattle.std.specs.Prelude.{◌≡◌, ◌<◌, ◌≤◌, ◌+◌, ◌⊎◌, ◌&&◌, All, length};
 ghost use Rattle.pieces.specs.Pushed.{Pushes};
-ghost use Rattle.step_model.specs.Listing.{word_of_terms, is_I};
+ghost use Rattle.step_model.specs.Listing.{word_of_terms};
 ghost use Rattle.step_model.specs.WellFormed.{TermsFit};
-ghost use Rattle.fault_list.specs.FaultLines.{factor_text, letter_text, word_text};
-ghost use Rattle.fault_list.specs.private.TermLetters.{letter_in};
+ghost use Rattle.fault_list.specs.FaultLines.{word_text};
+ghost use Rattle.fault_list.specs.private.FactorTexts.{is_none, joined_on, term_factors};
 
-use itoa::Buffer;
+use crate::blocks::{BLOCK, write_letters};
+use crate::letters::gather;
 use pauli_word::Letter;
 use pieces::Pieces;
 use step_model::{Sink, Term};
 
-// Writes the word that letters at qubits make. The qubits are met in ascending order by looking for the lowest one
-// that is left, so no memory is taken; faults of many qubits are rare.
+/// How many qubits are put in order at once, at most. A circuit that is read from a text has no more.
+const SPAN: usize = 4096;
+
+// Writes the word that terms make. Its qubits are met in ascending order, a span of them at once: each span begins at
+// the lowest qubit that is left and is about as long as there are terms, so that neither few terms at distant qubits nor
+// many take long.
 pub(crate) fn write_word<W: Sink>(out: &mut Pieces, sink: &mut W, qubits: u32, terms: &[Term])
     requires { TermsFit qubits terms.now }
     ensures { Pushes W.taken W.failures sink.old sink.new out.old out.new (word_text (word_of_terms qubits terms.now)) }
 {
+    let mut room = [Letter::I; SPAN];
     let mut first = true;
-    let mut qubit = lowest_from(terms, 0, qubits);
-    while qubit < qubits {
-        let letter = letter_in(terms, qubit);
-        let acts = acts(letter);
-        if acts {
-            write_factor(out, sink, first, letter, qubit);
-            first = false;
-        }
-        qubit = lowest_from(terms, qubit + 1, qubits);
+    let mut from = lowest_from(terms, 0, qubits);
+    while from < qubits {
+        let span = span_of(terms.len(), qubits - from);
+        first = write_span(out, sink, &mut room[..span], terms, from, first);
+        from = lowest_from(terms, from + span as u32, qubits);
     }
     if first {
         out.push(sink, b"I");
     }
 }
 
-// The lowest qubit from this one on at which there is a letter; the number of qubits where there is none.
+// The lowest qubit from this one on at which there is a term; the number of qubits where there is none.
 fn lowest_from(terms: &[Term], from: u32, qubits: u32) -> u32
     requires { from ≤ qubits }
     ensures from { from ≤ result }
@@ -50,53 +51,30 @@ fn lowest_from(terms: &[Term], from: u32, qubits: u32) -> u32
     lowest
 }
 
-// The product of the letters at a qubit.
-fn letter_in(terms: &[Term], qubit: u32) -> Letter
-    ensures { result ≡ letter_in terms.now qubit }
+// How many of the qubits that are left are put in order at once, for so many terms.
+fn span_of(terms: usize, left: u32) -> usize
+    requires { 0 < left }
+    ensures some { 0 < result }
+    ensures within { result ≤ left }
+    ensures room { result ≤ 4096 }
 {
-    let mut letter = Letter::I;
-    for term in terms {
-        if term.qubit == qubit {
-            letter = letter.times(term.letter);
-        }
-    }
-    letter
+    terms.clamp(BLOCK, SPAN).min(left as usize)
 }
 
-// Whether a letter isn't I.
-pub(crate) fn acts(letter: Letter) -> bool
-    ensures { result ≡ not (is_I letter) }
+// Writes the factors that terms make at as many qubits as there is room for letters, from one qubit on, after others
+// where they aren't the first. It answers whether there is still none.
+fn write_span<W: Sink>(
+    out: &mut Pieces,
+    sink: &mut W,
+    letters: &mut [Letter],
+    terms: &[Term],
+    from: u32,
+    first: bool,
+) -> bool
+    requires { from + length letters.old ≤ u32.MAX }
+    ensures first { result ≡ (first && is_none (term_factors terms.now from (length letters.old))) }
+    ensures pushed { Pushes W.taken W.failures sink.old sink.new out.old out.new (joined_on first (term_factors terms.now from (length letters.old))) }
 {
-    match letter {
-        Letter::I => false,
-        Letter::X | Letter::Y | Letter::Z => true,
-    }
-}
-
-// A factor, after `*` where it isn't the first.
-fn write_factor<W: Sink>(out: &mut Pieces, sink: &mut W, first: bool, letter: Letter, qubit: u32)
-    ensures { Pushes W.taken W.failures sink.old sink.new out.old out.new ((if first then [] else codes "*") ++ factor_text qubit letter) }
-{
-    if !first {
-        out.push(sink, b"*");
-    }
-    out.push(sink, letter_text(letter));
-    write_number(out, sink, qubit);
-}
-
-fn letter_text(letter: Letter) -> &'static [u8]
-    ensures { result.now ≡ letter_text letter }
-{
-    match letter {
-        Letter::I => b"I",
-        Letter::X => b"X",
-        Letter::Y => b"Y",
-        Letter::Z => b"Z",
-    }
-}
-
-pub(crate) fn write_number<W: Sink>(out: &mut Pieces, sink: &mut W, number: u32)
-    ensures { Pushes W.taken W.failures sink.old sink.new out.old out.new (decimal number) }
-{
-    out.push(sink, Buffer::new().format(number).as_bytes());
+    gather(letters, terms, from);
+    write_letters(out, sink, letters, from, first)
 }

@@ -1,62 +1,59 @@
--- The factors go out qubit by qubit.
-use Rattle.std.proofs.Common.{sym, ap, ◌∙◌}
+-- The factors go out span by span.
+use Rattle.std.proofs.Common.{◌≡◌, ◌++◌, true, length, take, sym, ap, ap₂, ◌∙◌, rules}
+use Rattle.std.specs.Prelude.{◌&&◌}
 use Rattle.pieces.proofs.Pushing.{Pushes-trans, Pushes-nil}
 use Rattle.step_model.specs.Listing.{word_of_terms}
-use Rattle.fault_list.specs.FaultLines.{factor_text}
-use Rattle.fault_list.proofs.FactorLemmas.{factors_below, is_none, joined_more, not_none, product_text-some, product_text-none, is_letter, is_no_letter}
-use Rattle.fault_list.proofs.WordSteps.{step_first, step_with, step_without, step_last}
+use Rattle.fault_list.specs.private.FactorTexts.{is_none, joined, joined_on, term_factors}
+use Rattle.fault_list.proofs.FactorLemmas.{factors_below}
+use Rattle.fault_list.proofs.FactorTextLemmas.{joined_on-append, none-append, product_text-some, product_text-none}
+use Rattle.fault_list.proofs.SpanLemmas.{none_before, span_more, all_below}
 use Rattle.fault_list.proofs.word.write_word.Goals as goal
-use Rattle.fault_list.proofs.word.write_word.Goals.{then-acts, else-acts}
 
-pub loop-qubit-init : goal.loop-qubit-init
-loop-qubit-init g c =
-    let e = c.lowest_from-qubit.ensures in
-    let none = step_first c.args.qubits c.args.terms.now c.lowest_from-qubit.result c.requires e.within e.lowest in
+pub loop-from-init : goal.loop-from-init
+loop-from-init g c =
+    let e = c.lowest_from-from.ensures in
+    let none = none_before c.args.qubits c.args.terms.now c.lowest_from-from.result c.requires e.within e.lowest in
     record {
       within = e.within;
       first = sym (ap is_none none);
       pushed = rw none Pushes-nil;
     }
 
-pub loop-qubit-preserved : goal.loop-qubit-preserved
-loop-qubit-preserved g c =
+pub loop-from-preserved : goal.loop-from-preserved
+loop-from-preserved g c =
     let n = c.args.qubits in
     let terms = c.args.terms.now in
-    let q = c.loop-qubit.qubit in
-    let next = c.lowest_from-qubit-in-loop-qubit.result in
-    let e = c.lowest_from-qubit-in-loop-qubit.ensures in
-    let letter = c.letter_in-letter.result in
-    let here = sym c.letter_in-letter.ensures in
+    let q = c.loop-from.from in
+    let span = c.span_of-span.result in
+    let next = c.lowest_from-from-in-loop-from.result in
+    let e = c.lowest_from-from-in-loop-from.ensures in
     let fs = factors_below (word_of_terms n terms) q in
-    elim c.if-acts.branch [
-      | then-acts w ↦
-          let more = step_with n terms q next letter c.requires c.loop-qubit-test.true e.from e.within e.lowest here (is_letter letter (sym c.acts-acts.ensures ∙ w.if-acts.true)) in
-          let factor = rw c.loop-qubit.invariant.first at w.write_factor.ensures in
-          let pushed = rw (joined_more fs (factor_text q letter)) at (Pushes-trans c.loop-qubit.invariant.pushed factor) in
-          record {
-            within = e.within;
-            first = w.first-is ∙ (not_none fs (factor_text q letter) ∙ sym (ap is_none more));
-            pushed = rw (more, w.out-is, w.sink-is) pushed;
-          }
-      | else-acts w ↦
-          let same = step_without n terms q next c.requires c.loop-qubit-test.true e.from e.within e.lowest (here ∙ is_no_letter letter (sym c.acts-acts.ensures ∙ w.if-acts.false)) in
-          record {
-            within = e.within;
-            first = w.first-is ∙ (c.loop-qubit.invariant.first ∙ sym (ap is_none same));
-            pushed = rw (same, w.out-is, w.sink-is) c.loop-qubit.invariant.pushed;
-          }
-    ]
+    let gs = term_factors terms q span in
+    let more = sym (span_more n terms q span next c.requires e.from e.within e.lowest) in
+    let room : length (take span c.loop-from.room) ≡ span = search rules in
+    let w = c.write_span-first.ensures in
+    let text : joined fs ++ joined_on c.loop-from.first (term_factors terms q (length (take span c.loop-from.room))) ≡ joined (factors_below (word_of_terms n terms) next) =
+    ap₂ (λ b k. joined fs ++ joined_on b (term_factors terms q k)) c.loop-from.invariant.first room
+    ∙ (joined_on-append true fs gs ∙ ap joined more) in
+    record {
+      within = e.within;
+      first =
+          w.first
+          ∙ (ap₂ (λ b k. b && is_none (term_factors terms q k)) c.loop-from.invariant.first room
+          ∙ (none-append true fs gs ∙ ap is_none more));
+      pushed = rw text at (Pushes-trans c.loop-from.invariant.pushed w.pushed);
+    }
 
 pub returns-then-first : goal.returns-then-first
 returns-then-first g c =
-    let all = step_last c.args.qubits c.args.terms.now c.loop-qubit.qubit c.loop-qubit.invariant.within c.loop-qubit-test.false in
-    let fs = factors_below (word_of_terms c.args.qubits c.args.terms.now) c.loop-qubit.qubit in
-    let text = product_text-none fs (sym c.loop-qubit.invariant.first ∙ c.if-first.true) in
-    rw (← all, ← text) (Pushes-trans c.loop-qubit.invariant.pushed c.push.ensures)
+    let all = all_below c.args.qubits c.args.terms.now c.loop-from.from c.loop-from.invariant.within c.loop-from-test.false in
+    let fs = factors_below (word_of_terms c.args.qubits c.args.terms.now) c.loop-from.from in
+    let text = product_text-none fs (sym c.loop-from.invariant.first ∙ c.if-first.true) in
+    rw (← all, ← text) (Pushes-trans c.loop-from.invariant.pushed c.push.ensures)
 
 pub returns-else-first : goal.returns-else-first
 returns-else-first g c =
-    let all = step_last c.args.qubits c.args.terms.now c.loop-qubit.qubit c.loop-qubit.invariant.within c.loop-qubit-test.false in
-    let fs = factors_below (word_of_terms c.args.qubits c.args.terms.now) c.loop-qubit.qubit in
-    let text = product_text-some fs (sym c.loop-qubit.invariant.first ∙ c.if-first.false) in
-    rw (← all, ← text) c.loop-qubit.invariant.pushed
+    let all = all_below c.args.qubits c.args.terms.now c.loop-from.from c.loop-from.invariant.within c.loop-from-test.false in
+    let fs = factors_below (word_of_terms c.args.qubits c.args.terms.now) c.loop-from.from in
+    let text = product_text-some fs (sym c.loop-from.invariant.first ∙ c.if-first.false) in
+    rw (← all, ← text) c.loop-from.invariant.pushed

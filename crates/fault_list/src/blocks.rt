@@ -1,0 +1,100 @@
+//! The text of the letters of successive qubits. It goes out in blocks, each written into a buffer from its end towards
+//! its start.
+ghost use Rattle.std.specs.Prelude.{◌≡◌, ◌≤◌, ◌+◌, ◌*◌, ◌&&◌, ◌++◌, [], codes, length, drop, if◌then◌else◌};
+ghost use Rattle.pieces.specs.Pushed.{Pushes};
+ghost use Rattle.step_model.specs.Listing.{is_I};
+ghost use Rattle.fault_list.specs.FaultLines.{factor_text};
+ghost use Rattle.fault_list.specs.private.FactorTexts.{is_none, joined_on, letter_factors, starred};
+
+use crate::letters::acts;
+use crate::short_lines::starred_before;
+use pauli_word::Letter;
+use pieces::Pieces;
+use step_model::{Sink, Term};
+
+/// How many letters a block has at most.
+pub(crate) const BLOCK: usize = 16;
+
+/// How long the text of a block is at most: 12 bytes a letter.
+const BLOCK_TEXT: usize = 192;
+
+// Writes the factors of letters at successive qubits, the first of them at `from`, after others where they aren't the
+// first of their word. It answers whether there is still none.
+pub(crate) fn write_letters<W: Sink>(
+    out: &mut Pieces,
+    sink: &mut W,
+    letters: &[Letter],
+    from: u32,
+    first: bool,
+) -> bool
+    requires { from + length letters.now ≤ u32.MAX }
+    ensures first { result ≡ (first && is_none (letter_factors from letters.now)) }
+    ensures pushed { Pushes W.taken W.failures sink.old sink.new out.old out.new (joined_on first (letter_factors from letters.now)) }
+{
+    let mut none = first;
+    let mut done = 0;
+    while done < letters.len() {
+        let next = done + BLOCK.min(letters.len() - done);
+        none = write_block(out, sink, &letters[done..next], from + done as u32, none);
+        done = next;
+    }
+    none
+}
+
+// The same of few letters.
+fn write_block<W: Sink>(
+    out: &mut Pieces,
+    sink: &mut W,
+    letters: &[Letter],
+    from: u32,
+    first: bool,
+) -> bool
+    requires within { from + length letters.now ≤ u32.MAX }
+    requires few { length letters.now ≤ 16 }
+    ensures first { result ≡ (first && is_none (letter_factors from letters.now)) }
+    ensures pushed { Pushes W.taken W.failures sink.old sink.new out.old out.new (joined_on first (letter_factors from letters.now)) }
+{
+    let mut buffer = [0; BLOCK_TEXT];
+    let start = letters_before(&mut buffer, BLOCK_TEXT, letters, from);
+    if start == BLOCK_TEXT {
+        return first;
+    }
+    let start = if first { start + 1 } else { start };
+    out.push(sink, &buffer[start..]);
+    false
+}
+
+// Writes the factors of letters at successive qubits, each after `*`, so that they end where `end` is, and answers where
+// they start.
+#[inline(always)]
+fn letters_before(buffer: &mut [u8], end: usize, letters: &[Letter], from: u32) -> usize
+    requires within { end ≤ length buffer.old }
+    requires room { length letters.now * 12 ≤ end }
+    requires fits { from + length letters.now ≤ u32.MAX }
+    ensures within { result ≤ end }
+    ensures written { drop result buffer.new ≡ starred (letter_factors from letters.now) ++ drop end buffer.old }
+{
+    let mut left = letters.len();
+    let mut at = end;
+    while left > 0 {
+        left -= 1;
+        at = letter_before(buffer, at, from + left as u32, letters[left]);
+    }
+    at
+}
+
+// The same of one letter.
+#[inline(always)]
+fn letter_before(buffer: &mut [u8], end: usize, qubit: u32, letter: Letter) -> usize
+    requires within { end ≤ length buffer.old }
+    requires room { 12 ≤ end }
+    ensures within { result ≤ end }
+    ensures least { end ≤ result + 12 }
+    ensures written { drop result buffer.new ≡ (if is_I letter then [] else codes "*" ++ factor_text qubit letter) ++ drop end buffer.old }
+{
+    if acts(letter) {
+        starred_before(buffer, end, Term { qubit, letter })
+    } else {
+        end
+    }
+}

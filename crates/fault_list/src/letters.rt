@@ -1,0 +1,43 @@
+//! The letters that terms make at successive qubits.
+ghost use Rattle.std.specs.Prelude.{◌≡◌, ◌<◌, ◌+◌, ℕ, length, not, slice_index_or};
+ghost use Rattle.pauli_word.specs.declared.letter.Letter.TheVariants.{I};
+ghost use Rattle.pauli_word.specs.Letters.{letter_product};
+ghost use Rattle.step_model.specs.Listing.{is_I};
+ghost use Rattle.fault_list.specs.private.TermLetters.{letter_here, letter_in};
+
+use pauli_word::Letter;
+use step_model::Term;
+
+/// Makes each letter the product of those that terms have at its qubit; the first is that of this qubit.
+pub(crate) fn gather(letters: &mut [Letter], terms: &[Term], from: u32)
+    ensures { (k : ℕ) → k < length letters.old → slice_index_or letters.new k I ≡ letter_in terms.now (from + k) }
+{
+    letters.fill(Letter::I);
+    for term in terms {
+        multiply(letters, from, *term);
+    }
+}
+
+// Multiplies a term into the letter of its qubit, where that is among them.
+#[inline(always)]
+fn multiply(letters: &mut [Letter], from: u32, term: Term)
+    ensures { (k : ℕ) → k < length letters.old → slice_index_or letters.new k I ≡ letter_product (slice_index_or letters.old k I) (letter_here term (from + k)) }
+{
+    if term.qubit < from {
+        return;
+    }
+    let at = (term.qubit - from) as usize;
+    if at < letters.len() {
+        letters[at] = letters[at].times(term.letter);
+    }
+}
+
+/// Whether a letter isn't I.
+pub(crate) fn acts(letter: Letter) -> bool
+    ensures { result ≡ not (is_I letter) }
+{
+    match letter {
+        Letter::I => false,
+        Letter::X | Letter::Y | Letter::Z => true,
+    }
+}
