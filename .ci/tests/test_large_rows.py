@@ -20,6 +20,7 @@ follow from the formulas beside them. The sizes, and a test that passes each:
     run         500 coins or faults named       LargeRuns, 2000 coins and 667 faults
                 100 qubits                      LargeRuns, 1000 qubits in one state
     faults      2,000 faults                    LargeFaultLists
+                4,096 letters of a fault        the same, 100,000 letters and 300 turns
 """
 from program import ProgramTest, bits, listed, named
 
@@ -242,6 +243,29 @@ class LargeFaultLists(ProgramTest):
         output = "".join(f"{k} 0.001 Y200\n" for k in range(MANY))
         output += "3000 0.2 " + "*".join(f"X{q}" for q in range(201)) + "\ncoins 3000\n"
         self.check(["faults"], circuit, output)
+
+    def test_100000_letters_of_a_fault(self):
+        """4,096 qubits in no order. X, Y and Z come by turns at each, and 24 letters of a qubit cancel."""
+        targets = "".join(f" {'XYZ'[k % 3]}{1237 * k % 4096}" for k in range(100_000))
+        left = sorted((1237 * k % 4096, "XYZ"[k % 3]) for k in range(24 * 4096, 100_000))
+        self.assertEqual(len({qubit for qubit, _ in left}), 1696)
+        output = "0 0.1 " + "*".join(f"{letter}{qubit}" for qubit, letter in left) + "\n1 0.2 I\ncoins 0\n"
+        self.check(["faults"], f"E(0.1){targets}\nE(0.2){targets}{targets}\n", output)
+
+    def test_300_turns_of_a_fault_of_4096_letters(self):
+        """A text of 24,000 bytes and an output of 6.8 million."""
+        circuit = "REPEAT 300 {\n    E(0.1)" + "".join(f" X{q}" for q in range(4096)) + "\n}\n"
+        word = "*".join(f"X{q}" for q in range(4096))
+        self.check(["faults"], circuit, "".join(f"{k} 0.1 {word}\n" for k in range(300)) + "coins 0\n")
+
+    def test_letters_far_apart(self):
+        """3 to 60 letters, from the greatest qubit down, at qubits as far apart as there is room."""
+        circuit = output = ""
+        for number, count in enumerate(range(3, 61)):
+            qubits = [4095 - k * (4095 // (count - 1)) for k in range(count)]
+            circuit += "E(0.1)" + named("Z", qubits) + "\n"
+            output += f"{number} 0.1 " + "*".join(f"Z{q}" for q in reversed(qubits)) + "\n"
+        self.check(["faults"], circuit, output + "coins 0\n")
 
 
 class LargeShots(ProgramTest):

@@ -18,8 +18,8 @@ pub(crate) const BLOCK: usize = 16;
 /// How long the text of a block is at most: 12 bytes a letter.
 const BLOCK_TEXT: usize = 192;
 
-// Writes the factors of letters at successive qubits, the first of them at `from`, after others where they aren't the
-// first of their word. It answers whether there is still none.
+/// Writes the factors of letters at successive qubits, the first of them at `from`, after others where they aren't the
+/// first of their word. It answers whether there is still none.
 pub(crate) fn write_letters<W: Sink>(
     out: &mut Pieces,
     sink: &mut W,

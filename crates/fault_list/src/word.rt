@@ -12,12 +12,12 @@ use pauli_word::Letter;
 use pieces::Pieces;
 use step_model::{Sink, Term};
 
-/// How many qubits are put in order at once, at most. A circuit that is read from a text has no more.
+/// How many qubits are put in order at once at most. A circuit that is read from a text has no more.
 const SPAN: usize = 4096;
 
-// Writes the word that terms make. Its qubits are met in ascending order, a span of them at once: each span begins at
-// the lowest qubit that is left and is about as long as there are terms, so that neither few terms at distant qubits nor
-// many take long.
+/// Writes the word that terms make. Its qubits are met in ascending order, a span of them at once: each span begins at
+/// the lowest qubit that is left and is about as long as there are terms, so neither few terms at distant qubits take
+/// long nor many.
 pub(crate) fn write_word<W: Sink>(out: &mut Pieces, sink: &mut W, qubits: u32, terms: &[Term])
     requires { TermsFit qubits terms.now }
     ensures { Pushes W.taken W.failures sink.old sink.new out.old out.new (word_text (word_of_terms qubits terms.now)) }
