@@ -30,12 +30,12 @@ letter_factors-take q letters done some within =
     ∙ ap (letter_factors q) (sym (take-add done some letters)))
 
 -- what stands in a buffer from where a text starts that ends where the buffer does
-pub text_written : (buffer old text : List ℕ) (start : ℕ) → length old ≡ 192 → drop start buffer ≡ text ++ drop 192 old → drop start buffer ≡ text
+pub text_written : (buffer old text : List ℕ) (start : ℕ) → length old ≡ 256 → drop start buffer ≡ text ++ drop 256 old → drop start buffer ≡ text
 text_written buffer old text start long h =
-    h ∙ (ap (λ l. text ++ l) (drop_all 192 old (omega (arith, long))) ∙ append-nil text)
+    h ∙ (ap (λ l. text ++ l) (drop_all 256 old (omega (arith, long))) ∙ append-nil text)
 
-pub rest_of : (buffer : List ℕ) (start : ℕ) → length buffer ≡ 192 → take (192 - start) (drop start buffer) ≡ drop start buffer
-rest_of buffer start long = take_all (192 - start) (drop start buffer) (omega (arith, length-drop start buffer, long))
+pub rest_of : (buffer : List ℕ) (start : ℕ) → length buffer ≡ 256 → take (256 - start) (drop start buffer) ≡ drop start buffer
+rest_of buffer start long = take_all (256 - start) (drop start buffer) (omega (arith, length-drop start buffer, long))
 
 pub after_star : (buffer : List ℕ) (start : ℕ) (fs : List (List ℕ)) → drop start buffer ≡ starred fs → drop (start + 1) buffer ≡ joined fs
 after_star buffer start fs h = sym (drop-drop 1 start buffer) ∙ (ap (drop 1) h ∙ drop_star fs)

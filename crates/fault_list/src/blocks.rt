@@ -7,22 +7,20 @@ ghost use Rattle.fault_list.specs.FaultLines.{factor_text};
 ghost use Rattle.fault_list.specs.private.FactorTexts.{is_none, joined_on, letter_factors, starred};
 
 use crate::letters::acts;
-use crate::short_lines::starred_before;
+use crate::short_lines::{ROOM, starred_before};
 use pauli_word::Letter;
 use pieces::Pieces;
 use step_model::{Sink, Term};
 
-/// How many letters a block has at most.
-pub(crate) const BLOCK: usize = 16;
-
-/// How long the text of a block is at most: 12 bytes a letter.
-const BLOCK_TEXT: usize = 192;
+/// How many letters a block has at most: of 12 bytes each at most, their text fits the buffer.
+const BLOCK: usize = 16;
 
 /// Writes the factors of letters at successive qubits, the first of them at `from`, after others where they aren't the
 /// first of their word. It answers whether there is still none.
 pub(crate) fn write_letters<W: Sink>(
     out: &mut Pieces,
     sink: &mut W,
+    buffer: &mut [u8; ROOM],
     letters: &[Letter],
     from: u32,
     first: bool,
@@ -35,7 +33,8 @@ pub(crate) fn write_letters<W: Sink>(
     let mut done = 0;
     while done < letters.len() {
         let next = done + BLOCK.min(letters.len() - done);
-        none = write_block(out, sink, &letters[done..next], from + done as u32, none);
+        let block = &letters[done..next];
+        none = write_block(out, sink, buffer, block, from + done as u32, none);
         done = next;
     }
     none
@@ -45,6 +44,7 @@ pub(crate) fn write_letters<W: Sink>(
 fn write_block<W: Sink>(
     out: &mut Pieces,
     sink: &mut W,
+    buffer: &mut [u8; ROOM],
     letters: &[Letter],
     from: u32,
     first: bool,
@@ -54,9 +54,8 @@ fn write_block<W: Sink>(
     ensures first { result ≡ (first && is_none (letter_factors from letters.now)) }
     ensures pushed { Pushes W.taken W.failures sink.old sink.new out.old out.new (joined_on first (letter_factors from letters.now)) }
 {
-    let mut buffer = [0; BLOCK_TEXT];
-    let start = letters_before(&mut buffer, BLOCK_TEXT, letters, from);
-    if start == BLOCK_TEXT {
+    let start = letters_before(buffer, ROOM, letters, from);
+    if start == ROOM {
         return first;
     }
     let start = if first { start + 1 } else { start };

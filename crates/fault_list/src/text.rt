@@ -8,9 +8,10 @@ ghost use Rattle.fault_walk.specs.Found.{IsFaultOf};
 ghost use Rattle.fault_list.specs.FaultLines.{record_text, effect_text, fault_line, fault_lines, coins_line, list_text};
 
 use crate::short_lines::{ROOM, line_before};
-use crate::word::write_word;
+use crate::word::{SPAN, write_word};
 use fault_walk::{FoundFault, next_fault};
 use itoa::Buffer;
+use pauli_word::Letter;
 use pieces::Pieces;
 use programs::{Program, Walk};
 use std::alloc::Allocator;
@@ -45,9 +46,10 @@ fn write_faults<'a, A: Allocator + Copy, W: Sink>(
 {
     program.well_formed();
     let mut buffer = [0; ROOM];
+    let mut letters = [Letter::I; SPAN];
     let mut walk = Walk::start(program);
     while let Some(fault) = next_fault(&mut walk) {
-        write_line(out, sink, &mut buffer, program, fault);
+        write_line(out, sink, &mut buffer, &mut letters, program, fault);
     }
 }
 
@@ -56,6 +58,7 @@ fn write_line<'a, A: Allocator + Copy, W: Sink>(
     out: &mut Pieces,
     sink: &mut W,
     buffer: &mut [u8; ROOM],
+    letters: &mut [Letter; SPAN],
     program: &Program<'a, A>,
     fault: FoundFault,
 )
@@ -64,13 +67,15 @@ fn write_line<'a, A: Allocator + Copy, W: Sink>(
 {
     match line_before(buffer, program, fault) {
         Some(start) => out.push(sink, &buffer[start..]),
-        None => write_long_line(out, sink, program, fault),
+        None => write_long_line(out, sink, buffer, letters, program, fault),
     }
 }
 
 fn write_long_line<'a, A: Allocator + Copy, W: Sink>(
     out: &mut Pieces,
     sink: &mut W,
+    buffer: &mut [u8; ROOM],
+    letters: &mut [Letter; SPAN],
     program: &Program<'a, A>,
     fault: FoundFault,
 )
@@ -81,7 +86,7 @@ fn write_long_line<'a, A: Allocator + Copy, W: Sink>(
     out.push(sink, b" ");
     out.push(sink, program.entry_text(fault.entry));
     out.push(sink, b" ");
-    write_effect(out, sink, program, fault);
+    write_effect(out, sink, buffer, letters, program, fault);
     out.push(sink, b"\n");
 }
 
@@ -89,6 +94,8 @@ fn write_long_line<'a, A: Allocator + Copy, W: Sink>(
 fn write_effect<'a, A: Allocator + Copy, W: Sink>(
     out: &mut Pieces,
     sink: &mut W,
+    buffer: &mut [u8; ROOM],
+    letters: &mut [Letter; SPAN],
     program: &Program<'a, A>,
     fault: FoundFault,
 )
@@ -102,6 +109,8 @@ fn write_effect<'a, A: Allocator + Copy, W: Sink>(
             write_word(
                 out,
                 sink,
+                buffer,
+                letters,
                 program.qubits(),
                 program.entry_terms(fault.entry),
             )

@@ -6,28 +6,35 @@ ghost use Rattle.step_model.specs.WellFormed.{TermsFit};
 ghost use Rattle.fault_list.specs.FaultLines.{word_text};
 ghost use Rattle.fault_list.specs.private.FactorTexts.{is_none, joined_on, term_factors};
 
-use crate::blocks::{BLOCK, write_letters};
+use crate::blocks::write_letters;
 use crate::letters::gather;
+use crate::short_lines::ROOM;
 use pauli_word::Letter;
 use pieces::Pieces;
 use step_model::{Sink, Term};
 
 /// How many qubits are put in order at once at most. A circuit that is read from a text has no more.
-const SPAN: usize = 4096;
+pub(crate) const SPAN: usize = 4096;
 
 /// Writes the word that terms make. Its qubits are met in ascending order, a span of them at once: each span begins at
 /// the lowest qubit that is left and is about as long as there are terms, so neither few terms at distant qubits take
 /// long nor many.
-pub(crate) fn write_word<W: Sink>(out: &mut Pieces, sink: &mut W, qubits: u32, terms: &[Term])
+pub(crate) fn write_word<W: Sink>(
+    out: &mut Pieces,
+    sink: &mut W,
+    buffer: &mut [u8; ROOM],
+    letters: &mut [Letter; SPAN],
+    qubits: u32,
+    terms: &[Term],
+)
     requires { TermsFit qubits terms.now }
     ensures { Pushes W.taken W.failures sink.old sink.new out.old out.new (word_text (word_of_terms qubits terms.now)) }
 {
-    let mut room = [Letter::I; SPAN];
     let mut first = true;
     let mut from = lowest_from(terms, 0, qubits);
     while from < qubits {
         let span = span_of(terms.len(), qubits - from);
-        first = write_span(out, sink, &mut room[..span], terms, from, first);
+        first = write_span(out, sink, buffer, &mut letters[..span], terms, from, first);
         from = lowest_from(terms, from + span as u32, qubits);
     }
     if first {
@@ -58,7 +65,7 @@ fn span_of(terms: usize, left: u32) -> usize
     ensures within { result ≤ left }
     ensures room { result ≤ 4096 }
 {
-    terms.clamp(BLOCK, SPAN).min(left as usize)
+    terms.clamp(1, SPAN).min(left as usize)
 }
 
 // Writes the factors that terms make at as many qubits as there is room for letters, from one qubit on, after others
@@ -66,6 +73,7 @@ fn span_of(terms: usize, left: u32) -> usize
 fn write_span<W: Sink>(
     out: &mut Pieces,
     sink: &mut W,
+    buffer: &mut [u8; ROOM],
     letters: &mut [Letter],
     terms: &[Term],
     from: u32,
@@ -76,5 +84,5 @@ fn write_span<W: Sink>(
     ensures pushed { Pushes W.taken W.failures sink.old sink.new out.old out.new (joined_on first (term_factors terms.now from (length letters.old))) }
 {
     gather(letters, terms, from);
-    write_letters(out, sink, letters, from, first)
+    write_letters(out, sink, buffer, letters, from, first)
 }

@@ -30,9 +30,9 @@ loop-from-preserved g c =
     let fs = factors_below (word_of_terms n terms) q in
     let gs = term_factors terms q span in
     let more = sym (span_more n terms q span next c.requires e.from e.within e.lowest) in
-    let room : length (take span c.loop-from.room) ≡ span = search rules in
+    let room : length (take span c.loop-from.letters) ≡ span = search rules in
     let w = c.write_span-first.ensures in
-    let text : joined fs ++ joined_on c.loop-from.first (term_factors terms q (length (take span c.loop-from.room))) ≡ joined (factors_below (word_of_terms n terms) next) =
+    let text : joined fs ++ joined_on c.loop-from.first (term_factors terms q (length (take span c.loop-from.letters))) ≡ joined (factors_below (word_of_terms n terms) next) =
     ap₂ (λ b k. joined fs ++ joined_on b (term_factors terms q k)) c.loop-from.invariant.first room
     ∙ (joined_on-append true fs gs ∙ ap joined more) in
     record {
