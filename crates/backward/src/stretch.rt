@@ -102,7 +102,7 @@ pub(crate) fn cut<'s, 'p, 'a, A: Allocator + Copy, T: Tracker + Drop>(
 
 // How far apart points are left on a way of this many steps, where the text of the steps behind them is full.
 fn distance_for(way: usize, full: usize) -> usize {
-    (full - full / 4).max(way / POINTS + 1)
+    full.max(way / POINTS + 1)
 }
 
 /// Writes the text of what is before a cut, from the first of its points' parts to the last: from the last point on.

@@ -24,7 +24,7 @@ use std::alloc::{AllocError, Allocator};
 use step_model::{Cause, Fault, Place, Sink};
 
 /// How much text of error lines is held at once. A longer text is found in parts, in a second pass.
-const ROOM: usize = 1 << 20;
+const ROOM: usize = 2 << 20;
 
 const NO_WRITE: Fault = Fault {
     cause: Cause::Write,
@@ -54,7 +54,7 @@ pub fn write_analysis<'a, A: Allocator + Copy, T: Tracker + Drop, W: Sink>(
     write_in_parts(alloc, program, tracker, ROOM, sink)
 }
 
-/// The same, with a text of error lines held up to this many bytes and a line, or nine times as many where all of it
+/// The same, with a text of error lines held up to this many bytes and a line, or five times as many where all of it
 /// seems to fit.
 pub fn write_in_parts<'a, A: Allocator + Copy, T: Tracker + Drop, W: Sink>(
     alloc: A,

@@ -17,6 +17,14 @@ name_fits detectors target false is few near = omega (arith, six_digits (target 
 pub length-target_text : (detectors target : ℕ) → detectors ≤ 1000000 → target < detectors + 1000000 → length (target_text detectors target) ≤ 8
 length-target_text detectors target few near = name_fits detectors target (nat_lt target detectors) refl few near
 
+-- one more, behind texts of which each is that of its place
+pub texts_pushed : (f : ℕ → List ℕ) (texts : List (List ℕ)) (text : List ℕ) → ((t : ℕ) → t < length texts → text_at texts t ≡ f t) → text ≡ f (length texts)
+    → (t : ℕ) → t < length (texts ++ text ∷ []) → text_at (texts ++ text ∷ []) t ≡ f t
+texts_pushed f [] text are is zero h = is
+texts_pushed f [] text are is (suc t) h = absurd (omega (arith, h))
+texts_pushed f (other ∷ texts) text are is zero h = are zero (omega arith)
+texts_pushed f (other ∷ texts) text are is (suc t) h = texts_pushed (λ k. f (suc k)) texts text (λ k l. are (suc k) (omega (arith, l))) is t (omega (arith, h))
+
 -- a target more, before those behind it
 pub one_target_more : (detectors : ℕ) (targets name rest : List ℕ) (i left d : ℕ) → i + 1 ≡ left → i < length targets → name ≡ target_text detectors (get_or targets i d)
     → name ++ (targets_text detectors (drop left targets) ++ rest) ≡ targets_text detectors (drop i targets) ++ rest

@@ -85,7 +85,7 @@ impl<'a, A: Allocator + Copy> LinesText<'a, A> {
             return self.put_long_line(text, targets);
         }
         self.blocks.make_room()?;
-        self.blocks.put_line(&mut self.names, text, targets);
+        self.blocks.put_line(&self.names, text, targets);
         Ok(())
     }
 
@@ -136,8 +136,7 @@ impl<'a, A: Allocator + Copy> LinesText<'a, A> {
         while left > 0 {
             let from = left.saturating_sub(SHORT_TARGETS);
             self.blocks.make_room()?;
-            self.blocks
-                .put_targets(&mut self.names, &targets[from..left]);
+            self.blocks.put_targets(&self.names, &targets[from..left]);
             left = from;
         }
         Ok(())

@@ -98,29 +98,22 @@ impl<A: Allocator + Copy> TextBlocks<A> {
     }
 
     /// Puts the text of targets before the text.
-    pub(crate) fn put_targets(&mut self, names: &mut Names<A>, targets: &[u32])
+    pub(crate) fn put_targets(&mut self, names: &Names<A>, targets: &[u32])
         requires room { length targets.now * 8 ≤ self.old.room }
-        requires targets { All (λ target. target < names.old.targets) targets.now }
-        ensures text { self.new.text ≡ targets_text names.old.detectors targets.now ++ self.old.text }
-        ensures names { names.new ≡ names.old }
+        requires targets { All (λ target. target < names.now.targets) targets.now }
+        ensures { self.new.text ≡ targets_text names.now.detectors targets.now ++ self.old.text }
     {
         self.block.put_targets(names, targets);
     }
 
     /// Puts a short line before the text.
     #[inline(always)]
-    pub(crate) fn put_line<'a>(
-        &mut self,
-        names: &mut Names<A>,
-        text: &LineText<'a>,
-        targets: &[u32],
-    )
+    pub(crate) fn put_line<'a>(&mut self, names: &Names<A>, text: &LineText<'a>, targets: &[u32])
         requires room { 240 ≤ self.old.room }
         requires short { length text.now ≤ 32 }
         requires few { length targets.now ≤ 16 }
-        requires targets { All (λ target. target < names.old.targets) targets.now }
-        ensures text { self.new.text ≡ line_text names.old.detectors (record { text = text.now; targets = targets.now }) ++ self.old.text }
-        ensures names { names.new ≡ names.old }
+        requires targets { All (λ target. target < names.now.targets) targets.now }
+        ensures { self.new.text ≡ line_text names.now.detectors (record { text = text.now; targets = targets.now }) ++ self.old.text }
     {
         self.block.put_line(names, text, targets);
     }

@@ -31,7 +31,7 @@ returns-clause-ok g c =
     ∙ ap (λ h. text_at h.texts number) c.self.view_is) in
     let line = line_text held.detectors (line_from (text_at held.texts number) c.args.targets.now) in
     put_before line [] held.text line c.make_room.new.self.text c.put_line.new.self.text
-    (c.put_line.ensures.text ∙ ap₂ (λ h text. line_text h.detectors (line_from text c.args.targets.now) ++ c.make_room.new.self.text) c.self.view_is kept)
+    (c.put_line.ensures ∙ ap₂ (λ h text. line_text h.detectors (line_from text c.args.targets.now) ++ c.make_room.new.self.text) c.self.view_is kept)
     (c.make_room.ensures.same ∙ ap (λ h. h.text) c.self.view_is)
     (append-nil line)
 
@@ -40,7 +40,7 @@ returns-clause-kept g c =
     let line = line_text c.self.inside.names.detectors (line_from c.index-text.result.now c.args.targets.now) in (
       line,
       put_before line [] c.args.self.now.text line c.make_room.new.self.text c.put_line.new.self.text
-          c.put_line.ensures.text
+          c.put_line.ensures
           (c.make_room.ensures.same ∙ ap (λ h. h.text) c.self.view_is)
           (append-nil line),
     )

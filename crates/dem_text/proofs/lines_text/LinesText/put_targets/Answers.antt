@@ -13,9 +13,9 @@ loop-left-preserved g c =
     let part = take (left - from) (drop from targets) in
     record {
       within = omega (arith, le, c.loop-left.invariant.within);
-      names = c.put_targets.ensures.names ∙ c.loop-left.invariant.names;
+      names = c.loop-left.invariant.names;
       texts = c.loop-left.invariant.texts;
       text = put_before (targets_text detectors part) (targets_text detectors (drop left targets)) c.args.self.now.text (targets_text detectors (drop from targets)) c.make_room.new.self.text c.put_targets.new.self.text
-          (c.put_targets.ensures.text ∙ ap (λ n. targets_text n.detectors part ++ c.make_room.new.self.text) c.loop-left.invariant.names)
+          (c.put_targets.ensures ∙ ap (λ n. targets_text n.detectors part ++ c.make_room.new.self.text) c.loop-left.invariant.names)
           (c.make_room.ensures.same ∙ c.loop-left.invariant.text) (texts_and_rest (target_text detectors) targets from left le);
     }

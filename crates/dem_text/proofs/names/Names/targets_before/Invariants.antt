@@ -1,6 +1,5 @@
 use Rattle.std.proofs.Common.{◌≡◌, ◌≤◌, ◌+◌, ◌*◌, ◌++◌, length, drop}
 use Rattle.dem_text.specs.ModelText.{targets_text}
-use Rattle.dem_text.specs.private.TargetNames.{AreNames}
 use Rattle.dem_text.proofs.names.Names.targets_before.Given as goal
 
 -- the targets from this one on are written
@@ -10,10 +9,7 @@ invariant-loop-left g l =
       before : l.left ≤ length l.targets;
       within : l.at ≤ l.end;
       least : l.end + l.left * 8 ≤ l.at + length l.targets * 8;
-      detectors : l.self-inside.detectors ≡ l.fn.self.detectors;
-      targets : l.self-inside.targets ≡ l.fn.self.targets;
-      names : AreNames l.self-inside.detectors l.self-inside.targets l.self-inside.names.items;
-      written : drop l.at l.buffer ≡ targets_text l.fn.self.detectors (drop l.left l.targets) ++ drop l.end l.fn.buffer;
+      written : drop l.at l.buffer ≡ targets_text l.self.detectors (drop l.left l.targets) ++ drop l.end l.fn.buffer;
     }
 
 abbrev pub decreases-loop-left : goal.decreases-loop-left

@@ -4,8 +4,8 @@ use Rattle.dem_text.proofs.ErrorLineLemmas.{line_from}
 use Rattle.dem_text.proofs.HeldTextLemmas.{put_into}
 use Rattle.dem_text.proofs.text_blocks.TextBlocks.put_line.Goals as goal
 
-pub returns-clause-text : goal.returns-clause-text
-returns-clause-text g c =
+pub returns : goal.returns
+returns g c =
     let part = line_text c.args.names.now.detectors (line_from c.args.text.now c.args.targets.now) in
-    put_into part c.put_line.new.self c.self.inside.block c.self.inside.full.items c.put_line.ensures.text
+    put_into part c.put_line.new.self c.self.inside.block c.self.inside.full.items c.put_line.ensures
     ∙ ap (λ b. part ++ b.text) c.self.view_is

@@ -3,8 +3,8 @@ use Rattle.dem_text.specs.ModelText.{targets_text}
 use Rattle.dem_text.proofs.HeldTextLemmas.{put_into}
 use Rattle.dem_text.proofs.text_blocks.TextBlocks.put_targets.Goals as goal
 
-pub returns-clause-text : goal.returns-clause-text
-returns-clause-text g c =
+pub returns : goal.returns
+returns g c =
     let part = targets_text c.args.names.now.detectors c.args.targets.now in
-    put_into part c.put_targets.new.self c.self.inside.block c.self.inside.full.items c.put_targets.ensures.text
+    put_into part c.put_targets.new.self c.self.inside.block c.self.inside.full.items c.put_targets.ensures
     ∙ ap (λ b. part ++ b.text) c.self.view_is
