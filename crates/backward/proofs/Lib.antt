@@ -1,3 +1,4 @@
+mod ApartLemmas
 pub mod ColumnLemmas
 pub mod ExchangeLemmas
 pub mod Judging

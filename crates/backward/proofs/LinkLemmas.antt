@@ -346,10 +346,30 @@ rows_emptied m from to links places new_places within is =
     row place = row_of_set m (list_at links place)
 
 -- all rows are of the number of targets, so a number that is the length of each stays it
-pub rows_stay_long : (m n : ℕ) (links : List Link) (places new_places : List ℕ) (rows : List (List Bool)) → rows_at m links places ≡ rows → length new_places ≡ length places → All (λ set. length set ≡ n) rows → All (λ set. length set ≡ n) (rows_at m links new_places)
-rows_stay_long m n links places new_places rows is same all k d lt =
+pub rows_stay_long : (m n : ℕ) (links new_links : List Link) (places new_places : List ℕ) (rows : List (List Bool)) → rows_at m links places ≡ rows → length new_places ≡ length places → All (λ set. length set ≡ n) rows → All (λ set. length set ≡ n) (rows_at m new_links new_places)
+rows_stay_long m n links new_links places new_places rows is same all k d lt =
     let row = λ (place : ℕ). row_of_set m (list_at links place) in
-    let within : k < length rows = omega (arith, lt, length-map new_places row, same, ap length is, length-map places row) in
-    ap length (get_or_default (rows_at m links new_places) k d [] lt)
-    ∙ (rows_of_length m links new_places (rows_at m links new_places) k refl lt
+    let new_row = λ (place : ℕ). row_of_set m (list_at new_links place) in
+    let within : k < length rows = omega (arith, lt, length-map new_places new_row, same, ap length is, length-map places row) in
+    ap length (get_or_default (rows_at m new_links new_places) k d [] lt)
+    ∙ (rows_of_length m new_links new_places (rows_at m new_links new_places) k refl lt
     ∙ (sym (rows_of_length m links places rows k is within) ∙ all k [] within))
+
+-- ---- one list made empty
+pub lists_without : (m r : ℕ) (links : List Link) (places : List ℕ) → AreLists m links places → AreLists m links (set places r 0)
+lists_without m r links places lists =
+    record {
+      back = lists.back;
+      placed = All-set (λ k. k ≤ length links) places r 0 (omega arith) lists.placed;
+      below =
+          All-set (λ k. All (λ t. t < m) (list_at links k)) places r 0
+          (subst (All (λ t. t < m)) (sym (list_at-none links)) (λ k d lt. absurd (omega (arith, lt))))
+          lists.below;
+    }
+
+pub rows_without : (m n r : ℕ) (links : List Link) (places : List ℕ) (rows : List (List Bool)) → rows_at m links places ≡ rows → r < length rows → All (λ set. length set ≡ n) rows → rows_at m links (set places r 0) ≡ set rows r (replicate n false)
+rows_without m n r links places rows is within all =
+    map-set (λ place. row_of_set m (list_at links place)) places r 0
+    ∙ ap₂ (λ rows bits. set rows r bits) is
+    (ap (row_of_set m) (list_at-none links)
+    ∙ (row_of_no_set m ∙ ap (λ k. replicate k false) (sym (rows_of_length m links places rows r is within) ∙ all r [] within)))

@@ -1,3 +1,4 @@
+pub mod Apart
 pub mod Collapses
 pub mod Links
 pub mod Numbered

@@ -7,7 +7,7 @@ ghost use Rattle.backward.specs.private.Collapses.{members_at, noted};
 ghost use Rattle.backward.specs.private.Passes.{HoldsLists, IsPassed, opened, records_before};
 
 use crate::places::note;
-use crate::record_lists::RecordLists;
+use crate::changing_lists::ChangingLists;
 use crate::tracker::Tracker;
 use programs::Program;
 use std::alloc::{AllocError, Allocator};
@@ -22,7 +22,7 @@ use step_model::Term;
 #[derive(Drop)]
 pub(crate) struct Found<'s, A: Allocator + Copy> {
     pub(crate) alloc: &'s A,
-    pub(crate) lists: RecordLists<'s, A>,
+    pub(crate) lists: ChangingLists<'s, A>,
     pub(crate) settled: bool,
     /// Whether the lists of records gone over are kept, for another pass.
     pub(crate) keeps: bool,
@@ -43,7 +43,7 @@ impl<'s, A: Allocator + Copy> Found<'s, A> {
         ensures passed { IfOk result (λ found. IsPassed program.now.listing (length program.now.listing.steps) (fresh program.now.listing.qubits (length (targets_of program.now.listing))) found) }
     {
         program.well_formed();
-        let lists = RecordLists::new(alloc, program)?;
+        let lists = ChangingLists::new(alloc, program)?;
         Ok(Found {
             alloc,
             lists,
@@ -101,7 +101,7 @@ impl<'s, A: Allocator + Copy> Found<'s, A> {
         requires rec { IfSome rec (λ r. r < length self.old.lists) }
         requires long { All (λ set. length set ≤ 2 ^ 32) self.old.lists }
         ensures hit { OnOk result (self.new.hit.items ≡ members_at self.old.lists rec) }
-        ensures lists { self.new.lists ≡ self.old.lists }
+        ensures lists { OnOk result (self.new.lists ≡ self.old.lists) }
         ensures settled { self.new.settled ≡ self.old.settled }
         ensures keeps { self.new.keeps ≡ self.old.keeps }
         ensures known { self.new.known ≡ self.old.known }

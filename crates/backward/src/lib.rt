@@ -1,6 +1,7 @@
 #![tactic(auto)]
 
 mod analysis;
+mod changing_lists;
 mod collapse;
 mod column;
 mod found;

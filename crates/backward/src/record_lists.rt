@@ -92,6 +92,13 @@ impl<'s, A: Allocator + Copy> RecordLists<'s, A> {
         })
     }
 
+    /// How many targets each set is of.
+    pub(crate) fn targets(&self) -> usize
+        ensures { All (λ set. length set ≡ result) self.now }
+    {
+        self.targets
+    }
+
     // Empty sets of this many targets, for this many records.
     fn of_none(alloc: &'s A, targets: usize, records: usize) -> Result<Self, AllocError>
         ensures { IfOk result (λ lists. lists ≡ replicate records (replicate targets false)) }
@@ -134,10 +141,23 @@ impl<'s, A: Allocator + Copy> RecordLists<'s, A> {
         requires rec { rec < length self.old }
         requires targets { All (λ t. t < length (slice_index_or self.old rec [])) targets.now }
         requires long { All (λ set. length set ≤ 2 ^ 32) self.old }
-        ensures { OnOk result (self.new ≡ slice_set self.old rec (toggled_each targets.now (slice_index_or self.old rec []))) }
+        ensures ok { OnOk result (self.new ≡ slice_set self.old rec (toggled_each targets.now (slice_index_or self.old rec []))) }
+
+        // After an error too.
+        ensures len { length self.new ≡ length self.old }
+        ensures long { (n : ℕ) → All (λ set. length set ≡ n) self.old → All (λ set. length set ≡ n) self.new }
     {
         self.shorten()?;
         self.put(rec, targets)
+    }
+
+    /// Makes the set of a record empty. Takes no memory.
+    pub(crate) fn empty(&mut self, rec: usize)
+        requires { rec < length self.old }
+        ensures set { (m : ℕ) → All (λ set. length set ≡ m) self.old → self.new ≡ slice_set self.old rec (replicate m false) }
+        ensures long { (n : ℕ) → All (λ set. length set ≡ n) self.old → All (λ set. length set ≡ n) self.new }
+    {
+        self.places[rec] = 0;
     }
 
     /// Lets the sets of all but the first `records` go: they are not asked for any more. It takes no memory, and a number
@@ -157,7 +177,7 @@ impl<'s, A: Allocator + Copy> RecordLists<'s, A> {
     // Makes the lists anew where they have many links.
     fn shorten(&mut self) -> Result<(), AllocError>
         requires { All (λ set. length set ≤ 2 ^ 32) self.old }
-        ensures { OnOk result (self.new ≡ self.old) }
+        ensures { self.new ≡ self.old }
     {
         if self.links.len() < self.many {
             return Ok(());
@@ -189,7 +209,9 @@ impl<'s, A: Allocator + Copy> RecordLists<'s, A> {
     fn put(&mut self, rec: usize, targets: &[u32]) -> Result<(), AllocError>
         requires rec { rec < length self.old }
         requires targets { All (λ t. t < length (slice_index_or self.old rec [])) targets.now }
-        ensures { OnOk result (self.new ≡ slice_set self.old rec (toggled_each targets.now (slice_index_or self.old rec []))) }
+        ensures ok { OnOk result (self.new ≡ slice_set self.old rec (toggled_each targets.now (slice_index_or self.old rec []))) }
+        ensures len { length self.new ≡ length self.old }
+        ensures long { (n : ℕ) → All (λ set. length set ≡ n) self.old → All (λ set. length set ≡ n) self.new }
     {
         let first = put_each(&mut self.links, self.places[rec], targets)?;
         self.places[rec] = first;

@@ -1,5 +1,6 @@
 //! A set of targets as the list of those in it.
-ghost use Rattle.std.specs.Prelude.{◌≡◌, ◌<◌, ◌≤◌, ◌+◌, ◌-◌, ◌∷◌, ◌++◌, [], ℕ, take, true, false, insert, length, replicate, reverse, slice_index, IfOk, OnOk, OnErr};
+ghost use Rattle.std.specs.Prelude.{◌≡◌, ◌<◌, ◌≤◌, ◌+◌, ◌-◌, ◌∷◌, ◌++◌, [], ℕ, take, true, false, insert, length, remove, replicate, reverse, slice_index, IfOk, OnOk, OnErr};
+ghost use Rattle.bit_rows.specs.Rows.{xor_rows};
 ghost use Rattle.backward.specs.private.Sets.{xor_sets, DescendsBelow};
 
 use crate::target_set::TargetSet;
@@ -43,6 +44,35 @@ impl<'a, A: Allocator + Copy> SparseSet<'a, A> {
             items: SmallVec::new(alloc),
         }
     }
+
+    // Toggles each target of another set, which has some.
+    #[inline(never)]
+    fn add_some(&mut self, other: &Self, spare: &mut Self) -> Result<(), AllocError>
+        requires other { length self.old ≡ length other.now }
+        requires spare { length spare.old ≡ length self.old }
+        ensures ok { OnOk result (self.new ≡ xor_rows self.old other.now) }
+        ensures len { length self.new ≡ length self.old }
+        ensures spare { length spare.new ≡ length spare.old }
+    {
+        let more = other.items.as_slice();
+        if self.items.len() <= FEW && more.len() <= FEW {
+            return add_few(&mut self.items, more);
+        }
+        if self.items.as_slice().is_empty() {
+            return self.items.extend_from_slice(more);
+        }
+        spare.items.clear();
+        match merge(self.items.as_slice(), more, &mut spare.items) {
+            Ok(()) => {
+                std::mem::swap(&mut self.items, &mut spare.items);
+                Ok(())
+            }
+            Err(error) => {
+                spare.items.clear();
+                Err(error)
+            }
+        }
+    }
 }
 
 impl<'a, A: Allocator + Copy> TargetSet for SparseSet<'a, A> {
@@ -67,27 +97,12 @@ impl<'a, A: Allocator + Copy> TargetSet for SparseSet<'a, A> {
         toggle_in(&mut self.items, target)
     }
 
+    #[inline(always)]
     fn add(&mut self, other: &Self, spare: &mut Self) -> Result<(), AllocError> {
-        let more = other.items.as_slice();
-        if more.is_empty() {
-            return Ok(());
-        }
-        if self.items.len() <= FEW && more.len() <= FEW {
-            return add_few(&mut self.items, more);
-        }
-        if self.items.as_slice().is_empty() {
-            return self.items.extend_from_slice(more);
-        }
-        spare.items.clear();
-        match merge(self.items.as_slice(), more, &mut spare.items) {
-            Ok(()) => {
-                std::mem::swap(&mut self.items, &mut spare.items);
-                Ok(())
-            }
-            Err(error) => {
-                spare.items.clear();
-                Err(error)
-            }
+        if other.items.as_slice().is_empty() {
+            Ok(())
+        } else {
+            self.add_some(other, spare)
         }
     }
 
@@ -216,11 +231,20 @@ fn toggle_in<A: Allocator + Copy>(
 {
     let place = place_of(items.as_slice(), target);
     if place > 0 && items.as_slice()[place - 1] == target {
-        let _ = items.remove(place - 1);
+        take_out(items, place - 1);
     } else {
         put_in(items, place, target)?;
     }
     Ok(())
+}
+
+// Takes out the target at a place.
+#[inline(never)]
+fn take_out<A: Allocator + Copy>(items: &mut SmallVec<u32, 4, A>, place: usize)
+    requires { place < length items.old.items }
+    ensures { items.new.items ≡ remove items.old.items place }
+{
+    let _ = items.remove(place);
 }
 
 // Puts a target in at a place. Most come behind all that are there.
@@ -236,14 +260,43 @@ fn put_in<A: Allocator + Copy>(
 {
     if place == items.len() {
         items.push(target)?;
+        Ok(())
     } else {
-        items.insert(place, target)?;
+        put_among(items, place, target)
     }
+}
+
+#[inline(never)]
+fn put_among<A: Allocator + Copy>(
+    items: &mut SmallVec<u32, 4, A>,
+    place: usize,
+    target: u32,
+) -> Result<(), AllocError>
+    requires { place ≤ length items.old.items }
+    ensures ok { OnOk result (items.new.items ≡ insert items.old.items place target) }
+    ensures err { OnErr result (items.new.items ≡ items.old.items) }
+{
+    items.insert(place, target)?;
     Ok(())
 }
 
-// The place from which on all are less than the target, searched for from the end.
+// The place from which on all are less than the target. Most targets come behind all that are there.
+#[inline(always)]
 fn place_of(items: &[u32], target: u32) -> usize
+    ensures within { result ≤ length items.now }
+    ensures below { (k : ℕ) → result ≤ k → k < length items.now → slice_index items.now k < target }
+    ensures above { 0 < result → target ≤ slice_index items.now (result - 1) }
+{
+    if items.is_empty() || target <= items[items.len() - 1] {
+        items.len()
+    } else {
+        place_among(items, target)
+    }
+}
+
+// The same, searched for from the end.
+#[inline(never)]
+fn place_among(items: &[u32], target: u32) -> usize
     ensures within { result ≤ length items.now }
     ensures below { (k : ℕ) → result ≤ k → k < length items.now → slice_index items.now k < target }
     ensures above { 0 < result → target ≤ slice_index items.now (result - 1) }

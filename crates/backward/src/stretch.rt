@@ -23,7 +23,7 @@ use step_model::Sink;
 const POINTS: usize = 60;
 
 /// Goes back to `from`, over one step at least where there is one, until the text of the lines found is full, or some
-/// target is known to be random: then no text is written.
+/// target is known to be random: then no text is written. A text that seems to be whole soon is full later.
 fn find_back<'s, 'p, 'a, A: Allocator + Copy, T: Tracker>(
     program: &Program<'a, A>,
     from: usize,
@@ -44,9 +44,11 @@ fn find_back<'s, 'p, 'a, A: Allocator + Copy, T: Tracker>(
     ensures lines { OnOk result ((given : List ErrorLine) → HoldsLines lines.old.text given → HoldsLines lines.new.text (given ++ reverse (lines_between program.now.listing at.new.walk.place at.old.walk.place))) }
     ensures store { lines.new.program.now ≡ lines.old.program.now }
 {
+    let to = at.walk.place();
     while at.walk.place() > from {
         step_back(program, at, found, lines)?;
-        if lines.is_full() || found.is_random() {
+        let steps = to.saturating_sub(at.walk.place());
+        if lines.is_full(steps, to - from) || found.is_random() {
             return Ok(());
         }
     }
@@ -100,7 +102,7 @@ pub(crate) fn cut<'s, 'p, 'a, A: Allocator + Copy, T: Tracker + Drop>(
 
 // How far apart points are left on a way of this many steps, where the text of the steps behind them is full.
 fn distance_for(way: usize, full: usize) -> usize {
-    (full - full / 4).max(way / POINTS + 1)
+    full.max(way / POINTS + 1)
 }
 
 /// Writes the text of what is before a cut, from the first of its points' parts to the last: from the last point on.

@@ -10,6 +10,12 @@ use dem_text::{HeldText, LinesText};
 use programs::{ChanceTable, Program};
 use std::alloc::{AllocError, Allocator};
 
+/// How many times its room a whole text may take, so that it is found in one pass.
+const WHOLE: usize = 5;
+
+/// The same for a part of a text, so that it isn't parted again where it is little longer than others.
+const WHOLE_PART: usize = 2;
+
 /// The text of a program's lines.
 #[derive(Drop)]
 pub(crate) struct TextStore<'p, 'a, A: Allocator + Copy> {
@@ -18,8 +24,9 @@ pub(crate) struct TextStore<'p, 'a, A: Allocator + Copy> {
     // For each part of the table the number of its text among those that are kept beside the lines.
     numbers: Vec<usize, A>,
     text: LinesText<'a, A>,
-    // From how many bytes on the text is full.
+    // From how many bytes on the text is full, and how many it may have where it seems to be whole then.
     room: usize,
+    whole: usize,
     ghost fits: { IsTextFor program.now chances numbers.items text },
 }
 
@@ -43,12 +50,23 @@ impl<'p, 'a, A: Allocator + Copy> TextStore<'p, 'a, A> {
             numbers,
             text,
             room,
+            whole: room.saturating_mul(WHOLE),
         })
     }
 
-    /// Whether the text is to be taken before more lines are found.
-    pub(crate) fn is_full(&self) -> bool {
-        self.text.len() >= self.room
+    /// Whether the text, which is that of `steps` of a stretch of `all`, is to be taken before more lines are found.
+    #[inline(always)]
+    pub(crate) fn is_full(&self, steps: usize, all: usize) -> bool {
+        let len = self.text.len();
+        len >= self.room && !fits(len, steps, all, self.whole)
+    }
+
+    /// From now on the texts are those of parts.
+    pub(crate) fn hold_parts(&mut self)
+        ensures text { self.new.text ≡ self.old.text }
+        ensures program { self.new.program.now ≡ self.old.program.now }
+    {
+        self.whole = self.room.saturating_mul(WHOLE_PART);
     }
 
     /// Takes the text out.
@@ -68,6 +86,12 @@ impl<'p, 'a, A: Allocator + Copy> TextStore<'p, 'a, A> {
     {
         self.text.reuse(held);
     }
+}
+
+// Whether a text seems to have no more than `most` bytes when it is whole, by how much `steps` of `all` have.
+#[inline(never)]
+fn fits(len: usize, steps: usize, all: usize, most: usize) -> bool {
+    len <= most && len.saturating_mul(all) <= most.saturating_mul(steps)
 }
 
 // Keeps the text of each part, and answers its number for each.

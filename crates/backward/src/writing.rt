@@ -54,7 +54,8 @@ pub fn write_analysis<'a, A: Allocator + Copy, T: Tracker + Drop, W: Sink>(
     write_in_parts(alloc, program, tracker, ROOM, sink)
 }
 
-/// The same, with a text of error lines held up to this many bytes and a line.
+/// The same, with a text of error lines held up to this many bytes and a line, or five times as many where all of it
+/// seems to fit.
 pub fn write_in_parts<'a, A: Allocator + Copy, T: Tracker + Drop, W: Sink>(
     alloc: A,
     program: &Program<'a, A>,
@@ -110,6 +111,7 @@ fn push_analysis<'a, A: Allocator + Copy, T: Tracker + Drop, W: Sink>(
         Some(random) => Ok(Some(random)),
         None => {
             found.settled = true;
+            lines.hold_parts();
             write_parts(program, 0, parts.points, &mut found, &mut lines, out, sink)?;
             parts.end.push_to(out, sink);
             push_declarations(program, out, sink);

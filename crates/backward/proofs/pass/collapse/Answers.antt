@@ -66,7 +66,7 @@ returns-clause-passed g c =
     let now = c.let_go.new.self in
     let settled = c.list_record.ensures.settled ∙ c.judge.ensures.settled in
     let known = c.list_record.ensures.known ∙ c.judge.ensures.known in
-    let lists = c.list_record.ensures.lists ∙ c.judge.ensures.lists in
+    let lists = c.in_ok-list_record.ensures.lists ∙ c.judge.ensures.lists in
     let hit = c.as_slice-2.ensures.value ∙ (c.in_ok-list_record.ensures.hit ∙ ap (λ l. members_at l c.args.rec) c.judge.ensures.lists) in
     let judged = collapse_judged program place c.args.terms.now c.args.reset c.args.rec c.args.flip tracked f fits c.requires.step c.requires.passed now.latest.items now.left
     (λ e. ap (λ l. opened (length (targets_of program.listing)) l.items) (c.let_go.ensures.latest ∙ c.list_record.ensures.latest)

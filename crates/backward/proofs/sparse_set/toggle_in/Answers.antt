@@ -9,7 +9,7 @@ returns-then-as_slice-place-clause-ok g c =
     let place = c.place_of-place.result in
     let items = c.args.items.now.items in
     let seen = ap length c.as_slice.ensures in
-    λ m descends. c.remove.ensures.items
+    λ m descends. c.take_out.ensures
     ∙ removed m items (place - 1) c.args.target descends
     (omega (arith, c.if-place-gt0.true, c.place_of-place.ensures.within, seen))
     (sym (ap (λ (s : List ℕ). get_or s (place - 1) 0) c.as_slice-then-place-gt0.ensures) ∙ c.if-as_slice-place.true)
@@ -20,7 +20,7 @@ returns-then-as_slice-place-clause-descends g c =
     let items = c.args.items.now.items in
     let seen = ap length c.as_slice.ensures in
     λ m low descends.
-    subst (DescendsBelow m) (sym (c.remove.ensures.items
+    subst (DescendsBelow m) (sym (c.take_out.ensures
     ∙ removed m items (place - 1) c.args.target descends
     (omega (arith, c.if-place-gt0.true, c.place_of-place.ensures.within, seen))
     (sym (ap (λ (s : List ℕ). get_or s (place - 1) 0) c.as_slice-then-place-gt0.ensures) ∙ c.if-as_slice-place.true)))

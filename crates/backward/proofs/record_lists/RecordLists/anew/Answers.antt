@@ -76,7 +76,7 @@ loop-rec-preserved g c =
     let within : rec < length sets = omega (arith, count, c.len-records.ensures, c.loop-rec-test.true) in
     let row = get_or sets rec [] in
     let is_set : c.put.new.self ≡ set lists rec row =
-    c.in_ok-put.ensures ∙ ap (set lists rec) (put_members row c.as_slice.result.now (get_or lists rec []) (c.as_slice.ensures.value ∙ c.in_ok-list.ensures) (held.left rec (omega arith) within)) in
+    c.in_ok-put.ensures.ok ∙ ap (set lists rec) (put_members row c.as_slice.result.now (get_or lists rec []) (c.as_slice.ensures.value ∙ c.in_ok-list.ensures) (held.left rec (omega arith) within)) in
     record {
       long = ap length is_set ∙ (length-set lists rec row ∙ held.long);
       done = λ k lt.

@@ -14,5 +14,5 @@ returns-then-records-end-clause-kept g c =
 
 pub returns-then-records-end-clause-long : goal.returns-then-records-end-clause-long
 returns-then-records-end-clause-long g c =
-    λ n. rows_stay_long c.self.inside.targets n c.self.inside.links.items c.self.inside.places.items c.empty_lists.new.places.items c.args.self.now c.self.view_is
+    λ n. rows_stay_long c.self.inside.targets n c.self.inside.links.items c.self.inside.links.items c.self.inside.places.items c.empty_lists.new.places.items c.args.self.now c.self.view_is
     (length_emptied c.args.records c.min-end.result c.self.inside.places.items c.empty_lists.new.places.items (search rules) (search rules) c.empty_lists.ensures)

@@ -1,10 +1,10 @@
-use Rattle.std.proofs.Common.{◌≡◌, ◌<◌, [], List, Bool, length, get_or, set, ap, subst, sym, ◌∙◌, arith}
+use Rattle.std.proofs.Common.{◌≡◌, refl, ◌<◌, [], List, Bool, length, get_or, set, ap, subst, sym, ◌∙◌, arith}
 use Rattle.std.specs.Prelude.{All}
-use Rattle.std.proofs.lemmas.List.{length-map}
+use Rattle.std.proofs.lemmas.List.{length-map, length-set}
 use Rattle.backward.specs.private.Collapses.{toggled_each}
 use Rattle.backward.specs.private.Links.{list_at}
 use Rattle.backward.specs.private.Sets.{row_of_set}
-use Rattle.backward.proofs.LinkLemmas.{lists_put, rows_put, row_at}
+use Rattle.backward.proofs.LinkLemmas.{lists_put, rows_put, row_at, rows_stay_long}
 use Rattle.backward.proofs.SetLemmas.{length-row_of_set}
 use Rattle.backward.proofs.record_lists.RecordLists.put.Goals as goal
 
@@ -22,8 +22,8 @@ invariant_of-self-2 g c =
     let low = subst (λ n. All (λ t. t < n) targets) long c.requires.targets in
     lists_put m rec links places place c.put_each.new.links.items c.in_ok-first.first targets c.self.invariant within c.index.ensures low c.in_ok-first.ensures.put
 
-pub returns : goal.returns
-returns g c =
+pub returns-clause-ok : goal.returns-clause-ok
+returns-clause-ok g c =
     let m = c.self.inside.targets in
     let links = c.self.inside.links.items in
     let places = c.self.inside.places.items in
@@ -36,3 +36,12 @@ returns g c =
     let low = subst (λ n. All (λ t. t < n) targets) long c.requires.targets in
     rows_put m rec links places place c.put_each.new.links.items c.in_ok-first.first targets c.self.invariant.back c.self.invariant.placed within c.index.ensures low c.in_ok-first.ensures.put
     ∙ ap (λ (rows : List (List Bool)). set rows rec (toggled_each targets (get_or rows rec []))) c.self.view_is
+
+pub returns-in_err-first-clause-long : goal.returns-in_err-first-clause-long
+returns-in_err-first-clause-long g c = λ n.
+    rows_stay_long c.self.inside.targets n c.self.inside.links.items c.put_each.new.links.items c.self.inside.places.items c.self.inside.places.items c.args.self.now c.self.view_is refl
+
+pub returns-clause-long : goal.returns-clause-long
+returns-clause-long g c = λ n.
+    rows_stay_long c.self.inside.targets n c.self.inside.links.items c.put_each.new.links.items c.self.inside.places.items _ c.args.self.now c.self.view_is
+    (length-set c.self.inside.places.items c.args.rec c.in_ok-first.first)

@@ -1,5 +1,5 @@
 use Rattle.std.proofs.Common.{ℕ, ◌≤◌, ◌<◌, length, get_or}
-use Rattle.backward.proofs.sparse_set.place_of.Given as goal
+use Rattle.backward.proofs.sparse_set.place_among.Given as goal
 
 abbrev pub invariant-loop-place : goal.invariant-loop-place
 invariant-loop-place l =

@@ -1,0 +1,21 @@
+-- The sets of the targets that list each record, where that of one record is apart from the others. (This project's own.)
+use Rattle.pauli_word.specs.Parity.{exclusive_or}
+use Rattle.step_model.specs.Targets.{is_listed}
+use Rattle.std.specs.Prelude.{◌≡◌, ◌<◌, ℕ, Bool, List, Option, None, Some, All, IfSome, length, slice_set}
+use Rattle.backward.specs.private.Sets.{row_of_set}
+
+-- the rows, with that of the record whose set is apart
+abbrev pub with_apart : ℕ → List (List Bool) → Option ℕ → List ℕ → List (List Bool)
+with_apart m rows None set = rows
+with_apart m rows (Some r) set = slice_set rows r (row_of_set m set)
+
+-- all rows are of m targets, and the set that is apart is one of them
+pub record IsApart (m : ℕ) (rows : List (List Bool)) (apart : Option ℕ) (set : List ℕ) : Type 0 where
+  pub long : All (λ row. length row ≡ m) rows
+  pub within : IfSome apart (λ r. r < length rows)
+  pub below : All (λ t. t < m) set
+
+-- each number is listed with the parity that two lists together have
+pub record AreToggled (targets set toggled : List ℕ) : Type 0 where
+  pub parity : (t : ℕ) → is_listed toggled t ≡ exclusive_or (is_listed targets t) (is_listed set t)
+  pub below : (m : ℕ) → All (λ t. t < m) targets → All (λ t. t < m) set → All (λ t. t < m) toggled

@@ -1,0 +1,185 @@
+//! For each record the targets that list it, while feedback changes the set of one.
+ghost use Rattle.std.specs.Prelude.{◌≡◌, ◌<◌, ◌≤◌, ◌^◌, ℕ, [], None, Some, length, slice_index_or, slice_set, take, All, IfOk, OnOk};
+ghost use Rattle.backward.specs.private.Apart.{with_apart, AreToggled, IsApart};
+ghost use Rattle.backward.specs.private.Collapses.{toggled_each};
+ghost use Rattle.backward.specs.private.Passes.{listing_sets};
+ghost use Rattle.backward.specs.private.TargetSets.{members};
+
+use crate::record_lists::RecordLists;
+use programs::Program;
+use std::alloc::{AllocError, Allocator};
+use std::marker::Model;
+use std::mem;
+
+/// From this many targets on that feedback toggles at once the record's set is taken out of the lists.
+const MANY: usize = 64;
+
+/// For each record the set of the targets that list it an odd number of times. Feedback alone changes them.
+///
+/// They are kept as linked lists, and a few targets are toggled there. Where feedback toggles many, the set is taken out
+/// of the lists and kept apart, as targets of which each is in the set where it is listed an odd number of times, and
+/// is put back when another record's is wanted. So it takes a few steps a target.
+#[derive(Drop)]
+pub(crate) struct ChangingLists<'s, A: Allocator + Copy> {
+    targets: usize,
+    lists: RecordLists<'s, A>,
+    // The record whose set is apart, if one is.
+    apart: Option<usize>,
+    set: Vec<u32, A>,
+    // A buffer.
+    spare: Vec<u32, A>,
+}
+
+impl<'s, A: Allocator + Copy> Model for ChangingLists<'s, A> {
+    ghost use Rattle.std.specs.Prelude.{List, Bool};
+    ghost use Rattle.backward.specs.private.Apart.{with_apart, IsApart};
+
+    ghost Value = { List (List Bool) };
+
+    ghost view = { λ c. with_apart c.targets c.lists c.apart c.set.items };
+
+    ghost invariant = { λ c. IsApart c.targets c.lists c.apart c.set.items };
+}
+
+impl<'s, A: Allocator + Copy> ChangingLists<'s, A> {
+    /// The sets of a program after its last step: each target is in those of the records that it lists an odd number
+    /// of times.
+    pub(crate) fn new<'a>(alloc: &'s A, program: &Program<'a, A>) -> Result<Self, AllocError>
+        ensures { IfOk result (λ lists. lists ≡ listing_sets program.now.listing []) }
+    {
+        let lists = RecordLists::new(alloc, program)?;
+        Ok(ChangingLists {
+            targets: lists.targets(),
+            lists,
+            apart: None,
+            set: Vec::new(*alloc),
+            spare: Vec::new(*alloc),
+        })
+    }
+
+    /// Puts the targets in the set of a record into `into`, ascending, in place of what it held.
+    pub(crate) fn list<B: Allocator + Copy>(
+        &mut self,
+        rec: usize,
+        into: &mut Vec<u32, B>,
+    ) -> Result<(), AllocError>
+        requires rec { rec < length self.old }
+        requires long { length (slice_index_or self.old rec []) ≤ 2 ^ 32 }
+        ensures list { OnOk result (into.new.items ≡ members (slice_index_or self.old rec [])) }
+        ensures same { OnOk result (self.new ≡ self.old) }
+    {
+        put_back(&mut self.lists, &mut self.apart, self.targets, &self.set)?;
+        self.lists.list(rec, into)
+    }
+
+    /// Toggles each of these targets in the set of a record.
+    pub(crate) fn toggle_each(&mut self, rec: usize, targets: &[u32]) -> Result<(), AllocError>
+        requires rec { rec < length self.old }
+        requires targets { All (λ t. t < length (slice_index_or self.old rec [])) targets.now }
+        requires long { All (λ set. length set ≤ 2 ^ 32) self.old }
+        ensures { OnOk result (self.new ≡ slice_set self.old rec (toggled_each targets.now (slice_index_or self.old rec []))) }
+    {
+        if targets.len() < MANY {
+            put_back(&mut self.lists, &mut self.apart, self.targets, &self.set)?;
+            return self.lists.toggle_each(rec, targets);
+        }
+        take_out(
+            &mut self.lists,
+            &mut self.apart,
+            self.targets,
+            &mut self.set,
+            &mut self.spare,
+            rec,
+        )?;
+        put_toggled(&self.set, targets, &mut self.spare)?;
+        mem::swap(&mut self.set, &mut self.spare);
+        Ok(())
+    }
+
+    /// Lets the sets of all but the first `records` go: they are not asked for any more. It takes no memory, and a number
+    /// of steps only for each that goes.
+    pub(crate) fn let_go(&mut self, records: usize)
+        ensures kept { take records self.new ≡ take records self.old }
+        ensures len { length self.new ≡ length self.old }
+        ensures long { (n : ℕ) → All (λ set. length set ≡ n) self.old → All (λ set. length set ≡ n) self.new }
+    {
+        self.lists.let_go(records);
+    }
+}
+
+// Puts the set that is apart back into the lists.
+fn put_back<'s, A: Allocator + Copy>(
+    lists: &mut RecordLists<'s, A>,
+    apart: &mut Option<usize>,
+    targets: usize,
+    set: &[u32],
+) -> Result<(), AllocError>
+    requires apart { IsApart targets lists.old apart.old set.now }
+    requires few { targets ≤ 2 ^ 32 }
+    ensures lists { OnOk result (lists.new ≡ with_apart targets lists.old apart.old set.now) }
+    ensures none { OnOk result (apart.new ≡ None) }
+    ensures apart { IsApart targets lists.new apart.new set.now }
+{
+    if let Some(rec) = *apart {
+        lists.empty(rec);
+        lists.toggle_each(rec, set)?;
+        *apart = None;
+    }
+    Ok(())
+}
+
+// Takes the set of a record out of the lists, where it isn't apart yet.
+fn take_out<'s, A: Allocator + Copy>(
+    lists: &mut RecordLists<'s, A>,
+    apart: &mut Option<usize>,
+    targets: usize,
+    set: &mut Vec<u32, A>,
+    spare: &mut Vec<u32, A>,
+    rec: usize,
+) -> Result<(), AllocError>
+    requires apart { IsApart targets lists.old apart.old set.old.items }
+    requires few { targets ≤ 2 ^ 32 }
+    requires rec { rec < length lists.old }
+    ensures rows { OnOk result (with_apart targets lists.new apart.new set.new.items ≡ with_apart targets lists.old apart.old set.old.items) }
+    ensures some { OnOk result (apart.new ≡ Some rec) }
+    ensures apart { IsApart targets lists.new apart.new set.new.items }
+{
+    if *apart == Some(rec) {
+        return Ok(());
+    }
+    put_back(lists, apart, targets, set)?;
+    lists.list(rec, spare)?;
+    mem::swap(set, spare);
+    *apart = Some(rec);
+    Ok(())
+}
+
+// Puts the targets that are in just one of two lists into `into`, where both ascend.
+fn put_toggled<A: Allocator + Copy>(
+    set: &[u32],
+    targets: &[u32],
+    into: &mut Vec<u32, A>,
+) -> Result<(), AllocError>
+    ensures { OnOk result (AreToggled targets.now set.now into.new.items) }
+{
+    into.clear();
+    let mut i = 0;
+    let mut j = 0;
+    while i < set.len() && j < targets.len() {
+        let x = set[i];
+        let y = targets[j];
+        if x < y {
+            into.push(x)?;
+            i += 1;
+        } else if y < x {
+            into.push(y)?;
+            j += 1;
+        } else {
+            i += 1;
+            j += 1;
+        }
+    }
+    into.extend_from_slice(&set[i..])?;
+    into.extend_from_slice(&targets[j..])?;
+    Ok(())
+}
