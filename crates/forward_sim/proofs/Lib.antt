@@ -6,3 +6,4 @@ pub mod ReferenceSteps
 pub mod SameStates
 pub mod RunRecords
 pub mod TermWords
+pub mod WordsSaid
