@@ -43,13 +43,12 @@ impl<A: Allocator + Copy> Batch<A> {
         beside(alloc, program, reference)
     }
 
-    /// The same, where the words that the reference run's collapses replaced aren't kept if they have more letters than
-    /// these. A collapse counts as one letter more.
-    pub fn in_room(alloc: A, program: &Program<'_, A>, letters: usize) -> Result<Self, Fault>
+    /// The same, where the words that the reference run's collapses replaced are kept if they take at most so many bytes.
+    pub fn in_room(alloc: A, program: &Program<'_, A>, bytes: usize) -> Result<Self, Fault>
         ensures ok { IfOk result (IsBatchOf program.now.listing) }
         ensures err { IfErr result (λ fault. fault ≡ memory_fault) }
     {
-        let reference = Reference::in_room(alloc, program, letters)?;
+        let reference = Reference::in_room(alloc, program, bytes)?;
         beside(alloc, program, reference)
     }
 

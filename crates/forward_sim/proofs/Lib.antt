@@ -2,6 +2,7 @@ pub mod Differences
 pub mod KeptWords
 pub mod LetterGates
 pub mod NumberLemmas
+pub mod NumberedWords
 pub mod ReferenceSteps
 pub mod SameStates
 pub mod RunRecords

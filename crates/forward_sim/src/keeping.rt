@@ -17,19 +17,19 @@ use crate::words::ReplacedWords;
 use programs::{Program, Step, Walk};
 use std::alloc::{AllocError, Allocator};
 
-/// The records of a program's reference run, and what says which words its collapses replaced: the words where they have
-/// so many letters at most.
+/// The records of a program's reference run, and what says which words its collapses replaced: the words themselves where
+/// they take so many bytes at most.
 pub(crate) fn follow<A: Allocator + Copy>(
     alloc: A,
     program: &Program<'_, A>,
-    letters: usize,
+    bytes: usize,
 ) -> Result<(Records<A>, ReplacedWords<A>), AllocError>
     ensures records { IfOk result (λ made. made.0 ≡ records_of program.now.listing [] (zero_coins program.now.listing)) }
     ensures count { IfOk result (λ made. length made.0 ≡ program.now.listing.records) }
     ensures words { IfOk result (λ made. AreWordsOf program.now.listing (words_of made.1)) }
 {
     let mut walk = WalkingRun::start(alloc, program)?;
-    let mut kept = KeptWords::new(alloc, letters);
+    let mut kept = KeptWords::new(alloc, bytes)?;
     follow_steps(&mut walk, program, &mut kept)?;
     let records = walk.into_records();
     let words = if kept.is_whole() {
@@ -62,7 +62,8 @@ fn follow_steps<A: Allocator + Copy>(
     Ok(())
 }
 
-// Takes a step, and keeps the word that it replaced if it is a collapse.
+// Takes a step, and keeps the word that it replaced if it is a collapse. Where there is no room for the words any more, it
+// doesn't look at them.
 fn keep_step<A: Allocator + Copy>(
     walk: &mut WalkingRun<A>,
     program: &Program<'_, A>,
@@ -77,6 +78,10 @@ fn keep_step<A: Allocator + Copy>(
     ensures run { OnOk result (IsSameRun (walking_qubits walk.old) (walking_run walk.new) (next program.now.listing [] (listed program.now.listing.qubits program.now.products step) (walking_run walk.old))) }
     ensures kept { OnOk result (StepIsKept program.now.listing.qubits (walking_run walk.old).state (listed program.now.listing.qubits program.now.products step) kept.old kept.new) }
 {
+    if !kept.is_whole() {
+        walk.go_past(program, step);
+        return Ok(());
+    }
     walk.go_over(program, step);
     if step.is_collapse() {
         kept.push(walk.terms())?;

@@ -17,6 +17,7 @@ mod steps;
 mod terms;
 mod values;
 mod walking;
+mod word_table;
 mod words;
 
 pub use difference::detections;

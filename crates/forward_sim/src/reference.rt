@@ -15,15 +15,15 @@ use std::alloc::Allocator;
 use std::marker::Model;
 use step_model::{Fault, Term};
 
-// For how many letters of words there is room: 128 MB.
-const MOST_LETTERS: usize = 1 << 24;
+// How many bytes the words may take, beside four for each record.
+const MOST_BYTES: usize = 1 << 27;
 
 /// The run of a program in which no fault happens and all coins are 0, made by a tableau: its records, and for each
 /// collapse with a random outcome a word of the state that this replaced. With these, runs are sampled by Pauli frames
 /// alone.
 ///
-/// The words are kept where they have few letters in all. Where they have more, only the records are kept, and a tableau
-/// goes over the steps anew with each batch of runs.
+/// The words are kept where they take at most 128 MB, beside four bytes for each record; one that comes again soon counts
+/// once. Where they take more, only the records are kept, and a tableau goes over the steps anew with each batch of runs.
 #[derive(Drop)]
 pub struct Reference<A: Allocator + Copy> {
     records: Records<A>,
@@ -47,16 +47,17 @@ impl<A: Allocator + Copy> Reference<A> {
         ensures records { IfOk result (λ reference. length reference.records ≡ program.now.listing.records) }
         ensures err { IfErr result (λ fault. fault ≡ memory_fault) }
     {
-        Reference::in_room(alloc, program, MOST_LETTERS)
+        let bytes = MOST_BYTES + 4 * program.record_count() as usize;
+        Reference::in_room(alloc, program, bytes)
     }
 
-    /// The same, where words with more letters than these aren't kept. A collapse counts as one letter more.
-    pub fn in_room(alloc: A, program: &Program<'_, A>, letters: usize) -> Result<Self, Fault>
+    /// The same, where the words are kept if they take at most so many bytes.
+    pub fn in_room(alloc: A, program: &Program<'_, A>, bytes: usize) -> Result<Self, Fault>
         ensures ok { IfOk result (IsReferenceOf program.now.listing) }
         ensures records { IfOk result (λ reference. length reference.records ≡ program.now.listing.records) }
         ensures err { IfErr result (λ fault. fault ≡ memory_fault) }
     {
-        match follow(alloc, program, letters) {
+        match follow(alloc, program, bytes) {
             Ok((records, words)) => Ok(Reference { records, words }),
             Err(_) => Err(Fault::MEMORY),
         }
@@ -80,6 +81,7 @@ impl<A: Allocator + Copy> Reference<A> {
     }
 
     /// Goes over the next step of the program. Allocates nothing.
+    #[inline(always)]
     pub fn go_over(&mut self, program: &Program<'_, A>, step: Step)
         requires of_program { IsStepOf program.now step }
         requires next { IsNext program.now.listing (listed program.now.listing.qubits program.now.products step) self.old.words }
@@ -93,6 +95,7 @@ impl<A: Allocator + Copy> Reference<A> {
     /// For the collapse with this number, the last that was gone over: the letters at qubits of a word that was in the
     /// state, up to its sign, and anticommutes with the word measured, no qubit twice, and no letter I. None where the
     /// outcome wasn't random.
+    #[inline(always)]
     pub fn replaced(&self, collapse: usize) -> Option<&[Term]>
         requires { IsSaid collapse self.now.words }
         ensures { option_map (λ terms. terms.now) result ≡ said_of collapse self.now.words }

@@ -9,6 +9,7 @@ ghost use Rattle.forward_sim.specs.private.SameRuns.{IsSameRun};
 use crate::following::follow_step;
 use crate::machine::Machine;
 use crate::records::Records;
+use crate::steps::take_step;
 use programs::{Program, Step};
 use std::alloc::{AllocError, Allocator};
 use std::marker::Model;
@@ -68,6 +69,18 @@ impl<A: Allocator + Copy> WalkingRun<A> {
         ensures entry { IsStepEntry program.now.listing.qubits (walking_run self.old).state (listed program.now.listing.qubits program.now.products step) (entry_of self.new.terms) }
     {
         follow_step(&mut self.machine, program, &mut self.terms, step);
+    }
+
+    /// Goes over a step, and says nothing of it.
+    pub(crate) fn go_past(&mut self, program: &Program<'_, A>, step: Step)
+        requires of_program { IsStepOf program.now step }
+        requires qubits { walking_qubits self.old ≡ program.now.listing.qubits }
+        requires room { length self.old.records + length (step_records (listed program.now.listing.qubits program.now.products step)) ≤ self.old.room }
+        ensures qubits { walking_qubits self.new ≡ walking_qubits self.old }
+        ensures room { self.new.room ≡ self.old.room }
+        ensures run { IsSameRun (walking_qubits self.old) (walking_run self.new) (next program.now.listing [] (listed program.now.listing.qubits program.now.products step) (walking_run self.old)) }
+    {
+        take_step(&mut self.machine, program, &[], step);
     }
 
     /// The letters of the word that the last collapse replaced, none where its outcome wasn't random.

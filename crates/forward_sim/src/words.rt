@@ -38,6 +38,7 @@ impl<A: Allocator + Copy> ReplacedWords<A> {
     }
 
     /// Goes over the next step of the program.
+    #[inline(always)]
     pub(crate) fn go_over(&mut self, program: &Program<'_, A>, step: Step)
         requires of_program { IsStepOf program.now step }
         requires next { IsNext program.now.listing (listed program.now.listing.qubits program.now.products step) (words_of self.old) }
@@ -51,6 +52,7 @@ impl<A: Allocator + Copy> ReplacedWords<A> {
     }
 
     /// The letters at qubits of the word that a collapse replaced, which is the last that was gone over.
+    #[inline(always)]
     pub(crate) fn get(&self, collapse: usize) -> Option<&[Term]>
         requires { IsSaid collapse (words_of self.now) }
         ensures { option_map (λ terms. terms.now) result ≡ said_of collapse (words_of self.now) }

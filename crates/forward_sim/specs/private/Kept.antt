@@ -1,7 +1,7 @@
 -- How the words that a reference run's collapses replaced are found in the rows of a tableau, and kept while there is
 -- room for them all.
 -- (The replaced row of a random measurement: Aaronson and Gottesman, Phys. Rev. A 70, 052328, section III.)
-use Rattle.std.specs.Prelude.{◌≡◌, ◌<◌, ◌+◌, ℕ, Bool, true, if◌then◌else◌, List, [], ◌∷◌, ◌++◌, Option, None, Some}
+use Rattle.std.specs.Prelude.{◌≡◌, ◌<◌, ◌+◌, ℕ, Bool, true, if◌then◌else◌, List, [], ◌∷◌, ◌++◌, Option, None, Some, length, slice_index_or}
 use Rattle.pauli_word.specs.declared.letter.Letter.{Letter}
 use Rattle.pauli_word.specs.States.{State, is_decided}
 use Rattle.step_model.specs.declared.step.Term.{Term}
@@ -39,6 +39,15 @@ StepKeeps n s (Two gate a b) old new = new ≡ old
 StepKeeps n s (Collapse c r) old new = Keeps n s (measured_word n c) old new
 StepKeeps n s (Fault f) old new = new ≡ old
 StepKeeps n s (Feedback w r) old new = new ≡ old
+
+-- what is kept of a collapse, by the number of its word among these
+abbrev pub entry_with : List (List Term) → ℕ → Option (List Term)
+entry_with words number = entry_of (slice_index_or words number [])
+
+-- words have kept their numbers, where others may have come behind them
+abbrev pub HasAll : List (List Term) → List (List Term) → Type 0
+HasAll old new =
+    (number : ℕ) → number < length old → (number < length new) × (slice_index_or new number [] ≡ slice_index_or old number [])
 
 -- for each collapse so far what is kept of it, where there was room for all
 pub record KeptSoFar : Type 0 where
