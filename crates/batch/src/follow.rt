@@ -36,7 +36,7 @@ pub(crate) fn follow_steps<A: Allocator + Copy>(
     let mut walk = Walk::start(program);
     let mut collapse = 0;
     while let Some(step) = walk.next_step() {
-        reference.go_over(program, step);
+        reference.go_over(program, &step);
         if step.is_collapse() {
             let replaced = reference.replaced(collapse);
             take_step(

@@ -82,10 +82,10 @@ impl<A: Allocator + Copy> Reference<A> {
 
     /// Goes over the next step of the program. Allocates nothing.
     #[inline(always)]
-    pub fn go_over(&mut self, program: &Program<'_, A>, step: Step)
-        requires of_program { IsStepOf program.now step }
-        requires next { IsNext program.now.listing (listed program.now.listing.qubits program.now.products step) self.old.words }
-        ensures over { (rest : List ListedStep) → (m : RunState) → (k : ℕ) → StandBefore program.now.listing (listed program.now.listing.qubits program.now.products step ∷ rest) m k self.old.words → GoneOver program.now.listing (listed program.now.listing.qubits program.now.products step) rest m k self.new.words }
+    pub fn go_over(&mut self, program: &Program<'_, A>, step: &Step)
+        requires of_program { IsStepOf program.now step.now }
+        requires next { IsNext program.now.listing (listed program.now.listing.qubits program.now.products step.now) self.old.words }
+        ensures over { (rest : List ListedStep) → (m : RunState) → (k : ℕ) → StandBefore program.now.listing (listed program.now.listing.qubits program.now.products step.now ∷ rest) m k self.old.words → GoneOver program.now.listing (listed program.now.listing.qubits program.now.products step.now) rest m k self.new.words }
         ensures reference { IsReferenceOf program.now.listing self.old → IsReferenceOf program.now.listing self.new }
         ensures records { self.new.records ≡ self.old.records }
     {

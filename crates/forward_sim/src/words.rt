@@ -39,15 +39,15 @@ impl<A: Allocator + Copy> ReplacedWords<A> {
 
     /// Goes over the next step of the program.
     #[inline(always)]
-    pub(crate) fn go_over(&mut self, program: &Program<'_, A>, step: Step)
-        requires of_program { IsStepOf program.now step }
-        requires next { IsNext program.now.listing (listed program.now.listing.qubits program.now.products step) (words_of self.old) }
-        ensures over { (rest : List ListedStep) → (m : RunState) → (k : ℕ) → StandBefore program.now.listing (listed program.now.listing.qubits program.now.products step ∷ rest) m k (words_of self.old) → GoneOver program.now.listing (listed program.now.listing.qubits program.now.products step) rest m k (words_of self.new) }
+    pub(crate) fn go_over(&mut self, program: &Program<'_, A>, step: &Step)
+        requires of_program { IsStepOf program.now step.now }
+        requires next { IsNext program.now.listing (listed program.now.listing.qubits program.now.products step.now) (words_of self.old) }
+        ensures over { (rest : List ListedStep) → (m : RunState) → (k : ℕ) → StandBefore program.now.listing (listed program.now.listing.qubits program.now.products step.now ∷ rest) m k (words_of self.old) → GoneOver program.now.listing (listed program.now.listing.qubits program.now.products step.now) rest m k (words_of self.new) }
         ensures words { AreWordsOf program.now.listing (words_of self.old) → AreWordsOf program.now.listing (words_of self.new) }
     {
         match self {
             ReplacedWords::Kept(_) => {}
-            ReplacedWords::Walked(walk) => walk.go_over(program, step),
+            ReplacedWords::Walked(walk) => walk.go_over(program, *step),
         }
     }
 

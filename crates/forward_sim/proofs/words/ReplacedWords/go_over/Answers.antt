@@ -9,12 +9,12 @@ use Rattle.forward_sim.proofs.words.ReplacedWords.go_over.Goals as goal
 pub returns-in-Kept-clause-over : goal.returns-in-Kept-clause-over
 returns-in-Kept-clause-over g c rest m k h =
     let program = c.args.program.now.listing in
-    let step = listed program.qubits c.args.program.now.products c.args.step in
+    let step = listed program.qubits c.args.program.now.products c.args.step.now in
     rw c.in-Kept.is (over_kept program step rest m k c.in-Kept.field-0.replaced (rw c.in-Kept.is at h))
 
 pub returns-in-Walked-clause-over : goal.returns-in-Walked-clause-over
 returns-in-Walked-clause-over g c rest m k h =
     let program = c.args.program.now.listing in
-    let step = listed program.qubits c.args.program.now.products c.args.step in
+    let step = listed program.qubits c.args.program.now.products c.args.step.now in
     over_walked program step rest m k c.in-Walked.walk c.go_over.new.self c.go_over.ensures.qubits c.go_over.ensures.room c.go_over.ensures.run c.go_over.ensures.entry
     (rw c.in-Walked.is at h)
