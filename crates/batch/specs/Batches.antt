@@ -25,7 +25,6 @@ shot_records shot batch = flipped_by (lane shot batch.flips) batch.reference.rec
 pub record IsBatchOf (program : Listing) (batch : Followed) : Type 0 where
   pub reference : IsReferenceOf program batch.reference
   pub records : length batch.reference.records ≡ program.records
-  pub collapses : length batch.reference.replaced ≡ program.collapses
   pub qubits : batch.qubits ≡ program.qubits
   pub room : batch.room ≡ program.records
 

@@ -1,4 +1,5 @@
 ghost use Rattle.std.specs.Prelude.{◌≡◌, ◌<◌, ◌+◌, ℕ, false, length, slice_index_or, IfOk, IfErr};
+ghost use Rattle.forward_sim.specs.References.{IsReferenceOf};
 ghost use Rattle.lanes.specs.Lanes.{lane_bit};
 ghost use Rattle.step_model.specs.Faults.{memory_fault};
 ghost use Rattle.step_model.specs.Targets.{difference};
@@ -14,8 +15,8 @@ use std::marker::Model;
 use step_model::Fault;
 
 /// 64 runs (shots) of a program side by side, each with its own faults and coins: bit j of a word belongs to run j, the
-/// lowest bit to run 0. Each run is followed by its Pauli frame beside a reference run, which is made once. (A collapse
-/// is the projective measurement inside a measurement or a reset; its coin is the outcome where that is random.)
+/// lowest bit to run 0. Each run is followed by its Pauli frame beside a reference run, whose records are made once. (A
+/// collapse is the projective measurement inside a measurement or a reset; its coin is the outcome where that is random.)
 #[derive(Drop)]
 pub struct Batch<A: Allocator + Copy> {
     reference: Reference<A>,
@@ -39,10 +40,16 @@ impl<A: Allocator + Copy> Batch<A> {
         ensures err { IfErr result (λ fault. fault ≡ memory_fault) }
     {
         let reference = Reference::of(alloc, program)?;
-        match start(alloc, program) {
-            Ok(frames) => Ok(Batch { reference, frames }),
-            Err(_) => Err(Fault::MEMORY),
-        }
+        beside(alloc, program, reference)
+    }
+
+    /// The same, where the words that the reference run's collapses replaced are kept if they take at most so many bytes.
+    pub fn in_room(alloc: A, program: &Program<'_, A>, bytes: usize) -> Result<Self, Fault>
+        ensures ok { IfOk result (IsBatchOf program.now.listing) }
+        ensures err { IfErr result (λ fault. fault ≡ memory_fault) }
+    {
+        let reference = Reference::in_room(alloc, program, bytes)?;
+        beside(alloc, program, reference)
     }
 
     /// Follows 64 runs from the start. `faults` has a word for each fault, which says in which runs it happens, and
@@ -50,11 +57,18 @@ impl<A: Allocator + Copy> Batch<A> {
     pub fn follow(&mut self, program: &Program<'_, A>, faults: &[u64], coins: &[u64])
         requires { IsBatchOf program.now.listing self.old }
         ensures runs { AreRuns program.now.listing faults.now coins.now self.new }
-        ensures reference { self.new.reference ≡ self.old.reference }
+        ensures reference { self.new.reference.records ≡ self.old.reference.records }
         ensures batch { IsBatchOf program.now.listing self.new }
     {
         self.frames.restart();
-        follow_steps(&mut self.frames, program, &self.reference, faults, coins);
+        self.reference.restart(program);
+        follow_steps(
+            &mut self.frames,
+            program,
+            &mut self.reference,
+            faults,
+            coins,
+        );
     }
 
     /// The reference run's records: in it no fault happens and all coins are 0.
@@ -89,6 +103,23 @@ impl<A: Allocator + Copy> Batch<A> {
         ensures { (j : ℕ) → lane_bit j result ≡ slice_index_or (difference program.now.listing (shot_records j self.now) self.now.reference.records) number false }
     {
         self.frames.parity(program.target(number))
+    }
+}
+
+// A batch beside a program's reference run.
+fn beside<A: Allocator + Copy>(
+    alloc: A,
+    program: &Program<'_, A>,
+    reference: Reference<A>,
+) -> Result<Batch<A>, Fault>
+    requires reference { IsReferenceOf program.now.listing reference }
+    requires records { length reference.records ≡ program.now.listing.records }
+    ensures ok { IfOk result (IsBatchOf program.now.listing) }
+    ensures err { IfErr result (λ fault. fault ≡ memory_fault) }
+{
+    match start(alloc, program) {
+        Ok(frames) => Ok(Batch { reference, frames }),
+        Err(_) => Err(Fault::MEMORY),
     }
 }
 

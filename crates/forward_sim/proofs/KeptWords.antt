@@ -16,8 +16,8 @@ use Rattle.step_model.specs.declared.step.Term.{Term}
 use Rattle.step_model.specs.Listing.{word_of_terms}
 use Rattle.step_model.specs.WellFormed.{TermsFit}
 use Rattle.tableau.specs.Rows.{Rows, row_count, state_of, stabilizer_at, destabilizer_at, IsReplaced}
-use Rattle.forward_sim.specs.private.Kept.{terms_from, entry_of, entry_for, NamesRow}
-use Rattle.forward_sim.specs.References.{IsEntry, IsReplacing}
+use Rattle.forward_sim.specs.private.Kept.{terms_from, entry_for, NamesRow}
+use Rattle.forward_sim.specs.References.{entry_of, IsEntry, IsReplacing}
 
 -- one letter behind q letters I
 one_more : (m q : ℕ) (w : List Letter) → m ≡ q + 1 → no_letters m ++ w ≡ no_letters q ++ I ∷ w

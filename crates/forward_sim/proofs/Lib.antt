@@ -2,7 +2,9 @@ pub mod Differences
 pub mod KeptWords
 pub mod LetterGates
 pub mod NumberLemmas
+pub mod NumberedWords
 pub mod ReferenceSteps
 pub mod SameStates
 pub mod RunRecords
 pub mod TermWords
+pub mod WordsSaid

@@ -11,8 +11,8 @@ use Rattle.pauli_word.proofs.Parities.{exclusive_or-false}
 use Rattle.step_model.specs.declared.step.Term.{Term}
 use Rattle.step_model.specs.Frames.{zero_coins}
 use Rattle.step_model.specs.Listing.{Listing, ListedStep, One, Two, Collapse, Fault, Feedback, measured_word, word_of_terms}
-use Rattle.step_model.specs.Runs.{RunState, start, next, next_coin, after_collapse, corrected, correction, run_from}
-use Rattle.step_model.specs.WellFormed.{IsWellFormed, step_fits, collapse_count}
+use Rattle.step_model.specs.Runs.{RunState, start, next, next_coin, after_collapse, corrected, correction, records_of, run_from}
+use Rattle.step_model.specs.WellFormed.{IsWellFormed, step_fits}
 use Rattle.step_model.proofs.StateIsGroup.{length-measured}
 use Rattle.step_model.proofs.StepNumbers.{length-word_of_terms}
 use Rattle.programs.specs.declared.step.FaultName.{FaultName}
@@ -20,7 +20,7 @@ use Rattle.programs.specs.declared.step.Step.TheVariants as step
 use Rattle.programs.specs.Listed.{listed, measured}
 use Rattle.forward_sim.specs.private.Kept.{StepKeeps}
 use Rattle.forward_sim.specs.private.Machines.{Running, qubit_count, run_of, ended, ComesTo}
-use Rattle.forward_sim.specs.References.{ReferenceRun, IsEntry, AreEntries, IsReferenceOf}
+use Rattle.forward_sim.specs.References.{IsEntry, AreEntries}
 use Rattle.forward_sim.specs.private.SameRuns.{HoldSame, IsSameRun}
 use Rattle.forward_sim.proofs.RunRecords.{MakesRest, all_fit, left, past, records_at_end, step_is_next}
 use Rattle.forward_sim.proofs.SameStates.{same-corrected, same-next}
@@ -75,7 +75,7 @@ letter_next program products letter q (Some r) false inverted (Some name) m =
     ap (λ b. after_collapse (lone_letter program.qubits q letter) None true b m) (sym (exclusive_or-false inverted))
 
 -- runs that can't be told apart keep the same
-same-entry : (n : ℕ) (s t : State) (w : List Letter) (entry : Option (List Term)) → HoldSame n s t → length w ≡ n → IsEntry n s w entry → IsEntry n t w entry
+pub same-entry : (n : ℕ) (s t : State) (w : List Letter) (entry : Option (List Term)) → HoldSame n s t → length w ≡ n → IsEntry n s w entry → IsEntry n t w entry
 same-entry n s t w None same size is =
     let decided : is_decided s w ≡ is_decided t w = ap₂ (λ a b. a || b) (same (signed w false) size) (same (signed w true) size) in
     sym decided ∙ is
@@ -171,37 +171,13 @@ keeps_after_step program place step m after old new well_formed at makes same ke
     subst (AreEntries program program.steps (start [])) with.joined
     (so_far with.all (subst (λ l. AreEntries program l m with.all) (sym (left program place step at)) with.kept))
 
--- behind the last step it is the reference run
-pub reference_at_end : (program : Listing) (place : ℕ) (m : RunState) (kept : List (Option (List Term))) → None ≡ slice_get program.steps place → MakesRest program [] [] place m → KeepsRest program place m kept → IsReferenceOf program (record { records = m.records; replaced = kept })
-reference_at_end program place m kept none makes keeps =
+-- behind the last step the records are the reference run's, and what is kept is its entries
+pub reference_records : (program : Listing) (place : ℕ) (m : RunState) → None ≡ slice_get program.steps place → MakesRest program [] [] place m → m.records ≡ records_of program [] (zero_coins program)
+reference_records program place m none makes =
+    records_at_end program [] [] place m none makes ∙ zero_records program program.steps program.collapses (start [])
+
+pub entries_at_end : (program : Listing) (place : ℕ) (m : RunState) (kept : List (Option (List Term))) → None ≡ slice_get program.steps place → KeepsRest program place m kept → AreEntries program program.steps (start (zero_coins program)) kept
+entries_at_end program place m kept none keeps =
     let nothing : AreEntries program (drop place program.steps) m [] = subst (λ l. AreEntries program l m []) (sym (past program.steps place none)) refl in
-    record {
-      records = records_at_end program [] [] place m none makes ∙ zero_records program program.steps program.collapses (start []);
-      replaced =
-          zero_entries program program.steps program.collapses (start []) kept
-          (subst (AreEntries program program.steps (start [])) (append-nil kept) (keeps [] nothing));
-    }
-
--- there is an entry for each collapse
-length-entries : (program : Listing) (steps : List ListedStep) (m : RunState) (replaced : List (Option (List Term))) → AreEntries program steps m replaced → length replaced ≡ collapse_count steps
-length-entries program [] m replaced h = ap length h
-length-entries program (One g q ∷ steps) m replaced h =
-    let rest = length-entries program steps (next program [] (One g q) m) replaced h in
-    omega (arith, rest)
-length-entries program (Two g a b ∷ steps) m replaced h =
-    let rest = length-entries program steps (next program [] (Two g a b) m) replaced h in
-    omega (arith, rest)
-length-entries program (Collapse c r ∷ steps) m [] h = absurd h
-length-entries program (Collapse c r ∷ steps) m (entry ∷ replaced) h =
-    let rest = length-entries program steps (next program [] (Collapse c r) m) replaced h.1 in
-    omega (arith, rest)
-length-entries program (Fault f ∷ steps) m replaced h =
-    let rest = length-entries program steps (next program [] (Fault f) m) replaced h in
-    omega (arith, rest)
-length-entries program (Feedback w r ∷ steps) m replaced h =
-    let rest = length-entries program steps (next program [] (Feedback w r) m) replaced h in
-    omega (arith, rest)
-
-pub length-replaced : (program : Listing) (reference : ReferenceRun) → IsWellFormed program → IsReferenceOf program reference → length reference.replaced ≡ program.collapses
-length-replaced program reference well_formed is =
-    length-entries program program.steps (start (zero_coins program)) reference.replaced is.replaced ∙ well_formed.collapses_counted
+    zero_entries program program.steps program.collapses (start []) kept
+    (subst (AreEntries program program.steps (start [])) (append-nil kept) (keeps [] nothing))

@@ -13,7 +13,7 @@ use Rattle.step_model.proofs.StateIsGroup.{list_all-pass}
 use Rattle.forward_sim.specs.private.SameRuns.{IsSameRun}
 use Rattle.forward_sim.proofs.SameStates.{same-run_from}
 
-length-next : (program : Listing) (faults : List Bool) (step : ListedStep) (m : RunState) → length (next program faults step m).records ≡ length m.records + length (step_records step)
+pub length-next : (program : Listing) (faults : List Bool) (step : ListedStep) (m : RunState) → length (next program faults step m).records ≡ length m.records + length (step_records step)
 length-next program faults (One g q) m = omega arith
 length-next program faults (Two g a b) m = omega arith
 length-next program faults (Collapse c None) m = omega arith

@@ -1,4 +1,5 @@
 pub mod Kept
 pub mod Machines
 pub mod Numbers
+pub mod Said
 pub mod SameRuns

@@ -1,19 +1,24 @@
 //! Runs of a program, forward: its records under given faults and coins, and the detection events in them; and a
-//! program's reference run, kept for batches of frames. Also the lists of coins and of fault numbers that a user gives.
+//! program's reference run, for batches of frames beside it. Also the lists of coins and of fault numbers that a user gives.
 #![tactic(auto)]
 
 mod difference;
 mod following;
 mod forward;
+mod keeping;
+mod kept_words;
 mod letters;
 mod lists;
 mod machine;
 mod products;
 mod records;
 mod reference;
-mod replaced;
 mod steps;
+mod terms;
 mod values;
+mod walking;
+mod word_table;
+mod words;
 
 pub use difference::detections;
 pub use forward::run;

@@ -65,6 +65,16 @@ impl<'c, A: Allocator + Copy> Machine<'c, A> {
         })
     }
 
+    /// All qubits 0 and no records again. The coins to come stay.
+    pub(crate) fn restart(&mut self)
+        ensures qubits { qubit_count self.new ≡ qubit_count self.old }
+        ensures room { self.new.room ≡ self.old.room }
+        ensures run { IsSameRun (qubit_count self.old) (run_of self.new) (start self.old.coins) }
+    {
+        self.tableau.restart();
+        self.records.clear();
+    }
+
     /// The records made.
     pub(crate) fn into_records(self) -> Records<A>
         ensures { result ≡ self.entry.records }

@@ -1,49 +1,66 @@
-ghost use Rattle.std.specs.Prelude.{◌≡◌, ◌<◌, [], None, length, option_map, slice_index_or, IfOk, IfErr, OnOk};
+ghost use Rattle.std.specs.Prelude.{◌≡◌, ◌∷◌, ℕ, List, length, option_map, IfOk, IfErr};
+ghost use Rattle.programs.specs.Listed.{listed};
+ghost use Rattle.programs.specs.Named.{IsStepOf};
 ghost use Rattle.step_model.specs.Faults.{memory_fault};
-ghost use Rattle.step_model.specs.Runs.{start};
-ghost use Rattle.forward_sim.specs.private.Machines.{qubit_count, run_of};
-ghost use Rattle.forward_sim.specs.References.{IsReferenceOf};
-ghost use Rattle.forward_sim.specs.private.SameRuns.{IsSameRun};
+ghost use Rattle.step_model.specs.Frames.{zero_coins};
+ghost use Rattle.step_model.specs.Listing.{ListedStep};
+ghost use Rattle.step_model.specs.Runs.{RunState, start};
+ghost use Rattle.forward_sim.specs.References.{GoneOver, IsNext, IsReferenceOf, IsSaid, StandBefore, said_of};
 
-use crate::following::follow_step;
-use crate::machine::Machine;
+use crate::keeping::follow;
 use crate::records::Records;
-use crate::replaced::Replaced;
-use programs::{Program, Walk};
-use std::alloc::{AllocError, Allocator};
+use crate::words::ReplacedWords;
+use programs::{Program, Step};
+use std::alloc::Allocator;
 use std::marker::Model;
 use step_model::{Fault, Term};
 
-/// The run of a program in which no fault happens and all coins are 0, made once by a tableau: its records, and for each
+// How many bytes the words may take, beside four for each record.
+const MOST_BYTES: usize = 1 << 27;
+
+/// The run of a program in which no fault happens and all coins are 0, made by a tableau: its records, and for each
 /// collapse with a random outcome a word of the state that this replaced. With these, runs are sampled by Pauli frames
 /// alone.
 ///
-/// A collapse with a decided outcome takes a few bytes of memory, one with a random outcome a term for each letter of its
-/// word other than I.
+/// The words are kept where they take at most 128 MB, beside four bytes for each record; one that comes again soon counts
+/// once. Where they take more, only the records are kept, and a tableau goes over the steps anew with each batch of runs.
 #[derive(Drop)]
 pub struct Reference<A: Allocator + Copy> {
     records: Records<A>,
-    replaced: Replaced<A>,
+    words: ReplacedWords<A>,
 }
 
 impl<A: Allocator + Copy> Model for Reference<A> {
     ghost use Rattle.forward_sim.specs.References.{ReferenceRun};
+    ghost use Rattle.forward_sim.specs.private.Said.{words_of};
 
     ghost Value = { ReferenceRun };
 
-    ghost view = { λ reference. record { records = reference.records; replaced = reference.replaced } };
+    ghost view = { λ reference. record { records = reference.records; words = words_of reference.words } };
 }
 
 impl<A: Allocator + Copy> Reference<A> {
     /// The reference run of a program. It takes the time of one run, and for each random outcome time linear in the number
-    /// of qubits.
+    /// of qubits. It stands before the first step.
     pub fn of(alloc: A, program: &Program<'_, A>) -> Result<Self, Fault>
         ensures ok { IfOk result (IsReferenceOf program.now.listing) }
         ensures records { IfOk result (λ reference. length reference.records ≡ program.now.listing.records) }
-        ensures count { IfOk result (λ reference. length reference.replaced ≡ program.now.listing.collapses) }
         ensures err { IfErr result (λ fault. fault ≡ memory_fault) }
     {
-        follow(alloc, program).map_err(|_| Fault::MEMORY)
+        let bytes = MOST_BYTES + 4 * program.record_count() as usize;
+        Reference::in_room(alloc, program, bytes)
+    }
+
+    /// The same, where the words are kept if they take at most so many bytes.
+    pub fn in_room(alloc: A, program: &Program<'_, A>, bytes: usize) -> Result<Self, Fault>
+        ensures ok { IfOk result (IsReferenceOf program.now.listing) }
+        ensures records { IfOk result (λ reference. length reference.records ≡ program.now.listing.records) }
+        ensures err { IfErr result (λ fault. fault ≡ memory_fault) }
+    {
+        match follow(alloc, program, bytes) {
+            Ok((records, words)) => Ok(Reference { records, words }),
+            Err(_) => Err(Fault::MEMORY),
+        }
     }
 
     /// The records of the run.
@@ -53,58 +70,36 @@ impl<A: Allocator + Copy> Reference<A> {
         &self.records
     }
 
-    /// How many collapses the run has.
-    pub fn collapse_count(&self) -> usize
-        ensures { result ≡ length self.now.replaced }
+    /// Goes back before the first step of the program. Allocates nothing.
+    pub fn restart(&mut self, program: &Program<'_, A>)
+        requires { IsReferenceOf program.now.listing self.old }
+        ensures stand { StandBefore program.now.listing program.now.listing.steps (start (zero_coins program.now.listing)) 0 self.new.words }
+        ensures reference { IsReferenceOf program.now.listing self.new }
+        ensures records { self.new.records ≡ self.old.records }
     {
-        self.replaced.len()
+        self.words.restart(program);
     }
 
-    /// For a collapse with a random outcome, the letters at qubits of a word that was in the state, up to its sign, and
-    /// anticommutes with the word measured: no qubit twice, and no letter I. None where the outcome was decided.
+    /// Goes over the next step of the program. Allocates nothing.
+    #[inline(always)]
+    pub fn go_over(&mut self, program: &Program<'_, A>, step: &Step)
+        requires of_program { IsStepOf program.now step.now }
+        requires next { IsNext program.now.listing (listed program.now.listing.qubits program.now.products step.now) self.old.words }
+        ensures over { (rest : List ListedStep) → (m : RunState) → (k : ℕ) → StandBefore program.now.listing (listed program.now.listing.qubits program.now.products step.now ∷ rest) m k self.old.words → GoneOver program.now.listing (listed program.now.listing.qubits program.now.products step.now) rest m k self.new.words }
+        ensures reference { IsReferenceOf program.now.listing self.old → IsReferenceOf program.now.listing self.new }
+        ensures records { self.new.records ≡ self.old.records }
+    {
+        self.words.go_over(program, step);
+    }
+
+    /// For the collapse with this number, the last that was gone over: the letters at qubits of a word that was in the
+    /// state, up to its sign, and anticommutes with the word measured, no qubit twice, and no letter I. None where the
+    /// outcome wasn't random.
+    #[inline(always)]
     pub fn replaced(&self, collapse: usize) -> Option<&[Term]>
-        requires { collapse < length self.now.replaced }
-        ensures { option_map (λ terms. terms.now) result ≡ slice_index_or self.now.replaced collapse None }
+        requires { IsSaid collapse self.now.words }
+        ensures { option_map (λ terms. terms.now) result ≡ said_of collapse self.now.words }
     {
-        self.replaced.get(collapse)
+        self.words.get(collapse)
     }
-}
-
-// The reference run of a program.
-fn follow<A: Allocator + Copy>(
-    alloc: A,
-    program: &Program<'_, A>,
-) -> Result<Reference<A>, AllocError>
-    ensures ok { IfOk result (IsReferenceOf program.now.listing) }
-    ensures records { IfOk result (λ reference. length reference.records ≡ program.now.listing.records) }
-    ensures count { IfOk result (λ reference. length reference.replaced ≡ program.now.listing.collapses) }
-{
-    let qubits = program.qubits() as usize;
-    let mut machine = Machine::start(alloc, qubits, program.record_count() as usize, &[])?;
-    let mut replaced = Replaced::new(alloc);
-    follow_steps(&mut machine, program, &mut replaced)?;
-    let records = machine.into_records();
-    Ok(Reference { records, replaced })
-}
-
-// Takes all steps of the program from the start.
-fn follow_steps<A: Allocator + Copy>(
-    machine: &mut Machine<'_, A>,
-    program: &Program<'_, A>,
-    replaced: &mut Replaced<A>,
-) -> Result<(), AllocError>
-    requires qubits { qubit_count machine.old ≡ program.now.listing.qubits }
-    requires room { machine.old.room ≡ program.now.listing.records }
-    requires starts { IsSameRun program.now.listing.qubits (run_of machine.old) (start []) }
-    requires empty { replaced.old ≡ [] }
-    ensures ok { OnOk result (IsReferenceOf program.now.listing (record { records = machine.new.records; replaced = replaced.new })) }
-    ensures records { OnOk result (length machine.new.records ≡ program.now.listing.records) }
-    ensures count { OnOk result (length replaced.new ≡ program.now.listing.collapses) }
-{
-    program.well_formed();
-    let mut walk = Walk::start(program);
-    while let Some(step) = walk.next_step() {
-        follow_step(machine, program, replaced, step)?;
-    }
-    Ok(())
 }

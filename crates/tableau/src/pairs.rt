@@ -1,10 +1,10 @@
 //! The pair of words that X and Z at one qubit become under the inverse circuit, and the words of other letters there.
-ghost use Rattle.std.specs.Prelude.{◌≡◌, ◌<◌, length, true, false, IfOk};
+ghost use Rattle.std.specs.Prelude.{◌≡◌, ◌<◌, ℕ, length, true, false, IfOk};
 ghost use Rattle.pauli_word.specs.declared.letter.Letter.TheVariants.{Y};
 ghost use Rattle.pauli_word.specs.Words.{anticommute, product, with_sign_changed};
 ghost use Rattle.pauli_word.specs.Groups.{identity_word};
-ghost use Rattle.tableau.specs.private.Encoding.{HasLength, word_of};
-ghost use Rattle.tableau.specs.private.EncodingSteps.{pair_after, start_pair};
+ghost use Rattle.tableau.specs.private.Encoding.{HasLength, pair_at, word_of};
+ghost use Rattle.tableau.specs.private.EncodingSteps.{pair_after, start_pair, start_rows};
 
 use pauli_word::{Letter, Word};
 use std::alloc::{AllocError, Allocator};
@@ -32,6 +32,28 @@ pub(crate) fn start_pair<A: Allocator + Copy>(
     let mut z = Word::identity(alloc, n)?;
     z.set_letter(qubit, Letter::Z);
     Ok((x, z))
+}
+
+/// Makes the pair of each qubit X and Z there again, as they are.
+pub(crate) fn restart_pairs<A: Allocator + Copy>(rows: &mut Vec<Pair<A>, A>)
+    requires { let n = length rows.old.items in
+        (q : ℕ) → q < n → HasLength n (pair_at n rows.old.items q) }
+    ensures { rows.new.items ≡ start_rows (length rows.old.items) }
+{
+    for qubit in 0..rows.len() {
+        restart_pair(&mut rows[qubit], qubit);
+    }
+}
+
+fn restart_pair<A: Allocator + Copy>(pair: &mut Pair<A>, qubit: usize)
+    requires inside { qubit < length pair.old.0.letters }
+    requires size { HasLength (length pair.old.0.letters) pair.old }
+    ensures { pair.new ≡ start_pair (length pair.old.0.letters) qubit }
+{
+    pair.0.clear();
+    pair.0.set_letter(qubit, Letter::X);
+    pair.1.clear();
+    pair.1.set_letter(qubit, Letter::Z);
 }
 
 /// Multiplies by a word from the right. It is not inlined, since its callers would hold it once for each letter.

@@ -10,7 +10,7 @@ pub mod laws;
 use crate::collapse::{collapse_code, encode, sign_seen};
 use crate::decode::decode;
 use crate::gates::{apply_letters, apply_one, apply_two};
-use crate::pairs::{Pair, identity_pair, set_word, start_pair};
+use crate::pairs::{Pair, identity_pair, restart_pairs, set_word, start_pair};
 use gate_table::Gate;
 use pauli_word::{Letter, Word};
 use std::alloc::{AllocError, Allocator};
@@ -56,6 +56,14 @@ impl<A: Allocator + Copy> Tableau<A> {
             first: identity_pair(alloc, n)?,
             second: identity_pair(alloc, n)?,
         })
+    }
+
+    /// Makes all qubits 0 again.
+    pub fn restart(&mut self)
+        ensures len { row_count self.new ≡ row_count self.old }
+        ensures state { HasState self.new start_state }
+    {
+        restart_pairs(&mut self.rows);
     }
 
     /// How many qubits there are.

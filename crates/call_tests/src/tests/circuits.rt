@@ -1,5 +1,6 @@
 mod agreement;
 mod analyses;
+mod beside;
 mod destabilizers;
 mod gates;
 mod runs;

@@ -1,4 +1,5 @@
 use Rattle.std.proofs.Common.{◌≡◌, ◌-◌, length, drop}
+use Rattle.forward_sim.specs.References.{IsReferenceOf}
 use Rattle.batch.proofs.Beside.{Beside}
 use Rattle.batch.proofs.follow.follow_steps.Given as goal
 
@@ -9,6 +10,8 @@ invariant-loop-step g l =
       program : l.walk.program ≡ l.program;
       qubits : length l.frames.letters ≡ length l.fn.frames.letters;
       room : l.frames.room ≡ l.fn.frames.room;
+      reference : IsReferenceOf l.program.listing l.reference;
+      records : l.reference.records ≡ l.fn.reference.records;
       beside : Beside l.program.listing l.reference l.faults l.coins (drop l.walk.place l.program.listing.steps) l.collapse l.frames;
     }
 

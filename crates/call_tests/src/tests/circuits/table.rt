@@ -2,6 +2,7 @@
 mod rows;
 
 use super::analyses::answers_hold;
+use super::beside::batches_agree;
 use super::runs::runs_hold;
 use rows::{BLOCKS, FAULTS, FEEDBACK, GATES, PRODUCTS, RESETS};
 use std::alloc::{AllocError, Global};
@@ -80,5 +81,7 @@ pub(super) fn text_of(alloc: Global, lines: &str) -> Result<Vec<u8>, AllocError>
 
 fn text_holds(alloc: Global, text: &[u8], (answer, runs): (&str, &str)) -> Result<bool, Fail> {
     let program = read_program(alloc, text)?;
-    Ok(answers_hold(alloc, answer, &program)? && runs_hold(alloc, &program, runs)?)
+    Ok(answers_hold(alloc, answer, &program)?
+        && runs_hold(alloc, &program, runs)?
+        && batches_agree(alloc, &program)?)
 }

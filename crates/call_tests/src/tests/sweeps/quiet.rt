@@ -13,14 +13,16 @@ pub(super) enum Quiet {
     Draw,
     DrawSideBySide,
     Follow,
+    FollowAlong,
     WriteModel,
     WriteFaults,
 }
 
-pub(super) const QUIET: [Quiet; 5] = [
+pub(super) const QUIET: [Quiet; 6] = [
     Quiet::Draw,
     Quiet::DrawSideBySide,
     Quiet::Follow,
+    Quiet::FollowAlong,
     Quiet::WriteModel,
     Quiet::WriteFaults,
 ];
@@ -30,7 +32,8 @@ impl Call for Quiet {
         match self {
             Quiet::Draw => draw_is_right(ration, lent.program),
             Quiet::DrawSideBySide => draws_are_right(ration, lent.program),
-            Quiet::Follow => runs_are_right(ration, lent.program),
+            Quiet::Follow => runs_are_right(ration, lent.program, 1000),
+            Quiet::FollowAlong => runs_are_right(ration, lent.program, 0),
             Quiet::WriteModel => model_is_right(ration, lent),
             Quiet::WriteFaults => faults_are_right(ration, lent.program),
         }
@@ -57,12 +60,14 @@ fn draws_are_right<'m>(
     Ok(shots.faults().get(2..4) == Some([u64::MAX, 0].as_slice()))
 }
 
-/// Runs without faults have the reference run's records, of which the first is 1.
+/// Runs without faults have the reference run's records, of which the first is 1. The words that its collapses replaced may
+/// take so many bytes.
 fn runs_are_right<'m>(
     ration: Ration<'m>,
     program: &Program<'_, Memory<'m>>,
+    bytes: usize,
 ) -> Result<bool, Fault> {
-    let mut batch = Batch::new(ration.memory, program)?;
+    let mut batch = Batch::in_room(ration.memory, program, bytes)?;
     let _memory = ration.begin();
     batch.follow(program, &[], &[]);
     Ok(batch.reference().len() == 8 && batch.reference().get(0))

@@ -8,17 +8,17 @@ use Rattle.forward_sim.specs.private.Machines.{qubit_count, run_of, ComesTo}
 use Rattle.forward_sim.proofs.ReferenceSteps.{letter_ends, letter_next}
 use Rattle.forward_sim.proofs.following.follow_step.Goals as goal
 
-pub returns-in_ok-seen-in-Collapse-clause-run : goal.returns-in_ok-seen-in-Collapse-clause-run
-returns-in_ok-seen-in-Collapse-clause-run g c =
+pub returns-in-Collapse-clause-run : goal.returns-in-Collapse-clause-run
+returns-in-Collapse-clause-run g c =
     let program = c.args.program.now.listing in
     let products = c.args.program.now.products in
     let old = c.args.machine.now in
-    let mid = c.follow_letter.new.machine in
+    let mid = c.follow_letter-seen.new.machine in
     let new = c.end_collapse.new.machine in
     let s = c.in-Collapse in
-    let seen = c.in_ok-seen-in-Collapse in
+    let seen = c.follow_letter-seen in
     let ended : ComesTo old new (after_collapse (lone_letter (qubit_count old) s.qubit s.letter) (correction (qubit_count old) (measured (qubit_count old) s.reset s.letter s.qubit)) (is_some s.rec) s.inverted (run_of old)) =
-    letter_ends old mid new s.letter s.qubit s.reset s.rec s.inverted seen.seen seen.ensures.run seen.ensures.outcome c.end_collapse.ensures in
+    letter_ends old mid new s.letter s.qubit s.reset s.rec s.inverted seen.result seen.ensures.run seen.ensures.outcome c.end_collapse.ensures in
     let of_program : ComesTo old new (after_collapse (lone_letter program.qubits s.qubit s.letter) (correction program.qubits (measured program.qubits s.reset s.letter s.qubit)) (is_some s.rec) s.inverted (run_of old)) =
     subst (λ n. ComesTo old new (after_collapse (lone_letter n s.qubit s.letter) (correction n (measured n s.reset s.letter s.qubit)) (is_some s.rec) s.inverted (run_of old))) c.requires.qubits ended in
     subst (λ step. ComesTo old new (next program [] (listed program.qubits products step) (run_of old))) (sym s.is)

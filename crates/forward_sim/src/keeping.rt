@@ -1,0 +1,90 @@
+//! A reference run is made: its records, and the words that its collapses replaced, where there is room for them.
+ghost use Rattle.std.specs.Prelude.{◌≡◌, ◌+◌, ◌≤◌, [], true, length, IfOk, OnOk};
+ghost use Rattle.programs.specs.Listed.{listed};
+ghost use Rattle.programs.specs.Named.{IsStepOf};
+ghost use Rattle.step_model.specs.Frames.{zero_coins};
+ghost use Rattle.step_model.specs.Listing.{step_records};
+ghost use Rattle.step_model.specs.Runs.{next, records_of, start};
+ghost use Rattle.forward_sim.specs.References.{walking_qubits, walking_run, AreEntries, AreWordsOf};
+ghost use Rattle.forward_sim.specs.private.Kept.{StepIsKept};
+ghost use Rattle.forward_sim.specs.private.Said.{words_of};
+ghost use Rattle.forward_sim.specs.private.SameRuns.{IsSameRun};
+
+use crate::kept_words::KeptWords;
+use crate::records::Records;
+use crate::walking::WalkingRun;
+use crate::words::ReplacedWords;
+use programs::{Program, Step, Walk};
+use std::alloc::{AllocError, Allocator};
+
+/// The records of a program's reference run, and what says which words its collapses replaced: the words themselves where
+/// they take so many bytes at most.
+pub(crate) fn follow<A: Allocator + Copy>(
+    alloc: A,
+    program: &Program<'_, A>,
+    bytes: usize,
+) -> Result<(Records<A>, ReplacedWords<A>), AllocError>
+    ensures records { IfOk result (λ made. made.0 ≡ records_of program.now.listing [] (zero_coins program.now.listing)) }
+    ensures count { IfOk result (λ made. length made.0 ≡ program.now.listing.records) }
+    ensures words { IfOk result (λ made. AreWordsOf program.now.listing (words_of made.1)) }
+{
+    let mut walk = WalkingRun::start(alloc, program)?;
+    let mut kept = KeptWords::new(alloc, bytes)?;
+    follow_steps(&mut walk, program, &mut kept)?;
+    let records = walk.into_records();
+    let words = if kept.is_whole() {
+        ReplacedWords::Kept(kept)
+    } else {
+        ReplacedWords::Walked(WalkingRun::start(alloc, program)?)
+    };
+    Ok((records, words))
+}
+
+// Takes all steps of the program from the start.
+fn follow_steps<A: Allocator + Copy>(
+    walk: &mut WalkingRun<A>,
+    program: &Program<'_, A>,
+    kept: &mut KeptWords<A>,
+) -> Result<(), AllocError>
+    requires qubits { walking_qubits walk.old ≡ program.now.listing.qubits }
+    requires room { walk.old.room ≡ program.now.listing.records }
+    requires starts { IsSameRun program.now.listing.qubits (walking_run walk.old) (start []) }
+    requires empty { kept.old.replaced ≡ [] }
+    ensures records { OnOk result (walk.new.records ≡ records_of program.now.listing [] (zero_coins program.now.listing)) }
+    ensures count { OnOk result (length walk.new.records ≡ program.now.listing.records) }
+    ensures kept { OnOk result (kept.new.whole ≡ true → AreEntries program.now.listing program.now.listing.steps (start (zero_coins program.now.listing)) kept.new.replaced) }
+{
+    program.well_formed();
+    let mut steps = Walk::start(program);
+    while let Some(step) = steps.next_step() {
+        keep_step(walk, program, kept, step)?;
+    }
+    Ok(())
+}
+
+// Takes a step, and keeps the word that it replaced if it is a collapse. Where there is no room for the words any more, it
+// doesn't look at them.
+fn keep_step<A: Allocator + Copy>(
+    walk: &mut WalkingRun<A>,
+    program: &Program<'_, A>,
+    kept: &mut KeptWords<A>,
+    step: Step,
+) -> Result<(), AllocError>
+    requires of_program { IsStepOf program.now step }
+    requires qubits { walking_qubits walk.old ≡ program.now.listing.qubits }
+    requires room { length walk.old.records + length (step_records (listed program.now.listing.qubits program.now.products step)) ≤ walk.old.room }
+    ensures qubits { OnOk result (walking_qubits walk.new ≡ walking_qubits walk.old) }
+    ensures room { OnOk result (walk.new.room ≡ walk.old.room) }
+    ensures run { OnOk result (IsSameRun (walking_qubits walk.old) (walking_run walk.new) (next program.now.listing [] (listed program.now.listing.qubits program.now.products step) (walking_run walk.old))) }
+    ensures kept { OnOk result (StepIsKept program.now.listing.qubits (walking_run walk.old).state (listed program.now.listing.qubits program.now.products step) kept.old kept.new) }
+{
+    if !kept.is_whole() {
+        walk.go_past(program, step);
+        return Ok(());
+    }
+    walk.go_over(program, step);
+    if step.is_collapse() {
+        kept.push(walk.terms())?;
+    }
+    Ok(())
+}

@@ -1,0 +1,99 @@
+ghost use Rattle.std.specs.Prelude.{◌≡◌, ◌+◌, ◌≤◌, [], length, IfOk};
+ghost use Rattle.programs.specs.Listed.{listed};
+ghost use Rattle.programs.specs.Named.{IsStepOf};
+ghost use Rattle.step_model.specs.Listing.{step_records};
+ghost use Rattle.step_model.specs.Runs.{next, start};
+ghost use Rattle.forward_sim.specs.References.{entry_of, walking_qubits, walking_run, IsStepEntry};
+ghost use Rattle.forward_sim.specs.private.SameRuns.{IsSameRun};
+
+use crate::following::follow_step;
+use crate::machine::Machine;
+use crate::records::Records;
+use crate::steps::take_step;
+use programs::{Program, Step};
+use std::alloc::{AllocError, Allocator};
+use std::marker::Model;
+use step_model::Term;
+
+/// A run in which no fault happens and all coins are 0. It goes over the steps one by one, and says of each collapse which
+/// word it replaced. Only its start allocates.
+#[derive(Drop)]
+pub(crate) struct WalkingRun<A: Allocator + Copy> {
+    machine: Machine<'static, A>,
+    // the letters of the word that the last collapse replaced, with room for a letter a qubit
+    terms: Vec<Term, A>,
+}
+
+impl<A: Allocator + Copy> Model for WalkingRun<A> {
+    ghost use Rattle.std.specs.Prelude.{◌≤◌, vec_capacity};
+    ghost use Rattle.forward_sim.specs.References.{Walking};
+    ghost use Rattle.forward_sim.specs.private.Machines.{qubit_count};
+
+    ghost Value = { Walking };
+
+    ghost view = { λ w. record { rows = w.machine.rows; coins = w.machine.coins; records = w.machine.records; room = w.machine.room; terms = w.terms.items } };
+
+    ghost invariant = { λ w. qubit_count w.machine ≤ vec_capacity w.terms };
+}
+
+impl<A: Allocator + Copy> WalkingRun<A> {
+    /// The run before the first step.
+    pub(crate) fn start(alloc: A, program: &Program<'_, A>) -> Result<Self, AllocError>
+        ensures qubits { IfOk result (λ walk. walking_qubits walk ≡ program.now.listing.qubits) }
+        ensures room { IfOk result (λ walk. walk.room ≡ program.now.listing.records) }
+        ensures run { IfOk result (λ walk. IsSameRun program.now.listing.qubits (walking_run walk) (start [])) }
+    {
+        let qubits = program.qubits() as usize;
+        let terms = Vec::with_capacity(alloc, qubits)?;
+        let machine = Machine::start(alloc, qubits, program.record_count() as usize, &[])?;
+        Ok(WalkingRun { machine, terms })
+    }
+
+    /// Goes back before the first step.
+    pub(crate) fn restart(&mut self)
+        ensures qubits { walking_qubits self.new ≡ walking_qubits self.old }
+        ensures room { self.new.room ≡ self.old.room }
+        ensures run { IsSameRun (walking_qubits self.old) (walking_run self.new) (start self.old.coins) }
+    {
+        self.machine.restart();
+    }
+
+    /// Goes over a step.
+    pub(crate) fn go_over(&mut self, program: &Program<'_, A>, step: Step)
+        requires of_program { IsStepOf program.now step }
+        requires qubits { walking_qubits self.old ≡ program.now.listing.qubits }
+        requires room { length self.old.records + length (step_records (listed program.now.listing.qubits program.now.products step)) ≤ self.old.room }
+        ensures qubits { walking_qubits self.new ≡ walking_qubits self.old }
+        ensures room { self.new.room ≡ self.old.room }
+        ensures run { IsSameRun (walking_qubits self.old) (walking_run self.new) (next program.now.listing [] (listed program.now.listing.qubits program.now.products step) (walking_run self.old)) }
+        ensures entry { IsStepEntry program.now.listing.qubits (walking_run self.old).state (listed program.now.listing.qubits program.now.products step) (entry_of self.new.terms) }
+    {
+        follow_step(&mut self.machine, program, &mut self.terms, step);
+    }
+
+    /// Goes over a step, and says nothing of it.
+    pub(crate) fn go_past(&mut self, program: &Program<'_, A>, step: Step)
+        requires of_program { IsStepOf program.now step }
+        requires qubits { walking_qubits self.old ≡ program.now.listing.qubits }
+        requires room { length self.old.records + length (step_records (listed program.now.listing.qubits program.now.products step)) ≤ self.old.room }
+        ensures qubits { walking_qubits self.new ≡ walking_qubits self.old }
+        ensures room { self.new.room ≡ self.old.room }
+        ensures run { IsSameRun (walking_qubits self.old) (walking_run self.new) (next program.now.listing [] (listed program.now.listing.qubits program.now.products step) (walking_run self.old)) }
+    {
+        take_step(&mut self.machine, program, &[], step);
+    }
+
+    /// The letters of the word that the last collapse replaced, none where its outcome wasn't random.
+    pub(crate) fn terms(&self) -> &[Term]
+        ensures { result.now ≡ self.now.terms }
+    {
+        self.terms.as_slice()
+    }
+
+    /// The records made.
+    pub(crate) fn into_records(self) -> Records<A>
+        ensures { result ≡ self.records }
+    {
+        self.machine.into_records()
+    }
+}

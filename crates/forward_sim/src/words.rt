@@ -1,0 +1,65 @@
+ghost use Rattle.std.specs.Prelude.{◌≡◌, ◌∷◌, ℕ, List, option_map};
+ghost use Rattle.programs.specs.Listed.{listed};
+ghost use Rattle.programs.specs.Named.{IsStepOf};
+ghost use Rattle.step_model.specs.Frames.{zero_coins};
+ghost use Rattle.step_model.specs.Listing.{ListedStep};
+ghost use Rattle.step_model.specs.Runs.{RunState, start};
+ghost use Rattle.forward_sim.specs.References.{AreWordsOf, GoneOver, IsNext, IsSaid, StandBefore, said_of};
+ghost use Rattle.forward_sim.specs.private.Said.{words_of};
+
+use crate::kept_words::KeptWords;
+use crate::terms::word_in;
+use crate::walking::WalkingRun;
+use programs::{Program, Step};
+use std::alloc::Allocator;
+use step_model::Term;
+
+/// What says which words the collapses of a reference run replaced.
+#[derive(Drop)]
+pub(crate) enum ReplacedWords<A: Allocator + Copy> {
+    /// A list, which is short enough to be kept.
+    Kept(KeptWords<A>),
+    /// A run that goes along with each batch.
+    Walked(WalkingRun<A>),
+}
+
+impl<A: Allocator + Copy> ReplacedWords<A> {
+    /// Goes back before the first step of the program.
+    pub(crate) fn restart(&mut self, program: &Program<'_, A>)
+        requires { AreWordsOf program.now.listing (words_of self.old) }
+        ensures stand { StandBefore program.now.listing program.now.listing.steps (start (zero_coins program.now.listing)) 0 (words_of self.new) }
+        ensures words { AreWordsOf program.now.listing (words_of self.new) }
+    {
+        program.well_formed();
+        match self {
+            ReplacedWords::Kept(_) => {}
+            ReplacedWords::Walked(walk) => walk.restart(),
+        }
+    }
+
+    /// Goes over the next step of the program.
+    #[inline(always)]
+    pub(crate) fn go_over(&mut self, program: &Program<'_, A>, step: &Step)
+        requires of_program { IsStepOf program.now step.now }
+        requires next { IsNext program.now.listing (listed program.now.listing.qubits program.now.products step.now) (words_of self.old) }
+        ensures over { (rest : List ListedStep) → (m : RunState) → (k : ℕ) → StandBefore program.now.listing (listed program.now.listing.qubits program.now.products step.now ∷ rest) m k (words_of self.old) → GoneOver program.now.listing (listed program.now.listing.qubits program.now.products step.now) rest m k (words_of self.new) }
+        ensures words { AreWordsOf program.now.listing (words_of self.old) → AreWordsOf program.now.listing (words_of self.new) }
+    {
+        match self {
+            ReplacedWords::Kept(_) => {}
+            ReplacedWords::Walked(walk) => walk.go_over(program, *step),
+        }
+    }
+
+    /// The letters at qubits of the word that a collapse replaced, which is the last that was gone over.
+    #[inline(always)]
+    pub(crate) fn get(&self, collapse: usize) -> Option<&[Term]>
+        requires { IsSaid collapse (words_of self.now) }
+        ensures { option_map (λ terms. terms.now) result ≡ said_of collapse (words_of self.now) }
+    {
+        match self {
+            ReplacedWords::Kept(kept) => kept.get(collapse),
+            ReplacedWords::Walked(walk) => word_in(walk.terms()),
+        }
+    }
+}
