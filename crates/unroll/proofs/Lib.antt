@@ -11,9 +11,9 @@ pub mod TurnLemmas
 pub mod RecordLemmas
 pub mod CountLemmas
 pub mod DetectorLemmas
-pub mod InclusionLemmas
 pub mod ObservableLemmas
-pub mod PlaceLemmas
+pub mod IncludingLemmas
+pub mod IncludingLoops
 pub mod OffsetLemmas
 pub mod PlacingLemmas
 pub mod CountLoops

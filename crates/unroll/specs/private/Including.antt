@@ -1,51 +1,38 @@
--- What is added to a circuit's observables as one pass gathers it: an instruction adds each record that it names to one
+-- What is added to each observable as one pass gathers it: an instruction adds each record that it names to one
 -- observable, and in a later turn of a block the number of each record is greater by as many as the turns before it
--- make. What is added is sorted by observable at the end. (Stim's gate reference, github.com/quantumlib/Stim,
--- doc/gates.md, "OBSERVABLE_INCLUDE".)
-use Rattle.std.specs.Prelude.{ℕ, ◌+◌, ◌-◌, ◌*◌, ◌==◌, nat_lt, if◌then◌else◌, List, [], ◌∷◌, ◌++◌, length, map, slice_index_or, slice_set, unwrap_or}
-use Rattle.std.specs.List.{filter, range_with_len}
+-- make. (Stim's gate reference, github.com/quantumlib/Stim, doc/gates.md, "OBSERVABLE_INCLUDE".)
+use Rattle.std.specs.Prelude.{◌≡◌, ℕ, ◌+◌, ◌-◌, ◌*◌, ◌<◌, ◌≤◌, nat_lt, if◌then◌else◌, List, [], ◌++◌, drop, length, slice_index, slice_index_or, slice_set, unwrap_or}
 use Rattle.stim_parser.specs.declared.operation.Operation.{Operation}
 use Rattle.stim_parser.specs.declared.operation.Operation.TheVariants.{ObservableInclude}
 use Rattle.stim_parser.specs.declared.target.Target.{Target}
 use Rattle.stim_parser.specs.Coordinates.{first_number}
 use Rattle.stim_parser.specs.Texts.{Item}
+use Rattle.stim_parser.specs.Verdicts.{Instruction}
 use Rattle.block_text.specs.Trees.{InstructionLine}
-use Rattle.unroll.specs.declared.inclusions.Inclusion.{Inclusion}
 use Rattle.unroll.specs.private.Detecting.{records_after, records_onward}
-use Rattle.unroll.specs.TargetsMade.{record_named}
-use Rattle.unroll.specs.private.Gathered.{Gathering}
+use Rattle.unroll.specs.TargetsMade.{records_named}
+use Rattle.unroll.specs.private.Gathered.{Gathering, later}
+use Rattle.unroll.specs.private.Observables.{instruction_adds}
 
--- the record that a target names after this many records, as it is added to an observable
-abbrev pub inclusion_of : ℕ → ℕ → Target → Inclusion
-inclusion_of k r target = record { observable = k; place = record_named r target }
+-- the number of a record, greater by d
+abbrev pub record_moved : ℕ → ℕ → ℕ
+record_moved d r = r + d
+
+-- what a pass gathers of the observable k
+abbrev pub including : ℕ → Gathering ℕ ℕ
+including k =
+    record {
+      next = records_after;
+      gives = instruction_adds k;
+      onward = records_onward;
+      moved = λ n before after. record_moved (n * (after - before));
+    }
+
+-- ---- how many observables there are
 
 -- the observable that an instruction with these arguments names
 abbrev pub observable_named : List (List ℕ) → ℕ
 observable_named arguments = unwrap_or (first_number arguments) 0
-
-abbrev pub operation_inclusions : ℕ → Operation → List (List ℕ) → List Target → List Inclusion
-operation_inclusions r ObservableInclude arguments targets = map (inclusion_of (observable_named arguments) r) targets
-operation_inclusions r operation arguments targets = []
-
--- an inclusion, with the number of its record greater by d
-abbrev pub inclusion_moved : ℕ → Inclusion → Inclusion
-inclusion_moved d x = record { observable = x.observable; place = x.place + d }
-
--- what a pass gathers of observables
-abbrev pub including : Gathering ℕ Inclusion
-including =
-    record {
-      next = records_after;
-      gives = λ r i. operation_inclusions r i.operation i.arguments i.targets;
-      onward = records_onward;
-      moved = λ n before after. inclusion_moved (n * (after - before));
-    }
-
--- the records that are added to one observable
-abbrev pub places_of : ℕ → List Inclusion → List ℕ
-places_of k inclusions = map (λ x. x.place) (filter (λ x. x.observable == k) inclusions)
-
--- ---- how many observables there are
 
 -- one more than the observable that an operation names
 abbrev pub named_to : Operation → List (List ℕ) → ℕ
@@ -56,13 +43,24 @@ abbrev pub item_observables : Item → ℕ
 item_observables (InstructionLine i) = named_to i.operation i.arguments
 item_observables item = 0
 
--- ---- sorted by observable
+-- ---- the lists of all observables
 
--- the records that are added to each of this many observables
-abbrev pub told_apart : ℕ → List Inclusion → List (List ℕ)
-told_apart count inclusions = map (λ k. places_of k inclusions) (range_with_len 0 count)
+-- with more records of one observable
+abbrev pub with_more : ℕ → List ℕ → List (List ℕ) → List (List ℕ)
+with_more k records lists = slice_set lists k (slice_index_or lists k [] ++ records)
 
--- lists with one inclusion more, where its observable has a list
-abbrev pub with_place : Inclusion → List (List ℕ) → List (List ℕ)
-with_place x lists =
-    if nat_lt x.observable (length lists) then slice_set lists x.observable (slice_index_or lists x.observable [] ++ x.place ∷ []) else lists
+-- with what an operation adds after this many records, where its observable has a list
+abbrev pub with_added : ℕ → Operation → List (List ℕ) → List Target → List (List ℕ) → List (List ℕ)
+with_added r ObservableInclude arguments targets lists =
+    if nat_lt (observable_named arguments) (length lists) then with_more (observable_named arguments) (records_named r targets) lists else lists
+with_added r operation arguments targets lists = lists
+
+abbrev pub with_included : ℕ → Instruction → List (List ℕ) → List (List ℕ)
+with_included r i lists = with_added r i.operation i.arguments i.targets lists
+
+-- the first lists with what so many later turns of a block add, each turn making `by` records, where the lists were so
+-- long before the first turn; the lists from `end` on are as they were
+pub record HaveTurned (turns by : ℕ) (before : List ℕ) (old new : List (List ℕ)) (end : ℕ) : Type 0 where
+  pub count : length new ≡ length old
+  pub turned : (k : ℕ) → k < end → slice_index_or new k [] ≡ slice_index_or old k [] ++ later (λ n. record_moved (n * by)) turns (drop (slice_index before k) (slice_index_or old k []))
+  pub left : (k : ℕ) → end ≤ k → slice_index_or new k [] ≡ slice_index_or old k []
