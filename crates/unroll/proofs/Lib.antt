@@ -13,6 +13,7 @@ pub mod CountLemmas
 pub mod DetectorLemmas
 pub mod ObservableLemmas
 pub mod IncludingLemmas
+pub mod NoteLemmas
 pub mod IncludingLoops
 pub mod OffsetLemmas
 pub mod PlacingLemmas

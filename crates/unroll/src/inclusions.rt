@@ -1,10 +1,10 @@
-ghost use Rattle.std.specs.Prelude.{◌≡◌, ◌+◌, ◌*◌, ◌<◌, ◌≤◌, ◌^◌, [], All, None, drop, length, map, replicate, slice_index_or, slice_range, IfOk, OnOk};
+ghost use Rattle.std.specs.Prelude.{◌≡◌, ◌+◌, ◌*◌, ◌<◌, ◌≤◌, ◌^◌, ◌++◌, [], All, None, drop, length, map, replicate, slice_index, slice_index_or, slice_range, IfOk, OnOk};
 ghost use Rattle.block_text.specs.Kept.{instruction_in};
 ghost use Rattle.unroll.specs.TargetsMade.{record_named, records_named};
 ghost use Rattle.unroll.specs.Totals.{observable_total};
 ghost use Rattle.unroll.specs.private.Detecting.{records_moved};
 ghost use Rattle.unroll.specs.private.Gathered.{later};
-ghost use Rattle.unroll.specs.private.Including.{HaveTurned, record_moved, with_included, with_more};
+ghost use Rattle.unroll.specs.private.Including.{HaveTurned, notes_of, record_moved, with_closed, with_included, with_more, with_noted};
 ghost use Rattle.unroll.specs.private.Observables.{observables_of};
 ghost use Rattle.unroll.specs.private.Counted.{first_far_from};
 ghost use Rattle.unroll.specs.private.MadeTotals.{record_count, record_total};
@@ -18,6 +18,13 @@ use block_text::{LEVELS, OpenBlock};
 use flat_lists::ListRooms;
 use std::alloc::{AllocError, Allocator};
 use stim_parser::{Circuit, Instruction, Item, Operation, Target, first_number};
+
+/// An observable to which an instruction adds, and how many records it had before.
+#[derive(Clone, Copy)]
+pub(crate) struct Note {
+    pub observable: usize,
+    pub before: u32,
+}
 
 /// Appends the records that targets name after this many records to the list of an observable.
 fn include_records<A: Allocator + Copy>(
@@ -36,20 +43,25 @@ fn include_records<A: Allocator + Copy>(
     Ok(())
 }
 
-/// Appends what an instruction adds to an observable after this many records, where that has a list.
+/// Appends what an instruction adds to an observable after this many records, where that has a list, and a note of it.
 fn include<A: Allocator + Copy>(
     lists: &mut ListRooms<u32, A>,
+    notes: &mut Vec<Note, A>,
     records: u64,
     instruction: Instruction<'_, '_>,
 ) -> Result<(), AllocError>
     requires { records < 2 ^ 32 }
-    ensures { OnOk result (lists.new ≡ with_included records (instruction_in instruction.entry) lists.old) }
+    ensures lists { OnOk result (lists.new ≡ with_included records (instruction_in instruction.entry) lists.old) }
+    ensures notes { OnOk result (notes.new.items ≡ notes.old.items ++ notes_of (instruction_in instruction.entry) lists.old) }
 {
     match instruction.operation {
         Operation::ObservableInclude => {
-            let observable = first_number(instruction.arguments).unwrap_or(0);
-            if observable < lists.lengths().len() as u64 {
-                include_records(lists, observable as usize, records, instruction.targets)
+            let named = first_number(instruction.arguments).unwrap_or(0);
+            if named < lists.lengths().len() as u64 {
+                let observable = named as usize;
+                let before = lists.lengths()[observable];
+                notes.push(Note { observable, before })?;
+                include_records(lists, observable, records, instruction.targets)
             } else {
                 Ok(())
             }
@@ -103,21 +115,48 @@ fn include_later_turns<A: Allocator + Copy>(
     Ok(())
 }
 
-/// Appends what this many later turns of a block add to each observable. `before` says how long the lists were before the
-/// first turn.
-fn include_all_later_turns<A: Allocator + Copy>(
+/// Appends what this many later turns of a block add to the observable of a note, the first of it in the block. Not where
+/// this was done at the same block end: `closed` says at which one it was last done for each observable.
+fn include_noted<A: Allocator + Copy>(
     lists: &mut ListRooms<u32, A>,
-    before: &[u32],
+    closed: &mut Vec<usize, A>,
+    end: usize,
+    note: Note,
     turns: u64,
     by: u64,
 ) -> Result<(), AllocError>
-    requires there { length before.now ≤ length lists.old }
+    requires there { note.observable < length lists.old }
+    requires each { length closed.old.items ≡ length lists.old }
+    requires few { turns * by < 2 ^ 32 }
+    requires small { slice_index closed.old.items note.observable < end → All (λ r. r + turns * by < 2 ^ 32) (slice_index_or lists.old note.observable []) }
+    ensures lists { OnOk result (lists.new ≡ with_noted turns by closed.old.items end note lists.old) }
+    ensures closed { OnOk result (closed.new.items ≡ with_closed closed.old.items end note) }
+{
+    if closed[note.observable] >= end {
+        return Ok(());
+    }
+    closed[note.observable] = end;
+    include_later_turns(lists, note.observable, note.before as usize, turns, by)
+}
+
+/// Appends what this many later turns of a block add to observables. The notes are those of the first turn.
+fn include_all_noted<A: Allocator + Copy>(
+    lists: &mut ListRooms<u32, A>,
+    closed: &mut Vec<usize, A>,
+    end: usize,
+    notes: &[Note],
+    turns: u64,
+    by: u64,
+) -> Result<(), AllocError>
+    requires there { All (λ note. note.observable < length lists.old) notes.now }
+    requires each { length closed.old.items ≡ length lists.old }
+    requires early { All (λ last. last < end) closed.old.items }
     requires few { turns * by < 2 ^ 32 }
     requires small { All (All (λ r. r + turns * by < 2 ^ 32)) lists.old }
-    ensures { OnOk result (HaveTurned turns by before.now lists.old lists.new (length before.now)) }
+    ensures { OnOk result (HaveTurned turns by end notes.now lists.old lists.new closed.new.items) }
 {
-    for k in 0..before.len() {
-        include_later_turns(lists, k, before[k] as usize, turns, by)?;
+    for note in notes {
+        include_noted(lists, closed, end, *note, turns, by)?;
     }
     Ok(())
 }
@@ -135,32 +174,30 @@ pub(crate) fn included<A: Allocator + Copy>(
     ensures { IfOk result (λ lists. lists ≡ observables_of circuit.now) }
 {
     circuit.fits();
-    // How long the lists were before each open block.
-    let mut lengths = Vec::new(alloc);
+    let mut notes = Vec::new(alloc);
+    let mut closed = Vec::from_elem(alloc, 0, lists.lengths().len())?;
     let mut records: u64 = 0;
     let mut blocks: ArrayVec<OpenBlock<Mark<u64>>, LEVELS> = ArrayVec::new();
     for i in 0..circuit.len() {
         match circuit.item(i) {
             Item::InstructionLine(instruction) => {
-                include(&mut lists, records, instruction)?;
+                include(&mut lists, &mut notes, records, instruction)?;
                 let targets = target_count(instruction.operation, instruction.targets);
                 records += records_made(instruction.operation, targets) as u64;
             }
             Item::BlockStart { turns, .. } => {
                 let before = Mark {
                     place: records,
-                    found: lengths.len(),
+                    found: notes.len(),
                 };
                 blocks.push(OpenBlock { turns, before });
-                lengths.extend_from_slice(lists.lengths())?;
             }
             Item::BlockEnd => {
                 let block = blocks.pop().unwrap();
                 let later = block.turns.saturating_sub(1);
                 let by = records.saturating_sub(block.before.place);
-                let before = &lengths[block.before.found..];
-                include_all_later_turns(&mut lists, before, later, by)?;
-                lengths.truncate(block.before.found);
+                let noted = &notes[block.before.found..];
+                include_all_noted(&mut lists, &mut closed, i + 1, noted, later, by)?;
                 records += later * by;
             }
         }

@@ -1,7 +1,7 @@
 -- What is added to each observable as one pass gathers it: an instruction adds each record that it names to one
 -- observable, and in a later turn of a block the number of each record is greater by as many as the turns before it
 -- make. (Stim's gate reference, github.com/quantumlib/Stim, doc/gates.md, "OBSERVABLE_INCLUDE".)
-use Rattle.std.specs.Prelude.{◌≡◌, ℕ, ◌+◌, ◌-◌, ◌*◌, ◌<◌, ◌≤◌, nat_lt, if◌then◌else◌, List, [], ◌++◌, drop, length, slice_index, slice_index_or, slice_set, unwrap_or}
+use Rattle.std.specs.Prelude.{◌≡◌, ℕ, ◌+◌, ◌-◌, ◌*◌, ◌<◌, ◌≤◌, ◌==◌, nat_lt, Bool, true, false, if◌then◌else◌, All, List, [], ◌∷◌, ◌++◌, drop, length, slice_index, slice_index_or, slice_set, unwrap_or}
 use Rattle.stim_parser.specs.declared.operation.Operation.{Operation}
 use Rattle.stim_parser.specs.declared.operation.Operation.TheVariants.{ObservableInclude}
 use Rattle.stim_parser.specs.declared.target.Target.{Target}
@@ -9,6 +9,7 @@ use Rattle.stim_parser.specs.Coordinates.{first_number}
 use Rattle.stim_parser.specs.Texts.{Item}
 use Rattle.stim_parser.specs.Verdicts.{Instruction}
 use Rattle.block_text.specs.Trees.{InstructionLine}
+use Rattle.unroll.specs.declared.inclusions.Note.{Note}
 use Rattle.unroll.specs.private.Detecting.{records_after, records_onward}
 use Rattle.unroll.specs.TargetsMade.{records_named}
 use Rattle.unroll.specs.private.Gathered.{Gathering, later}
@@ -58,9 +59,50 @@ with_added r operation arguments targets lists = lists
 abbrev pub with_included : ℕ → Instruction → List (List ℕ) → List (List ℕ)
 with_included r i lists = with_added r i.operation i.arguments i.targets lists
 
--- the first lists with what so many later turns of a block add, each turn making `by` records, where the lists were so
--- long before the first turn; the lists from `end` on are as they were
-pub record HaveTurned (turns by : ℕ) (before : List ℕ) (old new : List (List ℕ)) (end : ℕ) : Type 0 where
+-- ---- what instructions of the text note: an observable, and how many records it had before
+
+abbrev pub note_of : ℕ → List (List ℕ) → Note
+note_of k lists = record { observable = k; before = length (slice_index_or lists k []) }
+
+abbrev pub operation_notes : Operation → List (List ℕ) → List (List ℕ) → List Note
+operation_notes ObservableInclude arguments lists =
+    if nat_lt (observable_named arguments) (length lists) then note_of (observable_named arguments) lists ∷ [] else []
+operation_notes operation arguments lists = []
+
+abbrev pub notes_of : Instruction → List (List ℕ) → List Note
+notes_of i lists = operation_notes i.operation i.arguments lists
+
+-- how many records an observable had before the first note of it, which is how many it has where there is none
+abbrev pub first_before : ℕ → List Note → ℕ → ℕ
+first_before k [] now = now
+first_before k (note ∷ notes) now = if note.observable == k then note.before else first_before k notes now
+
+-- whether there is a note of an observable
+abbrev pub is_noted : ℕ → List Note → Bool
+is_noted k [] = false
+is_noted k (note ∷ notes) = if note.observable == k then true else is_noted k notes
+
+-- ---- the later turns of a block
+
+-- records with what so many later turns add, where there were so many before the first turn, and each turn makes `by`
+abbrev pub with_later : ℕ → ℕ → ℕ → List ℕ → List ℕ
+with_later turns by before records = records ++ later (λ n. record_moved (n * by)) turns (drop before records)
+
+-- the lists with what is added to the observable of a note, unless that was done at this end of a block
+abbrev pub with_noted : ℕ → ℕ → List ℕ → ℕ → Note → List (List ℕ) → List (List ℕ)
+with_noted turns by closed end note lists =
+    if nat_lt (slice_index closed note.observable) end then with_more note.observable (later (λ n. record_moved (n * by)) turns (drop note.before (slice_index_or lists note.observable []))) lists else lists
+
+-- at which end of a block each observable was last added to
+abbrev pub with_closed : List ℕ → ℕ → Note → List ℕ
+with_closed closed end note = if nat_lt (slice_index closed note.observable) end then slice_set closed note.observable end else closed
+
+-- the lists with what so many later turns of a block add to the observables of these notes, and which of them were added
+-- to at this end of a block
+pub record HaveTurned (turns by end : ℕ) (notes : List Note) (old new : List (List ℕ)) (closed : List ℕ) : Type 0 where
   pub count : length new ≡ length old
-  pub turned : (k : ℕ) → k < end → slice_index_or new k [] ≡ slice_index_or old k [] ++ later (λ n. record_moved (n * by)) turns (drop (slice_index before k) (slice_index_or old k []))
-  pub left : (k : ℕ) → end ≤ k → slice_index_or new k [] ≡ slice_index_or old k []
+  pub turned : (k : ℕ) → k < length old → slice_index_or new k [] ≡ with_later turns by (first_before k notes (length (slice_index_or old k []))) (slice_index_or old k [])
+  pub each : length closed ≡ length old
+  pub late : All (λ last. last ≤ end) closed
+  pub open_still : (k : ℕ) → k < length old → slice_index closed k < end → is_noted k notes ≡ false
+  pub closed_now : (k : ℕ) → k < length old → end ≤ slice_index closed k → is_noted k notes ≡ true
