@@ -28,6 +28,7 @@ pub mod InstructionCounts
 pub mod StepCounts
 pub mod FeedbackLemmas
 pub mod ReachedCounts
+pub mod SizeLemmas
 pub mod RecordsThere
 pub mod EntriesFit
 pub mod KeptParts

@@ -3,7 +3,7 @@ ghost use Rattle.block_text.specs.Kept.{instruction_in, item_in};
 ghost use Rattle.unroll.specs.private.Including.{item_observables, named_to};
 ghost use Rattle.unroll.specs.private.Observables.{observables_of};
 ghost use Rattle.unroll.specs.private.Counted.{first_far_from};
-ghost use Rattle.unroll.specs.Totals.{observable_total};
+ghost use Rattle.unroll.specs.Totals.{observable_total, step_total};
 ghost use Rattle.unroll.specs.private.MadeTotals.{record_total};
 
 use crate::inclusions::included;
@@ -35,7 +35,7 @@ fn item_observables(item: Item<'_, '_>) -> u64
 }
 
 /// How many observables a circuit has: one more than the highest that it names, and 0 where it names none.
-fn observable_total<A: Allocator + Copy>(circuit: &Circuit<'_, A>) -> u64
+pub(crate) fn observable_total<A: Allocator + Copy>(circuit: &Circuit<'_, A>) -> u64
     ensures { result ≡ observable_total circuit.now }
 {
     circuit.fits();
@@ -53,11 +53,11 @@ pub(crate) fn observables_of<A: Allocator + Copy>(
 ) -> Result<FlatLists<u32, A>, AllocError>
     requires near { first_far_from 0 circuit.now ≡ None }
     requires few { record_total circuit.now < 2 ^ 32 }
+    requires few_steps { step_total circuit.now < 2 ^ 32 }
     ensures { IfOk result (λ observables. observables ≡ observables_of circuit.now) }
 {
     circuit.fits();
-    let count = observable_total(circuit);
-    let sizes = sizes_of(alloc, circuit, count)?;
+    let sizes = sizes_of(alloc, circuit)?;
     let empty = ListRooms::new(alloc, &sizes, 0)?;
     let lists = included(alloc, circuit, empty)?;
     lists.flat().ok_or(AllocError)

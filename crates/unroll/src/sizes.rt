@@ -1,5 +1,10 @@
-ghost use Rattle.std.specs.Prelude.{◌≡◌, length, IfOk};
+ghost use Rattle.std.specs.Prelude.{◌≡◌, ◌<◌, ◌^◌, length, map, IfOk};
+ghost use Rattle.block_text.specs.Kept.{instruction_in};
+ghost use Rattle.unroll.specs.Totals.{step_total};
+ghost use Rattle.unroll.specs.private.Including.{with_counted};
+ghost use Rattle.unroll.specs.private.Observables.{observables_of};
 
+use crate::observables::observable_total;
 use arrayvec::ArrayVec;
 use block_text::LEVELS;
 use std::alloc::{AllocError, Allocator};
@@ -11,7 +16,7 @@ fn count_included<A: Allocator + Copy>(
     times: u64,
     instruction: Instruction<'_, '_>,
 )
-    ensures { length sizes.new.items ≡ length sizes.old.items }
+    ensures { sizes.new.items ≡ with_counted times (instruction_in instruction.entry).operation (instruction_in instruction.entry).arguments (instruction_in instruction.entry).targets sizes.old.items }
 {
     match instruction.operation {
         Operation::ObservableInclude => {
@@ -26,16 +31,16 @@ fn count_included<A: Allocator + Copy>(
     }
 }
 
-/// How many records a circuit adds to each of this many observables, as far as the numbers fit. Each instruction is gone
-/// over once.
+/// How many records a circuit adds to each observable. Each instruction is gone over once.
 pub(crate) fn sizes_of<A: Allocator + Copy>(
     alloc: A,
     circuit: &Circuit<'_, A>,
-    count: u64,
 ) -> Result<Vec<u32, A>, AllocError>
-    ensures { IfOk result (λ sizes. length sizes.items ≡ count) }
+    requires few_steps { step_total circuit.now < 2 ^ 32 }
+    ensures { IfOk result (λ sizes. sizes.items ≡ map length (observables_of circuit.now)) }
 {
     circuit.fits();
+    let count = observable_total(circuit);
     let mut sizes = Vec::from_elem(alloc, 0, count as usize)?;
     let mut times: u64 = 1;
     let mut outer: ArrayVec<u64, LEVELS> = ArrayVec::new();

@@ -1,7 +1,7 @@
 -- What is added to each observable as one pass gathers it: an instruction adds each record that it names to one
 -- observable, and in a later turn of a block the number of each record is greater by as many as the turns before it
 -- make. (Stim's gate reference, github.com/quantumlib/Stim, doc/gates.md, "OBSERVABLE_INCLUDE".)
-use Rattle.std.specs.Prelude.{◌≡◌, ℕ, ◌+◌, ◌-◌, ◌*◌, ◌<◌, ◌≤◌, ◌==◌, nat_lt, Bool, true, false, if◌then◌else◌, All, List, [], ◌∷◌, ◌++◌, drop, length, slice_index, slice_index_or, slice_set, unwrap_or}
+use Rattle.std.specs.Prelude.{◌≡◌, ℕ, ◌+◌, ◌-◌, ◌*◌, ◌<◌, ◌≤◌, ◌==◌, nat_lt, Bool, true, false, if◌then◌else◌, All, List, [], ◌∷◌, ◌++◌, drop, length, slice_index, slice_index_or, slice_set, min, ◌^◌, unwrap_or}
 use Rattle.stim_parser.specs.declared.operation.Operation.{Operation}
 use Rattle.stim_parser.specs.declared.operation.Operation.TheVariants.{ObservableInclude}
 use Rattle.stim_parser.specs.declared.target.Target.{Target}
@@ -58,6 +58,22 @@ with_added r operation arguments targets lists = lists
 
 abbrev pub with_included : ℕ → Instruction → List (List ℕ) → List (List ℕ)
 with_included r i lists = with_added r i.operation i.arguments i.targets lists
+
+-- ---- how many records are added to each
+
+-- a number, or the greatest of 64 bits or of 32 where it is greater
+abbrev pub at_most_64 : ℕ → ℕ
+at_most_64 n = min n (2 ^ 64 - 1)
+
+abbrev pub at_most_32 : ℕ → ℕ
+at_most_32 n = min n (2 ^ 32 - 1)
+
+-- the counts with what an operation adds that is reached so many times, where its observable has a count
+abbrev pub with_counted : ℕ → Operation → List (List ℕ) → List Target → List ℕ → List ℕ
+with_counted times ObservableInclude arguments targets sizes =
+    let k = observable_named arguments in
+    if nat_lt k (length sizes) then slice_set sizes k (at_most_32 (at_most_64 (slice_index sizes k + at_most_64 (times * length targets)))) else sizes
+with_counted times operation arguments targets sizes = sizes
 
 -- ---- what instructions of the text note: an observable, and how many records it had before
 

@@ -1,22 +1,21 @@
-use Rattle.std.proofs.Common.{◌≡◌, ◌+◌, ◌++◌, ◌∷◌, [], ℕ, suc, length, Option, drop, sym, ap, ◌∙◌, subst, arith, length-append}
+use Rattle.std.proofs.Common.{◌≡◌, ◌+◌, ◌++◌, ◌∷◌, [], ℕ, length, Option, drop, ap, ◌∙◌, arith}
 use Rattle.std.specs.Option.{option_to_list}
 use Rattle.stim_parser.specs.Judged.{items_of}
-use Rattle.block_text.specs.Trees.{BlockStart, BlockEnd, InstructionLine}
+use Rattle.block_text.specs.Trees.{BlockEnd}
 use Rattle.block_text.specs.Kept.{instruction_in}
-use Rattle.unroll.proofs.PassLemmas.{AreWhole, can_stand, whole-at, whole-tree}
+use Rattle.unroll.specs.private.Including.{with_counted}
+use Rattle.unroll.proofs.PassLemmas.{can_stand, whole-at}
+use Rattle.unroll.proofs.SizeLemmas.{sizing-begins, sizing-does, sizing-done, sizing-ends, sizing-first, sizing-room, sizing-same}
 use Rattle.unroll.proofs.sizes.sizes_of.Goals as goal
 use Rattle.unroll.proofs.sizes.sizes_of.Goals.{in-InstructionLine, in-BlockStart, in-BlockEnd}
 
 pub loop-i-init : goal.loop-i-init
 loop-i-init g c =
-    record {
-      whole = subst (AreWhole (items_of c.args.circuit.now)) (sym (ap length c.new-outer.ensures)) (whole-tree c.args.circuit.now c.fits.ensures);
-      count = omega (arith, c.in_ok-sizes.ensures.len);
-    }
+    sizing-first c.args.circuit.now c.observable_total-count.result c.in_ok-sizes.sizes.items c.new-outer.result.items c.fits.ensures (c.in_ok-sizes.ensures.items_if_clones_equal (λ y h. h)) c.new-outer.ensures
 
 pub push-requires : goal.push-requires
 push-requires g c =
-    (omega arith, (whole-at c.args.circuit.now c.loop-i.i (length c.loop-i.outer.items) (BlockStart c.in-BlockStart.line c.in-BlockStart.turns) c.loop-i.invariant.whole c.in-BlockStart.ensures).1)
+    (omega arith, sizing-room c.args.circuit.now c.loop-i.i c.loop-i.times c.observable_total-count.result c.loop-i.sizes.items c.loop-i.outer.items c.in-BlockStart.line c.in-BlockStart.turns c.loop-i.invariant c.in-BlockStart.ensures)
 
 pub unwrap-times-requires : goal.unwrap-times-requires
 unwrap-times-requires g c =
@@ -27,25 +26,33 @@ pub loop-i-preserved : goal.loop-i-preserved
 loop-i-preserved g c =
     let t = c.args.circuit.now in
     let i = c.loop-i.i in
+    let n = c.observable_total-count.result in
+    let times = c.loop-i.times in
+    let sizes = c.loop-i.sizes.items in
     let outer = c.loop-i.outer.items in
-    let depth : ℕ → Type 0 = AreWhole (drop (i + 1) (items_of t)) in
     elim c.match-item.branch [
       | in-InstructionLine w ↦
-          record {
-            whole = subst depth (sym (ap (λ v. length v.items) w.outer-is)) (whole-at t i (length outer) (InstructionLine (instruction_in w.in-InstructionLine.instruction)) c.loop-i.invariant.whole w.in-InstructionLine.ensures).1;
-            count = ap (λ v. length v.items) w.sizes-is ∙ w.count_included.ensures ∙ c.loop-i.invariant.count;
-          }
+          let x = instruction_in w.in-InstructionLine.instruction in
+          sizing-same t (i + 1) times c.match-item.times n (with_counted times x.operation x.arguments x.targets sizes) c.match-item.sizes.items outer c.match-item.outer.items
+          (sizing-does t i times n sizes outer x c.loop-i.invariant c.requires.few_steps w.in-InstructionLine.ensures)
+          w.times-is
+          (ap (λ v. v.items) w.sizes-is ∙ w.count_included.ensures)
+          (ap (λ v. v.items) w.outer-is)
       | in-BlockStart w ↦
-          record {
-            whole = subst depth (sym (ap (λ v. length v.items) w.outer-is ∙ ap length w.push.ensures.items ∙ length-append outer (c.loop-i.times ∷ []) ∙ omega arith)) (whole-at t i (length outer) (BlockStart w.in-BlockStart.line w.in-BlockStart.turns) c.loop-i.invariant.whole w.in-BlockStart.ensures).2;
-            count = ap (λ v. length v.items) w.sizes-is ∙ c.loop-i.invariant.count;
-          }
+          sizing-same t (i + 1) w.saturating_mul-times.result c.match-item.times n sizes c.match-item.sizes.items (outer ++ times ∷ []) c.match-item.outer.items
+          (sizing-begins t i times w.saturating_mul-times.result n sizes outer w.in-BlockStart.line w.in-BlockStart.turns c.loop-i.invariant c.requires.few_steps w.in-BlockStart.ensures w.saturating_mul-times.ensures)
+          w.times-is
+          (ap (λ v. v.items) w.sizes-is)
+          (ap (λ v. v.items) w.outer-is ∙ w.push.ensures.items)
       | in-BlockEnd w ↦
           let popped : outer ≡ w.pop.new.self.items ++ w.unwrap-times.result ∷ [] = w.pop.ensures.items ∙ ap (λ (o : Option ℕ). w.pop.new.self.items ++ option_to_list o) w.unwrap-times.ensures in
-          let one : length outer ≡ suc (length w.pop.new.self.items) = ap length popped ∙ length-append w.pop.new.self.items (w.unwrap-times.result ∷ []) ∙ omega arith in
-          let whole = subst (AreWhole (BlockEnd ∷ drop (i + 1) (items_of t))) one (whole-at t i (length outer) BlockEnd c.loop-i.invariant.whole w.in-BlockEnd.ensures) in
-          record {
-            whole = subst depth (sym (ap (λ v. length v.items) w.outer-is)) whole;
-            count = ap (λ v. length v.items) w.sizes-is ∙ c.loop-i.invariant.count;
-          }
+          sizing-same t (i + 1) w.unwrap-times.result c.match-item.times n sizes c.match-item.sizes.items w.pop.new.self.items c.match-item.outer.items
+          (sizing-ends t i times n w.unwrap-times.result sizes outer w.pop.new.self.items c.loop-i.invariant w.in-BlockEnd.ensures popped)
+          w.times-is
+          (ap (λ v. v.items) w.sizes-is)
+          (ap (λ v. v.items) w.outer-is)
     ]
+
+pub returns : goal.returns
+returns g c =
+    sizing-done c.args.circuit.now c.loop-i.i c.loop-i.times c.observable_total-count.result c.loop-i.sizes.items c.loop-i.outer.items c.loop-i.invariant c.observable_total-count.ensures (omega (arith, c.len-i-end.ensures))

@@ -1,11 +1,5 @@
-use Rattle.std.proofs.Common.{◌≡◌, drop, length}
-use Rattle.stim_parser.specs.Judged.{items_of}
-use Rattle.unroll.proofs.PassLemmas.{AreWhole}
+use Rattle.unroll.proofs.SizeLemmas.{IsSizing}
 use Rattle.unroll.proofs.sizes.sizes_of.Given as goal
 
 abbrev pub invariant-loop-i : goal.invariant-loop-i
-invariant-loop-i g l =
-    record {
-      whole : AreWhole (drop l.i (items_of l.circuit)) (length l.outer.items);
-      count : length l.sizes.items ≡ l.count;
-    }
+invariant-loop-i g l = IsSizing l.circuit l.i l.times l.count l.sizes.items l.outer.items

@@ -1,0 +1,9 @@
+use Rattle.std.proofs.Common.{◌≡◌, [], ℕ, length, replicate, ap, ◌∙◌}
+use Rattle.unroll.specs.Totals.{observable_total}
+use Rattle.unroll.proofs.SizeLemmas.{sizes-length}
+use Rattle.unroll.proofs.observables.observables_of.Goals as goal
+
+pub included-requires-clause-empty : goal.included-requires-clause-empty
+included-requires-clause-empty g c =
+    let many : length c.deref.result.now ≡ observable_total c.args.circuit.now = ap length (c.deref.ensures.value ∙ c.in_ok-sizes.ensures) ∙ sizes-length c.args.circuit.now in
+    c.in_ok-empty.ensures ∙ ap (λ (n : ℕ). replicate n []) many
