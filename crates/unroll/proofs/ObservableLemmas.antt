@@ -43,7 +43,7 @@ abbrev pub named_by : List Item → ℕ
 named_by [] = 0
 named_by (item ∷ items) = max (item_observables item) (named_by items)
 
-one-to : (o : Operation) (arguments : List (List ℕ)) → NamesNumber o arguments → named_to o arguments ≡ observables_to o arguments
+pub one-to : (o : Operation) (arguments : List (List ℕ)) → NamesNumber o arguments → named_to o arguments ≡ observables_to o arguments
 one-to ObservableInclude arguments h = ap (λ (n : Option ℕ). unwrap_or n 0 + 1) h
 one-to o arguments h = refl
 

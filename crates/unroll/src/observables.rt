@@ -1,16 +1,16 @@
 ghost use Rattle.std.specs.Prelude.{◌≡◌, ◌<◌, ◌^◌, None, IfOk};
-ghost use Rattle.block_text.specs.Kept.{instruction_in, item_in};
-ghost use Rattle.unroll.specs.private.Including.{item_observables, named_to};
+ghost use Rattle.block_text.specs.Kept.{instruction_in};
+ghost use Rattle.unroll.specs.private.Including.{named_to};
 ghost use Rattle.unroll.specs.private.Observables.{observables_of};
 ghost use Rattle.unroll.specs.private.Counted.{first_far_from};
-ghost use Rattle.unroll.specs.Totals.{observable_total, step_total};
+ghost use Rattle.unroll.specs.Totals.{step_total};
 ghost use Rattle.unroll.specs.private.MadeTotals.{record_total};
 
 use crate::inclusions::included;
 use crate::sizes::sizes_of;
 use flat_lists::{FlatLists, ListRooms};
 use std::alloc::{AllocError, Allocator};
-use stim_parser::{Circuit, Instruction, Item, Operation, first_number};
+use stim_parser::{Circuit, Instruction, Operation, first_number};
 
 /// One more than the observable that an instruction names, and 0 where it names none.
 pub(crate) fn named_to(instruction: Instruction<'_, '_>) -> u64
@@ -22,28 +22,6 @@ pub(crate) fn named_to(instruction: Instruction<'_, '_>) -> u64
             .saturating_add(1),
         _ => 0,
     }
-}
-
-/// The same for an item.
-fn item_observables(item: Item<'_, '_>) -> u64
-    ensures { result ≡ item_observables (item_in item.entry) }
-{
-    match item {
-        Item::InstructionLine(instruction) => named_to(instruction),
-        _ => 0,
-    }
-}
-
-/// How many observables a circuit has: one more than the highest that it names, and 0 where it names none.
-pub(crate) fn observable_total<A: Allocator + Copy>(circuit: &Circuit<'_, A>) -> u64
-    ensures { result ≡ observable_total circuit.now }
-{
-    circuit.fits();
-    let mut count: u64 = 0;
-    for i in 0..circuit.len() {
-        count = count.max(item_observables(circuit.item(i)));
-    }
-    count
 }
 
 /// The records of each observable of a circuit, in the order in which they are added.
@@ -58,6 +36,9 @@ pub(crate) fn observables_of<A: Allocator + Copy>(
 {
     circuit.fits();
     let sizes = sizes_of(alloc, circuit)?;
+    if sizes.is_empty() {
+        return Ok(FlatLists::new(alloc));
+    }
     let empty = ListRooms::new(alloc, &sizes, 0)?;
     let lists = included(alloc, circuit, empty)?;
     lists.flat().ok_or(AllocError)

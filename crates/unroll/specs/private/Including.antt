@@ -1,7 +1,7 @@
 -- What is added to each observable as one pass gathers it: an instruction adds each record that it names to one
 -- observable, and in a later turn of a block the number of each record is greater by as many as the turns before it
 -- make. (Stim's gate reference, github.com/quantumlib/Stim, doc/gates.md, "OBSERVABLE_INCLUDE".)
-use Rattle.std.specs.Prelude.{◌≡◌, ℕ, ◌+◌, ◌-◌, ◌*◌, ◌<◌, ◌≤◌, ◌==◌, nat_lt, Bool, true, false, if◌then◌else◌, All, List, [], ◌∷◌, ◌++◌, drop, length, slice_index, slice_index_or, slice_set, min, ◌^◌, unwrap_or}
+use Rattle.std.specs.Prelude.{◌≡◌, ℕ, ◌+◌, ◌-◌, ◌*◌, ◌<◌, ◌≤◌, ◌==◌, nat_lt, Bool, true, false, if◌then◌else◌, All, List, [], ◌∷◌, ◌++◌, drop, length, slice_index, slice_index_or, slice_set, min, replicate, ◌^◌, unwrap_or}
 use Rattle.stim_parser.specs.declared.operation.Operation.{Operation}
 use Rattle.stim_parser.specs.declared.operation.Operation.TheVariants.{ObservableInclude}
 use Rattle.stim_parser.specs.declared.target.Target.{Target}
@@ -68,12 +68,19 @@ at_most_64 n = min n (2 ^ 64 - 1)
 abbrev pub at_most_32 : ℕ → ℕ
 at_most_32 n = min n (2 ^ 32 - 1)
 
--- the counts with what an operation adds that is reached so many times, where its observable has a count
-abbrev pub with_counted : ℕ → Operation → List (List ℕ) → List Target → List ℕ → List ℕ
-with_counted times ObservableInclude arguments targets sizes =
-    let k = observable_named arguments in
-    if nat_lt k (length sizes) then slice_set sizes k (at_most_32 (at_most_64 (slice_index sizes k + at_most_64 (times * length targets)))) else sizes
-with_counted times operation arguments targets sizes = sizes
+-- counts for this many observables at least
+abbrev pub grown : ℕ → List ℕ → List ℕ
+grown named sizes = sizes ++ replicate (named - length sizes) 0
+
+-- the counts with more of the last of this many observables
+abbrev pub with_size : ℕ → ℕ → List ℕ → List ℕ
+with_size named more sizes = slice_set (grown named sizes) (named - 1) (at_most_32 (at_most_64 (slice_index sizes (named - 1) + more)))
+
+-- the counts with what an instruction adds that is reached so many times
+abbrev pub with_counted : ℕ → Instruction → List ℕ → List ℕ
+with_counted times i sizes =
+    let named = named_to i.operation i.arguments in
+    if named == 0 then sizes else with_size named (at_most_64 (times * length i.targets)) sizes
 
 -- ---- what instructions of the text note: an observable, and how many records it had before
 
