@@ -5,8 +5,10 @@
 ghost use Rattle.std.specs.Prelude.{◌≡◌, ◌+◌, ◌<◌, ◌==◌, [], ◌∷◌, ◌++◌, length, IfOk, OnOk, OnErr, Some, slice_get, slice_index, slice_index_or};
 
 mod number_lists;
+mod rooms;
 
 pub use number_lists::{MOST_NUMBERS, NumberLists};
+pub use rooms::ListRooms;
 use std::alloc::{AllocError, Allocator};
 use std::marker::Model;
 
@@ -45,6 +47,16 @@ impl<T: Copy, A: Allocator + Copy> FlatLists<T, A> {
     {
         Ok(FlatLists {
             items: Vec::new(alloc),
+            ends: Vec::with_capacity(alloc, lists)?,
+        })
+    }
+
+    /// No lists, with room for this many, and for this many items in all.
+    pub fn with_rooms(alloc: A, lists: usize, items: usize) -> Result<Self, AllocError>
+        ensures { IfOk result (λ none. none ≡ []) }
+    {
+        Ok(FlatLists {
+            items: Vec::with_capacity(alloc, items)?,
             ends: Vec::with_capacity(alloc, lists)?,
         })
     }

@@ -11,9 +11,10 @@ pub mod TurnLemmas
 pub mod RecordLemmas
 pub mod CountLemmas
 pub mod DetectorLemmas
-pub mod InclusionLemmas
 pub mod ObservableLemmas
-pub mod PlaceLemmas
+pub mod IncludingLemmas
+pub mod NoteLemmas
+pub mod IncludingLoops
 pub mod OffsetLemmas
 pub mod PlacingLemmas
 pub mod CountLoops
@@ -27,6 +28,7 @@ pub mod InstructionCounts
 pub mod StepCounts
 pub mod FeedbackLemmas
 pub mod ReachedCounts
+pub mod SizeLemmas
 pub mod RecordsThere
 pub mod EntriesFit
 pub mod KeptParts

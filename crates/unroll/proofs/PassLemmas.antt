@@ -1,5 +1,6 @@
 -- A pass over a circuit's items in their order is a pass over its tree.
-use Rattle.std.proofs.Common.{ℕ, List, ◌∷◌}
+use Rattle.std.proofs.Common.{◌≡◌, ℕ, suc, ◌+◌, List, ◌∷◌, drop, Some, ap, ◌∙◌, subst, arith}
+use Rattle.std.specs.Prelude.{slice_get}
 use Rattle.block_text.specs.declared.blocks.OpenBlock.{OpenBlock}
 use Rattle.block_text.proofs.PassLemmas as passes
 pub use Rattle.block_text.proofs.PassLemmas.{drop_got, passing-first, passing-can, passing-next, passing-done}
@@ -22,3 +23,9 @@ can_stand item items d whole = passes.can_stand Fits item items d whole
 -- behind so many items of a tree, with these blocks open, the outermost first
 abbrev pub IsPassing : {S : Type 0} → Pass S → Tree → S → ℕ → S → List (OpenBlock S) → Type 0
 IsPassing pass t start i s blocks = passes.IsPassing Fits pass t start i s blocks
+
+-- an item, and what stands behind it
+pub whole-at : (t : Tree) (i depth : ℕ) (item : Item) → AreWhole (drop i (items_of t)) depth → Some item ≡ slice_get (items_of t) i → AreWhole (item ∷ drop (i + 1) (items_of t)) depth
+whole-at t i depth item whole got =
+    let next : suc i ≡ i + 1 = omega arith in
+    subst (λ (items : List Item). AreWhole items depth) (drop_got (items_of t) i item got ∙ ap (λ (k : ℕ). item ∷ drop k (items_of t)) next) whole

@@ -52,7 +52,7 @@ steps_counted t = sym (sum-ones (steps_of t)) ∙ sum-tree one_by made_count ins
 
 -- ---- no more steps and faults than a circuit counts as
 
-few-tree : (count : Instruction → ℕ) → ((i : Instruction) → count i ≤ step_count i) → (t : Tree) → total 0 count t ≤ total 1 step_count t
+pub few-tree : (count : Instruction → ℕ) → ((i : Instruction) → count i ≤ step_count i) → (t : Tree) → total 0 count t ≤ total 1 step_count t
 unfolding total
 few-tree count h Nothing = omega arith
 few-tree count h (Then i rest) = omega (arith, h i, few-tree count h rest)

@@ -52,7 +52,12 @@ turns-more move start now next given turn n e =
     ∙ append_assoc start (later move turn given) (map (move (suc turn)) given)
     ∙ ap (λ k. start ++ later move k given) (sym (add-one turn))
 
-later-nil : {X : Type 0} (move : ℕ → X → X) (n : ℕ) → later move n [] ≡ []
+-- what one later turn more gives
+pub later-more : {X : Type 0} (move : ℕ → X → X) (turn : ℕ) (given : List X) → later move turn given ++ map (move (turn + 1)) given ≡ later move (turn + 1) given
+later-more move turn given =
+    ap (λ k. later move turn given ++ map (move k) given) (add-one turn) ∙ ap (λ k. later move k given) (sym (add-one turn))
+
+pub later-nil : {X : Type 0} (move : ℕ → X → X) (n : ℕ) → later move n [] ≡ []
 later-nil move zero = refl
 later-nil move (suc n) = append-nil (later move n []) ∙ later-nil move n
 

@@ -28,17 +28,18 @@ struct Lists<A: Allocator + Copy> {
     coordinates: NumberLists<A>,
 }
 
-/// The targets of a circuit's program, and the coordinates of its detectors, from a circuit that isn't refused. `count`
-/// says for how many detectors to make room first.
+/// The targets of a circuit's program, and the coordinates of its detectors, from a circuit that isn't refused. The
+/// totals say for how much to make room first.
 fn lists_of<A: Allocator + Copy>(
     alloc: A,
     circuit: &Circuit<'_, A>,
-    count: usize,
+    totals: &Totals,
 ) -> Result<Lists<A>, AllocError>
     requires { refusal_counted circuit.now ≡ None }
     ensures { IfOk result (HasLists circuit.now) }
 {
-    let detectors = detectors_of(alloc, circuit, count)?;
+    let count = totals.detectors as usize;
+    let detectors = detectors_of(alloc, circuit, count, totals.listed as usize)?;
     let observables = observables_of(alloc, circuit)?;
     let coordinates = coordinates_of(alloc, circuit, count)?;
     Ok(Lists {
@@ -60,7 +61,7 @@ fn parts_of<'a, A: Allocator + Copy>(
 {
     circuit.fits();
     let qubits = qubit_total(&circuit);
-    let lists = lists_of(alloc, &circuit, totals.detectors as usize)?;
+    let lists = lists_of(alloc, &circuit, &totals)?;
     let written = written_of(alloc, circuit)?;
     Ok(Parts {
         qubits,

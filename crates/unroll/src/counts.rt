@@ -1,5 +1,5 @@
 ghost use Rattle.std.specs.Prelude.{◌≡◌};
-ghost use Rattle.unroll.specs.private.MadeTotals.{faults_counted, steps_made, records_made, collapses_made, detectors_made};
+ghost use Rattle.unroll.specs.private.MadeTotals.{faults_counted, steps_made, records_made, collapses_made, detectors_made, records_listed};
 
 use stim_parser::Operation;
 
@@ -34,6 +34,17 @@ pub(crate) fn detectors_made(operation: Operation) -> usize
 {
     match operation {
         Operation::DetectorDeclaration => 1,
+        _ => 0,
+    }
+}
+
+/// Of this many targets, how many records a detector lists.
+#[inline(always)]
+pub(crate) fn records_listed(operation: Operation, targets: usize) -> usize
+    ensures { result ≡ records_listed operation targets }
+{
+    match operation {
+        Operation::DetectorDeclaration => targets,
         _ => 0,
     }
 }

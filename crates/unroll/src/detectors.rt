@@ -26,25 +26,25 @@ pub(crate) fn record_named(records: u64, target: Target) -> u32
     }
 }
 
-/// The records that targets name after this many records.
-fn records_named<A: Allocator + Copy>(
-    alloc: A,
+/// Puts the records that targets name after this many records into `named`, in place of what it held.
+fn name_records<A: Allocator + Copy>(
+    named: &mut Vec<u32, A>,
     records: u64,
     targets: &[Target],
-) -> Result<Vec<u32, A>, AllocError>
+) -> Result<(), AllocError>
     requires { records < 2 ^ 32 }
-    ensures { IfOk result (λ named. named.items ≡ records_named records targets.now) }
+    ensures { OnOk result (named.new.items ≡ records_named records targets.now) }
 {
-    let mut named = Vec::new(alloc);
+    named.clear();
     for target in targets {
         named.push(record_named(records, *target))?;
     }
-    Ok(named)
+    Ok(())
 }
 
-/// Appends the detector of an instruction after this many records, where it is one.
+/// Appends the detector of an instruction after this many records, where it is one. Its records are gathered in `named`.
 fn push_detector<A: Allocator + Copy>(
-    alloc: A,
+    named: &mut Vec<u32, A>,
     detectors: &mut FlatLists<u32, A>,
     records: u64,
     operation: Operation,
@@ -55,8 +55,8 @@ fn push_detector<A: Allocator + Copy>(
 {
     match operation {
         Operation::DetectorDeclaration => {
-            let named = records_named(alloc, records, targets)?;
-            detectors.push(&named)
+            name_records(named, records, targets)?;
+            detectors.push(named.as_slice())
         }
         _ => Ok(()),
     }
@@ -99,9 +99,9 @@ fn push_moved<A: Allocator + Copy>(
 }
 
 /// Appends what this many later turns of a block give. The lists from `first` on are those of its first turn, and each
-/// turn makes `by` records. No turn is gone over where the first gave nothing.
+/// turn makes `by` records. No turn is gone over where the first gave nothing. Records are gathered in `moved`.
 fn push_later_turns<A: Allocator + Copy>(
-    alloc: A,
+    moved: &mut Vec<u32, A>,
     lists: &mut FlatLists<u32, A>,
     first: usize,
     turns: u64,
@@ -115,26 +115,27 @@ fn push_later_turns<A: Allocator + Copy>(
     if end <= first {
         return Ok(());
     }
-    let mut moved = Vec::new(alloc);
     for turn in 0..turns {
-        push_moved(&mut moved, lists, first, end, ((turn + 1) * by) as u32)?;
+        push_moved(moved, lists, first, end, ((turn + 1) * by) as u32)?;
     }
     Ok(())
 }
 
 /// The records of each detector of a circuit, in the order in which the detectors are reached. Each instruction is gone
-/// over once. `count` says for how many detectors to make room first.
+/// over once. `count` says for how many detectors to make room first, and `listed` for how many records of theirs.
 pub(crate) fn detectors_of<A: Allocator + Copy>(
     alloc: A,
     circuit: &Circuit<'_, A>,
     count: usize,
+    listed: usize,
 ) -> Result<FlatLists<u32, A>, AllocError>
     requires near { first_far_from 0 circuit.now ≡ None }
     requires few { record_total circuit.now < 2 ^ 32 }
     ensures { IfOk result (λ detectors. detectors ≡ detectors_of circuit.now) }
 {
     circuit.fits();
-    let mut detectors = FlatLists::with_room(alloc, count)?;
+    let mut detectors = FlatLists::with_rooms(alloc, count, listed)?;
+    let mut room = Vec::new(alloc);
     let mut records: u64 = 0;
     let mut blocks: ArrayVec<OpenBlock<Mark<u64>>, LEVELS> = ArrayVec::new();
     for i in 0..circuit.len() {
@@ -142,7 +143,7 @@ pub(crate) fn detectors_of<A: Allocator + Copy>(
             Item::InstructionLine(instruction) => {
                 let operation = instruction.operation;
                 let targets = instruction.targets;
-                push_detector(alloc, &mut detectors, records, operation, targets)?;
+                push_detector(&mut room, &mut detectors, records, operation, targets)?;
                 records += records_made(operation, target_count(operation, targets)) as u64;
             }
             Item::BlockStart { turns, .. } => blocks.push(OpenBlock {
@@ -156,7 +157,7 @@ pub(crate) fn detectors_of<A: Allocator + Copy>(
                 let block = blocks.pop().unwrap();
                 let later = block.turns.saturating_sub(1);
                 let by = records.saturating_sub(block.before.place);
-                push_later_turns(alloc, &mut detectors, block.before.found, later, by)?;
+                push_later_turns(&mut room, &mut detectors, block.before.found, later, by)?;
                 records += later * by;
             }
         }

@@ -1,8 +1,11 @@
-ghost use Rattle.std.specs.Prelude.{◌≡◌, ◌+◌, ◌-◌, ◌*◌, ◌<◌, ◌≤◌, ◌^◌, ◌++◌, All, None, drop, length, map, slice_range, vec_len, IfOk, OnOk};
+ghost use Rattle.std.specs.Prelude.{◌≡◌, ◌+◌, ◌*◌, ◌<◌, ◌≤◌, ◌^◌, ◌++◌, [], All, None, drop, length, map, replicate, slice_index, slice_index_or, slice_range, IfOk, OnOk};
 ghost use Rattle.block_text.specs.Kept.{instruction_in};
-ghost use Rattle.block_text.specs.Reached.{reached};
-ghost use Rattle.unroll.specs.private.Gathered.{given, later};
-ghost use Rattle.unroll.specs.private.Including.{including, inclusion_moved, inclusion_of};
+ghost use Rattle.unroll.specs.TargetsMade.{record_named, records_named};
+ghost use Rattle.unroll.specs.Totals.{observable_total};
+ghost use Rattle.unroll.specs.private.Detecting.{records_moved};
+ghost use Rattle.unroll.specs.private.Gathered.{later};
+ghost use Rattle.unroll.specs.private.Including.{HaveTurned, notes_of, record_moved, with_closed, with_included, with_more, with_noted};
+ghost use Rattle.unroll.specs.private.Observables.{observables_of};
 ghost use Rattle.unroll.specs.private.Counted.{first_far_from};
 ghost use Rattle.unroll.specs.private.MadeTotals.{record_count, record_total};
 
@@ -12,133 +15,192 @@ use crate::marks::Mark;
 use crate::targets::target_count;
 use arrayvec::ArrayVec;
 use block_text::{LEVELS, OpenBlock};
+use flat_lists::ListRooms;
 use std::alloc::{AllocError, Allocator};
 use stim_parser::{Circuit, Instruction, Item, Operation, Target, first_number};
 
-/// A record that is added to an observable: the numbers of both.
+/// An observable to which an instruction adds, and how many records it had before.
 #[derive(Clone, Copy)]
-pub(crate) struct Inclusion {
-    pub observable: u64,
-    pub place: u32,
+pub(crate) struct Note {
+    pub observable: usize,
+    pub before: u32,
 }
 
-/// Appends the records that targets name after this many records, each added to this observable.
+/// Appends the records that targets name after this many records to the list of an observable.
 fn include_records<A: Allocator + Copy>(
-    inclusions: &mut Vec<Inclusion, A>,
-    observable: u64,
+    lists: &mut ListRooms<u32, A>,
+    observable: usize,
     records: u64,
     targets: &[Target],
 ) -> Result<(), AllocError>
-    requires { records < 2 ^ 32 }
-    ensures { OnOk result (inclusions.new.items ≡ inclusions.old.items ++ map (inclusion_of observable records) targets.now) }
+    requires there { observable < length lists.old }
+    requires few { records < 2 ^ 32 }
+    ensures { OnOk result (lists.new ≡ with_more observable (records_named records targets.now) lists.old) }
 {
     for target in targets {
-        inclusions.push(Inclusion {
-            observable,
-            place: record_named(records, *target),
-        })?;
+        lists.push(observable, record_named(records, *target))?;
     }
     Ok(())
 }
 
-/// Appends what an instruction adds to observables after this many records.
-fn push_inclusions<A: Allocator + Copy>(
-    inclusions: &mut Vec<Inclusion, A>,
+/// Appends what an instruction adds to an observable after this many records, where that has a list, and a note of it.
+fn include<A: Allocator + Copy>(
+    lists: &mut ListRooms<u32, A>,
+    notes: &mut Vec<Note, A>,
     records: u64,
     instruction: Instruction<'_, '_>,
 ) -> Result<(), AllocError>
     requires { records < 2 ^ 32 }
-    ensures { OnOk result (inclusions.new.items ≡ inclusions.old.items ++ including.gives records (instruction_in instruction.entry)) }
+    ensures lists { OnOk result (lists.new ≡ with_included records (instruction_in instruction.entry) lists.old) }
+    ensures notes { OnOk result (notes.new.items ≡ notes.old.items ++ notes_of (instruction_in instruction.entry) lists.old) }
 {
     match instruction.operation {
         Operation::ObservableInclude => {
-            let observable = first_number(instruction.arguments).unwrap_or(0);
-            include_records(inclusions, observable, records, instruction.targets)
+            let named = first_number(instruction.arguments).unwrap_or(0);
+            if named < lists.lengths().len() as u64 {
+                let observable = named as usize;
+                let before = lists.lengths()[observable];
+                notes.push(Note { observable, before })?;
+                include_records(lists, observable, records, instruction.targets)
+            } else {
+                Ok(())
+            }
         }
         _ => Ok(()),
     }
 }
 
-/// Appends copies of the inclusions from place `first` up to `end`, with the number of each record greater by `by`.
-fn push_moved<A: Allocator + Copy>(
-    inclusions: &mut Vec<Inclusion, A>,
+/// Appends copies of an observable's records from place `first` up to `end`, the number of each greater by `by`.
+fn include_moved<A: Allocator + Copy>(
+    lists: &mut ListRooms<u32, A>,
+    observable: usize,
     first: usize,
     end: usize,
     by: u32,
 ) -> Result<(), AllocError>
+    requires there { observable < length lists.old }
     requires ordered { first ≤ end }
-    requires within { end ≤ vec_len inclusions.old }
-    requires small { All (λ x. x.place + by < 2 ^ 32) (slice_range inclusions.old.items first end) }
-    ensures { OnOk result (inclusions.new.items ≡ inclusions.old.items ++ map (inclusion_moved by) (slice_range inclusions.old.items first end)) }
+    requires within { end ≤ length (slice_index_or lists.old observable []) }
+    requires small { All (λ r. r + by < 2 ^ 32) (slice_range (slice_index_or lists.old observable []) first end) }
+    ensures { OnOk result (lists.new ≡ with_more observable (records_moved by (slice_range (slice_index_or lists.old observable []) first end)) lists.old) }
 {
-    for k in first..end {
-        let Inclusion { observable, place } = inclusions[k];
-        inclusions.push(Inclusion {
-            observable,
-            place: place + by,
-        })?;
+    for place in first..end {
+        let record = lists.get(observable)[place];
+        lists.push(observable, record + by)?;
     }
     Ok(())
 }
 
-/// Appends what this many later turns of a block give. The inclusions from `first` on are those of its first turn, and
-/// each turn makes `by` records. No turn is gone over where the first gave nothing.
-fn push_later_turns<A: Allocator + Copy>(
-    inclusions: &mut Vec<Inclusion, A>,
+/// Appends what this many later turns of a block add to an observable. Its records from `first` on are those of the first
+/// turn, and each turn makes `by` records. No turn is gone over where the first added nothing.
+fn include_later_turns<A: Allocator + Copy>(
+    lists: &mut ListRooms<u32, A>,
+    observable: usize,
     first: usize,
     turns: u64,
     by: u64,
 ) -> Result<(), AllocError>
+    requires there { observable < length lists.old }
     requires few { turns * by < 2 ^ 32 }
-    requires small { All (λ x. x.place + turns * by < 2 ^ 32) inclusions.old.items }
-    ensures { OnOk result (inclusions.new.items ≡ inclusions.old.items ++ later (λ n. inclusion_moved (n * by)) turns (drop first inclusions.old.items)) }
+    requires small { All (λ r. r + turns * by < 2 ^ 32) (slice_index_or lists.old observable []) }
+    ensures { OnOk result (lists.new ≡ with_more observable (later (λ n. record_moved (n * by)) turns (drop first (slice_index_or lists.old observable []))) lists.old) }
 {
-    let end = inclusions.len();
+    let end = lists.get(observable).len();
     if end <= first {
         return Ok(());
     }
     for turn in 0..turns {
-        push_moved(inclusions, first, end, ((turn + 1) * by) as u32)?;
+        include_moved(lists, observable, first, end, ((turn + 1) * by) as u32)?;
     }
     Ok(())
 }
 
-/// Each record that a circuit adds to an observable, in the order in which the instructions are reached. Each
+/// Appends what this many later turns of a block add to the observable of a note, the first of it in the block. Not where
+/// this was done at the same block end: `closed` says at which one it was last done for each observable.
+fn include_noted<A: Allocator + Copy>(
+    lists: &mut ListRooms<u32, A>,
+    closed: &mut Vec<usize, A>,
+    end: usize,
+    note: Note,
+    turns: u64,
+    by: u64,
+) -> Result<(), AllocError>
+    requires there { note.observable < length lists.old }
+    requires each { length closed.old.items ≡ length lists.old }
+    requires few { turns * by < 2 ^ 32 }
+    requires small { slice_index closed.old.items note.observable < end → All (λ r. r + turns * by < 2 ^ 32) (slice_index_or lists.old note.observable []) }
+    ensures lists { OnOk result (lists.new ≡ with_noted turns by closed.old.items end note lists.old) }
+    ensures closed { OnOk result (closed.new.items ≡ with_closed closed.old.items end note) }
+{
+    if closed[note.observable] >= end {
+        return Ok(());
+    }
+    closed[note.observable] = end;
+    include_later_turns(lists, note.observable, note.before as usize, turns, by)
+}
+
+/// Appends what this many later turns of a block add to observables. The notes are those of the first turn.
+fn include_all_noted<A: Allocator + Copy>(
+    lists: &mut ListRooms<u32, A>,
+    closed: &mut Vec<usize, A>,
+    end: usize,
+    notes: &[Note],
+    turns: u64,
+    by: u64,
+) -> Result<(), AllocError>
+    requires there { All (λ note. note.observable < length lists.old) notes.now }
+    requires each { length closed.old.items ≡ length lists.old }
+    requires early { All (λ last. last < end) closed.old.items }
+    requires few { turns * by < 2 ^ 32 }
+    requires small { All (All (λ r. r + turns * by < 2 ^ 32)) lists.old }
+    ensures { OnOk result (HaveTurned turns by end notes.now lists.old lists.new closed.new.items) }
+{
+    for note in notes {
+        include_noted(lists, closed, end, *note, turns, by)?;
+    }
+    Ok(())
+}
+
+/// The lists with the records that a circuit adds to each observable, in the order in which they are added. Each
 /// instruction is gone over once.
-pub(crate) fn inclusions_of<A: Allocator + Copy>(
+pub(crate) fn included<A: Allocator + Copy>(
     alloc: A,
     circuit: &Circuit<'_, A>,
-) -> Result<Vec<Inclusion, A>, AllocError>
+    mut lists: ListRooms<u32, A>,
+) -> Result<ListRooms<u32, A>, AllocError>
     requires near { first_far_from 0 circuit.now ≡ None }
     requires few { record_total circuit.now < 2 ^ 32 }
-    ensures { IfOk result (λ inclusions. inclusions.items ≡ given including 0 (reached circuit.now)) }
+    requires empty { lists ≡ replicate (observable_total circuit.now) [] }
+    ensures { IfOk result (λ lists. lists ≡ observables_of circuit.now) }
 {
     circuit.fits();
-    let mut inclusions = Vec::new(alloc);
+    let mut notes = Vec::new(alloc);
+    let mut closed = Vec::from_elem(alloc, 0, lists.lengths().len())?;
     let mut records: u64 = 0;
     let mut blocks: ArrayVec<OpenBlock<Mark<u64>>, LEVELS> = ArrayVec::new();
     for i in 0..circuit.len() {
         match circuit.item(i) {
             Item::InstructionLine(instruction) => {
-                push_inclusions(&mut inclusions, records, instruction)?;
+                include(&mut lists, &mut notes, records, instruction)?;
                 let targets = target_count(instruction.operation, instruction.targets);
                 records += records_made(instruction.operation, targets) as u64;
             }
-            Item::BlockStart { turns, .. } => blocks.push(OpenBlock {
-                turns,
-                before: Mark {
+            Item::BlockStart { turns, .. } => {
+                let before = Mark {
                     place: records,
-                    found: inclusions.len(),
-                },
-            }),
+                    found: notes.len(),
+                };
+                blocks.push(OpenBlock { turns, before });
+            }
             Item::BlockEnd => {
                 let block = blocks.pop().unwrap();
                 let later = block.turns.saturating_sub(1);
                 let by = records.saturating_sub(block.before.place);
-                push_later_turns(&mut inclusions, block.before.found, later, by)?;
+                let noted = &notes[block.before.found..];
+                include_all_noted(&mut lists, &mut closed, i + 1, noted, later, by)?;
                 records += later * by;
             }
         }
     }
-    Ok(inclusions)
+    Ok(lists)
 }

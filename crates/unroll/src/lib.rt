@@ -16,6 +16,7 @@ mod qubits;
 mod reading;
 mod refusals;
 mod shifts;
+mod sizes;
 mod steps;
 mod targets;
 mod totals;

@@ -6,7 +6,9 @@ ghost use Rattle.unroll.specs.private.Passes.{CanStand, Passes};
 ghost use Rattle.unroll.specs.private.Summed.{AreTotals, capped_sum, far_line_after, nothing_summed, repeated_sum, summing, totals_after, totals_repeated};
 ghost use Rattle.unroll.specs.private.MadeTotals.{fault_count, has_argument};
 
-use crate::counts::{collapses_made, detectors_made, faults_counted, records_made, steps_made};
+use crate::counts::{
+    collapses_made, detectors_made, faults_counted, records_listed, records_made, steps_made,
+};
 use crate::targets::{reaches_far, target_count};
 use arrayvec::ArrayVec;
 use block_text::{LEVELS, OpenBlock};
@@ -14,13 +16,14 @@ use std::alloc::Allocator;
 use stim_parser::{Circuit, Instruction, Item};
 
 /// What a circuit takes up to a place of its text, at the first turn of the blocks that are open there: what counts
-/// towards its limits, its faults, the steps that its program has, and the first line that reaches back before the
+/// towards its limits, the records that its detectors list, its faults, the steps that its program has, and the first line that reaches back before the
 /// first record. A sum that doesn't fit stays at the greatest number that does.
 #[derive(Clone, Copy, Default)]
 pub(crate) struct Totals {
     pub records: u64,
     pub collapses: u64,
     pub detectors: u64,
+    pub listed: u64,
     pub faults: u64,
     pub steps: u64,
     pub made: u64,
@@ -93,6 +96,7 @@ impl Totals {
             records: 0,
             collapses: 0,
             detectors: 0,
+            listed: 0,
             faults: 0,
             steps: 0,
             made: 0,
@@ -110,6 +114,7 @@ impl Totals {
             records: capped_sum(self.records, records_made(operation, targets)),
             collapses: capped_sum(self.collapses, collapses_made(operation, targets)),
             detectors: capped_sum(self.detectors, detectors_made(operation)),
+            listed: capped_sum(self.listed, records_listed(operation, targets)),
             faults: capped_sum(self.faults, fault_count(instruction)),
             steps: capped_sum(self.steps, 1 + targets),
             made: capped_sum(self.made, steps_made(operation, targets)),
@@ -125,6 +130,7 @@ impl Totals {
             records: repeated_sum(turns, before.records, self.records),
             collapses: repeated_sum(turns, before.collapses, self.collapses),
             detectors: repeated_sum(turns, before.detectors, self.detectors),
+            listed: repeated_sum(turns, before.listed, self.listed),
             faults: repeated_sum(turns, before.faults, self.faults),
             steps: repeated_sum(turns, before.steps, self.steps.saturating_add(1)),
             made: repeated_sum(turns, before.made, self.made),

@@ -1,51 +1,39 @@
--- What is added to a circuit's observables as one pass gathers it: an instruction adds each record that it names to one
+-- What is added to each observable as one pass gathers it: an instruction adds each record that it names to one
 -- observable, and in a later turn of a block the number of each record is greater by as many as the turns before it
--- make. What is added is sorted by observable at the end. (Stim's gate reference, github.com/quantumlib/Stim,
--- doc/gates.md, "OBSERVABLE_INCLUDE".)
-use Rattle.std.specs.Prelude.{ℕ, ◌+◌, ◌-◌, ◌*◌, ◌==◌, nat_lt, if◌then◌else◌, List, [], ◌∷◌, ◌++◌, length, map, slice_index_or, slice_set, unwrap_or}
-use Rattle.std.specs.List.{filter, range_with_len}
+-- make. (Stim's gate reference, github.com/quantumlib/Stim, doc/gates.md, "OBSERVABLE_INCLUDE".)
+use Rattle.std.specs.Prelude.{◌≡◌, ℕ, ◌+◌, ◌-◌, ◌*◌, ◌<◌, ◌≤◌, ◌==◌, nat_lt, Bool, true, false, if◌then◌else◌, All, List, [], ◌∷◌, ◌++◌, drop, length, slice_index, slice_index_or, slice_set, min, replicate, ◌^◌, unwrap_or}
 use Rattle.stim_parser.specs.declared.operation.Operation.{Operation}
 use Rattle.stim_parser.specs.declared.operation.Operation.TheVariants.{ObservableInclude}
 use Rattle.stim_parser.specs.declared.target.Target.{Target}
 use Rattle.stim_parser.specs.Coordinates.{first_number}
 use Rattle.stim_parser.specs.Texts.{Item}
+use Rattle.stim_parser.specs.Verdicts.{Instruction}
 use Rattle.block_text.specs.Trees.{InstructionLine}
-use Rattle.unroll.specs.declared.inclusions.Inclusion.{Inclusion}
+use Rattle.unroll.specs.declared.inclusions.Note.{Note}
 use Rattle.unroll.specs.private.Detecting.{records_after, records_onward}
-use Rattle.unroll.specs.TargetsMade.{record_named}
-use Rattle.unroll.specs.private.Gathered.{Gathering}
+use Rattle.unroll.specs.TargetsMade.{records_named}
+use Rattle.unroll.specs.private.Gathered.{Gathering, later}
+use Rattle.unroll.specs.private.Observables.{instruction_adds}
 
--- the record that a target names after this many records, as it is added to an observable
-abbrev pub inclusion_of : ℕ → ℕ → Target → Inclusion
-inclusion_of k r target = record { observable = k; place = record_named r target }
+-- the number of a record, greater by d
+abbrev pub record_moved : ℕ → ℕ → ℕ
+record_moved d r = r + d
+
+-- what a pass gathers of the observable k
+abbrev pub including : ℕ → Gathering ℕ ℕ
+including k =
+    record {
+      next = records_after;
+      gives = instruction_adds k;
+      onward = records_onward;
+      moved = λ n before after. record_moved (n * (after - before));
+    }
+
+-- ---- how many observables there are
 
 -- the observable that an instruction with these arguments names
 abbrev pub observable_named : List (List ℕ) → ℕ
 observable_named arguments = unwrap_or (first_number arguments) 0
-
-abbrev pub operation_inclusions : ℕ → Operation → List (List ℕ) → List Target → List Inclusion
-operation_inclusions r ObservableInclude arguments targets = map (inclusion_of (observable_named arguments) r) targets
-operation_inclusions r operation arguments targets = []
-
--- an inclusion, with the number of its record greater by d
-abbrev pub inclusion_moved : ℕ → Inclusion → Inclusion
-inclusion_moved d x = record { observable = x.observable; place = x.place + d }
-
--- what a pass gathers of observables
-abbrev pub including : Gathering ℕ Inclusion
-including =
-    record {
-      next = records_after;
-      gives = λ r i. operation_inclusions r i.operation i.arguments i.targets;
-      onward = records_onward;
-      moved = λ n before after. inclusion_moved (n * (after - before));
-    }
-
--- the records that are added to one observable
-abbrev pub places_of : ℕ → List Inclusion → List ℕ
-places_of k inclusions = map (λ x. x.place) (filter (λ x. x.observable == k) inclusions)
-
--- ---- how many observables there are
 
 -- one more than the observable that an operation names
 abbrev pub named_to : Operation → List (List ℕ) → ℕ
@@ -56,13 +44,88 @@ abbrev pub item_observables : Item → ℕ
 item_observables (InstructionLine i) = named_to i.operation i.arguments
 item_observables item = 0
 
--- ---- sorted by observable
+-- ---- the lists of all observables
 
--- the records that are added to each of this many observables
-abbrev pub told_apart : ℕ → List Inclusion → List (List ℕ)
-told_apart count inclusions = map (λ k. places_of k inclusions) (range_with_len 0 count)
+-- with more records of one observable
+abbrev pub with_more : ℕ → List ℕ → List (List ℕ) → List (List ℕ)
+with_more k records lists = slice_set lists k (slice_index_or lists k [] ++ records)
 
--- lists with one inclusion more, where its observable has a list
-abbrev pub with_place : Inclusion → List (List ℕ) → List (List ℕ)
-with_place x lists =
-    if nat_lt x.observable (length lists) then slice_set lists x.observable (slice_index_or lists x.observable [] ++ x.place ∷ []) else lists
+-- with what an operation adds after this many records, where its observable has a list
+abbrev pub with_added : ℕ → Operation → List (List ℕ) → List Target → List (List ℕ) → List (List ℕ)
+with_added r ObservableInclude arguments targets lists =
+    if nat_lt (observable_named arguments) (length lists) then with_more (observable_named arguments) (records_named r targets) lists else lists
+with_added r operation arguments targets lists = lists
+
+abbrev pub with_included : ℕ → Instruction → List (List ℕ) → List (List ℕ)
+with_included r i lists = with_added r i.operation i.arguments i.targets lists
+
+-- ---- how many records are added to each
+
+-- a number, or the greatest of 64 bits or of 32 where it is greater
+abbrev pub at_most_64 : ℕ → ℕ
+at_most_64 n = min n (2 ^ 64 - 1)
+
+abbrev pub at_most_32 : ℕ → ℕ
+at_most_32 n = min n (2 ^ 32 - 1)
+
+-- counts for this many observables at least
+abbrev pub grown : ℕ → List ℕ → List ℕ
+grown named sizes = sizes ++ replicate (named - length sizes) 0
+
+-- the counts with more of the last of this many observables
+abbrev pub with_size : ℕ → ℕ → List ℕ → List ℕ
+with_size named more sizes = slice_set (grown named sizes) (named - 1) (at_most_32 (at_most_64 (slice_index sizes (named - 1) + more)))
+
+-- the counts with what an instruction adds that is reached so many times
+abbrev pub with_counted : ℕ → Instruction → List ℕ → List ℕ
+with_counted times i sizes =
+    let named = named_to i.operation i.arguments in
+    if named == 0 then sizes else with_size named (at_most_64 (times * length i.targets)) sizes
+
+-- ---- what instructions of the text note: an observable, and how many records it had before
+
+abbrev pub note_of : ℕ → List (List ℕ) → Note
+note_of k lists = record { observable = k; before = length (slice_index_or lists k []) }
+
+abbrev pub operation_notes : Operation → List (List ℕ) → List (List ℕ) → List Note
+operation_notes ObservableInclude arguments lists =
+    if nat_lt (observable_named arguments) (length lists) then note_of (observable_named arguments) lists ∷ [] else []
+operation_notes operation arguments lists = []
+
+abbrev pub notes_of : Instruction → List (List ℕ) → List Note
+notes_of i lists = operation_notes i.operation i.arguments lists
+
+-- how many records an observable had before the first note of it, which is how many it has where there is none
+abbrev pub first_before : ℕ → List Note → ℕ → ℕ
+first_before k [] now = now
+first_before k (note ∷ notes) now = if note.observable == k then note.before else first_before k notes now
+
+-- whether there is a note of an observable
+abbrev pub is_noted : ℕ → List Note → Bool
+is_noted k [] = false
+is_noted k (note ∷ notes) = if note.observable == k then true else is_noted k notes
+
+-- ---- the later turns of a block
+
+-- records with what so many later turns add, where there were so many before the first turn, and each turn makes `by`
+abbrev pub with_later : ℕ → ℕ → ℕ → List ℕ → List ℕ
+with_later turns by before records = records ++ later (λ n. record_moved (n * by)) turns (drop before records)
+
+-- the lists with what is added to the observable of a note, unless that was done at this end of a block
+abbrev pub with_noted : ℕ → ℕ → List ℕ → ℕ → Note → List (List ℕ) → List (List ℕ)
+with_noted turns by closed end note lists =
+    if nat_lt (slice_index closed note.observable) end then with_more note.observable (later (λ n. record_moved (n * by)) turns (drop note.before (slice_index_or lists note.observable []))) lists else lists
+
+-- at which end of a block each observable was last added to
+abbrev pub with_closed : List ℕ → ℕ → Note → List ℕ
+with_closed closed end note = if nat_lt (slice_index closed note.observable) end then slice_set closed note.observable end else closed
+
+-- the lists with what so many later turns of a block add to the observables of these notes, and which of them were added
+-- to at this end of a block
+pub record HaveTurned (turns by end : ℕ) (notes : List Note) (old new : List (List ℕ)) (closed : List ℕ) : Type 0 where
+  pub count : length new ≡ length old
+  pub turned : (k : ℕ) → k < length old → slice_index_or new k [] ≡ with_later turns by (first_before k notes (length (slice_index_or old k []))) (slice_index_or old k [])
+  pub each : length closed ≡ length old
+  pub late : All (λ last. last ≤ end) closed
+  pub open_still : (k : ℕ) → k < length old → slice_index closed k < end → is_noted k notes ≡ false
+  pub closed_now : (k : ℕ) → k < length old → end ≤ slice_index closed k → is_noted k notes ≡ true

@@ -25,6 +25,11 @@ abbrev pub detectors_made : Operation → ℕ
 detectors_made DetectorDeclaration = 1
 detectors_made operation = 0
 
+-- of this many targets, how many records a detector lists
+abbrev pub records_listed : Operation → ℕ → ℕ
+records_listed DetectorDeclaration targets = targets
+records_listed operation targets = 0
+
 -- what an instruction counts towards the limits: steps, records, collapses and detectors
 abbrev pub step_count : Instruction → ℕ
 step_count i = 1 + target_count i.operation i.targets
@@ -37,6 +42,10 @@ collapse_count i = collapses_made i.operation (target_count i.operation i.target
 
 abbrev pub detector_count : Instruction → ℕ
 detector_count i = detectors_made i.operation
+
+-- how many records an instruction lists, where it is a detector
+abbrev pub listed_count : Instruction → ℕ
+listed_count i = records_listed i.operation (target_count i.operation i.targets)
 
 -- the same of a tree
 abbrev pub record_total : Tree → ℕ

@@ -9,7 +9,7 @@ use Rattle.unroll.specs.private.Passes.{Pass}
 use Rattle.unroll.specs.Refusals.{reaches_far}
 use Rattle.unroll.specs.private.Counted.{first_far_from}
 use Rattle.unroll.specs.Totals.{step_total}
-use Rattle.unroll.specs.private.MadeTotals.{fault_count, fault_total, made_count, made_total, collapse_count, collapse_total, detector_count, detector_total, record_count, record_total, step_count}
+use Rattle.unroll.specs.private.MadeTotals.{fault_count, fault_total, made_count, made_total, collapse_count, collapse_total, detector_count, detector_total, listed_count, record_count, record_total, step_count}
 
 abbrev pub greatest : ℕ
 greatest = 2 ^ 64 - 1
@@ -29,7 +29,7 @@ far_line_after r i (Some line) = Some line
 
 abbrev pub nothing_summed : Totals
 nothing_summed =
-    record { records = 0; collapses = 0; detectors = 0; faults = 0; steps = 0; made = 0; far_line = None }
+    record { records = 0; collapses = 0; detectors = 0; listed = 0; faults = 0; steps = 0; made = 0; far_line = None }
 
 -- the totals after one more instruction
 abbrev pub totals_after : Instruction → Totals → Totals
@@ -38,6 +38,7 @@ totals_after i t =
       records = capped_sum t.records (record_count i);
       collapses = capped_sum t.collapses (collapse_count i);
       detectors = capped_sum t.detectors (detector_count i);
+      listed = capped_sum t.listed (listed_count i);
       faults = capped_sum t.faults (fault_count i);
       steps = capped_sum t.steps (step_count i);
       made = capped_sum t.made (made_count i);
@@ -51,6 +52,7 @@ totals_repeated turns before after =
       records = repeated_sum turns before.records after.records;
       collapses = repeated_sum turns before.collapses after.collapses;
       detectors = repeated_sum turns before.detectors after.detectors;
+      listed = repeated_sum turns before.listed after.listed;
       faults = repeated_sum turns before.faults after.faults;
       steps = repeated_sum turns before.steps (capped_sum after.steps 1);
       made = repeated_sum turns before.made after.made;

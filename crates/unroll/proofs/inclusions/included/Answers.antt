@@ -1,0 +1,174 @@
+use Rattle.std.proofs.Common.{◌≡◌, ◌+◌, ◌-◌, ◌*◌, ◌<◌, ◌++◌, [], ◌∷◌, ℕ, List, length, take, drop, replicate, refl, ap, ◌∙◌, subst, sym, arith}
+use Rattle.std.specs.Prelude.{All}
+use Rattle.std.proofs.lemmas.List.{length-map, length-replicate}
+use Rattle.block_text.specs.Kept.{instruction_in}
+use Rattle.unroll.specs.declared.inclusions.Note.{Note}
+use Rattle.unroll.specs.Totals.{observable_total}
+use Rattle.unroll.specs.private.Including.{notes_of, with_included}
+use Rattle.unroll.specs.private.MadeTotals.{record_count, records_made}
+use Rattle.unroll.proofs.CountLemmas.{HasPopped}
+use Rattle.unroll.proofs.IncludingLoops.{including-begins, including-does, including-does_few, including-done, including-early, including-ends, including-ends_few, including-few, including-first, including-nested, including-room, including-same, including-small, including-some, including-there, noting_block, tail-is}
+use Rattle.unroll.proofs.inclusions.included.Goals as goal
+use Rattle.unroll.proofs.inclusions.included.Goals.{in-InstructionLine+in_ok-include-in-InstructionLine, in-BlockStart, in-BlockEnd+in_ok-include_all_noted-in-BlockEnd}
+
+pub loop-i-init : goal.loop-i-init
+loop-i-init g c =
+    let n = observable_total c.args.circuit.now in
+    let count : length c.lengths.result.now ≡ n = ap length c.lengths.ensures ∙ length-map c.args.lists length ∙ ap length c.requires.empty ∙ length-replicate n [] in
+    let zeros : c.in_ok-closed.closed.items ≡ replicate n 0 = c.in_ok-closed.ensures.items_if_clones_equal (λ y h. h) ∙ ap (λ (m : ℕ). replicate m 0) count in
+    including-first c.args.circuit.now n c.args.lists c.new-notes.result.items c.in_ok-closed.closed.items c.new-blocks.result.items c.fits.ensures c.requires.near c.requires.empty c.new-notes.ensures.items zeros c.new-blocks.ensures
+
+pub include-requires : goal.include-requires
+include-requires g c =
+    let t = c.args.circuit.now in
+    let n = observable_total t in
+    let few = including-few t c.loop-i.i c.loop-i.records n c.loop-i.lists c.loop-i.notes.items c.loop-i.closed.items c.loop-i.blocks.items c.loop-i.invariant in
+    omega (arith, few, c.requires.few)
+
+pub overflow_add-records : goal.overflow_add-records
+overflow_add-records g c =
+    let t = c.args.circuit.now in
+    let n = observable_total t in
+    let few = including-does_few t c.loop-i.i c.loop-i.records n c.loop-i.lists c.loop-i.notes.items c.loop-i.closed.items c.loop-i.blocks.items (instruction_in c.in-InstructionLine.instruction) c.loop-i.invariant c.in-InstructionLine.ensures in
+    let made = c.records_made.ensures ∙ ap (records_made c.in-InstructionLine.instruction.operation) c.target_count-targets.ensures.value in
+    omega (arith, few, made, c.requires.few)
+
+pub push-requires : goal.push-requires
+push-requires g c =
+    let t = c.args.circuit.now in
+    let n = observable_total t in
+    (omega arith, including-room t c.loop-i.i c.loop-i.records n c.loop-i.lists c.loop-i.notes.items c.loop-i.closed.items c.loop-i.blocks.items c.in-BlockStart.line c.in-BlockStart.turns c.loop-i.invariant c.in-BlockStart.ensures)
+
+pub unwrap-block-requires : goal.unwrap-block-requires
+unwrap-block-requires g c =
+    let t = c.args.circuit.now in
+    let n = observable_total t in
+    c.pop.ensures.variant.1 (including-some t c.loop-i.i c.loop-i.records n c.loop-i.lists c.loop-i.notes.items c.loop-i.closed.items c.loop-i.blocks.items c.loop-i.invariant c.in-BlockEnd.ensures)
+
+pub offset_bounds-deref-block : goal.offset_bounds-deref-block
+offset_bounds-deref-block g c =
+    let t = c.args.circuit.now in
+    let n = observable_total t in
+    let popped : HasPopped c.loop-i.blocks.items c.pop.new.self.items c.pop.result c.unwrap-block.result c.loop-i.records c.saturating_sub-later.result c.saturating_sub-by.result = record { rest_is = c.pop.ensures.items; block_is = c.unwrap-block.ensures; turns_is = c.saturating_sub-later.ensures; by_is = c.saturating_sub-by.ensures } in
+    let nest = including-nested t c.loop-i.i c.loop-i.records n c.loop-i.lists c.loop-i.notes.items c.loop-i.closed.items c.loop-i.blocks.items c.pop.new.self.items c.pop.result c.unwrap-block.result c.saturating_sub-later.result c.saturating_sub-by.result c.loop-i.invariant popped in
+    omega (arith, nest.within, ap length c.deref.ensures.value, c.deref.type_inv.1)
+
+pub slice_bounds-noted-count : goal.slice_bounds-noted-count
+slice_bounds-noted-count g c =
+    let t = c.args.circuit.now in
+    let n = observable_total t in
+    let popped : HasPopped c.loop-i.blocks.items c.pop.new.self.items c.pop.result c.unwrap-block.result c.loop-i.records c.saturating_sub-later.result c.saturating_sub-by.result = record { rest_is = c.pop.ensures.items; block_is = c.unwrap-block.ensures; turns_is = c.saturating_sub-later.ensures; by_is = c.saturating_sub-by.ensures } in
+    let nest = including-nested t c.loop-i.i c.loop-i.records n c.loop-i.lists c.loop-i.notes.items c.loop-i.closed.items c.loop-i.blocks.items c.pop.new.self.items c.pop.result c.unwrap-block.result c.saturating_sub-later.result c.saturating_sub-by.result c.loop-i.invariant popped in
+    omega (arith, nest.within, ap length c.deref.ensures.value)
+
+pub slice_bounds-noted-start : goal.slice_bounds-noted-start
+slice_bounds-noted-start g c =
+    let t = c.args.circuit.now in
+    let n = observable_total t in
+    let popped : HasPopped c.loop-i.blocks.items c.pop.new.self.items c.pop.result c.unwrap-block.result c.loop-i.records c.saturating_sub-later.result c.saturating_sub-by.result = record { rest_is = c.pop.ensures.items; block_is = c.unwrap-block.ensures; turns_is = c.saturating_sub-later.ensures; by_is = c.saturating_sub-by.ensures } in
+    let nest = including-nested t c.loop-i.i c.loop-i.records n c.loop-i.lists c.loop-i.notes.items c.loop-i.closed.items c.loop-i.blocks.items c.pop.new.self.items c.pop.result c.unwrap-block.result c.saturating_sub-later.result c.saturating_sub-by.result c.loop-i.invariant popped in
+    omega (arith, nest.within, ap length c.deref.ensures.value)
+
+pub include_all_noted-requires-clause-there : goal.include_all_noted-requires-clause-there
+include_all_noted-requires-clause-there g c =
+    let t = c.args.circuit.now in
+    let n = observable_total t in
+    let tail : take (length c.deref.result.now - c.unwrap-block.result.before.found) (drop c.unwrap-block.result.before.found c.deref.result.now) ≡ drop c.unwrap-block.result.before.found c.loop-i.notes.items = ap (λ (xs : List Note). take (length xs - c.unwrap-block.result.before.found) (drop c.unwrap-block.result.before.found xs)) c.deref.ensures.value ∙ tail-is c.loop-i.notes.items c.unwrap-block.result.before.found in
+    subst (All (λ (note : Note). note.observable < length c.loop-i.lists)) (sym tail)
+    (including-there t c.loop-i.i c.loop-i.records n c.unwrap-block.result.before.found c.loop-i.lists c.loop-i.notes.items c.loop-i.closed.items c.loop-i.blocks.items c.loop-i.invariant)
+
+pub include_all_noted-requires-clause-each : goal.include_all_noted-requires-clause-each
+include_all_noted-requires-clause-each g c = c.loop-i.invariant.closings ∙ sym c.loop-i.invariant.count
+
+pub include_all_noted-requires-clause-early : goal.include_all_noted-requires-clause-early
+include_all_noted-requires-clause-early g c =
+    let t = c.args.circuit.now in
+    let n = observable_total t in
+    including-early t c.loop-i.i c.loop-i.records n c.loop-i.lists c.loop-i.notes.items c.loop-i.closed.items c.loop-i.blocks.items c.loop-i.invariant
+
+pub include_all_noted-requires-clause-few : goal.include_all_noted-requires-clause-few
+include_all_noted-requires-clause-few g c =
+    let t = c.args.circuit.now in
+    let n = observable_total t in
+    let popped : HasPopped c.loop-i.blocks.items c.pop.new.self.items c.pop.result c.unwrap-block.result c.loop-i.records c.saturating_sub-later.result c.saturating_sub-by.result = record { rest_is = c.pop.ensures.items; block_is = c.unwrap-block.ensures; turns_is = c.saturating_sub-later.ensures; by_is = c.saturating_sub-by.ensures } in
+    let few = including-ends_few t c.loop-i.i c.loop-i.records n c.loop-i.lists c.loop-i.notes.items c.loop-i.closed.items c.loop-i.blocks.items c.pop.new.self.items c.pop.result c.unwrap-block.result c.saturating_sub-later.result c.saturating_sub-by.result c.loop-i.invariant c.in-BlockEnd.ensures popped in
+    omega (arith, few, c.requires.few)
+
+pub include_all_noted-requires-clause-small : goal.include_all_noted-requires-clause-small
+include_all_noted-requires-clause-small g c =
+    let t = c.args.circuit.now in
+    let n = observable_total t in
+    let popped : HasPopped c.loop-i.blocks.items c.pop.new.self.items c.pop.result c.unwrap-block.result c.loop-i.records c.saturating_sub-later.result c.saturating_sub-by.result = record { rest_is = c.pop.ensures.items; block_is = c.unwrap-block.ensures; turns_is = c.saturating_sub-later.ensures; by_is = c.saturating_sub-by.ensures } in
+    let few = including-ends_few t c.loop-i.i c.loop-i.records n c.loop-i.lists c.loop-i.notes.items c.loop-i.closed.items c.loop-i.blocks.items c.pop.new.self.items c.pop.result c.unwrap-block.result c.saturating_sub-later.result c.saturating_sub-by.result c.loop-i.invariant c.in-BlockEnd.ensures popped in
+    including-small t c.loop-i.i c.loop-i.records n (c.saturating_sub-later.result * c.saturating_sub-by.result) 4294967296 c.loop-i.lists c.loop-i.notes.items c.loop-i.closed.items c.loop-i.blocks.items c.loop-i.invariant (omega (arith, few, c.requires.few))
+
+pub overflow_mul-records : goal.overflow_mul-records
+overflow_mul-records g c =
+    let t = c.args.circuit.now in
+    let n = observable_total t in
+    let popped : HasPopped c.loop-i.blocks.items c.pop.new.self.items c.pop.result c.unwrap-block.result c.loop-i.records c.saturating_sub-later.result c.saturating_sub-by.result = record { rest_is = c.pop.ensures.items; block_is = c.unwrap-block.ensures; turns_is = c.saturating_sub-later.ensures; by_is = c.saturating_sub-by.ensures } in
+    let few = including-ends_few t c.loop-i.i c.loop-i.records n c.loop-i.lists c.loop-i.notes.items c.loop-i.closed.items c.loop-i.blocks.items c.pop.new.self.items c.pop.result c.unwrap-block.result c.saturating_sub-later.result c.saturating_sub-by.result c.loop-i.invariant c.in-BlockEnd.ensures popped in
+    omega (arith, few, c.requires.few)
+
+pub overflow_add-records-in-BlockEnd : goal.overflow_add-records-in-BlockEnd
+overflow_add-records-in-BlockEnd g c =
+    let t = c.args.circuit.now in
+    let n = observable_total t in
+    let popped : HasPopped c.loop-i.blocks.items c.pop.new.self.items c.pop.result c.unwrap-block.result c.loop-i.records c.saturating_sub-later.result c.saturating_sub-by.result = record { rest_is = c.pop.ensures.items; block_is = c.unwrap-block.ensures; turns_is = c.saturating_sub-later.ensures; by_is = c.saturating_sub-by.ensures } in
+    let few = including-ends_few t c.loop-i.i c.loop-i.records n c.loop-i.lists c.loop-i.notes.items c.loop-i.closed.items c.loop-i.blocks.items c.pop.new.self.items c.pop.result c.unwrap-block.result c.saturating_sub-later.result c.saturating_sub-by.result c.loop-i.invariant c.in-BlockEnd.ensures popped in
+    omega (arith, few, c.requires.few)
+
+pub loop-i-preserved : goal.loop-i-preserved
+loop-i-preserved g c =
+    let t = c.args.circuit.now in
+    let n = observable_total t in
+    let i = c.loop-i.i in
+    let r = c.loop-i.records in
+    let lists = c.loop-i.lists in
+    let notes = c.loop-i.notes.items in
+    let closed = c.loop-i.closed.items in
+    let blocks = c.loop-i.blocks.items in
+    elim c.match-item.branch [
+      | in-InstructionLine+in_ok-include-in-InstructionLine w ↦
+          let x = instruction_in w.in-InstructionLine.instruction in
+          let made = w.records_made.ensures ∙ ap (records_made w.in-InstructionLine.instruction.operation) w.target_count-targets.ensures.value in
+          including-same t (i + 1) (r + record_count x) c.match-item.records n (with_included r x lists) c.match-item.lists (notes ++ notes_of x lists) c.match-item.notes.items closed c.match-item.closed.items blocks c.match-item.blocks.items
+          (including-does t i r n lists notes closed blocks x c.loop-i.invariant w.in-InstructionLine.ensures)
+          (w.records-is ∙ ap (λ (m : ℕ). r + m) made)
+          (w.lists-is ∙ w.in_ok-include-in-InstructionLine.ensures.lists)
+          (ap (λ v. v.items) w.notes-is ∙ w.in_ok-include-in-InstructionLine.ensures.notes)
+          (ap (λ v. v.items) w.closed-is)
+          (ap (λ v. v.items) w.blocks-is)
+      | in-BlockStart w ↦
+          let turns = w.in-BlockStart.turns in
+          let count : w.len.result ≡ length notes = omega (arith, w.len.ensures) in
+          including-same t (i + 1) r c.match-item.records n lists c.match-item.lists notes c.match-item.notes.items closed c.match-item.closed.items (blocks ++ noting_block turns r notes ∷ []) c.match-item.blocks.items
+          (including-begins t i r n lists notes closed blocks w.in-BlockStart.line turns c.loop-i.invariant w.in-BlockStart.ensures)
+          w.records-is
+          w.lists-is
+          (ap (λ v. v.items) w.notes-is)
+          (ap (λ v. v.items) w.closed-is)
+          (ap (λ v. v.items) w.blocks-is
+          ∙ w.push.ensures.items
+          ∙ ap (λ (m : ℕ). blocks ++ record { turns = turns; before = record { place = r; found = m } } ∷ []) count)
+      | in-BlockEnd+in_ok-include_all_noted-in-BlockEnd w ↦
+          let m = w.saturating_sub-later.result in
+          let by = w.saturating_sub-by.result in
+          let block = w.unwrap-block.result in
+          let rest = w.pop.new.self.items in
+          let start = block.before.found in
+          let part = take (length w.deref.result.now - start) (drop start w.deref.result.now) in
+          let popped : HasPopped blocks rest w.pop.result block r m by = record { rest_is = w.pop.ensures.items; block_is = w.unwrap-block.ensures; turns_is = w.saturating_sub-later.ensures; by_is = w.saturating_sub-by.ensures } in
+          let tail : part ≡ drop start notes = ap (λ (xs : List Note). take (length xs - start) (drop start xs)) w.deref.ensures.value ∙ tail-is notes start in
+          including-same t (i + 1) (r + m * by) c.match-item.records n w.include_all_noted.new.lists c.match-item.lists notes c.match-item.notes.items w.include_all_noted.new.closed.items c.match-item.closed.items rest c.match-item.blocks.items
+          (including-ends t i r n lists w.include_all_noted.new.lists notes part closed w.include_all_noted.new.closed.items blocks rest w.pop.result block m by c.loop-i.invariant w.in-BlockEnd.ensures popped tail w.in_ok-include_all_noted-in-BlockEnd.ensures)
+          w.records-is
+          w.lists-is
+          (ap (λ v. v.items) w.notes-is)
+          (ap (λ v. v.items) w.closed-is)
+          (ap (λ v. v.items) w.blocks-is)
+    ]
+
+pub returns : goal.returns
+returns g c =
+    including-done c.args.circuit.now c.loop-i.i c.loop-i.records (observable_total c.args.circuit.now) c.loop-i.lists c.loop-i.notes.items c.loop-i.closed.items c.loop-i.blocks.items c.loop-i.invariant refl (omega (arith, c.len-i-end.ensures))
