@@ -1,10 +1,8 @@
-ghost use Rattle.std.specs.Prelude.{◌≡◌, ◌+◌, ◌*◌, ◌<◌, ◌≤◌, ◌^◌, ◌++◌, [], All, None, drop, length, map, replicate, slice_index, slice_index_or, slice_range, IfOk, OnOk};
+ghost use Rattle.std.specs.Prelude.{◌≡◌, ◌*◌, ◌<◌, ◌≤◌, ◌^◌, ◌++◌, [], All, None, length, replicate, slice_range, IfOk, OnOk};
 ghost use Rattle.block_text.specs.Kept.{instruction_in};
 ghost use Rattle.unroll.specs.TargetsMade.{record_named, records_named};
 ghost use Rattle.unroll.specs.Totals.{observable_total};
-ghost use Rattle.unroll.specs.private.Detecting.{records_moved};
-ghost use Rattle.unroll.specs.private.Gathered.{later};
-ghost use Rattle.unroll.specs.private.Including.{HaveTurned, notes_of, record_moved, with_closed, with_included, with_more, with_noted};
+ghost use Rattle.unroll.specs.private.Including.{CanMove, HaveTurned, IsOpen, notes_of, records_in, with_closed, with_included, with_more, with_moved, with_noted, with_turned};
 ghost use Rattle.unroll.specs.private.Observables.{observables_of};
 ghost use Rattle.unroll.specs.private.Counted.{first_far_from};
 ghost use Rattle.unroll.specs.private.MadeTotals.{record_count, record_total};
@@ -19,7 +17,7 @@ use flat_lists::ListRooms;
 use std::alloc::{AllocError, Allocator};
 use stim_parser::{Circuit, Instruction, Item, Operation, Target, first_number};
 
-/// An observable to which an instruction adds, and how many records it had before.
+/// An observable to which an instruction of the text adds, and how many records it had before that.
 #[derive(Clone, Copy)]
 pub(crate) struct Note {
     pub observable: usize,
@@ -80,9 +78,9 @@ fn include_moved<A: Allocator + Copy>(
 ) -> Result<(), AllocError>
     requires there { observable < length lists.old }
     requires ordered { first ≤ end }
-    requires within { end ≤ length (slice_index_or lists.old observable []) }
-    requires small { All (λ r. r + by < 2 ^ 32) (slice_range (slice_index_or lists.old observable []) first end) }
-    ensures { OnOk result (lists.new ≡ with_more observable (records_moved by (slice_range (slice_index_or lists.old observable []) first end)) lists.old) }
+    requires within { end ≤ length (records_in observable lists.old) }
+    requires small { CanMove by (slice_range (records_in observable lists.old) first end) }
+    ensures { OnOk result (lists.new ≡ with_moved observable first end by lists.old) }
 {
     for place in first..end {
         let record = lists.get(observable)[place];
@@ -102,8 +100,8 @@ fn include_later_turns<A: Allocator + Copy>(
 ) -> Result<(), AllocError>
     requires there { observable < length lists.old }
     requires few { turns * by < 2 ^ 32 }
-    requires small { All (λ r. r + turns * by < 2 ^ 32) (slice_index_or lists.old observable []) }
-    ensures { OnOk result (lists.new ≡ with_more observable (later (λ n. record_moved (n * by)) turns (drop first (slice_index_or lists.old observable []))) lists.old) }
+    requires small { CanMove (turns * by) (records_in observable lists.old) }
+    ensures { OnOk result (lists.new ≡ with_turned observable first turns by lists.old) }
 {
     let end = lists.get(observable).len();
     if end <= first {
@@ -115,8 +113,8 @@ fn include_later_turns<A: Allocator + Copy>(
     Ok(())
 }
 
-/// Appends what this many later turns of a block add to the observable of a note, the first of it in the block. Not where
-/// this was done at the same block end: `closed` says at which one it was last done for each observable.
+/// Appends what this many later turns of a block add to the observable of a note, which is the first of it in the block.
+/// Nothing is appended where that was done at this end of a block. `closed` holds the latest such end of each observable.
 fn include_noted<A: Allocator + Copy>(
     lists: &mut ListRooms<u32, A>,
     closed: &mut Vec<usize, A>,
@@ -128,7 +126,7 @@ fn include_noted<A: Allocator + Copy>(
     requires there { note.observable < length lists.old }
     requires each { length closed.old.items ≡ length lists.old }
     requires few { turns * by < 2 ^ 32 }
-    requires small { slice_index closed.old.items note.observable < end → All (λ r. r + turns * by < 2 ^ 32) (slice_index_or lists.old note.observable []) }
+    requires small { IsOpen closed.old.items end note → CanMove (turns * by) (records_in note.observable lists.old) }
     ensures lists { OnOk result (lists.new ≡ with_noted turns by closed.old.items end note lists.old) }
     ensures closed { OnOk result (closed.new.items ≡ with_closed closed.old.items end note) }
 {
@@ -152,7 +150,7 @@ fn include_all_noted<A: Allocator + Copy>(
     requires each { length closed.old.items ≡ length lists.old }
     requires early { All (λ last. last < end) closed.old.items }
     requires few { turns * by < 2 ^ 32 }
-    requires small { All (All (λ r. r + turns * by < 2 ^ 32)) lists.old }
+    requires small { All (CanMove (turns * by)) lists.old }
     ensures { OnOk result (HaveTurned turns by end notes.now lists.old lists.new closed.new.items) }
 {
     for note in notes {

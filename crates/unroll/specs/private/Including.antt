@@ -1,7 +1,7 @@
 -- What is added to each observable as one pass gathers it: an instruction adds each record that it names to one
 -- observable, and in a later turn of a block the number of each record is greater by as many as the turns before it
 -- make. (Stim's gate reference, github.com/quantumlib/Stim, doc/gates.md, "OBSERVABLE_INCLUDE".)
-use Rattle.std.specs.Prelude.{◌≡◌, ℕ, ◌+◌, ◌-◌, ◌*◌, ◌<◌, ◌≤◌, ◌==◌, nat_lt, Bool, true, false, if◌then◌else◌, All, List, [], ◌∷◌, ◌++◌, drop, length, slice_index, slice_index_or, slice_set, min, replicate, ◌^◌, unwrap_or}
+use Rattle.std.specs.Prelude.{◌≡◌, ℕ, ◌+◌, ◌-◌, ◌*◌, ◌<◌, ◌≤◌, ◌==◌, nat_lt, Bool, true, false, if◌then◌else◌, All, List, [], ◌∷◌, ◌++◌, drop, length, slice_index, slice_index_or, slice_range, slice_set, min, replicate, ◌^◌, unwrap_or}
 use Rattle.stim_parser.specs.declared.operation.Operation.{Operation}
 use Rattle.stim_parser.specs.declared.operation.Operation.TheVariants.{ObservableInclude}
 use Rattle.stim_parser.specs.declared.target.Target.{Target}
@@ -10,7 +10,7 @@ use Rattle.stim_parser.specs.Texts.{Item}
 use Rattle.stim_parser.specs.Verdicts.{Instruction}
 use Rattle.block_text.specs.Trees.{InstructionLine}
 use Rattle.unroll.specs.declared.inclusions.Note.{Note}
-use Rattle.unroll.specs.private.Detecting.{records_after, records_onward}
+use Rattle.unroll.specs.private.Detecting.{records_after, records_moved, records_onward}
 use Rattle.unroll.specs.TargetsMade.{records_named}
 use Rattle.unroll.specs.private.Gathered.{Gathering, later}
 use Rattle.unroll.specs.private.Observables.{instruction_adds}
@@ -46,9 +46,26 @@ item_observables item = 0
 
 -- ---- the lists of all observables
 
+-- the records of one observable so far
+abbrev pub records_in : ℕ → List (List ℕ) → List ℕ
+records_in k lists = slice_index_or lists k []
+
+-- records that are still numbers of 32 bits where each is greater by d
+abbrev pub CanMove : ℕ → List ℕ → Type 0
+CanMove d records = All (λ r. r + d < 2 ^ 32) records
+
 -- with more records of one observable
 abbrev pub with_more : ℕ → List ℕ → List (List ℕ) → List (List ℕ)
-with_more k records lists = slice_set lists k (slice_index_or lists k [] ++ records)
+with_more k records lists = slice_set lists k (records_in k lists ++ records)
+
+-- with copies of its records from place `first` up to `end`, each greater by d
+abbrev pub with_moved : ℕ → ℕ → ℕ → ℕ → List (List ℕ) → List (List ℕ)
+with_moved k first end d lists = with_more k (records_moved d (slice_range (records_in k lists) first end)) lists
+
+-- with what so many later turns of a block add to it, where the records from `first` on are those of the first turn
+abbrev pub with_turned : ℕ → ℕ → ℕ → ℕ → List (List ℕ) → List (List ℕ)
+with_turned k first turns by lists =
+    with_more k (later (λ n. record_moved (n * by)) turns (drop first (records_in k lists))) lists
 
 -- with what an operation adds after this many records, where its observable has a list
 abbrev pub with_added : ℕ → Operation → List (List ℕ) → List Target → List (List ℕ) → List (List ℕ)
@@ -85,7 +102,7 @@ with_counted times i sizes =
 -- ---- what instructions of the text note: an observable, and how many records it had before
 
 abbrev pub note_of : ℕ → List (List ℕ) → Note
-note_of k lists = record { observable = k; before = length (slice_index_or lists k []) }
+note_of k lists = record { observable = k; before = length (records_in k lists) }
 
 abbrev pub operation_notes : Operation → List (List ℕ) → List (List ℕ) → List Note
 operation_notes ObservableInclude arguments lists =
@@ -111,10 +128,14 @@ is_noted k (note ∷ notes) = if note.observable == k then true else is_noted k 
 abbrev pub with_later : ℕ → ℕ → ℕ → List ℕ → List ℕ
 with_later turns by before records = records ++ later (λ n. record_moved (n * by)) turns (drop before records)
 
+-- whether the observable of a note was last added to at an earlier end of a block
+abbrev pub IsOpen : List ℕ → ℕ → Note → Type 0
+IsOpen closed end note = slice_index closed note.observable < end
+
 -- the lists with what is added to the observable of a note, unless that was done at this end of a block
 abbrev pub with_noted : ℕ → ℕ → List ℕ → ℕ → Note → List (List ℕ) → List (List ℕ)
 with_noted turns by closed end note lists =
-    if nat_lt (slice_index closed note.observable) end then with_more note.observable (later (λ n. record_moved (n * by)) turns (drop note.before (slice_index_or lists note.observable []))) lists else lists
+    if nat_lt (slice_index closed note.observable) end then with_turned note.observable note.before turns by lists else lists
 
 -- at which end of a block each observable was last added to
 abbrev pub with_closed : List ℕ → ℕ → Note → List ℕ
@@ -124,7 +145,7 @@ with_closed closed end note = if nat_lt (slice_index closed note.observable) end
 -- to at this end of a block
 pub record HaveTurned (turns by end : ℕ) (notes : List Note) (old new : List (List ℕ)) (closed : List ℕ) : Type 0 where
   pub count : length new ≡ length old
-  pub turned : (k : ℕ) → k < length old → slice_index_or new k [] ≡ with_later turns by (first_before k notes (length (slice_index_or old k []))) (slice_index_or old k [])
+  pub turned : (k : ℕ) → k < length old → records_in k new ≡ with_later turns by (first_before k notes (length (records_in k old))) (records_in k old)
   pub each : length closed ≡ length old
   pub late : All (λ last. last ≤ end) closed
   pub open_still : (k : ℕ) → k < length old → slice_index closed k < end → is_noted k notes ≡ false

@@ -1,4 +1,4 @@
-use flat_lists::FlatLists;
+use flat_lists::{FlatLists, ListRooms};
 use std::alloc::{AllocError, Global};
 use std::fmt::Debug;
 use std::process::Abort;
@@ -38,5 +38,26 @@ fn lists_of_structs_come_back(rt: HostRuntime) -> Result<(), Fail> {
     let mut lists = FlatLists::new(rt.alloc());
     push_all(&mut lists, &PLACES)?;
     are(&rt, &lists, &PLACES);
+    Ok(())
+}
+
+#[test]
+fn rooms_are_filled_in_any_order(rt: HostRuntime) -> Result<(), Fail> {
+    let mut rooms = ListRooms::new(rt.alloc(), &[2, 0, 1], 0u8)?;
+    rooms.push(2, 7)?;
+    rooms.push(0, 5)?;
+    assert!(&rt; rooms.push(2, 8).is_err() && rooms.push(1, 8).is_err());
+    assert!(&rt; rooms.get(0) == [5].as_slice() && rooms.lengths() == [1, 0, 1].as_slice());
+    rooms.push(0, 6)?;
+    let lists = rooms.flat().expect(&rt, "a room isn't full");
+    are(&rt, &lists, &[&[5, 6], &[], &[7]]);
+    Ok(())
+}
+
+#[test]
+fn rooms_that_are_not_full_are_not_flat(rt: HostRuntime) -> Result<(), Fail> {
+    let mut rooms = ListRooms::new(rt.alloc(), &[1, 1], 0u8)?;
+    rooms.push(1, 7)?;
+    assert!(&rt; rooms.flat().is_none());
     Ok(())
 }
