@@ -12,7 +12,7 @@ use std::marker::Model;
 use std::mem;
 
 /// From this many targets on that feedback toggles at once the record's set is taken out of the lists.
-const MANY: usize = 64;
+const MANY: usize = 16;
 
 /// For each record the set of the targets that list it an odd number of times. Feedback alone changes them.
 ///

@@ -77,6 +77,21 @@ OBSERVABLE_INCLUDE(1) rec[-3]
 /// A random outcome, fed back to the qubit of the detector.
 const RANDOM: &str = "H 0\nCX 0 1\nM 1\nCX rec[-1] 2\nM 2\nDETECTOR rec[-1]\n";
 
+/// Two records, of which the first is 1 where the fault happens. Each is fed back three times to the qubit that all detectors
+/// measure, so all of them are flipped three times.
+const FED_BACK: &str = "\
+X_ERROR(0.1) 0
+M 0 1
+REPEAT 3 {
+    CX rec[-2] 2
+    CX rec[-1] 2
+}
+M 2
+REPEAT 16 {
+    DETECTOR rec[-1]
+}
+";
+
 /// An error model with blocks and shifts: ten error lines, four detectors and two observables.
 const MODEL: &str = "\
 error(0.1) D0 L0
@@ -165,6 +180,33 @@ pub(super) const ROWS: &[Row] = &[
         output: "refused 51 line 0\n",
         times: 1,
         status: Status::Refused,
+        spared: 1,
+    },
+    // Feedback of so many targets at once takes the record's set out of the lists.
+    Row {
+        order: Order::Analyze,
+        text: FED_BACK,
+        output: "\
+error(0.1) D0 D1 D2 D3 D4 D5 D6 D7 D8 D9 D10 D11 D12 D13 D14 D15
+detector D0
+detector D1
+detector D2
+detector D3
+detector D4
+detector D5
+detector D6
+detector D7
+detector D8
+detector D9
+detector D10
+detector D11
+detector D12
+detector D13
+detector D14
+detector D15
+",
+        times: 1,
+        status: Status::Done,
         spared: 1,
     },
     Row {
