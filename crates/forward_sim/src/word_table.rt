@@ -9,6 +9,9 @@ use step_model::Term;
 // A word is found again where none with the same slot came between.
 const SLOTS: usize = 16384;
 
+// How many letters tell in which slot a word is. Later ones are left out, to save time.
+const TELLING: usize = 16;
+
 /// Words by their letters other than I, with a number each. A word that comes again soon is found by its letters.
 #[derive(Drop)]
 pub(crate) struct WordTable<A: Allocator + Copy> {
@@ -110,8 +113,8 @@ fn number_after(words: usize) -> Result<u32, AllocError>
 fn slot_of(word: &[Term]) -> usize
     ensures { result < 16384 }
 {
-    let mut mixed = 0u64;
-    for term in word {
+    let mut mixed = word.len() as u64;
+    for term in &word[..word.len().min(TELLING)] {
         mixed = mixed
             .wrapping_add(number_of(*term))
             .wrapping_mul(0x9e37_79b9_7f4a_7c15);
