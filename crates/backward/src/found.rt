@@ -6,8 +6,8 @@ ghost use Rattle.backward.specs.Tracked.{anticommuting, fresh};
 ghost use Rattle.backward.specs.private.Collapses.{members_at, noted};
 ghost use Rattle.backward.specs.private.Passes.{HoldsLists, IsPassed, opened, records_before};
 
-use crate::places::note;
 use crate::changing_lists::ChangingLists;
+use crate::places::note;
 use crate::tracker::Tracker;
 use programs::Program;
 use std::alloc::{AllocError, Allocator};

@@ -47,11 +47,7 @@ pub(super) fn batches_agree(alloc: Global, program: &Program<'_, Global>) -> Res
 }
 
 /// The same in one batch, which follows runs twice.
-fn batch_agrees(
-    alloc: Global,
-    program: &Program<'_, Global>,
-    bytes: usize,
-) -> Result<bool, Fail> {
+fn batch_agrees(alloc: Global, program: &Program<'_, Global>, bytes: usize) -> Result<bool, Fail> {
     let mut batch = Batch::in_room(alloc, program, bytes)?;
     let mut shots = Shots::new(alloc, program)?;
     let mut rng = Pcg64::seed_from_u64(1);
