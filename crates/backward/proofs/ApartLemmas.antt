@@ -1,12 +1,12 @@
 -- The sets of records where that of one is apart, and lists of targets by parity.
-use Rattle.std.proofs.Common.{◌≡◌, ℕ, zero, suc, ◌+◌, ◌<◌, ◌≤◌, ◌==◌, Bool, true, false, List, [], ◌∷◌, ◌++◌, length, get_or, set, take, drop, inl, inr, refl, ap, ap₂, subst, sym, ◌∙◌, arith}
+use Rattle.std.proofs.Common.{◌≡◌, ℕ, zero, suc, ◌+◌, ◌<◌, ◌==◌, Bool, true, false, List, [], ◌∷◌, ◌++◌, length, get_or, set, take, drop, inl, inr, refl, ap, ap₂, subst, sym, ◌∙◌, arith}
 use Rattle.std.specs.Prelude.{All, IfSome, Option, None, Some, replicate}
 use Rattle.std.proofs.lemmas.Bool.{cases_lt}
 use Rattle.std.proofs.lemmas.List.Elements.{All-append, All-drop, All-set}
-use Rattle.std.proofs.lemmas.List.{length-set, set-set, set-get_or, get_or-set_same, take-set-le, ext_get_or, drop_more}
+use Rattle.std.proofs.lemmas.List.{length-set, set-set, get_or-set_same, take-set-le, ext_get_or, drop_more}
 use Rattle.std.proofs.Math.Seq.{take-set-lt}
 use Rattle.pauli_word.specs.Parity.{exclusive_or}
-use Rattle.pauli_word.proofs.Parities.{exclusive_or-false, exclusive_or_assoc, exclusive_or_left_comm}
+use Rattle.pauli_word.proofs.Parities.{exclusive_or_assoc, exclusive_or_left_comm}
 use Rattle.step_model.specs.Targets.{is_listed}
 use Rattle.backward.specs.private.Apart.{with_apart, AreToggled}
 use Rattle.backward.specs.private.Collapses.{toggled_each}

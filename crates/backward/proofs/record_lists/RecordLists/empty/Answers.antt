@@ -1,4 +1,3 @@
-use Rattle.std.proofs.Common.{ap, arith}
 use Rattle.std.proofs.lemmas.List.{length-set}
 use Rattle.backward.proofs.LinkLemmas.{lists_without, rows_without, rows_stay_long}
 use Rattle.backward.proofs.record_lists.RecordLists.empty.Goals as goal

@@ -2,7 +2,7 @@ use Rattle.std.proofs.Common.{ℕ, ◌==◌, ◌++◌, List, length, ap, ap₂, 
 use Rattle.std.proofs.lemmas.Result.{on_ok_weaker}
 use Rattle.bit_rows.specs.Rows.{xor_rows}
 use Rattle.backward.specs.private.Sets.{DescendsBelow, row_of_set, xor_sets}
-use Rattle.backward.proofs.SetLemmas.{descends_summed, row_of_xor_sets, same_count, add_none, no_elements, descends_copied, DescendsBelow-xor_sets}
+use Rattle.backward.proofs.SetLemmas.{descends_summed, row_of_xor_sets, same_count, no_elements, descends_copied, DescendsBelow-xor_sets}
 use Rattle.backward.proofs.sparse_set.SparseSet.add_some.Goals as goal
 
 pub invariant_of-self-then-is_empty : goal.invariant_of-self-then-is_empty
