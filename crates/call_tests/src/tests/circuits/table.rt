@@ -81,7 +81,9 @@ pub(super) fn text_of(alloc: Global, lines: &str) -> Result<Vec<u8>, AllocError>
 
 fn text_holds(alloc: Global, text: &[u8], (answer, runs): (&str, &str)) -> Result<bool, Fail> {
     let program = read_program(alloc, text)?;
-    Ok(answers_hold(alloc, answer, &program)?
-        && runs_hold(alloc, &program, runs)?
-        && batches_agree(alloc, &program)?)
+    Ok(
+        answers_hold(alloc, answer, &program)?
+            && runs_hold(alloc, &program, runs)?
+            && batches_agree(alloc, &program)?,
+    )
 }
