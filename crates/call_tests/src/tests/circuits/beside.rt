@@ -19,7 +19,7 @@ const ROOMS: &[usize] = &[0, 60, 10_000];
 const TEXTS: &[&str] = &[
     "REPEAT 20 { | MPP X0*X1*X2 Z0*Z1*Z2 | } | M 0 1 2 | DETECTOR rec[-1] rec[-2]",
     "H 0 1 2 3 4 | S 0 2 4 | CZ 0 1 1 2 2 3 3 4 | MX(0.1) 0 1 2 3 4 | REPEAT 3 { | CX 0 1 2 3 | MR 1 3 | CX rec[-1] 4 | \
-     DEPOLARIZE2(0.2) 0 4 | MPP Y0*X2*Z4 X0*Z2 | MY 1 3 | }",
+     X_ERROR(0.25) 0 | Z_ERROR(0.25) 4 | MPP Y0*X2*Z4 X0*Z2 | MY 1 3 | }",
 ];
 
 #[test]
