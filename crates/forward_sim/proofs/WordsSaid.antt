@@ -1,5 +1,5 @@
 -- What says which words the collapses replaced goes over the steps, whether these are kept or a run goes along.
-use Rattle.std.proofs.Common.{◌≡◌, ℕ, zero, suc, ◌+◌, ◌<◌, ◌≤◌, Bool, true, false, List, [], ◌∷◌, length, get_or, drop, replicate, Option, Some, None, refl, sym, ap, subst, ◌∙◌, arith, length-append}
+use Rattle.std.proofs.Common.{◌≡◌, ℕ, zero, suc, ◌+◌, ◌<◌, Bool, true, false, List, [], ◌∷◌, length, get_or, drop, replicate, Option, None, refl, sym, ap, subst, ◌∙◌, arith, length-append}
 use Rattle.std.specs.List.{list_all}
 use Rattle.std.proofs.lemmas.Bool.{and_parts}
 use Rattle.std.proofs.lemmas.List.{drop_more}
@@ -8,11 +8,11 @@ use Rattle.pauli_word.specs.States.{State, outcome, collapsed}
 use Rattle.pauli_word.specs.Words.{Signed}
 use Rattle.step_model.specs.declared.step.Term.{Term}
 use Rattle.step_model.specs.Frames.{zero_coins}
-use Rattle.step_model.specs.Listing.{Listing, ListedStep, One, Two, Collapse, Fault, Feedback, Measured, Recorded, is_collapse, measured_word, step_records}
+use Rattle.step_model.specs.Listing.{Listing, ListedStep, One, Two, Collapse, Fault, Feedback, Measured, Recorded, measured_word, step_records}
 use Rattle.step_model.specs.Runs.{RunState, start, next, next_coin, corrected, correction}
 use Rattle.step_model.specs.WellFormed.{IsWellFormed, records_made, step_fits}
 use Rattle.step_model.proofs.StateIsGroup.{length-measured}
-use Rattle.forward_sim.specs.References.{Walking, Words, Kept, Walked, walking_qubits, walking_run, entry_of, AreEntries, GoesAlong, GoneOver, IsEntry, IsStepEntry}
+use Rattle.forward_sim.specs.References.{Walking, Kept, Walked, walking_qubits, walking_run, entry_of, AreEntries, GoesAlong, GoneOver, IsEntry, IsStepEntry}
 use Rattle.forward_sim.specs.private.SameRuns.{HoldSame, IsSameRun}
 use Rattle.forward_sim.proofs.ReferenceSteps.{same-entry}
 use Rattle.forward_sim.proofs.RunRecords.{all_fit, length-next}

@@ -8,7 +8,9 @@ use pauli_word::{Letter, Word};
 use std::alloc::Allocator;
 use step_model::Term;
 
-/// Reads the letters of a word on this number of qubits, in place of those that were there.
+/// Reads the letters of a word on this number of qubits, in place of those that were there. It is not inlined, since the
+/// loops that make the word would have fewer registers beside its own.
+#[inline(never)]
 pub(crate) fn read_terms<A: Allocator + Copy>(terms: &mut Vec<Term, A>, word: &Word<A>, qubits: u32)
     requires size { length word.now.letters ≡ qubits }
     requires room { qubits ≤ vec_capacity terms.old }

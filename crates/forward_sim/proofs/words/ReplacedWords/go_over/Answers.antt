@@ -1,8 +1,5 @@
 -- The list stays, and a run that goes along takes the step.
-use Rattle.std.proofs.Common.{ap, subst}
 use Rattle.programs.specs.Listed.{listed}
-use Rattle.forward_sim.specs.References.{StandBefore, GoneOver}
-use Rattle.forward_sim.specs.private.Said.{words_of}
 use Rattle.forward_sim.proofs.WordsSaid.{over_kept, over_walked}
 use Rattle.forward_sim.proofs.words.ReplacedWords.go_over.Goals as goal
 
