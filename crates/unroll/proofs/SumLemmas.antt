@@ -17,7 +17,7 @@ use Rattle.unroll.specs.Refusals.{is_before_start, reaches_far}
 use Rattle.unroll.specs.private.Counted.{first_far_from}
 use Rattle.unroll.specs.private.Summed.{AreTotals, capped_sum, far_line_after, greatest, nothing_summed, repeated_sum, summing, totals_after, totals_repeated}
 use Rattle.block_text.specs.Reached.{total}
-use Rattle.unroll.specs.private.MadeTotals.{fault_count, made_count, collapse_count, detector_count, record_count, step_count}
+use Rattle.unroll.specs.private.MadeTotals.{fault_count, made_count, collapse_count, detector_count, listed_count, record_count, step_count}
 use Rattle.unroll.specs.private.Pushed.{back_of}
 use Rattle.unroll.proofs.FitLemmas.{backs_within}
 
@@ -58,6 +58,7 @@ record Exact : Type 0 where
   detectors : ℕ
   faults : ℕ
   steps : ℕ
+  listed : ℕ
   made : ℕ
 
 record AreCapped (e : Exact) (t : Totals) : Type 0 where
@@ -66,6 +67,7 @@ record AreCapped (e : Exact) (t : Totals) : Type 0 where
   detectors : t.detectors ≡ min e.detectors greatest
   faults : t.faults ≡ min e.faults greatest
   steps : t.steps ≡ min e.steps greatest
+  listed : t.listed ≡ min e.listed greatest
   made : t.made ≡ min e.made greatest
 
 abbrev with_instruction : Instruction → Exact → Exact
@@ -76,6 +78,7 @@ with_instruction i e =
       detectors = e.detectors + detector_count i;
       faults = e.faults + fault_count i;
       steps = e.steps + step_count i;
+      listed = e.listed + listed_count i;
       made = e.made + made_count i;
     }
 
@@ -87,6 +90,7 @@ with_tree t e =
       detectors = e.detectors + total 0 detector_count t;
       faults = e.faults + total 0 fault_count t;
       steps = e.steps + total 1 step_count t;
+      listed = e.listed + total 0 listed_count t;
       made = e.made + total 0 made_count t;
     }
 
@@ -98,6 +102,7 @@ with_block turns t e =
       detectors = e.detectors + turns * total 0 detector_count t;
       faults = e.faults + turns * total 0 fault_count t;
       steps = e.steps + turns * (1 + total 1 step_count t);
+      listed = e.listed + turns * total 0 listed_count t;
       made = e.made + turns * total 0 made_count t;
     }
 
@@ -109,6 +114,7 @@ capped-step i e t h =
       detectors = omega (arith, h.detectors);
       faults = omega (arith, h.faults);
       steps = omega (arith, h.steps);
+      listed = omega (arith, h.listed);
       made = omega (arith, h.made);
     }
 
@@ -120,6 +126,7 @@ capped-close turns body e before after some h k =
       detectors = closed_field turns e.detectors (total 0 detector_count body) before.detectors after.detectors some h.detectors k.detectors;
       faults = closed_field turns e.faults (total 0 fault_count body) before.faults after.faults some h.faults k.faults;
       steps = closed_field turns e.steps (1 + total 1 step_count body) before.steps (capped_sum after.steps 1) some h.steps (omega (arith, k.steps));
+      listed = closed_field turns e.listed (total 0 listed_count body) before.listed after.listed some h.listed k.listed;
       made = closed_field turns e.made (total 0 made_count body) before.made after.made some h.made k.made;
     }
 
@@ -143,6 +150,7 @@ behind-capped Nothing e s fit h =
       detectors = omega (arith, h.detectors);
       faults = omega (arith, h.faults);
       steps = omega (arith, h.steps);
+      listed = omega (arith, h.listed);
       made = omega (arith, h.made);
     }
 behind-capped (Then i rest) e s fit h =
@@ -153,6 +161,7 @@ behind-capped (Then i rest) e s fit h =
       detectors = omega (arith, k.detectors);
       faults = omega (arith, k.faults);
       steps = omega (arith, k.steps);
+      listed = omega (arith, k.listed);
       made = omega (arith, k.made);
     }
 behind-capped (Block line turns body rest) e s fit h =
@@ -165,6 +174,7 @@ behind-capped (Block line turns body rest) e s fit h =
       detectors = capped _ _ _ k.detectors (total-block_zero turns line detector_count body rest e.detectors);
       faults = capped _ _ _ k.faults (total-block_zero turns line fault_count body rest e.faults);
       steps = capped _ _ _ k.steps (total-block 1 turns line step_count body rest e.steps);
+      listed = capped _ _ _ k.listed (total-block_zero turns line listed_count body rest e.listed);
       made = capped _ _ _ k.made (total-block_zero turns line made_count body rest e.made);
     }
 
@@ -224,7 +234,7 @@ behind-far (Block line turns body rest) e s fit h =
 -- ---- from the start
 
 abbrev none : Exact
-none = record { records = 0; collapses = 0; detectors = 0; faults = 0; steps = 0; made = 0 }
+none = record { records = 0; collapses = 0; detectors = 0; listed = 0; faults = 0; steps = 0; made = 0 }
 
 none_capped : AreCapped none nothing_summed
 none_capped =
@@ -234,6 +244,7 @@ none_capped =
       detectors = omega arith;
       faults = omega arith;
       steps = omega arith;
+      listed = omega arith;
       made = omega arith;
     }
 
@@ -246,6 +257,7 @@ summed t fit =
       detectors = omega (arith, k.detectors);
       faults = omega (arith, k.faults);
       steps = omega (arith, k.steps);
+      listed = omega (arith, k.listed);
       made = omega (arith, k.made);
       far_line = behind-far t none nothing_summed fit none_capped;
     }

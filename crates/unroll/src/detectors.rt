@@ -162,6 +162,5 @@ pub(crate) fn detectors_of<A: Allocator + Copy>(
             }
         }
     }
-    detectors.shrink_to_fit();
     Ok(detectors)
 }

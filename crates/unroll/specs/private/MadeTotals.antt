@@ -57,6 +57,9 @@ collapse_total tree = total 0 collapse_count tree
 abbrev pub detector_total : Tree → ℕ
 detector_total tree = total 0 detector_count tree
 
+abbrev pub listed_total : Tree → ℕ
+listed_total tree = total 0 listed_count tree
+
 -- how many faults an operation makes of this many targets: a measurement one of each record, where it has a probability
 abbrev pub faults_counted : Operation → Bool → ℕ → ℕ
 faults_counted (PauliError l) flips targets = targets

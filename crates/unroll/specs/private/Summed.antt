@@ -9,7 +9,7 @@ use Rattle.unroll.specs.private.Passes.{Pass}
 use Rattle.unroll.specs.Refusals.{reaches_far}
 use Rattle.unroll.specs.private.Counted.{first_far_from}
 use Rattle.unroll.specs.Totals.{step_total}
-use Rattle.unroll.specs.private.MadeTotals.{fault_count, fault_total, made_count, made_total, collapse_count, collapse_total, detector_count, detector_total, listed_count, record_count, record_total, step_count}
+use Rattle.unroll.specs.private.MadeTotals.{fault_count, fault_total, made_count, made_total, collapse_count, collapse_total, detector_count, detector_total, listed_count, listed_total, record_count, record_total, step_count}
 
 abbrev pub greatest : ℕ
 greatest = 2 ^ 64 - 1
@@ -67,6 +67,7 @@ pub record AreTotals (tree : Tree) (t : Totals) : Type 0 where
   pub records : t.records ≡ min (record_total tree) greatest
   pub collapses : t.collapses ≡ min (collapse_total tree) greatest
   pub detectors : t.detectors ≡ min (detector_total tree) greatest
+  pub listed : t.listed ≡ min (listed_total tree) greatest
   pub faults : t.faults ≡ min (fault_total tree) greatest
   pub steps : t.steps ≡ min (step_total tree) greatest
   pub made : t.made ≡ min (made_total tree) greatest

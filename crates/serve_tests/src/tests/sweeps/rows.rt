@@ -107,9 +107,8 @@ logical_observable L1
 ";
 
 /// An order on a text, what is written so many times over, how that ends, and how many growths the order does without where one is
-/// refused. Coins that are given are collected, which goes on in smaller steps where the room for all of them is refused. Lists of
-/// detectors and of coordinates move to blocks just as long where theirs are longer, or else stay: of the three texts here the
-/// coordinates, where there are any, or else the one record.
+/// refused. Coins that are given are collected, which goes on in smaller steps where the room for all of them is refused. Coordinates,
+/// where there are any, move to a block just as long, or else stay.
 pub(super) struct Row {
     pub order: Order<'static>,
     pub text: &'static str,
@@ -236,7 +235,7 @@ logical_observable L1
         output: "random D0\n00\n11\n",
         times: 1,
         status: Status::Random,
-        spared: 1,
+        spared: 0,
     },
     Row {
         order: Order::Analyze,

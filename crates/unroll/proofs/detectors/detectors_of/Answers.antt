@@ -93,5 +93,4 @@ loop-i-preserved g c =
 
 pub returns : goal.returns
 returns g c =
-    c.shrink_to_fit.ensures
-    ∙ detecting-done c.args.circuit.now c.loop-i.i c.loop-i.records c.loop-i.detectors c.loop-i.blocks.items c.loop-i.invariant (omega (arith, c.len-i-end.ensures))
+    detecting-done c.args.circuit.now c.loop-i.i c.loop-i.records c.loop-i.detectors c.loop-i.blocks.items c.loop-i.invariant (omega (arith, c.len-i-end.ensures))
