@@ -1,4 +1,7 @@
 pub mod TermLemmas
+pub mod PutLemmas
+pub mod CounterLemmas
+pub mod NameLemmas
 pub mod FactorLemmas
 pub mod FactorTextLemmas
 pub mod BlockLemmas

@@ -1,8 +1,9 @@
 //! The letters that terms make at successive qubits.
-ghost use Rattle.std.specs.Prelude.{◌≡◌, ◌<◌, ◌+◌, ℕ, length, not, slice_index_or};
+ghost use Rattle.std.specs.Prelude.{◌≡◌, ◌<◌, ◌+◌, ◌∷◌, ℕ, [], length, not, slice_index_or};
 ghost use Rattle.pauli_word.specs.declared.letter.Letter.TheVariants.{I};
 ghost use Rattle.pauli_word.specs.Letters.{letter_product};
 ghost use Rattle.step_model.specs.Listing.{is_I};
+ghost use Rattle.fault_list.specs.FaultLines.{letter_text};
 ghost use Rattle.fault_list.specs.private.TermLetters.{letter_here, letter_in};
 
 use pauli_word::Letter;
@@ -39,5 +40,18 @@ pub(crate) fn acts(letter: Letter) -> bool
     match letter {
         Letter::I => false,
         Letter::X | Letter::Y | Letter::Z => true,
+    }
+}
+
+/// The byte of a letter.
+#[inline(always)]
+pub(crate) fn letter_byte(letter: Letter) -> u8
+    ensures { result ∷ [] ≡ letter_text letter }
+{
+    match letter {
+        Letter::I => b'I',
+        Letter::X => b'X',
+        Letter::Y => b'Y',
+        Letter::Z => b'Z',
     }
 }
