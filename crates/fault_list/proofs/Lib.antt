@@ -1,5 +1,6 @@
 pub mod TermLemmas
 pub mod PutLemmas
+pub mod ProbabilityLemmas
 pub mod CounterLemmas
 pub mod NameLemmas
 pub mod FactorLemmas
