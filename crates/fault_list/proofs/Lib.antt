@@ -9,4 +9,5 @@ pub mod BlockLemmas
 pub mod SpanLemmas
 pub mod EffectLemmas
 pub mod LineLemmas
+pub mod HeldLineLemmas
 pub mod ShortLineLemmas
