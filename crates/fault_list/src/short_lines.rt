@@ -108,7 +108,8 @@ fn put_record(buffer: &mut [u8], at: usize, record: &mut Counter, r: u32) -> usi
     put_byte(buffer, end, b']')
 }
 
-// Puts the word of some terms. Two at descending qubits are exchanged first.
+// Puts the word of some terms. Two at descending qubits are exchanged first. One or two, as most words have, are written
+// with no loop.
 #[inline(always)]
 fn put_word(
     buffer: &mut [u8],
@@ -124,9 +125,11 @@ fn put_word(
     ensures kept { result ≡ None → buffer.new ≡ buffer.old }
 {
     match terms {
+        [only] => put_ordered(buffer, at, names, qubits, &[*only]),
         [first, second] if second.qubit < first.qubit => {
             put_ordered(buffer, at, names, qubits, &[*second, *first])
         }
+        [first, second] => put_ordered(buffer, at, names, qubits, &[*first, *second]),
         _ => put_ordered(buffer, at, names, qubits, terms),
     }
 }

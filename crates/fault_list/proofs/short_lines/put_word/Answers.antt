@@ -6,6 +6,6 @@ use Rattle.fault_list.proofs.short_lines.put_word.Goals as goal
 
 pub returns-in-len2-clause-written : goal.returns-in-len2-clause-written
 returns-in-len2-clause-written c =
-    subst (λ w. IfSome c.put_ordered.result (λ end. take end c.put_ordered.new.buffer ≡ take c.args.at c.args.buffer.now ++ word_text w))
+    subst (λ w. IfSome c.put_ordered-in-len2.result (λ end. take end c.put_ordered-in-len2.new.buffer ≡ take c.args.at c.args.buffer.now ++ word_text w))
     (word_swapped c.args.qubits c.args.terms.now c.in-len2.len_at_least c.in-len2.len_below)
-    c.put_ordered.ensures.written
+    c.put_ordered-in-len2.ensures.written
