@@ -1,5 +1,5 @@
 //! The digits of numbers that mostly count up.
-ghost use Rattle.std.specs.Prelude.{◌≡◌, ◌≤◌, ◌+◌, ◌++◌, decimal, length, take};
+ghost use Rattle.std.specs.Prelude.{◌≡◌, ◌<◌, ◌≤◌, ◌^◌, ◌+◌, ◌++◌, decimal, length, take};
 ghost use Rattle.fault_list.specs.private.KeptTexts.{HasDigits};
 
 use crate::put::put_first;
@@ -9,11 +9,11 @@ use std::marker::Model;
 /// How many bytes are kept for the digits. A number of 32 bits has fewer; so many are copied at once.
 pub(crate) const DIGITS: usize = 16;
 
-/// The digits of a number, kept for the next one: where that is one more and ends with no carry, only the last digit
-/// changes.
+/// The digits of a number, kept for the next one: mostly that is one more, and only its last digit or two change. They are
+/// changed as soon as they were put, since bytes that were just written are slow to copy.
 #[derive(Drop)]
 pub(crate) struct Counter {
-    number: u32,
+    number: u64,
     digits: [u8; DIGITS],
     len: usize,
 }
@@ -51,23 +51,43 @@ impl Counter {
         ensures written { take result buffer.new ≡ take at buffer.old ++ decimal number }
     {
         self.turn_to(number);
-        put_first(buffer, at, self.digits, self.len)
+        let end = put_first(buffer, at, self.digits, self.len);
+        self.count_up();
+        end
     }
 
     #[inline(always)]
     fn turn_to(&mut self, number: u32)
         ensures { self.new ≡ number }
     {
-        if self.number as u64 + 1 == number as u64 && self.digits[self.len - 1] < b'9' {
-            self.number = number;
-            self.digits[self.len - 1] += 1;
-        } else {
-            let (digits, len) = digits_of(number);
-            *self = Counter {
-                number,
-                digits,
-                len,
-            };
+        if self.number != number as u64 {
+            self.make(number);
+        }
+    }
+
+    #[inline(never)]
+    fn make(&mut self, number: u32)
+        ensures { self.new ≡ number }
+    {
+        let (digits, len) = digits_of(number);
+        self.number = number as u64;
+        self.digits = digits;
+        self.len = len;
+    }
+
+    // Turns to the next number, where its digits are found easily.
+    #[inline(always)]
+    fn count_up(&mut self)
+        requires { self.old < 2 ^ 32 }
+    {
+        let last = self.len - 1;
+        if self.digits[last] < b'9' {
+            self.number += 1;
+            self.digits[last] += 1;
+        } else if last > 0 && self.digits[last - 1] < b'9' {
+            self.number += 1;
+            self.digits[last - 1] += 1;
+            self.digits[last] = b'0';
         }
     }
 }

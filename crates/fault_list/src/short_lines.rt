@@ -218,8 +218,18 @@ fn put_qubit(buffer: &mut [u8], at: usize, names: &mut QubitNames, qubit: u32) -
     ensures written { take result buffer.new ≡ take at buffer.old ++ decimal qubit }
 {
     if (qubit as usize) < NAMED {
-        return names.put(buffer, at, qubit);
+        names.put(buffer, at, qubit)
+    } else {
+        put_number(buffer, at, qubit)
     }
-    let (digits, len) = digits_of(qubit);
+}
+
+#[inline(never)]
+fn put_number(buffer: &mut [u8], at: usize, number: u32) -> usize
+    requires room { at + 16 ≤ length buffer.old }
+    ensures within { result ≤ at + 10 }
+    ensures written { take result buffer.new ≡ take at buffer.old ++ decimal number }
+{
+    let (digits, len) = digits_of(number);
     put_first(buffer, at, digits, len)
 }
