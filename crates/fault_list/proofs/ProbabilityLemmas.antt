@@ -5,7 +5,7 @@ use Rattle.chances.specs.Chances.{Chance, chance_at}
 use Rattle.chances.proofs.ChanceLaws.{chance_at-get_or}
 use Rattle.programs.specs.declared.entries.ChanceTable.{ChanceTable}
 use Rattle.programs.specs.Entries.{TellsChances}
-use Rattle.programs.specs.Kept.{Kept, kept_at, KeptProgram}
+use Rattle.programs.specs.Kept.{kept_at, KeptProgram}
 
 text_of : (parts : List ChanceText) (n : ℕ) (text : List ℕ) → n < length parts → ((other : ChanceText) → (get_or parts n other).text.now ≡ text) → (chance_at parts n).text ≡ text
 text_of [] n text below is = absurd (omega (arith, below))

@@ -43,15 +43,13 @@ pub(crate) fn acts(letter: Letter) -> bool
     }
 }
 
+/// The bytes of the letters in their order.
+const LETTER_BYTES: [u8; 4] = *b"IXYZ";
+
 /// The byte of a letter.
 #[inline(always)]
 pub(crate) fn letter_byte(letter: Letter) -> u8
     ensures { result ∷ [] ≡ letter_text letter }
 {
-    match letter {
-        Letter::I => b'I',
-        Letter::X => b'X',
-        Letter::Y => b'Y',
-        Letter::Z => b'Z',
-    }
+    LETTER_BYTES[letter as usize]
 }

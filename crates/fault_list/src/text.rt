@@ -102,7 +102,14 @@ fn write_line<'t, 'a, A: Allocator + Copy, W: Sink>(
         }
         None => {
             out.push(sink, &desk.lines[..held]);
-            write_long_line(out, sink, &mut desk.block, &mut desk.letters, program, fault);
+            write_long_line(
+                out,
+                sink,
+                &mut desk.block,
+                &mut desk.letters,
+                program,
+                fault,
+            );
             0
         }
     }

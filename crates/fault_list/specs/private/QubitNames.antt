@@ -1,5 +1,5 @@
 -- The digits of qubits' numbers, kept each at the start of a fixed number of bytes. (This project's own.)
-use Rattle.std.specs.Prelude.{◌≡◌, ◌≤◌, ℕ, List, All, decimal, take}
+use Rattle.std.specs.Prelude.{◌≡◌, ◌≤◌, List, All, decimal, take}
 use Rattle.fault_list.specs.declared.qubit_names.Name.{Name}
 
 -- the first bytes are the digits of the qubit

@@ -1,4 +1,4 @@
-use Rattle.std.proofs.Common.{◌≡◌, ◌+◌, ◌-◌, [], ◌∷◌, ◌++◌, length, take, drop, ap, ◌∙◌, arith, append-nil, length-drop}
+use Rattle.std.proofs.Common.{◌-◌, [], ◌∷◌, ◌++◌, take, drop, ap, ◌∙◌, arith, append-nil, length-drop}
 use Rattle.std.specs.Prelude.{decimal}
 use Rattle.std.proofs.lemmas.Fmt.{decimal_nonempty}
 use Rattle.std.proofs.lemmas.List.{take_all, take_at}

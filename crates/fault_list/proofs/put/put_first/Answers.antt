@@ -1,4 +1,4 @@
-use Rattle.std.proofs.Common.{◌+◌, ◌-◌, ◌++◌, length, take, ap, ◌∙◌, arith}
+use Rattle.std.proofs.Common.{◌+◌, ◌-◌, ◌++◌, take, ap, ◌∙◌, arith}
 use Rattle.fault_list.proofs.PutLemmas.{put_within}
 use Rattle.fault_list.proofs.put.put_first.Goals as goal
 

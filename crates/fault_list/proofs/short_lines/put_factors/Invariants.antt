@@ -1,4 +1,4 @@
-use Rattle.std.proofs.Common.{◌≡◌, ◌≤◌, ◌+◌, ◌*◌, ◌++◌, length, take}
+use Rattle.std.proofs.Common.{◌≡◌, ◌≤◌, ◌+◌, ◌*◌, ◌++◌, take}
 use Rattle.fault_list.specs.private.TermLetters.{starred_factors}
 use Rattle.fault_list.proofs.short_lines.put_factors.Given as goal
 
