@@ -1,8 +1,13 @@
 pub mod TermLemmas
+pub mod PutLemmas
+pub mod ProbabilityLemmas
+pub mod CounterLemmas
+pub mod NameLemmas
 pub mod FactorLemmas
 pub mod FactorTextLemmas
 pub mod BlockLemmas
 pub mod SpanLemmas
 pub mod EffectLemmas
 pub mod LineLemmas
+pub mod HeldLineLemmas
 pub mod ShortLineLemmas

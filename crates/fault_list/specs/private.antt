@@ -1,2 +1,5 @@
 pub mod TermLetters
 pub mod FactorTexts
+pub mod KeptTexts
+pub mod QubitNames
+pub mod HeldLines

@@ -1,16 +1,19 @@
 //! The text of the letters of successive qubits. It goes out in blocks, each written into a buffer from its end towards
 //! its start.
-ghost use Rattle.std.specs.Prelude.{◌≡◌, ◌≤◌, ◌+◌, ◌*◌, ◌&&◌, ◌++◌, [], codes, length, drop, if◌then◌else◌};
+ghost use Rattle.std.specs.Prelude.{◌≡◌, ◌≤◌, ◌+◌, ◌*◌, ◌∷◌, ◌&&◌, ◌++◌, [], codes, decimal, length, drop, if◌then◌else◌};
 ghost use Rattle.pieces.specs.Pushed.{Pushes};
 ghost use Rattle.step_model.specs.Listing.{is_I};
 ghost use Rattle.fault_list.specs.FaultLines.{factor_text};
 ghost use Rattle.fault_list.specs.private.FactorTexts.{is_none, joined_on, letter_factors, starred};
 
-use crate::letters::acts;
-use crate::short_lines::{ROOM, starred_before};
+use crate::letters::{acts, letter_byte};
+use itoa::write_digits;
 use pauli_word::Letter;
 use pieces::Pieces;
 use step_model::{Sink, Term};
+
+/// How long a buffer for blocks is.
+pub(crate) const ROOM: usize = 256;
 
 /// How many letters a block has at most: of 12 bytes each at most, their text fits the buffer.
 const BLOCK: usize = 16;
@@ -96,4 +99,51 @@ fn letter_before(buffer: &mut [u8], end: usize, qubit: u32, letter: Letter) -> u
     } else {
         end
     }
+}
+
+// Writes a factor after `*`.
+#[inline(always)]
+fn starred_before(buffer: &mut [u8], end: usize, term: Term) -> usize
+    requires within { end ≤ length buffer.old }
+    requires room { 12 ≤ end }
+    ensures within { result ≤ end }
+    ensures least { end ≤ result + 12 }
+    ensures written { drop result buffer.new ≡ codes "*" ++ factor_text term.qubit term.letter ++ drop end buffer.old }
+{
+    let at = factor_before(buffer, end, term);
+    byte_before(buffer, at, b'*')
+}
+
+#[inline(always)]
+fn factor_before(buffer: &mut [u8], end: usize, term: Term) -> usize
+    requires within { end ≤ length buffer.old }
+    requires room { 11 ≤ end }
+    ensures within { result ≤ end }
+    ensures least { end ≤ result + 11 }
+    ensures written { drop result buffer.new ≡ factor_text term.qubit term.letter ++ drop end buffer.old }
+{
+    let at = number_before(buffer, end, term.qubit);
+    byte_before(buffer, at, letter_byte(term.letter))
+}
+
+#[inline(always)]
+fn number_before(buffer: &mut [u8], end: usize, number: u32) -> usize
+    requires within { end ≤ length buffer.old }
+    requires room { 10 ≤ end }
+    ensures within { result ≤ end }
+    ensures least { end ≤ result + 10 }
+    ensures written { drop result buffer.new ≡ decimal number ++ drop end buffer.old }
+{
+    write_digits(number as u64, buffer, end)
+}
+
+#[inline(always)]
+fn byte_before(buffer: &mut [u8], end: usize, byte: u8) -> usize
+    requires within { end ≤ length buffer.old }
+    requires room { 1 ≤ end }
+    ensures start { result + 1 ≡ end }
+    ensures written { drop result buffer.new ≡ byte ∷ drop end buffer.old }
+{
+    buffer[end - 1] = byte;
+    end - 1
 }

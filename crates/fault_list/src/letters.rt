@@ -1,8 +1,9 @@
 //! The letters that terms make at successive qubits.
-ghost use Rattle.std.specs.Prelude.{◌≡◌, ◌<◌, ◌+◌, ℕ, length, not, slice_index_or};
+ghost use Rattle.std.specs.Prelude.{◌≡◌, ◌<◌, ◌+◌, ◌∷◌, ℕ, [], length, not, slice_index_or};
 ghost use Rattle.pauli_word.specs.declared.letter.Letter.TheVariants.{I};
 ghost use Rattle.pauli_word.specs.Letters.{letter_product};
 ghost use Rattle.step_model.specs.Listing.{is_I};
+ghost use Rattle.fault_list.specs.FaultLines.{letter_text};
 ghost use Rattle.fault_list.specs.private.TermLetters.{letter_here, letter_in};
 
 use pauli_word::Letter;
@@ -40,4 +41,15 @@ pub(crate) fn acts(letter: Letter) -> bool
         Letter::I => false,
         Letter::X | Letter::Y | Letter::Z => true,
     }
+}
+
+/// The bytes of the letters in their order.
+const LETTER_BYTES: [u8; 4] = *b"IXYZ";
+
+/// The byte of a letter.
+#[inline(always)]
+pub(crate) fn letter_byte(letter: Letter) -> u8
+    ensures { result ∷ [] ≡ letter_text letter }
+{
+    LETTER_BYTES[letter as usize]
 }

@@ -2,7 +2,11 @@
 #![tactic(auto)]
 
 mod blocks;
+mod counter;
 mod letters;
+mod probability;
+mod put;
+mod qubit_names;
 mod short_lines;
 mod text;
 mod word;

@@ -1,73 +1,95 @@
-//! Short lines, written into a buffer from its end towards its start: so the digits of each number, which are found
-//! last digit first, go to their place at once.
-ghost use Rattle.std.specs.Prelude.{◌≡◌, ◌≤◌, ◌+◌, ◌*◌, ◌∷◌, ◌++◌, [], codes, decimal, length, drop, IfSome};
+//! Short lines, put into a buffer one after another.
+ghost use Rattle.std.specs.Prelude.{◌≡◌, ◌≤◌, ◌+◌, ◌*◌, ◌++◌, None, codes, decimal, length, take, IfSome};
 ghost use Rattle.fault_walk.specs.Found.{IsFaultOf};
+ghost use Rattle.programs.specs.Entries.{TellsChances};
 ghost use Rattle.step_model.specs.Listing.{effect_at, word_of_terms};
 ghost use Rattle.step_model.specs.WellFormed.{TermsFit};
-ghost use Rattle.fault_list.specs.FaultLines.{effect_text, factor_text, fault_line, letter_text, record_text, word_text};
+ghost use Rattle.fault_list.specs.FaultLines.{effect_text, factor_text, fault_line, record_text, word_text};
 ghost use Rattle.fault_list.specs.private.TermLetters.{is_ordered, starred_factors};
 
-use crate::letters::acts;
+use crate::counter::{Counter, digits_of};
+use crate::letters::{acts, letter_byte};
+use crate::probability::Probability;
+use crate::put::{put_byte, put_first, put_text};
+use crate::qubit_names::{NAMED, QubitNames};
 use fault_walk::FoundFault;
-use itoa::write_digits;
-use pauli_word::Letter;
 use programs::Program;
 use std::alloc::Allocator;
 use step_model::Term;
 
-/// How long a buffer for short lines is.
-pub(crate) const ROOM: usize = 256;
-
-/// How long the probability text of a short line is at most.
-const SHORT_TEXT: usize = 32;
-
 /// How many terms a short line has at most.
 const SHORT_TERMS: usize = 16;
 
-/// Writes the line of a fault so that it ends where the buffer does, and answers where it starts; none where the line
-/// is too long for that, as few are.
-#[inline]
-pub(crate) fn line_before<'a, A: Allocator + Copy>(
-    buffer: &mut [u8],
-    program: &Program<'a, A>,
-    fault: FoundFault,
-) -> Option<usize>
-    requires room { length buffer.old ≡ 256 }
-    requires fault { IsFaultOf program.now fault }
-    ensures within { IfSome result (λ start. start ≤ 256) }
-    ensures written { IfSome result (λ start. drop start buffer.new ≡ fault_line program.now.listing fault.number) }
-{
-    let text = program.entry_text(fault.entry);
-    if text.len() > SHORT_TEXT {
-        return None;
-    }
-    let at = byte_before(buffer, ROOM, b'\n');
-    let at = effect_before(buffer, at, program, fault)?;
-    Some(head_before(buffer, at, fault.number, text))
+/// Texts of the lines before that those after them have again.
+#[derive(Drop)]
+pub(crate) struct KeptTexts<'t, 'a> {
+    number: Counter,
+    probability: Probability<'t, 'a>,
+    record: Counter,
+    names: QubitNames,
 }
 
-// Writes what a fault does.
+impl<'t, 'a> KeptTexts<'t, 'a> {
+    /// Before the first line of a program.
+    pub(crate) fn new<A: Allocator + Copy>(program: &'t Program<'a, A>) -> Self
+        ensures { TellsChances program.now.kept result.probability }
+    {
+        KeptTexts {
+            number: Counter::new(),
+            probability: Probability::none(program.chances()),
+            record: Counter::new(),
+            names: QubitNames::new(),
+        }
+    }
+}
+
+/// Puts the line of a fault at `at`, and answers where it ends; none where the line is too long for that, as few are.
 #[inline(always)]
-fn effect_before<'a, A: Allocator + Copy>(
+pub(crate) fn put_line<'t, 'a, A: Allocator + Copy>(
     buffer: &mut [u8],
-    end: usize,
+    at: usize,
+    texts: &mut KeptTexts<'t, 'a>,
     program: &Program<'a, A>,
     fault: FoundFault,
 ) -> Option<usize>
-    requires within { end ≤ length buffer.old }
-    requires room { 192 ≤ end }
+    requires room { at + 256 ≤ length buffer.old }
     requires fault { IsFaultOf program.now fault }
-    ensures within { IfSome result (λ start. start ≤ end) }
-    ensures least { IfSome result (λ start. end ≤ start + 192) }
-    ensures written { IfSome result (λ start. drop start buffer.new ≡ effect_text program.now.listing.qubits (effect_at program.now.listing fault.number) ++ drop end buffer.old) }
+    requires texts { TellsChances program.now.kept texts.old.probability }
+    ensures same { texts.new.probability ≡ texts.old.probability }
+    ensures within { IfSome result (λ end. end ≤ at + 256) }
+    ensures written { IfSome result (λ end. take end buffer.new ≡ take at buffer.old ++ fault_line program.now.listing fault.number) }
+    ensures kept { result ≡ None → take at buffer.new ≡ take at buffer.old }
+{
+    let end = texts.number.put(buffer, at, fault.number);
+    let end = texts.probability.put(buffer, end, fault.entry)?;
+    let end = put_effect(buffer, end, texts, program, fault)?;
+    Some(put_byte(buffer, end, b'\n'))
+}
+
+// Puts what a fault does.
+#[inline(always)]
+fn put_effect<'t, 'a, A: Allocator + Copy>(
+    buffer: &mut [u8],
+    at: usize,
+    texts: &mut KeptTexts<'t, 'a>,
+    program: &Program<'a, A>,
+    fault: FoundFault,
+) -> Option<usize>
+    requires room { at + 200 ≤ length buffer.old }
+    requires fault { IsFaultOf program.now fault }
+    ensures same { texts.new.probability ≡ texts.old.probability }
+    ensures within { IfSome result (λ end. end ≤ at + 192) }
+    ensures written { IfSome result (λ end. take end buffer.new ≡ take at buffer.old ++ effect_text program.now.listing.qubits (effect_at program.now.listing fault.number)) }
+    ensures kept { result ≡ None → buffer.new ≡ buffer.old }
 {
     program.well_formed();
     match fault.flips {
-        Some(r) => Some(record_before(buffer, end, r)),
+        Some(r) => Some(put_record(buffer, at, &mut texts.record, r)),
         None => {
-            word_before(
+            put_word(
                 buffer,
-                end,
+                at,
+                &mut texts.names,
                 program.qubits(),
                 program.entry_terms(fault.entry),
             )
@@ -75,69 +97,65 @@ fn effect_before<'a, A: Allocator + Copy>(
     }
 }
 
-// Writes the number of a fault and the text of its probability.
 #[inline(always)]
-fn head_before(buffer: &mut [u8], end: usize, number: u32, text: &[u8]) -> usize
-    requires within { end ≤ length buffer.old }
-    requires room { 44 ≤ end }
-    requires short { length text.now ≤ 32 }
-    ensures within { result ≤ end }
-    ensures written { drop result buffer.new ≡ decimal number ++ codes " " ++ text.now ++ codes " " ++ drop end buffer.old }
+fn put_record(buffer: &mut [u8], at: usize, record: &mut Counter, r: u32) -> usize
+    requires room { at + 20 ≤ length buffer.old }
+    ensures within { result ≤ at + 15 }
+    ensures written { take result buffer.new ≡ take at buffer.old ++ record_text r }
 {
-    let at = byte_before(buffer, end, b' ');
-    let at = text_before(buffer, at, text);
-    let at = byte_before(buffer, at, b' ');
-    number_before(buffer, at, number)
+    let end = put_text(buffer, at, b"rec[");
+    let end = record.put(buffer, end, r);
+    put_byte(buffer, end, b']')
 }
 
+// Puts the word of some terms. Two at descending qubits are exchanged first. One or two, as most words have, are written
+// with no loop.
 #[inline(always)]
-fn record_before(buffer: &mut [u8], end: usize, r: u32) -> usize
-    requires within { end ≤ length buffer.old }
-    requires room { 15 ≤ end }
-    ensures within { result ≤ end }
-    ensures least { end ≤ result + 15 }
-    ensures written { drop result buffer.new ≡ record_text r ++ drop end buffer.old }
-{
-    let at = byte_before(buffer, end, b']');
-    let at = number_before(buffer, at, r);
-    text_before(buffer, at, b"rec[")
-}
-
-// Writes the word of some terms. Two at descending qubits are exchanged first.
-#[inline(always)]
-fn word_before(buffer: &mut [u8], end: usize, qubits: u32, terms: &[Term]) -> Option<usize>
-    requires within { end ≤ length buffer.old }
-    requires room { 192 ≤ end }
+fn put_word(
+    buffer: &mut [u8],
+    at: usize,
+    names: &mut QubitNames,
+    qubits: u32,
+    terms: &[Term],
+) -> Option<usize>
+    requires room { at + 200 ≤ length buffer.old }
     requires fit { TermsFit qubits terms.now }
-    ensures within { IfSome result (λ start. start ≤ end) }
-    ensures least { IfSome result (λ start. end ≤ start + 192) }
-    ensures written { IfSome result (λ start. drop start buffer.new ≡ word_text (word_of_terms qubits terms.now) ++ drop end buffer.old) }
+    ensures within { IfSome result (λ end. end ≤ at + 192) }
+    ensures written { IfSome result (λ end. take end buffer.new ≡ take at buffer.old ++ word_text (word_of_terms qubits terms.now)) }
+    ensures kept { result ≡ None → buffer.new ≡ buffer.old }
 {
     match terms {
+        [only] => put_ordered(buffer, at, names, qubits, &[*only]),
         [first, second] if second.qubit < first.qubit => {
-            ordered_before(buffer, end, qubits, &[*second, *first])
+            put_ordered(buffer, at, names, qubits, &[*second, *first])
         }
-        _ => ordered_before(buffer, end, qubits, terms),
+        [first, second] => put_ordered(buffer, at, names, qubits, &[*first, *second]),
+        _ => put_ordered(buffer, at, names, qubits, terms),
     }
 }
 
-// Writes the word of terms at ascending qubits. It answers none where there are no terms or many, where their qubits
+// Puts the word of terms at ascending qubits. It answers none where there are no terms or many, where their qubits
 // don't ascend, or where one of them is I.
 #[inline(always)]
-fn ordered_before(buffer: &mut [u8], end: usize, qubits: u32, terms: &[Term]) -> Option<usize>
-    requires within { end ≤ length buffer.old }
-    requires room { 192 ≤ end }
+fn put_ordered(
+    buffer: &mut [u8],
+    at: usize,
+    names: &mut QubitNames,
+    qubits: u32,
+    terms: &[Term],
+) -> Option<usize>
+    requires room { at + 200 ≤ length buffer.old }
     requires fit { TermsFit qubits terms.now }
-    ensures within { IfSome result (λ start. start ≤ end) }
-    ensures least { IfSome result (λ start. end ≤ start + 192) }
-    ensures written { IfSome result (λ start. drop start buffer.new ≡ word_text (word_of_terms qubits terms.now) ++ drop end buffer.old) }
+    ensures within { IfSome result (λ end. end ≤ at + 192) }
+    ensures written { IfSome result (λ end. take end buffer.new ≡ take at buffer.old ++ word_text (word_of_terms qubits terms.now)) }
+    ensures kept { result ≡ None → buffer.new ≡ buffer.old }
 {
     if terms.len() > SHORT_TERMS || !is_ordered(terms) {
         return None;
     }
     if let [first, more @ ..] = terms {
-        let at = factors_before(buffer, end, more);
-        Some(factor_before(buffer, at, *first))
+        let end = put_factor(buffer, at, names, *first);
+        Some(put_factors(buffer, end, names, more))
     } else {
         None
     }
@@ -158,91 +176,60 @@ fn is_ordered(terms: &[Term]) -> bool
     true
 }
 
-// Writes factors, each after `*`.
+// Puts factors, each after `*`.
 #[inline(always)]
-fn factors_before(buffer: &mut [u8], end: usize, terms: &[Term]) -> usize
-    requires within { end ≤ length buffer.old }
-    requires room { length terms.now * 12 ≤ end }
-    ensures within { result ≤ end }
-    ensures least { end ≤ result + length terms.now * 12 }
-    ensures written { drop result buffer.new ≡ starred_factors terms.now ++ drop end buffer.old }
+fn put_factors(buffer: &mut [u8], at: usize, names: &mut QubitNames, terms: &[Term]) -> usize
+    requires room { at + length terms.now * 12 + 6 ≤ length buffer.old }
+    ensures within { result ≤ at + length terms.now * 12 }
+    ensures written { take result buffer.new ≡ take at buffer.old ++ starred_factors terms.now }
 {
-    let mut left = terms.len();
-    let mut at = end;
-    while left > 0 {
-        left -= 1;
-        at = starred_before(buffer, at, terms[left]);
+    let mut end = at;
+    for term in terms {
+        end = put_starred(buffer, end, names, *term);
     }
-    at
+    end
 }
 
-/// Writes a factor after `*`.
+// Puts a factor after `*`.
 #[inline(always)]
-pub(crate) fn starred_before(buffer: &mut [u8], end: usize, term: Term) -> usize
-    requires within { end ≤ length buffer.old }
-    requires room { 12 ≤ end }
-    ensures within { result ≤ end }
-    ensures least { end ≤ result + 12 }
-    ensures written { drop result buffer.new ≡ codes "*" ++ factor_text term.qubit term.letter ++ drop end buffer.old }
+fn put_starred(buffer: &mut [u8], at: usize, names: &mut QubitNames, term: Term) -> usize
+    requires room { at + 18 ≤ length buffer.old }
+    ensures within { result ≤ at + 12 }
+    ensures written { take result buffer.new ≡ take at buffer.old ++ (codes "*" ++ factor_text term.qubit term.letter) }
 {
-    let at = factor_before(buffer, end, term);
-    byte_before(buffer, at, b'*')
-}
-
-#[inline(always)]
-fn factor_before(buffer: &mut [u8], end: usize, term: Term) -> usize
-    requires within { end ≤ length buffer.old }
-    requires room { 11 ≤ end }
-    ensures within { result ≤ end }
-    ensures least { end ≤ result + 11 }
-    ensures written { drop result buffer.new ≡ factor_text term.qubit term.letter ++ drop end buffer.old }
-{
-    let at = number_before(buffer, end, term.qubit);
-    byte_before(buffer, at, letter_byte(term.letter))
+    let end = put_byte(buffer, at, b'*');
+    put_factor(buffer, end, names, term)
 }
 
 #[inline(always)]
-fn letter_byte(letter: Letter) -> u8
-    ensures { result ∷ [] ≡ letter_text letter }
+fn put_factor(buffer: &mut [u8], at: usize, names: &mut QubitNames, term: Term) -> usize
+    requires room { at + 17 ≤ length buffer.old }
+    ensures within { result ≤ at + 11 }
+    ensures written { take result buffer.new ≡ take at buffer.old ++ factor_text term.qubit term.letter }
 {
-    match letter {
-        Letter::I => b'I',
-        Letter::X => b'X',
-        Letter::Y => b'Y',
-        Letter::Z => b'Z',
+    let end = put_byte(buffer, at, letter_byte(term.letter));
+    put_qubit(buffer, end, names, term.qubit)
+}
+
+#[inline(always)]
+fn put_qubit(buffer: &mut [u8], at: usize, names: &mut QubitNames, qubit: u32) -> usize
+    requires room { at + 16 ≤ length buffer.old }
+    ensures within { result ≤ at + 10 }
+    ensures written { take result buffer.new ≡ take at buffer.old ++ decimal qubit }
+{
+    if (qubit as usize) < NAMED {
+        names.put(buffer, at, qubit)
+    } else {
+        put_number(buffer, at, qubit)
     }
 }
 
-#[inline(always)]
-fn number_before(buffer: &mut [u8], end: usize, number: u32) -> usize
-    requires within { end ≤ length buffer.old }
-    requires room { 10 ≤ end }
-    ensures within { result ≤ end }
-    ensures least { end ≤ result + 10 }
-    ensures written { drop result buffer.new ≡ decimal number ++ drop end buffer.old }
+#[inline(never)]
+fn put_number(buffer: &mut [u8], at: usize, number: u32) -> usize
+    requires room { at + 16 ≤ length buffer.old }
+    ensures within { result ≤ at + 10 }
+    ensures written { take result buffer.new ≡ take at buffer.old ++ decimal number }
 {
-    write_digits(number as u64, buffer, end)
-}
-
-#[inline(always)]
-fn byte_before(buffer: &mut [u8], end: usize, byte: u8) -> usize
-    requires within { end ≤ length buffer.old }
-    requires room { 1 ≤ end }
-    ensures start { result + 1 ≡ end }
-    ensures written { drop result buffer.new ≡ byte ∷ drop end buffer.old }
-{
-    buffer[end - 1] = byte;
-    end - 1
-}
-
-#[inline(always)]
-fn text_before(buffer: &mut [u8], end: usize, text: &[u8]) -> usize
-    requires within { end ≤ length buffer.old }
-    requires room { length text.now ≤ end }
-    ensures start { result + length text.now ≡ end }
-    ensures written { drop result buffer.new ≡ text.now ++ drop end buffer.old }
-{
-    let start = end - text.len();
-    buffer[start..end].copy_from_slice(text);
-    start
+    let (digits, len) = digits_of(number);
+    put_first(buffer, at, digits, len)
 }

@@ -1,13 +1,16 @@
 //! The lines of the faults, on their way to a sink.
-ghost use Rattle.std.specs.Prelude.{◌≡◌, decimal, IfErr, OnOk, OnErr};
+ghost use Rattle.std.specs.Prelude.{◌≡◌, ◌≤◌, decimal, take, IfErr, OnOk, OnErr};
 ghost use Rattle.step_model.specs.Ends.{Takes, TakesBeginning, write_failures};
 ghost use Rattle.step_model.specs.Faults.{write_fault};
 ghost use Rattle.step_model.specs.Listing.{effect_at};
 ghost use Rattle.pieces.specs.Pushed.{Pushes};
+ghost use Rattle.programs.specs.Entries.{TellsChances};
 ghost use Rattle.fault_walk.specs.Found.{IsFaultOf};
 ghost use Rattle.fault_list.specs.FaultLines.{record_text, effect_text, fault_line, fault_lines, coins_line, list_text};
+ghost use Rattle.fault_list.specs.private.HeldLines.{PushesSome};
 
-use crate::short_lines::{ROOM, line_before};
+use crate::blocks::ROOM as BLOCK_ROOM;
+use crate::short_lines::{KeptTexts, put_line};
 use crate::word::{SPAN, write_word};
 use fault_walk::{FoundFault, next_fault};
 use itoa::Buffer;
@@ -37,6 +40,21 @@ pub fn write<'a, A: Allocator + Copy, W: Sink>(
     out.finish(sink)
 }
 
+/// How long a buffer for lines is.
+const ROOM: usize = 4096;
+
+/// Where a short line begins in it at most.
+const LAST_LINE: usize = 3840;
+
+// What lines are made in: the buffer of short lines, and room for a long word.
+#[derive(Drop)]
+struct Desk<'t, 'a> {
+    lines: [u8; ROOM],
+    texts: KeptTexts<'t, 'a>,
+    block: [u8; BLOCK_ROOM],
+    letters: [Letter; SPAN],
+}
+
 fn write_faults<'a, A: Allocator + Copy, W: Sink>(
     out: &mut Pieces,
     sink: &mut W,
@@ -45,36 +63,62 @@ fn write_faults<'a, A: Allocator + Copy, W: Sink>(
     ensures { Pushes W.taken W.failures sink.old sink.new out.old out.new (fault_lines program.now.listing) }
 {
     program.well_formed();
-    let mut buffer = [0; ROOM];
-    let mut letters = [Letter::I; SPAN];
+    let mut desk = Desk {
+        lines: [0; ROOM],
+        texts: KeptTexts::new(program),
+        block: [0; BLOCK_ROOM],
+        letters: [Letter::I; SPAN],
+    };
     let mut walk = Walk::start(program);
+    let mut held = 0;
     while let Some(fault) = next_fault(&mut walk) {
-        write_line(out, sink, &mut buffer, &mut letters, program, fault);
+        held = write_line(out, sink, &mut desk, held, program, fault);
     }
+    out.push(sink, &desk.lines[..held]);
 }
 
-// A short line goes out as one text.
-fn write_line<'a, A: Allocator + Copy, W: Sink>(
+// Writes a line after those that are held in the buffer, and answers how much is held then. Short lines go out together.
+#[inline(always)]
+fn write_line<'t, 'a, A: Allocator + Copy, W: Sink>(
     out: &mut Pieces,
     sink: &mut W,
-    buffer: &mut [u8; ROOM],
-    letters: &mut [Letter; SPAN],
+    desk: &mut Desk<'t, 'a>,
+    held: usize,
     program: &Program<'a, A>,
     fault: FoundFault,
-)
-    requires { IsFaultOf program.now fault }
-    ensures { Pushes W.taken W.failures sink.old sink.new out.old out.new (fault_line program.now.listing fault.number) }
+) -> usize
+    requires held { held ≤ 3840 }
+    requires fault { IsFaultOf program.now fault }
+    requires texts { TellsChances program.now.kept desk.old.texts.probability }
+    ensures held { result ≤ 3840 }
+    ensures texts { desk.new.texts.probability ≡ desk.old.texts.probability }
+    ensures pushed { PushesSome W.taken W.failures sink.old sink.new out.old out.new (take held desk.old.lines) (take result desk.new.lines) (fault_line program.now.listing fault.number) }
 {
-    match line_before(buffer, program, fault) {
-        Some(start) => out.push(sink, &buffer[start..]),
-        None => write_long_line(out, sink, buffer, letters, program, fault),
+    match put_line(&mut desk.lines, held, &mut desk.texts, program, fault) {
+        Some(end) if end <= LAST_LINE => end,
+        Some(end) => {
+            out.push(sink, &desk.lines[..end]);
+            0
+        }
+        None => {
+            out.push(sink, &desk.lines[..held]);
+            write_long_line(
+                out,
+                sink,
+                &mut desk.block,
+                &mut desk.letters,
+                program,
+                fault,
+            );
+            0
+        }
     }
 }
 
 fn write_long_line<'a, A: Allocator + Copy, W: Sink>(
     out: &mut Pieces,
     sink: &mut W,
-    buffer: &mut [u8; ROOM],
+    buffer: &mut [u8; BLOCK_ROOM],
     letters: &mut [Letter; SPAN],
     program: &Program<'a, A>,
     fault: FoundFault,
@@ -94,7 +138,7 @@ fn write_long_line<'a, A: Allocator + Copy, W: Sink>(
 fn write_effect<'a, A: Allocator + Copy, W: Sink>(
     out: &mut Pieces,
     sink: &mut W,
-    buffer: &mut [u8; ROOM],
+    buffer: &mut [u8; BLOCK_ROOM],
     letters: &mut [Letter; SPAN],
     program: &Program<'a, A>,
     fault: FoundFault,

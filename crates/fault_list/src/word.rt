@@ -6,9 +6,8 @@ ghost use Rattle.step_model.specs.WellFormed.{TermsFit};
 ghost use Rattle.fault_list.specs.FaultLines.{word_text};
 ghost use Rattle.fault_list.specs.private.FactorTexts.{is_none, joined_on, term_factors};
 
-use crate::blocks::write_letters;
+use crate::blocks::{ROOM, write_letters};
 use crate::letters::gather;
-use crate::short_lines::ROOM;
 use pauli_word::Letter;
 use pieces::Pieces;
 use step_model::{Sink, Term};

@@ -1,6 +1,6 @@
 use Rattle.std.proofs.Common.{arith}
 use Rattle.fault_list.proofs.ShortLineLemmas.{digits_of_a_number}
-use Rattle.fault_list.proofs.short_lines.number_before.Goals as goal
+use Rattle.fault_list.proofs.blocks.number_before.Goals as goal
 
 pub write_digits-requires : goal.write_digits-requires
 write_digits-requires c =

@@ -1,0 +1,50 @@
+-- Lines that are held back, and those before them that were pushed.
+use Rattle.std.proofs.Common.{◌≡◌, ℕ, ◌+◌, List, [], ◌++◌, Option, sym, ap, ◌∙◌, append_assoc, append-nil, arith}
+use Rattle.std.specs.List.{flat_map, range_with_len}
+use Rattle.std.proofs.lemmas.List.Concat.{flat_map-append}
+use Rattle.pieces.specs.Held.{Held}
+use Rattle.pieces.specs.Pushed.{Pushes}
+use Rattle.pieces.proofs.Pushing.{Pushes-nil, Pushes-trans}
+use Rattle.fault_list.specs.private.HeldLines.{PushesSome}
+use Rattle.fault_list.proofs.FactorLemmas.{range-append}
+
+-- the texts of the first numbers and of the next one
+one_more : (f : ℕ → List ℕ) (n : ℕ) → flat_map f (range_with_len 0 n) ++ f n ≡ flat_map f (range_with_len 0 (n + 1))
+one_more f n =
+    let start : 0 + n ≡ n = omega arith in
+    sym (ap (flat_map f) (range-append 0 n 1)
+    ∙ (flat_map-append f (range_with_len 0 n) (range_with_len (0 + n) 1)
+    ∙ (ap (λ k. flat_map f (range_with_len 0 n) ++ (f k ++ [])) start
+    ∙ ap (λ l. flat_map f (range_with_len 0 n) ++ l) (append-nil (f n)))))
+
+-- nothing yet
+pub nothing_held : {S : Type 0} {taken : S → Option (List ℕ)} {failures : S → ℕ} {s : S} {h : Held} {before : List ℕ} → PushesSome taken failures s s h h before before []
+nothing_held {S} {taken} {failures} {s} {h} {before} = record { gone = []; pushes = Pushes-nil; rest = sym (append-nil before) }
+
+-- a text that is held too
+pub held_too : {S : Type 0} {taken : S → Option (List ℕ)} {failures : S → ℕ} {s : S} {h : Held} {before after bytes : List ℕ} → after ≡ before ++ bytes → PushesSome taken failures s s h h before after bytes
+held_too is = record { gone = []; pushes = Pushes-nil; rest = is }
+
+module _ {S : Type 0} {taken : S → Option (List ℕ)} {failures : S → ℕ} {s₀ s₁ : S} {h₀ h₁ : Held} where
+  -- all that was held goes out
+  pub all_gone : {before bytes gone : List ℕ} → gone ≡ before ++ bytes → Pushes taken failures s₀ s₁ h₀ h₁ gone → PushesSome taken failures s₀ s₁ h₀ h₁ before [] bytes
+  all_gone {before} {bytes} {gone} is pushes = record { gone = gone; pushes = pushes; rest = append-nil gone ∙ is }
+
+module _ {S : Type 0} {taken : S → Option (List ℕ)} {failures : S → ℕ} {s₀ s₁ s₂ : S} {h₀ h₁ h₂ : Held} where
+  -- the line of one number more
+  pub held_number : {held held_after : List ℕ} (f : ℕ → List ℕ) (n : ℕ)
+      → PushesSome taken failures s₀ s₁ h₀ h₁ [] held (flat_map f (range_with_len 0 n)) → PushesSome taken failures s₁ s₂ h₁ h₂ held held_after (f n)
+      → PushesSome taken failures s₀ s₂ h₀ h₂ [] held_after (flat_map f (range_with_len 0 (n + 1)))
+  held_number {held} {held_after} f n p q = record {
+    gone = p.gone ++ q.gone;
+    pushes = Pushes-trans p.pushes q.pushes;
+    rest =
+        append_assoc p.gone q.gone held_after
+        ∙ (ap (λ l. p.gone ++ l) q.rest
+        ∙ (sym (append_assoc p.gone held (f n))
+        ∙ (ap (λ l. l ++ f n) p.rest ∙ one_more f n)));
+  }
+
+  -- what is held at the end goes out
+  pub all_out : {held bytes : List ℕ} → PushesSome taken failures s₀ s₁ h₀ h₁ [] held bytes → Pushes taken failures s₁ s₂ h₁ h₂ held → Pushes taken failures s₀ s₂ h₀ h₂ bytes
+  all_out p q = rw (← p.rest) (Pushes-trans p.pushes q)

@@ -1,0 +1,24 @@
+use Rattle.std.proofs.Common.{take, refl, ap, ◌∙◌, arith}
+use Rattle.std.specs.Prelude.{decimal}
+use Rattle.step_model.specs.Listing.{effect_at}
+use Rattle.fault_list.specs.FaultLines.{effect_text}
+use Rattle.fault_list.proofs.ProbabilityLemmas.{text_told}
+use Rattle.fault_list.proofs.PutLemmas.{before_kept, line_put}
+use Rattle.fault_list.proofs.short_lines.put_line.Goals as goal
+
+pub returns-in_err-end-2-clause-kept : goal.returns-in_err-end-2-clause-kept
+returns-in_err-end-2-clause-kept g c =
+    let at = c.args.at in
+    let number = c.put-end.result in
+    let first = before_kept number c.in_ok-end.end c.put.new.buffer c.put-end.new.buffer _ c.in_ok-end.ensures.from (omega (arith, c.put-end.auto.buffer, c.put-end.ensures.within, c.requires.room)) c.in_ok-end.ensures.written in
+    λ none. ap (take at) (c.in_err-end-2.ensures.kept refl)
+    ∙ before_kept at number c.put.new.buffer c.args.buffer.now (decimal c.args.fault.number) c.put-end.ensures.from (omega (arith, c.requires.room)) (first ∙ c.put-end.ensures.written)
+
+pub returns-clause-written : goal.returns-clause-written
+returns-clause-written g c =
+    let program = c.args.program.now.listing in
+    let number = c.args.fault.number in
+    let before = take c.args.at c.args.buffer.now in
+    let effect = effect_text program.qubits (effect_at program number) in
+    let text = text_told c.args.program.now c.args.texts.now.probability c.args.fault.entry c.requires.texts c.requires.fault.entry in
+    line_put before (decimal number) effect c.put-end.ensures.written c.in_ok-end.ensures.written c.in_ok-end-2.ensures.written c.put_byte.ensures.written (text ∙ c.requires.fault.text)

@@ -1,0 +1,19 @@
+-- Texts that are kept at the start of a fixed number of bytes. (This project's own.)
+use Rattle.std.specs.Prelude.{◌≡◌, ◌<◌, ◌≤◌, ℕ, List, ◌++◌, codes, decimal, length, take}
+use Rattle.chances.specs.declared.table.ChanceText.{ChanceText}
+use Rattle.chances.specs.Chances.{chance_at}
+
+-- the first bytes are the digits of a number
+pub record HasDigits (number len : ℕ) (bytes : List ℕ) : Type 0 where
+  pub some : 0 < len
+  pub within : len ≤ 10
+  pub digits : take len bytes ≡ decimal number
+
+-- what stands between the number of a fault and what it does: a probability's text after a space and before one
+abbrev pub probability_text : List ℕ → List ℕ
+probability_text text = codes " " ++ text ++ codes " "
+
+-- the first bytes are that of the text with a number, where there is one
+pub record HasProbability (parts : List ChanceText) (part len : ℕ) (bytes : List ℕ) : Type 0 where
+  pub within : len ≤ 32
+  pub text : part < length parts → take len bytes ≡ probability_text (chance_at parts part).text

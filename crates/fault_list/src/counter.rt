@@ -1,0 +1,107 @@
+//! The digits of numbers that mostly count up.
+ghost use Rattle.std.specs.Prelude.{◌≡◌, ◌<◌, ◌≤◌, ◌^◌, ◌+◌, ◌++◌, decimal, length, take};
+ghost use Rattle.fault_list.specs.private.KeptTexts.{HasDigits};
+
+use crate::put::put_first;
+use itoa::write_digits;
+use std::marker::Model;
+
+/// How many bytes are kept for the digits. A number of 32 bits has fewer; so many are copied at once.
+pub(crate) const DIGITS: usize = 16;
+
+/// The digits of a number, kept for the next one: mostly that is one more, and only its last digit or two change. They are
+/// changed as soon as they were put, since bytes that were just written are slow to copy.
+#[derive(Drop)]
+pub(crate) struct Counter {
+    number: u64,
+    digits: [u8; DIGITS],
+    len: usize,
+}
+
+impl Model for Counter {
+    ghost use Rattle.std.specs.Prelude.{ℕ};
+    ghost use Rattle.fault_list.specs.private.KeptTexts.{HasDigits};
+
+    ghost Value = { ℕ };
+
+    ghost view = { λ c. c.number };
+
+    ghost invariant = { λ c. HasDigits c.number c.len c.digits };
+}
+
+impl Counter {
+    pub(crate) fn new() -> Self
+        ensures { result ≡ 0 }
+    {
+        let mut digits = [0; DIGITS];
+        digits[0] = b'0';
+        Counter {
+            number: 0,
+            digits,
+            len: 1,
+        }
+    }
+
+    /// Puts a number at `at`, and answers where it ends.
+    #[inline(always)]
+    pub(crate) fn put(&mut self, buffer: &mut [u8], at: usize, number: u32) -> usize
+        requires room { at + 16 ≤ length buffer.old }
+        ensures from { at ≤ result }
+        ensures within { result ≤ at + 10 }
+        ensures written { take result buffer.new ≡ take at buffer.old ++ decimal number }
+    {
+        self.turn_to(number);
+        let end = put_first(buffer, at, self.digits, self.len);
+        self.count_up();
+        end
+    }
+
+    #[inline(always)]
+    fn turn_to(&mut self, number: u32)
+        ensures { self.new ≡ number }
+    {
+        if self.number != number as u64 {
+            self.make(number);
+        }
+    }
+
+    #[inline(never)]
+    fn make(&mut self, number: u32)
+        ensures { self.new ≡ number }
+    {
+        let (digits, len) = digits_of(number);
+        self.number = number as u64;
+        self.digits = digits;
+        self.len = len;
+    }
+
+    // Turns to the next number, where its digits are found easily.
+    #[inline(always)]
+    fn count_up(&mut self)
+        requires { self.old < 2 ^ 32 }
+    {
+        let last = self.len - 1;
+        if self.digits[last] < b'9' {
+            self.number += 1;
+            self.digits[last] += 1;
+        } else if last > 0 && self.digits[last - 1] < b'9' {
+            self.number += 1;
+            self.digits[last - 1] += 1;
+            self.digits[last] = b'0';
+        }
+    }
+}
+
+/// The digits of a number at the start of so many bytes, and how many they are.
+#[inline(never)]
+pub(crate) fn digits_of(number: u32) -> ([u8; DIGITS], usize)
+    ensures digits { HasDigits number result.1 result.0 }
+    ensures counted { result.1 ≡ length (decimal number) }
+{
+    let mut text = [0; DIGITS];
+    let start = write_digits(number as u64, &mut text, DIGITS);
+    let len = DIGITS - start;
+    let mut digits = [0; DIGITS];
+    digits[..len].copy_from_slice(&text[start..]);
+    (digits, len)
+}
