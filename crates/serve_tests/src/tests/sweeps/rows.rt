@@ -206,7 +206,7 @@ detector D15
 ",
         times: 1,
         status: Status::Done,
-        spared: 1,
+        spared: 0,
     },
     Row {
         order: Order::Analyze,
