@@ -16,6 +16,7 @@ use programs::{FaultName, Program, Step};
 use std::alloc::Allocator;
 
 /// Takes a step of a program in which these faults happen.
+#[inline(always)]
 pub(crate) fn take_step<A: Allocator + Copy>(
     machine: &mut Machine<'_, A>,
     program: &Program<'_, A>,
