@@ -10,9 +10,9 @@ use Rattle.step_model.specs.Ends.{Takes, TakesSome}
 use Rattle.step_model.specs.HitModels.{model_of}
 use Rattle.step_model.specs.WellFormed.{IsWellFormed}
 use Rattle.dem_text.specs.ModelText.{detectors_text, line_text, lines_text, model_text, observables_text}
-use Rattle.pieces.specs.Held.{Held}
-use Rattle.pieces.specs.Pushed.{IsPushed, Outlet, Pushes}
-use Rattle.pieces.proofs.Pushing.{Pushes-trans}
+use Rattle.streams.specs.Held.{Held}
+use Rattle.streams.specs.Pushed.{IsPushed, Outlet, Pushes}
+use Rattle.streams.proofs.Pushing.{Pushes-trans}
 use Rattle.backward.specs.declared.found.Found.{Found}
 use Rattle.backward.specs.declared.point.Point.{Point}
 use Rattle.backward.specs.Tracked.{Tracked}

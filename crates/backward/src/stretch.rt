@@ -2,7 +2,7 @@
 ghost use Rattle.std.specs.Prelude.{◌≡◌, ◌<◌, ◌≤◌, ◌++◌, [], ℕ, List, reverse, true, IfOk, OnOk, OnErr};
 ghost use Rattle.step_model.specs.ErrorModels.{ErrorLine};
 ghost use Rattle.dem_text.specs.HeldText.{HoldsLines};
-ghost use Rattle.pieces.specs.Pushed.{Pushes};
+ghost use Rattle.streams.specs.Pushed.{Pushes};
 ghost use Rattle.backward.specs.private.Passes.{IsPassed, Stays};
 ghost use Rattle.backward.specs.private.Stretches.{lines_between, text_between};
 ghost use Rattle.backward.specs.private.Points.{AreParts, ArePoints, IsReady, PushesSome, first_place};
@@ -14,10 +14,10 @@ use crate::points::leave_points;
 use crate::text_store::TextStore;
 use crate::tracker::Tracker;
 use dem_text::HeldText;
-use pieces::Pieces;
 use programs::Program;
 use std::alloc::{AllocError, Allocator};
 use step_model::Sink;
+use streams::Pieces;
 
 /// How many points are left on the way to the start of a stretch, at most.
 const POINTS: usize = 60;

@@ -1,7 +1,7 @@
 //! The text of a program's error model, written to a sink.
 ghost use Rattle.std.specs.Prelude.{◌≡◌, ◌⊎◌, ◌++◌, [], false, length, IfOk, IfErr, IfNone, IfSome, OnErr};
 ghost use Rattle.dem_text.specs.ModelText.{detectors_text, model_text, observables_text};
-ghost use Rattle.pieces.specs.Pushed.{Pushes};
+ghost use Rattle.streams.specs.Pushed.{Pushes};
 ghost use Rattle.step_model.specs.Ends.{Takes, TakesSome, write_failures};
 ghost use Rattle.step_model.specs.Faults.{memory_fault, write_fault};
 ghost use Rattle.step_model.specs.HitModels.{model_of};
@@ -18,10 +18,10 @@ use crate::stretch::{cut, write_parts};
 use crate::text_store::TextStore;
 use crate::tracker::Tracker;
 use dem_text::{push_detector, push_observable};
-use pieces::Pieces;
 use programs::{Program, Walk};
 use std::alloc::{AllocError, Allocator};
 use step_model::{Cause, Fault, Place, Sink};
+use streams::Pieces;
 
 /// How much text of error lines is held at once. A longer text is found in parts, in a second pass.
 const ROOM: usize = 2 << 20;

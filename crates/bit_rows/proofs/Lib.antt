@@ -7,3 +7,4 @@ pub mod Blocks
 pub mod Lanes
 pub mod Blanks
 pub mod Marked
+pub mod LaneLaws

@@ -1,8 +1,10 @@
 //! Rows of bits of fixed length, 64 places to a machine word: exclusive or, parities of common ones, and the power of
-//! i of the product of two Pauli words, each kept as a row of x bits and a row of z bits.
+//! i of the product of two Pauli words, each kept as a row of x bits and a row of z bits. `lanes` has single words whose
+//! bits belong to 64 runs.
 #![tactic(auto)]
 
 mod bits;
+pub mod lanes;
 mod marks;
 mod multiply;
 mod parity;

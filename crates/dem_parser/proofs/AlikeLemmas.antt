@@ -5,16 +5,16 @@ use Rattle.std.specs.List.{before_first, list_all, list_any}
 use Rattle.stim_lexer.specs.Cut.{Cut}
 use Rattle.stim_parser.specs.declared.forms.ArgumentForm.TheVariants.{OneProbability}
 use Rattle.stim_parser.specs.Arguments.{arguments_in}
-use Rattle.block_text.specs.Texts.{Accepts}
+use Rattle.stim_lexer.specs.Texts.{Accepts}
 use Rattle.stim_parser.specs.Judging.{judged, reading_of, refusal_of}
 use Rattle.stim_parser.specs.Limits.{has_wrong_arguments, has_wrong_probability}
 use Rattle.stim_parser.specs.Probabilities.{AreProbabilities}
-use Rattle.dem_lines.specs.declared.operation.Operation.TheVariants.{PauliError}
-use Rattle.dem_lines.specs.declared.target.Target.{Target}
-use Rattle.dem_lines.specs.Instructions.{keyword_named}
-use Rattle.dem_lines.specs.Limits.{are_of_form, has_target_beyond, is_effect}
-use Rattle.dem_lines.specs.Targets.{targets_in}
-use Rattle.dem_lines.specs.Verdicts.{model_table}
+use Rattle.dem_parser.specs.declared.operation.Operation.TheVariants.{PauliError}
+use Rattle.dem_parser.specs.declared.target.Target.{Target}
+use Rattle.dem_parser.specs.Instructions.{keyword_named}
+use Rattle.dem_parser.specs.Limits.{are_of_form, has_target_beyond, is_effect}
+use Rattle.dem_parser.specs.Targets.{targets_in}
+use Rattle.dem_parser.specs.Verdicts.{model_table}
 use Rattle.dem_parser.specs.declared.counts.Extent.{Extent}
 use Rattle.dem_parser.specs.private.ErrorTexts.{AreCounted, BeginsWithTargets, is_quiet}
 use Rattle.dem_parser.specs.private.LinesRead.{BeginsWithError, IsErrorLine, IsFirstLine}

@@ -5,20 +5,20 @@ use Rattle.std.specs.List.{list_any}
 use Rattle.std.proofs.lemmas.Bool.{or_from, or_parts, true≢false}
 use Rattle.std.proofs.lemmas.List.{drop_all}
 use Rattle.stim_parser.specs.Numbers.{is_number_beyond, has_minus, magnitude_of, whole_value}
-use Rattle.dem_lines.specs.declared.operation.Operation.{Operation}
-use Rattle.dem_lines.specs.declared.operation.Operation.TheVariants.{PauliError, DetectorDeclaration, ObservableInclude, Shifts}
-use Rattle.dem_lines.specs.declared.target.Target.{Target}
-use Rattle.dem_lines.specs.Fitting.{Fits, AllFit, IsAccepted}
-use Rattle.dem_lines.specs.private.Flat.{tree_of, tree_of-items}
-use Rattle.dem_lines.specs.Limits.{has_target_beyond}
-use Rattle.dem_lines.specs.Reached.{block_lines, has_many_lines}
-use Rattle.dem_lines.specs.Texts.{Item, items_in}
-use Rattle.block_text.specs.Trees.{InstructionLine, Nothing, Then, items_of}
-use Rattle.dem_lines.specs.Trees.{Tree}
-use Rattle.dem_lines.specs.Judged.{Writes}
-use Rattle.dem_lines.specs.Verdicts.{Instruction}
-use Rattle.dem_lines.proofs.PassLemmas.{drop_got}
-use Rattle.dem_lines.proofs.TreeLemmas.{each_tree_is_accepted}
+use Rattle.dem_parser.specs.declared.operation.Operation.{Operation}
+use Rattle.dem_parser.specs.declared.operation.Operation.TheVariants.{PauliError, DetectorDeclaration, ObservableInclude, Shifts}
+use Rattle.dem_parser.specs.declared.target.Target.{Target}
+use Rattle.dem_parser.specs.Fitting.{Fits, AllFit, IsAccepted}
+use Rattle.dem_parser.specs.private.Flat.{tree_of, tree_of-items}
+use Rattle.dem_parser.specs.Limits.{has_target_beyond}
+use Rattle.dem_parser.specs.Reached.{block_lines, has_many_lines}
+use Rattle.dem_parser.specs.Texts.{Item, items_in}
+use Rattle.stim_lexer.specs.Trees.{InstructionLine, Nothing, Then, items_of}
+use Rattle.dem_parser.specs.Trees.{Tree}
+use Rattle.dem_parser.specs.Judged.{Writes}
+use Rattle.dem_parser.specs.Verdicts.{Instruction}
+use Rattle.dem_parser.proofs.PassLemmas.{drop_got}
+use Rattle.dem_parser.proofs.TreeLemmas.{each_tree_is_accepted}
 pub use Rattle.dem_parser.specs.private.Chains.{AllStay, placed}
 use Rattle.dem_parser.specs.declared.counts.Extent.{Extent}
 use Rattle.dem_parser.specs.declared.counts.LineCounts.{LineCounts}

@@ -1,9 +1,9 @@
 -- The greatest counts of targets, found one after another.
 use Rattle.std.proofs.Common.{◌≡◌, ℕ, false, List, [], ◌∷◌, ap, sym, ◌∙◌, arith}
 use Rattle.std.specs.Prelude.{max}
-use Rattle.dem_lines.specs.declared.target.Target.{Target}
-use Rattle.dem_lines.specs.Limits.{has_target_beyond, is_target_beyond}
-use Rattle.block_text.specs.Reached.{greatest_by}
+use Rattle.dem_parser.specs.declared.target.Target.{Target}
+use Rattle.dem_parser.specs.Limits.{has_target_beyond, is_target_beyond}
+use Rattle.stim_lexer.specs.Reached.{greatest_by}
 use Rattle.dem_parser.proofs.ShiftLemmas.{left, right}
 
 pub max-none : (a : ℕ) → max a 0 ≡ a

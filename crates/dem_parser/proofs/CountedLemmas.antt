@@ -11,12 +11,12 @@ use Rattle.stim_parser.specs.Numbers.{number_of}
 use Rattle.stim_parser.specs.Pieces.{ends_here, ends_piece, is_star, pieces_of}
 use Rattle.stim_parser.specs.Targets.{each_of}
 use Rattle.dem_parser.specs.declared.counts.Extent.{Extent}
-use Rattle.dem_lines.specs.declared.target.Target.{Target}
-use Rattle.dem_lines.specs.declared.target.Target.TheVariants.{Detector, Observable}
+use Rattle.dem_parser.specs.declared.target.Target.{Target}
+use Rattle.dem_parser.specs.declared.target.Target.TheVariants.{Detector, Observable}
 use Rattle.dem_parser.specs.private.ErrorTexts.{AreCounted, BeginsWithTargets, IsNumberFront, IsTargetFront, ends_line, is_quiet, is_word_byte}
-use Rattle.dem_lines.specs.Limits.{has_target_beyond, is_effect, is_target_beyond}
+use Rattle.dem_parser.specs.Limits.{has_target_beyond, is_effect, is_target_beyond}
 use Rattle.dem_parser.specs.Meanings.{detectors_to, observables_to}
-use Rattle.dem_lines.specs.Targets.{target_of, targets_in}
+use Rattle.dem_parser.specs.Targets.{target_of, targets_in}
 use Rattle.dem_parser.proofs.CountLemmas.{max-none, raised-next}
 use Rattle.stim_parser.proofs.ByteLemmas.{all-where, both_all, none-where}
 use Rattle.stim_parser.proofs.CutLemmas.{first_piece}

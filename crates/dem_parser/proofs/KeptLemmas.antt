@@ -4,12 +4,12 @@ use Rattle.std.specs.Prelude.{All, slice_get}
 use Rattle.std.proofs.lemmas.Bool.{cases_lt}
 use Rattle.std.proofs.lemmas.List.{get_or_append_left, get_or_push, length_push, map-append}
 use Rattle.std.proofs.lemmas.List.Elements.{All-append, All-cons, All-nil}
-use Rattle.dem_lines.specs.declared.operation.Operation.{Operation}
-use Rattle.dem_lines.specs.declared.operation.Operation.TheVariants.{PauliError, DetectorDeclaration, ObservableInclude, Shifts}
-use Rattle.dem_lines.specs.declared.target.Target.{Target}
-use Rattle.dem_lines.specs.Fitting.{Fits}
-use Rattle.dem_lines.specs.Texts.{Item}
-use Rattle.dem_lines.specs.Verdicts.{number_in}
+use Rattle.dem_parser.specs.declared.operation.Operation.{Operation}
+use Rattle.dem_parser.specs.declared.operation.Operation.TheVariants.{PauliError, DetectorDeclaration, ObservableInclude, Shifts}
+use Rattle.dem_parser.specs.declared.target.Target.{Target}
+use Rattle.dem_parser.specs.Fitting.{Fits}
+use Rattle.dem_parser.specs.Texts.{Item}
+use Rattle.dem_parser.specs.Verdicts.{number_in}
 use Rattle.dem_parser.specs.declared.counts.Extent.{Extent}
 use Rattle.dem_parser.specs.declared.entries.Entry.{Entry}
 use Rattle.dem_parser.specs.declared.entries.Entry.TheVariants as entry
@@ -18,7 +18,7 @@ use Rattle.dem_parser.specs.declared.entries.Rare.TheVariants as rare
 use Rattle.dem_parser.specs.private.Kept.{AreKept, IsAmount, IsEntryKept, IsKept, IsRareKept, item_of, item_of_rare}
 use Rattle.dem_parser.specs.private.LinesRead.{IsErrorLine}
 use Rattle.dem_parser.specs.Meanings.{detectors_to, observables_to}
-use Rattle.block_text.specs.Reached.{greatest_by}
+use Rattle.stim_lexer.specs.Reached.{greatest_by}
 use Rattle.dem_parser.specs.private.Standing.{Speaks, instruction_at, line_at, line_number}
 use Rattle.dem_parser.specs.private.Tables.{numbers_stated}
 use Rattle.dem_parser.proofs.TableLemmas.{known-fitting}

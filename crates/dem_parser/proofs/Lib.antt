@@ -20,3 +20,16 @@ mod LineLemmas
 mod AlikeLemmas
 mod CountedLemmas
 mod ReadingLemmas
+pub mod FitLemmas
+pub mod TreeLemmas
+pub mod PassLemmas
+mod InstructionTexts
+mod LineCutLemmas
+mod LineReadLemmas
+mod TextReadLemmas
+mod ModelInstructions
+mod StandLemmas
+mod AscendingLemmas
+mod MeaningLemmas
+mod ReadModelLemmas
+pub mod ProgramLemmas

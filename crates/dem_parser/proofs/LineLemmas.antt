@@ -15,21 +15,21 @@ use Rattle.stim_lexer.specs.Cut.{Cut, cut_of, has_bad_byte}
 use Rattle.stim_lexer.specs.Lexing.{Numbered, Unread, after_silent, answered, cut_in, first_found, next_found}
 use Rattle.stim_lexer.specs.Lines.{lines_of, says_nothing}
 use Rattle.stim_lexer.proofs.ScanLemmas.{lines_of-cut}
-use Rattle.block_text.specs.declared.said.Said.{Said}
-use Rattle.block_text.specs.declared.said.Said.TheVariants as said
-use Rattle.block_text.specs.Fitting.{ReadingFits}
-use Rattle.block_text.specs.Said.{reading_in}
-use Rattle.block_text.specs.Texts.{Closes, Refuses, Accepts}
+use Rattle.stim_lexer.specs.declared.said.Said.{Said}
+use Rattle.stim_lexer.specs.declared.said.Said.TheVariants as said
+use Rattle.stim_lexer.specs.Fitting.{ReadingFits}
+use Rattle.stim_lexer.specs.Said.{reading_in}
+use Rattle.stim_lexer.specs.Texts.{Closes, Refuses, Accepts}
 use Rattle.stim_parser.specs.declared.table.Keyword.{Keyword}
 use Rattle.stim_parser.specs.declared.table.Keyword.TheVariants.{Does as keyword_Does, Repeats}
 use Rattle.stim_parser.specs.Arguments.{arguments_in}
 use Rattle.stim_parser.specs.Judging.{accepted, judged, reading_of, refusal_of, said_by, unless_refused}
-use Rattle.dem_lines.specs.declared.operation.Operation.{Operation}
-use Rattle.dem_lines.specs.declared.target.Target.{Target}
-use Rattle.dem_lines.specs.Fitting.{Fits}
-use Rattle.dem_lines.specs.Instructions.{keyword_named}
-use Rattle.dem_lines.specs.Verdicts.{Instruction, model_table}
-use Rattle.dem_lines.proofs.FitLemmas.{reading_fits}
+use Rattle.dem_parser.specs.declared.operation.Operation.{Operation}
+use Rattle.dem_parser.specs.declared.target.Target.{Target}
+use Rattle.dem_parser.specs.Fitting.{Fits}
+use Rattle.dem_parser.specs.Instructions.{keyword_named}
+use Rattle.dem_parser.specs.Verdicts.{Instruction, model_table}
+use Rattle.dem_parser.proofs.FitLemmas.{reading_fits}
 use Rattle.dem_parser.specs.private.LinesRead.{IsFirstLine}
 use Rattle.dem_parser.specs.private.Standing.{instruction_cut, line_at, line_number}
 

@@ -6,14 +6,14 @@ use Rattle.step_model.specs.declared.fault.Cause.TheVariants as cause
 use Rattle.step_model.specs.declared.fault.Fault.{Fault}
 use Rattle.step_model.specs.ErrorModels.{ErrorModel}
 use Rattle.step_model.specs.Faults.{memory_fault, unless, without_line, ◌>>=◌}
-use Rattle.dem_lines.specs.private.Flat.{tree_of, tree_of-items}
-use Rattle.dem_lines.specs.Texts.{Item}
+use Rattle.dem_parser.specs.private.Flat.{tree_of, tree_of-items}
+use Rattle.dem_parser.specs.Texts.{Item}
 use Rattle.dem_parser.specs.Meanings.{meaning_of}
 use Rattle.dem_parser.specs.Models.{first_beyond, model_in, model_of_tree, placed_lines}
-use Rattle.dem_lines.specs.Reached.{has_many_lines}
-use Rattle.block_text.specs.Texts.{refused}
-use Rattle.dem_lines.specs.Trees.{Tree}
-use Rattle.dem_lines.specs.Judged.{IsRefusedBy, Writes}
+use Rattle.dem_parser.specs.Reached.{has_many_lines}
+use Rattle.stim_lexer.specs.Texts.{refused}
+use Rattle.dem_parser.specs.Trees.{Tree}
+use Rattle.dem_parser.specs.Judged.{IsRefusedBy, Writes}
 
 -- ---- the model of a tree
 

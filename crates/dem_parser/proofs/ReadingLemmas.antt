@@ -11,15 +11,15 @@ use Rattle.stim_lexer.specs.Bytes.{is_line_feed}
 use Rattle.stim_lexer.specs.Cut.{cut_of, has_bad_byte}
 use Rattle.stim_lexer.specs.Lexing.{Unread}
 use Rattle.stim_lexer.specs.Lines.{lines_of, says_nothing}
-use Rattle.block_text.specs.Texts.{Reading, Accepts, Opens, Closes, Refuses, at_end, followed, items_from, line_reading, open_after, refused}
-use Rattle.block_text.specs.Judged.{IsRefusedBy}
-use Rattle.block_text.specs.Unfinished.{Unfinished, cause_in, line_items}
-use Rattle.block_text.proofs.TextLemmas.{IsReading, after, after-append, after-err, after-ok}
+use Rattle.stim_lexer.specs.Texts.{Reading, Accepts, Opens, Closes, Refuses, at_end, followed, items_from, line_reading, open_after, refused}
+use Rattle.stim_lexer.specs.Judged.{IsRefusedBy}
+use Rattle.stim_lexer.specs.Unfinished.{Unfinished, cause_in, line_items}
+use Rattle.stim_lexer.proofs.TextLemmas.{IsReading, after, after-append, after-err, after-ok}
 use Rattle.stim_parser.specs.Judging.{reading_of}
-use Rattle.dem_lines.specs.Texts.{Item, items_in, models}
-use Rattle.block_text.specs.Trees.{InstructionLine, BlockStart, BlockEnd}
-use Rattle.dem_lines.specs.Verdicts.{Instruction, model_table}
-use Rattle.dem_lines.specs.declared.operation.Operation.TheVariants.{PauliError}
+use Rattle.dem_parser.specs.Texts.{Item, items_in, models}
+use Rattle.stim_lexer.specs.Trees.{InstructionLine, BlockStart, BlockEnd}
+use Rattle.dem_parser.specs.Verdicts.{Instruction, model_table}
+use Rattle.dem_parser.specs.declared.operation.Operation.TheVariants.{PauliError}
 use Rattle.dem_parser.specs.declared.counts.Extent.{Extent}
 use Rattle.dem_parser.specs.private.Kept.{IsKept, Kept, with_item}
 use Rattle.dem_parser.specs.private.LinesRead.{BeginsWithError, HasRead, HasSpoken, IsErrorLine, IsFirstLine, PassesFirst, PassesLine, unfinished}

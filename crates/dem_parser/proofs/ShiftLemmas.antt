@@ -11,14 +11,14 @@ use Rattle.stim_parser.specs.declared.forms.ArgumentForm.TheVariants.{NoArgument
 use Rattle.stim_parser.specs.Limits.{has_argument_beyond, has_wrong_arguments, is_wrong_count}
 use Rattle.stim_parser.specs.Numbers.{greatest_number, has_minus, magnitude_of, whole_value}
 use Rattle.stim_parser.specs.declared.table.Keyword.TheVariants.{Does}
-use Rattle.dem_lines.specs.declared.operation.Operation.{Operation}
-use Rattle.dem_lines.specs.declared.operation.Operation.TheVariants.{PauliError, DetectorDeclaration, ObservableInclude, Shifts}
-use Rattle.dem_lines.specs.declared.target.Target.{Target}
-use Rattle.dem_lines.specs.declared.target.Target.TheVariants.{Plain, Detector, Observable, Separator}
-use Rattle.dem_lines.specs.Fitting.{Fits}
-use Rattle.dem_lines.specs.Instructions.{argument_form}
-use Rattle.dem_lines.specs.Limits.{has_target_beyond, is_target_beyond}
-use Rattle.dem_lines.specs.Verdicts.{Instruction, number_in}
+use Rattle.dem_parser.specs.declared.operation.Operation.{Operation}
+use Rattle.dem_parser.specs.declared.operation.Operation.TheVariants.{PauliError, DetectorDeclaration, ObservableInclude, Shifts}
+use Rattle.dem_parser.specs.declared.target.Target.{Target}
+use Rattle.dem_parser.specs.declared.target.Target.TheVariants.{Plain, Detector, Observable, Separator}
+use Rattle.dem_parser.specs.Fitting.{Fits}
+use Rattle.dem_parser.specs.Instructions.{argument_form}
+use Rattle.dem_parser.specs.Limits.{has_target_beyond, is_target_beyond}
+use Rattle.dem_parser.specs.Verdicts.{Instruction, number_in}
 use Rattle.dem_parser.specs.declared.counts.Extent.{Extent}
 use Rattle.dem_parser.specs.private.Offsets.{AreSmall, HasRoom, beyond_stated, number_at}
 use Rattle.dem_parser.specs.Shifts.{Shift, shift_after, shifted_by}

@@ -7,7 +7,7 @@ use Rattle.std.proofs.lemmas.List.{get_or-drop, ext_get_or}
 use Rattle.std.proofs.lemmas.List.FromFn.{get_or-map-range_with_len, length-map-range_with_len}
 use Rattle.pauli_word.specs.Parity.{exclusive_or}
 use Rattle.step_model.specs.ErrorModels.{ErrorLine, ErrorModel}
-use Rattle.dem_lines.specs.declared.target.Target.{Target}
+use Rattle.dem_parser.specs.declared.target.Target.{Target}
 use Rattle.dem_parser.specs.Meanings.{detector_count, error_line, error_lines, flipped, is_error, meaning_of, observable_count, numbered}
 use Rattle.dem_parser.specs.private.Numbered.{odd_below, numbers_of}
 use Rattle.dem_parser.specs.Shifts.{Placed}

@@ -8,17 +8,17 @@ use Rattle.std.proofs.lemmas.List.{length-map}
 use Rattle.stim_parser.specs.declared.table.Keyword.TheVariants as Keyword
 use Rattle.stim_parser.specs.Limits.{has_argument_beyond}
 use Rattle.stim_parser.specs.Numbers.{greatest_number, whole_value}
-use Rattle.dem_lines.specs.Instructions.{argument_form}
-use Rattle.dem_lines.specs.declared.operation.Operation.{Operation}
-use Rattle.dem_lines.specs.declared.operation.Operation.TheVariants.{PauliError, DetectorDeclaration, ObservableInclude, Shifts}
-use Rattle.dem_lines.specs.declared.target.Target.{Target}
-use Rattle.dem_lines.specs.declared.target.Target.TheVariants.{Plain, Detector, Observable, Separator}
-use Rattle.dem_lines.specs.Fitting.{Fits}
-use Rattle.dem_lines.specs.Limits.{has_target_beyond, is_target_beyond}
-use Rattle.dem_lines.specs.Verdicts.{Instruction}
+use Rattle.dem_parser.specs.Instructions.{argument_form}
+use Rattle.dem_parser.specs.declared.operation.Operation.{Operation}
+use Rattle.dem_parser.specs.declared.operation.Operation.TheVariants.{PauliError, DetectorDeclaration, ObservableInclude, Shifts}
+use Rattle.dem_parser.specs.declared.target.Target.{Target}
+use Rattle.dem_parser.specs.declared.target.Target.TheVariants.{Plain, Detector, Observable, Separator}
+use Rattle.dem_parser.specs.Fitting.{Fits}
+use Rattle.dem_parser.specs.Limits.{has_target_beyond, is_target_beyond}
+use Rattle.dem_parser.specs.Verdicts.{Instruction}
 use Rattle.dem_parser.specs.declared.counts.Extent.{Extent}
 use Rattle.dem_parser.specs.Meanings.{detectors_to, observables_to}
-use Rattle.block_text.specs.Reached.{greatest_by}
+use Rattle.stim_lexer.specs.Reached.{greatest_by}
 use Rattle.dem_parser.specs.Shifts.{Shift, coordinates_given, placed_at, shifted_target}
 use Rattle.dem_parser.specs.private.Tables.{IsKnown, coordinates_from, count_at, most_detectors, numbers_of_line, numbers_stated}
 use Rattle.dem_parser.specs.private.Offsets.{AreSmall}

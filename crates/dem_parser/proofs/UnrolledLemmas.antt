@@ -3,16 +3,16 @@ use Rattle.std.proofs.Common.{◌≡◌, ℕ, zero, suc, ◌+◌, ◌-◌, ◌*�
 use Rattle.std.specs.Prelude.{min, nat_lt}
 use Rattle.std.proofs.lemmas.Bool.{cases_lt, lt-ltb, le-ltb}
 use Rattle.dem_parser.specs.declared.unrolled.Unrolled.{Unrolled}
-use Rattle.dem_lines.specs.Fitting.{AllFit}
+use Rattle.dem_parser.specs.Fitting.{AllFit}
 use Rattle.dem_parser.specs.private.Unrolled.{greatest, lines_inside, capped_sum, repeated_sum, nothing_counted, counts_after, counts_repeated, counting, Counts}
-use Rattle.dem_lines.specs.Reached.{block_lines, has_many_lines, most_lines}
-use Rattle.block_text.specs.Reached.{total}
-use Rattle.block_text.specs.declared.blocks.OpenBlock.{OpenBlock}
-use Rattle.dem_lines.specs.private.Passes.{Passes, behind}
+use Rattle.dem_parser.specs.Reached.{block_lines, has_many_lines, most_lines}
+use Rattle.stim_lexer.specs.Reached.{total}
+use Rattle.stim_lexer.specs.declared.blocks.OpenBlock.{OpenBlock}
+use Rattle.dem_parser.specs.private.Passes.{Passes, behind}
 use Rattle.dem_parser.specs.private.TableLines.{stand_of}
-use Rattle.dem_lines.specs.Texts.{Item}
-use Rattle.block_text.specs.Trees.{InstructionLine, BlockStart, BlockEnd, Nothing, Then, Block, items_of}
-use Rattle.dem_lines.specs.Trees.{Tree}
+use Rattle.dem_parser.specs.Texts.{Item}
+use Rattle.stim_lexer.specs.Trees.{InstructionLine, BlockStart, BlockEnd, Nothing, Then, Block, items_of}
+use Rattle.dem_parser.specs.Trees.{Tree}
 
 -- ---- one count
 

@@ -5,10 +5,10 @@ use Rattle.std.specs.Prelude.{if◌then◌else◌, max, find, option_map}
 use Rattle.std.proofs.lemmas.Bool.{cases_Bool}
 use Rattle.std.proofs.lemmas.List.{length-replicate}
 use Rattle.step_model.specs.ErrorModels.{ErrorModel}
-use Rattle.dem_lines.specs.Limits.{has_target_beyond}
+use Rattle.dem_parser.specs.Limits.{has_target_beyond}
 use Rattle.dem_parser.specs.declared.counts.LineCounts.{LineCounts}
 use Rattle.dem_parser.specs.Meanings.{detector_count, detectors_to, error_lines, meaning_of, observable_count, observables_to}
-use Rattle.block_text.specs.Reached.{greatest_by}
+use Rattle.stim_lexer.specs.Reached.{greatest_by}
 use Rattle.dem_parser.specs.Models.{first_beyond, is_beyond}
 use Rattle.dem_parser.specs.Shifts.{Placed}
 use Rattle.dem_parser.specs.private.Summed.{AreCounts, HasCounted, error_count, passed_after, turned_past}

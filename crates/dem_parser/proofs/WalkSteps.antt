@@ -3,21 +3,21 @@ use Rattle.std.proofs.Common.{◌≡◌, ℕ, zero, suc, ◌+◌, ◌-◌, ◌*�
 use Rattle.std.specs.Prelude.{option_map, slice_get}
 use Rattle.std.proofs.lemmas.List.{length-reverse, reverse-append}
 use Rattle.std.proofs.lemmas.Bool.Decides.{nat_tests}
-use Rattle.block_text.specs.Flat.{first_tree, onto, trees_of}
-use Rattle.block_text.specs.Stored.{read_back}
-use Rattle.dem_lines.specs.Fitting.{IsAccepted}
-use Rattle.dem_lines.specs.private.Passes.{CanStand}
+use Rattle.stim_lexer.specs.Flat.{first_tree, onto, trees_of}
+use Rattle.stim_lexer.specs.Stored.{read_back}
+use Rattle.dem_parser.specs.Fitting.{IsAccepted}
+use Rattle.dem_parser.specs.private.Passes.{CanStand}
 use Rattle.dem_parser.specs.declared.table_line.Stand.{Stand}
 use Rattle.dem_parser.specs.declared.table_line.Stand.TheVariants as stand
 use Rattle.dem_parser.specs.private.TableLines.{CanStandAt, HasNoLine, stand_of}
 use Rattle.dem_parser.specs.private.Unrolled.{lines_inside}
-use Rattle.dem_lines.specs.Reached.{block_lines, has_many_lines}
-use Rattle.block_text.specs.Reached.{copies, reached, total}
-use Rattle.dem_lines.specs.Texts.{Item}
-use Rattle.block_text.specs.Trees.{InstructionLine, BlockStart, BlockEnd, Nothing, Then, Block, items_of}
-use Rattle.dem_lines.specs.Trees.{Tree}
-use Rattle.dem_lines.specs.Verdicts.{Instruction}
-use Rattle.dem_lines.proofs.PassLemmas.{AreWhole, can_stand, drop_got, whole-tree}
+use Rattle.dem_parser.specs.Reached.{block_lines, has_many_lines}
+use Rattle.stim_lexer.specs.Reached.{copies, reached, total}
+use Rattle.dem_parser.specs.Texts.{Item}
+use Rattle.stim_lexer.specs.Trees.{InstructionLine, BlockStart, BlockEnd, Nothing, Then, Block, items_of}
+use Rattle.dem_parser.specs.Trees.{Tree}
+use Rattle.dem_parser.specs.Verdicts.{Instruction}
+use Rattle.dem_parser.proofs.PassLemmas.{AreWhole, can_stand, drop_got, whole-tree}
 use Rattle.dem_parser.specs.declared.walk.Turns.{Turns}
 use Rattle.dem_parser.specs.private.Offsets.{HasRoom}
 use Rattle.dem_parser.specs.Shifts.{Placed, Shift, no_shift, placed_at, placed_from, shift_after}

@@ -6,15 +6,15 @@ use Rattle.stim_lexer.specs.Lines.{lines_of, says_nothing}
 use Rattle.stim_parser.specs.Arguments.{arguments_in}
 use Rattle.stim_parser.specs.Limits.{has_wrong_arguments, has_wrong_probability}
 use Rattle.stim_parser.specs.Pieces.{pieces_of}
-use Rattle.dem_lines.specs.Instructions.{keyword_named}
-use Rattle.dem_lines.specs.Limits.{are_of_form, has_target_beyond}
+use Rattle.dem_parser.specs.Instructions.{keyword_named}
+use Rattle.dem_parser.specs.Limits.{are_of_form, has_target_beyond}
 use Rattle.dem_parser.specs.Meanings.{last_coordinates}
 use Rattle.dem_parser.specs.Models.{model_in}
-use Rattle.dem_lines.specs.Reached.{block_lines}
-use Rattle.block_text.specs.Reached.{total}
+use Rattle.dem_parser.specs.Reached.{block_lines}
+use Rattle.stim_lexer.specs.Reached.{total}
 use Rattle.dem_parser.specs.Shifts.{placed_from}
-use Rattle.dem_lines.specs.Targets.{target_of, targets_in}
-use Rattle.block_text.specs.Texts.{items_from}
+use Rattle.dem_parser.specs.Targets.{target_of, targets_in}
+use Rattle.stim_lexer.specs.Texts.{items_from}
 use Rattle.stim_parser.specs.Judging.{refusal_of, judged, reading_of}
 
 nothing : model_in (codes "") ≡ Ok (record { lines = []; coordinates = []; detectors = 0; observables = 0 })

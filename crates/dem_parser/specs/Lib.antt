@@ -3,3 +3,13 @@ pub mod Meanings
 pub mod Models
 pub mod Sums
 pub mod private
+pub mod Targets
+pub mod Instructions
+pub mod Limits
+pub mod Verdicts
+pub mod Texts
+pub mod Trees
+pub mod Fitting
+pub mod Reached
+pub mod Judged
+pub mod Writable

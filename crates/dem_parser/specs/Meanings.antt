@@ -9,12 +9,12 @@ use Rattle.std.specs.Prelude.{ℕ, ◌+◌, ◌==◌, Bool, true, false, not, �
 use Rattle.std.specs.List.{filter, flat_map, list_any, range_with_len}
 use Rattle.stim_lexer.specs.Bytes.{is_empty}
 use Rattle.step_model.specs.Targets.{is_listed}
-use Rattle.block_text.specs.Reached.{greatest_by}
+use Rattle.stim_lexer.specs.Reached.{greatest_by}
 use Rattle.step_model.specs.ErrorModels.{ErrorLine, ErrorModel}
-use Rattle.dem_lines.specs.declared.operation.Operation.{Operation}
-use Rattle.dem_lines.specs.declared.operation.Operation.TheVariants.{PauliError}
-use Rattle.dem_lines.specs.declared.target.Target.{Target}
-use Rattle.dem_lines.specs.declared.target.Target.TheVariants.{Detector, Observable}
+use Rattle.dem_parser.specs.declared.operation.Operation.{Operation}
+use Rattle.dem_parser.specs.declared.operation.Operation.TheVariants.{PauliError}
+use Rattle.dem_parser.specs.declared.target.Target.{Target}
+use Rattle.dem_parser.specs.declared.target.Target.TheVariants.{Detector, Observable}
 use Rattle.dem_parser.specs.Shifts.{Placed}
 
 -- ---- how many detectors and observables

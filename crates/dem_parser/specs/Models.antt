@@ -11,15 +11,15 @@ use Rattle.step_model.specs.declared.fault.Cause.TheVariants as cause
 use Rattle.step_model.specs.ErrorModels.{ErrorModel}
 use Rattle.step_model.specs.Faults.{unless, without_line, ◌>>=◌}
 use Rattle.stim_parser.specs.Numbers.{is_number_beyond}
-use Rattle.block_text.specs.Flat.{tree_of}
-use Rattle.dem_lines.specs.Limits.{has_target_beyond}
+use Rattle.stim_lexer.specs.Flat.{tree_of}
+use Rattle.dem_parser.specs.Limits.{has_target_beyond}
 use Rattle.dem_parser.specs.Meanings.{meaning_of}
-use Rattle.dem_lines.specs.Reached.{has_many_lines}
-use Rattle.block_text.specs.Reached.{reached}
+use Rattle.dem_parser.specs.Reached.{has_many_lines}
+use Rattle.stim_lexer.specs.Reached.{reached}
 use Rattle.dem_parser.specs.Shifts.{Placed, no_shift, placed_from}
-use Rattle.dem_lines.specs.Texts.{items_in}
-use Rattle.block_text.specs.Texts.{refused}
-use Rattle.dem_lines.specs.Trees.{Tree}
+use Rattle.dem_parser.specs.Texts.{items_in}
+use Rattle.stim_lexer.specs.Texts.{refused}
+use Rattle.dem_parser.specs.Trees.{Tree}
 
 -- the lines of a tree as they are reached
 abbrev pub placed_lines : Tree → List Placed

@@ -7,11 +7,11 @@
 use Rattle.std.specs.Prelude.{ℕ, ◌+◌, ℤ, List, [], ◌∷◌, map, slice_index_or}
 use Rattle.stim_parser.specs.Numbers.{whole_value}
 use Rattle.stim_parser.specs.Offsets.{shifted, moved}
-use Rattle.dem_lines.specs.declared.operation.Operation.{Operation}
-use Rattle.dem_lines.specs.declared.operation.Operation.TheVariants.{DetectorDeclaration, Shifts}
-use Rattle.dem_lines.specs.declared.target.Target.{Target}
-use Rattle.dem_lines.specs.declared.target.Target.TheVariants.{Detector}
-use Rattle.dem_lines.specs.Verdicts.{Instruction, number_in}
+use Rattle.dem_parser.specs.declared.operation.Operation.{Operation}
+use Rattle.dem_parser.specs.declared.operation.Operation.TheVariants.{DetectorDeclaration, Shifts}
+use Rattle.dem_parser.specs.declared.target.Target.{Target}
+use Rattle.dem_parser.specs.declared.target.Target.TheVariants.{Detector}
+use Rattle.dem_parser.specs.Verdicts.{Instruction, number_in}
 
 -- by how much detectors are shifted, and each coordinate
 pub record Shift : Type 0 where

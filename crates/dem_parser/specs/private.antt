@@ -13,3 +13,5 @@ pub mod Tables
 pub mod Turned
 pub mod Unrolled
 pub mod Walks
+pub mod Flat
+pub mod Passes

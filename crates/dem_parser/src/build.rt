@@ -1,5 +1,5 @@
 ghost use Rattle.std.specs.Prelude.{◌≡◌, ◌+◌, ◌^◌, ◌<◌, ◌≤◌, ◌++◌, length, [], ◌∷◌, IfOk};
-ghost use Rattle.block_text.specs.Reached.{reached, greatest_by};
+ghost use Rattle.stim_lexer.specs.Reached.{reached, greatest_by};
 ghost use Rattle.dem_parser.specs.Meanings.{detectors_to, error_lines, observables_to};
 ghost use Rattle.dem_parser.specs.Models.{placed_lines};
 ghost use Rattle.dem_parser.specs.private.Summed.{AreCounts};
@@ -10,8 +10,8 @@ use crate::marks::coordinates_of;
 use crate::placed_line::PlacedLine;
 use crate::placed_model::PlacedModel;
 use crate::table::LineTable;
+use crate::target::Target;
 use crate::walk::Walk;
-use dem_lines::Target;
 use dem_text::Model;
 use std::alloc::{AllocError, Allocator};
 

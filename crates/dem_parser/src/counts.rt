@@ -1,10 +1,11 @@
 ghost use Rattle.std.specs.Prelude.{◌≡◌, ◌+◌, ◌<◌, ◌^◌, false, max};
-ghost use Rattle.dem_lines.specs.Limits.{has_target_beyond, is_target_beyond};
+ghost use Rattle.dem_parser.specs.Limits.{has_target_beyond, is_target_beyond};
 ghost use Rattle.dem_parser.specs.private.Chains.{counted_with, is_shift};
 ghost use Rattle.dem_parser.specs.Meanings.{detectors_to, is_error, observables_to};
-ghost use Rattle.block_text.specs.Reached.{greatest_by};
+ghost use Rattle.stim_lexer.specs.Reached.{greatest_by};
 
-use dem_lines::{Operation, Target};
+use crate::operation::Operation;
+use crate::target::Target;
 
 /// One more than the greatest detector and the greatest observable that targets name, or 0.
 #[derive(Clone, Copy)]

@@ -1,5 +1,5 @@
 use crate::counts::Extent;
-use dem_lines::Operation;
+use crate::operation::Operation;
 
 /// What is kept of a line of the text. Most lines are error lines, so these take 16 bytes, and others stand apart.
 #[derive(Clone, Copy)]

@@ -2,8 +2,9 @@ ghost use Rattle.std.specs.Prelude.{◌≡◌, ◌<◌, ◌∷◌, true, length,
 ghost use Rattle.std.specs.Char.{is_ascii_digit};
 ghost use Rattle.dem_parser.specs.private.ErrorTexts.{BeginsWithTargets, IsNumberFront, IsTargetFront, ends_line};
 
-use crate::counts::{Extent, NONE, raised_to};
-use dem_lines::{Target, is_target_beyond};
+use crate::checks::is_target_beyond;
+use crate::counts::{NONE, Extent, raised_to};
+use crate::target::Target;
 
 /// The greatest number after which one more digit is read.
 const MOST_READ: u64 = 99_999_999;

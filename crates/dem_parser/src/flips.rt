@@ -1,12 +1,12 @@
 ghost use Rattle.std.specs.Prelude.{◌≡◌, ◌+◌, ◌^◌, ◌<◌, ◌≤◌, ◌++◌, [], ◌∷◌, ℕ, List, map, All, IfOk, IsPermutation};
 ghost use Rattle.std.specs.List.Sorted.{IsNonDecreasing};
 ghost use Rattle.dem_parser.specs.Meanings.{detectors_to, flipped, observables_to, numbered};
-ghost use Rattle.block_text.specs.Reached.{greatest_by};
+ghost use Rattle.stim_lexer.specs.Reached.{greatest_by};
 ghost use Rattle.dem_parser.specs.private.Numbered.{odd_below, numbers_of};
 ghost use Rattle.dem_parser.specs.Shifts.{shifted_target};
 
 use crate::counts::LineCounts;
-use dem_lines::Target;
+use crate::target::Target;
 use std::alloc::{AllocError, Allocator};
 
 /// The number of a target, `number` after `first`.

@@ -1,12 +1,12 @@
 ghost use Rattle.std.specs.Prelude.{◌≡◌, ◌+◌, ◌<◌, ◌^◌, ◌⊎◌, true, false, None, Some, IfOk, IfErr, MatchOption, length, option_map};
 ghost use Rattle.step_model.specs.declared.fault.Cause.TheVariants as cause;
 ghost use Rattle.step_model.specs.Faults.{memory_fault};
-ghost use Rattle.block_text.specs.Reached.{reached};
-ghost use Rattle.block_text.specs.Texts.{refused};
+ghost use Rattle.stim_lexer.specs.Reached.{reached};
+ghost use Rattle.stim_lexer.specs.Texts.{refused};
 ghost use Rattle.dem_parser.specs.Models.{first_beyond, is_beyond, placed_lines};
 ghost use Rattle.dem_parser.specs.private.Summed.{AreCounts, HasCounted};
 
-use crate::counts::{LineCounts, NO_LINES};
+use crate::counts::{NO_LINES, LineCounts};
 use crate::placed_line::PlacedLine;
 use crate::table::LineTable;
 use crate::walk::Walk;

@@ -1,14 +1,14 @@
 ghost use Rattle.std.specs.Prelude.{◌≡◌, ◌<◌, ◌^◌, [], Some, length, IfOk, IfSome, MatchOption, option_map, slice_get};
-ghost use Rattle.dem_lines.specs.declared.operation.Operation.TheVariants.{PauliError};
-ghost use Rattle.block_text.specs.Trees.{InstructionLine};
+ghost use Rattle.dem_parser.specs.declared.operation.Operation.TheVariants.{PauliError};
+ghost use Rattle.stim_lexer.specs.Trees.{InstructionLine};
 ghost use Rattle.dem_parser.specs.private.Kept.{IsKept, IsRareKept, item_of_rare, with_item};
 ghost use Rattle.dem_parser.specs.private.Standing.{instruction_at};
 ghost use Rattle.dem_parser.specs.private.TableLines.{HasNoLine, IsTableLine, instruction_of, stand_of};
 
 use crate::counts::Extent;
 use crate::entries::{Entry, Rare};
+use crate::operation::Operation;
 use crate::table_line::{Stand, TableLine};
-use dem_lines::Operation;
 use flat_lists::FlatLists;
 use std::alloc::{AllocError, Allocator};
 use std::marker::Model;

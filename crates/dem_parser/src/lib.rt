@@ -1,18 +1,25 @@
-//! The error model that a text writes, or why the text is refused.
+//! The error model that a text writes, or why the text is refused: its lines are judged one by one, then the blocks that
+//! they make are gone over.
 #![tactic(auto)]
 
 mod build;
+mod checks;
 mod counts;
 mod entries;
 mod error_head;
 mod error_targets;
 mod flips;
+mod forms;
 mod judging;
 mod kept_lines;
 pub mod laws;
 mod line_reader;
 mod line_text;
 mod marks;
+mod model_judge;
+pub mod model_laws;
+mod names;
+mod operation;
 mod placed_line;
 mod placed_model;
 mod reader;
@@ -21,6 +28,7 @@ mod shifts;
 mod sums;
 mod table;
 mod table_line;
+mod target;
 mod unrolled;
 mod walk;
 

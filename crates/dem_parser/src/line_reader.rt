@@ -5,9 +5,9 @@ ghost use Rattle.stim_lexer.specs.Cut.{cut_of};
 ghost use Rattle.stim_lexer.specs.Lexing.{cut_in};
 ghost use Rattle.stim_parser.specs.Arguments.{arguments_in};
 ghost use Rattle.stim_parser.specs.Judging.{reading_of};
-ghost use Rattle.dem_lines.specs.Fitting.{Fits};
-ghost use Rattle.block_text.specs.Trees.{InstructionLine};
-ghost use Rattle.dem_lines.specs.Verdicts.{model_table};
+ghost use Rattle.dem_parser.specs.Fitting.{Fits};
+ghost use Rattle.stim_lexer.specs.Trees.{InstructionLine};
+ghost use Rattle.dem_parser.specs.Verdicts.{model_table};
 ghost use Rattle.dem_parser.specs.private.Kept.{with_item};
 ghost use Rattle.dem_parser.specs.private.LinesRead.{HasRead, PassesFirst};
 ghost use Rattle.dem_parser.specs.private.Standing.{Speaks, instruction_at, line_at, line_number};
@@ -17,12 +17,15 @@ use crate::entries::Rare;
 use crate::error_head::{Head, error_alike, error_anew};
 use crate::kept_lines::KeptLines;
 use crate::line_text::{first_line, line_in};
+use crate::model_judge::{number_in, read_line};
+use crate::operation::Operation;
 use crate::shifts::numbers_stated;
+use crate::target::Target;
 use arrayvec::ArrayVec;
-use dem_lines::{LEVELS, Last, Operation, Said, Target, number_in, read_line};
 use std::alloc::{AllocError, Allocator};
 use step_model::Cause;
-use stim_lexer::Line;
+use stim_lexer::{LEVELS, Line, Said};
+use stim_parser::Last;
 
 /// What follows a line that was read, and the cause where the line is refused.
 #[derive(Clone, Copy)]

@@ -1,6 +1,6 @@
 ghost use Rattle.std.specs.Prelude.{◌≡◌, ◌<◌, ◌^◌, false, [], length, map, replicate, IfOk};
 ghost use Rattle.std.specs.List.{range_with_len};
-ghost use Rattle.block_text.specs.Reached.{reached};
+ghost use Rattle.stim_lexer.specs.Reached.{reached};
 ghost use Rattle.dem_parser.specs.private.Marked.{HasMarked, list_numbered, marked, marked_at};
 ghost use Rattle.dem_parser.specs.Meanings.{last_coordinates};
 ghost use Rattle.dem_parser.specs.Models.{first_beyond, is_beyond, placed_lines};
@@ -8,8 +8,8 @@ ghost use Rattle.dem_parser.specs.Shifts.{shifted_target};
 
 use crate::placed_line::PlacedLine;
 use crate::table::LineTable;
+use crate::target::Target;
 use crate::walk::Walk;
-use dem_lines::Target;
 use flat_lists::FlatLists;
 use std::alloc::{AllocError, Allocator};
 

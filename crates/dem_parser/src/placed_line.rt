@@ -1,18 +1,20 @@
 ghost use Rattle.std.specs.Prelude.{◌≡◌, ◌+◌, ◌<◌, ◌^◌, false, true, All, map, nat_abs, nat_lt, IfOk, MatchBool, MatchOption};
 ghost use Rattle.std.specs.List.{list_any};
-ghost use Rattle.dem_lines.specs.Limits.{has_target_beyond};
+ghost use Rattle.dem_parser.specs.Limits.{has_target_beyond};
 ghost use Rattle.dem_parser.specs.Meanings.{detectors_to, is_error, observables_to};
-ghost use Rattle.block_text.specs.Reached.{greatest_by};
+ghost use Rattle.stim_lexer.specs.Reached.{greatest_by};
 ghost use Rattle.dem_parser.specs.Models.{is_coordinate_beyond};
 ghost use Rattle.dem_parser.specs.private.Offsets.{AreSmall, beyond_stated};
 ghost use Rattle.dem_parser.specs.Shifts.{shifted_target};
 ghost use Rattle.stim_parser.specs.Offsets.{moved};
 ghost use Rattle.dem_parser.specs.private.Tables.{coordinates_from, count_at, most_detectors};
 
+use crate::checks::{GREATEST_DETECTOR, GREATEST_NUMBER};
 use crate::counts::is_error;
+use crate::operation::Operation;
 use crate::shifts::{Shift, sum_at};
 use crate::table_line::TableLine;
-use dem_lines::{GREATEST_DETECTOR, GREATEST_NUMBER, Operation, Target};
+use crate::target::Target;
 use std::alloc::{AllocError, Allocator};
 use std::marker::Model;
 

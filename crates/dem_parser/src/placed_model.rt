@@ -10,8 +10,8 @@ use crate::counts::LineCounts;
 use crate::placed_line::PlacedLine;
 use crate::sums::{no_bits, turn_at};
 use crate::table::LineTable;
+use crate::target::Target;
 use crate::walk::Walk;
-use dem_lines::Target;
 use std::alloc::{AllocError, Allocator};
 use std::marker::Model;
 

@@ -1,6 +1,6 @@
 ghost use Rattle.std.specs.Prelude.{◌≡◌, ◌⊎◌, IfOk, IfErr};
 ghost use Rattle.step_model.specs.Faults.{memory_fault};
-ghost use Rattle.dem_lines.specs.Judged.{IsRefusedBy, Writes};
+ghost use Rattle.dem_parser.specs.Judged.{IsRefusedBy, Writes};
 
 use crate::line_reader::LineReader;
 use crate::table::LineTable;

@@ -7,9 +7,9 @@ ghost use Rattle.stim_parser.specs.Offsets.{shifted};
 ghost use Rattle.dem_parser.specs.private.TableLines.{IsTableLine, instruction_of};
 ghost use Rattle.dem_parser.specs.private.Tables.{numbers_stated};
 
+use crate::operation::Operation;
 use crate::table_line::TableLine;
 use arrayvec::ArrayVec;
-use dem_lines::Operation;
 use std::marker::Model;
 use stim_parser::{MOST_ARGUMENTS, read_arguments, whole_values};
 

@@ -1,11 +1,11 @@
 ghost use Rattle.std.specs.Prelude.{◌≡◌, ◌<◌, ◌^◌, Some, length, option_map, slice_get, IfSome, MatchOption};
-ghost use Rattle.block_text.specs.Fitting.{IsWritten};
-ghost use Rattle.dem_lines.specs.Fitting.{Fits, IsAccepted};
-ghost use Rattle.block_text.specs.Trees.{InstructionLine, items_of};
+ghost use Rattle.stim_lexer.specs.Fitting.{IsWritten};
+ghost use Rattle.dem_parser.specs.Fitting.{Fits, IsAccepted};
+ghost use Rattle.stim_lexer.specs.Trees.{InstructionLine, items_of};
 ghost use Rattle.dem_parser.specs.private.Chains.{IsChain};
 ghost use Rattle.dem_parser.specs.private.TableLines.{HasNoLine, IsTableLine, instruction_of, stand_of};
 
-use crate::counts::{LineCounts, NO_LINES, is_shift};
+use crate::counts::{NO_LINES, LineCounts, is_shift};
 use crate::kept_lines::KeptLines;
 use crate::table_line::{Stand, TableLine};
 use std::alloc::Allocator;
@@ -18,10 +18,10 @@ pub(crate) struct LineTable<'a, A: Allocator + Copy> {
 }
 
 impl<'a, A: Allocator + Copy> Model for LineTable<'a, A> {
-    ghost use Rattle.block_text.specs.Fitting.{IsWritten};
-    ghost use Rattle.dem_lines.specs.Fitting.{Fits};
-    ghost use Rattle.dem_lines.specs.private.Flat.{coded_tree, tree_of};
-    ghost use Rattle.dem_lines.specs.Trees.{Tree};
+    ghost use Rattle.stim_lexer.specs.Fitting.{IsWritten};
+    ghost use Rattle.dem_parser.specs.Fitting.{Fits};
+    ghost use Rattle.dem_parser.specs.private.Flat.{coded_tree, tree_of};
+    ghost use Rattle.dem_parser.specs.Trees.{Tree};
 
     ghost Value = { Tree };
 

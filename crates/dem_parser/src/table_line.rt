@@ -7,7 +7,8 @@ ghost use Rattle.dem_parser.specs.private.TableLines.{IsTableLine, instruction_o
 
 use crate::counts::Extent;
 use crate::line_text::line_in;
-use dem_lines::{Operation, Target, read_targets};
+use crate::operation::Operation;
+use crate::target::{Target, read_targets};
 use std::alloc::{AllocError, Allocator};
 use stim_lexer::{Line, cut_at};
 use stim_parser::first_argument;

@@ -1,14 +1,14 @@
 ghost use Rattle.std.specs.Prelude.{◌≡◌};
 ghost use Rattle.arrayvec.specs.ArrayVec.{array_vec_len};
-ghost use Rattle.dem_lines.specs.Reached.{has_many_lines};
+ghost use Rattle.dem_parser.specs.Reached.{has_many_lines};
 ghost use Rattle.dem_parser.specs.private.TableLines.{CanStandAt};
 ghost use Rattle.dem_parser.specs.private.Unrolled.{Counts, counts_repeated, repeated_sum};
 
 use crate::table::LineTable;
 use crate::table_line::Stand;
 use arrayvec::ArrayVec;
-use dem_lines::{LEVELS, OpenBlock};
 use std::alloc::Allocator;
+use stim_lexer::{LEVELS, OpenBlock};
 
 /// How many lines blocks may unroll to.
 const MOST_LINES: u128 = 4_000_000;

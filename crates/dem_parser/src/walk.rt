@@ -1,7 +1,7 @@
 ghost use Rattle.std.specs.Prelude.{◌≡◌, ◌≤◌, ◌<◌, ◌-◌, ◌^◌, [], ◌∷◌, List, MatchOption, drop, length, reverse, slice_get};
 ghost use Rattle.arrayvec.specs.ArrayVec.{array_vec_len};
-ghost use Rattle.block_text.specs.Reached.{reached};
-ghost use Rattle.block_text.specs.Trees.{items_of};
+ghost use Rattle.stim_lexer.specs.Reached.{reached};
+ghost use Rattle.stim_lexer.specs.Trees.{items_of};
 ghost use Rattle.dem_parser.specs.Models.{placed_lines};
 ghost use Rattle.dem_parser.specs.Shifts.{Placed};
 ghost use Rattle.dem_parser.specs.private.TableLines.{CanStandAt};
@@ -13,9 +13,9 @@ use crate::shifts::Shift;
 use crate::table::LineTable;
 use crate::table_line::Stand;
 use arrayvec::ArrayVec;
-use dem_lines::LEVELS;
 use std::alloc::Allocator;
 use std::marker::Model;
+use stim_lexer::LEVELS;
 
 /// An open block: where its body starts, and how many turns come after this one.
 #[derive(Clone, Copy, Default)]
@@ -108,7 +108,7 @@ pub(crate) struct Walk<'t, 'a, A: Allocator + Copy> {
 impl<'t, 'a, A: Allocator + Copy> Model for Walk<'t, 'a, A> {
     ghost use Rattle.std.specs.Prelude.{List, reverse};
     ghost use Rattle.std.specs.Coded.{coded_list};
-    ghost use Rattle.block_text.specs.Trees.{items_of};
+    ghost use Rattle.stim_lexer.specs.Trees.{items_of};
     ghost use Rattle.dem_parser.specs.private.Placed.{coded_placed};
     ghost use Rattle.dem_parser.specs.Shifts.{Placed};
     ghost use Rattle.dem_parser.specs.private.Walks.{IsPlacedWalk, placed_left};

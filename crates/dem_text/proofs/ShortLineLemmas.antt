@@ -6,9 +6,9 @@ use Rattle.std.proofs.lemmas.Fmt.{length-decimal-le}
 use Rattle.std.proofs.lemmas.Grind.{drop-set_at, flat_map-append}
 use Rattle.std.proofs.lemmas.List.{take_all, drop_all, drop_more, drop-drop, drop_at, drop-append-le, length-take-le}
 use Rattle.std.proofs.Math.Seq.{take-add}
-use Rattle.pieces.specs.Held.{Held}
-use Rattle.pieces.specs.Pushed.{Pushes}
-use Rattle.pieces.proofs.Pushing.{Pushes-trans}
+use Rattle.streams.specs.Held.{Held}
+use Rattle.streams.specs.Pushed.{Pushes}
+use Rattle.streams.proofs.Pushing.{Pushes-trans}
 use Rattle.dem_text.specs.ModelText.{target_text, targets_text}
 
 -- the digits of a target

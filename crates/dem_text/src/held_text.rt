@@ -1,13 +1,13 @@
 //! The text of error lines, taken out of where they are put.
 ghost use Rattle.std.specs.Prelude.{◌≡◌};
 ghost use Rattle.dem_text.specs.HeldText.{text_in, texts_of};
-ghost use Rattle.pieces.specs.Pushed.{Pushes};
+ghost use Rattle.streams.specs.Pushed.{Pushes};
 
 use crate::text_block::TextBlock;
-use pieces::Pieces;
 use std::alloc::Allocator;
 use std::marker::Model;
 use step_model::Sink;
+use streams::Pieces;
 
 /// Text that was taken out of a `LinesText`, in its blocks.
 #[derive(Drop)]

@@ -3,7 +3,7 @@ ghost use Rattle.std.specs.Prelude.{◌≡◌, ◌<◌, ◌≤◌, ◌+◌, ◌-
 ghost use Rattle.dem_text.specs.ErrorLines.{text_at, KeepsTexts};
 ghost use Rattle.dem_text.specs.HeldText.{EndsIn};
 ghost use Rattle.dem_text.specs.ModelText.{line_text, targets_text};
-ghost use Rattle.pieces.specs.Pushed.{Pushes};
+ghost use Rattle.streams.specs.Pushed.{Pushes};
 
 use crate::held_text::HeldText;
 use crate::line_text::LineText;
@@ -11,10 +11,10 @@ use crate::names::Names;
 use crate::short_lines::{SHORT_TARGETS, SHORT_TEXT};
 use crate::text_blocks::{PART, TextBlocks};
 use crate::texts::number_of;
-use pieces::Pieces;
 use std::alloc::{AllocError, Allocator};
 use std::marker::Model;
 use step_model::Sink;
+use streams::Pieces;
 
 /// The text of error lines, each put before those that were there. So a pass that finds the last line first can write
 /// each when it finds it. The text grows by blocks of 64 KiB, and what was written isn't moved. The texts of targets

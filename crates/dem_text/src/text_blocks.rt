@@ -2,17 +2,17 @@
 ghost use Rattle.std.specs.Prelude.{◌≡◌, ◌<◌, ◌≤◌, ◌*◌, ◌-◌, ◌^◌, ◌++◌, [], All, length, min, IfOk, OnOk, vec_len};
 ghost use Rattle.dem_text.specs.HeldText.{no_text};
 ghost use Rattle.dem_text.specs.ModelText.{line_text, targets_text};
-ghost use Rattle.pieces.specs.Pushed.{Pushes};
+ghost use Rattle.streams.specs.Pushed.{Pushes};
 
 use crate::held_text::{HeldText, push_blocks};
 use crate::line_text::LineText;
 use crate::names::Names;
 use crate::text_block::TextBlock;
-use pieces::Pieces;
 use std::alloc::{AllocError, Allocator};
 use std::marker::Model;
 use std::mem;
 use step_model::Sink;
+use streams::Pieces;
 
 /// How much room a short line takes at most. What is longer is put in parts of at most this length.
 pub(crate) const PART: usize = 240;

@@ -5,7 +5,7 @@ use Rattle.step_model.specs.Listing.{Listing}
 use Rattle.step_model.specs.WellFormed.{IsWellFormed, faults_named}
 use Rattle.programs.specs.Kept.{KeptProgram}
 use Rattle.programs.specs.Walks.{Walked}
-use Rattle.fault_walk.specs.Found.{faults_left}
+use Rattle.programs.specs.Found.{faults_left}
 use Rattle.fault_list.specs.FaultLines.{fault_line, fault_lines}
 
 pub left_at_start : (program : KeptProgram) (walk : Walked) → IsWellFormed program.listing → walk.program ≡ program → walk.place ≡ 0 → faults_left walk ≡ range_with_len 0 (length program.listing.faults - 0)

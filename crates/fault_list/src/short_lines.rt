@@ -1,6 +1,6 @@
 //! Short lines, put into a buffer one after another.
 ghost use Rattle.std.specs.Prelude.{◌≡◌, ◌≤◌, ◌+◌, ◌*◌, ◌++◌, None, codes, decimal, length, take, IfSome};
-ghost use Rattle.fault_walk.specs.Found.{IsFaultOf};
+ghost use Rattle.programs.specs.Found.{IsFaultOf};
 ghost use Rattle.programs.specs.Entries.{TellsChances};
 ghost use Rattle.step_model.specs.Listing.{effect_at, word_of_terms};
 ghost use Rattle.step_model.specs.WellFormed.{TermsFit};
@@ -12,8 +12,7 @@ use crate::letters::{acts, letter_byte};
 use crate::probability::Probability;
 use crate::put::{put_byte, put_first, put_text};
 use crate::qubit_names::{NAMED, QubitNames};
-use fault_walk::FoundFault;
-use programs::Program;
+use programs::{FoundFault, Program};
 use std::alloc::Allocator;
 use step_model::Term;
 

@@ -1,2 +1,5 @@
 pub mod Pairs
 pub mod private
+pub mod Batches
+pub mod LaneFrames
+pub mod LaneLetters

@@ -1,2 +1,3 @@
 pub mod Flips
 pub mod Passes
+pub mod Followed

@@ -18,3 +18,6 @@ pub mod ProductWords
 pub mod Reading
 pub mod WalkSteps
 pub mod WrittenLists
+pub mod FoundLaws
+pub mod FaultOrders
+pub mod Walking

@@ -12,3 +12,4 @@ pub mod Trees
 pub mod Walks
 pub mod Kept
 pub mod private
+pub mod Found

@@ -1,7 +1,7 @@
 -- A line that is filled from its start.
 use Rattle.std.proofs.Common.{◌≡◌, ℕ, ◌+◌, ◌<◌, List, [], ◌∷◌, ◌++◌, length, map, take, get_or, set, length-set, sym, ap, ap₂, ◌∙◌, arith}
 use Rattle.std.proofs.lemmas.List.{map-append, take_more, take_more_set, take_all}
-use Rattle.lanes.specs.Lanes.{lane, lane_bit}
+use Rattle.bit_rows.specs.Lanes.{lane, lane_bit}
 use Rattle.sampling.specs.Lines.{digit_of, line_of}
 
 -- the digits of a shot at the first words

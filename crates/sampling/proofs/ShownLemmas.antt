@@ -6,7 +6,7 @@ use Rattle.std.proofs.lemmas.List.{ext_get_or, get_or-map, length-map}
 use Rattle.forward_sim.proofs.Differences.{differences-map}
 use Rattle.step_model.specs.Listing.{Listing}
 use Rattle.step_model.specs.Targets.{difference, parity, targets_of}
-use Rattle.lanes.specs.Lanes.{lane, lane_bit}
+use Rattle.bit_rows.specs.Lanes.{lane, lane_bit}
 
 -- one word more
 pub filled_more : (Is : ℕ → ℕ → Type 0) (words : List ℕ) (at word : ℕ) → at < length words

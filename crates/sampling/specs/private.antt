@@ -1,2 +1,5 @@
 pub mod LaneLines
 pub mod ShownRuns
+pub mod BoundRuns
+pub mod LaneDraws
+pub mod PairDraws

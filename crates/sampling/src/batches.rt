@@ -1,20 +1,20 @@
 //! Shots drawn, run and written, 64 at a time.
 ghost use Rattle.std.specs.Prelude.{◌≡◌, ◌+◌, ◌<◌, ◌≤◌, length, IfErr, OnOk, OnErr};
-ghost use Rattle.pieces.specs.Pushed.{Pushes};
+ghost use Rattle.streams.specs.Pushed.{Pushes};
 ghost use Rattle.step_model.specs.Ends.{Takes, TakesBeginning, write_failures};
 ghost use Rattle.step_model.specs.Faults.{write_fault};
-ghost use Rattle.draws.specs.Drawn.{bounds_of};
+ghost use Rattle.sampling.specs.Drawn.{bounds_of};
 ghost use Rattle.sampling.specs.Sampled.{lines_from, shot_generator, shots_text};
 ghost use Rattle.sampling.specs.Shown.{shown_line};
 
 use crate::lines::push_lines;
+use crate::shots::Shots;
 use crate::side_runs::SideRuns;
-use draws::Shots;
-use pieces::Pieces;
 use rand_core::SeedableRng;
 use rand_pcg::Pcg64;
 use std::alloc::Allocator;
 use step_model::{Fault, Sink};
+use streams::Pieces;
 
 /// Writes the lines of the first `shots` shots of a seed. `line` has room for one line. It takes no memory, and fails
 /// only where the sink fails; a beginning of the text has then gone out, and the sink is not called again.

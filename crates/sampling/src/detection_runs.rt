@@ -2,12 +2,12 @@
 ghost use Rattle.std.specs.Prelude.{◌≡◌, ◌+◌, ◌<◌, ℕ, false, length, slice_index, slice_index_or, IfOk, IfErr};
 ghost use Rattle.step_model.specs.Faults.{memory_fault};
 ghost use Rattle.step_model.specs.Targets.{difference};
-ghost use Rattle.lanes.specs.Lanes.{lane, lane_bit};
-ghost use Rattle.batch.specs.Batches.{shot_records};
+ghost use Rattle.bit_rows.specs.Lanes.{lane, lane_bit};
+ghost use Rattle.frames.specs.Batches.{shot_records};
 ghost use Rattle.sampling.specs.private.ShownRuns.{detections_of};
 
 use crate::side_runs::SideRuns;
-use batch::Batch;
+use frames::Batch;
 use programs::Program;
 use std::alloc::Allocator;
 use std::marker::Model;
@@ -22,7 +22,7 @@ pub(crate) struct DetectionRuns<'b, 'p, A: Allocator + Copy> {
 
 impl<'b, 'p, A: Allocator + Copy> Model for DetectionRuns<'b, 'p, A> {
     ghost use Rattle.std.specs.Prelude.{◌≡◌, ◌+◌, length};
-    ghost use Rattle.batch.specs.Batches.{IsBatchOf};
+    ghost use Rattle.frames.specs.Batches.{IsBatchOf};
     ghost use Rattle.sampling.specs.private.ShownRuns.{ShownRuns};
 
     ghost Value = { ShownRuns };

@@ -1,13 +1,13 @@
 // The lines of shots that stand side by side in the lanes of words.
 ghost use Rattle.std.specs.Prelude.{◌≡◌, ◌+◌, ◌<◌, ◌≤◌, length};
-ghost use Rattle.lanes.specs.Lanes.{lane};
-ghost use Rattle.pieces.specs.Pushed.{Pushes};
+ghost use Rattle.bit_rows.specs.Lanes.{lane};
+ghost use Rattle.streams.specs.Pushed.{Pushes};
 ghost use Rattle.sampling.specs.private.LaneLines.{lane_lines};
 ghost use Rattle.sampling.specs.Lines.{digit_of, line_of};
 
-use lanes::bit;
-use pieces::Pieces;
+use bit_rows::lanes::bit;
 use step_model::Sink;
+use streams::Pieces;
 
 // Pushes the lines of the first shots. `line` has room for one.
 pub(crate) fn push_lines<W: Sink>(

@@ -2,11 +2,11 @@
 ghost use Rattle.std.specs.Prelude.{◌≡◌, ◌<◌, ℕ, false, length, slice_index, slice_index_or, IfOk, IfErr};
 ghost use Rattle.step_model.specs.Faults.{memory_fault};
 ghost use Rattle.step_model.specs.Runs.{records_of};
-ghost use Rattle.lanes.specs.Lanes.{lane, lane_bit};
-ghost use Rattle.batch.specs.Batches.{shot_records};
+ghost use Rattle.bit_rows.specs.Lanes.{lane, lane_bit};
+ghost use Rattle.frames.specs.Batches.{shot_records};
 
 use crate::side_runs::SideRuns;
-use batch::Batch;
+use frames::Batch;
 use programs::Program;
 use std::alloc::Allocator;
 use std::marker::Model;
@@ -21,7 +21,7 @@ pub(crate) struct RecordRuns<'b, 'p, A: Allocator + Copy> {
 
 impl<'b, 'p, A: Allocator + Copy> Model for RecordRuns<'b, 'p, A> {
     ghost use Rattle.std.specs.Prelude.{◌≡◌, length};
-    ghost use Rattle.batch.specs.Batches.{IsBatchOf};
+    ghost use Rattle.frames.specs.Batches.{IsBatchOf};
     ghost use Rattle.sampling.specs.private.ShownRuns.{ShownRuns};
 
     ghost Value = { ShownRuns };

@@ -1,6 +1,6 @@
 ghost use Rattle.std.specs.Prelude.{◌≡◌, ◌<◌, ℕ, List, Bool, length};
 ghost use Rattle.step_model.specs.Listing.{Listing};
-ghost use Rattle.lanes.specs.Lanes.{lane};
+ghost use Rattle.bit_rows.specs.Lanes.{lane};
 
 /// Runs of a program, 64 side by side, and what is shown of each: truth values, such as its records. Each call of `run`
 /// runs them anew.

@@ -2,3 +2,9 @@ pub mod ScanLemmas
 mod LexingLemmas
 mod Nowhere
 mod SpecialLemmas
+pub mod TreeLemmas
+pub mod TextLemmas
+pub mod PassLemmas
+pub mod FlatLemmas
+pub mod SaidLemmas
+pub mod QuestionLemmas

@@ -3,3 +3,16 @@ pub mod Lines
 pub mod Cut
 pub mod Lexing
 pub mod private
+pub mod Arguments
+pub mod Instructions
+pub mod Trees
+pub mod Texts
+pub mod Fitting
+pub mod Flat
+pub mod Unfinished
+pub mod Said
+pub mod Kept
+pub mod Marked
+pub mod Reached
+pub mod Stored
+pub mod Judged

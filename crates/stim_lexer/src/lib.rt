@@ -2,10 +2,18 @@
 //! Only bytes that may not stand in a text are refused here, and no memory is taken.
 #![tactic(auto)]
 
+mod blocks;
+mod builder;
+mod items;
 mod lexer;
 mod line;
+mod said;
 mod scan;
 
+pub use blocks::{LEVELS, OpenBlock};
+pub use builder::Builder;
+pub use items::{Instruction, Item, Items};
 pub use lexer::Lexer;
 pub use line::{Braces, Line};
+pub use said::Said;
 pub use scan::{after_blanks, cut_at, is_blank};

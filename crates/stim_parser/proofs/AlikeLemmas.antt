@@ -1,10 +1,10 @@
 -- Trees that are the same but for the numbers of their lines have one text, and a text is that of no others.
 use Rattle.std.proofs.Common.{◌≡◌, ℕ, ◌+◌, ◌∷◌, ◌++◌, refl, ap, ap₂, sym, subst, ◌∙◌}
-use Rattle.block_text.proofs.TreeLemmas.{no_text_writes_two_trees}
+use Rattle.stim_lexer.proofs.TreeLemmas.{no_text_writes_two_trees}
 use Rattle.stim_parser.specs.Circuits.{IsCircuit}
 use Rattle.stim_parser.specs.Texts.{circuits}
 use Rattle.stim_parser.specs.Trees.{Tree}
-use Rattle.block_text.specs.Trees.{Nothing, Then, Block}
+use Rattle.stim_lexer.specs.Trees.{Nothing, Then, Block}
 use Rattle.stim_parser.specs.Judged.{Writes}
 use Rattle.stim_parser.specs.Written.{AreAlike, at_line, circuit_text, instruction_text, line_count, opening_text, with_lines, with_lines_after}
 use Rattle.stim_parser.proofs.CircuitTexts.{circuit_is_written}

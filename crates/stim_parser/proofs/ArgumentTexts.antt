@@ -5,7 +5,7 @@ use Rattle.std.specs.Char.{is_ascii_digit}
 use Rattle.std.specs.List.{list_all, list_any, slice_split}
 use Rattle.std.proofs.lemmas.Bool.{and_from, and_parts, cases_Bool, eqb-true, false≢true, or_from}
 use Rattle.stim_lexer.specs.Bytes.{after_blanks, is_close_parenthesis, is_empty}
-use Rattle.block_text.proofs.QuestionLemmas.{neither, not_not}
+use Rattle.stim_lexer.proofs.QuestionLemmas.{neither, not_not}
 use Rattle.stim_parser.specs.declared.forms.ArgumentForm.{ArgumentForm}
 use Rattle.stim_parser.specs.declared.forms.ArgumentForm.TheVariants.{NoArguments, ProbabilityAtWill, OneProbability, WholeNumbers, Decimals, OneNumber}
 use Rattle.stim_parser.specs.Arguments.{arguments_in, is_comma, trimmed}

@@ -4,8 +4,8 @@ use Rattle.std.specs.Prelude.{unwrap_or}
 use Rattle.std.specs.List.{list_any}
 use Rattle.std.proofs.lemmas.Bool.{ltb-false}
 use Rattle.stim_lexer.specs.Cut.{Cut}
-use Rattle.block_text.specs.Fitting.{IsTurns, LinesFit}
-use Rattle.block_text.proofs.QuestionLemmas.{neither, not_not}
+use Rattle.stim_lexer.specs.Fitting.{IsTurns, LinesFit}
+use Rattle.stim_lexer.proofs.QuestionLemmas.{neither, not_not}
 use Rattle.stim_parser.specs.declared.forms.TargetForm.{TargetForm}
 use Rattle.stim_parser.specs.declared.forms.TargetForm.TheVariants.{Turns}
 use Rattle.stim_parser.specs.declared.operation.Operation.{Operation}

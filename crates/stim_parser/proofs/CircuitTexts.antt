@@ -3,10 +3,10 @@ use Rattle.std.proofs.Common.{◌≡◌, ℕ, ◌+◌, ◌<◌, ◌≤◌, List,
 use Rattle.step_model.specs.declared.fault.Fault.{Fault}
 use Rattle.stim_lexer.specs.Cut.{Cut}
 use Rattle.stim_lexer.specs.Lines.{lines_of}
-use Rattle.block_text.specs.Fitting.{IsTurns, TurnsWithin, depth}
-use Rattle.block_text.specs.Texts.{Reading, Accepts, Opens, Closes, before, followed, items_from, open_after}
-use Rattle.block_text.specs.Trees.{InstructionLine, BlockStart, BlockEnd, Nothing, Then, Block}
-use Rattle.block_text.proofs.TextLemmas.{after, after-append, after-ok}
+use Rattle.stim_lexer.specs.Fitting.{IsTurns, TurnsWithin, depth}
+use Rattle.stim_lexer.specs.Texts.{Reading, Accepts, Opens, Closes, before, followed, items_from, open_after}
+use Rattle.stim_lexer.specs.Trees.{InstructionLine, BlockStart, BlockEnd, Nothing, Then, Block}
+use Rattle.stim_lexer.proofs.TextLemmas.{after, after-append, after-ok}
 use Rattle.stim_parser.specs.Circuits.{AllFit, Fits, IsCircuit}
 use Rattle.stim_parser.specs.Judging.{reading_of}
 use Rattle.stim_parser.specs.Texts.{Item, circuits, items_in}

@@ -6,10 +6,10 @@ use Rattle.step_model.specs.declared.fault.Cause.{Cause}
 use Rattle.stim_lexer.specs.declared.line.Braces.{Braces}
 use Rattle.stim_lexer.specs.declared.line.Braces.TheVariants.{NoBrace, OpeningLast, ClosingAlone, Misplaced}
 use Rattle.stim_lexer.specs.Cut.{Cut}
-use Rattle.block_text.specs.Fitting.{IsTurns, ReadingAccords, ReadingFits}
-use Rattle.block_text.specs.Instructions.{Instruction}
-use Rattle.block_text.specs.Texts.{Closes, Refuses}
-use Rattle.block_text.proofs.QuestionLemmas.{NoneApplies, neither, none_applies, none_behind, not_deep, not_zero}
+use Rattle.stim_lexer.specs.Fitting.{IsTurns, ReadingAccords, ReadingFits}
+use Rattle.stim_lexer.specs.Instructions.{Instruction}
+use Rattle.stim_lexer.specs.Texts.{Closes, Refuses}
+use Rattle.stim_lexer.proofs.QuestionLemmas.{NoneApplies, neither, none_applies, none_behind, not_deep, not_zero}
 use Rattle.stim_parser.specs.declared.table.Causes.{Causes}
 use Rattle.stim_parser.specs.declared.table.Keyword.{Keyword}
 use Rattle.stim_parser.specs.declared.table.Keyword.TheVariants.{Does, Repeats}

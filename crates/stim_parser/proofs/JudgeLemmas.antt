@@ -6,7 +6,7 @@ use Rattle.std.specs.Option.{option_or}
 use Rattle.std.proofs.lemmas.Bool.{false≢true, lt-ltb, ne_eqb, or_right}
 use Rattle.step_model.specs.declared.fault.Cause.{Cause}
 use Rattle.stim_lexer.specs.Cut.{Cut}
-use Rattle.block_text.specs.Texts.{Refuses}
+use Rattle.stim_lexer.specs.Texts.{Refuses}
 use Rattle.stim_parser.specs.declared.forms.ArgumentForm.{ArgumentForm}
 use Rattle.stim_parser.specs.declared.forms.ArgumentForm.TheVariants.{NoArguments, ProbabilityAtWill, OneProbability, WholeNumbers, Decimals, OneNumber}
 use Rattle.stim_parser.specs.declared.table.Causes.{Causes}

@@ -6,8 +6,8 @@ use Rattle.stim_lexer.specs.declared.line.Braces.TheVariants.{OpeningLast}
 use Rattle.stim_lexer.specs.Bytes.{after_blanks, is_empty}
 use Rattle.stim_lexer.specs.Cut.{Cut, cut_of, has_bad_byte, has_opening}
 use Rattle.stim_lexer.specs.Lines.{says_nothing}
-use Rattle.block_text.specs.Fitting.{IsTurns}
-use Rattle.block_text.specs.Texts.{Accepts, Opens, Closes}
+use Rattle.stim_lexer.specs.Fitting.{IsTurns}
+use Rattle.stim_lexer.specs.Texts.{Accepts, Opens, Closes}
 use Rattle.stim_parser.specs.declared.forms.TargetForm.{TargetForm}
 use Rattle.stim_parser.specs.declared.operation.Operation.{Operation}
 use Rattle.stim_parser.specs.declared.table.Keyword.TheVariants.{Does}

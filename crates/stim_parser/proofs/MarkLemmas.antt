@@ -2,14 +2,14 @@
 use Rattle.std.proofs.Common.{◌≡◌, ◌≤◌, ◌+◌, ℕ, zero, suc, List, [], ◌∷◌, ◌++◌, length, get_or, Option, None, Some, Result, Ok, Err, IfOk, slice_get, sym, ap₂, subst, ◌∙◌, append-nil, arith}
 use Rattle.chances.specs.declared.table.ChanceText.{ChanceText}
 use Rattle.chances.specs.Chances.{Chance, KeepsChances}
-use Rattle.block_text.specs.declared.said.Said.{Said}
-use Rattle.block_text.specs.declared.said.Said.TheVariants as said
-use Rattle.block_text.specs.Arguments.{arguments_in}
-use Rattle.block_text.specs.Instructions.{Instruction}
-use Rattle.block_text.specs.Marked.{Marked, line_marks}
-use Rattle.block_text.specs.Said.{reading_in}
-use Rattle.block_text.specs.Trees.{Item, InstructionLine, BlockStart, BlockEnd}
-use Rattle.block_text.specs.Unfinished.{line_items}
+use Rattle.stim_lexer.specs.declared.said.Said.{Said}
+use Rattle.stim_lexer.specs.declared.said.Said.TheVariants as said
+use Rattle.stim_lexer.specs.Arguments.{arguments_in}
+use Rattle.stim_lexer.specs.Instructions.{Instruction}
+use Rattle.stim_lexer.specs.Marked.{Marked, line_marks}
+use Rattle.stim_lexer.specs.Said.{reading_in}
+use Rattle.stim_lexer.specs.Trees.{Item, InstructionLine, BlockStart, BlockEnd}
+use Rattle.stim_lexer.specs.Unfinished.{line_items}
 use Rattle.stim_parser.specs.Judging.{Table}
 use Rattle.stim_parser.specs.Probabilities.{AreMarked, IsMarked, Keeps, Marks, SaidMarked, chance_taken, instruction_count, taken_count}
 

@@ -4,7 +4,7 @@
 use Rattle.std.specs.Prelude.{◌≡◌, nat_le, Bool, false, true, not, []}
 use Rattle.std.specs.List.{list_all}
 use Rattle.step_model.specs.Listing.{is_I}
-use Rattle.block_text.specs.Fitting as fitting
+use Rattle.stim_lexer.specs.Fitting as fitting
 use Rattle.stim_parser.specs.declared.table.Keyword.TheVariants.{Does}
 use Rattle.stim_parser.specs.declared.operation.Operation.{Operation}
 use Rattle.stim_parser.specs.declared.operation.Operation.TheVariants.{Measurement, QubitReset, MeasurementReset, PauliError}

@@ -1,8 +1,8 @@
 -- What a circuit's text is judged to be: a text that writes a tree, or a text that is refused.
 use Rattle.std.specs.Prelude.{ℕ, List}
 use Rattle.step_model.specs.declared.fault.Fault.{Fault}
-use Rattle.block_text.specs.Judged as judged
-use Rattle.block_text.specs.Trees as trees
+use Rattle.stim_lexer.specs.Judged as judged
+use Rattle.stim_lexer.specs.Trees as trees
 use Rattle.stim_parser.specs.Texts.{Item, circuits}
 use Rattle.stim_parser.specs.Trees.{Tree}
 

@@ -15,9 +15,9 @@ use Rattle.step_model.specs.declared.fault.Cause.{Cause}
 use Rattle.stim_lexer.specs.declared.line.Braces.{Braces}
 use Rattle.stim_lexer.specs.declared.line.Braces.TheVariants.{NoBrace, OpeningLast, ClosingAlone}
 use Rattle.stim_lexer.specs.Cut.{Cut}
-use Rattle.block_text.specs.Trees.{deepest}
-use Rattle.block_text.specs.Instructions.{Instruction}
-use Rattle.block_text.specs.Texts.{Format, Reading, Accepts, Opens, Closes, Refuses}
+use Rattle.stim_lexer.specs.Trees.{deepest}
+use Rattle.stim_lexer.specs.Instructions.{Instruction}
+use Rattle.stim_lexer.specs.Texts.{Format, Reading, Accepts, Opens, Closes, Refuses}
 use Rattle.stim_parser.specs.declared.forms.ArgumentForm.{ArgumentForm}
 use Rattle.stim_parser.specs.declared.table.Causes.{Causes}
 use Rattle.stim_parser.specs.declared.table.Keyword.{Keyword}

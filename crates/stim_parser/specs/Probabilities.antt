@@ -4,12 +4,12 @@ use Rattle.std.specs.Prelude.{◌≡◌, ◌<◌, ◌≤◌, ◌+◌, ◌^◌, �
 use Rattle.step_model.specs.Probabilities.{probability_bound}
 use Rattle.chances.specs.declared.table.ChanceText.{ChanceText}
 use Rattle.chances.specs.Chances.{Chance, chance_at}
-use Rattle.block_text.specs.declared.said.Said.{Said}
-use Rattle.block_text.specs.declared.said.Said.TheVariants as said
-use Rattle.block_text.specs.Arguments.{arguments_in}
-use Rattle.block_text.specs.Instructions.{Instruction}
-use Rattle.block_text.specs.Marked.{Begun, Marked}
-use Rattle.block_text.specs.Trees.{Item, InstructionLine, BlockStart, BlockEnd}
+use Rattle.stim_lexer.specs.declared.said.Said.{Said}
+use Rattle.stim_lexer.specs.declared.said.Said.TheVariants as said
+use Rattle.stim_lexer.specs.Arguments.{arguments_in}
+use Rattle.stim_lexer.specs.Instructions.{Instruction}
+use Rattle.stim_lexer.specs.Marked.{Begun, Marked}
+use Rattle.stim_lexer.specs.Trees.{Item, InstructionLine, BlockStart, BlockEnd}
 use Rattle.stim_parser.specs.declared.table.Keyword.TheVariants as keyword
 use Rattle.stim_parser.specs.Judging.{Table}
 use Rattle.stim_parser.specs.Limits.{takes_probability, has_wrong_arguments, has_wrong_probability}

@@ -4,8 +4,8 @@
 -- github.com/quantumlib/Stim, doc/file_format_stim_circuit.md; the order of refusals is this project's.)
 use Rattle.std.specs.Prelude.{ℕ, List, Result}
 use Rattle.step_model.specs.declared.fault.Fault.{Fault}
-use Rattle.block_text.specs.Texts as text
-use Rattle.block_text.specs.Trees as trees
+use Rattle.stim_lexer.specs.Texts as text
+use Rattle.stim_lexer.specs.Trees as trees
 use Rattle.stim_parser.specs.Judging.{format_of}
 use Rattle.stim_parser.specs.Verdicts.{Instruction, circuit_table}
 

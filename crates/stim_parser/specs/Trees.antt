@@ -1,7 +1,7 @@
 -- The circuit that a text writes, as a tree: instructions, and blocks with the number of their turns and what
 -- stands in them. A tree and its text say the same items in the same order, and so no two trees have one text.
 -- (Stim's circuit format, github.com/quantumlib/Stim, doc/file_format_stim_circuit.md, "REPEAT blocks".)
-use Rattle.block_text.specs.Trees as trees
+use Rattle.stim_lexer.specs.Trees as trees
 use Rattle.stim_parser.specs.Verdicts.{Instruction}
 
 -- what stands in a circuit or in a block, from the first on: nothing; an instruction and the rest; or a block, with its line,

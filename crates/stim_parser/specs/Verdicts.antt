@@ -17,7 +17,7 @@ use Rattle.std.specs.Prelude.{ℕ, Bool, true, false, not, ◌&&◌, ◌||◌, i
 use Rattle.step_model.specs.declared.fault.Cause.{Cause}
 use Rattle.step_model.specs.declared.fault.Cause.TheVariants as cause
 use Rattle.stim_lexer.specs.Bytes.{is_empty, after_blanks}
-use Rattle.block_text.specs.Instructions as lines
+use Rattle.stim_lexer.specs.Instructions as lines
 use Rattle.stim_parser.specs.declared.forms.TargetForm.{TargetForm}
 use Rattle.stim_parser.specs.declared.forms.TargetForm.TheVariants.{NoTargets}
 use Rattle.stim_parser.specs.declared.operation.Operation.{Operation}

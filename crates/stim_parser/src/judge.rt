@@ -1,7 +1,7 @@
 ghost use Rattle.std.specs.Prelude.{◌≡◌, ◌==◌, if◌then◌else◌, ℕ, List, None, Some, not, true, false, IfOk, MatchResult};
 ghost use Rattle.stim_lexer.specs.Lexing.{cut_in};
-ghost use Rattle.block_text.specs.Said.{reading_in};
-ghost use Rattle.block_text.specs.Texts.{Closes, Refuses};
+ghost use Rattle.stim_lexer.specs.Said.{reading_in};
+ghost use Rattle.stim_lexer.specs.Texts.{Closes, Refuses};
 ghost use Rattle.stim_parser.specs.declared.forms.ArgumentForm.TheVariants.{NoArguments};
 ghost use Rattle.stim_parser.specs.Arguments.{arguments_in};
 ghost use Rattle.stim_parser.specs.Limits.{has_argument_beyond, takes_probability};
@@ -17,10 +17,9 @@ use crate::arguments::read_arguments;
 use crate::forms::ArgumentForm;
 use crate::last::Last;
 use crate::table::{Causes, Judge, Keyword};
-use block_text::{LEVELS, Said};
 use std::alloc::{AllocError, Allocator};
 use step_model::Cause;
-use stim_lexer::{Braces, Line};
+use stim_lexer::{LEVELS, Braces, Line, Said};
 
 /// Whether the braces of a line stand otherwise than its keyword asks.
 fn misplaces_brace<O: Copy>(keyword: Option<Keyword<O>>, braces: Braces) -> bool

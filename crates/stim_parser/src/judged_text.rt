@@ -1,14 +1,14 @@
 ghost use Rattle.std.specs.Prelude.{◌≡◌, ◌<◌, ◌==◌, Some, length, option_map, slice_get};
-ghost use Rattle.block_text.specs.Fitting.{IsBuilt, IsWritten};
-ghost use Rattle.block_text.specs.Kept.{item_in};
-ghost use Rattle.block_text.specs.Trees.{items_of};
+ghost use Rattle.stim_lexer.specs.Fitting.{IsBuilt, IsWritten};
+ghost use Rattle.stim_lexer.specs.Kept.{item_in};
+ghost use Rattle.stim_lexer.specs.Trees.{items_of};
 ghost use Rattle.stim_parser.specs.Probabilities.{Keeps};
 
 use crate::table::Judge;
-use block_text::{Item, Items};
 use chances::ChanceText;
 use std::alloc::Allocator;
 use std::marker::{Model, PhantomData};
+use stim_lexer::{Item, Items};
 
 /// The items of a text, and the texts of their probabilities. The mark of an instruction that has a probability is the
 /// number of that among the texts, unless there are more than 2^32 of them.
@@ -27,11 +27,11 @@ pub struct JudgedText<'a, O: Copy, T: Copy, F: Copy, J: Judge<O, T, F>, A: Alloc
 
 impl<'a, O: Copy, T: Copy, F: Copy, J: Judge<O, T, F>, A: Allocator + Copy> Model
     for JudgedText<'a, O, T, F, J, A> {
-    ghost use Rattle.block_text.specs.Flat.{tree_of};
-    ghost use Rattle.block_text.specs.Fitting.{IsWritten};
-    ghost use Rattle.block_text.specs.Stored.{coded_tree, coded_instruction};
-    ghost use Rattle.block_text.specs.Instructions.{Instruction};
-    ghost use Rattle.block_text.specs.Trees.{Tree};
+    ghost use Rattle.stim_lexer.specs.Flat.{tree_of};
+    ghost use Rattle.stim_lexer.specs.Fitting.{IsWritten};
+    ghost use Rattle.stim_lexer.specs.Stored.{coded_tree, coded_instruction};
+    ghost use Rattle.stim_lexer.specs.Instructions.{Instruction};
+    ghost use Rattle.stim_lexer.specs.Trees.{Tree};
 
     ghost Value = { Tree (Instruction O T) };
 

@@ -1,10 +1,10 @@
 ghost use Rattle.std.specs.Prelude.{◌≡◌, ◌<◌, ◌≤◌, ◌+◌, ◌^◌, ◌⊎◌, length, IfOk, IfErr, Ok};
 ghost use Rattle.step_model.specs.Faults.{memory_fault};
 ghost use Rattle.stim_lexer.specs.Lexing.{cut_in};
-ghost use Rattle.block_text.specs.Fitting.{LinesFit};
-ghost use Rattle.block_text.specs.Texts.{items_in};
-ghost use Rattle.block_text.specs.Judged.{IsRefusedBy, Writes};
-ghost use Rattle.block_text.specs.Unfinished.{after_line, cause_in, reading_at};
+ghost use Rattle.stim_lexer.specs.Fitting.{LinesFit};
+ghost use Rattle.stim_lexer.specs.Texts.{items_in};
+ghost use Rattle.stim_lexer.specs.Judged.{IsRefusedBy, Writes};
+ghost use Rattle.stim_lexer.specs.Unfinished.{after_line, cause_in, reading_at};
 ghost use Rattle.chances.specs.Chances.{KeepsChances};
 ghost use Rattle.stim_parser.specs.Judging.{format_of};
 ghost use Rattle.stim_parser.specs.Probabilities.{Keeps, Remembers, SaidMarked, marked_in, taken_count};
@@ -14,11 +14,10 @@ use crate::judge::read_line;
 use crate::judged_text::{JudgedText, Numbered};
 use crate::last::{Last, LastParentheses};
 use crate::table::{Judge, Keyword};
-use block_text::{Builder, Said};
 use chances::{ChanceText, number_of};
 use std::alloc::{AllocError, Allocator};
 use step_model::{Cause, Fault};
-use stim_lexer::{Lexer, Line};
+use stim_lexer::{Builder, Lexer, Line, Said};
 
 /// A number as a mark: what is beyond all marks has the greatest one.
 fn mark_from(number: usize) -> u32

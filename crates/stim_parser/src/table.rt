@@ -1,5 +1,5 @@
 ghost use Rattle.std.specs.Prelude.{◌≡◌, None, Some, false, IfOk, MatchBool};
-ghost use Rattle.block_text.specs.Instructions.{Instruction};
+ghost use Rattle.stim_lexer.specs.Instructions.{Instruction};
 ghost use Rattle.stim_parser.specs.Judging.{Table, first_of};
 
 use crate::forms::ArgumentForm;

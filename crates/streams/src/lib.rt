@@ -3,8 +3,10 @@
 //! known, so of them contracts say no more. A call that a signal interrupts is made again, as std does.
 #![tactic(auto)]
 
+mod pieces;
 mod reader_source;
 mod writer_sink;
 
+pub use pieces::Pieces;
 pub use reader_source::ReaderSource;
 pub use writer_sink::WriterSink;

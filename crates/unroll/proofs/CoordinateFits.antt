@@ -10,12 +10,12 @@ use Rattle.stim_parser.specs.declared.operation.Operation.TheVariants.{DetectorD
 use Rattle.stim_parser.specs.Circuits.{AllFit, IsCircuit}
 use Rattle.stim_parser.specs.Numbers.{whole_value}
 use Rattle.stim_parser.specs.Trees.{Tree}
-use Rattle.block_text.specs.Trees.{Nothing, Then, Block}
+use Rattle.stim_lexer.specs.Trees.{Nothing, Then, Block}
 use Rattle.stim_parser.specs.Verdicts.{Instruction}
 use Rattle.unroll.specs.private.Coordinates.{coordinates_from, coordinates_of}
 use Rattle.stim_parser.specs.Offsets.{moved, shifted}
 use Rattle.unroll.specs.TargetsMade.{offset_after, operation_coordinates}
-use Rattle.block_text.specs.Reached.{copies, reached, total}
+use Rattle.stim_lexer.specs.Reached.{copies, reached, total}
 use Rattle.unroll.specs.Totals.{step_total}
 use Rattle.unroll.specs.private.MadeTotals.{step_count}
 use Rattle.stim_parser.proofs.CoordinateArguments.{AreUpTo, HasCoordinates, has_coordinates, most}

@@ -5,13 +5,13 @@ use Rattle.std.specs.Prelude.{All, slice_get}
 use Rattle.std.specs.Option.{option_to_list}
 use Rattle.std.proofs.lemmas.List.Elements.{All-append, All-drop, All-map, All-nil, All-weaker}
 use Rattle.stim_parser.specs.Circuits.{AllFit, IsCircuit}
-use Rattle.block_text.specs.Trees.{InstructionLine, BlockStart, BlockEnd}
+use Rattle.stim_lexer.specs.Trees.{InstructionLine, BlockStart, BlockEnd}
 use Rattle.stim_parser.specs.Trees.{Tree}
 use Rattle.stim_parser.specs.Judged.{items_of}
 use Rattle.stim_parser.specs.Verdicts.{Instruction}
-use Rattle.block_text.specs.declared.blocks.OpenBlock.{OpenBlock}
+use Rattle.stim_lexer.specs.declared.blocks.OpenBlock.{OpenBlock}
 use Rattle.unroll.specs.declared.marks.Mark.{Mark}
-use Rattle.block_text.specs.Reached.{reached}
+use Rattle.stim_lexer.specs.Reached.{reached}
 use Rattle.unroll.specs.private.Gathered.{Gathered, Gathering, gathering, given, later}
 use Rattle.unroll.specs.private.Passes.{behind, opened}
 use Rattle.unroll.specs.private.Counted.{first_far_from}

@@ -9,12 +9,12 @@ use Rattle.stim_parser.specs.declared.target.Target.TheVariants.{Back}
 use Rattle.stim_parser.specs.Trees.{Tree}
 use Rattle.stim_parser.specs.Judged.{items_of}
 use Rattle.stim_parser.specs.Verdicts.{Instruction}
-use Rattle.block_text.specs.declared.blocks.OpenBlock.{OpenBlock}
+use Rattle.stim_lexer.specs.declared.blocks.OpenBlock.{OpenBlock}
 use Rattle.unroll.specs.declared.marks.Mark.{Mark}
 use Rattle.unroll.specs.private.Detecting.{detecting, records_moved}
 use Rattle.unroll.specs.private.Detectors.{detectors_from, detectors_of}
 use Rattle.unroll.specs.TargetsMade.{operation_detectors, record_named, records_named}
-use Rattle.block_text.specs.Reached.{reached}
+use Rattle.stim_lexer.specs.Reached.{reached}
 use Rattle.unroll.specs.private.Gathered.{given}
 use Rattle.unroll.proofs.CountLemmas.{CountsRecords, IsCounting, counting-done}
 use Rattle.unroll.proofs.RecordLemmas.{AreBack, IsNear}

@@ -8,7 +8,7 @@ use Rattle.stim_parser.specs.declared.target.Target.TheVariants.{Back}
 use Rattle.stim_parser.specs.Circuits.{AllFit}
 use Rattle.stim_parser.specs.Texts.{Item}
 use Rattle.stim_parser.specs.Trees.{Tree}
-use Rattle.block_text.specs.Trees.{Nothing, Then, Block, InstructionLine, BlockStart, BlockEnd}
+use Rattle.stim_lexer.specs.Trees.{Nothing, Then, Block, InstructionLine, BlockStart, BlockEnd}
 use Rattle.stim_parser.specs.Judged.{items_of}
 use Rattle.stim_parser.specs.Verdicts.{Instruction}
 use Rattle.stim_parser.proofs.TargetNumbers.{none_passes}
@@ -16,7 +16,7 @@ use Rattle.unroll.specs.private.Pushed.{back_of}
 use Rattle.unroll.specs.Refusals.{is_before_start, reaches_far}
 use Rattle.unroll.specs.private.Counted.{first_far_from}
 use Rattle.unroll.specs.private.MadeTotals.{record_count}
-use Rattle.block_text.specs.Reached.{total}
+use Rattle.stim_lexer.specs.Reached.{total}
 
 -- ---- what holds of each instruction of a tree, and of items
 

@@ -6,12 +6,12 @@ use Rattle.std.proofs.lemmas.List.{reverse-append, drop_all, drop_at}
 use Rattle.stim_parser.specs.Circuits.{Fits, IsCircuit}
 use Rattle.stim_parser.specs.Texts.{Item}
 use Rattle.stim_parser.specs.Trees.{Tree}
-use Rattle.block_text.specs.Trees.{Nothing, Then, Block, InstructionLine, BlockStart, BlockEnd}
+use Rattle.stim_lexer.specs.Trees.{Nothing, Then, Block, InstructionLine, BlockStart, BlockEnd}
 use Rattle.stim_parser.specs.Judged.{items_of}
 use Rattle.stim_parser.specs.Verdicts.{Instruction}
-use Rattle.block_text.specs.declared.blocks.OpenBlock.{OpenBlock}
+use Rattle.stim_lexer.specs.declared.blocks.OpenBlock.{OpenBlock}
 use Rattle.unroll.specs.declared.marks.Mark.{Mark}
-use Rattle.block_text.specs.Reached.{copies, reached}
+use Rattle.stim_lexer.specs.Reached.{copies, reached}
 use Rattle.unroll.specs.private.Gathered.{Gathered, Gathering, closed, gathering, given, later, mark_of, place_behind, stepped}
 use Rattle.unroll.specs.private.Passes.{behind, opened}
 use Rattle.unroll.proofs.PassLemmas.{AreWhole, can_stand, drop_got, whole-tree}

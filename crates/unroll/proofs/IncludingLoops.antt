@@ -15,9 +15,9 @@ use Rattle.stim_parser.specs.Judged.{items_of}
 use Rattle.stim_parser.specs.Trees.{Tree}
 use Rattle.stim_parser.specs.Verdicts.{Instruction}
 use Rattle.stim_parser.proofs.NumberArguments.{names_number}
-use Rattle.block_text.specs.Reached.{reached}
-use Rattle.block_text.specs.Trees.{InstructionLine, BlockStart, BlockEnd}
-use Rattle.block_text.specs.declared.blocks.OpenBlock.{OpenBlock}
+use Rattle.stim_lexer.specs.Reached.{reached}
+use Rattle.stim_lexer.specs.Trees.{InstructionLine, BlockStart, BlockEnd}
+use Rattle.stim_lexer.specs.declared.blocks.OpenBlock.{OpenBlock}
 use Rattle.unroll.specs.declared.inclusions.Note.{Note}
 use Rattle.unroll.specs.declared.marks.Mark.{Mark}
 use Rattle.unroll.specs.TargetsMade.{records_named}

@@ -5,10 +5,10 @@ use Rattle.std.proofs.lemmas.List.{drop_all}
 use Rattle.stim_parser.specs.Circuits.{AllFit, Fits, IsCircuit}
 use Rattle.stim_parser.specs.Texts.{Item}
 use Rattle.stim_parser.specs.Trees.{Tree}
-use Rattle.block_text.specs.Trees.{Nothing, Then, Block, InstructionLine, BlockStart, BlockEnd}
+use Rattle.stim_lexer.specs.Trees.{Nothing, Then, Block, InstructionLine, BlockStart, BlockEnd}
 use Rattle.stim_parser.specs.Judged.{items_of}
 use Rattle.stim_parser.specs.Verdicts.{Instruction}
-use Rattle.block_text.specs.Reached.{instructions_of}
+use Rattle.stim_lexer.specs.Reached.{instructions_of}
 use Rattle.unroll.specs.private.Items.{instructions_in, item_qubits, IsSound}
 use Rattle.unroll.specs.Totals.{qubit_total}
 use Rattle.unroll.specs.private.MadeTotals.{qubits_over}

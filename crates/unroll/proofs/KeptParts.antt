@@ -5,9 +5,9 @@ use Rattle.std.specs.List.{flat_map}
 use Rattle.std.proofs.lemmas.List.Concat.{flat_map-append}
 use Rattle.std.proofs.lemmas.List.Elements.{All-append, All-nil}
 use Rattle.stim_parser.specs.Trees.{Tree}
-use Rattle.block_text.specs.Trees.{Nothing, Then, Block}
+use Rattle.stim_lexer.specs.Trees.{Nothing, Then, Block}
 use Rattle.stim_parser.specs.Verdicts.{Instruction}
-use Rattle.block_text.specs.Reached.{instructions_of}
+use Rattle.stim_lexer.specs.Reached.{instructions_of}
 use Rattle.unroll.proofs.FarLemmas.{EachOf}
 
 pub all_parts : {X : Type 0} (P : Instruction → Type 0) (Q : X → Type 0) (parts : Instruction → List X) → ((i : Instruction) → P i → All Q (parts i)) → (t : Tree) → EachOf P t → All Q (flat_map parts (instructions_of t))

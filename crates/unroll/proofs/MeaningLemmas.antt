@@ -6,7 +6,7 @@ use Rattle.std.specs.List.{filter, flat_map, range_with_len, sum_by}
 use Rattle.programs.proofs.Orders.{collapses-total}
 use Rattle.std.proofs.lemmas.List.FromFn.{length-range_with_len}
 use Rattle.std.proofs.lemmas.List.Concat.{flat_map-append}
-use Rattle.block_text.specs.Reached.{copies, reached, instructions_of}
+use Rattle.stim_lexer.specs.Reached.{copies, reached, instructions_of}
 use Rattle.programs.specs.Kept.{Kept}
 use Rattle.programs.specs.declared.step.Counts.{Counts}
 use Rattle.programs.specs.declared.step.TextStep.{TextStep}
@@ -19,7 +19,7 @@ use Rattle.stim_parser.specs.declared.operation.Operation.{Operation}
 use Rattle.stim_parser.specs.declared.operation.Operation.TheVariants.{ObservableInclude}
 use Rattle.stim_parser.specs.Numbers.{value_of}
 use Rattle.stim_parser.specs.Trees.{Tree}
-use Rattle.block_text.specs.Trees.{Nothing, Then, Block}
+use Rattle.stim_lexer.specs.Trees.{Nothing, Then, Block}
 use Rattle.stim_parser.specs.Verdicts.{Instruction}
 use Rattle.unroll.specs.Before.{Before}
 use Rattle.unroll.specs.private.Coordinates.{coordinates_from, coordinates_of}

@@ -7,7 +7,7 @@ use Rattle.std.proofs.lemmas.List.{length-map}
 use Rattle.chances.specs.declared.table.ChanceText.{ChanceText}
 use Rattle.chances.specs.Chances.{Chance, chance_of}
 use Rattle.chances.proofs.ChanceLaws.{chance_at-map}
-use Rattle.block_text.specs.Marked.{Marked}
+use Rattle.stim_lexer.specs.Marked.{Marked}
 use Rattle.step_model.specs.Probabilities.{probability_bound}
 use Rattle.stim_parser.specs.declared.operation.Operation.{Operation}
 use Rattle.stim_parser.specs.declared.operation.Operation.TheVariants.{Measurement, MeasurementReset, ProductMeasurement, PauliError, CorrelatedError}
@@ -15,7 +15,7 @@ use Rattle.stim_parser.specs.Circuits.{Fits, IsCircuit}
 use Rattle.stim_parser.specs.Limits.{has_wrong_arguments, has_wrong_probability, is_probability}
 use Rattle.stim_parser.specs.Probabilities.{IsMarked, Keeps, Marks, chance_in, chance_taken, instruction_count}
 use Rattle.stim_parser.specs.Texts.{Item}
-use Rattle.block_text.specs.Trees.{InstructionLine, BlockStart, BlockEnd}
+use Rattle.stim_lexer.specs.Trees.{InstructionLine, BlockStart, BlockEnd}
 use Rattle.stim_parser.specs.Trees.{Tree}
 use Rattle.stim_parser.specs.Judged.{items_of}
 use Rattle.stim_parser.specs.Verdicts.{Instruction, circuit_table}

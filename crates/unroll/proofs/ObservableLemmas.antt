@@ -8,11 +8,11 @@ use Rattle.stim_parser.specs.declared.operation.Operation.TheVariants.{Observabl
 use Rattle.stim_parser.specs.Circuits.{AllFit}
 use Rattle.stim_parser.specs.Texts.{Item}
 use Rattle.stim_parser.specs.Trees.{Tree}
-use Rattle.block_text.specs.Trees.{Nothing, Then, Block, BlockEnd}
+use Rattle.stim_lexer.specs.Trees.{Nothing, Then, Block, BlockEnd}
 use Rattle.stim_parser.specs.Judged.{items_of}
 use Rattle.stim_parser.specs.Verdicts.{Instruction}
 use Rattle.stim_parser.proofs.NumberArguments.{NamesNumber, names_number}
-use Rattle.block_text.specs.Reached.{instructions_of}
+use Rattle.stim_lexer.specs.Reached.{instructions_of}
 use Rattle.unroll.specs.private.Including.{item_observables, named_to}
 use Rattle.unroll.specs.Totals.{observable_total, observables_to}
 use Rattle.unroll.specs.private.MadeTotals.{observables_over}

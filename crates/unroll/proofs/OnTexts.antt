@@ -2,7 +2,7 @@
 use Rattle.std.specs.Prelude.{⊤}
 use Rattle.stim_lexer.specs.Cut.{cut_of, has_bad_byte}
 use Rattle.stim_lexer.specs.Lines.{lines_of, says_nothing}
-use Rattle.block_text.specs.Texts.{items_from}
+use Rattle.stim_lexer.specs.Texts.{items_from}
 use Rattle.stim_parser.specs.Arguments.{arguments_in}
 use Rattle.stim_parser.specs.Instructions.{keyword_named}
 use Rattle.stim_parser.specs.Judging.{refusal_of, judged, reading_of}
@@ -13,7 +13,7 @@ use Rattle.stim_parser.specs.Verdicts.{line_targets}
 use Rattle.unroll.specs.Meaning.{made_of}
 use Rattle.unroll.specs.private.Counted.{first_far_from}
 use Rattle.unroll.specs.Refusals.{first_observable_beyond}
-use Rattle.block_text.specs.Reached.{total}
+use Rattle.stim_lexer.specs.Reached.{total}
 
 unfoldable pub on_texts : ⊤
 unfolding

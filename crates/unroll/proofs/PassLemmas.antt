@@ -1,9 +1,9 @@
 -- A pass over a circuit's items in their order is a pass over its tree.
 use Rattle.std.proofs.Common.{◌≡◌, ℕ, suc, ◌+◌, List, ◌∷◌, drop, Some, ap, ◌∙◌, subst, arith}
 use Rattle.std.specs.Prelude.{slice_get}
-use Rattle.block_text.specs.declared.blocks.OpenBlock.{OpenBlock}
-use Rattle.block_text.proofs.PassLemmas as passes
-pub use Rattle.block_text.proofs.PassLemmas.{drop_got, passing-first, passing-can, passing-next, passing-done}
+use Rattle.stim_lexer.specs.declared.blocks.OpenBlock.{OpenBlock}
+use Rattle.stim_lexer.proofs.PassLemmas as passes
+pub use Rattle.stim_lexer.proofs.PassLemmas.{drop_got, passing-first, passing-can, passing-next, passing-done}
 use Rattle.stim_parser.specs.Circuits.{Fits, IsCircuit}
 use Rattle.stim_parser.specs.Texts.{Item}
 use Rattle.stim_parser.specs.Trees.{Tree}

@@ -8,14 +8,14 @@ use Rattle.stim_parser.specs.declared.operation.Operation.TheVariants.{DetectorD
 use Rattle.stim_parser.specs.Circuits.{AllFit}
 use Rattle.stim_parser.specs.Numbers.{whole_value}
 use Rattle.stim_parser.specs.Trees.{Tree}
-use Rattle.block_text.specs.Trees.{Nothing, Then, Block}
+use Rattle.stim_lexer.specs.Trees.{Nothing, Then, Block}
 use Rattle.stim_parser.specs.Verdicts.{Instruction}
 use Rattle.stim_parser.proofs.FewArguments.{HasFewCoordinates, has_few_coordinates}
 use Rattle.unroll.specs.declared.offsets.Offset.{Offset}
 use Rattle.unroll.specs.private.Coordinates.{coordinates_from, coordinates_of}
 use Rattle.stim_parser.specs.Offsets.{moved, shifted}
 use Rattle.unroll.specs.TargetsMade.{offset_after, operation_coordinates}
-use Rattle.block_text.specs.Reached.{copies, reached}
+use Rattle.stim_lexer.specs.Reached.{copies, reached}
 use Rattle.unroll.specs.private.Gathered.{Gathered, gathering, given, place_behind}
 use Rattle.unroll.specs.private.Passes.{behind}
 use Rattle.unroll.specs.private.Placing.{added_by, down_of, downs, moved_down, moved_to, moved_up, numbers_of, operation_places, placing, raised_by, turned_by, unmoved, unplaced, up_of, ups}

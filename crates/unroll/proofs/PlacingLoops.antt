@@ -11,15 +11,15 @@ use Rattle.stim_parser.specs.declared.operation.Operation.{Operation}
 use Rattle.stim_parser.specs.declared.operation.Operation.TheVariants.{CoordinateShift}
 use Rattle.stim_parser.specs.Circuits.{Fits, IsCircuit}
 use Rattle.stim_parser.specs.Texts.{Item}
-use Rattle.block_text.specs.Trees.{InstructionLine, BlockStart, BlockEnd}
+use Rattle.stim_lexer.specs.Trees.{InstructionLine, BlockStart, BlockEnd}
 use Rattle.stim_parser.specs.Trees.{Tree}
 use Rattle.stim_parser.specs.Judged.{items_of}
 use Rattle.stim_parser.specs.Verdicts.{Instruction}
-use Rattle.block_text.specs.declared.blocks.OpenBlock.{OpenBlock}
+use Rattle.stim_lexer.specs.declared.blocks.OpenBlock.{OpenBlock}
 use Rattle.unroll.specs.declared.marks.Mark.{Mark}
 use Rattle.unroll.specs.declared.offsets.Offset.{Offset}
 use Rattle.unroll.specs.private.Coordinates.{coordinates_of}
-use Rattle.block_text.specs.Reached.{reached}
+use Rattle.stim_lexer.specs.Reached.{reached}
 use Rattle.unroll.specs.private.Gathered.{Gathered, closed, gathering, later, mark_of, place_behind, stepped}
 use Rattle.unroll.specs.private.Passes.{behind, opened}
 use Rattle.unroll.specs.private.Placing.{IsSmall, IsStated, added_by, down_of, downs, numbers_of, placing, raised_by, turned_by, turned_on, unmoved, unplaced, up_of, ups}

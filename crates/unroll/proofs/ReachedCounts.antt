@@ -10,12 +10,12 @@ use Rattle.stim_parser.specs.declared.operation.Operation.{Operation}
 use Rattle.stim_parser.specs.declared.operation.Operation.TheVariants.{DetectorDeclaration}
 use Rattle.stim_parser.specs.declared.target.Target.{Target}
 use Rattle.stim_parser.specs.Trees.{Tree}
-use Rattle.block_text.specs.Trees.{Nothing, Then, Block}
+use Rattle.stim_lexer.specs.Trees.{Nothing, Then, Block}
 use Rattle.stim_parser.specs.Verdicts.{Instruction}
 use Rattle.unroll.specs.private.Coordinates.{coordinates_from, coordinates_of}
 use Rattle.unroll.specs.private.Detectors.{detectors_from, detectors_of}
 use Rattle.unroll.specs.TargetsMade.{operation_detectors, offset_after, operation_coordinates}
-use Rattle.block_text.specs.Reached.{copies, reached, instructions_of, total}
+use Rattle.stim_lexer.specs.Reached.{copies, reached, instructions_of, total}
 use Rattle.unroll.specs.private.Observables.{added_from, observables_of}
 use Rattle.unroll.specs.Refusals.{first_observable_beyond, most_observables}
 use Rattle.unroll.specs.Totals.{observable_total, observables_to}

@@ -13,10 +13,10 @@ use Rattle.stim_parser.specs.declared.target.Target.TheVariants.{Back}
 use Rattle.stim_parser.specs.Circuits.{AllFit, Fits}
 use Rattle.stim_parser.specs.Limits.{is_back}
 use Rattle.stim_parser.specs.Trees.{Tree}
-use Rattle.block_text.specs.Trees.{Nothing, Then, Block}
+use Rattle.stim_lexer.specs.Trees.{Nothing, Then, Block}
 use Rattle.stim_parser.specs.Verdicts.{Instruction}
 use Rattle.stim_parser.proofs.RecordTargets.{NamesRecords, names_records}
-use Rattle.block_text.specs.Reached.{copies, reached, total}
+use Rattle.stim_lexer.specs.Reached.{copies, reached, total}
 use Rattle.unroll.specs.private.Gathered.{Gathering, given, place_behind}
 use Rattle.unroll.specs.Refusals.{reaches_far}
 use Rattle.unroll.specs.private.Counted.{first_far_from}

@@ -7,7 +7,7 @@ use Rattle.stim_parser.specs.declared.target.Target.{Target}
 use Rattle.stim_parser.specs.Circuits.{AllFit}
 use Rattle.stim_parser.specs.Texts.{Item}
 use Rattle.stim_parser.specs.Trees.{Tree}
-use Rattle.block_text.specs.Trees.{Nothing, Then, Block, InstructionLine, BlockStart, BlockEnd}
+use Rattle.stim_lexer.specs.Trees.{Nothing, Then, Block, InstructionLine, BlockStart, BlockEnd}
 use Rattle.stim_parser.specs.Judged.{items_of}
 use Rattle.stim_parser.specs.Verdicts.{Instruction}
 use Rattle.unroll.specs.private.Kept.{entries_of, entry_at, flip_entries, operation_entries, operation_products, products_in}
@@ -15,7 +15,7 @@ use Rattle.unroll.specs.Targets.{term_of}
 use Rattle.stim_parser.specs.Limits.{products_of}
 use Rattle.unroll.specs.Totals.{step_total, target_count, first_argument}
 use Rattle.unroll.specs.private.MadeTotals.{step_count}
-use Rattle.block_text.specs.Reached.{total}
+use Rattle.stim_lexer.specs.Reached.{total}
 
 -- ---- one instruction
 

@@ -7,12 +7,12 @@ use Rattle.programs.specs.declared.step.TextStep.{TextStep}
 use Rattle.programs.specs.Numbering.{counts_over, no_counts}
 use Rattle.programs.specs.Trees.{repeated}
 use Rattle.stim_parser.specs.Trees.{Tree}
-use Rattle.block_text.specs.Trees.{Nothing, Then, Block}
+use Rattle.stim_lexer.specs.Trees.{Nothing, Then, Block}
 use Rattle.stim_parser.specs.Verdicts.{Instruction}
 use Rattle.unroll.specs.private.Kept.{entries_of, kept_entries, kept_products, products_in}
 use Rattle.unroll.specs.private.Steps.{instruction_steps, steps_from, steps_of}
 use Rattle.unroll.specs.Totals.{step_total}
-use Rattle.block_text.specs.Reached.{total}
+use Rattle.stim_lexer.specs.Reached.{total}
 use Rattle.unroll.specs.private.MadeTotals.{fault_count, fault_total, made_count, made_total, collapse_count, collapse_total, record_count, record_total, step_count}
 use Rattle.unroll.proofs.InstructionCounts.{few-faulty, few-made, instruction-collapses, instruction-faults, instruction-made, instruction-records}
 use Rattle.unroll.proofs.StepSums.{collapses_by, counts-same, counts-sum, faults_by, one_by, records_by, sum-ones, sum-repeated}

@@ -17,8 +17,8 @@ use Rattle.stim_parser.specs.declared.operation.Operation.{Operation}
 use Rattle.stim_parser.specs.declared.operation.Operation.TheVariants.{Applies, Measurement, QubitReset, MeasurementReset, ProductMeasurement, PauliError, CorrelatedError}
 use Rattle.stim_parser.specs.declared.target.Target.{Target}
 use Rattle.stim_parser.specs.Trees.{Tree}
-use Rattle.block_text.specs.Trees.{Nothing, Then, Block}
-use Rattle.block_text.specs.Reached.{instructions_of}
+use Rattle.stim_lexer.specs.Trees.{Nothing, Then, Block}
+use Rattle.stim_lexer.specs.Reached.{instructions_of}
 use Rattle.unroll.specs.private.Kept.{entries_of, entry_at, entry_of, flip_entries, kept_entries, kept_products, operation_entries, operation_products, products_in}
 use Rattle.unroll.specs.Totals.{first_argument}
 use Rattle.unroll.specs.private.Made.{fault_steps, gate_steps, measure_step, one_step, operation_steps, pair_step, pair_steps, paired, product_steps, record_back, reset_step}

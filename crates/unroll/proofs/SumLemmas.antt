@@ -9,14 +9,14 @@ use Rattle.stim_parser.specs.declared.target.Target.{Target}
 use Rattle.stim_parser.specs.declared.target.Target.TheVariants.{Back}
 use Rattle.stim_parser.specs.Circuits.{AllFit}
 use Rattle.stim_parser.specs.Trees.{Tree}
-use Rattle.block_text.specs.Trees.{Nothing, Then, Block}
+use Rattle.stim_lexer.specs.Trees.{Nothing, Then, Block}
 use Rattle.stim_parser.specs.Verdicts.{Instruction}
 use Rattle.unroll.specs.declared.totals.Totals.{Totals}
 use Rattle.unroll.specs.private.Passes.{behind}
 use Rattle.unroll.specs.Refusals.{is_before_start, reaches_far}
 use Rattle.unroll.specs.private.Counted.{first_far_from}
 use Rattle.unroll.specs.private.Summed.{AreTotals, capped_sum, far_line_after, greatest, nothing_summed, repeated_sum, summing, totals_after, totals_repeated}
-use Rattle.block_text.specs.Reached.{total}
+use Rattle.stim_lexer.specs.Reached.{total}
 use Rattle.unroll.specs.private.MadeTotals.{fault_count, made_count, collapse_count, detector_count, listed_count, record_count, step_count}
 use Rattle.unroll.specs.private.Pushed.{back_of}
 use Rattle.unroll.proofs.FitLemmas.{backs_within}

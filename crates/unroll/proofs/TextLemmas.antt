@@ -4,8 +4,8 @@ use Rattle.std.specs.Prelude.{IfOk, IfErr}
 use Rattle.step_model.specs.declared.fault.Fault.{Fault}
 use Rattle.step_model.specs.Faults.{memory_fault, ◌>>=◌}
 use Rattle.programs.specs.Kept.{KeptProgram}
-use Rattle.block_text.specs.Flat.{tree_of}
-use Rattle.block_text.specs.Stored.{tree_of-items}
+use Rattle.stim_lexer.specs.Flat.{tree_of}
+use Rattle.stim_lexer.specs.Stored.{tree_of-items}
 use Rattle.stim_parser.specs.Trees.{Tree}
 use Rattle.stim_parser.specs.Judged.{Writes, IsRefusedBy}
 use Rattle.unroll.specs.Programs.{program_in, program_of}

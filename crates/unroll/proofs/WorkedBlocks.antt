@@ -3,7 +3,7 @@ use Rattle.std.proofs.Common.{◌≡◌, [], ◌∷◌, ◌++◌, codes, refl, f
 use Rattle.gate_table.specs.declared.gate.Gate.TheVariants as gate
 use Rattle.pauli_word.specs.declared.letter.Letter.TheVariants.{I, X, Z}
 use Rattle.step_model.specs.Listing.{One, Collapse, Fault, Feedback, Word, Reset, Applies, Flips}
-use Rattle.block_text.specs.Reached.{copies}
+use Rattle.stim_lexer.specs.Reached.{copies}
 use Rattle.unroll.specs.Programs.{program_in}
 use Rattle.unroll.proofs.OnTexts.{on_texts}
 

@@ -6,8 +6,8 @@ use Rattle.gate_table.specs.declared.gate.Gate.TheVariants as gate
 use Rattle.step_model.specs.declared.fault.Cause.TheVariants as cause
 use Rattle.step_model.specs.declared.fault.Fault.{Fault}
 use Rattle.step_model.specs.Faults.{unless}
-use Rattle.block_text.specs.Trees.{Nothing, Then, Block}
-use Rattle.block_text.proofs.TreeLemmas.{each_tree_fits}
+use Rattle.stim_lexer.specs.Trees.{Nothing, Then, Block}
+use Rattle.stim_lexer.proofs.TreeLemmas.{each_tree_fits}
 use Rattle.stim_parser.specs.declared.operation.Operation.TheVariants.{Applies, Measurement, QubitReset, DetectorDeclaration}
 use Rattle.stim_parser.specs.declared.target.Target.TheVariants.{Plain}
 use Rattle.stim_parser.specs.Circuits.{Fits}

@@ -1,7 +1,7 @@
 -- Short texts with the cause for which they are refused and the line at fault, worked out by the definitions alone.
 use Rattle.std.proofs.Common.{◌≡◌, codes, refl, Err}
 use Rattle.step_model.specs.declared.fault.Cause.TheVariants as cause
-use Rattle.block_text.specs.Reached.{copies}
+use Rattle.stim_lexer.specs.Reached.{copies}
 use Rattle.unroll.specs.Programs.{program_in}
 use Rattle.unroll.proofs.OnTexts.{on_texts}
 

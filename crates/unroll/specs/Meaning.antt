@@ -3,7 +3,7 @@
 -- whatever blocks they stand in. (Stim's circuit format, github.com/quantumlib/Stim, doc/file_format_stim_circuit.md.)
 use Rattle.std.specs.Prelude.{ℕ, ◌+◌, List, [], ◌∷◌, ◌++◌, length, map}
 use Rattle.std.specs.List.{filter, flat_map, range_with_len}
-use Rattle.block_text.specs.Reached.{reached}
+use Rattle.stim_lexer.specs.Reached.{reached}
 use Rattle.step_model.specs.Listing.{Listing, ListedFault, ListedStep, is_collapse, step_records}
 use Rattle.stim_parser.specs.Trees.{Tree}
 use Rattle.stim_parser.specs.Verdicts.{Instruction}

@@ -5,7 +5,7 @@ use Rattle.std.specs.Prelude.{ℕ, List, Result}
 use Rattle.step_model.specs.declared.fault.Fault.{Fault}
 use Rattle.step_model.specs.Listing.{Listing}
 use Rattle.step_model.specs.Faults.{unless, ◌>>=◌}
-use Rattle.block_text.specs.Flat.{tree_of}
+use Rattle.stim_lexer.specs.Flat.{tree_of}
 use Rattle.stim_parser.specs.Texts.{items_in}
 use Rattle.stim_parser.specs.Trees.{Tree}
 use Rattle.unroll.specs.Meaning.{listing_of}

@@ -13,10 +13,10 @@ use Rattle.step_model.specs.Listing.{Listing}
 use Rattle.step_model.specs.Faults.{without_line}
 use Rattle.stim_parser.specs.declared.target.Target.{Target}
 use Rattle.stim_parser.specs.declared.target.Target.TheVariants.{Back}
-use Rattle.block_text.specs.Texts.{refused}
+use Rattle.stim_lexer.specs.Texts.{refused}
 use Rattle.stim_parser.specs.Trees.{Tree}
 use Rattle.stim_parser.specs.Verdicts.{Instruction}
-use Rattle.block_text.specs.Reached.{instructions_of}
+use Rattle.stim_lexer.specs.Reached.{instructions_of}
 use Rattle.unroll.specs.Meaning.{listing_of, made_in}
 use Rattle.unroll.specs.Totals.{observables_to, step_total}
 

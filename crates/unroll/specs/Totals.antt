@@ -3,7 +3,7 @@
 -- are those up to the greatest that any instruction names, and so are the observables. (What counts as a step is this
 -- project's choice.)
 use Rattle.std.specs.Prelude.{ℕ, ◌+◌, List, [], length, slice_index_or}
-use Rattle.block_text.specs.Reached.{greatest_by, total, instructions_of}
+use Rattle.stim_lexer.specs.Reached.{greatest_by, total, instructions_of}
 use Rattle.stim_parser.specs.declared.operation.Operation.{Operation}
 use Rattle.stim_parser.specs.declared.operation.Operation.TheVariants.{ProductMeasurement, ObservableInclude}
 use Rattle.stim_parser.specs.declared.target.Target.{Target}

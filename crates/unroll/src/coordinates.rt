@@ -1,6 +1,6 @@
 ghost use Rattle.std.specs.Prelude.{◌≡◌, ◌<◌, ◌≤◌, ◌^◌, ◌++◌, All, drop, length, map, slice_range, IfOk, OnOk};
 ghost use Rattle.stim_parser.specs.Circuits.{Fits};
-ghost use Rattle.block_text.specs.Kept.{instruction_in};
+ghost use Rattle.stim_lexer.specs.Kept.{instruction_in};
 ghost use Rattle.unroll.specs.private.Coordinates.{coordinates_of};
 ghost use Rattle.unroll.specs.private.Gathered.{later};
 ghost use Rattle.unroll.specs.private.Placing.{IsStated, added_by, placing};
@@ -10,9 +10,9 @@ use crate::marks::Mark;
 use crate::offsets::{AXES, Offset, moved};
 use crate::shifts::{coordinates_read, shift, turn_on};
 use arrayvec::ArrayVec;
-use block_text::{LEVELS, OpenBlock};
 use flat_lists::NumberLists;
 use std::alloc::{AllocError, Allocator};
+use stim_lexer::{LEVELS, OpenBlock};
 use stim_parser::{Circuit, Instruction, Item, Operation};
 
 /// Puts these coordinates into `moved`, in place of what it held, moved on by this many turns. The offsets are those

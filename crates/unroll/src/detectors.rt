@@ -10,9 +10,9 @@ use crate::counts::records_made;
 use crate::marks::Mark;
 use crate::targets::target_count;
 use arrayvec::ArrayVec;
-use block_text::{LEVELS, OpenBlock};
 use flat_lists::FlatLists;
 use std::alloc::{AllocError, Allocator};
+use stim_lexer::{LEVELS, OpenBlock};
 use stim_parser::{Circuit, Item, Operation, Target};
 
 /// The record that a target names after this many records; the first record where it reaches back before that.

@@ -1,6 +1,6 @@
 ghost use Rattle.std.specs.Prelude.{◌≡◌, ◌<◌, ◌≤◌, [], ◌∷◌, All, length, map, slice_index_or, OnOk};
 ghost use Rattle.chances.specs.Chances.{no_chance};
-ghost use Rattle.block_text.specs.Kept.{instruction_in};
+ghost use Rattle.stim_lexer.specs.Kept.{instruction_in};
 ghost use Rattle.programs.specs.Entries.{entry_from};
 ghost use Rattle.unroll.specs.private.Kept.{entries_of as entries_made, flip_entries};
 ghost use Rattle.unroll.specs.Targets.{pauli_letter, term_at, term_of};

@@ -1,5 +1,5 @@
 ghost use Rattle.std.specs.Prelude.{◌≡◌, ◌*◌, ◌<◌, ◌≤◌, ◌^◌, ◌++◌, [], All, None, length, replicate, slice_range, IfOk, OnOk};
-ghost use Rattle.block_text.specs.Kept.{instruction_in};
+ghost use Rattle.stim_lexer.specs.Kept.{instruction_in};
 ghost use Rattle.unroll.specs.TargetsMade.{record_named, records_named};
 ghost use Rattle.unroll.specs.Totals.{observable_total};
 ghost use Rattle.unroll.specs.private.Including.{CanMove, HaveTurned, IsOpen, notes_of, records_in, with_closed, with_included, with_more, with_moved, with_noted, with_turned};
@@ -12,9 +12,9 @@ use crate::detectors::record_named;
 use crate::marks::Mark;
 use crate::targets::target_count;
 use arrayvec::ArrayVec;
-use block_text::{LEVELS, OpenBlock};
 use flat_lists::ListRooms;
 use std::alloc::{AllocError, Allocator};
+use stim_lexer::{LEVELS, OpenBlock};
 use stim_parser::{Circuit, Instruction, Item, Operation, Target, first_number};
 
 /// An observable to which an instruction of the text adds, and how many records it had before that.

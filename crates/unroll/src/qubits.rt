@@ -1,5 +1,5 @@
 ghost use Rattle.std.specs.Prelude.{◌≡◌, ◌≤◌};
-ghost use Rattle.block_text.specs.Kept.{item_in};
+ghost use Rattle.stim_lexer.specs.Kept.{item_in};
 ghost use Rattle.unroll.specs.private.Items.{IsSound, item_qubits};
 ghost use Rattle.unroll.specs.Totals.{qubit_total};
 

@@ -1,8 +1,8 @@
 ghost use Rattle.std.specs.Prelude.{◌≡◌};
-ghost use Rattle.block_text.specs.Kept.{item_in};
+ghost use Rattle.stim_lexer.specs.Kept.{item_in};
 ghost use Rattle.unroll.specs.private.Beyond.{line_beyond};
 ghost use Rattle.unroll.specs.private.Counted.{refusal_counted};
-ghost use Rattle.block_text.specs.Reached.{instructions_of};
+ghost use Rattle.stim_lexer.specs.Reached.{instructions_of};
 ghost use Rattle.unroll.specs.private.Items.{IsSound};
 ghost use Rattle.unroll.specs.Refusals.{first_observable_beyond, of_circuit};
 ghost use Rattle.unroll.specs.private.Summed.{AreTotals};

@@ -1,13 +1,13 @@
 ghost use Rattle.std.specs.Prelude.{◌≡◌, ◌<◌, ◌^◌, length, map, IfOk, OnOk};
-ghost use Rattle.block_text.specs.Kept.{instruction_in};
+ghost use Rattle.stim_lexer.specs.Kept.{instruction_in};
 ghost use Rattle.unroll.specs.Totals.{step_total};
 ghost use Rattle.unroll.specs.private.Including.{with_counted, with_size};
 ghost use Rattle.unroll.specs.private.Observables.{observables_of};
 
 use crate::observables::named_to;
 use arrayvec::ArrayVec;
-use block_text::LEVELS;
 use std::alloc::{AllocError, Allocator};
+use stim_lexer::LEVELS;
 use stim_parser::{Circuit, Instruction, Item};
 
 /// Counts more records that are added to the last of this many observables. Those that have no count so far get one.

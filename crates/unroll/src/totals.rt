@@ -1,7 +1,7 @@
 ghost use Rattle.std.specs.Prelude.{◌≡◌, ◌<◌, Some, IsSome, ◌↔◌};
 ghost use Rattle.arrayvec.specs.ArrayVec.{array_vec_len};
 ghost use Rattle.stim_parser.specs.Circuits.{Fits};
-ghost use Rattle.block_text.specs.Kept.{instruction_in, item_in};
+ghost use Rattle.stim_lexer.specs.Kept.{instruction_in, item_in};
 ghost use Rattle.unroll.specs.private.Passes.{CanStand, Passes};
 ghost use Rattle.unroll.specs.private.Summed.{AreTotals, capped_sum, far_line_after, nothing_summed, repeated_sum, summing, totals_after, totals_repeated};
 ghost use Rattle.unroll.specs.private.MadeTotals.{fault_count, has_argument};
@@ -11,8 +11,8 @@ use crate::counts::{
 };
 use crate::targets::{reaches_far, target_count};
 use arrayvec::ArrayVec;
-use block_text::{LEVELS, OpenBlock};
 use std::alloc::Allocator;
+use stim_lexer::{LEVELS, OpenBlock};
 use stim_parser::{Circuit, Instruction, Item};
 
 /// What a circuit takes up to a place of its text, at the first turn of the blocks that are open there: what counts

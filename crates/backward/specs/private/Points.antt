@@ -4,8 +4,8 @@ use Rattle.std.specs.Prelude.{◌≡◌, ℕ, ◌<◌, ◌≤◌, ◌++◌, true
 use Rattle.std.specs.List.{AllPairs}
 use Rattle.step_model.specs.Listing.{Listing}
 use Rattle.programs.specs.Kept.{KeptProgram}
-use Rattle.pieces.specs.Held.{Held}
-use Rattle.pieces.specs.Pushed.{Pushes}
+use Rattle.streams.specs.Held.{Held}
+use Rattle.streams.specs.Pushed.{Pushes}
 use Rattle.backward.specs.declared.found.Found.{Found}
 use Rattle.backward.specs.declared.point.Point.{Point}
 use Rattle.backward.specs.declared.stretch.Parts.{Parts}

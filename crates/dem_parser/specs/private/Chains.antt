@@ -1,11 +1,11 @@
 -- Instructions in no block and with no shift among them: they are reached as they stand, one after another. (Stim's detector
 -- error model format, github.com/quantumlib/Stim, doc/file_format_dem_detector_error_model.md.)
 use Rattle.std.specs.Prelude.{◌≡◌, ⊤, ◌+◌, max, Bool, true, false, if◌then◌else◌, List, [], ◌∷◌, map}
-use Rattle.dem_lines.specs.declared.operation.Operation.{Operation}
-use Rattle.dem_lines.specs.declared.operation.Operation.TheVariants.{Shifts}
-use Rattle.dem_lines.specs.Texts.{Item}
-use Rattle.block_text.specs.Trees.{InstructionLine}
-use Rattle.dem_lines.specs.Verdicts.{Instruction}
+use Rattle.dem_parser.specs.declared.operation.Operation.{Operation}
+use Rattle.dem_parser.specs.declared.operation.Operation.TheVariants.{Shifts}
+use Rattle.dem_parser.specs.Texts.{Item}
+use Rattle.stim_lexer.specs.Trees.{InstructionLine}
+use Rattle.dem_parser.specs.Verdicts.{Instruction}
 use Rattle.dem_parser.specs.declared.counts.Extent.{Extent}
 use Rattle.dem_parser.specs.declared.counts.LineCounts.{LineCounts}
 use Rattle.dem_parser.specs.Meanings.{is_error}

@@ -10,11 +10,11 @@ use Rattle.step_model.specs.Probabilities.{digits_value}
 use Rattle.stim_lexer.specs.Bytes.{is_empty}
 use Rattle.stim_parser.specs.Pieces.{ends_here}
 use Rattle.dem_parser.specs.declared.counts.Extent.{Extent}
-use Rattle.dem_lines.specs.declared.target.Target.{Target}
-use Rattle.dem_lines.specs.Limits.{has_target_beyond, is_effect}
+use Rattle.dem_parser.specs.declared.target.Target.{Target}
+use Rattle.dem_parser.specs.Limits.{has_target_beyond, is_effect}
 use Rattle.dem_parser.specs.Meanings.{detectors_to, observables_to}
-use Rattle.block_text.specs.Reached.{greatest_by}
-use Rattle.dem_lines.specs.Targets.{target_of, targets_in}
+use Rattle.stim_lexer.specs.Reached.{greatest_by}
+use Rattle.dem_parser.specs.Targets.{target_of, targets_in}
 
 -- the space and the bytes from `+` to `z`
 abbrev pub is_quiet : ℕ → Bool

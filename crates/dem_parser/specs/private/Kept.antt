@@ -3,14 +3,14 @@
 -- detector error model format, github.com/quantumlib/Stim, doc/file_format_dem_detector_error_model.md.)
 use Rattle.std.specs.Prelude.{◌≡◌, ⊤, ℕ, ◌<◌, ℤ, List, [], ◌∷◌, ◌++◌, All, length, slice_index_or, refl}
 use Rattle.std.specs.Coded.{Coded, code_by, coded×, coded_ℕ, coded_list}
-use Rattle.block_text.specs.Stored.{coded_items}
-use Rattle.dem_lines.specs.private.Flat.{coded_instructions}
-use Rattle.dem_lines.specs.declared.operation.Operation.{Operation}
-use Rattle.dem_lines.specs.declared.operation.Operation.TheVariants.{PauliError, Shifts}
-use Rattle.dem_lines.specs.declared.target.Target.{Target}
-use Rattle.dem_lines.specs.Texts.{Item}
-use Rattle.block_text.specs.Trees.{InstructionLine, BlockStart, BlockEnd}
-use Rattle.dem_lines.specs.Verdicts.{number_in}
+use Rattle.stim_lexer.specs.Stored.{coded_items}
+use Rattle.dem_parser.specs.private.Flat.{coded_instructions}
+use Rattle.dem_parser.specs.declared.operation.Operation.{Operation}
+use Rattle.dem_parser.specs.declared.operation.Operation.TheVariants.{PauliError, Shifts}
+use Rattle.dem_parser.specs.declared.target.Target.{Target}
+use Rattle.dem_parser.specs.Texts.{Item}
+use Rattle.stim_lexer.specs.Trees.{InstructionLine, BlockStart, BlockEnd}
+use Rattle.dem_parser.specs.Verdicts.{number_in}
 use Rattle.dem_parser.specs.declared.counts.Extent.{Extent}
 use Rattle.dem_parser.specs.declared.entries.Entry.{Entry}
 use Rattle.dem_parser.specs.declared.entries.Entry.TheVariants as entry

@@ -6,11 +6,11 @@ use Rattle.std.specs.List.{before_first, list_any}
 use Rattle.step_model.specs.declared.fault.Cause.{Cause}
 use Rattle.stim_lexer.specs.Bytes.{is_line_feed}
 use Rattle.stim_lexer.specs.Lines.{lines_of, says_nothing}
-use Rattle.block_text.specs.Texts.{Reading, Accepts, line_reading}
-use Rattle.block_text.specs.Unfinished.{Unfinished, after_line, cause_in}
-use Rattle.dem_lines.specs.declared.operation.Operation.TheVariants.{PauliError}
-use Rattle.dem_lines.specs.Texts.{models}
-use Rattle.dem_lines.specs.Verdicts.{Instruction}
+use Rattle.stim_lexer.specs.Texts.{Reading, Accepts, line_reading}
+use Rattle.stim_lexer.specs.Unfinished.{Unfinished, after_line, cause_in}
+use Rattle.dem_parser.specs.declared.operation.Operation.TheVariants.{PauliError}
+use Rattle.dem_parser.specs.Texts.{models}
+use Rattle.dem_parser.specs.Verdicts.{Instruction}
 use Rattle.dem_parser.specs.declared.counts.Extent.{Extent}
 use Rattle.dem_parser.specs.private.Kept.{Kept}
 use Rattle.dem_parser.specs.private.Standing.{Speaks, instruction_cut}

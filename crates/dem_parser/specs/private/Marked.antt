@@ -3,8 +3,8 @@
 -- doc/file_format_dem_detector_error_model.md; which of several coordinates count is this project's choice.)
 use Rattle.std.specs.Prelude.{◌≡◌, ℕ, zero, suc, ◌+◌, not, if◌then◌else◌, ℤ, List, [], ◌∷◌, ◌++◌, length, slice_index_or, slice_set}
 use Rattle.stim_lexer.specs.Bytes.{is_empty}
-use Rattle.dem_lines.specs.declared.target.Target.{Target}
-use Rattle.dem_lines.specs.declared.target.Target.TheVariants.{Detector}
+use Rattle.dem_parser.specs.declared.target.Target.{Target}
+use Rattle.dem_parser.specs.declared.target.Target.TheVariants.{Detector}
 use Rattle.dem_parser.specs.Shifts.{Placed}
 
 -- the list that a mark stands for

@@ -5,7 +5,7 @@
 use Rattle.std.specs.Prelude.{ℕ, List, filter}
 use Rattle.std.specs.List.{flat_map, range_with_len}
 use Rattle.step_model.specs.Targets.{is_listed}
-use Rattle.dem_lines.specs.declared.target.Target.{Target}
+use Rattle.dem_parser.specs.declared.target.Target.{Target}
 use Rattle.dem_parser.specs.Meanings.{numbered}
 
 -- the numbers of targets, in their order

@@ -2,10 +2,10 @@
 -- detector error model format, github.com/quantumlib/Stim, doc/file_format_dem_detector_error_model.md.)
 use Rattle.std.specs.Prelude.{ℕ, ℤ, List, refl}
 use Rattle.std.specs.Coded.{Coded, code_by, coded×, coded_ℕ, coded_ℤ, coded_list}
-use Rattle.dem_lines.specs.contracts.operation.Operation as operation
-use Rattle.dem_lines.specs.contracts.target.Target as target
-use Rattle.dem_lines.specs.declared.operation.Operation.{Operation}
-use Rattle.dem_lines.specs.declared.target.Target.{Target}
+use Rattle.dem_parser.specs.contracts.operation.Operation as operation
+use Rattle.dem_parser.specs.contracts.target.Target as target
+use Rattle.dem_parser.specs.declared.operation.Operation.{Operation}
+use Rattle.dem_parser.specs.declared.target.Target.{Target}
 use Rattle.dem_parser.specs.declared.table_line.TableLine.{TableLine}
 use Rattle.dem_parser.specs.private.Offsets.{HasRoom}
 use Rattle.dem_parser.specs.Shifts.{Placed, Shift}

@@ -6,10 +6,10 @@ use Rattle.stim_lexer.specs.Bytes.{is_line_feed}
 use Rattle.stim_lexer.specs.Cut.{Cut, cut_of, has_bad_byte}
 use Rattle.stim_lexer.specs.Lines.{says_nothing}
 use Rattle.stim_parser.specs.Arguments.{arguments_in}
-use Rattle.dem_lines.specs.declared.operation.Operation.{Operation}
-use Rattle.dem_lines.specs.declared.target.Target.{Target}
-use Rattle.dem_lines.specs.Targets.{targets_in}
-use Rattle.dem_lines.specs.Verdicts.{Instruction}
+use Rattle.dem_parser.specs.declared.operation.Operation.{Operation}
+use Rattle.dem_parser.specs.declared.target.Target.{Target}
+use Rattle.dem_parser.specs.Targets.{targets_in}
+use Rattle.dem_parser.specs.Verdicts.{Instruction}
 
 -- the line that begins at a place of a text, and its number, from 1
 abbrev pub line_at : List ℕ → ℕ → List ℕ

@@ -1,10 +1,10 @@
 -- The symptom of error lines, from lines that stay as they were read: what each of them flips, and how many there are.
 -- (Stim's detector error model format, github.com/quantumlib/Stim, doc/file_format_dem_detector_error_model.md.)
 use Rattle.std.specs.Prelude.{◌≡◌, ℕ, ◌+◌, ◌<◌, ◌^◌, max, None, Bool, false, ◌&&◌, if◌then◌else◌, List, length, filter, slice_index_or}
-use Rattle.dem_lines.specs.Reached.{has_many_lines}
-use Rattle.block_text.specs.Reached.{reached, greatest_by}
-use Rattle.dem_lines.specs.Trees.{Tree}
-use Rattle.dem_lines.specs.declared.target.Target.{Target}
+use Rattle.dem_parser.specs.Reached.{has_many_lines}
+use Rattle.stim_lexer.specs.Reached.{reached, greatest_by}
+use Rattle.dem_parser.specs.Trees.{Tree}
+use Rattle.dem_parser.specs.declared.target.Target.{Target}
 use Rattle.dem_parser.specs.declared.counts.LineCounts.{LineCounts}
 use Rattle.dem_parser.specs.Meanings.{detector_count, detectors_to, is_error, observable_count, observables_to}
 use Rattle.dem_parser.specs.private.Numbered.{numbers_of}

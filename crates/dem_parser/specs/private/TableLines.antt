@@ -2,9 +2,9 @@
 -- worked out of it, or only what a place has. (Stim's detector error model format, github.com/quantumlib/Stim,
 -- doc/file_format_dem_detector_error_model.md.)
 use Rattle.std.specs.Prelude.{⊤, ℕ, ◌<◌, Option, Some}
-use Rattle.dem_lines.specs.Texts.{Item}
-use Rattle.block_text.specs.Trees.{InstructionLine, BlockStart, BlockEnd}
-use Rattle.dem_lines.specs.Verdicts.{Instruction}
+use Rattle.dem_parser.specs.Texts.{Item}
+use Rattle.stim_lexer.specs.Trees.{InstructionLine, BlockStart, BlockEnd}
+use Rattle.dem_parser.specs.Verdicts.{Instruction}
 use Rattle.dem_parser.specs.declared.table_line.Stand.{Stand}
 use Rattle.dem_parser.specs.declared.table_line.Stand.TheVariants as stand
 use Rattle.dem_parser.specs.declared.table_line.TableLine.{TableLine}

@@ -4,13 +4,13 @@
 -- doc/file_format_dem_detector_error_model.md.)
 use Rattle.std.specs.Prelude.{◌≡◌, ℕ, zero, suc, ◌+◌, false, ◌≤◌, ℤ, List, [], length, map}
 use Rattle.stim_parser.specs.Numbers.{whole_value}
-use Rattle.dem_lines.specs.declared.operation.Operation.{Operation}
-use Rattle.dem_lines.specs.declared.operation.Operation.TheVariants.{DetectorDeclaration, Shifts}
-use Rattle.dem_lines.specs.Limits.{has_target_beyond}
-use Rattle.dem_lines.specs.Verdicts.{Instruction}
+use Rattle.dem_parser.specs.declared.operation.Operation.{Operation}
+use Rattle.dem_parser.specs.declared.operation.Operation.TheVariants.{DetectorDeclaration, Shifts}
+use Rattle.dem_parser.specs.Limits.{has_target_beyond}
+use Rattle.dem_parser.specs.Verdicts.{Instruction}
 use Rattle.dem_parser.specs.declared.counts.Extent.{Extent}
 use Rattle.dem_parser.specs.Meanings.{detectors_to, observables_to}
-use Rattle.block_text.specs.Reached.{greatest_by}
+use Rattle.stim_lexer.specs.Reached.{greatest_by}
 use Rattle.dem_parser.specs.private.Offsets.{AreSmall}
 use Rattle.stim_parser.specs.Offsets.{moved}
 

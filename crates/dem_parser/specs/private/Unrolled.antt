@@ -3,14 +3,14 @@
 -- fit 128 bits stays at the greatest number that does, which is above every limit. (What is counted is this project's
 -- choice.)
 use Rattle.std.specs.Prelude.{◌≡◌, ℕ, List, [], ◌∷◌, ◌++◌, ◌+◌, ◌-◌, ◌*◌, ◌^◌, min}
-use Rattle.block_text.specs.Reached.{total}
-use Rattle.block_text.specs.declared.blocks.OpenBlock.{OpenBlock}
+use Rattle.stim_lexer.specs.Reached.{total}
+use Rattle.stim_lexer.specs.declared.blocks.OpenBlock.{OpenBlock}
 use Rattle.dem_parser.specs.declared.table_line.Stand.{Stand}
 use Rattle.dem_parser.specs.declared.table_line.Stand.TheVariants as stand
 use Rattle.dem_parser.specs.declared.unrolled.Unrolled.{Unrolled}
-use Rattle.dem_lines.specs.private.Passes.{HasClosed, Pass, opened}
-use Rattle.dem_lines.specs.Trees.{Tree}
-use Rattle.dem_lines.specs.Verdicts.{Instruction}
+use Rattle.dem_parser.specs.private.Passes.{HasClosed, Pass, opened}
+use Rattle.dem_parser.specs.Trees.{Tree}
+use Rattle.dem_parser.specs.Verdicts.{Instruction}
 
 abbrev pub greatest : ℕ
 greatest = 2 ^ 128 - 1

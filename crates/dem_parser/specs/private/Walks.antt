@@ -3,13 +3,13 @@
 -- this one. So what it keeps doesn't grow with the turns. (Stim's detector error model format,
 -- github.com/quantumlib/Stim, doc/file_format_dem_detector_error_model.md, "repeat".)
 use Rattle.std.specs.Prelude.{◌≡◌, ⊤, ℕ, zero, suc, ◌+◌, ◌-◌, ◌≤◌, Bool, true, false, List, [], ◌∷◌, ◌++◌, drop, length, Option, None, Some, slice_get}
-use Rattle.block_text.specs.Flat.{first_tree, trees_of}
-use Rattle.block_text.specs.Reached.{copies}
-use Rattle.dem_lines.specs.Texts.{Item}
-use Rattle.block_text.specs.Trees.{InstructionLine, BlockStart, BlockEnd, Nothing, Then, Block}
-use Rattle.dem_lines.specs.Trees.{Tree}
-use Rattle.dem_lines.specs.Verdicts.{Instruction}
-use Rattle.dem_lines.proofs.PassLemmas.{AreWhole}
+use Rattle.stim_lexer.specs.Flat.{first_tree, trees_of}
+use Rattle.stim_lexer.specs.Reached.{copies}
+use Rattle.dem_parser.specs.Texts.{Item}
+use Rattle.stim_lexer.specs.Trees.{InstructionLine, BlockStart, BlockEnd, Nothing, Then, Block}
+use Rattle.dem_parser.specs.Trees.{Tree}
+use Rattle.dem_parser.specs.Verdicts.{Instruction}
+use Rattle.dem_parser.proofs.PassLemmas.{AreWhole}
 use Rattle.dem_parser.specs.declared.table_line.Stand.{Stand}
 use Rattle.dem_parser.specs.declared.table_line.Stand.TheVariants as stand
 use Rattle.dem_parser.specs.declared.walk.Turns.{Turns}

@@ -2,7 +2,7 @@
 -- (This project's own.)
 use Rattle.std.specs.Prelude.{ℕ, List}
 use Rattle.std.specs.List.{flat_map, range_with_len}
-use Rattle.lanes.specs.Lanes.{lane}
+use Rattle.bit_rows.specs.Lanes.{lane}
 use Rattle.sampling.specs.Lines.{line_of}
 
 -- the line of one shot, and the lines of the first `count` shots

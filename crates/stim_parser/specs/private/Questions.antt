@@ -2,7 +2,7 @@
 use Rattle.std.specs.Prelude.{ℕ, ◌==◌, nat_le, Bool, not, ◌&&◌, ◌||◌, List, [], ◌∷◌, ◌++◌, Some, is_none}
 use Rattle.step_model.specs.declared.fault.Cause.{Cause}
 use Rattle.stim_lexer.specs.Cut.{Cut}
-use Rattle.block_text.specs.Trees.{deepest}
+use Rattle.stim_lexer.specs.Trees.{deepest}
 use Rattle.stim_parser.specs.declared.forms.ArgumentForm.{ArgumentForm}
 use Rattle.stim_parser.specs.declared.table.Causes.{Causes}
 use Rattle.stim_parser.specs.declared.table.Keyword.{Keyword}

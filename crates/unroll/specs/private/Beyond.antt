@@ -2,7 +2,7 @@
 -- (Stim's gate reference, github.com/quantumlib/Stim, doc/gates.md, "OBSERVABLE_INCLUDE"; the limit is this project's.)
 use Rattle.std.specs.Prelude.{ℕ, nat_lt, if◌then◌else◌, Option, None, Some}
 use Rattle.stim_parser.specs.Texts.{Item}
-use Rattle.block_text.specs.Trees.{InstructionLine}
+use Rattle.stim_lexer.specs.Trees.{InstructionLine}
 use Rattle.unroll.specs.Totals.{observables_to}
 use Rattle.unroll.specs.Refusals.{most_observables}
 

@@ -3,7 +3,7 @@
 -- names has the offset 0. Axes that a detector doesn't state are left out.
 -- (Stim's gate reference, github.com/quantumlib/Stim, doc/gates.md, "DETECTOR" and "SHIFT_COORDS".)
 use Rattle.std.specs.Prelude.{ℤ, List, [], ◌∷◌, ◌++◌}
-use Rattle.block_text.specs.Reached.{reached}
+use Rattle.stim_lexer.specs.Reached.{reached}
 use Rattle.stim_parser.specs.Trees.{Tree}
 use Rattle.stim_parser.specs.Verdicts.{Instruction}
 use Rattle.unroll.specs.TargetsMade.{offset_after, operation_coordinates}

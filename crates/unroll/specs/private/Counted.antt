@@ -2,12 +2,12 @@
 -- of all blocks around it, and the blocks before it count with all their turns.
 use Rattle.std.specs.Prelude.{ℕ, ◌+◌, ◌*◌, nat_lt, Bool, ◌||◌, if◌then◌else◌, Option, None, Some, option_map}
 use Rattle.std.specs.Option.{option_or}
-use Rattle.block_text.specs.Reached.{instructions_of}
+use Rattle.stim_lexer.specs.Reached.{instructions_of}
 use Rattle.step_model.specs.declared.fault.Fault.{Fault}
 use Rattle.step_model.specs.declared.fault.Cause.TheVariants as cause
-use Rattle.block_text.specs.Texts.{refused}
+use Rattle.stim_lexer.specs.Texts.{refused}
 use Rattle.stim_parser.specs.Trees.{Tree}
-use Rattle.block_text.specs.Trees.{Nothing, Then, Block}
+use Rattle.stim_lexer.specs.Trees.{Nothing, Then, Block}
 use Rattle.unroll.specs.private.MadeTotals.{collapse_total, detector_total, record_count, record_total}
 use Rattle.unroll.specs.Refusals.{first_observable_beyond, has_many_steps, most_collapses, most_detectors, most_records, of_circuit, reaches_far}
 

@@ -2,7 +2,7 @@
 -- and in the order in which it names them. `rec[-k]` is the kth last record at its place. (Stim's gate reference,
 -- github.com/quantumlib/Stim, doc/gates.md, "DETECTOR".)
 use Rattle.std.specs.Prelude.{ℕ, ◌+◌, List, [], ◌∷◌, ◌++◌}
-use Rattle.block_text.specs.Reached.{reached}
+use Rattle.stim_lexer.specs.Reached.{reached}
 use Rattle.stim_parser.specs.Trees.{Tree}
 use Rattle.stim_parser.specs.Verdicts.{Instruction}
 use Rattle.unroll.specs.TargetsMade.{operation_detectors}

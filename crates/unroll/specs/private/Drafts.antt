@@ -9,7 +9,7 @@ use Rattle.programs.specs.Trees.{repeated}
 use Rattle.step_model.specs.declared.step.Term.{Term}
 use Rattle.programs.specs.Kept.{Kept}
 use Rattle.stim_parser.specs.Texts.{Item}
-use Rattle.block_text.specs.Trees.{InstructionLine, BlockStart, BlockEnd}
+use Rattle.stim_lexer.specs.Trees.{InstructionLine, BlockStart, BlockEnd}
 use Rattle.stim_parser.specs.Verdicts.{Instruction}
 use Rattle.unroll.specs.declared.writing.Writing.{Writing}
 use Rattle.unroll.specs.private.Kept.{entries_of, products_in}

@@ -8,7 +8,7 @@ use Rattle.stim_parser.specs.declared.target.Target.{Target}
 use Rattle.stim_parser.specs.Coordinates.{first_number}
 use Rattle.stim_parser.specs.Texts.{Item}
 use Rattle.stim_parser.specs.Verdicts.{Instruction}
-use Rattle.block_text.specs.Trees.{InstructionLine}
+use Rattle.stim_lexer.specs.Trees.{InstructionLine}
 use Rattle.unroll.specs.declared.inclusions.Note.{Note}
 use Rattle.unroll.specs.private.Detecting.{records_after, records_moved, records_onward}
 use Rattle.unroll.specs.TargetsMade.{records_named}

@@ -12,7 +12,7 @@ use Rattle.step_model.specs.Probabilities.{probability_bound}
 use Rattle.stim_parser.specs.declared.operation.Operation.{Operation}
 use Rattle.stim_parser.specs.declared.operation.Operation.TheVariants.{Measurement, MeasurementReset, ProductMeasurement, PauliError, CorrelatedError}
 use Rattle.stim_parser.specs.declared.target.Target.{Target}
-use Rattle.block_text.specs.Reached.{instructions_of}
+use Rattle.stim_lexer.specs.Reached.{instructions_of}
 use Rattle.stim_parser.specs.Trees.{Tree}
 use Rattle.stim_parser.specs.Verdicts.{Instruction}
 use Rattle.stim_parser.specs.Limits.{products_of}

@@ -5,7 +5,7 @@ use Rattle.std.specs.Prelude.{ℕ, ◌+◌, ◌==◌, if◌then◌else◌, List,
 use Rattle.std.specs.List.{range_with_len}
 use Rattle.stim_parser.specs.Trees.{Tree}
 use Rattle.stim_parser.specs.Verdicts.{Instruction}
-use Rattle.block_text.specs.Reached.{reached}
+use Rattle.stim_lexer.specs.Reached.{reached}
 use Rattle.unroll.specs.TargetsMade.{records_named}
 use Rattle.unroll.specs.Totals.{observable_total, observables_to}
 use Rattle.unroll.specs.private.MadeTotals.{record_count}

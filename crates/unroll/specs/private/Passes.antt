@@ -3,8 +3,8 @@
 -- however often the blocks around it are repeated.
 -- (Stim's circuit format, github.com/quantumlib/Stim, doc/file_format_stim_circuit.md, "REPEAT blocks".)
 use Rattle.std.specs.Prelude.{ℕ}
-use Rattle.block_text.specs.private.Passes as passes
-pub use Rattle.block_text.specs.private.Passes.{HasClosed, Passes, behind, opened}
+use Rattle.stim_lexer.specs.private.Passes as passes
+pub use Rattle.stim_lexer.specs.private.Passes.{HasClosed, Passes, behind, opened}
 use Rattle.stim_parser.specs.Circuits.{Fits}
 use Rattle.stim_parser.specs.Texts.{Item}
 use Rattle.stim_parser.specs.Verdicts.{Instruction}

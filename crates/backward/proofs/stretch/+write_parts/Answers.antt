@@ -1,6 +1,6 @@
 use Rattle.std.proofs.Common.{◌≤◌, ◌<◌, ◌++◌, refl, rules, ap, subst, sym, ◌∙◌, arith}
 use Rattle.std.specs.Option.{option_to_list}
-use Rattle.pieces.proofs.Pushing.{Pushes-nil, Pushes-trans}
+use Rattle.streams.proofs.Pushing.{Pushes-nil, Pushes-trans}
 use Rattle.backward.specs.private.Passes.{records_before}
 use Rattle.backward.specs.private.Points.{ArePoints, first_place}
 use Rattle.backward.specs.private.Stretches.{text_between}

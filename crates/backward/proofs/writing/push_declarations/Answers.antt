@@ -1,4 +1,4 @@
-use Rattle.pieces.proofs.Pushing.{Pushes-trans}
+use Rattle.streams.proofs.Pushing.{Pushes-trans}
 use Rattle.backward.proofs.writing.push_declarations.Goals as goal
 
 pub returns : goal.returns

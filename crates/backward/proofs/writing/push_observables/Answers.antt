@@ -1,5 +1,5 @@
 use Rattle.dem_text.specs.ModelText.{observable_text}
-use Rattle.pieces.proofs.Items.{Pushes-number}
+use Rattle.streams.proofs.Items.{Pushes-number}
 use Rattle.backward.proofs.writing.push_observables.Goals as goal
 
 pub loop-observable-preserved : goal.loop-observable-preserved

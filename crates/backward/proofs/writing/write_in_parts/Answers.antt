@@ -4,8 +4,8 @@ use Rattle.step_model.specs.Ends.{TakesSome}
 use Rattle.step_model.specs.HitModels.{model_of}
 use Rattle.step_model.proofs.EndsLemmas.{TakesSome-beginning}
 use Rattle.dem_text.specs.ModelText.{model_text}
-use Rattle.pieces.specs.Pushed.{Pushes}
-use Rattle.pieces.proofs.Finishing.{beginning-finished}
+use Rattle.streams.specs.Pushed.{Pushes}
+use Rattle.streams.proofs.Finishing.{beginning-finished}
 use Rattle.backward.specs.Places.{NoneIsRandom}
 use Rattle.backward.proofs.StretchLemmas.{on_err_any, on_err_told, some_taken}
 use Rattle.backward.proofs.writing.write_in_parts.Goals as goal

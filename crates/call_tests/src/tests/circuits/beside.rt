@@ -1,15 +1,15 @@
 //! Drawn shots in batches beside the reference run, whether its words are kept, given up on the way, or found anew.
 ghost use Rattle.std.specs.Prelude.{◌<◌};
 
-use super::table::text_of;
-use batch::Batch;
-use draws::Shots;
 use forward_sim::{Records, run};
+use frames::Batch;
 use programs::Program;
 use rand_core::SeedableRng;
 use rand_pcg::Pcg64;
+use sampling::Shots;
 use std::alloc::Global;
 use std::test::Fail;
+use super::table::text_of;
 use unroll::read_program;
 
 /// How many bytes the words may take: none, enough for some collapses, and enough for all.

@@ -1,13 +1,13 @@
 //! A call of which one growth is refused: the first, the second and so on, until none is. A refused call answers want of memory
 //! and gives back what it took.
-use super::lent::{CIRCUIT, Lent, MODEL};
 use programs::Program;
-use scarce_memory::Scarce;
+use test_support::Scarce;
 use std::alloc::{AllocError, Global};
 use std::fmt::Debug;
 use std::process::Abort;
 use std::test::Fail;
 use step_model::{Cause, Fault};
+use super::lent::{CIRCUIT, MODEL, Lent};
 use unroll::read_program;
 
 /// No call takes so many growths.

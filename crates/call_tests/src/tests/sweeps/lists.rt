@@ -10,7 +10,7 @@ use flat_lists::FlatLists;
 use gate_table::Gate;
 use pauli_word::Letter;
 use programs::{CircuitBuilder, Entries, EntryBuilder, TextStep};
-use slow_ends::SlowSource;
+use test_support::SlowSource;
 use std::alloc::{AllocError, Global};
 use step_model::{Fault, MemorySink, Term, read_all};
 

@@ -1,14 +1,13 @@
 //! Runs of a program, and shots.
 ghost use Rattle.std.specs.Prelude.{◌≡◌, length};
 
+use forward_sim::{Records, Reference, detections, run};
+use frames::Batch;
+use programs::Program;
+use sampling::{Shot, Shots, detect, sample};
+use step_model::{Fault, MemorySink};
 use super::growths::{Call, Memory, Ration};
 use super::lent::{Lent, are_false};
-use batch::Batch;
-use draws::{Shot, Shots};
-use forward_sim::{Records, Reference, detections, run};
-use programs::Program;
-use sampling::{detect, sample};
-use step_model::{Fault, MemorySink};
 
 #[derive(Clone, Copy, Debug)]
 pub(super) enum Running {

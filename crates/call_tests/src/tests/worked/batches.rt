@@ -3,7 +3,7 @@ ghost use Rattle.std.specs.Prelude.{◌<◌};
 
 use crate::tests::NOTHING;
 use crate::tests::worked::made;
-use batch::Batch;
+use frames::Batch;
 use gate_table::Gate;
 use pauli_word::Letter;
 use programs::by_hand::Piece;

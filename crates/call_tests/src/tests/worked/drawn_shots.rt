@@ -1,12 +1,12 @@
 //! Drawn shots of a small program, against the generator's words taken outside.
 use crate::tests::worked::made;
-use draws::Shot;
 use pauli_word::Letter;
 use programs::by_hand::{Entry, Lists, Piece};
 use programs::{Program, Recording, TextStep};
 use rand_core::SeedableRng;
 use rand_core::utils::NextWord;
 use rand_pcg::Pcg64;
+use sampling::Shot;
 use std::alloc::Global;
 use std::test::Fail;
 use step_model::{Fault, Term};

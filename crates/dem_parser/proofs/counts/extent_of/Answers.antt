@@ -1,7 +1,7 @@
 use Rattle.std.proofs.Common.{ap, sym, ◌∙◌}
 use Rattle.std.proofs.lemmas.List.{drop_more, drop_all}
-use Rattle.dem_lines.specs.declared.target.Target.TheVariants.{Plain}
-use Rattle.dem_lines.specs.Limits.{has_target_beyond}
+use Rattle.dem_parser.specs.declared.target.Target.TheVariants.{Plain}
+use Rattle.dem_parser.specs.Limits.{has_target_beyond}
 use Rattle.dem_parser.specs.Meanings.{detectors_to, observables_to}
 use Rattle.dem_parser.proofs.CountLemmas.{raised-next, raised-done, within-first}
 use Rattle.dem_parser.proofs.counts.extent_of.Goals as goal

@@ -1,8 +1,8 @@
 use Rattle.std.proofs.Common.{◌≡◌, false, drop}
 use Rattle.std.specs.Prelude.{max}
-use Rattle.dem_lines.specs.Limits.{has_target_beyond}
+use Rattle.dem_parser.specs.Limits.{has_target_beyond}
 use Rattle.dem_parser.specs.Meanings.{detectors_to, observables_to}
-use Rattle.block_text.specs.Reached.{greatest_by}
+use Rattle.stim_lexer.specs.Reached.{greatest_by}
 use Rattle.dem_parser.proofs.counts.extent_of.Given as goal
 
 abbrev pub invariant-loop-target : goal.invariant-loop-target

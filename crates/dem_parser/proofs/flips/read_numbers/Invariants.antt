@@ -1,7 +1,7 @@
 use Rattle.std.proofs.Common.{◌≡◌, ◌+◌, ◌^◌, ◌≤◌, ◌++◌, drop, map}
 use Rattle.dem_parser.specs.Meanings.{detectors_to, observables_to}
 use Rattle.dem_parser.specs.private.Numbered.{numbers_of}
-use Rattle.block_text.specs.Reached.{greatest_by}
+use Rattle.stim_lexer.specs.Reached.{greatest_by}
 use Rattle.dem_parser.specs.Shifts.{shifted_target}
 use Rattle.dem_parser.proofs.flips.read_numbers.Given as goal
 

@@ -1,8 +1,8 @@
 use Rattle.std.proofs.Common.{◌≡◌, false, Some, ap, inr, sym, ◌∙◌, length, refl, arith}
 use Rattle.std.specs.Prelude.{option_map}
 use Rattle.step_model.specs.declared.fault.Cause.TheVariants as cause
-use Rattle.block_text.specs.Reached.{reached}
-use Rattle.block_text.specs.Texts.{refused}
+use Rattle.stim_lexer.specs.Reached.{reached}
+use Rattle.stim_lexer.specs.Texts.{refused}
 use Rattle.dem_parser.specs.Models.{is_beyond, placed_lines}
 use Rattle.dem_parser.specs.Shifts.{no_shift}
 use Rattle.dem_parser.specs.private.Summed.{HasCounted}

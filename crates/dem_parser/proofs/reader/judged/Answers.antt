@@ -1,5 +1,5 @@
 use Rattle.std.proofs.Common.{◌≡◌, None, false, sym, ◌∙◌}
-use Rattle.dem_lines.specs.Reached.{has_many_lines}
+use Rattle.dem_parser.specs.Reached.{has_many_lines}
 use Rattle.dem_parser.specs.declared.counts.LineCounts.{LineCounts}
 use Rattle.dem_parser.specs.Models.{first_beyond, placed_lines}
 use Rattle.dem_parser.specs.private.Summed.{AreCounts, IsJudged}

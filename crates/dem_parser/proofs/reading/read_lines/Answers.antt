@@ -1,8 +1,8 @@
 use Rattle.std.proofs.Common.{Option, ◌+◌, subst, ◌≡◌, List, Ok, ap, inr, length, sym, ◌∙◌, arith}
 use Rattle.std.proofs.lemmas.Bool.Decides.{nat_tests}
 use Rattle.stim_lexer.proofs.ScanLemmas.{lines_of-none}
-use Rattle.dem_lines.specs.Texts.{Item}
-use Rattle.dem_lines.proofs.TreeLemmas.{items_are_written}
+use Rattle.dem_parser.specs.Texts.{Item}
+use Rattle.dem_parser.proofs.TreeLemmas.{items_are_written}
 use Rattle.step_model.specs.declared.fault.Cause.{Cause}
 use Rattle.dem_parser.specs.private.LinesRead.{PassesFirst}
 use Rattle.dem_parser.proofs.ReadingLemmas.{all-read, first-before, first-read, first-refused, left-open, none_open, same-text}

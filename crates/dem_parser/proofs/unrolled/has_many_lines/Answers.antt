@@ -1,8 +1,8 @@
 use Rattle.std.proofs.Common.{◌∙◌, ap, refl, subst, sym, arith}
 use Rattle.std.specs.Prelude.{nat_lt, slice_get}
 use Rattle.arrayvec.specs.ArrayVec.{array_vec_len}
-use Rattle.block_text.specs.Trees.{items_of}
-use Rattle.dem_lines.proofs.PassLemmas.{passing-first, passing-can, passing-next, passing-done}
+use Rattle.stim_lexer.specs.Trees.{items_of}
+use Rattle.dem_parser.proofs.PassLemmas.{passing-first, passing-can, passing-next, passing-done}
 use Rattle.dem_parser.specs.declared.table_line.Stand.{Stand}
 use Rattle.dem_parser.specs.private.TableLines.{CanStandAt}
 use Rattle.dem_parser.specs.private.Unrolled.{Counts, counting, nothing_counted}

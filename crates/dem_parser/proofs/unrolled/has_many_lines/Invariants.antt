@@ -1,6 +1,6 @@
 use Rattle.std.proofs.Common.{◌-◌, length}
-use Rattle.block_text.specs.Trees.{items_of}
-use Rattle.dem_lines.proofs.PassLemmas.{IsPassing}
+use Rattle.stim_lexer.specs.Trees.{items_of}
+use Rattle.dem_parser.proofs.PassLemmas.{IsPassing}
 use Rattle.dem_parser.specs.private.Unrolled.{counting, nothing_counted}
 use Rattle.dem_parser.proofs.unrolled.has_many_lines.Given as goal
 

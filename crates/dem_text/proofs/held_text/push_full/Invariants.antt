@@ -1,6 +1,6 @@
 use Rattle.std.proofs.Common.{◌≤◌, length, drop}
 use Rattle.dem_text.specs.HeldText.{texts_of}
-use Rattle.pieces.specs.Pushed.{Pushes}
+use Rattle.streams.specs.Pushed.{Pushes}
 use Rattle.dem_text.proofs.held_text.push_full.Given as goal
 
 -- the blocks from this one on are pushed

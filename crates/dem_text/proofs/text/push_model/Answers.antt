@@ -1,4 +1,4 @@
-use Rattle.pieces.proofs.Pushing.{Pushes-trans}
+use Rattle.streams.proofs.Pushing.{Pushes-trans}
 use Rattle.dem_text.proofs.text.push_model.Goals as goal
 
 pub returns : goal.returns

@@ -1,4 +1,4 @@
-use Rattle.pieces.proofs.Finishing.{all-finished, beginning-finished, count-finished}
+use Rattle.streams.proofs.Finishing.{all-finished, beginning-finished, count-finished}
 use Rattle.dem_text.proofs.text.write.Goals as goal
 
 pub returns-clause-all : goal.returns-clause-all

@@ -1,5 +1,5 @@
-use Rattle.pieces.proofs.Pushing.{Pushes-trans}
-use Rattle.pieces.proofs.Finishing.{all-finished, beginning-finished, count-finished}
+use Rattle.streams.proofs.Pushing.{Pushes-trans}
+use Rattle.streams.proofs.Finishing.{all-finished, beginning-finished, count-finished}
 use Rattle.dem_text.proofs.text.write_behind.Goals as goal
 
 pub returns-clause-all : goal.returns-clause-all

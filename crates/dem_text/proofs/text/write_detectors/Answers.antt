@@ -1,6 +1,6 @@
 use Rattle.std.proofs.Common.{[], get_or}
 use Rattle.dem_text.specs.ModelText.{detector_text}
-use Rattle.pieces.proofs.Items.{Pushes-number}
+use Rattle.streams.proofs.Items.{Pushes-number}
 use Rattle.dem_text.proofs.text.write_detectors.Goals as goal
 
 pub loop-detector-preserved : goal.loop-detector-preserved

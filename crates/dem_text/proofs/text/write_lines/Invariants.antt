@@ -1,4 +1,4 @@
-use Rattle.pieces.specs.Pushed.{Pushes}
+use Rattle.streams.specs.Pushed.{Pushes}
 use Rattle.std.proofs.Common.{◌≤◌, ◌-◌, length, take}
 use Rattle.std.specs.List.{flat_map}
 use Rattle.dem_text.specs.ModelText.{line_text}

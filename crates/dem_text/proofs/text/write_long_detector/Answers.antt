@@ -1,4 +1,4 @@
-use Rattle.pieces.proofs.Pushing.{Pushes-trans}
+use Rattle.streams.proofs.Pushing.{Pushes-trans}
 use Rattle.dem_text.proofs.text.write_long_detector.Goals as goal
 
 pub returns : goal.returns

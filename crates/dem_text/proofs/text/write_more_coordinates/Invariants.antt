@@ -1,4 +1,4 @@
-use Rattle.pieces.specs.Pushed.{Pushes}
+use Rattle.streams.specs.Pushed.{Pushes}
 use Rattle.std.proofs.Common.{take}
 use Rattle.dem_text.specs.ModelText.{more_coordinates_text}
 use Rattle.dem_text.proofs.text.write_more_coordinates.Given as goal

@@ -1,4 +1,4 @@
-use Rattle.pieces.specs.Pushed.{Pushes}
+use Rattle.streams.specs.Pushed.{Pushes}
 use Rattle.std.specs.List.{flat_map, range_with_len}
 use Rattle.dem_text.specs.ModelText.{observable_text}
 use Rattle.dem_text.proofs.text.write_observables.Given as goal

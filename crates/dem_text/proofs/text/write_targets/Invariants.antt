@@ -1,4 +1,4 @@
-use Rattle.pieces.specs.Pushed.{Pushes}
+use Rattle.streams.specs.Pushed.{Pushes}
 use Rattle.std.proofs.Common.{◌≤◌, ◌-◌, length, take}
 use Rattle.dem_text.specs.ModelText.{targets_text}
 use Rattle.dem_text.proofs.text.write_targets.Given as goal

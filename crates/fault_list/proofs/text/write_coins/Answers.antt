@@ -1,4 +1,4 @@
-use Rattle.pieces.proofs.Pushing.{Pushes-trans}
+use Rattle.streams.proofs.Pushing.{Pushes-trans}
 use Rattle.fault_list.proofs.text.write_coins.Goals as goal
 
 pub returns : goal.returns

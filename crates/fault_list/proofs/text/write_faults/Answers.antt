@@ -4,8 +4,8 @@ use Rattle.step_model.specs.WellFormed.{IsWellFormed}
 use Rattle.programs.specs.Entries.{TellsChances}
 use Rattle.programs.specs.Kept.{KeptProgram}
 use Rattle.programs.specs.declared.entries.ChanceTable.{ChanceTable}
-use Rattle.fault_walk.specs.Found.{IsFaultOf, faults_left}
-use Rattle.fault_walk.proofs.Orders.{takes_number, none_left_of}
+use Rattle.programs.specs.Found.{IsFaultOf, faults_left}
+use Rattle.programs.proofs.FaultOrders.{takes_number, none_left_of}
 use Rattle.fault_list.specs.FaultLines.{fault_line}
 use Rattle.fault_list.proofs.HeldLineLemmas.{nothing_held, held_number, all_out}
 use Rattle.fault_list.proofs.LineLemmas.{left_at_start, lines_all}

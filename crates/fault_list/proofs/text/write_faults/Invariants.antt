@@ -1,7 +1,7 @@
 use Rattle.std.proofs.Common.{◌≡◌, ◌≤◌, ◌-◌, ℕ, [], length, take}
 use Rattle.std.specs.List.{flat_map, range_with_len}
 use Rattle.programs.specs.Entries.{TellsChances}
-use Rattle.fault_walk.specs.Found.{faults_left}
+use Rattle.programs.specs.Found.{faults_left}
 use Rattle.fault_list.specs.FaultLines.{fault_line}
 use Rattle.fault_list.specs.private.HeldLines.{PushesSome}
 use Rattle.fault_list.proofs.text.write_faults.Given as goal

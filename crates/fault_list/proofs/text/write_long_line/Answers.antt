@@ -1,5 +1,5 @@
 use Rattle.std.proofs.Common.{◌∙◌}
-use Rattle.pieces.proofs.Pushing.{Pushes-trans}
+use Rattle.streams.proofs.Pushing.{Pushes-trans}
 use Rattle.fault_list.proofs.text.write_long_line.Goals as goal
 
 pub returns : goal.returns

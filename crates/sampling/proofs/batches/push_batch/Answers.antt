@@ -2,10 +2,10 @@
 use Rattle.std.proofs.Common.{◌≡◌, ◌+◌, length, sym, ap, ap₂, subst, ◌∙◌}
 use Rattle.std.proofs.lemmas.List.{length-map}
 use Rattle.step_model.specs.Listing.{ListedFault}
-use Rattle.draws.specs.Drawn.{bounds_of, after_shots}
-use Rattle.draws.specs.Shots.{AreDrawn}
-use Rattle.lanes.specs.Lanes.{lane}
-use Rattle.pieces.specs.Pushed.{Pushes}
+use Rattle.sampling.specs.Drawn.{bounds_of, after_shots}
+use Rattle.sampling.specs.Shots.{AreDrawn}
+use Rattle.bit_rows.specs.Lanes.{lane}
+use Rattle.streams.specs.Pushed.{Pushes}
 use Rattle.sampling.specs.private.LaneLines.{lane_lines}
 use Rattle.sampling.specs.Sampled.{lines_from}
 use Rattle.sampling.specs.Shown.{shown_line}

@@ -1,10 +1,10 @@
 -- Batch after batch.
 use Rattle.std.proofs.Common.{◌≡◌, ◌+◌, ◌-◌, ◌++◌, length, refl, sym, ap, ap₂, subst, ◌∙◌, arith}
 use Rattle.step_model.specs.Listing.{Listing}
-use Rattle.pieces.specs.Pushed.{Pushes}
-use Rattle.pieces.proofs.Pushing.{Pushes-nil, Pushes-trans}
-use Rattle.draws.specs.Drawn.{bounds_of}
-use Rattle.draws.proofs.SideLemmas.{none_taken}
+use Rattle.streams.specs.Pushed.{Pushes}
+use Rattle.streams.proofs.Pushing.{Pushes-nil, Pushes-trans}
+use Rattle.sampling.specs.Drawn.{bounds_of}
+use Rattle.sampling.proofs.SideLemmas.{none_taken}
 use Rattle.sampling.specs.Sampled.{lines_from, shot_generator}
 use Rattle.sampling.specs.Shown.{shown_line}
 use Rattle.sampling.proofs.PushLemmas.{Pushes-failed}

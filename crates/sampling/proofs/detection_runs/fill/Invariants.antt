@@ -1,7 +1,7 @@
 use Rattle.std.proofs.Common.{◌≡◌, ℕ, ◌<◌, false, length, get_or}
-use Rattle.lanes.specs.Lanes.{lane_bit}
+use Rattle.bit_rows.specs.Lanes.{lane_bit}
 use Rattle.step_model.specs.Targets.{difference}
-use Rattle.batch.specs.Batches.{shot_records}
+use Rattle.frames.specs.Batches.{shot_records}
 use Rattle.sampling.proofs.detection_runs.fill.Given as goal
 
 -- the words so far are filled

@@ -1,7 +1,7 @@
 -- Line by line.
 use Rattle.std.proofs.Common.{◌≡◌, refl, ◌∙◌, arith}
-use Rattle.pieces.proofs.Items.{Pushes-number}
-use Rattle.pieces.proofs.Pushing.{Pushes-nil}
+use Rattle.streams.proofs.Items.{Pushes-number}
+use Rattle.streams.proofs.Pushing.{Pushes-nil}
 use Rattle.sampling.specs.private.LaneLines.{lane_line}
 use Rattle.sampling.proofs.lines.push_lines.Goals as goal
 

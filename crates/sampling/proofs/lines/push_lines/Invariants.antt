@@ -1,5 +1,5 @@
 use Rattle.std.proofs.Common.{◌≡◌, length}
-use Rattle.pieces.specs.Pushed.{Pushes}
+use Rattle.streams.specs.Pushed.{Pushes}
 use Rattle.sampling.specs.private.LaneLines.{lane_lines}
 use Rattle.sampling.proofs.lines.push_lines.Given as goal
 

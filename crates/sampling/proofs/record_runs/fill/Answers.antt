@@ -1,7 +1,7 @@
 -- Word by word.
 use Rattle.std.proofs.Common.{◌≡◌, ℕ, ◌<◌, false, length, get_or, length-set, refl, ◌∙◌, arith}
-use Rattle.lanes.specs.Lanes.{lane_bit}
-use Rattle.batch.specs.Batches.{shot_records}
+use Rattle.bit_rows.specs.Lanes.{lane_bit}
+use Rattle.frames.specs.Batches.{shot_records}
 use Rattle.sampling.proofs.ShownLemmas.{filled_more}
 use Rattle.sampling.proofs.record_runs.fill.Goals as goal
 

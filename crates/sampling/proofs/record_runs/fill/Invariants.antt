@@ -1,6 +1,6 @@
 use Rattle.std.proofs.Common.{◌≡◌, ℕ, ◌<◌, false, length, get_or}
-use Rattle.lanes.specs.Lanes.{lane_bit}
-use Rattle.batch.specs.Batches.{shot_records}
+use Rattle.bit_rows.specs.Lanes.{lane_bit}
+use Rattle.frames.specs.Batches.{shot_records}
 use Rattle.sampling.proofs.record_runs.fill.Given as goal
 
 -- the words so far are filled

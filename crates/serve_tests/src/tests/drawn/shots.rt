@@ -3,17 +3,17 @@ ghost use Rattle.std.specs.Prelude.{◌≡◌, length, IfOk};
 
 mod texts;
 
-use super::circuits::draw;
-use super::page::Page;
-use draws::Shot;
 use engine::{Order, Status, serve};
 use forward_sim::{Records, detections, run};
 use programs::Program;
 use rand_core::SeedableRng;
 use rand_pcg::Pcg64;
+use sampling::Shot;
 use std::alloc::Global;
 use std::test::Fail;
 use step_model::{Fault, MemorySink, MemorySource};
+use super::circuits::draw;
+use super::page::Page;
 use texts::TEXTS;
 use unroll::read_program;
 

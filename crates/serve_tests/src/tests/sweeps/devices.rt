@@ -1,7 +1,7 @@
 //! Whole orders, of which one read or one write fails, and the ends go on after it.
 use super::rows::{ROWS, Row};
 use engine::{Status, serve};
-use slow_ends::{SlowSink, SlowSource};
+use test_support::{SlowSink, SlowSource};
 use std::alloc::Global;
 use step_model::Fault;
 

@@ -1,6 +1,6 @@
 use Rattle.std.proofs.Common.{◌∙◌, ap, sym}
 use Rattle.stim_lexer.specs.Lexing.{cut_in}
-use Rattle.block_text.specs.Said.{reading_in}
+use Rattle.stim_lexer.specs.Said.{reading_in}
 use Rattle.stim_parser.proofs.JudgeLemmas.{judged-accepted, judged-refused, refusal-keyword}
 use Rattle.stim_parser.proofs.judge.judged.Goals as goal
 

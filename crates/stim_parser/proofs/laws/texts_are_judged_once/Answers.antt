@@ -1,4 +1,4 @@
-use Rattle.block_text.proofs.TreeLemmas.{each_text_is_judged, no_text_writes_two_trees, no_text_has_two_faults, no_text_is_both}
+use Rattle.stim_lexer.proofs.TreeLemmas.{each_text_is_judged, no_text_writes_two_trees, no_text_has_two_faults, no_text_is_both}
 use Rattle.stim_parser.specs.Circuits.{Fits}
 use Rattle.stim_parser.specs.Texts.{circuits}
 use Rattle.stim_parser.proofs.CircuitFits.{reading_fits}

@@ -1,4 +1,4 @@
-use Rattle.block_text.proofs.TreeLemmas.{each_tree_fits}
+use Rattle.stim_lexer.proofs.TreeLemmas.{each_tree_fits}
 use Rattle.stim_parser.specs.Circuits.{Fits}
 use Rattle.stim_parser.specs.Texts.{circuits}
 use Rattle.stim_parser.proofs.CircuitFits.{reading_fits}

@@ -2,9 +2,9 @@ use Rattle.std.proofs.Common.{◌≡◌, Option, None, Some, Ok, Err, ap, subst,
 use Rattle.std.proofs.lemmas.Result.{err_from_is_err_and}
 use Rattle.stim_lexer.specs.declared.line.Line.{Line}
 use Rattle.stim_lexer.specs.Lexing.{Numbered, answered, cut_in, next_found}
-use Rattle.block_text.specs.Instructions.{Instruction}
-use Rattle.block_text.specs.Marked.{Marked}
-use Rattle.block_text.proofs.TextLemmas.{fewer, reads_on, refused_by_line, refused_by_byte, finished_reads, finished_refused}
+use Rattle.stim_lexer.specs.Instructions.{Instruction}
+use Rattle.stim_lexer.specs.Marked.{Marked}
+use Rattle.stim_lexer.proofs.TextLemmas.{fewer, reads_on, refused_by_line, refused_by_byte, finished_reads, finished_refused}
 use Rattle.stim_parser.specs.Judging.{format_of}
 use Rattle.stim_parser.specs.Probabilities.{Keeps}
 use Rattle.stim_parser.proofs.reader.read_items.Goals as goal

@@ -1,5 +1,5 @@
 use Rattle.std.proofs.Common.{length}
-use Rattle.block_text.proofs.TextLemmas.{IsReading}
+use Rattle.stim_lexer.proofs.TextLemmas.{IsReading}
 use Rattle.stim_parser.specs.Judging.{format_of}
 use Rattle.stim_parser.specs.Probabilities.{Keeps, marked_in}
 use Rattle.stim_parser.proofs.reader.read_items.Given as goal

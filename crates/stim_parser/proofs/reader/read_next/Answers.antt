@@ -1,10 +1,10 @@
 use Rattle.std.proofs.Common.{ℕ, ap, subst}
 use Rattle.std.specs.Prelude.{⊤}
 use Rattle.stim_lexer.specs.Lexing.{cut_in}
-use Rattle.block_text.specs.Instructions.{Instruction}
-use Rattle.block_text.specs.Said.{OpensFew}
-use Rattle.block_text.specs.Unfinished.{Unfinished}
-use Rattle.block_text.proofs.SaidLemmas.{opens_few}
+use Rattle.stim_lexer.specs.Instructions.{Instruction}
+use Rattle.stim_lexer.specs.Said.{OpensFew}
+use Rattle.stim_lexer.specs.Unfinished.{Unfinished}
+use Rattle.stim_lexer.proofs.SaidLemmas.{opens_few}
 use Rattle.stim_parser.specs.Judging.{reading_of}
 use Rattle.stim_parser.specs.Probabilities.{marked_in}
 use Rattle.stim_parser.proofs.FitLemmas.{readings_accord}

@@ -1,8 +1,8 @@
 use Rattle.std.proofs.Common.{List, Ok, ap, sym, ◌∙◌}
 use Rattle.std.proofs.lemmas.Result.{err_from_is_err_and}
-use Rattle.block_text.specs.Instructions.{Instruction}
-use Rattle.block_text.specs.Trees.{Item}
-use Rattle.block_text.proofs.TreeLemmas.{items_are_written}
+use Rattle.stim_lexer.specs.Instructions.{Instruction}
+use Rattle.stim_lexer.specs.Trees.{Item}
+use Rattle.stim_lexer.proofs.TreeLemmas.{items_are_written}
 use Rattle.stim_parser.specs.Judging.{format_of}
 use Rattle.stim_parser.proofs.reader.read_text.Goals as goal
 

@@ -1,5 +1,5 @@
 use Rattle.std.proofs.Common.{◌+◌, ◌++◌, [], ◌∷◌, ℕ, length, refl, ap, ◌∙◌, arith}
-use Rattle.block_text.specs.Kept.{instruction_in}
+use Rattle.stim_lexer.specs.Kept.{instruction_in}
 use Rattle.unroll.specs.private.Placing.{downs, placing, raised_by, turned_by, turned_on, ups}
 use Rattle.unroll.proofs.PlacingLoops.{HasPopped, placing-begins, placing-does, placing-done, placing-ends, placing-first, placing-fits, placing-room, placing-same, placing-some, placing-stated, placing-up-to, small-added, small-counts, with_turns}
 use Rattle.unroll.proofs.coordinates.coordinates_of.Goals as goal

@@ -1,5 +1,5 @@
 use Rattle.std.proofs.Common.{◌+◌, ◌*◌, ◌++◌, [], ◌∷◌, ℕ, length, refl, ap, ◌∙◌, arith}
-use Rattle.block_text.specs.Kept.{instruction_in}
+use Rattle.stim_lexer.specs.Kept.{instruction_in}
 use Rattle.unroll.specs.private.Detecting.{detecting, records_moved}
 use Rattle.unroll.specs.TargetsMade.{operation_detectors}
 use Rattle.unroll.specs.private.MadeTotals.{record_count, records_made}

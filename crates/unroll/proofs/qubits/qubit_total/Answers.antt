@@ -1,5 +1,5 @@
 use Rattle.std.proofs.Common.{arith}
-use Rattle.block_text.specs.Kept.{item_in}
+use Rattle.stim_lexer.specs.Kept.{item_in}
 use Rattle.unroll.proofs.ItemLemmas.{fits_first, fits_next, qubits_done, qubits_first, qubits_next, sound_at}
 use Rattle.unroll.proofs.qubits.qubit_total.Goals as goal
 

@@ -1,5 +1,5 @@
 use Rattle.std.proofs.Common.{sym, ◌∙◌, arith}
-use Rattle.block_text.specs.Kept.{item_in}
+use Rattle.stim_lexer.specs.Kept.{item_in}
 use Rattle.unroll.proofs.BeyondLemmas.{beyond-done, beyond-first, beyond-found, beyond-next}
 use Rattle.unroll.proofs.ItemLemmas.{fits_first, fits_next, sound_at}
 use Rattle.unroll.proofs.refusals.first_beyond.Goals as goal

@@ -1,5 +1,5 @@
 use Rattle.std.proofs.Common.{◌≡◌}
-use Rattle.block_text.specs.Reached.{instructions_of}
+use Rattle.stim_lexer.specs.Reached.{instructions_of}
 use Rattle.unroll.specs.Refusals.{first_observable_beyond}
 use Rattle.unroll.proofs.BeyondLemmas.{beyond_from}
 use Rattle.unroll.proofs.ItemLemmas.{FitsFrom}

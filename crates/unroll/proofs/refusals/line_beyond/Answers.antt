@@ -1,6 +1,6 @@
 use Rattle.std.proofs.Common.{sym, ap, ◌∙◌, subst}
-use Rattle.block_text.specs.declared.items.Item.{Item}
-use Rattle.block_text.specs.Kept.{instruction_in, item_in}
+use Rattle.stim_lexer.specs.declared.items.Item.{Item}
+use Rattle.stim_lexer.specs.Kept.{instruction_in, item_in}
 use Rattle.stim_parser.specs.declared.operation.Operation.{Operation}
 use Rattle.stim_parser.specs.declared.target.Target.{Target}
 use Rattle.unroll.specs.private.Beyond.{line_beyond}

@@ -1,5 +1,5 @@
 use Rattle.std.proofs.Common.{ℕ, List, [], ◌∷◌, ◌++◌, ap, ap₂, length, ◌∙◌}
-use Rattle.dem_lines.specs.Texts.{Item}
+use Rattle.dem_parser.specs.Texts.{Item}
 use Rattle.dem_parser.specs.declared.entries.Entry.{Entry}
 use Rattle.dem_parser.specs.declared.entries.Entry.TheVariants as entry
 use Rattle.dem_parser.specs.private.Kept.{Kept, item_of_rare, with_item}

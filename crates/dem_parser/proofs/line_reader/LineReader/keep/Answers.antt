@@ -1,7 +1,7 @@
 use Rattle.std.proofs.Common.{ℕ, List, ap, length, subst, sym, ◌≤◌, ◌∙◌}
-use Rattle.dem_lines.specs.Verdicts.{number_in}
+use Rattle.dem_parser.specs.Verdicts.{number_in}
 use Rattle.dem_parser.specs.Meanings.{detectors_to, observables_to}
-use Rattle.block_text.specs.Reached.{greatest_by}
+use Rattle.stim_lexer.specs.Reached.{greatest_by}
 use Rattle.dem_parser.specs.private.Standing.{instruction_at}
 use Rattle.dem_parser.proofs.KeptLemmas.{read-kept}
 use Rattle.dem_parser.proofs.ShiftLemmas.{few_arguments}

@@ -2,8 +2,8 @@ use Rattle.std.proofs.Common.{ℕ, ap, ap₂, sym, ◌∙◌, arith}
 use Rattle.stim_lexer.specs.Cut.{Cut}
 use Rattle.stim_lexer.specs.Lexing.{cut_in}
 use Rattle.stim_parser.specs.Judging.{reading_of}
-use Rattle.block_text.specs.Trees.{InstructionLine}
-use Rattle.dem_lines.specs.Verdicts.{Instruction, model_table}
+use Rattle.stim_lexer.specs.Trees.{InstructionLine}
+use Rattle.dem_parser.specs.Verdicts.{Instruction, model_table}
 use Rattle.dem_parser.specs.private.Kept.{with_item}
 use Rattle.dem_parser.specs.private.Standing.{instruction_cut}
 use Rattle.dem_parser.proofs.LineLemmas.{opened_few, taken_at, taken_is}

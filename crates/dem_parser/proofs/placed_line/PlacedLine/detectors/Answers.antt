@@ -1,9 +1,9 @@
 use Rattle.std.proofs.Common.{◌≡◌, false, true, subst}
 use Rattle.std.specs.Prelude.{MatchOption, nat_lt}
 use Rattle.dem_parser.specs.private.TableLines.{instruction_of}
-use Rattle.dem_lines.specs.Limits.{has_target_beyond}
+use Rattle.dem_parser.specs.Limits.{has_target_beyond}
 use Rattle.dem_parser.specs.Meanings.{detectors_to}
-use Rattle.block_text.specs.Reached.{greatest_by}
+use Rattle.stim_lexer.specs.Reached.{greatest_by}
 use Rattle.dem_parser.specs.Shifts.{Placed, Shift}
 use Rattle.dem_parser.specs.private.Tables.{count_at, most_detectors}
 use Rattle.dem_parser.proofs.TableLemmas.{detectors-placed}

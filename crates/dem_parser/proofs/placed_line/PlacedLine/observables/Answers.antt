@@ -1,7 +1,7 @@
 use Rattle.std.proofs.Common.{ap, ◌∙◌}
 use Rattle.dem_parser.specs.private.TableLines.{instruction_of}
 use Rattle.dem_parser.specs.Meanings.{observables_to}
-use Rattle.block_text.specs.Reached.{greatest_by}
+use Rattle.stim_lexer.specs.Reached.{greatest_by}
 use Rattle.dem_parser.specs.Shifts.{Placed}
 use Rattle.dem_parser.proofs.TableLemmas.{observables-known}
 use Rattle.dem_parser.proofs.placed_line.PlacedLine.observables.Goals as goal

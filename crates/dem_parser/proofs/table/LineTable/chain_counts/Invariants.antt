@@ -1,5 +1,5 @@
 use Rattle.std.proofs.Common.{◌+◌, ◌≤◌, drop, length}
-use Rattle.block_text.specs.Trees.{items_of}
+use Rattle.stim_lexer.specs.Trees.{items_of}
 use Rattle.dem_parser.specs.private.Chains.{IsChain}
 use Rattle.dem_parser.proofs.table.LineTable.chain_counts.Given as goal
 

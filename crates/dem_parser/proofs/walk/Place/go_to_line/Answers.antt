@@ -2,7 +2,7 @@ use Rattle.std.proofs.Common.{ap, refl, reverse, subst, sym, ◌∙◌, arith}
 use Rattle.std.specs.Prelude.{slice_get}
 use Rattle.std.proofs.lemmas.List.{length-reverse}
 use Rattle.arrayvec.specs.ArrayVec.{array_vec_len}
-use Rattle.block_text.specs.Trees.{items_of}
+use Rattle.stim_lexer.specs.Trees.{items_of}
 use Rattle.dem_parser.specs.declared.table_line.Stand.{Stand}
 use Rattle.dem_parser.specs.private.TableLines.{CanStandAt}
 use Rattle.dem_parser.specs.private.Walks.{IsAtLine, after_stand, is_at_line}

@@ -1,5 +1,5 @@
 use Rattle.std.proofs.Common.{◌≡◌, length, reverse}
-use Rattle.block_text.specs.Trees.{items_of}
+use Rattle.stim_lexer.specs.Trees.{items_of}
 use Rattle.dem_parser.specs.private.Walks.{IsWalk, items_left, lines_left}
 use Rattle.dem_parser.proofs.walk.Place.go_to_line.Given as goal
 

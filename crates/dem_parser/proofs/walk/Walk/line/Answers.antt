@@ -1,6 +1,6 @@
 use Rattle.std.proofs.Common.{sym, ◌∙◌, arith}
 use Rattle.dem_parser.specs.private.TableLines.{instruction_of}
-use Rattle.block_text.specs.Trees.{items_of}
+use Rattle.stim_lexer.specs.Trees.{items_of}
 use Rattle.dem_parser.proofs.ShiftLemmas.{room-one}
 use Rattle.dem_parser.proofs.WalkSteps.{behind-first, passes, passes-none}
 use Rattle.dem_parser.proofs.walk.Walk.line.Goals as goal

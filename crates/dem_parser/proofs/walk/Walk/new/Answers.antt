@@ -1,6 +1,6 @@
 use Rattle.std.proofs.Common.{◌≡◌, List, ℤ, length, ap, reverse, subst, sym, ◌∙◌, arith}
-use Rattle.block_text.specs.Reached.{reached}
-use Rattle.block_text.specs.Trees.{items_of}
+use Rattle.stim_lexer.specs.Reached.{reached}
+use Rattle.stim_lexer.specs.Trees.{items_of}
 use Rattle.dem_parser.specs.declared.walk.Turns.{Turns}
 use Rattle.dem_parser.specs.private.Offsets.{HasRoom}
 use Rattle.dem_parser.specs.Shifts.{Shift, no_shift, placed_from}

@@ -1,6 +1,6 @@
 use Rattle.std.proofs.Common.{List, drop, length, reverse, ap, ap₂, subst, sym, ◌∙◌, arith}
 use Rattle.dem_parser.specs.private.TableLines.{instruction_of}
-use Rattle.block_text.specs.Trees.{items_of}
+use Rattle.stim_lexer.specs.Trees.{items_of}
 use Rattle.dem_parser.specs.private.Offsets.{HasRoom}
 use Rattle.dem_parser.specs.Shifts.{Placed, Shift, placed_from, shift_after}
 use Rattle.dem_parser.specs.private.Walks.{lines_left}

@@ -1,6 +1,6 @@
 -- The runs' detections fill the words.
 use Rattle.std.proofs.Common.{◌≡◌, ℕ, ◌<◌, [], false, length, get_or, sym, ap, ap₂, ◌∙◌, arith}
-use Rattle.lanes.specs.Lanes.{lane}
+use Rattle.bit_rows.specs.Lanes.{lane}
 use Rattle.step_model.specs.Frames.{zero_coins}
 use Rattle.step_model.specs.Runs.{records_of}
 use Rattle.step_model.specs.Targets.{difference}

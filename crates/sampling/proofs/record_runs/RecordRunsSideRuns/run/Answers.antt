@@ -1,6 +1,6 @@
 -- The runs' records fill the words.
 use Rattle.std.proofs.Common.{◌≡◌, ℕ, ◌<◌, false, length, get_or, sym, ap, ◌∙◌, arith}
-use Rattle.lanes.specs.Lanes.{lane}
+use Rattle.bit_rows.specs.Lanes.{lane}
 use Rattle.step_model.specs.Runs.{records_of}
 use Rattle.forward_sim.proofs.RunRecords.{length-records_of}
 use Rattle.sampling.specs.private.ShownRuns.{ShownRuns}

@@ -1,7 +1,0 @@
-pub mod Beside
-pub mod Detections
-pub mod FollowedSteps
-pub mod FollowLaw
-pub mod FollowLoop
-pub mod LaneFrameLaws
-pub mod LaneLaws

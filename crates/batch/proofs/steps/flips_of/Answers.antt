@@ -1,5 +1,0 @@
-use Rattle.lanes.proofs.LaneLaws.{lane_bit-zero}
-use Rattle.batch.proofs.steps.flips_of.Goals as goal
-
-pub returns-in-None : goal.returns-in-None
-returns-in-None c = rw c.in-None.is lane_bit-zero

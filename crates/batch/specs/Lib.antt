@@ -1,4 +1,0 @@
-pub mod Batches
-pub mod LaneFrames
-pub mod LaneLetters
-pub mod private

@@ -1,6 +1,0 @@
-pub mod TreeLemmas
-pub mod TextLemmas
-pub mod PassLemmas
-pub mod FlatLemmas
-pub mod SaidLemmas
-pub mod QuestionLemmas

@@ -1,3 +1,0 @@
-pub mod FitLemmas
-pub mod TreeLemmas
-pub mod PassLemmas

@@ -1,7 +1,0 @@
-pub mod WordLemmas
-pub mod BoundLemmas
-pub mod LaneLemmas
-pub mod HalfLemmas
-pub mod PairLemmas
-pub mod RunLemmas
-pub mod SideLemmas

@@ -1,3 +1,0 @@
-pub mod Drawn
-pub mod Shots
-pub mod private

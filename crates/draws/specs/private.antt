@@ -1,3 +1,0 @@
-pub mod BoundRuns
-pub mod LaneDraws
-pub mod PairDraws

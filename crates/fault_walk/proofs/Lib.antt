@@ -1,3 +1,0 @@
-pub mod FoundLaws
-pub mod Orders
-pub mod Walking

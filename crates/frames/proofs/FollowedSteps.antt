@@ -1,0 +1,99 @@
+-- The frame behind a step, as the loops over lanes make it.
+use Rattle.std.proofs.lemmas.List as lists
+use Rattle.std.proofs.Common.{set, ◌≡◌, ℕ, Bool, true, false, List, [], ◌∷◌, ◌++◌, length, append-nil, Option, None, Some, is_some, refl, sym, ap, ap₂, ◌∙◌}
+use Rattle.std.specs.Prelude.{if◌then◌else◌, option_map}
+use Rattle.bit_rows.specs.Lanes.{lane_bit}
+use Rattle.pauli_word.specs.declared.letter.Letter.{Letter}
+use Rattle.pauli_word.specs.declared.letter.Letter.TheVariants.{I}
+use Rattle.pauli_word.specs.Parity.{exclusive_or}
+use Rattle.pauli_word.specs.Words.{anticommute, lone_letter}
+use Rattle.programs.specs.declared.step.FaultName.{FaultName}
+use Rattle.programs.specs.Listed.{measured, number_of, recorded}
+use Rattle.step_model.specs.declared.step.Term.{Term}
+use Rattle.step_model.specs.Frames.{Frame}
+use Rattle.step_model.specs.Listing.{Listing, Collapse, Measured, measured_word, step_records}
+use Rattle.step_model.specs.Runs.{flip_happens}
+use Rattle.step_model.specs.Sensitivities.{cleared}
+use Rattle.frames.specs.private.Followed.{Turns, followed, turned, turned_where}
+use Rattle.frames.specs.LaneFrames.{LaneFrames, frame_in, GoesTo, with_record}
+use Rattle.frames.specs.LaneLetters.{word_in}
+use Rattle.frames.proofs.FollowLaw.{turned-flip}
+use Rattle.frames.proofs.LaneFrameLaws.{frame_with, goes_as, goes_then, length-word_in}
+
+-- the flip of a frame that was turned: the coin, where the outcome is random
+pub turned-flips : (n : ℕ) (replaced : Option (List Term)) (coin : Bool) (w : List Letter) (v : Frame) → Turns n replaced w → length v.word ≡ n
+    → (if is_some replaced then coin else anticommute v.word w) ≡ anticommute (turned n replaced coin w v).word w
+turned-flips n None coin w v turns size = refl
+turned-flips n (Some terms) coin w v turns size = sym (turned-flip n terms coin w v size turns.1)
+
+pub turned-records : (n : ℕ) (replaced : Option (List Term)) (b : Bool) (v : Frame) → (turned_where n replaced b v).records ≡ v.records
+turned-records n None b v = refl
+turned-records n (Some terms) b v = refl
+
+pub turned-frame : (n : ℕ) (replaced : Option (List Term)) (b : Bool) (v : Frame) → turned_where n replaced b v ≡ frame_with (turned_where n replaced b v).word v.records
+turned-frame n None b v = refl
+turned-frame n (Some terms) b v = refl
+
+pub measured-letter : (n : ℕ) (reset : Bool) (letter : Letter) (q : ℕ) → measured_word n (measured n reset letter q) ≡ lone_letter n q letter
+measured-letter n true letter q = refl
+measured-letter n false letter q = refl
+
+-- no fault happens in the reference run
+none-happens : (flip : Option ℕ) → flip_happens [] flip ≡ false
+none-happens None = refl
+none-happens (Some f) = refl
+
+-- a collapse with its record
+pub followed-collapse : (program : Listing) (faults : List Bool) (replaced : Option (List Term)) (coin : Bool) (c : Measured) (rec : Option ℕ) (inverted : Bool) (flip : Option FaultName) (w : List Letter) (v : Frame) (b : Bool)
+    → measured_word program.qubits c ≡ w
+    → b ≡ exclusive_or (anticommute (turned program.qubits replaced coin w v).word w) (flip_happens faults (option_map number_of flip))
+    → with_record rec b (frame_with (cleared c (turned program.qubits replaced coin w v).word) v.records) ≡ followed program faults replaced coin (Collapse c (recorded rec inverted flip)) v
+followed-collapse program faults replaced coin c None inverted flip w v b is flips =
+    let n = program.qubits in
+    ap (λ x. frame_with (cleared c (turned n replaced coin x v).word) v.records) (sym is)
+    ∙ ap (frame_with (cleared c (turned n replaced coin (measured_word n c) v).word))
+    (sym (turned-records n replaced _ v) ∙ sym (append-nil (turned n replaced coin (measured_word n c) v).records))
+followed-collapse program faults replaced coin c (Some r) inverted flip w v b is flips =
+    let n = program.qubits in
+    ap (λ x. frame_with (cleared c (turned n replaced coin w v).word) (v.records ++ x ∷ [])) flips
+    ∙ ap (λ x. frame_with (cleared c (turned n replaced coin x v).word) (v.records ++ exclusive_or (anticommute (turned n replaced coin x v).word x) (flip_happens faults (option_map number_of flip)) ∷ [])) (sym is)
+    ∙ ap₂ (λ records x. frame_with (cleared c (turned n replaced coin (measured_word n c) v).word) (records ++ exclusive_or (anticommute (turned n replaced coin (measured_word n c) v).word (measured_word n c)) (exclusive_or x (flip_happens faults (option_map number_of flip))) ∷ []))
+    (sym (turned-records n replaced _ v)) (sym (none-happens (option_map number_of flip)))
+
+-- how many records a collapse makes
+pub recorded-count : (c : Measured) (rec : Option ℕ) (inverted : Bool) (flip : Option FaultName) → length (step_records (Collapse c (recorded rec inverted flip))) ≡ (if is_some rec then 1 else 0)
+recorded-count c None inverted flip = refl
+recorded-count c (Some r) inverted flip = refl
+
+-- frames that keep their flips keep their count of records
+pub same-count : (old new : LaneFrames) → (frame_in 0 new).records ≡ (frame_in 0 old).records → length new.flips ≡ length old.flips
+same-count old new same = sym (lists.length-map new.flips (lane_bit 0)) ∙ ap length same ∙ lists.length-map old.flips (lane_bit 0)
+
+-- a collapse of a letter that is turned by the flips that it meets
+module _ (n : ℕ) (replaced : Option (List Term)) (coins met flips q : ℕ) (letter : Letter) (old mid : LaneFrames)
+    (size : length old.letters ≡ n) (w : List Letter) (turns : Turns n replaced w)
+    (meets : (j : ℕ) → lane_bit j met ≡ anticommute (word_in j old.letters) w)
+    (moved : GoesTo old mid (λ j v. turned_where n replaced (exclusive_or (lane_bit j coins) (lane_bit j met)) v))
+    (turned_to : (j : ℕ) → lane_bit j flips ≡ (if is_some replaced then lane_bit j coins else lane_bit j met)) where
+  pub goes_turned : GoesTo old mid (λ j v. turned n replaced (lane_bit j coins) w v)
+  goes_turned = goes_as old mid _ (λ j v. turned n replaced (lane_bit j coins) w v) moved
+      (λ j. ap (λ b. turned_where n replaced (exclusive_or (lane_bit j coins) b) (frame_in j old)) (meets j))
+
+  pub flips_turned : (j : ℕ) → lane_bit j flips ≡ anticommute (turned n replaced (lane_bit j coins) w (frame_in j old)).word w
+  flips_turned j =
+      turned_to j
+      ∙ ap (λ b. if is_some replaced then lane_bit j coins else b) (meets j)
+      ∙ turned-flips n replaced (lane_bit j coins) w (frame_in j old) turns (length-word_in j old.letters ∙ size)
+
+pub goes_left : (n : ℕ) (replaced : Option (List Term)) (coins : ℕ) (letter : Letter) (q : ℕ) (old mid : LaneFrames)
+    → GoesTo old mid (λ j v. turned n replaced (lane_bit j coins) (lone_letter n q letter) v)
+    → GoesTo old mid (λ j v. record v { word = cleared (measured n false letter q) (turned n replaced (lane_bit j coins) (lone_letter n q letter) v).word })
+goes_left n replaced coins letter q old mid moved = goes_as old mid _ _ moved (λ j. turned-frame n replaced _ (frame_in j old))
+
+pub goes_cleared : (n : ℕ) (replaced : Option (List Term)) (coins : ℕ) (letter : Letter) (q : ℕ) (old mid new : LaneFrames)
+    → GoesTo old mid (λ j v. turned n replaced (lane_bit j coins) (lone_letter n q letter) v)
+    → GoesTo mid new (λ j v. record v { word = set v.word q I })
+    → GoesTo old new (λ j v. record v { word = cleared (measured n true letter q) (turned n replaced (lane_bit j coins) (lone_letter n q letter) v).word })
+goes_cleared n replaced coins letter q old mid new moved clears =
+    goes_as old new _ _ (goes_then old mid new _ _ moved clears)
+    (λ j. ap (frame_with (set (turned n replaced (lane_bit j coins) (lone_letter n q letter) (frame_in j old)).word q I)) (turned-records n replaced _ (frame_in j old)))

@@ -1,0 +1,140 @@
+-- Each step leads the runs and the reference run from what is left before it to what is left behind it.
+use Rattle.std.proofs.Common.{ℕ, Bool, List, [], ◌∷◌, ◌≡◌, true, false, length, drop, refl, sym, ap, subst, ◌∙◌, arith}
+use Rattle.forward_sim.specs.References.{GoneOver, ReferenceRun, StandBefore}
+use Rattle.forward_sim.proofs.RunRecords.{length-records_of}
+use Rattle.bit_rows.specs.Lanes.{lane, lane_bit}
+use Rattle.programs.specs.Listed.{listed}
+use Rattle.step_model.specs.Frames.{zero_coins}
+use Rattle.step_model.specs.Listing.{ListedStep, is_collapse}
+use Rattle.step_model.specs.Runs.{RunState}
+use Rattle.step_model.specs.declared.step.Term.{Term}
+use Rattle.frames.specs.Batches.{start_frame}
+use Rattle.frames.specs.private.Followed.{TurnsAt, followed}
+use Rattle.frames.specs.LaneFrames.{GoesTo}
+use Rattle.frames.proofs.Beside.{Beside, beside-start, beside-other, beside-collapse, beside-room, beside-end, entry-turns}
+use Rattle.frames.proofs.FollowLoop.{Over, over, at_end}
+use Rattle.frames.proofs.follow.follow_steps.Given as given
+use Rattle.frames.proofs.follow.follow_steps.Goals as goal
+use Rattle.frames.proofs.follow.follow_steps.Goals.{In-Some}
+
+-- what the walk went over
+goes_over : (g : given.Over) (c : In-Some g) → Over c.args.program.now c.loop-step.walk c.next_step.new.self c.in-Some.step
+goes_over g c =
+    over c.args.program.now c.loop-step.walk c.next_step.new.self c.in-Some.step c.well_formed-2.ensures.listing c.loop-step.invariant.program c.in-Some.ensures.step c.in-Some.ensures.named c.in-Some.ensures.program c.in-Some.ensures.place
+
+-- the step, as it is listed
+abbrev step_of : (g : given.Over) → In-Some g → ListedStep
+step_of g c = listed c.args.program.now.listing.qubits c.args.program.now.products c.in-Some.step
+
+before : (g : given.Over) (c : In-Some g) → Beside c.args.program.now.listing c.loop-step.reference c.args.faults.now c.args.coins.now (step_of g c ∷ drop c.next_step.new.self.place c.args.program.now.listing.steps) c.loop-step.collapse c.loop-step.frames
+before g c =
+    subst (λ steps. Beside c.args.program.now.listing c.loop-step.reference c.args.faults.now c.args.coins.now steps c.loop-step.collapse c.loop-step.frames) (goes_over g c).ahead c.loop-step.invariant.beside
+
+pub loop-step-init : goal.loop-step-init
+loop-step-init g c =
+    let program = c.args.program.now.listing in
+    let reference = c.args.reference.now in
+    let f = c.args.frames.now in
+    record {
+      program = c.start-walk.ensures.program;
+      qubits = refl;
+      room = refl;
+      reference = c.requires.reference;
+      records = refl;
+      beside =
+          subst (λ k. Beside program reference c.args.faults.now c.args.coins.now (drop k program.steps) 0 f) (sym c.start-walk.ensures.place)
+          (beside-start program reference c.args.faults.now c.args.coins.now f c.well_formed-2.ensures.listing c.requires.reference c.requires.stands
+          (λ j. c.requires.start j ∙ ap start_frame c.requires.qubits));
+    }
+
+pub go_over-requires-clause-next : goal.go_over-requires-clause-next
+go_over-requires-clause-next g c =
+    let here = (goal.at.go_over-requires-clause-next g c).In-Some in (
+      drop c.next_step.new.self.place c.args.program.now.listing.steps,
+      (before g here).m,
+      c.loop-step.collapse,
+      (before g here).stand,
+    )
+
+-- the reference run has gone over the step too
+gone : (g : given.Over) (c : In-Some g) (new : ReferenceRun)
+    → ((rest : List ListedStep) (m : RunState) (k : ℕ) → StandBefore c.args.program.now.listing (step_of g c ∷ rest) m k c.loop-step.reference.words → GoneOver c.args.program.now.listing (step_of g c) rest m k new.words)
+    → GoneOver c.args.program.now.listing (step_of g c) (drop c.next_step.new.self.place c.args.program.now.listing.steps) (before g c).m c.loop-step.collapse new.words
+gone g c new goes = goes (drop c.next_step.new.self.place c.args.program.now.listing.steps) (before g c).m c.loop-step.collapse (before g c).stand
+
+collapses : (g : given.Over) (c : In-Some g) (is : Bool) → ((n : ℕ) (products : List (List Term)) → is ≡ is_collapse (listed n products c.in-Some.step)) → (value : Bool) → is ≡ value → is_collapse (step_of g c) ≡ value
+collapses g c is says value is_value = sym (says c.args.program.now.listing.qubits c.args.program.now.products) ∙ is_value
+
+pub replaced-replaced-requires : goal.replaced-replaced-requires
+replaced-replaced-requires g c =
+    let here = (goal.at.replaced-replaced-requires g c).In-Some in
+    (gone g here c.go_over.new.self c.go_over.ensures.over).said (collapses g here c.is_collapse.result c.is_collapse.ensures true c.if-is_collapse.true)
+
+count : (g : given.Over) (c : In-Some g) → length c.loop-step.reference.records ≡ c.args.program.now.listing.records
+count g c =
+    ap length c.loop-step.invariant.reference.records
+    ∙ length-records_of c.args.program.now.listing [] (zero_coins c.args.program.now.listing) c.well_formed-2.ensures.listing
+
+pub take_step-requires-clause-room : goal.take_step-requires-clause-room
+take_step-requires-clause-room g c =
+    let here = (goal.at.take_step-requires-clause-room g c).In-Some in
+    omega (arith, c.requires.room, c.loop-step.invariant.room, beside-room c.args.program.now.listing c.loop-step.reference c.args.faults.now c.args.coins.now (step_of g here) (drop c.next_step.new.self.place c.args.program.now.listing.steps) c.loop-step.collapse c.loop-step.frames (count g here) (before g here))
+
+pub take_step-requires-clause-turns : goal.take_step-requires-clause-turns
+take_step-requires-clause-turns g c =
+    let here = (goal.at.take_step-requires-clause-turns g c).In-Some in
+    let program = c.args.program.now.listing in
+    subst (λ entry. TurnsAt program.qubits entry (step_of g here)) (sym c.replaced-replaced.ensures)
+    (entry-turns program.qubits (before g here).m.state (step_of g here) _ (gone g here c.go_over.new.self c.go_over.ensures.over).entry)
+
+pub loop-step-smaller-then-is_collapse : goal.loop-step-smaller-then-is_collapse
+loop-step-smaller-then-is_collapse g c = (goes_over g (goal.at.loop-step-smaller-then-is_collapse g c).In-Some).smaller
+
+pub loop-step-preserved-then-is_collapse : goal.loop-step-preserved-then-is_collapse
+loop-step-preserved-then-is_collapse g c =
+    let here = (goal.at.loop-step-preserved-then-is_collapse g c).In-Some in
+    let walked = goes_over g here in
+    let program = c.args.program.now.listing in
+    let after = c.go_over.new.self in
+    record {
+      program = walked.program_is;
+      qubits = c.take_step.ensures.qubits ∙ c.loop-step.invariant.qubits;
+      room = c.take_step.ensures.room ∙ c.loop-step.invariant.room;
+      reference = c.go_over.ensures.reference c.loop-step.invariant.reference;
+      records = c.go_over.ensures.records ∙ c.loop-step.invariant.records;
+      beside =
+          beside-collapse program c.loop-step.reference after c.args.faults.now c.args.coins.now (step_of g here) (drop c.next_step.new.self.place program.steps) c.loop-step.collapse c.word_at.result c.loop-step.frames c.take_step.new.frames
+          walked.fits (collapses g here c.is_collapse.result c.is_collapse.ensures true c.if-is_collapse.true) (before g here) c.go_over.ensures.records (gone g here after c.go_over.ensures.over) c.word_at.ensures
+          (subst (λ entry. GoesTo c.loop-step.frames c.take_step.new.frames (λ j v. followed program (lane j c.args.faults.now) entry (lane_bit j c.word_at.result) (step_of g here) v)) c.replaced-replaced.ensures c.take_step.ensures);
+    }
+
+pub take_step-requires-else-is_collapse-clause-room : goal.take_step-requires-else-is_collapse-clause-room
+take_step-requires-else-is_collapse-clause-room g c =
+    let here = (goal.at.take_step-requires-else-is_collapse-clause-room g c).In-Some in
+    omega (arith, c.requires.room, c.loop-step.invariant.room, beside-room c.args.program.now.listing c.loop-step.reference c.args.faults.now c.args.coins.now (step_of g here) (drop c.next_step.new.self.place c.args.program.now.listing.steps) c.loop-step.collapse c.loop-step.frames (count g here) (before g here))
+
+pub loop-step-smaller : goal.loop-step-smaller
+loop-step-smaller g c = (goes_over g (goal.at.loop-step-smaller g c).In-Some).smaller
+
+pub loop-step-preserved : goal.loop-step-preserved
+loop-step-preserved g c =
+    let here = (goal.at.loop-step-preserved g c).In-Some in
+    let walked = goes_over g here in
+    let program = c.args.program.now.listing in
+    let after = c.go_over.new.self in
+    record {
+      program = walked.program_is;
+      qubits = c.take_step-else-is_collapse.ensures.qubits ∙ c.loop-step.invariant.qubits;
+      room = c.take_step-else-is_collapse.ensures.room ∙ c.loop-step.invariant.room;
+      reference = c.go_over.ensures.reference c.loop-step.invariant.reference;
+      records = c.go_over.ensures.records ∙ c.loop-step.invariant.records;
+      beside =
+          beside-other program c.loop-step.reference after c.args.faults.now c.args.coins.now (step_of g here) (drop c.next_step.new.self.place program.steps) c.loop-step.collapse 0 c.loop-step.frames c.take_step-else-is_collapse.new.frames
+          walked.fits (collapses g here c.is_collapse.result c.is_collapse.ensures false c.if-is_collapse.false) (before g here) c.go_over.ensures.records (gone g here after c.go_over.ensures.over) c.take_step-else-is_collapse.ensures;
+    }
+
+pub returns-clause-runs : goal.returns-clause-runs
+returns-clause-runs g c =
+    beside-end c.args.program.now.listing c.loop-step.reference c.args.faults.now c.args.coins.now c.loop-step.collapse c.loop-step.frames
+    (subst (λ steps. Beside c.args.program.now.listing c.loop-step.reference c.args.faults.now c.args.coins.now steps c.loop-step.collapse c.loop-step.frames)
+    (at_end c.args.program.now c.loop-step.walk c.loop-step.invariant.program c.in_default.ensures.step) c.loop-step.invariant.beside)

@@ -1,0 +1,136 @@
+ghost use Rattle.std.specs.Prelude.{◌≡◌, ◌<◌, ◌+◌, ℕ, false, length, slice_index_or, IfOk, IfErr};
+ghost use Rattle.forward_sim.specs.References.{IsReferenceOf};
+ghost use Rattle.bit_rows.specs.Lanes.{lane_bit};
+ghost use Rattle.step_model.specs.Faults.{memory_fault};
+ghost use Rattle.step_model.specs.Targets.{difference};
+ghost use Rattle.frames.specs.Batches.{AreRuns, IsBatchOf, shot_records};
+
+use crate::follow::follow_steps;
+use crate::frames::Frames;
+use bit_rows::lanes::{bit, spread, xor};
+use forward_sim::{Records, Reference};
+use programs::Program;
+use std::alloc::{AllocError, Allocator};
+use std::marker::Model;
+use step_model::Fault;
+
+/// 64 runs (shots) of a program side by side, each with its own faults and coins: bit j of a word belongs to run j, the
+/// lowest bit to run 0. Each run is followed by its Pauli frame beside a reference run, whose records are made once. (A
+/// collapse is the projective measurement inside a measurement or a reset; its coin is the outcome where that is random.)
+#[derive(Drop)]
+pub struct Batch<A: Allocator + Copy> {
+    reference: Reference<A>,
+    frames: Frames<A>,
+}
+
+impl<A: Allocator + Copy> Model for Batch<A> {
+    ghost use Rattle.std.specs.Prelude.{length};
+    ghost use Rattle.step_model.specs.Targets.{difference, target_at};
+    ghost use Rattle.frames.specs.Batches.{Followed};
+
+    ghost Value = { Followed };
+
+    ghost view = { λ b. record { reference = b.reference; flips = b.frames.flips; qubits = length b.frames.letters; room = b.frames.room } };
+}
+
+impl<A: Allocator + Copy> Batch<A> {
+    /// Makes the reference run, and takes the memory that `follow` needs.
+    pub fn new(alloc: A, program: &Program<'_, A>) -> Result<Self, Fault>
+        ensures ok { IfOk result (IsBatchOf program.now.listing) }
+        ensures err { IfErr result (λ fault. fault ≡ memory_fault) }
+    {
+        let reference = Reference::of(alloc, program)?;
+        beside(alloc, program, reference)
+    }
+
+    /// The same, where the words that the reference run's collapses replaced are kept if they take at most so many bytes.
+    pub fn in_room(alloc: A, program: &Program<'_, A>, bytes: usize) -> Result<Self, Fault>
+        ensures ok { IfOk result (IsBatchOf program.now.listing) }
+        ensures err { IfErr result (λ fault. fault ≡ memory_fault) }
+    {
+        let reference = Reference::in_room(alloc, program, bytes)?;
+        beside(alloc, program, reference)
+    }
+
+    /// Follows 64 runs from the start. `faults` has a word for each fault, which says in which runs it happens, and
+    /// `coins` a word for each collapse. A missing word counts as 0. Allocates nothing.
+    pub fn follow(&mut self, program: &Program<'_, A>, faults: &[u64], coins: &[u64])
+        requires { IsBatchOf program.now.listing self.old }
+        ensures runs { AreRuns program.now.listing faults.now coins.now self.new }
+        ensures reference { self.new.reference.records ≡ self.old.reference.records }
+        ensures batch { IsBatchOf program.now.listing self.new }
+    {
+        self.frames.restart();
+        self.reference.restart(program);
+        follow_steps(
+            &mut self.frames,
+            program,
+            &mut self.reference,
+            faults,
+            coins,
+        );
+    }
+
+    /// The reference run's records: in it no fault happens and all coins are 0.
+    pub fn reference(&self) -> &Records<A>
+        ensures { result.now ≡ self.now.reference.records }
+    {
+        self.reference.records()
+    }
+
+    /// A record of a run.
+    pub fn record(&self, shot: u32, index: usize) -> bool
+        requires shot { shot < 64 }
+        requires index { index < length self.now.reference.records }
+        ensures { result ≡ slice_index_or (shot_records shot self.now) index false }
+    {
+        bit(self.records_word(index), shot)
+    }
+
+    /// A record of all runs: bit j is that of run j.
+    pub fn records_word(&self, index: usize) -> u64
+        requires { index < length self.now.reference.records }
+        ensures { (j : ℕ) → j < 64 → lane_bit j result ≡ slice_index_or (shot_records j self.now) index false }
+    {
+        let value = self.reference.records().get(index);
+        xor(self.frames.flips(index), spread(value))
+    }
+
+    /// In which runs the parity of a target differs from that in the reference run, a bit a run: detection events, and
+    /// flips of observables. Detectors are numbered first, then observables.
+    pub fn detections_word(&self, program: &Program<'_, A>, number: usize) -> u64
+        requires { number < length program.now.listing.detectors + length program.now.listing.observables }
+        ensures { (j : ℕ) → lane_bit j result ≡ slice_index_or (difference program.now.listing (shot_records j self.now) self.now.reference.records) number false }
+    {
+        self.frames.parity(program.target(number))
+    }
+}
+
+// A batch beside a program's reference run.
+fn beside<A: Allocator + Copy>(
+    alloc: A,
+    program: &Program<'_, A>,
+    reference: Reference<A>,
+) -> Result<Batch<A>, Fault>
+    requires reference { IsReferenceOf program.now.listing reference }
+    requires records { length reference.records ≡ program.now.listing.records }
+    ensures ok { IfOk result (IsBatchOf program.now.listing) }
+    ensures err { IfErr result (λ fault. fault ≡ memory_fault) }
+{
+    match start(alloc, program) {
+        Ok(frames) => Ok(Batch { reference, frames }),
+        Err(_) => Err(Fault::MEMORY),
+    }
+}
+
+// Memory for the frames of a program.
+fn start<A: Allocator + Copy>(alloc: A, program: &Program<'_, A>) -> Result<Frames<A>, AllocError>
+    ensures qubits { IfOk result (λ f. length f.letters ≡ program.now.listing.qubits) }
+    ensures room { IfOk result (λ f. f.room ≡ program.now.listing.records) }
+{
+    Frames::start(
+        alloc,
+        program.qubits() as usize,
+        program.record_count() as usize,
+    )
+}

@@ -1,0 +1,172 @@
+ghost use Rattle.std.specs.Prelude.{◌≡◌, ◌<◌, ◌≤◌, ◌+◌, ℕ, length, is_some, if◌then◌else◌, slice_index_or, slice_set, false, IfOk};
+ghost use Rattle.gate_table.specs.Images.{arity_of};
+ghost use Rattle.gate_table.specs.WordImages.{image_at, image_at_two};
+ghost use Rattle.bit_rows.specs.Lanes.{lane, lane_bit};
+ghost use Rattle.pauli_word.specs.declared.letter.Letter.TheVariants.{I};
+ghost use Rattle.pauli_word.specs.Words.{anticommute, letter_at, lone_letter, signed};
+ghost use Rattle.step_model.specs.Listing.{word_of_terms};
+ghost use Rattle.step_model.specs.Sensitivities.{multiplied};
+ghost use Rattle.step_model.specs.Targets.{parity};
+ghost use Rattle.step_model.specs.WellFormed.{TermsFit};
+ghost use Rattle.frames.specs.Batches.{AreAtStart};
+ghost use Rattle.frames.specs.LaneFrames.{GoesTo, with_record};
+ghost use Rattle.frames.specs.LaneLetters.{letter_in, word_in};
+
+use crate::letters::{Letters, clear_all};
+use crate::steps::word_at;
+use bit_rows::lanes::xor;
+use gate_table::Gate;
+use pauli_word::Letter;
+use std::alloc::{AllocError, Allocator};
+use std::marker::Model;
+use step_model::Term;
+
+/// The frames of 64 runs: their letters at each qubit, and a word of flips for each record so far.
+#[derive(Drop)]
+pub(crate) struct Frames<A: Allocator + Copy> {
+    letters: Vec<Letters, A>,
+    flips: Vec<u64, A>,
+}
+
+impl<A: Allocator + Copy> Model for Frames<A> {
+    ghost use Rattle.std.specs.Prelude.{vec_capacity};
+    ghost use Rattle.frames.specs.LaneFrames.{LaneFrames};
+
+    ghost Value = { LaneFrames };
+
+    ghost view = { λ f. record { letters = f.letters.items; flips = f.flips.items; room = vec_capacity f.flips } };
+}
+
+impl<A: Allocator + Copy> Frames<A> {
+    /// Frames of I alone, before the first record, with memory for these numbers of qubits and records.
+    pub(crate) fn start(alloc: A, qubits: usize, records: usize) -> Result<Self, AllocError>
+        ensures qubits { IfOk result (λ f. length f.letters ≡ qubits) }
+        ensures room { IfOk result (λ f. f.room ≡ records) }
+    {
+        Ok(Frames {
+            letters: Vec::from_elem(alloc, Letters::none(), qubits)?,
+            flips: Vec::with_capacity(alloc, records)?,
+        })
+    }
+
+    /// Makes them frames of I alone again, before the first record.
+    pub(crate) fn restart(&mut self)
+        ensures qubits { length self.new.letters ≡ length self.old.letters }
+        ensures room { self.new.room ≡ self.old.room }
+        ensures start { AreAtStart self.new }
+    {
+        clear_all(&mut self.letters);
+        self.flips.clear();
+    }
+
+    /// The letters at a qubit.
+    pub(crate) fn at(&self, qubit: usize) -> Letters
+        requires { qubit < length self.now.letters }
+        ensures { (j : ℕ) → letter_in j result ≡ letter_at (word_in j self.now.letters) qubit }
+    {
+        self.letters[qubit]
+    }
+
+    // Puts letters at a qubit.
+    fn put(&mut self, qubit: usize, letters: Letters)
+        requires { qubit < length self.old.letters }
+        ensures { self.new ≡ record self.old { letters = slice_set self.old.letters qubit letters } }
+    {
+        self.letters[qubit] = letters;
+    }
+
+    /// Takes the frames over a gate of one qubit.
+    pub(crate) fn move_one(&mut self, gate: Gate, qubit: usize)
+        requires arity { arity_of gate ≡ 1 }
+        requires inside { qubit < length self.old.letters }
+        ensures { GoesTo self.old self.new (λ j v. record v { word = (image_at gate qubit (signed v.word false)).letters }) }
+    {
+        let image = self.at(qubit).image(gate);
+        self.put(qubit, image);
+    }
+
+    /// Takes the frames over a gate of two qubits.
+    pub(crate) fn move_two(&mut self, gate: Gate, a: usize, b: usize)
+        requires arity { arity_of gate ≡ 2 }
+        requires first { a < length self.old.letters }
+        requires second { b < length self.old.letters }
+        ensures { GoesTo self.old self.new (λ j v. record v { word = (image_at_two gate a b (signed v.word false)).letters }) }
+    {
+        let (first, second) = Letters::images(gate, self.at(a), self.at(b));
+        self.put(a, first);
+        self.put(b, second);
+    }
+
+    /// Makes the letters at a qubit I.
+    pub(crate) fn clear(&mut self, qubit: usize)
+        requires { qubit < length self.old.letters }
+        ensures { GoesTo self.old self.new (λ j v. record v { word = slice_set v.word qubit I }) }
+    {
+        self.put(qubit, Letters::none());
+    }
+
+    /// Multiplies the frames of these runs by a letter at a qubit.
+    pub(crate) fn times(&mut self, letter: Letter, qubit: usize, runs: u64)
+        requires { qubit < length self.old.letters }
+        ensures { GoesTo self.old self.new (λ j v. record v { word = multiplied (lane_bit j runs) (lone_letter (length self.old.letters) qubit letter) v.word }) }
+    {
+        let letters = self.at(qubit).times(letter, runs);
+        self.put(qubit, letters);
+    }
+
+    /// Multiplies the frames of these runs by a product of letters at qubits.
+    pub(crate) fn times_terms(&mut self, terms: &[Term], runs: u64)
+        requires { TermsFit (length self.old.letters) terms.now }
+        ensures { GoesTo self.old self.new (λ j v. record v { word = multiplied (lane_bit j runs) (word_of_terms (length self.old.letters) terms.now) v.word }) }
+    {
+        let mut left = terms.len();
+        while left > 0 {
+            left -= 1;
+            let term = terms[left];
+            self.times(term.letter, term.qubit as usize, runs);
+        }
+    }
+
+    /// The runs whose frame anticommutes with a product of letters at qubits.
+    pub(crate) fn meet(&self, terms: &[Term]) -> u64
+        requires { TermsFit (length self.now.letters) terms.now }
+        ensures { (j : ℕ) → lane_bit j result ≡ anticommute (word_in j self.now.letters) (word_of_terms (length self.now.letters) terms.now) }
+    {
+        let mut odd = 0;
+        let mut left = terms.len();
+        while left > 0 {
+            left -= 1;
+            let term = terms[left];
+            odd = xor(self.at(term.qubit as usize).clashes(term.letter), odd);
+        }
+        odd
+    }
+
+    /// Appends the flips of a record, where there is a number for it.
+    pub(crate) fn record(&mut self, number: Option<u32>, flips: u64)
+        requires { length self.old.flips + (if is_some number then 1 else 0) ≤ self.old.room }
+        ensures { GoesTo self.old self.new (λ j v. with_record number (lane_bit j flips) v) }
+    {
+        if number.is_some() {
+            self.flips.push_reserved(flips);
+        }
+    }
+
+    /// The flips of a record: 0 where it isn't made yet.
+    pub(crate) fn flips(&self, number: usize) -> u64
+        ensures { (j : ℕ) → lane_bit j result ≡ slice_index_or (lane j self.now.flips) number false }
+    {
+        word_at(self.flips.as_slice(), number)
+    }
+
+    /// The parity of the flips of these records. One that is named twice counts twice.
+    pub(crate) fn parity(&self, named: &[u32]) -> u64
+        ensures { (j : ℕ) → lane_bit j result ≡ parity named.now (lane j self.now.flips) }
+    {
+        let mut odd = 0;
+        for index in named {
+            odd = xor(odd, self.flips(*index as usize));
+        }
+        odd
+    }
+}

@@ -1,0 +1,152 @@
+ghost use Rattle.std.specs.Prelude.{◌≡◌, ◌<◌, ◌≤◌, ◌+◌, ℕ, false, is_some, if◌then◌else◌, length, option_map, slice_index_or};
+ghost use Rattle.bit_rows.specs.Lanes.{lane, lane_bit};
+ghost use Rattle.pauli_word.specs.Parity.{exclusive_or};
+ghost use Rattle.pauli_word.specs.Words.{anticommute, lone_letter};
+ghost use Rattle.programs.specs.Listed.{listed, measured, number_of};
+ghost use Rattle.programs.specs.Named.{IsStepOf};
+ghost use Rattle.step_model.specs.Listing.{word_of_terms, step_records};
+ghost use Rattle.step_model.specs.Runs.{flip_happens};
+ghost use Rattle.step_model.specs.Sensitivities.{cleared};
+ghost use Rattle.step_model.specs.WellFormed.{TermsFit};
+ghost use Rattle.frames.specs.private.Followed.{TurnsAt, Turns, followed, terms_of, terms_or_none, turned, turned_where};
+ghost use Rattle.frames.specs.LaneFrames.{GoesTo, frame_in};
+
+use crate::frames::Frames;
+use bit_rows::lanes::xor;
+use pauli_word::Letter;
+use programs::{FaultName, Program, Step};
+use std::alloc::Allocator;
+use step_model::Term;
+
+/// Takes the frames of 64 runs over a step of a program. Lane j of `faults` says which faults happen in run j. At a
+/// collapse, `coins` has a coin for each run, and `replaced` is what the reference run keeps of the collapse.
+pub(crate) fn take_step<A: Allocator + Copy>(
+    frames: &mut Frames<A>,
+    program: &Program<'_, A>,
+    faults: &[u64],
+    replaced: Option<&[Term]>,
+    coins: u64,
+    step: Step,
+)
+    requires of_program { IsStepOf program.now step }
+    requires qubits { length frames.old.letters ≡ program.now.listing.qubits }
+    requires room { length frames.old.flips + length (step_records (listed program.now.listing.qubits program.now.products step)) ≤ frames.old.room }
+    requires turns { TurnsAt program.now.listing.qubits (terms_of replaced) (listed program.now.listing.qubits program.now.products step) }
+    ensures { GoesTo frames.old frames.new (λ j v. followed program.now.listing (lane j faults.now) (terms_of replaced.entry) (lane_bit j coins) (listed program.now.listing.qubits program.now.products step) v) }
+{
+    program.well_formed();
+    match step {
+        Step::One { gate, q } => frames.move_one(gate, q as usize),
+        Step::Two { gate, a, b } => frames.move_two(gate, a as usize, b as usize),
+        Step::Collapse {
+            letter,
+            qubit,
+            rec,
+            reset,
+            flip,
+            ..
+        } => {
+            let flips = collapse_letter(frames, replaced, coins, letter, qubit as usize, reset);
+            frames.record(rec, xor(flips, flips_of(faults, flip)));
+        }
+        Step::CollapseWord {
+            product,
+            rec,
+            flip,
+            ..
+        } => {
+            let flips = collapse_product(frames, replaced, coins, program.product(product));
+            frames.record(rec, xor(flips, flips_of(faults, flip)));
+        }
+        Step::Fault(name) => {
+            frames.times_terms(
+                program.entry_terms(name.entry),
+                word_at(faults, name.number as usize),
+            );
+        }
+        Step::Feedback { letter, q, rec } => {
+            let runs = frames.flips(rec as usize);
+            frames.times(letter, q as usize, runs);
+        }
+    }
+}
+
+// A collapse of a letter at a qubit, which is then reset where `reset`. Answers the flips.
+fn collapse_letter<A: Allocator + Copy>(
+    frames: &mut Frames<A>,
+    replaced: Option<&[Term]>,
+    coins: u64,
+    letter: Letter,
+    qubit: usize,
+    reset: bool,
+) -> u64
+    requires inside { qubit < length frames.old.letters }
+    requires turns { Turns (length frames.old.letters) (terms_of replaced) (lone_letter (length frames.old.letters) qubit letter) }
+    ensures moved { let n = length frames.old.letters in
+        GoesTo frames.old frames.new (λ j v. record v { word = cleared (measured n reset letter qubit) (turned n (terms_of replaced.entry) (lane_bit j coins) (lone_letter n qubit letter) v).word }) }
+    ensures flips { let n = length frames.old.letters in
+        (j : ℕ) → lane_bit j result ≡ anticommute (turned n (terms_of replaced.entry) (lane_bit j coins) (lone_letter n qubit letter) (frame_in j frames.old)).word (lone_letter n qubit letter) }
+{
+    let met = frames.at(qubit).clashes(letter);
+    let flips = turn(frames, replaced, coins, met);
+    if reset {
+        frames.clear(qubit);
+    }
+    flips
+}
+
+// A collapse of a product of letters at qubits. Answers the flips.
+fn collapse_product<A: Allocator + Copy>(
+    frames: &mut Frames<A>,
+    replaced: Option<&[Term]>,
+    coins: u64,
+    terms: &[Term],
+) -> u64
+    requires inside { TermsFit (length frames.old.letters) terms.now }
+    requires turns { Turns (length frames.old.letters) (terms_of replaced) (word_of_terms (length frames.old.letters) terms.now) }
+    ensures moved { let n = length frames.old.letters in
+        GoesTo frames.old frames.new (λ j v. turned n (terms_of replaced.entry) (lane_bit j coins) (word_of_terms n terms.now) v) }
+    ensures flips { let n = length frames.old.letters in
+        (j : ℕ) → lane_bit j result ≡ anticommute (turned n (terms_of replaced.entry) (lane_bit j coins) (word_of_terms n terms.now) (frame_in j frames.old)).word (word_of_terms n terms.now) }
+{
+    let met = frames.meet(terms);
+    turn(frames, replaced, coins, met)
+}
+
+// Where the reference run's outcome was random, multiplies by the word that was replaced the frames of the runs whose
+// coin differs from their flip, so that the flips become the coins. Answers the flips.
+fn turn<A: Allocator + Copy>(
+    frames: &mut Frames<A>,
+    replaced: Option<&[Term]>,
+    coins: u64,
+    met: u64,
+) -> u64
+    requires { TermsFit (length frames.old.letters) (terms_or_none (terms_of replaced)) }
+    ensures moved { GoesTo frames.old frames.new (λ j v. turned_where (length frames.old.letters) (terms_of replaced.entry) (exclusive_or (lane_bit j coins) (lane_bit j met)) v) }
+    ensures flips { (j : ℕ) → lane_bit j result ≡ (if is_some (terms_of replaced.entry) then lane_bit j coins else lane_bit j met) }
+{
+    match replaced {
+        Some(terms) => {
+            frames.times_terms(terms, xor(coins, met));
+            coins
+        }
+        None => met,
+    }
+}
+
+// The runs in which the fault that flips a record happens, if there is such a fault.
+fn flips_of(faults: &[u64], flip: Option<FaultName>) -> u64
+    ensures { (j : ℕ) → lane_bit j result ≡ flip_happens (lane j faults.now) (option_map number_of flip) }
+{
+    match flip {
+        Some(name) => word_at(faults, name.number as usize),
+        None => 0,
+    }
+}
+
+/// The word at an index, 0 past the end.
+pub(crate) fn word_at(words: &[u64], index: usize) -> u64
+    ensures { (j : ℕ) → lane_bit j result ≡ slice_index_or (lane j words.now) index false }
+{
+    if index < words.len() { words[index] } else { 0 }
+}
