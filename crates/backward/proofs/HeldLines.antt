@@ -5,9 +5,9 @@ use Rattle.std.specs.List.{flat_map}
 use Rattle.std.proofs.lemmas.List.{reverse-reverse, reverse-append}
 use Rattle.step_model.specs.ErrorModels.{ErrorLine}
 use Rattle.step_model.specs.Listing.{Listing}
-use Rattle.dem_text.specs.ErrorLines.{text_at}
-use Rattle.dem_text.specs.HeldText.{Held, HoldsLines}
-use Rattle.dem_text.specs.ModelText.{line_text}
+use Rattle.error_models.specs.ErrorLines.{text_at}
+use Rattle.error_models.specs.HeldText.{Held, HoldsLines}
+use Rattle.error_models.specs.ModelText.{line_text}
 use Rattle.backward.specs.private.Stretches.{Gives, lines_at, lines_between, text_between}
 use Rattle.backward.proofs.PassLines.{lines_back-more}
 

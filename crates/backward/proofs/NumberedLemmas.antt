@@ -8,8 +8,8 @@ use Rattle.std.proofs.Math.Seq.{get_or-append_seam}
 use Rattle.programs.specs.Kept.{KeptProgram, kept_at}
 use Rattle.programs.specs.declared.entries.ChanceTable.{ChanceTable}
 use Rattle.chances.specs.declared.table.ChanceText.{ChanceText}
-use Rattle.dem_text.specs.ErrorLines.{text_at, KeepsTexts}
-use Rattle.dem_text.specs.HeldText.{Held}
+use Rattle.error_models.specs.ErrorLines.{text_at, KeepsTexts}
+use Rattle.error_models.specs.HeldText.{Held}
 use Rattle.backward.specs.private.Numbered.{AreNumbers, IsTextFor}
 
 abbrev Names : List ChanceText → List (List ℕ) → ChanceText → ℕ → ℕ → Type 0

@@ -9,7 +9,7 @@ use Rattle.programs.specs.Kept.{KeptProgram}
 use Rattle.step_model.specs.Ends.{Takes, TakesSome}
 use Rattle.step_model.specs.HitModels.{model_of}
 use Rattle.step_model.specs.WellFormed.{IsWellFormed}
-use Rattle.dem_text.specs.ModelText.{detectors_text, line_text, lines_text, model_text, observables_text}
+use Rattle.error_models.specs.ModelText.{detectors_text, line_text, lines_text, model_text, observables_text}
 use Rattle.streams.specs.Held.{Held}
 use Rattle.streams.specs.Pushed.{IsPushed, Outlet, Pushes}
 use Rattle.streams.proofs.Pushing.{Pushes-trans}

@@ -13,7 +13,7 @@ use crate::pass::step_back;
 use crate::places::random_target;
 use crate::point::Point;
 use crate::tracker::Tracker;
-use dem_text::Model;
+use error_models::Model;
 use flat_lists::FlatLists;
 use programs::{Program, Walk};
 use std::alloc::{AllocError, Allocator};

@@ -5,7 +5,7 @@ ghost use Rattle.programs.specs.Kept.{KeptProgram, kept_at};
 ghost use Rattle.step_model.specs.Targets.{targets_of};
 ghost use Rattle.backward.specs.private.Stretches.{Gives};
 
-use dem_text::Model;
+use error_models::Model;
 use programs::Program;
 use std::alloc::{AllocError, Allocator};
 

@@ -1,7 +1,7 @@
 //! The text of a stretch of a program's steps, whose memory doesn't grow with the text.
 ghost use Rattle.std.specs.Prelude.{◌≡◌, ◌<◌, ◌≤◌, ◌++◌, [], ℕ, List, reverse, true, IfOk, OnOk, OnErr};
 ghost use Rattle.step_model.specs.ErrorModels.{ErrorLine};
-ghost use Rattle.dem_text.specs.HeldText.{HoldsLines};
+ghost use Rattle.error_models.specs.HeldText.{HoldsLines};
 ghost use Rattle.streams.specs.Pushed.{Pushes};
 ghost use Rattle.backward.specs.private.Passes.{IsPassed, Stays};
 ghost use Rattle.backward.specs.private.Stretches.{lines_between, text_between};
@@ -13,7 +13,7 @@ use crate::point::Point;
 use crate::points::leave_points;
 use crate::text_store::TextStore;
 use crate::tracker::Tracker;
-use dem_text::HeldText;
+use error_models::HeldText;
 use programs::Program;
 use std::alloc::{AllocError, Allocator};
 use step_model::Sink;

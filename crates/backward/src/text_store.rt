@@ -1,12 +1,12 @@
 //! The text of error lines that a pass finds, up to a limit.
 ghost use Rattle.std.specs.Prelude.{◌≡◌, [], length, IfOk, OnOk};
 ghost use Rattle.backward.specs.private.Numbered.{AreNumbers, IsTextFor};
-ghost use Rattle.dem_text.specs.HeldText.{HoldsLines};
+ghost use Rattle.error_models.specs.HeldText.{HoldsLines};
 
 use crate::line_store::LineStore;
 use crate::targets::target_count;
 use chances::ChanceText;
-use dem_text::{HeldText, LinesText};
+use error_models::{HeldText, LinesText};
 use programs::{ChanceTable, Program};
 use std::alloc::{AllocError, Allocator};
 

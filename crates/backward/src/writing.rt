@@ -1,6 +1,6 @@
 //! The text of a program's error model, written to a sink.
 ghost use Rattle.std.specs.Prelude.{◌≡◌, ◌⊎◌, ◌++◌, [], false, length, IfOk, IfErr, IfNone, IfSome, OnErr};
-ghost use Rattle.dem_text.specs.ModelText.{detectors_text, model_text, observables_text};
+ghost use Rattle.error_models.specs.ModelText.{detectors_text, model_text, observables_text};
 ghost use Rattle.streams.specs.Pushed.{Pushes};
 ghost use Rattle.step_model.specs.Ends.{Takes, TakesSome, write_failures};
 ghost use Rattle.step_model.specs.Faults.{memory_fault, write_fault};
@@ -17,7 +17,7 @@ use crate::point::Point;
 use crate::stretch::{cut, write_parts};
 use crate::text_store::TextStore;
 use crate::tracker::Tracker;
-use dem_text::{push_detector, push_observable};
+use error_models::{push_detector, push_observable};
 use programs::{Program, Walk};
 use std::alloc::{AllocError, Allocator};
 use step_model::{Cause, Fault, Place, Sink};

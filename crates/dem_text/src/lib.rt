@@ -1,21 +1,39 @@
-//! Error models, with a line for each fault that flips some detector or observable; and their text.
+//! Error models as texts: the model that a text writes, or why the text is refused, and the symptom of its lines. Its lines
+//! are judged one by one, then the blocks that they make are gone over. Models themselves and what writes them come from
+//! `error_models`.
 #![tactic(auto)]
 
-mod held_text;
-mod line_runs;
+mod build;
+mod checks;
+mod counts;
+mod entries;
+mod error_head;
+mod error_targets;
+mod flips;
+mod forms;
+mod judging;
+mod kept_lines;
+pub mod laws;
+mod line_reader;
 mod line_text;
-mod lines;
-mod lines_text;
-mod model;
+mod marks;
+mod model_judge;
+pub mod model_laws;
 mod names;
-mod short_detectors;
-mod short_lines;
-mod text;
-mod text_block;
-mod text_blocks;
-mod texts;
+mod operation;
+mod placed_line;
+mod placed_model;
+mod reader;
+mod reading;
+mod shifts;
+mod sums;
+mod table;
+mod table_line;
+mod target;
+mod unrolled;
+mod walk;
 
-pub use held_text::HeldText;
-pub use lines_text::LinesText;
-pub use model::Model;
-pub use text::{push_detector, push_observable, write, write_behind};
+pub use error_models::{Model, write};
+pub use placed_model::PlacedModel;
+pub use reader::{place, read};
+pub use sums::symptom;

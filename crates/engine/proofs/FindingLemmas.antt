@@ -5,8 +5,8 @@ use Rattle.std.proofs.Common.{◌≡◌, ℕ, refl, ap, sym, ◌∙◌}
 use Rattle.std.specs.Prelude.{None, Ok, List}
 use Rattle.std.proofs.lemmas.Option.{none-some}
 use Rattle.backward.specs.Places.{NoneIsRandom, IsLowestRandom}
-use Rattle.dem_text.specs.ModelText.{model_text}
-use Rattle.dem_parser.proofs.ProgramLemmas.{hits_read_back}
+use Rattle.error_models.specs.ModelText.{model_text}
+use Rattle.dem_text.proofs.ProgramLemmas.{hits_read_back}
 use Rattle.unroll.specs.Programs.{program_in}
 use Rattle.step_model.specs.ErrorModels.{ErrorModel}
 use Rattle.run_laws.proofs.Exactness.{model_fits, model_is_exact}

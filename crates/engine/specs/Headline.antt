@@ -11,8 +11,8 @@ use Rattle.std.specs.Prelude.{◌≡◌, ◌≢◌, ◌↔◌, ◌<◌, ◌∷�
 use Rattle.step_model.specs.ErrorModels.{ErrorModel, Fits, IsExact}
 use Rattle.step_model.specs.Listing.{Listing}
 use Rattle.step_model.specs.Targets.{targets_of, noiseless_parity, AreCoins, IsRandom}
-use Rattle.dem_text.specs.ModelText.{model_text, target_text}
-use Rattle.dem_parser.specs.Models.{model_in}
+use Rattle.error_models.specs.ModelText.{model_text, target_text}
+use Rattle.dem_text.specs.Models.{model_in}
 use Rattle.unroll.specs.Programs.{program_in}
 use Rattle.sampling.specs.Lines.{line_of}
 use Rattle.engine.specs.declared.order.Status.{Status}

@@ -21,9 +21,9 @@ use Rattle.step_model.specs.HitModels.{model_of}
 use Rattle.step_model.specs.Listing.{Listing}
 use Rattle.step_model.specs.Runs.{records_of}
 use Rattle.step_model.specs.Targets.{difference}
-use Rattle.dem_text.specs.ModelText.{model_text, target_text}
-use Rattle.dem_parser.specs.Models.{model_in}
-use Rattle.dem_parser.specs.Sums.{symptom_of}
+use Rattle.error_models.specs.ModelText.{model_text, target_text}
+use Rattle.dem_text.specs.Models.{model_in}
+use Rattle.dem_text.specs.Sums.{symptom_of}
 use Rattle.fault_list.specs.FaultLines.{list_text}
 use Rattle.sampling.specs.Lines.{line_of}
 use Rattle.sampling.specs.Sampled.{detection_line, record_line, shots_text}

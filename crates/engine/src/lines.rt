@@ -1,6 +1,6 @@
 //! The lines of runs, of random targets, of predictions and of refusals. Each text is built in one block of memory.
 ghost use Rattle.std.specs.Prelude.{◌≡◌, ◌++◌, ◌<◌, ◌∷◌, ◌+◌, codes, length, IfOk, OnOk};
-ghost use Rattle.dem_text.specs.ModelText.{target_text};
+ghost use Rattle.error_models.specs.ModelText.{target_text};
 ghost use Rattle.sampling.specs.Lines.{digit_of, line_of};
 ghost use Rattle.engine.specs.Output.{refusal_line};
 

@@ -7,7 +7,7 @@ ghost use Rattle.engine.specs.Output.{done, model_prediction, prediction_output,
 use crate::lines::symptom_line;
 use crate::order::Status;
 use crate::refusing::refuse;
-use dem_parser::{PlacedModel, place};
+use dem_text::{PlacedModel, place};
 use forward_sim::read_numbers;
 use std::alloc::Allocator;
 use step_model::{Fault, Sink, write_all};

@@ -8,3 +8,10 @@ pub mod SameStates
 pub mod RunRecords
 pub mod TermWords
 pub mod WordsSaid
+pub mod RunLemmas
+pub mod WordLemmas
+pub mod HalfLemmas
+pub mod BoundLemmas
+pub mod LaneLemmas
+pub mod PairLemmas
+pub mod SideLemmas

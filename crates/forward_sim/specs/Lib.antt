@@ -1,3 +1,5 @@
 pub mod Lists
 pub mod References
 pub mod private
+pub mod Drawn
+pub mod Shots

@@ -1,18 +1,26 @@
 //! Runs of a program, forward: its records under given faults and coins, and the detection events in them; and a
-//! program's reference run, for batches of frames beside it. Also the lists of coins and of fault numbers that a user gives.
+//! program's reference run, for batches of frames beside it. Also faults and coins themselves: shots that are drawn, and the
+//! lists of coins and of fault numbers that a user gives.
 #![tactic(auto)]
 
+mod copies;
 mod difference;
+mod draw;
 mod following;
 mod forward;
 mod keeping;
 mod kept_words;
+mod lane_draws;
 mod letters;
 mod lists;
 mod machine;
+mod pair_draws;
 mod products;
 mod records;
 mod reference;
+mod runs;
+mod shots;
+mod side_draws;
 mod steps;
 mod terms;
 mod values;
@@ -21,7 +29,9 @@ mod word_table;
 mod words;
 
 pub use difference::detections;
+pub use draw::draw;
 pub use forward::run;
 pub use lists::{read_coins, read_numbers};
 pub use records::Records;
 pub use reference::Reference;
+pub use shots::Shots;

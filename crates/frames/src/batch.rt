@@ -52,6 +52,22 @@ impl<A: Allocator + Copy> Batch<A> {
         beside(alloc, program, reference)
     }
 
+    /// Follows 64 runs once: what `new` and then `follow` leave.
+    pub fn run(
+        alloc: A,
+        program: &Program<'_, A>,
+        faults: &[u64],
+        coins: &[u64],
+    ) -> Result<Self, Fault>
+        ensures runs { IfOk result (AreRuns program.now.listing faults.now coins.now) }
+        ensures batch { IfOk result (IsBatchOf program.now.listing) }
+        ensures err { IfErr result (λ fault. fault ≡ memory_fault) }
+    {
+        let mut batch = Batch::new(alloc, program)?;
+        batch.follow(program, faults, coins);
+        Ok(batch)
+    }
+
     /// Follows 64 runs from the start. `faults` has a word for each fault, which says in which runs it happens, and
     /// `coins` a word for each collapse. A missing word counts as 0. Allocates nothing.
     pub fn follow(&mut self, program: &Program<'_, A>, faults: &[u64], coins: &[u64])

@@ -3,10 +3,3 @@ pub mod LineLemmas
 pub mod PushLemmas
 pub mod ShownLemmas
 pub mod TextLemmas
-pub mod WordLemmas
-pub mod BoundLemmas
-pub mod LaneLemmas
-pub mod HalfLemmas
-pub mod PairLemmas
-pub mod RunLemmas
-pub mod SideLemmas

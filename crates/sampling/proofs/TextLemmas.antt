@@ -7,9 +7,9 @@ use Rattle.std.proofs.lemmas.List.{length-map}
 use Rattle.rand_pcg.specs.Lcg.{Lcg}
 use Rattle.step_model.specs.Listing.{Listing, ListedFault}
 use Rattle.bit_rows.specs.Lanes.{lane}
-use Rattle.sampling.specs.Drawn.{after_words, bounds_of, drawn_coins, drawn_faults, after_shots}
-use Rattle.sampling.specs.Shots.{AreDrawn}
-use Rattle.sampling.proofs.WordLemmas.{after_words-add}
+use Rattle.forward_sim.specs.Drawn.{after_words, bounds_of, drawn_coins, drawn_faults, after_shots}
+use Rattle.forward_sim.specs.Shots.{AreDrawn}
+use Rattle.forward_sim.proofs.WordLemmas.{after_words-add}
 use Rattle.sampling.specs.private.LaneLines.{lane_line, lane_lines}
 use Rattle.sampling.specs.Lines.{line_of}
 use Rattle.sampling.specs.Sampled.{lines_from, shot_generator}

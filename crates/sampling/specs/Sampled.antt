@@ -13,7 +13,7 @@ use Rattle.step_model.specs.Frames.{zero_coins}
 use Rattle.step_model.specs.Listing.{Listing}
 use Rattle.step_model.specs.Runs.{records_of}
 use Rattle.step_model.specs.Targets.{difference}
-use Rattle.sampling.specs.Drawn.{after_words, bounds_of, drawn_coins, drawn_faults, after_shots}
+use Rattle.forward_sim.specs.Drawn.{after_words, bounds_of, drawn_coins, drawn_faults, after_shots}
 use Rattle.sampling.specs.Lines.{line_of}
 
 -- the faults and coins of the shot that a generator's next words draw

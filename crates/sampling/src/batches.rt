@@ -3,13 +3,13 @@ ghost use Rattle.std.specs.Prelude.{◌≡◌, ◌+◌, ◌<◌, ◌≤◌, leng
 ghost use Rattle.streams.specs.Pushed.{Pushes};
 ghost use Rattle.step_model.specs.Ends.{Takes, TakesBeginning, write_failures};
 ghost use Rattle.step_model.specs.Faults.{write_fault};
-ghost use Rattle.sampling.specs.Drawn.{bounds_of};
+ghost use Rattle.forward_sim.specs.Drawn.{bounds_of};
 ghost use Rattle.sampling.specs.Sampled.{lines_from, shot_generator, shots_text};
 ghost use Rattle.sampling.specs.Shown.{shown_line};
 
 use crate::lines::push_lines;
-use crate::shots::Shots;
 use crate::side_runs::SideRuns;
+use forward_sim::Shots;
 use rand_core::SeedableRng;
 use rand_pcg::Pcg64;
 use std::alloc::Allocator;

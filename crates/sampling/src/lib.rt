@@ -5,21 +5,12 @@
 #![tactic(auto)]
 
 mod batches;
-mod copies;
 mod detection_runs;
-mod lane_draws;
 mod lines;
 mod orders;
-mod pair_draws;
 mod record_runs;
-mod runs;
-mod shot;
-mod shots;
-mod side_draws;
 mod side_runs;
 
 pub use batches::write_shots;
 pub use orders::{detect, sample};
-pub use shot::Shot;
-pub use shots::Shots;
 pub use side_runs::SideRuns;

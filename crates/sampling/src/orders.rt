@@ -7,8 +7,8 @@ ghost use Rattle.sampling.specs.Sampled.{detection_line, record_line, shots_text
 use crate::batches::write_shots;
 use crate::detection_runs::DetectionRuns;
 use crate::record_runs::RecordRuns;
-use crate::shots::Shots;
 use crate::side_runs::SideRuns;
+use forward_sim::Shots;
 use programs::Program;
 use std::alloc::Allocator;
 use step_model::{Fault, Sink};

@@ -23,4 +23,5 @@ mod totals;
 mod writing;
 
 pub use assembly::unroll;
+pub use programs::{Program, Walk};
 pub use reading::read_program;

@@ -6,8 +6,8 @@ use Rattle.chances.specs.declared.table.ChanceText.{ChanceText}
 use Rattle.programs.specs.Entries.{TellsChances}
 use Rattle.programs.specs.Kept.{KeptProgram}
 use Rattle.step_model.specs.Targets.{targets_of}
-use Rattle.dem_text.specs.ErrorLines.{text_at}
-use Rattle.dem_text.specs.HeldText.{Held}
+use Rattle.error_models.specs.ErrorLines.{text_at}
+use Rattle.error_models.specs.HeldText.{Held}
 
 -- these are the numbers of the texts of the first parts
 abbrev pub AreNumbers : List ChanceText → List (List ℕ) → List ℕ → Type 0

@@ -9,7 +9,7 @@ use Rattle.step_model.specs.Targets.{targets_of}
 use Rattle.step_model.specs.WellFormed.{step_faults}
 use Rattle.programs.specs.Kept.{KeptProgram, kept_at}
 use Rattle.programs.specs.declared.step.FaultName.{FaultName}
-use Rattle.dem_text.specs.ModelText.{line_text}
+use Rattle.error_models.specs.ModelText.{line_text}
 use Rattle.backward.specs.private.Passes.{sensitivity_before}
 
 -- the error line of a fault that flips these targets; none where there are none

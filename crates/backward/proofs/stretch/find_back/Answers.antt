@@ -2,7 +2,7 @@ use Rattle.std.proofs.Common.{◌≡◌, ◌<◌, ◌+◌, ◌++◌, List, refl,
 use Rattle.std.specs.Prelude.{reverse}
 use Rattle.std.proofs.lemmas.List.{append-nil}
 use Rattle.step_model.specs.ErrorModels.{ErrorLine}
-use Rattle.dem_text.specs.HeldText.{HoldsLines}
+use Rattle.error_models.specs.HeldText.{HoldsLines}
 use Rattle.backward.proofs.HeldLines.{lines_more}
 use Rattle.backward.proofs.PassLines.{lines_between-none}
 use Rattle.backward.proofs.PointLemmas.{stays_on}

@@ -1,7 +1,7 @@
 use Rattle.std.proofs.Common.{◌≡◌, ◌≤◌, ◌++◌, List}
 use Rattle.std.specs.Prelude.{reverse}
 use Rattle.step_model.specs.ErrorModels.{ErrorLine}
-use Rattle.dem_text.specs.HeldText.{HoldsLines}
+use Rattle.error_models.specs.HeldText.{HoldsLines}
 use Rattle.backward.specs.private.Passes.{IsPassed, Stays}
 use Rattle.backward.specs.private.Stretches.{lines_between}
 use Rattle.backward.proofs.stretch.find_back.Given as goal

@@ -1,6 +1,6 @@
 use Rattle.std.proofs.Common.{◌≤◌, ◌++◌, inr, refl, ap, subst, sym, ◌∙◌, arith, length}
 use Rattle.step_model.specs.HitModels.{model_of}
-use Rattle.dem_text.specs.ModelText.{detectors_text, observables_text}
+use Rattle.error_models.specs.ModelText.{detectors_text, observables_text}
 use Rattle.streams.proofs.Pushing.{Pushes-nil, Pushes-trans}
 use Rattle.std.specs.Prelude.{IfNone}
 use Rattle.backward.specs.Places.{NoneIsRandom}

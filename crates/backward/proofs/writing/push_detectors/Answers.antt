@@ -1,5 +1,5 @@
 use Rattle.std.proofs.Common.{[], get_or, ◌∙◌}
-use Rattle.dem_text.specs.ModelText.{detector_text}
+use Rattle.error_models.specs.ModelText.{detector_text}
 use Rattle.streams.proofs.Items.{Pushes-number}
 use Rattle.backward.proofs.writing.push_detectors.Goals as goal
 

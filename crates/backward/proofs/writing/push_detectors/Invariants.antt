@@ -1,7 +1,7 @@
 use Rattle.streams.specs.Pushed.{Pushes}
 use Rattle.std.proofs.Common.{[], get_or}
 use Rattle.std.specs.List.{flat_map, range_with_len}
-use Rattle.dem_text.specs.ModelText.{detector_text}
+use Rattle.error_models.specs.ModelText.{detector_text}
 use Rattle.backward.proofs.writing.push_detectors.Given as goal
 
 abbrev pub invariant-loop-detector : goal.invariant-loop-detector

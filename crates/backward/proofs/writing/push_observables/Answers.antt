@@ -1,4 +1,4 @@
-use Rattle.dem_text.specs.ModelText.{observable_text}
+use Rattle.error_models.specs.ModelText.{observable_text}
 use Rattle.streams.proofs.Items.{Pushes-number}
 use Rattle.backward.proofs.writing.push_observables.Goals as goal
 

@@ -1,6 +1,6 @@
 use Rattle.streams.specs.Pushed.{Pushes}
 use Rattle.std.specs.List.{flat_map, range_with_len}
-use Rattle.dem_text.specs.ModelText.{observable_text}
+use Rattle.error_models.specs.ModelText.{observable_text}
 use Rattle.backward.proofs.writing.push_observables.Given as goal
 
 abbrev pub invariant-loop-observable : goal.invariant-loop-observable

@@ -3,7 +3,7 @@ use Rattle.std.specs.Prelude.{◌⊎◌, IfNone}
 use Rattle.step_model.specs.Ends.{TakesSome}
 use Rattle.step_model.specs.HitModels.{model_of}
 use Rattle.step_model.proofs.EndsLemmas.{TakesSome-beginning}
-use Rattle.dem_text.specs.ModelText.{model_text}
+use Rattle.error_models.specs.ModelText.{model_text}
 use Rattle.streams.specs.Pushed.{Pushes}
 use Rattle.streams.proofs.Finishing.{beginning-finished}
 use Rattle.backward.specs.Places.{NoneIsRandom}

@@ -1,8 +1,5 @@
 //! Analyses as the table has them, by both trackers, and the coin pairs of its random targets.
 
-use super::are_digits;
-use super::runs::differences;
-use super::table::text_of;
 use backward::{Analysed, Words, analyse};
 use frames::coin_pair;
 use plain_runs::place_of;
@@ -10,6 +7,9 @@ use programs::Program;
 use std::alloc::{AllocError, Global};
 use std::test::Fail;
 use step_model::{Fault, MemorySink, Place};
+use super::are_digits;
+use super::runs::differences;
+use super::table::text_of;
 
 /// Whether each tracker gives this answer.
 pub(super) fn answers_hold(
@@ -102,7 +102,7 @@ fn writes_model(
 ) -> Result<bool, Fault> {
     match analysed {
         Analysed::Model(model) => {
-            dem_text::write(model, sink)?;
+            error_models::write(model, sink)?;
             Ok(true)
         }
         Analysed::Random { .. } => Ok(false),

@@ -9,8 +9,8 @@ use rand_pcg::Pcg64;
 use sampling::Shots;
 use std::alloc::Global;
 use std::test::Fail;
-use super::table::text_of;
 use unroll::read_program;
+use super::table::text_of;
 
 /// How many bytes the words may take: none, enough for some collapses, and enough for all.
 const ROOMS: &[usize] = &[0, 60, 10_000];

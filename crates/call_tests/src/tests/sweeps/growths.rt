@@ -1,14 +1,14 @@
 //! A call of which one growth is refused: the first, the second and so on, until none is. A refused call answers want of memory
 //! and gives back what it took.
 use programs::Program;
-use test_support::Scarce;
 use std::alloc::{AllocError, Global};
 use std::fmt::Debug;
 use std::process::Abort;
 use std::test::Fail;
 use step_model::{Cause, Fault};
-use super::lent::{CIRCUIT, MODEL, Lent};
+use test_support::Scarce;
 use unroll::read_program;
+use super::lent::{CIRCUIT, MODEL, Lent};
 
 /// No call takes so many growths.
 const MOST: u64 = 10_000;
@@ -144,7 +144,7 @@ fn sweep_with_model<'m, C: Call>(
     calls: &[C],
     some: bool,
 ) -> Result<(), Fault> {
-    let model = dem_parser::read(memory, MODEL.as_bytes())?;
+    let model = dem_text::read(memory, MODEL.as_bytes())?;
     let lent = Lent {
         program,
         model: &model,

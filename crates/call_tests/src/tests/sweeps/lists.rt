@@ -2,17 +2,17 @@
 //! which one is put nothing is said then, so that only their memory is looked at.
 ghost use Rattle.std.specs.Prelude.{◌≡◌, ◌<◌, ◌≤◌, [], length, IfOk, OnOk};
 
-use super::growths::{Call, Memory, Ration, told};
-use super::lent::Lent;
 use chances::{ChanceText, number_of};
-use dem_text::{LinesText, Model, write_behind};
+use error_models::{LinesText, Model, write_behind};
 use flat_lists::FlatLists;
 use gate_table::Gate;
 use pauli_word::Letter;
 use programs::{CircuitBuilder, Entries, EntryBuilder, TextStep};
-use test_support::SlowSource;
 use std::alloc::{AllocError, Global};
 use step_model::{Fault, MemorySink, Term, read_all};
+use test_support::SlowSource;
+use super::growths::{Call, Memory, Ration, told};
+use super::lent::Lent;
 
 #[derive(Clone, Copy, Debug)]
 pub(super) enum Growing {

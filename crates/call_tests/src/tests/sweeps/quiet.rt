@@ -1,9 +1,9 @@
 //! Calls that promise to take no memory.
+use forward_sim::Shots;
 use frames::Batch;
 use programs::Program;
 use rand_core::SeedableRng;
 use rand_pcg::Pcg64;
-use sampling::{Shot, Shots};
 use step_model::{Fault, MemorySink};
 use super::growths::{Call, Memory, Ration};
 use super::lent::Lent;
@@ -11,16 +11,14 @@ use super::lent::Lent;
 #[derive(Clone, Copy, Debug)]
 pub(super) enum Quiet {
     Draw,
-    DrawSideBySide,
     Follow,
     FollowAlong,
     WriteModel,
     WriteFaults,
 }
 
-pub(super) const QUIET: [Quiet; 6] = [
+pub(super) const QUIET: [Quiet; 5] = [
     Quiet::Draw,
-    Quiet::DrawSideBySide,
     Quiet::Follow,
     Quiet::FollowAlong,
     Quiet::WriteModel,
@@ -30,8 +28,7 @@ pub(super) const QUIET: [Quiet; 6] = [
 impl Call for Quiet {
     fn is_right<'m>(self, ration: Ration<'m>, lent: &Lent<'_, 'm>) -> Result<bool, Fault> {
         match self {
-            Quiet::Draw => draw_is_right(ration, lent.program),
-            Quiet::DrawSideBySide => draws_are_right(ration, lent.program),
+            Quiet::Draw => draws_are_right(ration, lent.program),
             Quiet::Follow => runs_are_right(ration, lent.program, 1000),
             Quiet::FollowAlong => runs_are_right(ration, lent.program, 0),
             Quiet::WriteModel => model_is_right(ration, lent),
@@ -41,14 +38,6 @@ impl Call for Quiet {
 }
 
 /// The third fault has probability 1, and the fourth 0.
-fn draw_is_right<'m>(ration: Ration<'m>, program: &Program<'_, Memory<'m>>) -> Result<bool, Fault> {
-    let mut shot = Shot::new(ration.memory, program)?;
-    let mut rng = Pcg64::seed_from_u64(1);
-    let _memory = ration.begin();
-    shot.draw(&mut rng);
-    Ok(shot.faults().get(2..4) == Some([true, false].as_slice()))
-}
-
 fn draws_are_right<'m>(
     ration: Ration<'m>,
     program: &Program<'_, Memory<'m>>,
@@ -76,7 +65,7 @@ fn runs_are_right<'m>(
 fn model_is_right<'m>(ration: Ration<'m>, lent: &Lent<'_, 'm>) -> Result<bool, Fault> {
     let mut sink = MemorySink::new(ration.alloc);
     let _memory = ration.begin();
-    dem_text::write(lent.model, &mut sink)?;
+    error_models::write(lent.model, &mut sink)?;
     Ok(
         sink.bytes()
             .starts_with(b"error(0.1) D0 L0\nerror(0.2) D1 D2\n"),

@@ -1,10 +1,13 @@
 //! Runs of a program, and shots.
 ghost use Rattle.std.specs.Prelude.{◌≡◌, length};
 
-use forward_sim::{Records, Reference, detections, run};
+use forward_sim::{Records, Reference, Shots, detections, draw, run};
 use frames::Batch;
 use programs::Program;
-use sampling::{Shot, Shots, detect, sample};
+use rand_core::SeedableRng;
+use rand_core::utils::NextWord;
+use rand_pcg::Pcg64;
+use sampling::{detect, sample};
 use step_model::{Fault, MemorySink};
 use super::growths::{Call, Memory, Ration};
 use super::lent::{Lent, are_false};
@@ -16,7 +19,7 @@ pub(super) enum Running {
     Reference,
     Batch,
     BatchAlong,
-    Shot,
+    Draw,
     Shots,
     Sample,
     Detect,
@@ -28,7 +31,7 @@ pub(super) const RUNNING: [Running; 9] = [
     Running::Reference,
     Running::Batch,
     Running::BatchAlong,
-    Running::Shot,
+    Running::Draw,
     Running::Shots,
     Running::Sample,
     Running::Detect,
@@ -43,7 +46,7 @@ impl Call for Running {
             Running::Reference => reference_is_right(ration.begin(), program),
             Running::Batch => batch_is_right(ration.begin(), program, 1000),
             Running::BatchAlong => batch_is_right(ration.begin(), program, 60),
-            Running::Shot => shot_is_right(ration.begin(), program),
+            Running::Draw => draw_is_right(ration.begin(), program),
             Running::Shots => shots_are_right(ration.begin(), program),
             Running::Sample => lines_are_right(ration, program, true),
             Running::Detect => lines_are_right(ration, program, false),
@@ -102,9 +105,20 @@ fn batch_is_right<'m>(
     Ok(are_records(batch.reference()))
 }
 
-fn shot_is_right<'m>(memory: Memory<'m>, program: &Program<'_, Memory<'m>>) -> Result<bool, Fault> {
-    let shot = Shot::new(memory, program)?;
-    Ok(are_false(shot.faults(), 10) && are_false(shot.coins(), 11))
+/// The third fault has probability 1, and the fourth 0. Where memory is wanted no word is taken.
+fn draw_is_right<'m>(memory: Memory<'m>, program: &Program<'_, Memory<'m>>) -> Result<bool, Fault> {
+    let mut rng = Pcg64::seed_from_u64(1);
+    match draw(memory, program, &mut rng) {
+        Ok((faults, coins)) => Ok(
+            faults.as_slice().get(2..4) == Some([true, false].as_slice()) && faults.len() == 10
+                && coins.len() == 11,
+        ),
+        Err(fault) => Err(if rng.next_word() == Pcg64::seed_from_u64(1).next_word() {
+            fault
+        } else {
+            Fault::WRITE
+        }),
+    }
 }
 
 fn shots_are_right<'m>(

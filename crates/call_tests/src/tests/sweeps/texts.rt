@@ -1,12 +1,12 @@
 //! Readers of texts and of what is given beside them.
-use super::growths::{Call, Memory, Ration};
-use super::lent::{CIRCUIT, Lent, MODEL, are_false};
-use dem_parser::PlacedModel;
-use dem_text::Model;
+use dem_text::PlacedModel;
+use error_models::Model;
 use forward_sim::{read_coins, read_numbers};
 use programs::Program;
 use step_model::Fault;
 use unroll::read_program;
+use super::growths::{Call, Memory, Ration};
+use super::lent::{CIRCUIT, MODEL, Lent, are_false};
 
 #[derive(Clone, Copy, Debug)]
 pub(super) enum Reader {
@@ -73,13 +73,13 @@ fn program_is_right(memory: Memory<'_>) -> Result<bool, Fault> {
 }
 
 fn model_is_right(memory: Memory<'_>) -> Result<bool, Fault> {
-    let model = dem_parser::read(memory, MODEL.as_bytes())?;
+    let model = dem_text::read(memory, MODEL.as_bytes())?;
     Ok(is_model(&model))
 }
 
 /// Of the first two lines.
 fn symptom_is_right<'m>(memory: Memory<'m>, model: &Model<'_, Memory<'m>>) -> Result<bool, Fault> {
-    let Ok(bits) = dem_parser::symptom(memory, model, &[true, true]) else {
+    let Ok(bits) = dem_text::symptom(memory, model, &[true, true]) else {
         return Err(Fault::MEMORY);
     };
     Ok(bits.as_slice() == [true, true, true, false, false, true, false].as_slice())
@@ -97,7 +97,7 @@ fn is_placed<'m>(memory: Memory<'m>, model: &PlacedModel<'_, Memory<'m>>) -> Res
 }
 
 fn placed_is_right(memory: Memory<'_>) -> Result<bool, Fault> {
-    let model = dem_parser::place(memory, MODEL.as_bytes())?;
+    let model = dem_text::place(memory, MODEL.as_bytes())?;
     is_placed(memory, &model)
 }
 

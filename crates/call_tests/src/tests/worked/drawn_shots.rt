@@ -1,12 +1,12 @@
 //! Drawn shots of a small program, against the generator's words taken outside.
 use crate::tests::worked::made;
+use forward_sim::draw;
 use pauli_word::Letter;
 use programs::by_hand::{Entry, Lists, Piece};
 use programs::{Program, Recording, TextStep};
 use rand_core::SeedableRng;
 use rand_core::utils::NextWord;
 use rand_pcg::Pcg64;
-use sampling::Shot;
 use std::alloc::Global;
 use std::test::Fail;
 use step_model::{Fault, Term};
@@ -86,24 +86,28 @@ const ROWS: &[Row] = &[
     },
 ];
 
-/// Before any shot nothing happens, and no coin is 1.
-const FIRST: Row = Row {
-    faults: [false; 5],
-    coins: [false; 2],
-};
-
-fn is_of_row(shot: &Shot<Global>, row: &Row) -> bool {
-    shot.faults() == row.faults.as_slice() && shot.coins() == row.coins.as_slice()
+/// Whether the shot that is drawn next is that of the row.
+fn is_of_row(
+    alloc: Global,
+    program: &Program<'_, Global>,
+    rng: &mut Pcg64,
+    row: &Row,
+) -> Result<bool, Fault> {
+    let (faults, coins) = draw(alloc, program, rng)?;
+    Ok(faults.as_slice() == row.faults.as_slice() && coins.as_slice() == row.coins.as_slice())
 }
 
 /// Whether the shots that are drawn in turn are those of the rows.
-fn are_of_rows(shot: &mut Shot<Global>, rng: &mut Pcg64) -> bool {
-    let mut all = is_of_row(shot, &FIRST);
+fn are_of_rows(
+    alloc: Global,
+    program: &Program<'_, Global>,
+    rng: &mut Pcg64,
+) -> Result<bool, Fault> {
+    let mut all = true;
     for row in ROWS {
-        shot.draw(rng);
-        all &= is_of_row(shot, row);
+        all &= is_of_row(alloc, program, rng, row)?;
     }
-    all
+    Ok(all)
 }
 
 /// Whether the next word is that behind three shots of seven words.
@@ -114,9 +118,8 @@ fn stands_behind_shots(rng: &mut Pcg64) -> bool {
 }
 
 fn has_shots(alloc: Global, program: &Program<'_, Global>) -> Result<bool, Fault> {
-    let mut shot = Shot::new(alloc, program)?;
     let mut rng = Pcg64::seed_from_u64(5);
-    Ok(are_of_rows(&mut shot, &mut rng) & stands_behind_shots(&mut rng))
+    Ok(are_of_rows(alloc, program, &mut rng)? & stands_behind_shots(&mut rng))
 }
 
 #[test]

@@ -1,6 +1,6 @@
 //! Error models that are read: the coordinates of their detectors, and what named lines flip.
-use dem_parser::{PlacedModel, laws, place, read, symptom};
-use dem_text::Model;
+use dem_text::{PlacedModel, laws, place, read, symptom};
+use error_models::Model;
 use std::alloc::{AllocError, Global};
 use std::test::Fail;
 

@@ -1,7 +1,7 @@
 use Rattle.std.proofs.Common.{inl, inr, refl, ap, sym, subst}
 use Rattle.std.specs.Prelude.{IfNone}
 use Rattle.std.proofs.lemmas.Result.{err_from_is_err_and}
-use Rattle.dem_text.specs.ModelText.{model_text}
+use Rattle.error_models.specs.ModelText.{model_text}
 use Rattle.step_model.specs.HitModels.{model_of}
 use Rattle.step_model.specs.Ends.{Takes, TakesSome}
 use Rattle.step_model.proofs.EndsLemmas.{TakesSome-none}

@@ -2,8 +2,8 @@
 use Rattle.std.proofs.Common.{◌≡◌, ◌+◌, length, sym, ap, ap₂, subst, ◌∙◌}
 use Rattle.std.proofs.lemmas.List.{length-map}
 use Rattle.step_model.specs.Listing.{ListedFault}
-use Rattle.sampling.specs.Drawn.{bounds_of, after_shots}
-use Rattle.sampling.specs.Shots.{AreDrawn}
+use Rattle.forward_sim.specs.Drawn.{bounds_of, after_shots}
+use Rattle.forward_sim.specs.Shots.{AreDrawn}
 use Rattle.bit_rows.specs.Lanes.{lane}
 use Rattle.streams.specs.Pushed.{Pushes}
 use Rattle.sampling.specs.private.LaneLines.{lane_lines}

@@ -3,8 +3,8 @@ use Rattle.std.proofs.Common.{◌≡◌, ◌+◌, ◌-◌, ◌++◌, length, ref
 use Rattle.step_model.specs.Listing.{Listing}
 use Rattle.streams.specs.Pushed.{Pushes}
 use Rattle.streams.proofs.Pushing.{Pushes-nil, Pushes-trans}
-use Rattle.sampling.specs.Drawn.{bounds_of}
-use Rattle.sampling.proofs.SideLemmas.{none_taken}
+use Rattle.forward_sim.specs.Drawn.{bounds_of}
+use Rattle.forward_sim.proofs.SideLemmas.{none_taken}
 use Rattle.sampling.specs.Sampled.{lines_from, shot_generator}
 use Rattle.sampling.specs.Shown.{shown_line}
 use Rattle.sampling.proofs.PushLemmas.{Pushes-failed}

@@ -1,6 +1,6 @@
 use Rattle.std.proofs.Common.{◌≡◌, ◌+◌, ◌-◌, ◌≤◌, length}
 use Rattle.streams.specs.Pushed.{Pushes}
-use Rattle.sampling.specs.Drawn.{bounds_of}
+use Rattle.forward_sim.specs.Drawn.{bounds_of}
 use Rattle.sampling.specs.Sampled.{lines_from, shot_generator}
 use Rattle.sampling.specs.Shown.{shown_line}
 use Rattle.sampling.proofs.batches.push_shots.Given as goal

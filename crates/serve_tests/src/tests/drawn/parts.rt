@@ -1,7 +1,7 @@
 //! The analysis of a drawn text's program that is written in parts, by both trackers.
 
 use backward::{Analysed, Words, write_in_parts};
-use dem_text::Model;
+use error_models::Model;
 use programs::Program;
 use std::alloc::Global;
 use step_model::{Fault, MemorySink, Place};
@@ -29,7 +29,7 @@ fn model_is_written(
     model: &Model<'_, Global>,
 ) -> Result<bool, Fault> {
     let mut sink = MemorySink::new(alloc);
-    dem_text::write(model, &mut sink)?;
+    error_models::write(model, &mut sink)?;
     are_written(alloc, program, None, sink.bytes())
 }
 

@@ -8,14 +8,13 @@ use forward_sim::{Records, detections, run};
 use programs::Program;
 use rand_core::SeedableRng;
 use rand_pcg::Pcg64;
-use sampling::Shot;
 use std::alloc::Global;
 use std::test::Fail;
 use step_model::{Fault, MemorySink, MemorySource};
-use super::circuits::draw;
-use super::page::Page;
 use texts::TEXTS;
 use unroll::read_program;
+use super::circuits::draw;
+use super::page::Page;
 
 /// Two batches of shots that go side by side, and a short one.
 const SHOTS: u64 = 130;
@@ -101,12 +100,11 @@ fn lines_are(
     seed: u64,
     written: &[u8],
 ) -> Result<bool, Fault> {
-    let mut shot = Shot::new(alloc, program)?;
     let mut rng = Pcg64::seed_from_u64(seed);
     let mut left = Some(written);
     for _ in 0..SHOTS {
-        shot.draw(&mut rng);
-        left = without_line(alloc, program, shown, (shot.faults(), shot.coins()), left)?;
+        let (faults, coins) = forward_sim::draw(alloc, program, &mut rng)?;
+        left = without_line(alloc, program, shown, (faults.as_slice(), coins.as_slice()), left)?;
     }
     Ok(left == Some(b"".as_slice()))
 }

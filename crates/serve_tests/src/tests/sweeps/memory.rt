@@ -1,8 +1,8 @@
 //! Whole orders, of which one growth is refused: the first, the second and so on, until none is.
 use engine::{Status, serve};
-use test_support::Scarce;
 use std::alloc::Global;
 use step_model::{Fault, MemorySink, MemorySource};
+use test_support::Scarce;
 use super::rows::{ROWS, Row};
 
 /// No row takes so many growths.

@@ -1,5 +1,0 @@
-use Rattle.dem_parser.proofs.ReadLemmas.{written-model, refused-text}
-use Rattle.dem_parser.proofs.laws.texts_stand_for_trees.Goals as goal
-
-pub returns : goal.returns
-returns c = record { model = written-model; refusal = refused-text }

@@ -1,0 +1,295 @@
+-- The instructions of a model that can be written mean that model.
+use Rattle.std.proofs.Common.{◌≡◌, ℕ, zero, suc, ◌+◌, ◌-◌, ◌==◌, ◌≤◌, ◌<◌, ◌^◌, max, nat_lt, Bool, true, false, not, ◌||◌, ◌&&◌, if◌then◌else◌, ℤ, nat_abs, List, [], ◌∷◌, ◌++◌, map, filter, length, Result, Ok, refl, ap, ap₂, sym, ◌∙◌, append-nil, inl, inr, arith, All}
+use Rattle.std.specs.Prelude.{slice_index_or}
+use Rattle.std.specs.Fmt.{signed_decimal}
+use Rattle.std.specs.List.{range_with_len}
+use Rattle.std.proofs.lemmas.Bool.{cases_Bool, cases_eq, eq-eqb, ltb-false, ltb-true, ne_eqb}
+use Rattle.std.proofs.lemmas.List.{map-append}
+use Rattle.std.proofs.lemmas.List.Elements.{filter-append}
+use Rattle.step_model.specs.ErrorModels.{ErrorLine, ErrorModel}
+use Rattle.step_model.specs.declared.fault.Fault.{Fault}
+use Rattle.step_model.specs.WellFormed.{CoordinatesFit}
+use Rattle.stim_lexer.specs.Bytes.{is_empty}
+use Rattle.stim_parser.specs.Numbers.{whole_value}
+use Rattle.error_models.specs.ModelText.{model_text}
+use Rattle.dem_text.specs.declared.target.Target.{Target}
+use Rattle.dem_text.specs.Meanings.{detector_count, detectors_to, error_line, error_lines, gives_coordinates, is_error, last_coordinates, meaning_of, observable_count, observables_to, numbered}
+use Rattle.dem_text.specs.private.Summed.{greatest_over}
+use Rattle.stim_lexer.specs.Reached.{greatest_by}
+use Rattle.dem_text.specs.Models.{model_in}
+use Rattle.dem_text.specs.private.Numbered.{odd_below, numbers_of}
+use Rattle.dem_text.specs.Shifts.{Placed}
+use Rattle.dem_text.proofs.ChainLemmas.{moved_by_nothing, placed}
+use Rattle.dem_text.specs.Writable.{IsWritable, IsWritableLine}
+use Rattle.dem_text.proofs.AscendingLemmas.{odd_below-ascending}
+use Rattle.dem_text.proofs.ModelInstructions.{detector_instruction, detector_instructions, error_instruction, error_instructions, instructions_of, instructions_text, observable_instruction, observable_instructions, target_of_number}
+use Rattle.stim_parser.proofs.NumberLemmas.{signed_decimal_is_whole}
+use Rattle.dem_text.proofs.StandLemmas.{instructions_stand}
+use Rattle.dem_text.proofs.TextReadLemmas.{text_means}
+
+-- ---- lines of each kind
+
+abbrev errors_placed : ℕ → List ErrorLine → List Placed
+errors_placed detectors lines = map placed (map (error_instruction detectors) lines)
+
+abbrev detectors_placed : List (List ℤ) → List ℕ → List Placed
+detectors_placed coordinates ds = map placed (map (detector_instruction coordinates) ds)
+
+abbrev observables_placed : List ℕ → List Placed
+observables_placed ks = map placed (map observable_instruction ks)
+
+-- ---- how many detectors and observables
+
+max_assoc : (a b c : ℕ) → max a (max b c) ≡ max (max a b) c
+max_assoc a b c = omega arith
+
+none_greater : (n : ℕ) → n ≡ max 0 n
+none_greater n = omega arith
+
+greatest-append : (count : Target → ℕ) (xs ys : List Placed) → greatest_over count (xs ++ ys) ≡ max (greatest_over count xs) (greatest_over count ys)
+greatest-append count [] ys = none_greater (greatest_over count ys)
+greatest-append count (p ∷ xs) ys =
+    ap (λ n. max (greatest_by count p.targets) n) (greatest-append count xs ys)
+    ∙ max_assoc (greatest_by count p.targets) (greatest_over count xs) (greatest_over count ys)
+
+targets_reach : (detectors : ℕ) (targets : List ℕ) → greatest_by detectors_to (map (target_of_number detectors) targets) ≤ detectors
+targets_reach detectors [] = omega arith
+targets_reach detectors (t ∷ targets) =
+    let rest = targets_reach detectors targets in
+    elim (cases_Bool (nat_lt t detectors)) [
+      | inl e ↦ let below = ltb-true t detectors e in rw e (omega (arith, below, rest))
+      | inr e ↦ rw e (omega (arith, rest))
+    ]
+
+targets_reach_observables : (detectors observables : ℕ) (targets : List ℕ) → All (λ t. t < detectors + observables) targets → greatest_by observables_to (map (target_of_number detectors) targets) ≤ observables
+targets_reach_observables detectors observables [] h = omega arith
+targets_reach_observables detectors observables (t ∷ targets) h =
+    let here = h 0 t (omega arith) in
+    let rest = targets_reach_observables detectors observables targets (λ k d below. h (suc k) d (omega (arith, below))) in
+    elim (cases_Bool (nat_lt t detectors)) [
+      | inl e ↦ rw e (omega (arith, rest))
+      | inr e ↦ let above = ltb-false t detectors e in rw e (omega (arith, above, here, rest))
+    ]
+
+errors_reach : (detectors : ℕ) (lines : List ErrorLine) → greatest_over detectors_to (errors_placed detectors lines) ≤ detectors
+errors_reach detectors [] = omega arith
+errors_reach detectors (line ∷ lines) =
+    let here = targets_reach detectors line.targets in let rest = errors_reach detectors lines in omega (arith, here, rest)
+
+errors_reach_observables : (detectors observables : ℕ) (lines : List ErrorLine) → All (IsWritableLine (detectors + observables)) lines → greatest_over observables_to (errors_placed detectors lines) ≤ observables
+errors_reach_observables detectors observables [] h = omega arith
+errors_reach_observables detectors observables (line ∷ lines) h =
+    let here = targets_reach_observables detectors observables line.targets (h 0 line (omega arith)).in_range in
+    let rest = errors_reach_observables detectors observables lines (λ k d below. h (suc k) d (omega (arith, below))) in omega (arith, here, rest)
+
+detectors_reach : (coordinates : List (List ℤ)) (k n : ℕ) → max k (greatest_over detectors_to (detectors_placed coordinates (range_with_len k n))) ≡ k + n
+detectors_reach coordinates k zero = omega arith
+detectors_reach coordinates k (suc n) = let rest = detectors_reach coordinates (k + 1) n in omega (arith, rest)
+
+detectors_reach_none : (coordinates : List (List ℤ)) (ds : List ℕ) → greatest_over observables_to (detectors_placed coordinates ds) ≡ 0
+detectors_reach_none coordinates [] = refl
+detectors_reach_none coordinates (d ∷ ds) = let rest = detectors_reach_none coordinates ds in omega (arith, rest)
+
+observables_reach : (k n : ℕ) → max k (greatest_over observables_to (observables_placed (range_with_len k n))) ≡ k + n
+observables_reach k zero = omega arith
+observables_reach k (suc n) = let rest = observables_reach (k + 1) n in omega (arith, rest)
+
+observables_reach_none : (ks : List ℕ) → greatest_over detectors_to (observables_placed ks) ≡ 0
+observables_reach_none [] = refl
+observables_reach_none (k ∷ ks) = let rest = observables_reach_none ks in omega (arith, rest)
+
+-- the greatest of three, the second of which all are within, and the third
+second_of_three : (a b c n : ℕ) → a ≤ n → max 0 b ≡ 0 + n → c ≡ 0 → max a (max b c) ≡ n
+second_of_three a b c n h i j = omega (arith, h, i, j)
+
+third_of_three : (a b c n : ℕ) → a ≤ n → b ≡ 0 → max 0 c ≡ 0 + n → max a (max b c) ≡ n
+third_of_three a b c n h i j = omega (arith, h, i, j)
+
+-- ---- error lines
+
+one_number : (detectors t : ℕ) → numbered detectors (target_of_number detectors t) ≡ t ∷ []
+one_number detectors t =
+    elim (cases_Bool (nat_lt t detectors)) [
+      | inl e ↦ rw e refl
+      | inr e ↦
+          let above = ltb-false t detectors e in
+          let same : detectors + (t - detectors) ≡ t = omega (arith, above) in rw e (ap (λ n. n ∷ []) same)
+    ]
+
+numbers_found : (detectors : ℕ) (targets : List ℕ) → numbers_of detectors (map (target_of_number detectors) targets) ≡ targets
+numbers_found detectors [] = refl
+numbers_found detectors (t ∷ targets) = ap₂ (λ (xs ys : List ℕ). xs ++ ys) (one_number detectors t) (numbers_found detectors targets)
+
+line_found : (detectors observables : ℕ) (line : ErrorLine) → IsWritableLine (detectors + observables) line → error_line detectors observables (placed (error_instruction detectors line)) ≡ line
+line_found detectors observables line h =
+    ap (λ (targets : List ℕ). record { text = line.text; targets = targets })
+    (ap (odd_below (detectors + observables)) (numbers_found detectors line.targets)
+    ∙ odd_below-ascending (detectors + observables) line.targets h.ascending h.in_range)
+
+lines_found : (detectors observables : ℕ) (lines : List ErrorLine) → All (IsWritableLine (detectors + observables)) lines → error_lines detectors observables (errors_placed detectors lines) ≡ lines
+lines_found detectors observables [] h = refl
+lines_found detectors observables (line ∷ lines) h =
+    ap₂ (λ (l : ErrorLine) (ls : List ErrorLine). l ∷ ls) (line_found detectors observables line (h 0 line (omega arith)))
+    (lines_found detectors observables lines (λ k d below. h (suc k) d (omega (arith, below))))
+
+no_error_detects : (detectors observables : ℕ) (coordinates : List (List ℤ)) (ds : List ℕ) → error_lines detectors observables (detectors_placed coordinates ds) ≡ []
+no_error_detects detectors observables coordinates [] = refl
+no_error_detects detectors observables coordinates (d ∷ ds) = no_error_detects detectors observables coordinates ds
+
+no_error_observes : (detectors observables : ℕ) (ks : List ℕ) → error_lines detectors observables (observables_placed ks) ≡ []
+no_error_observes detectors observables [] = refl
+no_error_observes detectors observables (k ∷ ks) = no_error_observes detectors observables ks
+
+error_lines-append : (detectors observables : ℕ) (xs ys : List Placed) → error_lines detectors observables (xs ++ ys) ≡ error_lines detectors observables xs ++ error_lines detectors observables ys
+error_lines-append detectors observables xs ys =
+    ap (map (error_line detectors observables)) (filter-append (λ p. is_error p.operation) xs ys)
+    ∙ map-append (error_line detectors observables) (filter (λ p. is_error p.operation) xs) (filter (λ p. is_error p.operation) ys)
+
+-- ---- coordinates
+
+last-append : (d : ℕ) (found : List ℤ) (xs ys : List Placed) → last_coordinates d found (xs ++ ys) ≡ last_coordinates d (last_coordinates d found xs) ys
+unfolding last_coordinates
+last-append d found [] ys = refl
+last-append d found (p ∷ xs) ys = last-append d (if gives_coordinates d p then p.coordinates else found) xs ys
+
+errors_give_none : (d : ℕ) (found : List ℤ) (detectors : ℕ) (lines : List ErrorLine) → last_coordinates d found (errors_placed detectors lines) ≡ found
+unfolding last_coordinates
+errors_give_none d found detectors [] = refl
+errors_give_none d found detectors (line ∷ lines) = errors_give_none d found detectors lines
+
+observables_give_none : (d : ℕ) (found : List ℤ) (ks : List ℕ) → last_coordinates d found (observables_placed ks) ≡ found
+unfolding last_coordinates
+observables_give_none d found [] = refl
+observables_give_none d found (k ∷ ks) = observables_give_none d found ks
+
+values_found : (coordinates : List ℤ) → All (λ c. nat_abs c < 10 ^ 18) coordinates → map whole_value (map signed_decimal coordinates) ≡ coordinates
+values_found [] h = refl
+values_found (c ∷ coordinates) h =
+    ap₂ (λ (x : ℤ) (xs : List ℤ). x ∷ xs) (signed_decimal_is_whole c (h 0 c (omega arith))).value
+    (values_found coordinates (λ k d below. h (suc k) d (omega (arith, below))))
+
+coordinates_said : (coordinates : List (List ℤ)) (k : ℕ) → CoordinatesFit (slice_index_or coordinates k []) → (placed (detector_instruction coordinates k)).coordinates ≡ slice_index_or coordinates k []
+coordinates_said coordinates k fit =
+    moved_by_nothing (map whole_value (map signed_decimal (slice_index_or coordinates k []))) ∙ values_found (slice_index_or coordinates k []) fit.within
+
+-- a line's coordinates where it names the detector, and what was found where it doesn't
+taken : (b : Bool) (xs : List ℤ) → b ≡ true → (if not (is_empty xs) && (b || false) then xs else []) ≡ xs
+taken b [] h = refl
+taken b (x ∷ xs) h = rw h refl
+
+passed : (b : Bool) (xs found : List ℤ) → b ≡ false → (if not (is_empty xs) && (b || false) then xs else found) ≡ found
+passed b [] found h = refl
+passed b (x ∷ xs) found h = rw h refl
+
+others_give_none : (d : ℕ) (found : List ℤ) (coordinates : List (List ℤ)) (k n : ℕ) → d < k → last_coordinates d found (detectors_placed coordinates (range_with_len k n)) ≡ found
+unfolding last_coordinates
+others_give_none d found coordinates k zero h = refl
+others_give_none d found coordinates k (suc n) h =
+    let other : (k + 1 == d + 1) ≡ false = ne_eqb (k + 1) (d + 1) (λ e. absurd (omega (arith, e, h))) in
+    ap (λ (now : List ℤ). last_coordinates d now (detectors_placed coordinates (range_with_len (k + 1) n))) (passed (k + 1 == d + 1) (placed (detector_instruction coordinates k)).coordinates found other)
+    ∙ others_give_none d found coordinates (k + 1) n (omega (arith, h))
+
+detector_gives : (d : ℕ) (coordinates : List (List ℤ)) (k n : ℕ) → k ≤ d → d < k + n → CoordinatesFit (slice_index_or coordinates d []) → last_coordinates d [] (detectors_placed coordinates (range_with_len k n)) ≡ slice_index_or coordinates d []
+unfolding last_coordinates
+detector_gives d coordinates k zero low high fit = absurd (omega (arith, low, high))
+detector_gives d coordinates k (suc n) low high fit =
+    elim (cases_eq d k) [
+      | inl e ↦
+          ap (λ (now : List ℤ). last_coordinates d now (detectors_placed coordinates (range_with_len (k + 1) n))) (taken (k + 1 == d + 1) (placed (detector_instruction coordinates k)).coordinates (eq-eqb (k + 1) (d + 1) (omega (arith, e))))
+          ∙ others_give_none d (placed (detector_instruction coordinates k)).coordinates coordinates (k + 1) n (omega (arith, e))
+          ∙ ap (λ (m : ℕ). (placed (detector_instruction coordinates m)).coordinates) (sym e)
+          ∙ coordinates_said coordinates d fit
+      | inr differ ↦
+          ap (λ (now : List ℤ). last_coordinates d now (detectors_placed coordinates (range_with_len (k + 1) n))) (passed (k + 1 == d + 1) (placed (detector_instruction coordinates k)).coordinates [] (ne_eqb (k + 1) (d + 1) (λ n. differ (omega (arith, n)))))
+          ∙ detector_gives d coordinates (k + 1) n (omega (arith, low, differ)) (omega (arith, high)) fit
+    ]
+
+-- a list by its places
+each_place : (f : ℕ → List ℤ) (k : ℕ) (xs : List (List ℤ)) → ((j : ℕ) → j < length xs → f (k + j) ≡ slice_index_or xs j []) → map f (range_with_len k (length xs)) ≡ xs
+each_place f k [] h = refl
+each_place f k (x ∷ xs) h =
+    let here : k ≡ k + 0 = omega arith in
+    ap₂ (λ (y : List ℤ) (ys : List (List ℤ)). y ∷ ys) (ap f here ∙ h 0 (omega arith))
+    (each_place f (k + 1) xs (λ j below. let next : k + 1 + j ≡ k + suc j = omega arith in ap f next ∙ h (suc j) (omega (arith, below))))
+
+-- ---- the model
+
+-- lines with these counts, errors and coordinates mean the model
+same_model : (lines : List Placed) (model : ErrorModel) → detector_count lines ≡ model.detectors → observable_count lines ≡ model.observables
+    → error_lines model.detectors model.observables lines ≡ model.lines → map (λ d. last_coordinates d [] lines) (range_with_len 0 model.detectors) ≡ model.coordinates → meaning_of lines ≡ model
+same_model lines model detectors observables errors coordinates = rw (detectors, observables, errors, coordinates) refl
+
+abbrev errors_of : ErrorModel → List Placed
+errors_of model = errors_placed model.detectors model.lines
+
+abbrev detectors_of : ErrorModel → List Placed
+detectors_of model = detectors_placed model.coordinates (range_with_len 0 model.detectors)
+
+abbrev observables_of : ErrorModel → List Placed
+observables_of model = observables_placed (range_with_len 0 model.observables)
+
+abbrev all_of : ErrorModel → List Placed
+all_of model = errors_of model ++ (detectors_of model ++ observables_of model)
+
+all_placed : (model : ErrorModel) → map placed (instructions_of model) ≡ all_of model
+all_placed model =
+    map-append placed (error_instructions model) (detector_instructions model ++ observable_instructions model)
+    ∙ ap (λ (ps : List Placed). errors_of model ++ ps) (map-append placed (detector_instructions model) (observable_instructions model))
+
+greatest_of_all : (count : Target → ℕ) (model : ErrorModel)
+    → greatest_over count (all_of model) ≡ max (greatest_over count (errors_of model)) (max (greatest_over count (detectors_of model)) (greatest_over count (observables_of model)))
+greatest_of_all count model =
+    greatest-append count (errors_of model) (detectors_of model ++ observables_of model)
+    ∙ ap (λ (n : ℕ). max (greatest_over count (errors_of model)) n) (greatest-append count (detectors_of model) (observables_of model))
+
+detectors_counted : (model : ErrorModel) → detector_count (all_of model) ≡ model.detectors
+detectors_counted model =
+    greatest_of_all detectors_to model
+    ∙ second_of_three (greatest_over detectors_to (errors_of model)) (greatest_over detectors_to (detectors_of model)) (greatest_over detectors_to (observables_of model)) model.detectors
+    (errors_reach model.detectors model.lines) (detectors_reach model.coordinates 0 model.detectors) (observables_reach_none (range_with_len 0 model.observables))
+
+observables_counted : (model : ErrorModel) → IsWritable model → observable_count (all_of model) ≡ model.observables
+observables_counted model h =
+    greatest_of_all observables_to model
+    ∙ third_of_three (greatest_over observables_to (errors_of model)) (greatest_over observables_to (detectors_of model)) (greatest_over observables_to (observables_of model)) model.observables
+    (errors_reach_observables model.detectors model.observables model.lines h.lines) (detectors_reach_none model.coordinates (range_with_len 0 model.detectors)) (observables_reach 0 model.observables)
+
+errors_found : (model : ErrorModel) → IsWritable model → error_lines model.detectors model.observables (all_of model) ≡ model.lines
+errors_found model h =
+    error_lines-append model.detectors model.observables (errors_of model) (detectors_of model ++ observables_of model)
+    ∙ ap₂ (λ (xs ys : List ErrorLine). xs ++ ys) (lines_found model.detectors model.observables model.lines h.lines)
+    (error_lines-append model.detectors model.observables (detectors_of model) (observables_of model)
+    ∙ ap₂ (λ (xs ys : List ErrorLine). xs ++ ys) (no_error_detects model.detectors model.observables model.coordinates (range_with_len 0 model.detectors))
+    (no_error_observes model.detectors model.observables (range_with_len 0 model.observables)))
+    ∙ append-nil model.lines
+
+coordinates_of : (model : ErrorModel) (d : ℕ) → IsWritable model → d < model.detectors → last_coordinates d [] (all_of model) ≡ slice_index_or model.coordinates d []
+coordinates_of model d h below =
+    let given = h.coordinates_given in
+    last-append d [] (errors_of model) (detectors_of model ++ observables_of model)
+    ∙ ap (λ (found : List ℤ). last_coordinates d found (detectors_of model ++ observables_of model)) (errors_give_none d [] model.detectors model.lines)
+    ∙ last-append d [] (detectors_of model) (observables_of model)
+    ∙ observables_give_none d (last_coordinates d [] (detectors_of model)) (range_with_len 0 model.observables)
+    ∙ detector_gives d model.coordinates 0 model.detectors (omega arith) (omega (arith, below)) (h.coordinates_fit d [] (omega (arith, given, below)))
+
+all_coordinates : (model : ErrorModel) → IsWritable model → map (λ d. last_coordinates d [] (all_of model)) (range_with_len 0 model.detectors) ≡ model.coordinates
+all_coordinates model h =
+    let given = h.coordinates_given in
+    ap (λ (n : ℕ). map (λ d. last_coordinates d [] (all_of model)) (range_with_len 0 n)) (sym given)
+    ∙ each_place (λ d. last_coordinates d [] (all_of model)) 0 model.coordinates
+    (λ j below.
+    let here : 0 + j ≡ j = omega arith in
+    ap (λ (d : ℕ). last_coordinates d [] (all_of model)) here ∙ coordinates_of model j h (omega (arith, given, below)))
+
+pub instructions_mean : (model : ErrorModel) → IsWritable model → meaning_of (map placed (instructions_of model)) ≡ model
+instructions_mean model h =
+    ap meaning_of (all_placed model)
+    ∙ same_model (all_of model) model (detectors_counted model) (observables_counted model h) (errors_found model h) (all_coordinates model h)
+
+pub reads_back : (model : ErrorModel) → IsWritable model → model_in (model_text model) ≡ Ok model
+reads_back model h =
+    ap model_in (sym (instructions_text model)) ∙ text_means (instructions_of model) (instructions_stand model h) ∙ ap Ok (instructions_mean model h)
+
+pub one_model : (first second : ErrorModel) → IsWritable first → IsWritable second → model_text first ≡ model_text second → first ≡ second
+one_model first second h k same =
+    let both : ◌≡◌ {A = Result ErrorModel Fault} (Ok first) (Ok second) = sym (reads_back first h) ∙ ap model_in same ∙ reads_back second k in cc

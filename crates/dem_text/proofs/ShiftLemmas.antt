@@ -1,0 +1,175 @@
+-- Offsets added number by number, coordinates moved by them, and what there is room for.
+use Rattle.std.proofs.Common.{◌≡◌, ℕ, zero, suc, ◌+◌, ◌*◌, ◌^◌, ◌<◌, ◌≤◌, ℤ, pos, ◌+ℤ◌, List, [], ◌∷◌, length, drop, get_or, map, Bor, Bool, true, false, ◌||◌, refl, subst, ap, ap₂, sym, ◌∙◌, inl, inr, arith}
+use Rattle.std.specs.Prelude.{All, if◌then◌else◌, max, nat_abs, nat_lt, neg_ℤ}
+use Rattle.std.proofs.lemmas.Bool.{cases_lt, ltb-false}
+use Rattle.std.proofs.Math.IntN.{+ℤ_idl, +ℤ_idr}
+use Rattle.std.proofs.lemmas.Int.{ints}
+use Rattle.std.proofs.lemmas.List.{drop_all, get_or_past}
+use Rattle.std.proofs.lemmas.List.Elements.{All-cons}
+use Rattle.stim_parser.specs.declared.forms.ArgumentForm.{ArgumentForm}
+use Rattle.stim_parser.specs.declared.forms.ArgumentForm.TheVariants.{NoArguments, ProbabilityAtWill, OneProbability, WholeNumbers, Decimals, OneNumber}
+use Rattle.stim_parser.specs.Limits.{has_argument_beyond, has_wrong_arguments, is_wrong_count}
+use Rattle.stim_parser.specs.Numbers.{greatest_number, has_minus, magnitude_of, whole_value}
+use Rattle.stim_parser.specs.declared.table.Keyword.TheVariants.{Does}
+use Rattle.dem_text.specs.declared.operation.Operation.{Operation}
+use Rattle.dem_text.specs.declared.operation.Operation.TheVariants.{PauliError, DetectorDeclaration, ObservableInclude, Shifts}
+use Rattle.dem_text.specs.declared.target.Target.{Target}
+use Rattle.dem_text.specs.declared.target.Target.TheVariants.{Plain, Detector, Observable, Separator}
+use Rattle.dem_text.specs.Fitting.{Fits}
+use Rattle.dem_text.specs.Instructions.{argument_form}
+use Rattle.dem_text.specs.Limits.{has_target_beyond, is_target_beyond}
+use Rattle.dem_text.specs.Verdicts.{Instruction, number_in}
+use Rattle.dem_text.specs.declared.counts.Extent.{Extent}
+use Rattle.dem_text.specs.private.Offsets.{AreSmall, HasRoom, beyond_stated, number_at}
+use Rattle.dem_text.specs.Shifts.{Shift, shift_after, shifted_by}
+use Rattle.stim_parser.specs.Offsets.{shifted, moved}
+use Rattle.dem_text.specs.private.Tables.{IsKnown, numbers_stated}
+
+-- ---- offsets
+
+-- number by number
+pub both-at : (offset more : List ℤ) (j : ℕ) → number_at offset j +ℤ number_at more j ≡ number_at (shifted offset more) j
+both-at [] more j = +ℤ_idl (number_at more j)
+both-at (o ∷ offset) [] j = +ℤ_idr (number_at (o ∷ offset) j)
+both-at (o ∷ offset) (m ∷ more) zero = refl
+both-at (o ∷ offset) (m ∷ more) (suc j) = both-at offset more j
+
+pub length-both : (offset more : List ℤ) → length (shifted offset more) ≡ max (length offset) (length more)
+length-both [] more = omega arith
+length-both (o ∷ offset) [] = omega arith
+length-both (o ∷ offset) (m ∷ more) = let rest = length-both offset more in omega (arith, rest)
+
+-- ---- coordinates
+
+moved-none : (stated : List ℤ) → moved [] stated ≡ stated
+moved-none [] = refl
+moved-none (c ∷ stated) = refl
+
+pub moved-past : (offset : List ℤ) → moved offset [] ≡ []
+moved-past [] = refl
+moved-past (o ∷ offset) = refl
+
+moved-step : (offset stated : List ℤ) (j : ℕ) (e : ℤ) → j < length stated
+    → moved (drop j offset) (drop j stated) ≡ (get_or offset j (pos 0) +ℤ get_or stated j e) ∷ moved (drop (suc j) offset) (drop (suc j) stated)
+moved-step offset [] j e h = absurd (omega (arith, h))
+moved-step [] (c ∷ stated) zero e h = ap₂ (λ (x : ℤ) (xs : List ℤ). x ∷ xs) (sym (+ℤ_idl c)) (sym (moved-none stated))
+moved-step [] (c ∷ stated) (suc j) e h =
+    ap (λ (xs : List ℤ). moved xs (drop j stated)) (sym (drop_all j [] (omega arith)))
+    ∙ moved-step [] stated j e (omega (arith, h))
+moved-step (o ∷ offset) (c ∷ stated) zero e h = refl
+moved-step (o ∷ offset) (c ∷ stated) (suc j) e h = moved-step offset stated j e (omega (arith, h))
+
+pub moved-next : (offset stated : List ℤ) (j : ℕ) (e : ℤ) → j < length stated
+    → moved (drop j offset) (drop j stated) ≡ (get_or offset j (pos 0) +ℤ get_or stated j e) ∷ moved (drop (j + 1) offset) (drop (j + 1) stated)
+moved-next offset stated j e h =
+    let later : suc j ≡ j + 1 = omega arith in
+    moved-step offset stated j e h
+    ∙ ap (λ k. (get_or offset j (pos 0) +ℤ get_or stated j e) ∷ moved (drop k offset) (drop k stated)) later
+
+-- ---- arguments
+
+pub values-lent : (lent : List (Bor (List ℕ))) → map (λ text. whole_value text.now) lent ≡ map whole_value (map (λ text. text.now) lent)
+values-lent [] = refl
+values-lent (text ∷ lent) = ap (λ vs. whole_value text.now ∷ vs) (values-lent lent)
+
+few : (form : ArgumentForm) (n : ℕ) → is_wrong_count form n ≡ false → n ≤ 16
+few NoArguments n h = grind arith
+few ProbabilityAtWill n h = grind arith
+few OneProbability n h = grind arith
+few WholeNumbers n h = grind arith
+few Decimals n h = grind arith
+few OneNumber n h = grind arith
+
+pub left : (a b : Bool) → a || b ≡ false → a ≡ false
+left false b h = refl
+left true b h = cc
+
+pub right : (a b : Bool) → a || b ≡ false → b ≡ false
+right false b h = h
+right true b h = cc
+
+pub few_arguments : (i : Instruction) → Fits i → length i.arguments ≤ 16
+unfolding has_wrong_arguments
+few_arguments i fits =
+    few (argument_form (Does i.operation)) (length i.arguments) (left _ _ fits.arguments)
+
+-- the values of arguments within their limit
+pub small_values : (arguments : List (List ℕ)) → has_argument_beyond greatest_number WholeNumbers arguments ≡ false → AreSmall (map whole_value arguments)
+small_values [] h = λ k d below. absurd (omega (arith, below))
+small_values (a ∷ arguments) h =
+    let low = ltb-false greatest_number (magnitude_of a) (left (nat_lt greatest_number (magnitude_of a)) _ h) in
+    let same = abs-whole (has_minus a) (magnitude_of a) in
+    All-cons (λ n. nat_abs n < beyond_stated) (whole_value a) (map whole_value arguments)
+    (omega (arith, low, same))
+    (small_values arguments (right (nat_lt greatest_number (magnitude_of a)) _ h))
+  where
+    abs-whole : (minus : Bool) (n : ℕ) → nat_abs (if minus then neg_ℤ (pos n) else pos n) ≡ n
+    abs-whole true zero = refl
+    abs-whole true (suc n) = refl
+    abs-whole false n = refl
+
+-- ---- room for shifts
+
+number-few : (ts : List Target) → has_target_beyond ts ≡ false → number_in ts < 1_000_000_000_000_000_000
+unfolding has_target_beyond
+number-few [] h = omega arith
+number-few (Plain n ∷ ts) h =
+    let low = ltb-false 999_999_999_999_999_999 n (left (is_target_beyond (Plain n)) _ h) in omega (arith, low)
+number-few (Detector d ∷ ts) h = omega arith
+number-few (Observable k ∷ ts) h = omega arith
+number-few (Separator ∷ ts) h = omega arith
+
+-- room for some lines is room for one
+pub room-one : (s : Shift) (n : ℕ) → HasRoom s n → 1 ≤ n → HasRoom s 1
+room-one s n room h =
+    record { detectors = omega (arith, room.detectors, h); offset = λ k d below. let one = room.offset k d below in omega (arith, one, h) }
+
+-- at a place of an offset, or past its end
+pub room-at : (offset : List ℤ) (k : ℕ) → All (λ o. nat_abs o + beyond_stated < 2 ^ 127) offset → nat_abs (number_at offset k) + beyond_stated < 2 ^ 127
+room-at offset k room =
+    elim (cases_lt k (length offset)) [
+      | inl below ↦ room k (pos 0) below
+      | inr past ↦ let none = ap nat_abs (get_or_past offset k (pos 0) past) in omega (arith, none)
+    ]
+
+pub small-at : (numbers : List ℤ) (k : ℕ) → AreSmall numbers → nat_abs (number_at numbers k) < beyond_stated
+small-at numbers k small =
+    elim (cases_lt k (length numbers)) [
+      | inl below ↦ small k (pos 0) below
+      | inr past ↦ let none = ap nat_abs (get_or_past numbers k (pos 0) past) in omega (arith, none)
+    ]
+
+room-both : (offset more : List ℤ) (n x : ℕ) → x + beyond_stated * suc n < 2 ^ 127 → All (λ o. nat_abs o + beyond_stated * suc n < 2 ^ 127) offset → AreSmall more
+    → All (λ o. nat_abs o + beyond_stated * n < 2 ^ 127) (shifted offset more)
+room-both [] more n x few room small = λ k d below. let one = small k d below in omega (arith, one, few)
+room-both (o ∷ offset) [] n x few room small = λ k d below. let one = room k d below in omega (arith, one)
+room-both (o ∷ offset) (m ∷ more) n x few room small =
+    let here = room 0 (pos 0) (omega arith) in
+    let one = small 0 (pos 0) (omega arith) in
+    let sum = abs-sum o m in
+    All-cons (λ o. nat_abs o + beyond_stated * n < 2 ^ 127) (o +ℤ m) (shifted offset more)
+    (omega (arith, here, one, sum))
+    (room-both offset more n x few (λ k d below. room (suc k) d (omega (arith, below))) (λ k d below. small (suc k) d (omega (arith, below))))
+  where
+    abs-sum : (a b : ℤ) → nat_abs (a +ℤ b) ≤ nat_abs a + nat_abs b
+    abs-sum a b = grind (arith, ints)
+
+-- what is left of the room after a line
+pub room-next : (i : Instruction) (e : Extent) (ns : List ℤ) (s : Shift) (n : ℕ) → IsKnown i e ns → HasRoom s (suc n) → HasRoom (shift_after i s) n
+room-next i e ns s n known room = after i.operation i.arguments i.targets (number-few i.targets known.within) (subst AreSmall known.numbers_are known.small)
+  where
+    more : (n m : ℕ) → n ≤ m → (x : ℕ) → x + beyond_stated * m < 2 ^ 127 → x + beyond_stated * n < 2 ^ 127
+    more n m h x below = omega (arith, h, below)
+
+    stays : HasRoom s n
+    stays = record { detectors = more n (suc n) (omega arith) s.detectors room.detectors; offset = λ k d below. more n (suc n) (omega arith) (nat_abs (get_or s.offset k d)) (room.offset k d below) }
+
+    after : (operation : Operation) (arguments : List (List ℕ)) (ts : List Target) → number_in ts < beyond_stated → AreSmall (numbers_stated operation arguments) → HasRoom (shifted_by operation arguments ts s) n
+    after PauliError arguments ts few small = stays
+    after DetectorDeclaration arguments ts few small = stays
+    after ObservableInclude arguments ts few small = stays
+    after Shifts arguments ts few small =
+        record {
+          detectors = let now = room.detectors in omega (arith, now, few);
+          offset = room-both s.offset (map whole_value arguments) n (s.detectors) room.detectors room.offset small;
+        }

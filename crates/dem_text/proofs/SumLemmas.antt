@@ -1,0 +1,127 @@
+-- Truth values turned round by the lines named are the exclusive sum of these.
+use Rattle.std.proofs.Common.{◌≡◌, ◌≢◌, ℕ, zero, suc, ◌+◌, ◌==◌, ◌<◌, ◌≤◌, Bool, true, false, not, ◌&&◌, List, [], ◌∷◌, length, map, get_or, set, drop, replicate, refl, ap, ap₂, sym, ◌∙◌, ◌⊎◌, inl, inr, arith}
+use Rattle.std.specs.Prelude.{if◌then◌else◌, min}
+use Rattle.std.specs.List.{range_with_len}
+use Rattle.std.proofs.lemmas.Bool.{cases_lt, eq-eqb, ne_eqb}
+use Rattle.std.proofs.lemmas.List.{drop_all}
+use Rattle.pauli_word.specs.Parity.{exclusive_or}
+use Rattle.step_model.specs.ErrorModels.{ErrorLine, ErrorModel}
+use Rattle.dem_text.specs.Sums.{is_in_symptom, symptom_of}
+use Rattle.step_model.specs.Targets.{is_listed}
+use Rattle.dem_text.specs.private.Turned.{turned, turned_at, turned_by}
+
+-- ---- one truth value
+
+pub turned_at-set : (bits : List Bool) (t : ℕ) (d : Bool) → t < length bits → set bits t (not (get_or bits t d)) ≡ turned_at bits t
+turned_at-set [] t d h = absurd (omega (arith, h))
+turned_at-set (b ∷ bits) zero d h = refl
+turned_at-set (b ∷ bits) (suc t) d h = ap (λ (bs : List Bool). b ∷ bs) (turned_at-set bits t d (omega (arith, h)))
+
+pub turned_at-past : (bits : List Bool) (t : ℕ) → length bits ≤ t → bits ≡ turned_at bits t
+turned_at-past [] t h = refl
+turned_at-past (b ∷ bits) zero h = absurd (omega (arith, h))
+turned_at-past (b ∷ bits) (suc t) h = ap (λ (bs : List Bool). b ∷ bs) (turned_at-past bits t (omega (arith, h)))
+
+length-turned_at : (bits : List Bool) (t : ℕ) → length (turned_at bits t) ≡ length bits
+length-turned_at [] t = refl
+length-turned_at (b ∷ bits) zero = refl
+length-turned_at (b ∷ bits) (suc t) = let rest = length-turned_at bits t in omega (arith, rest)
+
+length-turned : (bits : List Bool) (targets : List ℕ) → length (turned bits targets) ≡ length bits
+length-turned bits [] = refl
+length-turned bits (t ∷ targets) = length-turned (turned_at bits t) targets ∙ length-turned_at bits t
+
+pub length-turned_if : (named : Bool) (bits : List Bool) (targets : List ℕ) → length (if named then turned bits targets else bits) ≡ length bits
+length-turned_if true bits targets = length-turned bits targets
+length-turned_if false bits targets = refl
+
+-- ---- all of them
+
+map-same : (f g : ℕ → Bool) (a n : ℕ) → ((t : ℕ) → a ≤ t → f t ≡ g t) → map f (range_with_len a n) ≡ map g (range_with_len a n)
+map-same f g a zero h = refl
+map-same f g a (suc n) h =
+    ap₂ (λ (x : Bool) (xs : List Bool). x ∷ xs) (h a (omega arith)) (map-same f g (a + 1) n (λ t below. h t (omega (arith, below))))
+
+other : (f : ℕ → Bool) (t u : ℕ) → t ≢ u → f t ≡ exclusive_or (u == t) (f t)
+other f t u h = rw (ne_eqb u t (λ e. h (sym e))) refl
+
+same : (f : ℕ → Bool) (t u : ℕ) → t ≡ u → not (f t) ≡ exclusive_or (u == t) (f t)
+same f t u h = rw (eq-eqb u t (sym h)) refl
+
+turned_at-map : (f : ℕ → Bool) (a n u : ℕ) → turned_at (map f (range_with_len a n)) u ≡ map (λ t. exclusive_or (a + u == t) (f t)) (range_with_len a n)
+turned_at-map f a zero u = refl
+turned_at-map f a (suc n) zero =
+    ap₂ (λ (x : Bool) (xs : List Bool). x ∷ xs) (same f a (a + 0) (omega arith))
+    (map-same f (λ t. exclusive_or (a + 0 == t) (f t)) (a + 1) n (λ t above. other f t (a + 0) (λ e. absurd (omega (arith, e, above)))))
+turned_at-map f a (suc n) (suc u) =
+    let at : a + 1 + u ≡ a + suc u = omega arith in
+    ap₂ (λ (x : Bool) (xs : List Bool). x ∷ xs) (other f a (a + suc u) (λ e. absurd (omega (arith, e))))
+    (turned_at-map f (a + 1) n u ∙ ap (λ m. map (λ t. exclusive_or (m == t) (f t)) (range_with_len (a + 1) n)) at)
+
+swapped : (a b c : Bool) → exclusive_or a (exclusive_or b c) ≡ exclusive_or (exclusive_or b a) c
+swapped true true true = refl
+swapped true true false = refl
+swapped true false true = refl
+swapped true false false = refl
+swapped false true true = refl
+swapped false true false = refl
+swapped false false true = refl
+swapped false false false = refl
+
+pub turned-map : (f : ℕ → Bool) (n : ℕ) (targets : List ℕ) → turned (map f (range_with_len 0 n)) targets ≡ map (λ t. exclusive_or (is_listed targets t) (f t)) (range_with_len 0 n)
+turned-map f n [] = refl
+turned-map f n (u ∷ targets) =
+    let at : 0 + u ≡ u = omega arith in
+    ap (λ bits. turned bits targets) (turned_at-map f 0 n u ∙ ap (λ m. map (λ t. exclusive_or (m == t) (f t)) (range_with_len 0 n)) at)
+    ∙ turned-map (λ t. exclusive_or (u == t) (f t)) n targets
+    ∙ map-same _ _ 0 n (λ t above. swapped (is_listed targets t) (u == t) (f t))
+
+named-map : (f : ℕ → Bool) (n : ℕ) (named : Bool) (targets : List ℕ) → (if named then turned (map f (range_with_len 0 n)) targets else map f (range_with_len 0 n))
+    ≡ map (λ t. exclusive_or (named && is_listed targets t) (f t)) (range_with_len 0 n)
+named-map f n true targets = turned-map f n targets
+named-map f n false targets = refl
+
+turned_by-map : (f : ℕ → Bool) (n : ℕ) (named : List Bool) (lines : List ErrorLine) → turned_by (map f (range_with_len 0 n)) named lines
+    ≡ map (λ t. exclusive_or (is_in_symptom named lines t) (f t)) (range_with_len 0 n)
+turned_by-map f n [] lines = refl
+turned_by-map f n (b ∷ named) [] = refl
+turned_by-map f n (b ∷ named) (line ∷ lines) =
+    ap (λ bits. turned_by bits named lines) (named-map f n b line.targets)
+    ∙ turned_by-map (λ t. exclusive_or (b && is_listed line.targets t) (f t)) n named lines
+    ∙ map-same _ _ 0 n (λ t above. swapped (is_in_symptom named lines t) (b && is_listed line.targets t) (f t))
+
+none-set : (a n : ℕ) → replicate n false ≡ map (λ t. false) (range_with_len a n)
+none-set a zero = refl
+none-set a (suc n) = ap (λ (bs : List Bool). false ∷ bs) (none-set (a + 1) n)
+
+plain : (b : Bool) → exclusive_or b false ≡ b
+plain true = refl
+plain false = refl
+
+pub symptom-turned : (model : ErrorModel) (named : List Bool) → turned_by (replicate (model.detectors + model.observables) false) named model.lines ≡ symptom_of model named
+symptom-turned model named =
+    let count = model.detectors + model.observables in
+    ap (λ bits. turned_by bits named model.lines) (none-set 0 count)
+    ∙ turned_by-map (λ t. false) count named model.lines
+    ∙ map-same _ _ 0 count (λ t above. plain (is_in_symptom named model.lines t))
+
+-- ---- lines one after another
+
+pub turned_by-more : (bits named : List Bool) (lines : List ErrorLine) (k : ℕ) (b : Bool) (line : ErrorLine) → k < length named → k < length lines
+    → turned_by bits (drop k named) (drop k lines) ≡ turned_by (if get_or named k b then turned bits (get_or lines k line).targets else bits) (drop (suc k) named) (drop (suc k) lines)
+turned_by-more bits [] lines k b line h j = absurd (omega (arith, h))
+turned_by-more bits (n ∷ named) [] k b line h j = absurd (omega (arith, j))
+turned_by-more bits (n ∷ named) (l ∷ lines) zero b line h j = refl
+turned_by-more bits (n ∷ named) (l ∷ lines) (suc k) b line h j = turned_by-more bits named lines k b line (omega (arith, h)) (omega (arith, j))
+
+pub turned_by-done : (bits named : List Bool) (lines : List ErrorLine) (k : ℕ) → length named ≤ k ⊎ length lines ≤ k → turned_by bits (drop k named) (drop k lines) ≡ bits
+turned_by-done bits named lines k (inl h) = rw (drop_all k named h) refl
+turned_by-done bits named lines k (inr h) = rw (drop_all k lines h) (no_lines bits (drop k named))
+  where
+    no_lines : (bits named : List Bool) → turned_by bits named [] ≡ bits
+    no_lines bits [] = refl
+    no_lines bits (n ∷ named) = refl
+
+pub past_either : (a b k : ℕ) → min a b ≤ k → (b ≤ k) ⊎ (a ≤ k)
+past_either a b k h =
+    elim (cases_lt k b) as (λ _. (b ≤ k) ⊎ (a ≤ k)) [ inl few ↦ inr (omega (arith, few, h)) | inr past ↦ inl past ]

@@ -1,5 +1,0 @@
-use Rattle.streams.proofs.Pushing.{Pushes-trans}
-use Rattle.dem_text.proofs.text.push_model.Goals as goal
-
-pub returns : goal.returns
-returns g c = Pushes-trans (Pushes-trans c.write_lines.ensures c.write_detectors.ensures) c.write_observables.ensures

@@ -1,9 +1,0 @@
-use Rattle.streams.specs.Pushed.{Pushes}
-use Rattle.std.specs.List.{flat_map, range_with_len}
-use Rattle.dem_text.specs.ModelText.{observable_text}
-use Rattle.dem_text.proofs.text.write_observables.Given as goal
-
-abbrev pub invariant-loop-observable : goal.invariant-loop-observable
-invariant-loop-observable g l =
-    Pushes g.W.Sink.taken g.W.Sink.failures l.fn.sink l.sink l.fn.out l.out
-    (flat_map observable_text (range_with_len 0 l.observable))

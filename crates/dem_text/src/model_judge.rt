@@ -1,0 +1,121 @@
+ghost use Rattle.std.specs.Prelude.{◌≡◌, IfOk};
+ghost use Rattle.stim_lexer.specs.Lexing.{cut_in};
+ghost use Rattle.stim_lexer.specs.Said.{reading_in};
+ghost use Rattle.stim_parser.specs.Judging.{reading_of};
+ghost use Rattle.dem_text.specs.Fitting as fitting;
+ghost use Rattle.dem_text.specs.Verdicts.{model_table, number_in};
+
+use crate::checks::{GREATEST_NUMBER, are_of_form, has_target_beyond};
+use crate::forms::{TargetForm, argument_form, target_form};
+use crate::names::keyword_named;
+use crate::operation::Operation;
+use crate::target::{Target, read_targets};
+use std::alloc::{AllocError, Allocator};
+use step_model::Cause;
+use stim_lexer::{Line, Said};
+use stim_parser::{ArgumentForm, Causes, Judge, Keyword, Last};
+
+/// How often a block is repeated, or by how much detectors shift, by the targets of the line.
+pub fn number_in(targets: &[Target]) -> u64
+    ensures { result ≡ number_in targets.now }
+{
+    match targets {
+        [Target::Plain(number), ..] => *number,
+        _ => 0,
+    }
+}
+
+/// The judge of an error model's lines.
+pub struct ModelJudge;
+
+impl Judge<Operation, Target, TargetForm> for ModelJudge {
+    ghost table = { model_table };
+
+    ghost Fits = { fitting.Fits };
+
+    #[inline(always)]
+    fn keyword_named<'a>(_: &mut Last<'a>, name: &'a [u8]) -> Option<Keyword<Operation>> {
+        keyword_named(name)
+    }
+
+    #[inline(always)]
+    fn refusal_of_name(_: &[u8]) -> Cause {
+        Cause::DemName
+    }
+
+    #[inline(always)]
+    fn argument_form(keyword: Keyword<Operation>) -> ArgumentForm
+        ensures { result ≡ model_table.argument_form keyword }
+    {
+        argument_form(keyword)
+    }
+
+    #[inline(always)]
+    fn greatest_coordinate() -> u64 {
+        GREATEST_NUMBER
+    }
+
+    #[inline(always)]
+    fn target_form(keyword: Keyword<Operation>) -> TargetForm
+        ensures { result ≡ model_table.target_form keyword }
+    {
+        target_form(keyword)
+    }
+
+    #[inline(always)]
+    fn read_targets<A: Allocator + Copy>(
+        targets: &mut Vec<Target, A>,
+        _: TargetForm,
+        text: &[u8],
+    ) -> Result<bool, AllocError> {
+        read_targets(targets, text)
+    }
+
+    #[inline(always)]
+    fn are_of_form(form: TargetForm, targets: &[Target]) -> bool {
+        are_of_form(form, targets)
+    }
+
+    #[inline(always)]
+    fn has_target_beyond(_: TargetForm, targets: &[Target]) -> bool {
+        has_target_beyond(targets)
+    }
+
+    #[inline(always)]
+    fn refusal_of_targets(_: TargetForm, _: &[u8], _: &[Target]) -> Option<Cause> {
+        None
+    }
+
+    #[inline(always)]
+    fn turns_of(targets: &[Target]) -> u64 {
+        number_in(targets)
+    }
+
+    #[inline(always)]
+    fn causes() -> Causes {
+        Causes {
+            block: Cause::DemBlock,
+            arguments: Cause::DemArguments,
+            probability: Cause::DemArguments,
+            target: Cause::DemTarget,
+            number: Cause::DemNumber,
+            repeat_zero: Cause::DemRepeatZero,
+            depth: Cause::DemDepth,
+        }
+    }
+}
+
+/// Reads a cut line where `depth` blocks are open, and puts its targets into `targets`, in place of what it held. Where
+/// the line is no accepted instruction, nothing is promised of `targets`.
+pub fn read_line<'a, A: Allocator + Copy>(
+    last: &mut Last<'a>,
+    targets: &mut Vec<Target, A>,
+    depth: usize,
+    line: Line<'a>,
+) -> Result<Said<'a, Operation>, AllocError>
+    ensures { IfOk result (λ said. reading_in line.entry.number said targets.new.items ≡ reading_of model_table depth line.entry.number (cut_in line.entry)) }
+{
+    stim_parser::read_line::<Operation, Target, TargetForm, ModelJudge, A>(
+        last, targets, depth, line,
+    )
+}

@@ -1,0 +1,138 @@
+ghost use Rattle.std.specs.Prelude.{◌≡◌, ◌≤◌, ◌+◌, ◌<◌, ◌^◌, ℕ, false, true, length, map, slice_index_or, IfOk};
+ghost use Rattle.dem_text.specs.Meanings.{numbered};
+ghost use Rattle.dem_text.specs.private.Numbered.{numbers_of};
+ghost use Rattle.dem_text.specs.Shifts.{shifted_target};
+ghost use Rattle.dem_text.specs.private.Summed.{passed_after, turned_past};
+ghost use Rattle.dem_text.specs.Sums.{symptom_of};
+ghost use Rattle.dem_text.specs.private.Turned.{turned};
+
+use crate::counts::LineCounts;
+use crate::placed_line::PlacedLine;
+use crate::sums::{no_bits, turn_at};
+use crate::table::LineTable;
+use crate::target::Target;
+use crate::walk::Walk;
+use std::alloc::{AllocError, Allocator};
+use std::marker::Model;
+
+/// An error model whose lines stay as they were read. What a line flips is worked out only where the line is named, and
+/// most are not.
+#[derive(Drop)]
+pub struct PlacedModel<'a, A: Allocator + Copy> {
+    pub(crate) table: LineTable<'a, A>,
+    pub(crate) counts: LineCounts,
+}
+
+impl<'a, A: Allocator + Copy> Model for PlacedModel<'a, A> {
+    ghost use Rattle.step_model.specs.ErrorModels.{ErrorModel};
+    ghost use Rattle.dem_text.specs.Meanings.{meaning_of};
+    ghost use Rattle.dem_text.specs.Models.{placed_lines};
+    ghost use Rattle.dem_text.specs.private.Summed.{IsJudged};
+
+    ghost Value = { ErrorModel };
+
+    ghost view = { λ m. meaning_of (placed_lines m.table) };
+
+    ghost invariant = { λ m. IsJudged m.table m.counts.detectors m.counts.observables m.counts.errors };
+}
+
+/// One more than the number of the last line that is named, or 0 where none is.
+fn named_end(named: &[bool]) -> usize
+    ensures within { result ≤ length named.now }
+    ensures last { (k : ℕ) → result ≡ 1 + k → slice_index_or named.now k false ≡ true }
+    ensures none { (k : ℕ) → result ≤ k → slice_index_or named.now k false ≡ false }
+{
+    let mut end = named.len();
+    while end > 0 && !named[end - 1] {
+        end -= 1;
+    }
+    end
+}
+
+/// Whether the line of this number is named.
+fn is_named(named: &[bool], line: usize) -> bool
+    ensures { result ≡ slice_index_or named.now line false }
+{
+    line < named.len() && named[line]
+}
+
+/// Flips the truth value of a target, in a model with this many detectors, where these are shifted. A separator has none.
+fn turn_target(bits: &mut [bool], detectors: u32, shift: u128, target: Target)
+    ensures { bits.new ≡ turned bits.old (numbered detectors (shifted_target shift target)) }
+{
+    match target {
+        Target::Detector(detector) => {
+            // A number that doesn't fit is past the end.
+            if let Some(number) = shift.checked_add(detector as u128) {
+                turn_at(bits, number);
+            }
+        }
+        Target::Observable(observable) => turn_at(bits, detectors as u128 + observable as u128),
+        _ => {}
+    }
+}
+
+/// The same for targets, one after another.
+fn turn_targets(bits: &mut [bool], detectors: u32, shift: u128, targets: &[Target])
+    ensures { bits.new ≡ turned bits.old (numbers_of detectors (map (shifted_target shift) targets.now)) }
+{
+    for target in targets {
+        turn_target(bits, detectors, shift, *target);
+    }
+}
+
+/// Goes past a line that comes after `passed` error lines, and answers how many there are after it. An error line that
+/// is named flips the truth values of its targets, which are read into `room`.
+fn pass_line<A: Allocator + Copy>(
+    bits: &mut [bool],
+    room: &mut Vec<Target, A>,
+    named: &[bool],
+    passed: usize,
+    detectors: u32,
+    line: &PlacedLine<'_, '_>,
+) -> Result<usize, AllocError>
+    requires { passed + 1 < 2 ^ 64 }
+    ensures bits { IfOk result (λ after. bits.new ≡ turned_past detectors named.now passed line.now bits.old) }
+    ensures passed { IfOk result (λ after. after ≡ passed_after passed line.now) }
+{
+    if !line.is_error() {
+        return Ok(passed);
+    }
+    if is_named(named, passed) {
+        let shift = line.read_targets(room)?;
+        turn_targets(bits, detectors, shift, room.as_slice());
+    }
+    Ok(passed + 1)
+}
+
+impl<'a, A: Allocator + Copy> PlacedModel<'a, A> {
+    /// How many error lines there are.
+    pub fn line_count(&self) -> usize
+        ensures { result ≡ length self.now.lines }
+    {
+        self.counts.errors
+    }
+
+    /// The symptom of the error lines that are named: a truth value for each detector, then one for each observable,
+    /// which says whether these lines flip it an odd number of times in all. `named` has a truth value for each error
+    /// line, by its number from 0.
+    pub fn symptom(&self, alloc: A, named: &[bool]) -> Result<Vec<bool, A>, AllocError>
+        ensures { IfOk result (λ bits. bits.items ≡ symptom_of self.now named.now) }
+    {
+        let detectors = self.counts.detectors;
+        let observables = self.counts.observables;
+        let mut bits = no_bits(alloc, detectors as usize, observables as usize)?;
+        let mut room = Vec::new(alloc);
+        let end = named_end(named);
+        let mut passed = 0;
+        let mut walk = Walk::new(&self.table);
+        while passed < end {
+            let Some(line) = walk.line() else {
+                return Ok(bits);
+            };
+            passed = pass_line(&mut bits, &mut room, named, passed, detectors, &line)?;
+            walk.pass();
+        }
+        Ok(bits)
+    }
+}

@@ -1,0 +1,63 @@
+ghost use Rattle.std.specs.Prelude.{◌≡◌, ◌⊎◌, IfOk, IfErr, Ok, Err};
+ghost use Rattle.step_model.specs.Faults.{memory_fault};
+ghost use Rattle.dem_text.specs.Models.{model_in, model_of_tree};
+ghost use Rattle.dem_text.specs.private.Summed.{IsJudged};
+
+use crate::build::model_of;
+use crate::counts::LineCounts;
+use crate::judging::counts_of;
+use crate::placed_model::PlacedModel;
+use crate::reading::read_lines;
+use crate::table::LineTable;
+use crate::unrolled::has_many_lines;
+use error_models::Model;
+use std::alloc::Allocator;
+use step_model::{Cause, Fault};
+
+/// The counts of the lines as they are reached, or the refusal of their numbers.
+fn judged<A: Allocator + Copy>(alloc: A, table: &LineTable<'_, A>) -> Result<LineCounts, Fault>
+    ensures ok { IfOk result (λ counts. IsJudged table.now counts.detectors counts.observables counts.errors) }
+    ensures err { IfErr result (λ fault. (fault ≡ memory_fault) ⊎ (model_of_tree table.now ≡ Err fault)) }
+{
+    table.fits();
+    if let Some(counts) = table.chain_counts() {
+        return Ok(counts);
+    }
+    if has_many_lines(table) {
+        return Err(Fault {
+            cause: Cause::DemSteps,
+            line: 0,
+        });
+    }
+    counts_of(alloc, table)
+}
+
+/// The error model that a text writes, or its one refusal. The model's lines stay in the text. The cause is `Memory` only
+/// where memory runs out.
+pub fn place<'a, A: Allocator + Copy>(alloc: A, text: &'a [u8]) -> Result<PlacedModel<'a, A>, Fault>
+    ensures ok { IfOk result (λ model. model_in text.now ≡ Ok model) }
+    ensures err { IfErr result (λ fault. (fault ≡ memory_fault) ⊎ (model_in text.now ≡ Err fault)) }
+{
+    match read_lines(alloc, text) {
+        Ok(table) => match judged(alloc, &table) {
+            Ok(counts) => Ok(PlacedModel { table, counts }),
+            Err(fault) => Err(fault),
+        },
+        Err(fault) => Err(fault),
+    }
+}
+
+/// The same with its lines unrolled.
+pub fn read<'a, A: Allocator + Copy>(alloc: A, text: &'a [u8]) -> Result<Model<'a, A>, Fault>
+    ensures ok { IfOk result (λ model. model_in text.now ≡ Ok model) }
+    ensures err { IfErr result (λ fault. (fault ≡ memory_fault) ⊎ (model_in text.now ≡ Err fault)) }
+{
+    let placed = match place(alloc, text) {
+        Ok(placed) => placed,
+        Err(fault) => return Err(fault),
+    };
+    match model_of(alloc, &placed) {
+        Ok(model) => Ok(model),
+        Err(_) => Err(Fault::MEMORY),
+    }
+}

@@ -1,0 +1,5 @@
+mod ErrorLineLemmas
+mod HeldTextLemmas
+mod NameLemmas
+mod ShortLineLemmas
+mod TextLemmas

@@ -1,0 +1,34 @@
+-- The texts of targets, one after another, and how long each is.
+use Rattle.std.proofs.Common.{◌≡◌, ℕ, zero, suc, ◌+◌, ◌-◌, ◌<◌, ◌≤◌, nat_lt, Bool, true, false, if◌then◌else◌, List, [], ◌∷◌, ◌++◌, length, get_or, drop, ltb-true, ltb-false, refl, ap, ap₂, sym, ◌∙◌, arith, append_assoc}
+use Rattle.std.specs.Prelude.{codes, decimal}
+use Rattle.std.proofs.lemmas.Fmt.{length-decimal-le}
+use Rattle.std.proofs.lemmas.List.{drop_more}
+use Rattle.error_models.specs.ErrorLines.{text_at}
+use Rattle.error_models.specs.ModelText.{target_text, targets_text}
+
+six_digits : (n : ℕ) → n < 1000000 → length (decimal n) ≤ 6
+six_digits n h = length-decimal-le 6 n (omega arith) (omega (arith, h)) (omega (arith, h))
+
+name_fits : (detectors target : ℕ) (b : Bool) → nat_lt target detectors ≡ b → detectors ≤ 1000000 → target < detectors + 1000000
+    → length (if b then codes " D" ++ decimal target else codes " L" ++ decimal (target - detectors)) ≤ 8
+name_fits detectors target true is few near = omega (arith, six_digits target (omega (arith, ltb-true target detectors is, few)))
+name_fits detectors target false is few near = omega (arith, six_digits (target - detectors) (omega (arith, ltb-false target detectors is, near)))
+
+pub length-target_text : (detectors target : ℕ) → detectors ≤ 1000000 → target < detectors + 1000000 → length (target_text detectors target) ≤ 8
+length-target_text detectors target few near = name_fits detectors target (nat_lt target detectors) refl few near
+
+-- one more, behind texts of which each is that of its place
+pub texts_pushed : (f : ℕ → List ℕ) (texts : List (List ℕ)) (text : List ℕ) → ((t : ℕ) → t < length texts → text_at texts t ≡ f t) → text ≡ f (length texts)
+    → (t : ℕ) → t < length (texts ++ text ∷ []) → text_at (texts ++ text ∷ []) t ≡ f t
+texts_pushed f [] text are is zero h = is
+texts_pushed f [] text are is (suc t) h = absurd (omega (arith, h))
+texts_pushed f (other ∷ texts) text are is zero h = are zero (omega arith)
+texts_pushed f (other ∷ texts) text are is (suc t) h = texts_pushed (λ k. f (suc k)) texts text (λ k l. are (suc k) (omega (arith, l))) is t (omega (arith, h))
+
+-- a target more, before those behind it
+pub one_target_more : (detectors : ℕ) (targets name rest : List ℕ) (i left d : ℕ) → i + 1 ≡ left → i < length targets → name ≡ target_text detectors (get_or targets i d)
+    → name ++ (targets_text detectors (drop left targets) ++ rest) ≡ targets_text detectors (drop i targets) ++ rest
+one_target_more detectors targets name rest i left d next within is =
+    sym (append_assoc name (targets_text detectors (drop left targets)) rest)
+    ∙ ap (λ l. l ++ rest) (ap₂ (λ l n. l ++ targets_text detectors (drop n targets)) is (sym next)
+    ∙ ap (targets_text detectors) (sym (drop_more targets i d within)))

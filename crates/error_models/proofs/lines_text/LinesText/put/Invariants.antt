@@ -1,0 +1,15 @@
+use Rattle.std.proofs.Common.{◌≡◌, ◌≤◌, ◌++◌, length, drop}
+use Rattle.error_models.proofs.lines_text.LinesText.put.Given as goal
+
+-- the bytes from this one on are there
+abbrev pub invariant-loop-left : goal.invariant-loop-left
+invariant-loop-left g l =
+    record {
+      within : l.left ≤ length l.bytes;
+      names : l.self-inside.names ≡ record { detectors = l.fn.self.detectors; targets = l.fn.self.targets };
+      texts : l.self-inside.texts.items ≡ l.fn.self.texts;
+      text : l.self-inside.blocks.text ≡ drop l.left l.bytes ++ l.fn.self.text;
+    }
+
+abbrev pub decreases-loop-left : goal.decreases-loop-left
+decreases-loop-left g l = l.left

@@ -1,0 +1,4 @@
+pub mod ErrorLines
+pub mod HeldText
+pub mod ModelText
+pub mod private

@@ -1,0 +1,3 @@
+pub mod LineHeads
+pub mod ShortLines
+pub mod TargetNames

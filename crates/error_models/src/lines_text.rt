@@ -1,0 +1,174 @@
+//! The text of error lines that are found from the last to the first.
+ghost use Rattle.std.specs.Prelude.{◌≡◌, ◌<◌, ◌≤◌, ◌+◌, ◌-◌, ◌^◌, ◌++◌, [], All, length, min, IfOk, OnOk};
+ghost use Rattle.error_models.specs.ErrorLines.{text_at, KeepsTexts};
+ghost use Rattle.error_models.specs.HeldText.{EndsIn};
+ghost use Rattle.error_models.specs.ModelText.{line_text, targets_text};
+ghost use Rattle.streams.specs.Pushed.{Pushes};
+
+use crate::held_text::HeldText;
+use crate::line_text::LineText;
+use crate::names::Names;
+use crate::short_lines::{SHORT_TARGETS, SHORT_TEXT};
+use crate::text_blocks::{PART, TextBlocks};
+use crate::texts::number_of;
+use std::alloc::{AllocError, Allocator};
+use std::marker::Model;
+use step_model::Sink;
+use streams::Pieces;
+
+/// The text of error lines, each put before those that were there. So a pass that finds the last line first can write
+/// each when it finds it. The text grows by blocks of 64 KiB, and what was written isn't moved. The texts of targets
+/// are made once, and that of a probability when it is kept, so a line is made of copies.
+#[derive(Drop)]
+pub struct LinesText<'a, A: Allocator + Copy> {
+    names: Names<A>,
+    texts: Vec<LineText<'a>, A>,
+    blocks: TextBlocks<A>,
+}
+
+impl<'a, A: Allocator + Copy> Model for LinesText<'a, A> {
+    ghost use Rattle.error_models.specs.HeldText.{Held};
+
+    ghost Value = { Held };
+
+    ghost view = { λ t. record {
+      detectors = t.names.detectors;
+      targets = t.names.targets;
+      texts = t.texts.items;
+      text = t.blocks.text;
+    } };
+}
+
+impl<'a, A: Allocator + Copy> LinesText<'a, A> {
+    /// No text yet, of lines whose targets are this many, the first of them detectors. (With these bounds the number of
+    /// a detector or an observable has at most six digits.)
+    pub fn new(alloc: A, detectors: usize, targets: usize) -> Result<Self, AllocError>
+        requires few_detectors { detectors ≤ 1000000 }
+        requires few { targets ≤ detectors + 1000000 }
+        ensures { IfOk result (λ lines. lines ≡ record { detectors = detectors; targets = targets; texts = []; text = [] }) }
+    {
+        Ok(LinesText {
+            names: Names::new(alloc, detectors, targets)?,
+            texts: Vec::new(alloc),
+            blocks: TextBlocks::new(alloc),
+        })
+    }
+
+    /// Keeps a probability's text, and answers its number. It fails only where memory runs out.
+    pub fn keep_text(&mut self, text: &'a [u8]) -> Result<usize, AllocError>
+        ensures within { IfOk result (λ number. number < length self.new.texts) }
+        ensures named { IfOk result (λ number. text_at self.new.texts number ≡ text.now) }
+
+        // After an error too.
+        ensures kept { KeepsTexts self.old.texts self.new.texts }
+        ensures detectors { self.new.detectors ≡ self.old.detectors }
+        ensures targets { self.new.targets ≡ self.old.targets }
+        ensures text { self.new.text ≡ self.old.text }
+    {
+        number_of(&mut self.texts, text)
+    }
+
+    /// Puts a line, with the kept probability text of this number, before those that were there. It fails only where
+    /// memory runs out. Those lines are then still there, and before them the end of the line, or none of it.
+    pub fn put_line(&mut self, number: usize, targets: &[u32]) -> Result<(), AllocError>
+        requires number { number < length self.old.texts }
+        requires targets { All (λ target. target < self.old.targets) targets.now }
+        ensures ok { OnOk result (self.new.text ≡ line_text self.old.detectors (record { text = text_at self.old.texts number; targets = targets.now }) ++ self.old.text) }
+        ensures kept { EndsIn self.old.text self.new.text }
+        ensures detectors { self.new.detectors ≡ self.old.detectors }
+        ensures targets { self.new.targets ≡ self.old.targets }
+        ensures texts { self.new.texts ≡ self.old.texts }
+    {
+        let text = &self.texts[number];
+        if text.text().len() > SHORT_TEXT || targets.len() > SHORT_TARGETS {
+            let text = text.text();
+            return self.put_long_line(text, targets);
+        }
+        self.blocks.make_room()?;
+        self.blocks.put_line(&self.names, text, targets);
+        Ok(())
+    }
+
+    #[inline(never)]
+    fn put_long_line(&mut self, text: &[u8], targets: &[u32]) -> Result<(), AllocError>
+        requires { All (λ target. target < self.old.targets) targets.now }
+        ensures ok { OnOk result (self.new.text ≡ line_text self.old.detectors (record { text = text.now; targets = targets.now }) ++ self.old.text) }
+        ensures kept { EndsIn self.old.text self.new.text }
+        ensures detectors { self.new.detectors ≡ self.old.detectors }
+        ensures targets { self.new.targets ≡ self.old.targets }
+        ensures texts { self.new.texts ≡ self.old.texts }
+    {
+        self.put(b"\n")?;
+        self.put_targets(targets)?;
+        self.put(b")")?;
+        self.put(text)?;
+        self.put(b"error(")
+    }
+
+    // Puts bytes before the text.
+    fn put(&mut self, bytes: &[u8]) -> Result<(), AllocError>
+        ensures ok { OnOk result (self.new.text ≡ bytes.now ++ self.old.text) }
+        ensures kept { EndsIn self.old.text self.new.text }
+        ensures detectors { self.new.detectors ≡ self.old.detectors }
+        ensures targets { self.new.targets ≡ self.old.targets }
+        ensures texts { self.new.texts ≡ self.old.texts }
+    {
+        let mut left = bytes.len();
+        while left > 0 {
+            let from = left.saturating_sub(PART);
+            self.blocks.make_room()?;
+            self.blocks.put(&bytes[from..left]);
+            left = from;
+        }
+        Ok(())
+    }
+
+    // Puts the text of targets before the text.
+    fn put_targets(&mut self, targets: &[u32]) -> Result<(), AllocError>
+        requires { All (λ target. target < self.old.targets) targets.now }
+        ensures ok { OnOk result (self.new.text ≡ targets_text self.old.detectors targets.now ++ self.old.text) }
+        ensures kept { EndsIn self.old.text self.new.text }
+        ensures detectors { self.new.detectors ≡ self.old.detectors }
+        ensures targets { self.new.targets ≡ self.old.targets }
+        ensures texts { self.new.texts ≡ self.old.texts }
+    {
+        let mut left = targets.len();
+        while left > 0 {
+            let from = left.saturating_sub(SHORT_TARGETS);
+            self.blocks.make_room()?;
+            self.blocks.put_targets(&self.names, &targets[from..left]);
+            left = from;
+        }
+        Ok(())
+    }
+
+    /// How many bytes the text has, at most the greatest number.
+    pub fn len(&self) -> usize
+        ensures { result ≡ min (length self.now.text) (2 ^ 64 - 1) }
+    {
+        self.blocks.len()
+    }
+
+    /// Takes the text out, so that it is written when those before it are. Takes no memory.
+    pub fn take_text(&mut self) -> HeldText<A>
+        ensures text { result ≡ self.old.text }
+        ensures left { self.new ≡ record self.old { text = [] } }
+    {
+        self.blocks.take()
+    }
+
+    /// Keeps the blocks of a text that was written, so that they are filled again before new ones are taken. Takes no
+    /// memory.
+    pub fn reuse(&mut self, held: HeldText<A>)
+        ensures { self.new ≡ self.old }
+    {
+        self.blocks.reuse(held);
+    }
+
+    /// Pushes the text, block by block.
+    pub fn push_to<W: Sink>(&self, out: &mut Pieces, sink: &mut W)
+        ensures { Pushes W.taken W.failures sink.old sink.new out.old out.new self.now.text }
+    {
+        self.blocks.push_to(out, sink);
+    }
+}

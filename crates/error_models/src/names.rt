@@ -1,0 +1,115 @@
+//! The texts of targets, made once for all lines.
+ghost use Rattle.std.specs.Prelude.{◌≡◌, ◌<◌, ◌≤◌, ◌+◌, ◌*◌, ◌++◌, All, IfOk, drop, length};
+ghost use Rattle.error_models.specs.ModelText.{target_text, targets_text};
+
+use crate::short_lines::target_before;
+use std::alloc::{AllocError, Allocator};
+use std::marker::Model;
+
+/// How long the text of a target is at most here, in bytes: a space, a letter and six digits.
+const NAME: usize = 8;
+
+/// How long the text of any target of 32 bits is at most.
+const ANY_NAME: usize = 12;
+
+/// The text of a target, at the end of a fixed number of bytes, so that all of them are copied at once.
+#[derive(Drop)]
+struct Name {
+    bytes: [u8; NAME],
+    len: u8,
+}
+
+impl Model for Name {
+    ghost use Rattle.std.specs.Prelude.{List, ℕ, ◌-◌, ◌≤◌, drop};
+
+    ghost Value = { List ℕ };
+
+    ghost view = { λ n. drop (8 - n.len) n.bytes };
+
+    ghost invariant = { λ n. n.len ≤ 8 };
+}
+
+impl Name {
+    // The name of a target, in a model with this many detectors.
+    fn new(detectors: usize, target: usize) -> Self
+        requires few_detectors { detectors ≤ 1000000 }
+        requires few { target < detectors + 1000000 }
+        ensures { result ≡ target_text detectors target }
+    {
+        let mut text = [0; ANY_NAME];
+        let start = target_before(&mut text, ANY_NAME, detectors, target as u32);
+        let mut bytes = [0; NAME];
+        bytes.copy_from_slice(&text[ANY_NAME - NAME..]);
+        Name {
+            bytes,
+            len: (ANY_NAME - start) as u8,
+        }
+    }
+
+    // Writes the text so that it ends at `end`, and answers where it starts.
+    #[inline(always)]
+    fn before(&self, buffer: &mut [u8], end: usize) -> usize
+        requires room { 8 ≤ end }
+        requires within { end ≤ length buffer.old }
+        ensures within { result ≤ end }
+        ensures least { end ≤ result + 8 }
+        ensures written { drop result buffer.new ≡ self.now ++ drop end buffer.old }
+    {
+        // A local copy cannot overlap the buffer, so no check is made at run time.
+        let bytes = self.bytes;
+        buffer[end - NAME..end].copy_from_slice(&bytes);
+        end - self.len as usize
+    }
+}
+
+/// The texts of targets, of which the first are detectors.
+#[derive(Drop)]
+pub(crate) struct Names<A: Allocator + Copy> {
+    detectors: usize,
+    names: Vec<Name, A>,
+}
+
+impl<A: Allocator + Copy> Model for Names<A> {
+    ghost use Rattle.std.specs.Prelude.{length};
+    ghost use Rattle.error_models.specs.private.TargetNames.{Named, AreNames};
+
+    ghost Value = { Named };
+
+    ghost view = { λ n. record { detectors = n.detectors; targets = length n.names.items } };
+
+    ghost invariant = { λ n. AreNames n.detectors n.names.items };
+}
+
+impl<A: Allocator + Copy> Names<A> {
+    /// The texts of this many targets, of which the first `detectors` are detectors.
+    pub(crate) fn new(alloc: A, detectors: usize, targets: usize) -> Result<Self, AllocError>
+        requires few_detectors { detectors ≤ 1000000 }
+        requires few { targets ≤ detectors + 1000000 }
+        ensures { IfOk result (λ names. names ≡ record { detectors = detectors; targets = targets }) }
+    {
+        let mut names = Vec::with_capacity(alloc, targets)?;
+        for target in 0..targets {
+            names.push_reserved(Name::new(detectors, target));
+        }
+        Ok(Names { detectors, names })
+    }
+
+    /// Writes some targets so that they end at `end`, and answers where they start.
+    #[inline(always)]
+    pub(crate) fn targets_before(&self, buffer: &mut [u8], end: usize, targets: &[u32]) -> usize
+        requires within { end ≤ length buffer.old }
+        requires room { length targets.now * 8 ≤ end }
+        requires targets { All (λ target. target < self.now.targets) targets.now }
+        ensures within { result ≤ end }
+        ensures least { end ≤ result + length targets.now * 8 }
+        ensures written { drop result buffer.new ≡ targets_text self.now.detectors targets.now ++ drop end buffer.old }
+    {
+        let mut left = targets.len();
+        let mut at = end;
+        while left > 0 {
+            left -= 1;
+            at = self.names[targets[left] as usize].before(buffer, at);
+        }
+        at
+    }
+}

@@ -1,0 +1,99 @@
+-- Drawing into two lanes at once: into no word, into one, and into spans that meet; and what the lanes then are.
+use Rattle.std.proofs.Common.{◌≡◌, ℕ, ◌<◌, ◌≤◌, Bool, false, List, length, get_or, map, replicate, refl, sym, ap, ◌∙◌, arith, ⊎_elim}
+use Rattle.std.specs.Prelude.{◌≢◌, ◌||◌}
+use Rattle.std.specs.List.{range_with_len}
+use Rattle.std.proofs.lemmas.Bool.{cases_lt}
+use Rattle.bit_rows.specs.Lanes.{lane, lane_bit}
+use Rattle.forward_sim.specs.private.LaneDraws.{DrawsInto}
+use Rattle.forward_sim.specs.private.PairDraws.{DrawsIntoBoth}
+use Rattle.forward_sim.proofs.LaneLemmas.{lane_filled, lane_same}
+
+pub both_nothing : (i j start : ℕ) (hits other_hits : ℕ → Bool) (words : List ℕ) → DrawsIntoBoth i j start start hits other_hits words words
+both_nothing i j start hits other_hits words =
+    record {
+      size = refl;
+      below = λ k h. refl;
+      first = λ k h l. absurd (omega arith);
+      second = λ k h l. absurd (omega arith);
+      above = λ k h. refl;
+      others = λ l k h m. refl;
+    }
+
+-- no word of a span where nothing is true
+pub both_missed : (i j start end : ℕ) (hits other_hits : ℕ → Bool) (words : List ℕ) → ((k : ℕ) → hits k ≡ false) → ((k : ℕ) → other_hits k ≡ false)
+    → DrawsIntoBoth i j start end hits other_hits words words
+both_missed i j start end hits other_hits words none none_other =
+    record {
+      size = refl;
+      below = λ k h. refl;
+      first = λ k h l. sym (ap (λ b. b || lane_bit i (get_or words k 0)) (none k));
+      second = λ k h l. sym (ap (λ b. b || lane_bit j (get_or words k 0)) (none_other k));
+      above = λ k h. refl;
+      others = λ l k h m. refl;
+    }
+
+pub both_joined : (i j start at end : ℕ) (hits other_hits : ℕ → Bool) (old middle new : List ℕ) → start ≤ at → at ≤ end
+    → DrawsIntoBoth i j start at hits other_hits old middle → DrawsIntoBoth i j at end hits other_hits middle new → DrawsIntoBoth i j start end hits other_hits old new
+both_joined i j start at end hits other_hits old middle new p q before after =
+    record {
+      size = after.size ∙ before.size;
+      below = λ k h. after.below k (omega arith) ∙ before.below k h;
+      first = λ k h l.
+          ⊎_elim
+          (λ (m : k < at). ap (lane_bit i) (after.below k m) ∙ before.first k h m)
+          (λ (m : at ≤ k). after.first k m l ∙ ap (λ w. hits k || lane_bit i w) (before.above k m))
+          (cases_lt k at);
+      second = λ k h l.
+          ⊎_elim
+          (λ (m : k < at). ap (lane_bit j) (after.below k m) ∙ before.second k h m)
+          (λ (m : at ≤ k). after.second k m l ∙ ap (λ w. other_hits k || lane_bit j w) (before.above k m))
+          (cases_lt k at);
+      above = λ k h. after.above k h ∙ before.above k (omega arith);
+      others = λ l k h m. after.others l k h m ∙ before.others l k h m;
+    }
+
+-- into one lane and then into the other
+pub both_in_turn : (i j start end : ℕ) (hits other_hits truths other_truths : ℕ → Bool) (old middle new : List ℕ) → i ≢ j
+    → ((k : ℕ) → start ≤ k → k < end → hits k ≡ truths k) → ((k : ℕ) → start ≤ k → k < end → other_hits k ≡ other_truths k)
+    → DrawsInto i start end hits old middle → DrawsInto j start end other_hits middle new → DrawsIntoBoth i j start end truths other_truths old new
+both_in_turn i j start end hits other_hits truths other_truths old middle new apart same same_other one other =
+    record {
+      size = other.size ∙ one.size;
+      below = λ k h. other.below k h ∙ one.below k h;
+      first = λ k h l. other.others i k apart ∙ (one.inside k h l ∙ ap (λ b. b || lane_bit i (get_or old k 0)) (same k h l));
+      second = λ k h l.
+          other.inside k h l
+          ∙ (ap (λ b. other_hits k || b) (one.others j k (λ e. apart (sym e)))
+          ∙ ap (λ b. b || lane_bit j (get_or old k 0)) (same_other k h l));
+      above = λ k h. other.above k h ∙ one.above k h;
+      others = λ l k h m. other.others l k m ∙ one.others l k h;
+    }
+
+pub both_like : (i j start end : ℕ) (hits other_hits truths other_truths : ℕ → Bool) (old new : List ℕ)
+    → ((k : ℕ) → start ≤ k → k < end → hits k ≡ truths k) → ((k : ℕ) → start ≤ k → k < end → other_hits k ≡ other_truths k)
+    → DrawsIntoBoth i j start end hits other_hits old new → DrawsIntoBoth i j start end truths other_truths old new
+both_like i j start end hits other_hits truths other_truths old new same same_other draws =
+    record {
+      size = draws.size;
+      below = draws.below;
+      first = λ k h l. draws.first k h l ∙ ap (λ b. b || lane_bit i (get_or old k 0)) (same k h l);
+      second = λ k h l. draws.second k h l ∙ ap (λ b. b || lane_bit j (get_or old k 0)) (same_other k h l);
+      above = draws.above;
+      others = draws.others;
+    }
+
+-- lanes that were blank hold what was drawn into them, and the other lanes are as they were
+pub first_drawn : (i j n : ℕ) (hits other_hits : ℕ → Bool) (old new : List ℕ) → length old ≡ n → lane i old ≡ replicate n false
+    → DrawsIntoBoth i j 0 n hits other_hits old new → lane i new ≡ map hits (range_with_len 0 n)
+first_drawn i j n hits other_hits old new long blank draws =
+    lane_filled i n hits old new long draws.size blank (λ k l. draws.first k (omega arith) l)
+
+pub second_drawn : (i j n : ℕ) (hits other_hits : ℕ → Bool) (old new : List ℕ) → length old ≡ n → lane j old ≡ replicate n false
+    → DrawsIntoBoth i j 0 n hits other_hits old new → lane j new ≡ map other_hits (range_with_len 0 n)
+second_drawn i j n hits other_hits old new long blank draws =
+    lane_filled j n other_hits old new long draws.size blank (λ k l. draws.second k (omega arith) l)
+
+pub both_kept : (l i j start end : ℕ) (hits other_hits : ℕ → Bool) (old new : List ℕ) → l ≢ i → l ≢ j
+    → DrawsIntoBoth i j start end hits other_hits old new → lane l new ≡ lane l old
+both_kept l i j start end hits other_hits old new ne ne_other draws =
+    lane_same l old new draws.size (λ k. draws.others l k ne ne_other)

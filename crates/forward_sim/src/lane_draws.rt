@@ -1,0 +1,83 @@
+// A shot drawn into one lane of words.
+ghost use Rattle.std.specs.Prelude.{◌≡◌, ◌==◌, ◌||◌, ℕ, ◌+◌, ◌-◌, ◌<◌, ◌≤◌, nat_lt, if◌then◌else◌, length};
+ghost use Rattle.bit_rows.specs.Lanes.{lane_bit};
+ghost use Rattle.forward_sim.specs.private.BoundRuns.{bounds_in};
+ghost use Rattle.forward_sim.specs.Drawn.{after_words, word_at};
+ghost use Rattle.forward_sim.specs.private.LaneDraws.{DrawsInto, coin_hits, fault_hits};
+
+use crate::runs::BoundRun;
+use bit_rows::lanes::with_bit;
+use rand_core::utils::NextWord;
+use rand_pcg::Pcg64;
+
+// A fault happens where its word is below its bound.
+pub(crate) fn draw_faults(faults: &mut [u64], runs: &[BoundRun], lane: u32, rng: &mut Pcg64)
+    requires faults { length faults.old ≡ length (bounds_in runs.now) }
+    requires lane { lane < 64 }
+    ensures drawn { DrawsInto lane 0 (length (bounds_in runs.now)) (fault_hits (bounds_in runs.now) rng.old) faults.old faults.new }
+    ensures taken { rng.new ≡ after_words (length (bounds_in runs.now)) rng.old }
+{
+    let mut start = 0;
+    for r in 0..runs.len() {
+        let end = start + runs[r].count;
+        draw_run(faults, start, end, runs[r].bound, lane, rng);
+        start = end;
+    }
+}
+
+// The same for faults of one bound.
+fn draw_run(faults: &mut [u64], start: usize, end: usize, bound: u128, lane: u32, rng: &mut Pcg64)
+    requires order { start ≤ end }
+    requires within { end ≤ length faults.old }
+    requires lane { lane < 64 }
+    ensures drawn { DrawsInto lane start end (λ f. nat_lt (word_at rng.old (f - start)) bound) faults.old faults.new }
+    ensures taken { rng.new ≡ after_words (end - start) rng.old }
+{
+    for f in start..end {
+        let word = u128::from(rng.next_word());
+        strike(faults, f, lane, word < bound);
+    }
+}
+
+// Most faults do not happen, so a word is written only where one does.
+#[inline(always)]
+pub(crate) fn strike(faults: &mut [u64], f: usize, lane: u32, hit: bool)
+    requires within { f < length faults.old }
+    requires lane { lane < 64 }
+    ensures { DrawsInto lane f (f + 1) (λ _. hit) faults.old faults.new }
+{
+    if hit {
+        faults[f] = with_bit(faults[f], lane);
+    }
+}
+
+// A coin is its word's lowest bit.
+pub(crate) fn draw_coins(coins: &mut [u64], lane: u32, rng: &mut Pcg64)
+    requires { lane < 64 }
+    ensures drawn { DrawsInto lane 0 (length coins.old) (coin_hits rng.old) coins.old coins.new }
+    ensures taken { rng.new ≡ after_words (length coins.old) rng.old }
+{
+    for c in 0..coins.len() {
+        let coin = rng.next_word() % 2 == 1;
+        toss(coins, c, lane, coin);
+    }
+}
+
+#[inline(always)]
+pub(crate) fn toss(coins: &mut [u64], c: usize, lane: u32, coin: bool)
+    requires within { c < length coins.old }
+    requires lane { lane < 64 }
+    ensures { DrawsInto lane c (c + 1) (λ _. coin) coins.old coins.new }
+{
+    coins[c] = with_coin(coins[c], lane, coin);
+}
+
+// A coin is 1 half of the time, so no branch is taken on it.
+#[inline(always)]
+fn with_coin(word: u64, lane: u32, coin: bool) -> u64
+    requires { lane < 64 }
+    ensures { (j : ℕ) → lane_bit j result ≡ (if j == lane then (coin || lane_bit j word) else lane_bit j word) }
+{
+    let heads = with_bit(word, lane);
+    if coin { heads } else { word }
+}

@@ -1,0 +1,53 @@
+// The bounds of a program's faults, as runs of equal ones: a noise instruction makes many faults of one bound.
+ghost use Rattle.std.specs.Prelude.{◌≡◌, ◌+◌, ◌^◌, ◌<◌, [], ◌∷◌, ◌++◌, IfOk, OnOk};
+ghost use Rattle.forward_sim.specs.private.BoundRuns.{bounds_in, bounds_of_run};
+ghost use Rattle.forward_sim.specs.Drawn.{bounds_of};
+
+use programs::{Program, Walk, next_fault};
+use std::alloc::{AllocError, Allocator};
+
+/// Faults one after another that have one bound.
+#[derive(Clone, Copy)]
+pub(crate) struct BoundRun {
+    pub(crate) bound: u128,
+    pub(crate) count: usize,
+}
+
+pub(crate) fn bound_runs<A: Allocator + Copy>(
+    alloc: A,
+    program: &Program<'_, A>,
+) -> Result<Vec<BoundRun, A>, AllocError>
+    ensures { IfOk result (λ runs. bounds_in runs.items ≡ bounds_of program.now.listing) }
+{
+    program.well_formed();
+    let mut runs = Vec::new(alloc);
+    let mut last = BoundRun { bound: 0, count: 0 };
+    let mut walk = Walk::start(program);
+    for _number in 0..program.fault_count() {
+        let Some(fault) = next_fault(&mut walk) else {
+            // Never: the walk meets as many faults as are counted.
+            return Ok(runs);
+        };
+        count_fault(&mut runs, &mut last, program.entry_bound(fault.entry))?;
+    }
+    runs.push(last)?;
+    Ok(runs)
+}
+
+// A fault of this bound goes on with the last run, or it begins one.
+fn count_fault<A: Allocator + Copy>(
+    runs: &mut Vec<BoundRun, A>,
+    last: &mut BoundRun,
+    bound: u128,
+) -> Result<(), AllocError>
+    requires { last.old.count + 1 < 2 ^ 64 }
+    ensures { OnOk result (bounds_in runs.new.items ++ bounds_of_run last.new ≡ (bounds_in runs.old.items ++ bounds_of_run last.old) ++ bound ∷ []) }
+{
+    if bound == last.bound {
+        last.count += 1;
+        return Ok(());
+    }
+    runs.push(*last)?;
+    *last = BoundRun { bound, count: 1 };
+    Ok(())
+}

@@ -1,0 +1,83 @@
+ghost use Rattle.std.specs.Prelude.{◌≡◌, ◌≤◌, length, replicate, IfOk, IfErr};
+ghost use Rattle.step_model.specs.Faults.{memory_fault};
+ghost use Rattle.forward_sim.specs.Drawn.{bounds_of, after_shots};
+ghost use Rattle.forward_sim.specs.Shots.{AreDrawn};
+
+use crate::runs::{BoundRun, bound_runs};
+use crate::side_draws::draw_lanes;
+use programs::Program;
+use rand_pcg::Pcg64;
+use std::alloc::Allocator;
+use std::marker::Model;
+use step_model::Fault;
+
+/// Up to 64 shots of a program, side by side: a word for each fault, whose bit j says whether it happens in shot j, and
+/// one for each collapse, with its coins. Each call of `draw` draws them anew, in the memory that `new` took.
+#[derive(Drop)]
+pub struct Shots<A: Allocator + Copy> {
+    runs: Vec<BoundRun, A>,
+    faults: Vec<u64, A>,
+    coins: Vec<u64, A>,
+}
+
+impl<A: Allocator + Copy> Model for Shots<A> {
+    ghost use Rattle.std.specs.Prelude.{◌≡◌, length};
+    ghost use Rattle.forward_sim.specs.private.BoundRuns.{bounds_in};
+    ghost use Rattle.forward_sim.specs.Shots.{ShotWords};
+
+    ghost Value = { ShotWords };
+
+    ghost view = { λ s. record { bounds = bounds_in s.runs.items; faults = s.faults.items; coins = s.coins.items } };
+
+    ghost invariant = { λ s. length s.faults.items ≡ length (bounds_in s.runs.items) };
+}
+
+impl<A: Allocator + Copy> Shots<A> {
+    /// Shots in which no fault happens and all coins are 0. All memory is taken here.
+    pub fn new(alloc: A, program: &Program<'_, A>) -> Result<Self, Fault>
+        ensures bounds { IfOk result (λ shots. shots.bounds ≡ bounds_of program.now.listing) }
+        ensures faults { IfOk result (λ shots. shots.faults ≡ replicate (length program.now.listing.faults) 0) }
+        ensures coins { IfOk result (λ shots. shots.coins ≡ replicate program.now.listing.collapses 0) }
+        ensures err { IfErr result (λ fault. fault ≡ memory_fault) }
+    {
+        let runs = bound_runs(alloc, program)?;
+        let faults = vec![in alloc; 0u64; program.fault_count() as usize]?;
+        let coins = vec![in alloc; 0u64; program.collapse_count() as usize]?;
+        Ok(Shots {
+            runs,
+            faults,
+            coins,
+        })
+    }
+
+    /// Draws the next `count` shots by the generator's next words: for each shot one word for each fault, and then one
+    /// for each collapse. Takes no memory.
+    pub fn draw(&mut self, count: u32, rng: &mut Pcg64)
+        requires { count ≤ 64 }
+        ensures bounds { self.new.bounds ≡ self.old.bounds }
+        ensures drawn { AreDrawn self.old.bounds (length self.old.coins) count rng.old self.new.faults self.new.coins }
+        ensures taken { rng.new ≡ after_shots (length self.old.bounds) (length self.old.coins) count rng.old }
+    {
+        draw_lanes(
+            &mut self.faults,
+            &mut self.coins,
+            self.runs.as_slice(),
+            count,
+            rng,
+        );
+    }
+
+    /// For each fault a word, whose bit j says whether it happens in shot j.
+    pub fn faults(&self) -> &[u64]
+        ensures { result.now ≡ self.now.faults }
+    {
+        self.faults.as_slice()
+    }
+
+    /// For each collapse a word, whose bit j is its coin in shot j.
+    pub fn coins(&self) -> &[u64]
+        ensures { result.now ≡ self.now.coins }
+    {
+        self.coins.as_slice()
+    }
+}

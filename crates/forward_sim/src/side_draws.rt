@@ -1,0 +1,53 @@
+// Shots drawn side by side into the lanes of words.
+ghost use Rattle.std.specs.Prelude.{◌≡◌, ◌+◌, ◌*◌, ◌≤◌, length};
+ghost use Rattle.forward_sim.specs.private.BoundRuns.{bounds_in};
+ghost use Rattle.forward_sim.specs.Drawn.{after_shots};
+ghost use Rattle.forward_sim.specs.Shots.{AreDrawn};
+
+use crate::copies::copy_of;
+use crate::lane_draws::{draw_coins, draw_faults};
+use crate::pair_draws::{LanePair, draw_pair};
+use crate::runs::BoundRun;
+use rand_pcg::Pcg64;
+
+pub(crate) fn draw_lanes(
+    faults: &mut [u64],
+    coins: &mut [u64],
+    runs: &[BoundRun],
+    count: u32,
+    rng: &mut Pcg64,
+)
+    requires faults { length faults.old ≡ length (bounds_in runs.now) }
+    requires count { count ≤ 64 }
+    ensures drawn { AreDrawn (bounds_in runs.now) (length coins.old) count rng.old faults.new coins.new }
+    ensures taken { rng.new ≡ after_shots (length (bounds_in runs.now)) (length coins.old) count rng.old }
+{
+    draw_halves(faults, coins, runs, count / 2, rng);
+    if count % 2 == 1 {
+        draw_faults(faults, runs, count - 1, rng);
+        draw_coins(coins, count - 1, rng);
+    }
+}
+
+// Draws twice as many shots as `half`. A second generator draws those of the second half in step with those of the
+// first, so that neither waits for the other's words.
+fn draw_halves(faults: &mut [u64], coins: &mut [u64], runs: &[BoundRun], half: u32, rng: &mut Pcg64)
+    requires faults { length faults.old ≡ length (bounds_in runs.now) }
+    requires half { half ≤ 32 }
+    ensures drawn { AreDrawn (bounds_in runs.now) (length coins.old) (2 * half) rng.old faults.new coins.new }
+    ensures taken { rng.new ≡ after_shots (length (bounds_in runs.now)) (length coins.old) (2 * half) rng.old }
+{
+    faults.fill(0);
+    coins.fill(0);
+    let words = faults.len() as u128 + coins.len() as u128;
+    let mut second = copy_of(rng);
+    second.advance(u128::from(half) * words);
+    for lane in 0..half {
+        let lanes = LanePair {
+            first: lane,
+            second: half + lane,
+        };
+        draw_pair(faults, coins, runs, lanes, rng, &mut second);
+    }
+    *rng = second;
+}
