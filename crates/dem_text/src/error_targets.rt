@@ -3,7 +3,7 @@ ghost use Rattle.std.specs.Char.{is_ascii_digit};
 ghost use Rattle.dem_text.specs.private.ErrorTexts.{BeginsWithTargets, IsNumberFront, IsTargetFront, ends_line};
 
 use crate::checks::is_target_beyond;
-use crate::counts::{NONE, Extent, raised_to};
+use crate::counts::{Extent, NONE, raised_to};
 use crate::target::Target;
 
 /// The greatest number after which one more digit is read.

@@ -6,7 +6,7 @@ ghost use Rattle.stim_lexer.specs.Texts.{refused};
 ghost use Rattle.dem_text.specs.Models.{first_beyond, is_beyond, placed_lines};
 ghost use Rattle.dem_text.specs.private.Summed.{AreCounts, HasCounted};
 
-use crate::counts::{NO_LINES, LineCounts};
+use crate::counts::{LineCounts, NO_LINES};
 use crate::placed_line::PlacedLine;
 use crate::table::LineTable;
 use crate::walk::Walk;

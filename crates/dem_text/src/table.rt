@@ -5,7 +5,7 @@ ghost use Rattle.stim_lexer.specs.Trees.{InstructionLine, items_of};
 ghost use Rattle.dem_text.specs.private.Chains.{IsChain};
 ghost use Rattle.dem_text.specs.private.TableLines.{HasNoLine, IsTableLine, instruction_of, stand_of};
 
-use crate::counts::{NO_LINES, LineCounts, is_shift};
+use crate::counts::{LineCounts, NO_LINES, is_shift};
 use crate::kept_lines::KeptLines;
 use crate::table_line::{Stand, TableLine};
 use std::alloc::Allocator;

@@ -19,7 +19,7 @@ use crate::last::Last;
 use crate::table::{Causes, Judge, Keyword};
 use std::alloc::{AllocError, Allocator};
 use step_model::Cause;
-use stim_lexer::{LEVELS, Braces, Line, Said};
+use stim_lexer::{Braces, LEVELS, Line, Said};
 
 /// Whether the braces of a line stand otherwise than its keyword asks.
 fn misplaces_brace<O: Copy>(keyword: Option<Keyword<O>>, braces: Braces) -> bool

@@ -1,5 +1,8 @@
 //! Analyses as the table has them, by both trackers, and the coin pairs of its random targets.
 
+use super::are_digits;
+use super::runs::differences;
+use super::table::text_of;
 use backward::{Analysed, Words, analyse};
 use frames::coin_pair;
 use plain_runs::place_of;
@@ -7,9 +10,6 @@ use programs::Program;
 use std::alloc::{AllocError, Global};
 use std::test::Fail;
 use step_model::{Fault, MemorySink, Place};
-use super::are_digits;
-use super::runs::differences;
-use super::table::text_of;
 
 /// Whether each tracker gives this answer.
 pub(super) fn answers_hold(

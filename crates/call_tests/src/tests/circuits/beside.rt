@@ -1,16 +1,15 @@
 //! Drawn shots in batches beside the reference run, whether its words are kept, given up on the way, or found anew.
 ghost use Rattle.std.specs.Prelude.{◌<◌};
 
-use forward_sim::{Records, run};
+use super::table::text_of;
+use forward_sim::{Records, Shots, run};
 use frames::Batch;
 use programs::Program;
 use rand_core::SeedableRng;
 use rand_pcg::Pcg64;
-use sampling::Shots;
 use std::alloc::Global;
 use std::test::Fail;
 use unroll::read_program;
-use super::table::text_of;
 
 /// How many bytes the words may take: none, enough for some collapses, and enough for all.
 const ROOMS: &[usize] = &[0, 60, 10_000];

@@ -1,5 +1,6 @@
 //! A call of which one growth is refused: the first, the second and so on, until none is. A refused call answers want of memory
 //! and gives back what it took.
+use super::lent::{CIRCUIT, Lent, MODEL};
 use programs::Program;
 use std::alloc::{AllocError, Global};
 use std::fmt::Debug;
@@ -8,7 +9,6 @@ use std::test::Fail;
 use step_model::{Cause, Fault};
 use test_support::Scarce;
 use unroll::read_program;
-use super::lent::{CIRCUIT, MODEL, Lent};
 
 /// No call takes so many growths.
 const MOST: u64 = 10_000;

@@ -1,11 +1,11 @@
 //! What calls are lent.
 ghost use Rattle.std.specs.Prelude.{◌≡◌, length, IfOk};
 
+use super::growths::Memory;
 use error_models::Model;
 use pauli_word::Word;
 use programs::Program;
 use std::alloc::AllocError;
-use super::growths::Memory;
 
 /// Every kind of step, on five qubits: 11 collapses, 8 records, 10 faults, 2 detectors and 2 observables. In the run without
 /// faults, with all coins 0, the records are 10010000: the first of each turn is inverted, and its feedback makes qubit 4 1 and

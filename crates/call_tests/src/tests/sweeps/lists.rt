@@ -2,6 +2,8 @@
 //! which one is put nothing is said then, so that only their memory is looked at.
 ghost use Rattle.std.specs.Prelude.{◌≡◌, ◌<◌, ◌≤◌, [], length, IfOk, OnOk};
 
+use super::growths::{Call, Memory, Ration, told};
+use super::lent::Lent;
 use chances::{ChanceText, number_of};
 use error_models::{LinesText, Model, write_behind};
 use flat_lists::FlatLists;
@@ -11,8 +13,6 @@ use programs::{CircuitBuilder, Entries, EntryBuilder, TextStep};
 use std::alloc::{AllocError, Global};
 use step_model::{Fault, MemorySink, Term, read_all};
 use test_support::SlowSource;
-use super::growths::{Call, Memory, Ration, told};
-use super::lent::Lent;
 
 #[derive(Clone, Copy, Debug)]
 pub(super) enum Growing {

@@ -1,12 +1,12 @@
 //! Calls that promise to take no memory.
+use super::growths::{Call, Memory, Ration};
+use super::lent::Lent;
 use forward_sim::Shots;
 use frames::Batch;
 use programs::Program;
 use rand_core::SeedableRng;
 use rand_pcg::Pcg64;
 use step_model::{Fault, MemorySink};
-use super::growths::{Call, Memory, Ration};
-use super::lent::Lent;
 
 #[derive(Clone, Copy, Debug)]
 pub(super) enum Quiet {

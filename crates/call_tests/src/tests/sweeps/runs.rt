@@ -1,6 +1,8 @@
 //! Runs of a program, and shots.
 ghost use Rattle.std.specs.Prelude.{◌≡◌, length};
 
+use super::growths::{Call, Memory, Ration};
+use super::lent::{Lent, are_false};
 use forward_sim::{Records, Reference, Shots, detections, draw, run};
 use frames::Batch;
 use programs::Program;
@@ -9,8 +11,6 @@ use rand_core::utils::NextWord;
 use rand_pcg::Pcg64;
 use sampling::{detect, sample};
 use step_model::{Fault, MemorySink};
-use super::growths::{Call, Memory, Ration};
-use super::lent::{Lent, are_false};
 
 #[derive(Clone, Copy, Debug)]
 pub(super) enum Running {
@@ -110,7 +110,8 @@ fn draw_is_right<'m>(memory: Memory<'m>, program: &Program<'_, Memory<'m>>) -> R
     let mut rng = Pcg64::seed_from_u64(1);
     match draw(memory, program, &mut rng) {
         Ok((faults, coins)) => Ok(
-            faults.as_slice().get(2..4) == Some([true, false].as_slice()) && faults.len() == 10
+            faults.as_slice().get(2..4) == Some([true, false].as_slice())
+                && faults.len() == 10
                 && coins.len() == 11,
         ),
         Err(fault) => Err(if rng.next_word() == Pcg64::seed_from_u64(1).next_word() {

@@ -1,12 +1,12 @@
 //! Readers of texts and of what is given beside them.
+use super::growths::{Call, Memory, Ration};
+use super::lent::{CIRCUIT, Lent, MODEL, are_false};
 use dem_text::PlacedModel;
 use error_models::Model;
 use forward_sim::{read_coins, read_numbers};
 use programs::Program;
 use step_model::Fault;
 use unroll::read_program;
-use super::growths::{Call, Memory, Ration};
-use super::lent::{CIRCUIT, MODEL, Lent, are_false};
 
 #[derive(Clone, Copy, Debug)]
 pub(super) enum Reader {

@@ -1,16 +1,16 @@
 //! The lines of an error model against what runs say that faults flip.
 
-use engine::Status;
-use error_models::Model;
-use programs::Program;
-use std::alloc::Global;
-use step_model::{Fault, MemorySink};
 use super::drawing::{Drawing, row};
 use super::marks::Marks;
 use super::names::PROBABILITIES;
 use super::runs::{are_fixed_below, flipped_by, is_sum_of_flips};
 use super::served::serves_alike;
 use super::{Finding, Tally};
+use engine::Status;
+use error_models::Model;
+use programs::Program;
+use std::alloc::Global;
+use step_model::{Fault, MemorySink};
 
 /// Whether a model has a line for each fault that flips something, and none else, and is what is served.
 pub(super) fn model_holds(

@@ -3,6 +3,8 @@ ghost use Rattle.std.specs.Prelude.{◌≡◌, length, IfOk};
 
 mod texts;
 
+use super::circuits::draw;
+use super::page::Page;
 use engine::{Order, Status, serve};
 use forward_sim::{Records, detections, run};
 use programs::Program;
@@ -13,8 +15,6 @@ use std::test::Fail;
 use step_model::{Fault, MemorySink, MemorySource};
 use texts::TEXTS;
 use unroll::read_program;
-use super::circuits::draw;
-use super::page::Page;
 
 /// Two batches of shots that go side by side, and a short one.
 const SHOTS: u64 = 130;
@@ -104,7 +104,13 @@ fn lines_are(
     let mut left = Some(written);
     for _ in 0..SHOTS {
         let (faults, coins) = forward_sim::draw(alloc, program, &mut rng)?;
-        left = without_line(alloc, program, shown, (faults.as_slice(), coins.as_slice()), left)?;
+        left = without_line(
+            alloc,
+            program,
+            shown,
+            (faults.as_slice(), coins.as_slice()),
+            left,
+        )?;
     }
     Ok(left == Some(b"".as_slice()))
 }

@@ -1,9 +1,9 @@
 //! Whole orders, of which one read or one write fails, and the ends go on after it.
+use super::rows::{ROWS, Row};
 use engine::{Status, serve};
 use std::alloc::Global;
 use step_model::Fault;
 use test_support::{SlowSink, SlowSource};
-use super::rows::{ROWS, Row};
 
 /// Serves a row byte by byte.
 fn serve_row(

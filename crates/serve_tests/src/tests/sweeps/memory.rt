@@ -1,9 +1,9 @@
 //! Whole orders, of which one growth is refused: the first, the second and so on, until none is.
+use super::rows::{ROWS, Row};
 use engine::{Status, serve};
 use std::alloc::Global;
 use step_model::{Fault, MemorySink, MemorySource};
 use test_support::Scarce;
-use super::rows::{ROWS, Row};
 
 /// No row takes so many growths.
 const MOST: u64 = 10_000;
