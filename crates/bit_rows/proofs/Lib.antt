@@ -4,7 +4,7 @@ pub mod Sums
 pub mod RowTotals
 pub mod Carries
 pub mod Blocks
-pub mod Lanes
+pub mod VectorLanes
 pub mod Blanks
 pub mod Marked
 pub mod LaneLaws

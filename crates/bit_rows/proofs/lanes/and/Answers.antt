@@ -1,7 +1,7 @@
 use Rattle.std.proofs.Common.{◌&&◌, sym, ap₂, ◌∙◌}
 use Rattle.bit_rows.proofs.BitLaws.{bit_of-and}
 use Rattle.bit_rows.proofs.LaneLaws.{lane_is_bit}
-use Rattle.bit_rows.proofs.and.Goals as goal
+use Rattle.bit_rows.proofs.lanes.and.Goals as goal
 
 pub returns : goal.returns
 returns c = λ j.

@@ -1,6 +1,6 @@
 use Rattle.std.proofs.Common.{sym, ◌∙◌}
 use Rattle.bit_rows.proofs.LaneLaws.{lane_bit-zero, lane_bit-ones}
-use Rattle.bit_rows.proofs.spread.Goals as goal
+use Rattle.bit_rows.proofs.lanes.spread.Goals as goal
 
 pub returns-then-value : goal.returns-then-value
 returns-then-value c = λ j below. lane_bit-ones j below ∙ sym c.if-value.true

@@ -1,7 +1,7 @@
 use Rattle.std.proofs.Common.{cond, eqb, true, sym, ap, ◌∙◌}
 use Rattle.bit_rows.proofs.BitLaws.{bit_of_put}
 use Rattle.bit_rows.proofs.LaneLaws.{lane_is_bit}
-use Rattle.bit_rows.proofs.with_bit.Goals as goal
+use Rattle.bit_rows.proofs.lanes.with_bit.Goals as goal
 
 pub returns : goal.returns
 returns c = λ j.

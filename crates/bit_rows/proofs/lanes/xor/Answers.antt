@@ -2,7 +2,7 @@ use Rattle.std.proofs.Common.{sym, ap₂, ◌∙◌}
 use Rattle.bit_rows.specs.Rows.{exclusive_or}
 use Rattle.bit_rows.proofs.BitLaws.{bit_of-xor}
 use Rattle.bit_rows.proofs.LaneLaws.{lane_is_bit}
-use Rattle.bit_rows.proofs.xor.Goals as goal
+use Rattle.bit_rows.proofs.lanes.xor.Goals as goal
 
 pub returns : goal.returns
 returns c = λ j.

@@ -4,7 +4,7 @@ use Rattle.bit_rows.specs.private.WordTotals.{carried, carried_by, words_phase}
 use Rattle.bit_rows.proofs.Blanks.{ahead_phase}
 use Rattle.bit_rows.proofs.Blocks.{XorsWithin-none, XorsWithin-join}
 use Rattle.bit_rows.proofs.Carries.{words_phase-zero}
-use Rattle.bit_rows.proofs.Lanes.{carried_by-zeros, block_more}
+use Rattle.bit_rows.proofs.VectorLanes.{carried_by-zeros, block_more}
 use Rattle.bit_rows.proofs.multiply.multiply_all.Goals as goal
 
 pub loop-block-init : goal.loop-block-init

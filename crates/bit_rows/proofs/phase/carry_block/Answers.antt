@@ -1,4 +1,4 @@
-use Rattle.bit_rows.proofs.Lanes.{carried_lane}
+use Rattle.bit_rows.proofs.VectorLanes.{carried_lane}
 use Rattle.bit_rows.proofs.phase.carry_block.Goals as goal
 
 pub returns : goal.returns

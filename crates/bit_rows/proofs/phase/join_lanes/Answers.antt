@@ -1,7 +1,7 @@
 use Rattle.std.proofs.Common.{◌≡◌, ◌%◌, arith, ap, ◌∙◌, sym, length}
 use Rattle.bit_rows.specs.private.WordTotals.{carried, carried_by}
 use Rattle.bit_rows.proofs.Carries.{carried-zero}
-use Rattle.bit_rows.proofs.Lanes.{carried_by-zero, lanes_more}
+use Rattle.bit_rows.proofs.VectorLanes.{carried_by-zero, lanes_more}
 use Rattle.bit_rows.proofs.phase.join_lanes.Goals as goal
 
 pub loop-k-init : goal.loop-k-init

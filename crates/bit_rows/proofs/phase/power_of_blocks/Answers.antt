@@ -1,7 +1,7 @@
 use Rattle.std.proofs.Common.{◌≡◌, ◌+◌, ◌*◌, ◌/◌, ◌%◌, arith, ap, ◌∙◌, sym, length}
 use Rattle.bit_rows.specs.private.WordTotals.{carried_by, words_phase}
 use Rattle.bit_rows.proofs.Carries.{words_phase-zero}
-use Rattle.bit_rows.proofs.Lanes.{carried_by-zeros, block_more}
+use Rattle.bit_rows.proofs.VectorLanes.{carried_by-zeros, block_more}
 use Rattle.bit_rows.proofs.phase.power_of_blocks.Goals as goal
 
 pub loop-block-init : goal.loop-block-init

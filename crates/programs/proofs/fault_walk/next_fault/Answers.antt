@@ -5,7 +5,7 @@ use Rattle.programs.specs.Kept.{KeptProgram}
 use Rattle.programs.specs.Found.{IsFaultOf}
 use Rattle.programs.proofs.FoundLaws.{fault_of_step, fits_at, none_left}
 use Rattle.programs.proofs.Walking.{GoesOver, is_within, place_is, left_met, left_passed, none_left_behind}
-use Rattle.programs.proofs.next_fault.Goals as goal
+use Rattle.programs.proofs.fault_walk.next_fault.Goals as goal
 
 pub loop-step-preserved : goal.loop-step-preserved
 loop-step-preserved g c =
