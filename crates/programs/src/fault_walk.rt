@@ -3,7 +3,8 @@ ghost use Rattle.std.specs.Prelude.{◌≡◌, ◌∷◌, [], None, IfSome};
 ghost use Rattle.step_model.specs.WellFormed.{IsWellFormed};
 ghost use Rattle.programs.specs.Found.{found, fault_in, faults_left, IsFaultOf};
 
-use programs::{FaultName, Step, Walk};
+use crate::step::{FaultName, Step};
+use crate::walk::Walk;
 use std::alloc::Allocator;
 
 /// A fault of a program: its number, the number of its entry (its probability and letters, which are kept once for each
