@@ -5,7 +5,7 @@
 
 mod copies;
 mod difference;
-mod draw;
+mod drawing;
 mod following;
 mod forward;
 mod keeping;
@@ -29,7 +29,7 @@ mod word_table;
 mod words;
 
 pub use difference::detections;
-pub use draw::draw;
+pub use drawing::draw;
 pub use forward::run;
 pub use lists::{read_coins, read_numbers};
 pub use records::Records;

@@ -2,7 +2,7 @@ use Rattle.std.proofs.Common.{◌≡◌, length, map, take}
 use Rattle.std.specs.Prelude.{nat_lt, slice_index_or}
 use Rattle.std.specs.List.{range_with_len}
 use Rattle.forward_sim.specs.Drawn.{after_words, word_at}
-use Rattle.forward_sim.proofs.draw.draw_faults.Given as goal
+use Rattle.forward_sim.proofs.drawing.draw_faults.Given as goal
 
 -- a word was taken for each fault so far
 abbrev pub invariant-loop-f : goal.invariant-loop-f

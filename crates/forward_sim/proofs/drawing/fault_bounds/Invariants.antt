@@ -2,7 +2,7 @@ use Rattle.std.proofs.Common.{◌≡◌, ◌-◌, length, take, vec_capacity}
 use Rattle.std.specs.List.{range_with_len}
 use Rattle.programs.specs.Found.{faults_left}
 use Rattle.forward_sim.specs.Drawn.{bounds_of}
-use Rattle.forward_sim.proofs.draw.fault_bounds.Given as goal
+use Rattle.forward_sim.proofs.drawing.fault_bounds.Given as goal
 
 -- the bounds are those of the faults so far
 abbrev pub invariant-loop-fault : goal.invariant-loop-fault

@@ -1,7 +1,7 @@
 use Rattle.std.proofs.Common.{◌≡◌, ◌%◌, ◌==◌, length, map, take}
 use Rattle.std.specs.List.{range_with_len}
 use Rattle.forward_sim.specs.Drawn.{after_words, word_at}
-use Rattle.forward_sim.proofs.draw.draw_coins.Given as goal
+use Rattle.forward_sim.proofs.drawing.draw_coins.Given as goal
 
 -- a word was taken for each coin so far
 abbrev pub invariant-loop-c : goal.invariant-loop-c

@@ -5,7 +5,7 @@ use Rattle.rand_pcg.specs.Lcg.{Lcg, next}
 use Rattle.rand_pcg.specs.Pcg.{pcg64, multiplier_128}
 use Rattle.forward_sim.specs.Drawn.{word_at}
 use Rattle.forward_sim.proofs.WordLemmas.{after_words-none, after_words-more, filled_more}
-use Rattle.forward_sim.proofs.draw.draw_faults.Goals as goal
+use Rattle.forward_sim.proofs.drawing.draw_faults.Goals as goal
 
 pub loop-f-preserved : goal.loop-f-preserved
 loop-f-preserved c =

@@ -8,7 +8,7 @@ use Rattle.programs.specs.Found.{IsFaultOf, faults_left}
 use Rattle.programs.proofs.FaultOrders.{takes_number, none_left_of}
 use Rattle.forward_sim.specs.Drawn.{bounds_of}
 use Rattle.forward_sim.proofs.BoundLemmas.{bounds_more, count_more, bounds_all}
-use Rattle.forward_sim.proofs.draw.fault_bounds.Goals as goal
+use Rattle.forward_sim.proofs.drawing.fault_bounds.Goals as goal
 
 pub next_fault-requires : goal.next_fault-requires
 next_fault-requires g c = subst (λ (p : KeptProgram). IsWellFormed p.listing) (sym c.loop-fault.invariant.program) c.well_formed-2.ensures.listing
