@@ -1,4 +1,5 @@
-ghost use Rattle.std.specs.Prelude.{◌≡◌, ◌≤◌, ◌+◌, ◌<◌, ◌^◌, ℕ, false, true, length, map, slice_index_or, IfOk};
+ghost use Rattle.std.specs.Prelude.{◌≡◌, ◌≤◌, ◌+◌, ◌<◌, ◌^◌, ℕ, false, true, length, map, slice_index_or, IfOk, IfErr};
+ghost use Rattle.step_model.specs.Faults.{memory_fault};
 ghost use Rattle.dem_text.specs.Meanings.{numbered};
 ghost use Rattle.dem_text.specs.private.Numbered.{numbers_of};
 ghost use Rattle.dem_text.specs.Shifts.{shifted_target};
@@ -14,6 +15,7 @@ use crate::target::Target;
 use crate::walk::Walk;
 use std::alloc::{AllocError, Allocator};
 use std::marker::Model;
+use step_model::Fault;
 
 /// An error model whose lines stay as they were read. What a line flips is worked out only where the line is named, and
 /// most are not.
@@ -115,9 +117,10 @@ impl<'a, A: Allocator + Copy> PlacedModel<'a, A> {
 
     /// The symptom of the error lines that are named: a truth value for each detector, then one for each observable,
     /// which says whether these lines flip it an odd number of times in all. `named` has a truth value for each error
-    /// line, by its number from 0.
-    pub fn symptom(&self, alloc: A, named: &[bool]) -> Result<Vec<bool, A>, AllocError>
-        ensures { IfOk result (λ bits. bits.items ≡ symptom_of self.now named.now) }
+    /// line, by its number from 0. It fails only where memory runs out.
+    pub fn symptom(&self, alloc: A, named: &[bool]) -> Result<Vec<bool, A>, Fault>
+        ensures ok { IfOk result (λ bits. bits.items ≡ symptom_of self.now named.now) }
+        ensures err { IfErr result (λ fault. fault ≡ memory_fault) }
     {
         let detectors = self.counts.detectors;
         let observables = self.counts.observables;

@@ -1,9 +1,11 @@
-ghost use Rattle.std.specs.Prelude.{◌≡◌, ◌+◌, false, if◌then◌else◌, replicate, IfOk};
+ghost use Rattle.std.specs.Prelude.{◌≡◌, ◌+◌, false, if◌then◌else◌, replicate, IfOk, IfErr};
+ghost use Rattle.step_model.specs.Faults.{memory_fault};
 ghost use Rattle.dem_text.specs.Sums.{symptom_of};
 ghost use Rattle.dem_text.specs.private.Turned.{turned, turned_at};
 
 use error_models::Model;
 use std::alloc::{AllocError, Allocator};
+use step_model::Fault;
 
 /// Flips the truth value at this place, where there is one.
 pub(crate) fn turn_at(bits: &mut [bool], target: u128)
@@ -54,8 +56,9 @@ pub fn symptom<A: Allocator + Copy>(
     alloc: A,
     model: &Model<'_, A>,
     named: &[bool],
-) -> Result<Vec<bool, A>, AllocError>
-    ensures { IfOk result (λ bits. bits.items ≡ symptom_of model.now named.now) }
+) -> Result<Vec<bool, A>, Fault>
+    ensures ok { IfOk result (λ bits. bits.items ≡ symptom_of model.now named.now) }
+    ensures err { IfErr result (λ fault. fault ≡ memory_fault) }
 {
     let mut bits = no_bits(alloc, model.detector_count(), model.observable_count())?;
     for line in 0..model.line_count().min(named.len()) {

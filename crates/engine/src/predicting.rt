@@ -59,8 +59,6 @@ fn predict<A: Allocator + Copy>(
     ensures err { IfErr result (λ e. (e ≡ memory_fault) ⊎ (model_prediction lines.now model.now ≡ Err e)) }
 {
     let named = read_numbers(alloc, model.line_count(), lines)?;
-    match model.symptom(alloc, named.as_slice()) {
-        Ok(flipped) => symptom_line(alloc, flipped.as_slice()).map_err(|_| Fault::MEMORY),
-        Err(_) => Err(Fault::MEMORY),
-    }
+    let flipped = model.symptom(alloc, named.as_slice())?;
+    Ok(symptom_line(alloc, flipped.as_slice())?)
 }

@@ -79,17 +79,13 @@ fn model_is_right(memory: Memory<'_>) -> Result<bool, Fault> {
 
 /// Of the first two lines.
 fn symptom_is_right<'m>(memory: Memory<'m>, model: &Model<'_, Memory<'m>>) -> Result<bool, Fault> {
-    let Ok(bits) = dem_text::symptom(memory, model, &[true, true]) else {
-        return Err(Fault::MEMORY);
-    };
+    let bits = dem_text::symptom(memory, model, &[true, true])?;
     Ok(bits.as_slice() == [true, true, true, false, false, true, false].as_slice())
 }
 
 /// The same where the lines stay in the text.
 fn is_placed<'m>(memory: Memory<'m>, model: &PlacedModel<'_, Memory<'m>>) -> Result<bool, Fault> {
-    let Ok(bits) = model.symptom(memory, &[true, true]) else {
-        return Err(Fault::MEMORY);
-    };
+    let bits = model.symptom(memory, &[true, true])?;
     Ok(
         model.line_count() == 10
             && bits.as_slice() == [true, true, true, false, false, true, false].as_slice(),

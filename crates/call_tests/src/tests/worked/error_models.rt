@@ -1,8 +1,8 @@
 //! Error models that are read: the coordinates of their detectors, and what named lines flip.
-use dem_text::{PlacedModel, laws, place, read, symptom};
-use error_models::Model;
+use dem_text::{Model, PlacedModel, laws, place, read, symptom};
 use std::alloc::{AllocError, Global};
 use std::test::Fail;
+use step_model::Fault;
 
 /// Whether a model has these coordinates, of each detector how many and which.
 fn has_coordinates(
@@ -29,12 +29,12 @@ const COORDINATES: &[i64] = &[2, 1, 2, 3, -1, 6, 3];
 /// Both errors together flip the detectors, and the observable twice.
 const SYMPTOM: &[bool] = &[true, true, false];
 
-fn has_symptom(alloc: Global, model: &Model<'_, Global>) -> Result<bool, AllocError> {
+fn has_symptom(alloc: Global, model: &Model<'_, Global>) -> Result<bool, Fault> {
     let flipped = symptom(alloc, model, &[true, true])?;
     Ok(flipped.as_slice() == SYMPTOM)
 }
 
-fn is_model(alloc: Global, model: &Model<'_, Global>) -> Result<bool, AllocError> {
+fn is_model(alloc: Global, model: &Model<'_, Global>) -> Result<bool, Fault> {
     Ok(has_coordinates(alloc, model, COORDINATES)? && has_symptom(alloc, model)?)
 }
 
@@ -50,7 +50,7 @@ fn models_are_read(rt: HostRuntime) -> Result<(), Fail> {
 }
 
 /// The same of a model whose lines stay in the text.
-fn is_placed(alloc: Global, model: &PlacedModel<'_, Global>) -> Result<bool, AllocError> {
+fn is_placed(alloc: Global, model: &PlacedModel<'_, Global>) -> Result<bool, Fault> {
     let flipped = model.symptom(alloc, &[true, true])?;
     Ok(model.line_count() == 2 && flipped.as_slice() == SYMPTOM)
 }

@@ -32,8 +32,8 @@ loop-line-preserved g c =
     ∙ sym (turned_by-more old named lines line false no_line in_named in_lines)
     ∙ c.loop-line.invariant
 
-pub returns : goal.returns
-returns g c =
+pub returns-clause-ok : goal.returns-clause-ok
+returns-clause-ok g c =
     sym (turned_by-done c.loop-line.bits.items c.args.named.now c.args.model.now.lines c.loop-line.line
     (past_either _ _ c.loop-line.line (omega (arith, c.min-line-end.ensures, c.line_count.ensures, c.loop-line-test.false))))
     ∙ c.loop-line.invariant

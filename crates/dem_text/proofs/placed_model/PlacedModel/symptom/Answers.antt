@@ -27,12 +27,12 @@ loop-passed-preserved g c =
     summing-next d o named old _ passed _ _ _ _ c.in-Some.line h (c.in-Some.ensures _ c.pass.ensures) (with_items_is c.loop-passed.bits new same ∙ turns)
     c.in_ok-passed.ensures.passed
 
-pub returns-in_default : goal.returns-in_default
-returns-in_default g c =
+pub returns-in_default-clause-ok : goal.returns-in_default-clause-ok
+returns-in_default-clause-ok g c =
     summing-done c.self.inside.counts.detectors c.self.inside.counts.observables c.args.named.now c.loop-passed.bits.items c.loop-passed.passed _ _
     c.loop-passed.invariant c.in_default.ensures
 
-pub returns : goal.returns
-returns g c =
+pub returns-clause-ok : goal.returns-clause-ok
+returns-clause-ok g c =
     summing-named c.self.inside.counts.detectors c.self.inside.counts.observables c.args.named.now c.loop-passed.bits.items c.loop-passed.passed _ _
     c.named_end-end.result c.loop-passed.invariant (omega (arith, c.loop-passed-test.false)) c.named_end-end.ensures.none
