@@ -54,15 +54,14 @@ pub(crate) fn counts_of<A: Allocator + Copy>(
     let mut counts = NO_LINES;
     let mut walk = Walk::new(table);
     while let Some(line) = walk.line() {
-        match counts_past(&mut room, counts, &line) {
-            Ok(Some(after)) => counts = after,
-            Ok(None) => {
+        match counts_past(&mut room, counts, &line)? {
+            Some(after) => counts = after,
+            None => {
                 return Err(Fault {
                     cause: Cause::DemNumber,
                     line: line.number(),
                 });
             }
-            Err(_) => return Err(Fault::MEMORY),
         }
         walk.pass();
     }

@@ -52,12 +52,6 @@ pub fn read<'a, A: Allocator + Copy>(alloc: A, text: &'a [u8]) -> Result<Model<'
     ensures ok { IfOk result (λ model. model_in text.now ≡ Ok model) }
     ensures err { IfErr result (λ fault. (fault ≡ memory_fault) ⊎ (model_in text.now ≡ Err fault)) }
 {
-    let placed = match place(alloc, text) {
-        Ok(placed) => placed,
-        Err(fault) => return Err(fault),
-    };
-    match model_of(alloc, &placed) {
-        Ok(model) => Ok(model),
-        Err(_) => Err(Fault::MEMORY),
-    }
+    let placed = place(alloc, text)?;
+    Ok(model_of(alloc, &placed)?)
 }

@@ -21,9 +21,7 @@ pub(crate) fn read_lines<'a, A: Allocator + Copy>(
     let mut number: u64 = 0;
     while !rest.is_empty() {
         number += 1;
-        let Ok(passed) = reader.pass(text.len() - rest.len(), number, rest) else {
-            return Err(Fault::MEMORY);
-        };
+        let passed = reader.pass(text.len() - rest.len(), number, rest)?;
         match passed.refused {
             Some(cause) => {
                 return Err(Fault {

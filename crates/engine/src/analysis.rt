@@ -96,10 +96,7 @@ fn fresh_words<'s, A: Allocator + Copy>(
     ensures ok { IfOk result (λ words. words ≡ fresh program.now.listing.qubits (length (targets_of program.now.listing))) }
     ensures err { IfErr result (λ e. e ≡ memory_fault) }
 {
-    match Words::sparse_for(alloc, program) {
-        Ok(words) => Ok(words),
-        Err(_) => Err(Fault::MEMORY),
-    }
+    Ok(Words::sparse_for(alloc, program)?)
 }
 
 /// The lines of a random target with its place.
@@ -114,12 +111,12 @@ fn random_text<A: Allocator + Copy>(
 {
     let (first, second) = coin_pair(alloc, program, place)?;
     let detectors = program.detector_count();
-    random_lines(
+    let lines = random_lines(
         alloc,
         detectors,
         target,
         first.as_slice(),
         second.as_slice(),
-    )
-    .map_err(|_| Fault::MEMORY)
+    )?;
+    Ok(lines)
 }

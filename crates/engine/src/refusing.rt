@@ -29,11 +29,7 @@ pub(crate) fn refuse<W: Sink, A: Allocator + Copy>(
     if fault.cause == Cause::Memory {
         return Err(Fault::MEMORY);
     }
-    match refusal_text(alloc, fault) {
-        Ok(line) => {
-            write_all(sink, line.as_slice())?;
-            Ok(Status::Refused)
-        }
-        Err(_) => Err(Fault::MEMORY),
-    }
+    let line = refusal_text(alloc, fault)?;
+    write_all(sink, line.as_slice())?;
+    Ok(Status::Refused)
 }

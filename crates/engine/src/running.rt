@@ -98,7 +98,7 @@ fn all_false<A: Allocator + Copy>(alloc: A, count: usize) -> Result<Vec<bool, A>
     ensures ok { IfOk result (λ values. values.items ≡ replicate count false) }
     ensures err { IfErr result (λ e. e ≡ memory_fault) }
 {
-    vec![in alloc; false; count].map_err(|_| Fault::MEMORY)
+    Ok(vec![in alloc; false; count]?)
 }
 
 /// The lines of a run with these faults and coins. Where no fault happens and each coin is 0, it is also the run that
@@ -140,7 +140,7 @@ fn lines_beside<A: Allocator + Copy>(
     ensures err { IfErr result (λ e. e ≡ memory_fault) }
 {
     let detections = detections(alloc, program, records, reference)?;
-    run_lines(alloc, records, detections.as_slice()).map_err(|_| Fault::MEMORY)
+    Ok(run_lines(alloc, records, detections.as_slice())?)
 }
 
 /// The records of the run in which no fault happens and every coin is 0.

@@ -22,7 +22,7 @@ pub fn detections<A: Allocator + Copy>(
     ensures ok { IfOk result (λ answers. answers.items ≡ difference program.now.listing records.now reference.now) }
     ensures err { IfErr result (λ fault. fault ≡ memory_fault) }
 {
-    differences(alloc, program, records, reference).map_err(|_| Fault::MEMORY)
+    Ok(differences(alloc, program, records, reference)?)
 }
 
 // The answers, in memory that is taken before the first.

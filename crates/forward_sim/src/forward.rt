@@ -24,7 +24,7 @@ pub fn run<A: Allocator + Copy>(
     ensures count { IfOk result (λ records. length records ≡ program.now.listing.records) }
     ensures err { IfErr result (λ fault. fault ≡ memory_fault) }
 {
-    take_steps(alloc, program, faults, coins).map_err(|_| Fault::MEMORY)
+    Ok(take_steps(alloc, program, faults, coins)?)
 }
 
 // Takes all steps of the program.

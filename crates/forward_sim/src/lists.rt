@@ -35,7 +35,7 @@ pub fn read_coins<A: Allocator + Copy>(
     if text.len() != collapses || !are_zeros_and_ones(text) {
         return Err(COIN_COUNT);
     }
-    ones(alloc, text).map_err(|_| Fault::MEMORY)
+    Ok(ones(alloc, text)?)
 }
 
 fn are_zeros_and_ones(text: &[u8]) -> bool
@@ -101,9 +101,7 @@ pub fn read_numbers<A: Allocator + Copy>(
     ensures err { IfErr result (λ e. (e ≡ memory_fault)
         ⊎ ((e ≡ without_line FaultNumber) × (numbers_of count text.now ≡ None))) }
 {
-    let Ok(mut marks) = vec![in alloc; false; count] else {
-        return Err(Fault::MEMORY);
-    };
+    let mut marks = vec![in alloc; false; count]?;
     if !mark_numbers(&mut marks, text) {
         return Err(FAULT_NUMBER);
     }

@@ -57,10 +57,8 @@ impl<A: Allocator + Copy> Reference<A> {
         ensures records { IfOk result (λ reference. length reference.records ≡ program.now.listing.records) }
         ensures err { IfErr result (λ fault. fault ≡ memory_fault) }
     {
-        match follow(alloc, program, bytes) {
-            Ok((records, words)) => Ok(Reference { records, words }),
-            Err(_) => Err(Fault::MEMORY),
-        }
+        let (records, words) = follow(alloc, program, bytes)?;
+        Ok(Reference { records, words })
     }
 
     /// The records of the run.

@@ -133,10 +133,8 @@ fn beside<A: Allocator + Copy>(
     ensures ok { IfOk result (IsBatchOf program.now.listing) }
     ensures err { IfErr result (λ fault. fault ≡ memory_fault) }
 {
-    match start(alloc, program) {
-        Ok(frames) => Ok(Batch { reference, frames }),
-        Err(_) => Err(Fault::MEMORY),
-    }
+    let frames = start(alloc, program)?;
+    Ok(Batch { reference, frames })
 }
 
 // Memory for the frames of a program.

@@ -40,9 +40,7 @@ impl<'b, 'p, A: Allocator + Copy> DetectionRuns<'b, 'p, A> {
     {
         program.well_formed();
         let targets = program.detector_count() + program.observable_count();
-        let Ok(words) = vec![in alloc; 0u64; targets] else {
-            return Err(Fault::MEMORY);
-        };
+        let words = vec![in alloc; 0u64; targets]?;
         let batch = Batch::new(alloc, program)?;
         Ok(DetectionRuns {
             program,

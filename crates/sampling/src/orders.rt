@@ -61,11 +61,7 @@ fn room_for<A: Allocator + Copy>(alloc: A, words: &[u64]) -> Result<Vec<u8, A>, 
     ensures ok { IfOk result (λ line. length line.items ≡ length words.now + 1) }
     ensures err { IfErr result (λ e. e ≡ memory_fault) }
 {
-    let Ok(mut line) = vec![in alloc; b'0'; words.len()] else {
-        return Err(Fault::MEMORY);
-    };
-    if line.push(b'\n').is_err() {
-        return Err(Fault::MEMORY);
-    }
+    let mut line = vec![in alloc; b'0'; words.len()]?;
+    line.push(b'\n')?;
     Ok(line)
 }

@@ -37,9 +37,7 @@ impl<'b, 'p, A: Allocator + Copy> RecordRuns<'b, 'p, A> {
         ensures program { IfOk result (λ runs. runs.program ≡ program.now.listing) }
         ensures err { IfErr result (λ fault. fault ≡ memory_fault) }
     {
-        let Ok(words) = vec![in alloc; 0u64; program.record_count() as usize] else {
-            return Err(Fault::MEMORY);
-        };
+        let words = vec![in alloc; 0u64; program.record_count() as usize]?;
         let batch = Batch::new(alloc, program)?;
         Ok(RecordRuns {
             program,

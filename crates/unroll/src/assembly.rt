@@ -94,8 +94,5 @@ pub fn unroll<'a, A: Allocator + Copy>(
     if let Some(fault) = refusal_of(&circuit, &totals) {
         return Err(fault);
     }
-    match parts_of(alloc, circuit, totals) {
-        Ok(parts) => Ok(Program::new(parts)),
-        Err(_) => Err(Fault::MEMORY),
-    }
+    Ok(Program::new(parts_of(alloc, circuit, totals)?))
 }
