@@ -10,7 +10,7 @@ use crate::record_runs::RecordRuns;
 use crate::side_runs::SideRuns;
 use forward_sim::Shots;
 use programs::Program;
-use std::alloc::Allocator;
+use std::alloc::{AllocError, Allocator};
 use step_model::{Fault, Sink};
 
 /// Writes a line for each of the first `shots` shots of a seed: a digit for each record. All memory is taken before the
@@ -57,9 +57,8 @@ pub fn detect<W: Sink, A: Allocator + Copy>(
 }
 
 // A line with a digit for each of these words, and its line feed.
-fn room_for<A: Allocator + Copy>(alloc: A, words: &[u64]) -> Result<Vec<u8, A>, Fault>
-    ensures ok { IfOk result (λ line. length line.items ≡ length words.now + 1) }
-    ensures err { IfErr result (λ e. e ≡ memory_fault) }
+fn room_for<A: Allocator + Copy>(alloc: A, words: &[u64]) -> Result<Vec<u8, A>, AllocError>
+    ensures { IfOk result (λ line. length line.items ≡ length words.now + 1) }
 {
     let mut line = vec![in alloc; b'0'; words.len()]?;
     line.push(b'\n')?;
