@@ -7,11 +7,7 @@ use Rattle.dem_text.specs.Fitting.{Fits, IsAccepted}
 use Rattle.dem_text.specs.Texts.{Item}
 use Rattle.dem_text.specs.Trees.{Tree}
 use Rattle.stim_lexer.specs.Trees.{items_of}
-use Rattle.dem_text.specs.private.Passes.{CanStand, Pass}
-
--- items that stand where they may, with so many blocks open before them and none behind
-abbrev pub AreWhole : List Item → ℕ → Type 0
-AreWhole items depth = passes.AreWhole Fits items depth
+use Rattle.dem_text.specs.private.Passes.{AreWhole, CanStand, Pass}
 
 pub whole-tree : (t : Tree) → IsAccepted t → AreWhole (items_of t) 0
 whole-tree t accepted = passes.whole-tree Fits t accepted

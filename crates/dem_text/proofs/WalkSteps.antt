@@ -17,7 +17,8 @@ use Rattle.dem_text.specs.Texts.{Item}
 use Rattle.stim_lexer.specs.Trees.{InstructionLine, BlockStart, BlockEnd, Nothing, Then, Block, items_of}
 use Rattle.dem_text.specs.Trees.{Tree}
 use Rattle.dem_text.specs.Verdicts.{Instruction}
-use Rattle.dem_text.proofs.PassLemmas.{AreWhole, can_stand, drop_got, whole-tree}
+use Rattle.dem_text.specs.private.Passes.{AreWhole}
+use Rattle.dem_text.proofs.PassLemmas.{can_stand, drop_got, whole-tree}
 use Rattle.dem_text.specs.declared.walk.Turns.{Turns}
 use Rattle.dem_text.specs.private.Offsets.{HasRoom}
 use Rattle.dem_text.specs.Shifts.{Placed, Shift, no_shift, placed_at, placed_from, shift_after}

@@ -5,7 +5,7 @@ use Rattle.std.proofs.lemmas.List.{reverse-append, drop_all}
 use Rattle.stim_lexer.specs.Fitting.{AllFit, IsBuilt, depth}
 use Rattle.stim_lexer.specs.Trees.{Item, InstructionLine, BlockStart, BlockEnd, Tree, Nothing, Then, Block, items_of}
 use Rattle.stim_lexer.specs.declared.blocks.OpenBlock.{OpenBlock}
-use Rattle.stim_lexer.specs.private.Passes.{Pass, behind, opened, CanStand, Passes}
+use Rattle.stim_lexer.specs.private.Passes.{AreWhole, Pass, behind, opened, CanStand, Passes}
 
 -- the state behind items, where these blocks are open, the innermost first
 abbrev pub run : {I S : Type 0} → Pass I S → List (Item I) → List (OpenBlock S) → S → S
@@ -14,14 +14,6 @@ run pass (InstructionLine i ∷ items) blocks s = run pass items blocks (pass.st
 run pass (BlockStart line turns ∷ items) blocks s = run pass items (opened turns s ∷ blocks) s
 run pass (BlockEnd ∷ items) [] s = s
 run pass (BlockEnd ∷ items) (block ∷ blocks) s = run pass items blocks (pass.close block.turns block.before s)
-
--- items that stand where they may, with so many blocks open before them and none behind
-abbrev pub AreWhole : {I : Type 0} → (I → Type 0) → List (Item I) → ℕ → Type 0
-AreWhole Fits [] depth = depth ≡ 0
-AreWhole Fits (InstructionLine i ∷ items) depth = Fits i × AreWhole Fits items depth
-AreWhole Fits (BlockStart line turns ∷ items) depth = (0 < turns) × (depth < 32) × AreWhole Fits items (suc depth)
-AreWhole Fits (BlockEnd ∷ items) zero = ⊥
-AreWhole Fits (BlockEnd ∷ items) (suc depth) = AreWhole Fits items depth
 
 -- ---- items of a tree
 

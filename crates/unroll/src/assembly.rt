@@ -94,5 +94,6 @@ pub fn unroll<'a, A: Allocator + Copy>(
     if let Some(fault) = refusal_of(&circuit, &totals) {
         return Err(fault);
     }
-    Ok(Program::new(parts_of(alloc, circuit, totals)?))
+    let parts = parts_of(alloc, circuit, totals)?;
+    Ok(Program::new(parts))
 }

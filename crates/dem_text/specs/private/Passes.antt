@@ -3,7 +3,7 @@
 -- however often the blocks around it are repeated.
 -- (Stim's detector error model format, github.com/quantumlib/Stim, doc/file_format_dem_detector_error_model.md,
 -- "repeat".)
-use Rattle.std.specs.Prelude.{ℕ}
+use Rattle.std.specs.Prelude.{ℕ, List}
 use Rattle.stim_lexer.specs.private.Passes as passes
 pub use Rattle.stim_lexer.specs.private.Passes.{HasClosed, Passes, behind, opened}
 use Rattle.dem_text.specs.Fitting.{Fits}
@@ -16,3 +16,7 @@ Pass S = passes.Pass Instruction S
 -- an item can stand where this many blocks are open
 abbrev pub CanStand : Item → ℕ → Type 0
 CanStand item depth = passes.CanStand Fits item depth
+
+-- items that stand where they may, with so many blocks open before them and none behind
+abbrev pub AreWhole : List Item → ℕ → Type 0
+AreWhole items depth = passes.AreWhole Fits items depth

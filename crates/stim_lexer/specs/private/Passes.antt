@@ -1,7 +1,7 @@
 -- A pass over a text of lines and blocks: a state, which each instruction changes. At the end of a block the state after
 -- all its turns is made from the state before the block and the state after its first turn. So a pass goes over each
 -- instruction once, however often the blocks around it are repeated.
-use Rattle.std.specs.Prelude.{◌≡◌, ◌<◌, ℕ, List, [], ◌∷◌, ◌++◌}
+use Rattle.std.specs.Prelude.{◌≡◌, ◌<◌, ℕ, zero, suc, List, [], ◌∷◌, ◌++◌}
 use Rattle.stim_lexer.specs.Trees.{Item, InstructionLine, BlockStart, BlockEnd, Tree, Nothing, Then, Block}
 use Rattle.stim_lexer.specs.declared.blocks.OpenBlock.{OpenBlock}
 
@@ -24,6 +24,14 @@ abbrev pub CanStand : {I : Type 0} → (I → Type 0) → Item I → ℕ → Typ
 CanStand Fits (InstructionLine i) depth = Fits i
 CanStand Fits (BlockStart line turns) depth = (0 < turns) × (depth < 32)
 CanStand Fits BlockEnd depth = 0 < depth
+
+-- items that stand where they may, with so many blocks open before them and none behind
+abbrev pub AreWhole : {I : Type 0} → (I → Type 0) → List (Item I) → ℕ → Type 0
+AreWhole Fits [] depth = depth ≡ 0
+AreWhole Fits (InstructionLine i ∷ items) depth = Fits i × AreWhole Fits items depth
+AreWhole Fits (BlockStart line turns ∷ items) depth = (0 < turns) × (depth < 32) × AreWhole Fits items (suc depth)
+AreWhole Fits (BlockEnd ∷ items) zero = ⊥
+AreWhole Fits (BlockEnd ∷ items) (suc depth) = AreWhole Fits items depth
 
 -- the innermost block is closed, and its turns are over
 pub record HasClosed {I S : Type 0} (pass : Pass I S) (s : S) (blocks : List (OpenBlock S)) (s' : S) (blocks' : List (OpenBlock S)) : Type 0 where

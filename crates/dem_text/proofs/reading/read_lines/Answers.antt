@@ -10,7 +10,7 @@ use Rattle.dem_text.proofs.reading.read_lines.Goals as goal
 
 pub loop-rest-preserved : goal.loop-rest-preserved
 loop-rest-preserved g c =
-    let passes = subst (λ (refused : Option Cause). PassesFirst c.loop-rest.rest.now c.in-Ok.passed.after.now (c.loop-rest.number + 1) refused c.loop-rest.reader.lines c.loop-rest.reader.opened.items c.pass.new.self.lines c.pass.new.self.opened.items) c.in-None.is c.in-Ok.ensures in
+    let passes = subst (λ (refused : Option Cause). PassesFirst c.loop-rest.rest.now c.in_ok-passed.passed.after.now (c.loop-rest.number + 1) refused c.loop-rest.reader.lines c.loop-rest.reader.opened.items c.pass.new.self.lines c.pass.new.self.opened.items) c.in-None.is c.in_ok-passed.ensures in
     record {
       reads = first-read _ _ _ _ _ _ _ _ c.loop-rest.invariant.reads passes;
       before = λ some. first-before _ _ _ _ _ _ _ _ _ _ (c.loop-rest.invariant.before (omega (arith, some, passes.first.less))) passes some;
@@ -37,5 +37,5 @@ returns-clause-tree g c =
 
 pub returns-in-Some-clause-refusal : goal.returns-in-Some-clause-refusal
 returns-in-Some-clause-refusal g c =
-    let passes = subst (λ (refused : Option Cause). PassesFirst c.loop-rest.rest.now c.in-Ok.passed.after.now (c.loop-rest.number + 1) refused c.loop-rest.reader.lines c.loop-rest.reader.opened.items c.pass.new.self.lines c.pass.new.self.opened.items) c.in-Some.is c.in-Ok.ensures in
+    let passes = subst (λ (refused : Option Cause). PassesFirst c.loop-rest.rest.now c.in_ok-passed.passed.after.now (c.loop-rest.number + 1) refused c.loop-rest.reader.lines c.loop-rest.reader.opened.items c.pass.new.self.lines c.pass.new.self.opened.items) c.in-Some.is c.in_ok-passed.ensures in
     inr (first-refused _ _ _ _ c.in-Some.cause _ _ _ _ c.loop-rest.invariant.reads passes)

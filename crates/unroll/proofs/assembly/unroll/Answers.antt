@@ -9,13 +9,13 @@ pub new-requires : goal.new-requires
 new-requires g c =
     let t = c.args.circuit in
     let accepted : refusal_counted t ≡ None = sym c.refusal_of.ensures ∙ c.in_default.is in
-    parts_fit t c.in-Ok.parts c.fits.ensures accepted c.in-Ok.ensures
+    parts_fit t c.in_ok-parts.parts c.fits.ensures accepted c.in_ok-parts.ensures
 
-pub returns-in-Ok-clause-ok : goal.returns-in-Ok-clause-ok
-returns-in-Ok-clause-ok g c =
+pub returns-clause-ok : goal.returns-clause-ok
+returns-clause-ok g c =
     let t = c.args.circuit in
     let accepted : refusal_counted t ≡ None = sym c.refusal_of.ensures ∙ c.in_default.is in
-    program_made t c.in-Ok.parts (sym (refused-as-counted t c.fits.ensures.fit) ∙ accepted) c.in-Ok.ensures ∙ ap (λ (p : KeptProgram). Ok p.listing) (sym c.new.ensures)
+    program_made t c.in_ok-parts.parts (sym (refused-as-counted t c.fits.ensures.fit) ∙ accepted) c.in_ok-parts.ensures ∙ ap (λ (p : KeptProgram). Ok p.listing) (sym c.new.ensures)
 
 pub returns-in-Some-clause-err : goal.returns-in-Some-clause-err
 returns-in-Some-clause-err g c =
