@@ -18,12 +18,13 @@ touch xargs""".split()
 # Notes its words, and builds by a copy of the stand-in program that names the code in which it was built. A file beside it
 # asks for something else: `sleeps` for a build that doesn't end, `slow` for one of a second, `fails` for one that fails, `fails-to-check`
 # for one that fails at its first command, `fails-behind` for one that fails when the program is written, `builds-nothing` for one that
-# writes none, and `edits` for code that changes after it was read.
+# writes none, and `edits` for code that changes after it was read. Each command leaves what the real one keeps of a check.
 RT = """#!/bin/sh
 here=${0%/*}
 echo "$*" >>"$here/calls"
 echo "${GLIBC_TUNABLES-unset}" >>"$here/tunables"
 cat >>"$here/stdin"
+mkdir -p ../low/out/incremental ../low/out/rlib
 [ "$1" = run ] || { [ ! -e "$here/fails-to-check" ]; exit; }
 [ -e "$here/sleeps" ] && { touch "$here/sleeping"; sleep 100; }
 [ -e "$here/slow" ] && sleep 1

@@ -106,6 +106,18 @@ class Builds(Case):
         self.calls()
         self.assert_builds(code="edited meanwhile")
 
+    def test_leaves_what_others_stand_on_alone(self):
+        shutil.rmtree(f"{self.top}/crates/low/out", ignore_errors=True)
+        self.make_missing()
+        self.assert_builds()
+        self.assertEqual(os.listdir(f"{self.top}/crates/low/out"), ["rlib"])
+
+    def test_leaves_what_a_developer_had(self):
+        os.makedirs(f"{self.top}/crates/low/out/incremental/kept")
+        self.make_missing()
+        self.assert_builds()
+        self.assertEqual(os.listdir(f"{self.top}/crates/low/out/incremental"), ["kept"])
+
     def test_not_behind_proofs_specs_and_pages(self):
         for name in ("crates/low/specs/Lib.antt", "crates/low/proofs/call/Answers.antt", "HANDLES", "README.md", "stabsim", ".ci/build"):
             self.set_age(f"{self.top}/{name}", 0)
