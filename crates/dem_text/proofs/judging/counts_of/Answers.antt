@@ -17,16 +17,16 @@ loop-line-init g c =
     rw c.new-walk.ensures
     (record { judging = judging-first (placed_lines c.args.table.now); few = let long = length-placed no_shift (reached c.args.table.now) in omega (arith, c.requires, long) })
 
-pub returns-in-Ok-None-clause-err : goal.returns-in-Ok-None-clause-err
-returns-in-Ok-None-clause-err g c =
+pub returns-in-None-clause-err : goal.returns-in-None-clause-err
+returns-in-None-clause-err g c =
     inr
-    (ap (option_map (refused cause.DemNumber)) (judging-beyond _ _ _ _ c.in-Some.line c.loop-line.invariant.judging (c.in-Some.ensures _ refl) (matched_none _ _ _ c.in-Ok-None.ensures c.in-Ok-None.field-0-is))
+    (ap (option_map (refused cause.DemNumber)) (judging-beyond _ _ _ _ c.in-Some.line c.loop-line.invariant.judging (c.in-Some.ensures _ refl) (matched_none _ _ _ c.in_ok-after.ensures c.in-None.is))
     ∙ ap (λ n. Some (refused cause.DemNumber n)) (sym c.number.ensures))
 
 pub loop-line-preserved : goal.loop-line-preserved
 loop-line-preserved g c =
     let first = c.in-Some.ensures _ c.pass.ensures in
-    let counted = matched _ (λ after. HasCounted c.loop-line.counts c.in-Some.line after × (is_beyond c.in-Some.line ≡ false)) _ c.in-Ok-Some.after c.in-Ok-Some.ensures c.in-Ok-Some.field-0-is in
+    let counted = matched _ (λ after. HasCounted c.loop-line.counts c.in-Some.line after × (is_beyond c.in-Some.line ≡ false)) _ c.in-Some-2.after c.in_ok-after.ensures c.in-Some-2.is in
     record {
       judging = judging-next _ _ _ _ _ c.in-Some.line c.loop-line.invariant.judging first counted.1 counted.0;
       few =
