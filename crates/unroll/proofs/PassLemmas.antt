@@ -3,6 +3,7 @@ use Rattle.std.proofs.Common.{◌≡◌, ℕ, suc, ◌+◌, List, ◌∷◌, dro
 use Rattle.std.specs.Prelude.{slice_get}
 use Rattle.stim_lexer.specs.declared.blocks.OpenBlock.{OpenBlock}
 use Rattle.stim_lexer.proofs.PassLemmas as passes
+use Rattle.stim_lexer.specs.private.Passes as private
 pub use Rattle.stim_lexer.proofs.PassLemmas.{drop_got, passing-first, passing-can, passing-next, passing-done}
 use Rattle.stim_parser.specs.Circuits.{Fits, IsCircuit}
 use Rattle.stim_parser.specs.Texts.{Item}
@@ -12,7 +13,7 @@ use Rattle.unroll.specs.private.Passes.{CanStand, Pass}
 
 -- items that stand where they may, with so many blocks open before them and none behind
 abbrev pub AreWhole : List Item → ℕ → Type 0
-AreWhole items depth = passes.AreWhole Fits items depth
+AreWhole items depth = private.AreWhole Fits items depth
 
 pub whole-tree : (t : Tree) → IsCircuit t → AreWhole (items_of t) 0
 whole-tree t circuit = passes.whole-tree Fits t circuit

@@ -9,7 +9,7 @@ pub returns-clause-taken : goal.returns-clause-taken
 returns-clause-taken g c =
     let program = c.args.program.now.listing in
     let bounds : length c.in_ok-bounds.bounds.items ≡ length program.faults = ap length c.in_ok-bounds.ensures ∙ length-map program.faults _ in
-    let coins : length c.in_ok-coins.coins.items ≡ program.collapses = c.in_ok-coins.ensures.len ∙ c.collapse_count.ensures in
+    let coins : length c.in_ok-coins.coins.items ≡ program.collapses = sym c.in_ok-coins.coins.ok.0 ∙ (c.in_ok-coins.ensures.len ∙ c.collapse_count.ensures) in
     c.draw_coins.ensures.taken
     ∙ (ap₂ after_words (ap length c.deref_mut-2.ensures.value ∙ coins) (c.draw_faults.ensures.taken ∙ ap (λ n. after_words n c.args.rng.now) (ap length c.as_slice.ensures.value ∙ bounds))
     ∙ sym (after_words-add (length program.faults) program.collapses c.args.rng.now))
