@@ -57,8 +57,7 @@ fn has_its_coin(batch: &Batch<Global>, shot: u32) -> bool
 }
 
 fn have_their_coins(alloc: Global, program: &Program<'_, Global>) -> Result<bool, Fault> {
-    let mut batch = Batch::new(alloc, program)?;
-    batch.follow(program, &[], COINS);
+    let batch = Batch::run(alloc, program, &[], COINS)?;
     let mut all = true;
     for shot in 0..64 {
         all &= has_its_coin(&batch, shot);

@@ -5,12 +5,13 @@ mod table;
 
 use crate::tests::NOTHING;
 use crate::tests::worked::made;
+use programs::Step;
 use programs::by_hand::{Piece, program_of};
-use programs::{Program, Step, Walk};
 use std::alloc::{AllocError, Global};
 use std::process::Abort;
 use std::test::Fail;
 use table::{EIGHT, MEASURE, MISFITS, READ, ROWS, Row, TWICE};
+use unroll::{Program, Walk};
 
 fn goes_forth(walk: &mut Walk<'_, '_, Global>, step: &Step) -> bool {
     walk.next_step() == Some(*step)
