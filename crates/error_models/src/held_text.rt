@@ -50,8 +50,8 @@ impl<A: Allocator + Copy> HeldText<A> {
     }
 }
 
-/// Pushes the text of a block, and then those of the blocks that were filled before it, that of the last first.
-pub(crate) fn push_blocks<W: Sink, A: Allocator + Copy>(
+// Pushes the text of a block, and then those of the blocks that were filled before it, that of the last first.
+fn push_blocks<W: Sink, A: Allocator + Copy>(
     out: &mut Pieces,
     sink: &mut W,
     full: &[TextBlock<A>],

@@ -18,4 +18,4 @@ mod texts;
 pub use held_text::HeldText;
 pub use lines_text::LinesText;
 pub use model::Model;
-pub use text::{push_detector, push_observable, write, write_behind};
+pub use text::{push_detector, push_observable, write};

@@ -3,7 +3,6 @@ ghost use Rattle.std.specs.Prelude.{◌≡◌, ◌<◌, ◌≤◌, ◌+◌, ◌-
 ghost use Rattle.error_models.specs.ErrorLines.{text_at, KeepsTexts};
 ghost use Rattle.error_models.specs.HeldText.{EndsIn};
 ghost use Rattle.error_models.specs.ModelText.{line_text, targets_text};
-ghost use Rattle.streams.specs.Pushed.{Pushes};
 
 use crate::held_text::HeldText;
 use crate::line_text::LineText;
@@ -13,8 +12,6 @@ use crate::text_blocks::{PART, TextBlocks};
 use crate::texts::number_of;
 use std::alloc::{AllocError, Allocator};
 use std::marker::Model;
-use step_model::Sink;
-use streams::Pieces;
 
 /// The text of error lines, each put before those that were there. So a pass that finds the last line first can write
 /// each when it finds it. The text grows by blocks of 64 KiB, and what was written isn't moved. The texts of targets
@@ -163,12 +160,5 @@ impl<'a, A: Allocator + Copy> LinesText<'a, A> {
         ensures { self.new ≡ self.old }
     {
         self.blocks.reuse(held);
-    }
-
-    /// Pushes the text, block by block.
-    pub fn push_to<W: Sink>(&self, out: &mut Pieces, sink: &mut W)
-        ensures { Pushes W.taken W.failures sink.old sink.new out.old out.new self.now.text }
-    {
-        self.blocks.push_to(out, sink);
     }
 }

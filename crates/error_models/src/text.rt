@@ -7,10 +7,10 @@ ghost use Rattle.streams.specs.Pushed.{Pushes};
 ghost use Rattle.step_model.specs.Ends.{Takes, TakesBeginning, write_failures};
 ghost use Rattle.step_model.specs.Faults.{write_fault};
 
+use crate::Model;
 use crate::line_runs::{end_of_short, lines_before};
 use crate::short_detectors::{DETECTOR_ROOM, SHORT_COORDINATES, detector_before};
 use crate::short_lines::{ROOM, SHORT_TARGETS, targets_before};
-use crate::{LinesText, Model};
 use itoa::Buffer;
 use std::alloc::Allocator;
 use step_model::{Fault, Sink};
@@ -31,27 +31,6 @@ pub fn write<'a, A: Allocator + Copy, W: Sink>(
     ensures count { W.failures sink.new ≡ write_failures result (W.failures sink.old) }
 {
     let mut out = Pieces::new();
-    push_model(&mut out, sink, model);
-    out.finish(sink)
-}
-
-/// Writes the text of error lines that is held, and then that of a model. It takes no memory, and fails only where the
-/// sink fails; a beginning of the text has then gone out, and the sink is not called again.
-pub fn write_behind<'t, 'a, A: Allocator + Copy, W: Sink>(
-    lines: &LinesText<'t, A>,
-    model: &Model<'a, A>,
-    sink: &mut W,
-) -> Result<(), Fault>
-    ensures all { OnOk result (Takes (W.taken sink.old) (W.taken sink.new) (lines.now.text ++ model_text model.now)) }
-
-    ensures fault { IfErr result (λ e. e ≡ write_fault) }
-    ensures beginning { OnErr result (TakesBeginning (W.taken sink.old) (W.taken sink.new) (lines.now.text ++ model_text model.now)) }
-
-    // One more where the sink failed, otherwise as before.
-    ensures count { W.failures sink.new ≡ write_failures result (W.failures sink.old) }
-{
-    let mut out = Pieces::new();
-    lines.push_to(&mut out, sink);
     push_model(&mut out, sink, model);
     out.finish(sink)
 }

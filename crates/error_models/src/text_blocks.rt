@@ -2,17 +2,14 @@
 ghost use Rattle.std.specs.Prelude.{◌≡◌, ◌<◌, ◌≤◌, ◌*◌, ◌-◌, ◌^◌, ◌++◌, [], All, length, min, IfOk, OnOk, vec_len};
 ghost use Rattle.error_models.specs.HeldText.{no_text};
 ghost use Rattle.error_models.specs.ModelText.{line_text, targets_text};
-ghost use Rattle.streams.specs.Pushed.{Pushes};
 
-use crate::held_text::{HeldText, push_blocks};
+use crate::held_text::HeldText;
 use crate::line_text::LineText;
 use crate::names::Names;
 use crate::text_block::TextBlock;
 use std::alloc::{AllocError, Allocator};
 use std::marker::Model;
 use std::mem;
-use step_model::Sink;
-use streams::Pieces;
 
 /// How much room a short line takes at most. What is longer is put in parts of at most this length.
 pub(crate) const PART: usize = 240;
@@ -135,13 +132,6 @@ impl<A: Allocator + Copy> TextBlocks<A> {
         ensures { self.new ≡ self.old }
     {
         keep_blocks(&mut self.spare, held.into_blocks());
-    }
-
-    /// Pushes the text, block by block.
-    pub(crate) fn push_to<W: Sink>(&self, out: &mut Pieces, sink: &mut W)
-        ensures { Pushes W.taken W.failures sink.old sink.new out.old out.new self.now.text }
-    {
-        push_blocks(out, sink, self.full.as_slice(), &self.block);
     }
 }
 

@@ -5,13 +5,14 @@ ghost use Rattle.std.specs.Prelude.{◌≡◌, ◌<◌, ◌≤◌, [], length, I
 use super::growths::{Call, Memory, Ration, told};
 use super::lent::Lent;
 use chances::{ChanceText, number_of};
-use error_models::{LinesText, Model, write_behind};
+use error_models::{LinesText, Model};
 use flat_lists::FlatLists;
 use gate_table::Gate;
 use pauli_word::Letter;
 use programs::{CircuitBuilder, Entries, EntryBuilder, TextStep};
 use std::alloc::{AllocError, Global};
 use step_model::{Fault, MemorySink, Term, read_all};
+use streams::Pieces;
 use test_support::SlowSource;
 
 #[derive(Clone, Copy, Debug)]
@@ -204,19 +205,23 @@ fn has_number<'m>(lines: &mut LinesText<'static, Memory<'m>>, number: usize) -> 
     }
 }
 
-/// The text of lines.
+/// The text of lines, which are taken out.
 fn text_of<'m>(
     ration: Ration<'m>,
-    lines: &LinesText<'_, Memory<'m>>,
+    lines: &mut LinesText<'_, Memory<'m>>,
 ) -> Result<MemorySink<Global>, Fault> {
     let mut sink = MemorySink::new(ration.alloc);
-    let model = Model::new(ration.memory, FlatLists::new(ration.memory), 0);
-    write_behind(lines, &model, &mut sink)?;
+    let mut out = Pieces::new();
+    lines.take_text().push_to(&mut out, &mut sink);
+    out.finish(&mut sink)?;
     Ok(sink)
 }
 
 /// Whether the one line is the text.
-fn is_one_line<'m>(ration: Ration<'m>, lines: &LinesText<'_, Memory<'m>>) -> Result<bool, Fault> {
+fn is_one_line<'m>(
+    ration: Ration<'m>,
+    lines: &mut LinesText<'_, Memory<'m>>,
+) -> Result<bool, Fault> {
     let text = text_of(ration, lines)?;
     Ok(text.bytes() == b"error(0.1) D1 L0\n".as_slice())
 }
@@ -281,7 +286,7 @@ fn many_lines<'m>(ration: Ration<'m>) -> Result<LinesText<'static, Memory<'m>>, 
 
 fn many_are_put(ration: Ration<'_>) -> Result<bool, Fault> {
     match many_lines(ration) {
-        Ok(lines) => Ok(text_of(ration, &lines)?.bytes().len() == 176_000),
+        Ok(mut lines) => Ok(text_of(ration, &mut lines)?.bytes().len() == 176_000),
         Err(_) => Err(Fault::MEMORY),
     }
 }
