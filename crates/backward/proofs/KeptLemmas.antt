@@ -1,20 +1,17 @@
 -- Columns kept as lists of targets, two a column, and made from such lists.
-use Rattle.std.proofs.Common.{◌≡◌, ℕ, zero, suc, ◌+◌, ◌*◌, ◌<◌, ◌≤◌, ◌^◌, Bool, true, false, List, [], ◌∷◌, ◌++◌, map, length, get_or, set, inl, inr, refl, ap, ap₂, subst, sym, ◌∙◌, arith, length-set, get_or-set_same, get_or-set_other}
+use Rattle.std.proofs.Common.{◌≡◌, ℕ, zero, suc, ◌+◌, ◌*◌, ◌<◌, Bool, true, false, List, [], ◌∷◌, ◌++◌, map, length, get_or, set, refl, ap, ap₂, subst, sym, ◌∙◌, arith}
 use Rattle.std.specs.Prelude.{All}
 use Rattle.std.specs.List.{range_with_len}
 use Rattle.std.proofs.Math.Nat.{suc_inj}
-use Rattle.std.proofs.lemmas.Bool.{cases_eq}
 use Rattle.std.proofs.lemmas.List.{get_or-map, get_or_default, length-map, map-set, set-get_or}
 use Rattle.std.proofs.lemmas.List.FromFn.{length-map-range_with_len}
 use Rattle.pauli_word.specs.declared.letter.Letter.{Letter}
 use Rattle.pauli_word.specs.declared.letter.Letter.TheVariants.{I, X, Y, Z}
 use Rattle.pauli_word.specs.Bits.{letter_of, x_bit, z_bit, letters_of}
 use Rattle.pauli_word.specs.Words.{letter_at}
-use Rattle.pauli_word.proofs.BitWords.{letter_at-letters_of, length-letters_of}
-use Rattle.step_model.specs.Listing.{Listing}
-use Rattle.step_model.specs.Targets.{targets_of, is_listed}
+use Rattle.pauli_word.proofs.BitWords.{letter_at-letters_of}
+use Rattle.step_model.specs.Targets.{is_listed}
 use Rattle.backward.specs.Tracked.{Tracked, Fit, listed_word, restored}
-use Rattle.backward.specs.private.Points.{IsFor, Keeps}
 use Rattle.backward.specs.private.Sets.{row_of_set}
 use Rattle.backward.specs.private.TargetSets.{members}
 use Rattle.backward.specs.private.Transposed.{AreRestored, column_of, lists_of, lists_of_each, tracked_of, transposed, word_at}

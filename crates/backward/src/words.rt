@@ -300,7 +300,10 @@ impl<S: TargetSet, A: Allocator + Copy> Tracker for Words<S, A> {
         keep_columns(&self.columns, alloc)
     }
 
-    fn restore<B: Allocator + Copy>(&mut self, lists: &FlatLists<u32, B>) -> Result<(), AllocError> {
+    fn restore<B: Allocator + Copy>(
+        &mut self,
+        lists: &FlatLists<u32, B>,
+    ) -> Result<(), AllocError> {
         restore_columns(self.columns.as_mut_slice(), lists)
     }
 

@@ -1,4 +1,4 @@
-use Rattle.std.proofs.Common.{◌≤◌, ◌^◌, ◌∷◌, ◌++◌, [], List, ℕ, length, ap, ap₂, sym, ◌∙◌, arith, append_assoc}
+use Rattle.std.proofs.Common.{◌∷◌, ◌++◌, [], List, ℕ, ap, ap₂, sym, ◌∙◌, arith, append_assoc}
 use Rattle.std.proofs.lemmas.Result.{on_ok_weaker}
 use Rattle.backward.specs.private.TargetSets.{members}
 use Rattle.backward.proofs.ColumnLemmas.{rows_long}
