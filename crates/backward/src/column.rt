@@ -47,7 +47,8 @@ impl<S: TargetSet> Column<S> {
         Ok(Column { x, z })
     }
 
-    /// Appends the lists of the targets whose letter has an X in it, and of those whose letter has a Z. `list` is a buffer.
+    /// Appends the lists of the targets whose letter has an X in it, and of those whose letter has a Z. `list` is a
+    /// buffer.
     pub(crate) fn keep<B: Allocator + Copy>(
         &self,
         lists: &mut FlatLists<u32, B>,

@@ -103,7 +103,7 @@ pub(crate) fn cut<'s, 'p, 'a, A: Allocator + Copy, T: Tracker>(
 // How far apart points are left on a way of this many steps, where the text of the steps behind them is full. The text
 // between two points is shorter, since it is held beside that one.
 fn distance_for(way: usize, full: usize) -> usize {
-    (full / 4).max(way / POINTS + 1)
+    (full / 2).max(way / POINTS + 1)
 }
 
 /// Writes the text of what is before a cut, from the first of its points' parts to the last: from the last point on.

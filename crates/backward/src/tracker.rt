@@ -12,15 +12,15 @@ use step_model::Term;
 /// An unsigned Pauli word for each target, taken back over the steps of a program: the words of the detectors, then
 /// those of the observables. Lists of targets ascend.
 ///
-/// After an error in `undo1`, `undo2`, `add` or `restore` nothing is promised about the words, and the tracker is not used
-/// again. After one in `hit` it is as it was.
+/// After an error in `undo1`, `undo2`, `add` or `restore` nothing is promised about the words, and the tracker is not
+/// used again. After one in `hit` it is as it was.
 pub trait Tracker: Sized {
     // The words, in the order of their targets, and how many qubits they have.
     ghost tracked: { Self → Tracked };
 
-    /// The words as lists of targets, which take little memory: two for each qubit, of the targets whose letter there has
-    /// an X in it, and of those whose letter has a Z. It fails only where memory runs out, or where the lists would have
-    /// 2^32 targets or more.
+    /// The words as lists of targets, which take little memory: two for each qubit, of the targets whose letter there
+    /// has an X in it, and of those whose letter has a Z. It fails only where memory runs out, or where the lists would
+    /// have 2^32 targets or more.
     fn keep<B: Allocator + Copy>(&self, alloc: B) -> Result<FlatLists<u32, B>, AllocError>
         ensures fit { IfOk result (Fit (tracked self.now)) }
         ensures words { IfOk result (λ lists. restored lists (tracked self.now) ≡ tracked self.now) };
