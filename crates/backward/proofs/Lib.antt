@@ -4,6 +4,7 @@ pub mod ExchangeLemmas
 pub mod Judging
 mod HeldLines
 mod LinkLemmas
+mod KeptLemmas
 pub mod LoneTerms
 pub mod MultiplyLemmas
 mod NumberedLemmas

@@ -7,10 +7,11 @@ use Rattle.std.proofs.lemmas.List.Elements.{All-push}
 use Rattle.std.proofs.lemmas.List.Quantifiers.{all_pairs_push}
 use Rattle.programs.specs.Kept.{KeptProgram}
 use Rattle.backward.specs.declared.found.Found.{Found}
+use Rattle.backward.specs.declared.point.KeptPoint.{KeptPoint}
 use Rattle.backward.specs.declared.point.Point.{Point}
 use Rattle.backward.specs.Tracked.{Tracked}
 use Rattle.backward.specs.private.Passes.{IsPassed, Stays, tracked_before}
-use Rattle.backward.specs.private.Points.{ArePoints, IsLeft, IsPointOf, first_place}
+use Rattle.backward.specs.private.Points.{ArePoints, IsLeft, IsPointOf, Keeps, first_place}
 
 pub stays_on : {A : Type 0} (a b c : Found A) → Stays a b → Stays b c → Stays a c
 stays_on a b c h k =
@@ -20,17 +21,17 @@ stays_on a b c h k =
       known = λ e. k.known (h.keeps ∙ e) ∙ h.known e;
     }
 
-module _ {A T : Type 0} (tracked : T → Tracked) (program : KeptProgram) where
+module _ {A : Type 0} (program : KeptProgram) where
   -- what a pass has reached is a point
-  pub is_point : (at point : Point A T) (found : Found A) → at.walk.program ≡ program → IsPassed program.listing at.walk.place (tracked at.tracker) found → point.walk ≡ at.walk → tracked point.tracker ≡ tracked at.tracker → IsPointOf tracked program point
-  is_point at point found e h w t =
+  pub is_point : {T : Type 0} (tracked : T → Tracked) (at : Point A T) (point : KeptPoint A) (found : Found A) → at.walk.program ≡ program → IsPassed program.listing at.walk.place (tracked at.tracker) found → point.walk ≡ at.walk → Keeps (tracked at.tracker) point.lists → IsPointOf program point
+  is_point tracked at point found e h w kept =
       record {
         program_is = ap (λ walk. walk.program) w ∙ e;
         within = omega (arith, ap (λ walk. walk.place) w, h.within);
-        words = t ∙ (h.words ∙ ap (λ walk. tracked_before program.listing (drop walk.place program.listing.steps)) (sym w));
+        words = subst (λ t. Keeps t point.lists) (h.words ∙ ap (λ walk. tracked_before program.listing (drop walk.place program.listing.steps)) (sym w)) kept;
       }
 
-  pub no_points : (from cut : ℕ) → cut ≡ from → ArePoints {A = A} {T = T} tracked program from cut []
+  pub no_points : (from cut : ℕ) → cut ≡ from → ArePoints {A = A} program from cut []
   no_points from cut e =
       record {
         first = sym e;
@@ -41,67 +42,67 @@ module _ {A T : Type 0} (tracked : T → Tracked) (program : KeptProgram) where
       }
 
   -- one more
-  one_first : (from : ℕ) (points : List (Point A T)) (point : Point A T) → first_place from (points ++ point ∷ []) ≡ first_place point.walk.place points
+  one_first : (from : ℕ) (points : List (KeptPoint A)) (point : KeptPoint A) → first_place from (points ++ point ∷ []) ≡ first_place point.walk.place points
   one_first from [] point = refl
   one_first from (p ∷ points) point = refl
 
-  some_first : (from cut : ℕ) (points : List (Point A T)) (place : ℕ) → first_place from points ≡ cut → from < cut → first_place place points ≡ cut
+  some_first : (from cut : ℕ) (points : List (KeptPoint A)) (place : ℕ) → first_place from points ≡ cut → from < cut → first_place place points ≡ cut
   some_first from cut [] place e lt = absurd (omega (arith, e, lt))
   some_first from cut (p ∷ points) place e lt = e
 
-  pub first_point : (from cut : ℕ) (at : Point A T) (found : Found A) (old new : List (Point A T)) → old ≡ [] → cut ≡ at.walk.place → from < at.walk.place → at.walk.program ≡ program → IsPassed program.listing at.walk.place (tracked at.tracker) found
-      → IsLeft tracked at old new → ArePoints tracked program from cut new
-  first_point from cut at found old new none e lt is h left =
+  pub first_point : {T : Type 0} (tracked : T → Tracked) (from cut : ℕ) (at : Point A T) (found : Found A) (old new : List (KeptPoint A)) → old ≡ [] → cut ≡ at.walk.place → from < at.walk.place → at.walk.program ≡ program → IsPassed program.listing at.walk.place (tracked at.tracker) found
+      → IsLeft tracked at old new → ArePoints program from cut new
+  first_point tracked from cut at found old new none e lt is h left =
       let place : left.point.walk.place ≡ at.walk.place = ap (λ walk. walk.place) left.walk in
-      let one : new ≡ left.point ∷ [] = left.items ∙ ap (λ (l : List (Point A T)). l ++ left.point ∷ []) none in
-      subst (ArePoints tracked program from cut) (sym one)
+      let one : new ≡ left.point ∷ [] = left.items ∙ ap (λ (l : List (KeptPoint A)). l ++ left.point ∷ []) none in
+      subst (ArePoints program from cut) (sym one)
       (record {
         first = place ∙ sym e;
-        each = All-push (IsPointOf tracked program) [] left.point (λ k d lt. absurd (omega (arith, lt))) (is_point at left.point found is h left.walk left.words);
+        each = All-push (IsPointOf program) [] left.point (λ k d lt. absurd (omega (arith, lt))) (is_point tracked at left.point found is h left.walk left.words);
         above = All-push (λ p. from < p.walk.place) [] left.point (λ k d lt. absurd (omega (arith, lt))) (omega (arith, place, lt));
         below = All-push (λ p. p.walk.place ≤ cut) [] left.point (λ k d lt. absurd (omega (arith, lt))) (omega (arith, place, e));
         fall = λ j k d lt within. absurd (omega (arith, within, lt));
       })
 
-  pub next_point : (from cut : ℕ) (at : Point A T) (found : Found A) (old new : List (Point A T)) → from < at.walk.place → at.walk.place < cut → at.walk.program ≡ program → IsPassed program.listing at.walk.place (tracked at.tracker) found
-      → All (λ p. at.walk.place < p.walk.place) old → IsLeft tracked at old new → ArePoints tracked program from cut old → ArePoints tracked program from cut new
-  next_point from cut at found old new lt below is h before left points =
+  pub next_point : {T : Type 0} (tracked : T → Tracked) (from cut : ℕ) (at : Point A T) (found : Found A) (old new : List (KeptPoint A)) → from < at.walk.place → at.walk.place < cut → at.walk.program ≡ program → IsPassed program.listing at.walk.place (tracked at.tracker) found
+      → All (λ p. at.walk.place < p.walk.place) old → IsLeft tracked at old new → ArePoints program from cut old → ArePoints program from cut new
+  next_point tracked from cut at found old new lt below is h before left points =
       let place : left.point.walk.place ≡ at.walk.place = ap (λ walk. walk.place) left.walk in
-      subst (ArePoints tracked program from cut) (sym left.items)
+      subst (ArePoints program from cut) (sym left.items)
       (record {
         first = one_first from old left.point ∙ some_first from cut old left.point.walk.place points.first (omega (arith, lt, below));
-        each = All-push (IsPointOf tracked program) old left.point points.each (is_point at left.point found is h left.walk left.words);
+        each = All-push (IsPointOf program) old left.point points.each (is_point tracked at left.point found is h left.walk left.words);
         above = All-push (λ p. from < p.walk.place) old left.point points.above (omega (arith, place, lt));
         below = All-push (λ p. p.walk.place ≤ cut) old left.point points.below (omega (arith, place, below));
         fall = all_pairs_push (λ early late. late.walk.place < early.walk.place) old left.point points.fall (λ k d within. let after : at.walk.place < (get_or old k d).walk.place = before k d within in omega (arith, place, after));
       })
 
   -- after a point is left, it and those before it are no earlier than where the pass is
-  pub left_behind : (at : Point A T) (old new : List (Point A T)) → All (λ p. at.walk.place < p.walk.place) old → IsLeft tracked at old new → All (λ p. at.walk.place ≤ p.walk.place) new
-  left_behind at old new before left =
+  pub left_behind : {T : Type 0} (tracked : T → Tracked) (at : Point A T) (old new : List (KeptPoint A)) → All (λ p. at.walk.place < p.walk.place) old → IsLeft tracked at old new → All (λ p. at.walk.place ≤ p.walk.place) new
+  left_behind tracked at old new before left =
       let place : left.point.walk.place ≡ at.walk.place = ap (λ walk. walk.place) left.walk in
       subst (All (λ p. at.walk.place ≤ p.walk.place)) (sym left.items)
       (All-push (λ p. at.walk.place ≤ p.walk.place) old left.point (λ k d lt. let after : at.walk.place < (get_or old k d).walk.place = before k d lt in omega (arith, after)) (omega (arith, place)))
 
   -- a step back comes before points that are no earlier than where it starts
-  pub step_before : (from to : ℕ) (points : List (Point A T)) → from < to → All (λ p. to ≤ p.walk.place) points → All (λ p. from < p.walk.place) points
+  pub step_before : (from to : ℕ) (points : List (KeptPoint A)) → from < to → All (λ p. to ≤ p.walk.place) points → All (λ p. from < p.walk.place) points
   step_before from to points lt h k d within = let after : to ≤ (get_or points k d).walk.place = h k d within in omega (arith, lt, after)
 
   -- the last point is taken, and then those before it are points from its place on
-  pub popped : (from cut : ℕ) (points rest : List (Point A T)) (point : Point A T) → points ≡ rest ++ point ∷ [] → ArePoints tracked program from cut points
-      → ArePoints tracked program point.walk.place cut rest × IsPointOf tracked program point × (from < point.walk.place) × (point.walk.place ≤ cut)
+  pub popped : (from cut : ℕ) (points rest : List (KeptPoint A)) (point : KeptPoint A) → points ≡ rest ++ point ∷ [] → ArePoints program from cut points
+      → ArePoints program point.walk.place cut rest × IsPointOf program point × (from < point.walk.place) × (point.walk.place ≤ cut)
   popped from cut points rest point e h =
       let n : length points ≡ length rest + 1 = ap length e ∙ length-append rest (point ∷ []) in
-      let last : (d : Point A T) → get_or points (length rest) d ≡ point = λ d. ap (λ (l : List (Point A T)). get_or l (length rest) d) e ∙ get_or-append_seam rest point [] d in
-      let front : (k : ℕ) (d : Point A T) → k < length rest → get_or points k d ≡ get_or rest k d = λ k d lt. ap (λ (l : List (Point A T)). get_or l k d) e ∙ get_or_append_left rest (point ∷ []) d k lt in (
+      let last : (d : KeptPoint A) → get_or points (length rest) d ≡ point = λ d. ap (λ (l : List (KeptPoint A)). get_or l (length rest) d) e ∙ get_or-append_seam rest point [] d in
+      let front : (k : ℕ) (d : KeptPoint A) → k < length rest → get_or points k d ≡ get_or rest k d = λ k d lt. ap (λ (l : List (KeptPoint A)). get_or l k d) e ∙ get_or_append_left rest (point ∷ []) d k lt in (
         record {
           first = sym (one_first from rest point) ∙ (ap (first_place from) (sym e) ∙ h.first);
-          each = λ k d lt. subst (IsPointOf tracked program) (front k d lt) (h.each k d (omega (arith, lt, n)));
-          above = λ k d lt. subst (λ (p : Point A T). point.walk.place < p.walk.place) (front k d lt) (subst (λ (p : Point A T). p.walk.place < (get_or points k d).walk.place) (last d) (h.fall k (length rest) d lt (omega (arith, n))));
-          below = λ k d lt. subst (λ (p : Point A T). p.walk.place ≤ cut) (front k d lt) (h.below k d (omega (arith, lt, n)));
-          fall = λ j k d lt within. subst (λ (p : Point A T). p.walk.place < (get_or rest j d).walk.place) (front k d within) (subst (λ (p : Point A T). (get_or points k d).walk.place < p.walk.place) (front j d (omega (arith, lt, within))) (h.fall j k d lt (omega (arith, within, n))));
+          each = λ k d lt. subst (IsPointOf program) (front k d lt) (h.each k d (omega (arith, lt, n)));
+          above = λ k d lt. subst (λ (p : KeptPoint A). point.walk.place < p.walk.place) (front k d lt) (subst (λ (p : KeptPoint A). p.walk.place < (get_or points k d).walk.place) (last d) (h.fall k (length rest) d lt (omega (arith, n))));
+          below = λ k d lt. subst (λ (p : KeptPoint A). p.walk.place ≤ cut) (front k d lt) (h.below k d (omega (arith, lt, n)));
+          fall = λ j k d lt within. subst (λ (p : KeptPoint A). p.walk.place < (get_or rest j d).walk.place) (front k d within) (subst (λ (p : KeptPoint A). (get_or points k d).walk.place < p.walk.place) (front j d (omega (arith, lt, within))) (h.fall j k d lt (omega (arith, within, n))));
         },
-        subst (IsPointOf tracked program) (last point) (h.each (length rest) point (omega (arith, n))),
-        subst (λ (p : Point A T). from < p.walk.place) (last point) (h.above (length rest) point (omega (arith, n))),
-        subst (λ (p : Point A T). p.walk.place ≤ cut) (last point) (h.below (length rest) point (omega (arith, n))),
+        subst (IsPointOf program) (last point) (h.each (length rest) point (omega (arith, n))),
+        subst (λ (p : KeptPoint A). from < p.walk.place) (last point) (h.above (length rest) point (omega (arith, n))),
+        subst (λ (p : KeptPoint A). p.walk.place ≤ cut) (last point) (h.below (length rest) point (omega (arith, n))),
       )

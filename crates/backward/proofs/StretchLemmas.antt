@@ -1,10 +1,12 @@
 -- The text of a stretch, written part by part.
-use Rattle.std.proofs.Common.{◌≡◌, ℕ, ◌≤◌, Bool, true, false, List, [], ◌++◌, length, take, Option, refl, ap, subst, sym, ◌∙◌, arith, append_assoc}
+use Rattle.std.proofs.Common.{◌≡◌, ℕ, ◌≤◌, Bool, true, false, List, [], ◌++◌, length, take, drop, Option, refl, ap, subst, sym, ◌∙◌, arith, append_assoc}
 use Rattle.std.specs.Prelude.{Result, Ok, Err, OnErr}
 use Rattle.std.specs.List.{flat_map}
 use Rattle.std.proofs.Math.Seq.{take-append_seam}
 use Rattle.std.proofs.lemmas.List.{take-append-le}
-use Rattle.step_model.specs.Listing.{Listing}
+use Rattle.std.proofs.lemmas.List.FromFn.{length-map-range_with_len}
+use Rattle.step_model.specs.Listing.{Listing, ListedStep}
+use Rattle.step_model.specs.Targets.{targets_of}
 use Rattle.programs.specs.Kept.{KeptProgram}
 use Rattle.step_model.specs.Ends.{Takes, TakesSome}
 use Rattle.step_model.specs.HitModels.{model_of}
@@ -14,28 +16,51 @@ use Rattle.streams.specs.Held.{Held}
 use Rattle.streams.specs.Pushed.{IsPushed, Outlet, Pushes}
 use Rattle.streams.proofs.Pushing.{Pushes-trans}
 use Rattle.backward.specs.declared.found.Found.{Found}
+use Rattle.backward.specs.declared.point.KeptPoint.{KeptPoint}
 use Rattle.backward.specs.declared.point.Point.{Point}
-use Rattle.backward.specs.Tracked.{Tracked}
-use Rattle.backward.specs.private.Passes.{HoldsLists, IsJudged, IsPassed, records_before}
-use Rattle.backward.specs.private.Points.{IsPointOf, IsReady, PushesSome, first_place}
+use Rattle.backward.specs.Tracked.{Tracked, Fit, restored}
+use Rattle.backward.specs.private.Passes.{HoldsLists, IsJudged, IsPassed, records_before, sensitivity_before, tracked_before}
+use Rattle.backward.specs.private.Points.{IsFor, IsPointOf, IsReady, PushesSome, first_place}
 use Rattle.backward.specs.private.Stretches.{text_between}
+use Rattle.backward.proofs.KeptLemmas.{fit_alike, restored_alike}
 use Rattle.backward.proofs.PassLines.{lines_between-all, lines_between-none, text_between-parts}
 use Rattle.backward.proofs.PassRecords.{records_before-earlier, settled-at, settled-first}
 use Rattle.backward.proofs.PassSteps.{holds_same}
 
 -- ---- where a pass may start
+words_before : (program : Listing) (steps : List ListedStep) → length (tracked_before program steps).words ≡ length (targets_of program)
+words_before program steps = length-map-range_with_len (λ d. (sensitivity_before program steps d).word) 0 (length (targets_of program))
+
 settled_judged : (program : Listing) (settled : Bool) (place : ℕ) (latest : List (Option ℕ)) (left : ℕ) → settled ≡ true → IsJudged program settled place latest left
 settled_judged program true place latest left e = tt
 settled_judged program false place latest left e = cc
 
-pub passed_at_point : {A T : Type 0} (tracked : T → Tracked) (program : KeptProgram) (cut : ℕ) (point : Point A T) (found : Found A) → IsReady program.listing cut found → IsPointOf tracked program point → point.walk.place ≤ cut → IsPassed program.listing point.walk.place (tracked point.tracker) found
-passed_at_point tracked program cut point found ready at le =
-    record {
-      within = at.within;
-      words = at.words;
+-- what is kept fits a tracker for the program
+pub fits_tracker : {A : Type 0} (program : KeptProgram) (point : KeptPoint A) (t : Tracked) → IsFor program.listing t → IsPointOf program point → Fit t point.lists
+fits_tracker program point t size at =
+    let steps = drop point.walk.place program.listing.steps in
+    fit_alike point.lists t (tracked_before program.listing steps) size.qubits (size.words ∙ sym (words_before program.listing steps)) at.words.fit
+
+pub passed_at_point : {A T : Type 0} (tracked : T → Tracked) (program : KeptProgram) (cut : ℕ) (point : KeptPoint A) (found : Found A) (old at : Point A T) → IsFor program.listing (tracked old.tracker)
+    → at.walk ≡ point.walk → tracked at.tracker ≡ restored point.lists (tracked old.tracker) → IsReady program.listing cut found → IsPointOf program point → point.walk.place ≤ cut → IsPassed program.listing at.walk.place (tracked at.tracker) found
+passed_at_point tracked program cut point found old at size walk words ready left le =
+    let steps = drop point.walk.place program.listing.steps in
+    let alike = restored_alike point.lists (tracked old.tracker) (tracked_before program.listing steps) size.qubits (size.words ∙ sym (words_before program.listing steps)) in
+    subst (λ (place : ℕ). IsPassed program.listing place (tracked at.tracker) found) (sym (ap (λ walk. walk.place) walk))
+    (record {
+      within = left.within;
+      words = words ∙ (alike ∙ left.words.words);
       lists = subst (λ s. HoldsLists program.listing s point.walk.place found.known found.lists) (sym ready.settled)
           (settled-at program.listing cut point.walk.place found.known found.lists (omega (arith, records_before-earlier program.listing point.walk.place cut le, ready.lists.enough)) ready.lists);
       judged = settled_judged program.listing found.settled point.walk.place found.latest.items found.left ready.settled;
+    })
+
+-- a tracker that was taken back is for the program
+pub passed_for : {A : Type 0} (program : Listing) (place : ℕ) (t : Tracked) (found : Found A) → IsPassed program place t found → IsFor program t
+passed_for program place t found h =
+    record {
+      qubits = ap (λ (t : Tracked). t.qubits) h.words;
+      words = ap (λ (t : Tracked). length t.words) h.words ∙ words_before program (drop place program.steps);
     }
 
 -- the lists are settled at a pass's end as they were, for each place that they know enough for
@@ -83,7 +108,7 @@ pub text_between-none : (program : Listing) (k : ℕ) → text_between program k
 text_between-none program k = ap (flat_map (line_text (length program.detectors))) (lines_between-none program k)
 
 -- no point is left: the end is reached
-pub reached : {A T : Type 0} (start cut : ℕ) (points : List (Point A T)) → points ≡ [] → first_place start points ≡ cut → start ≡ cut
+pub reached : {A : Type 0} (start cut : ℕ) (points : List (KeptPoint A)) → points ≡ [] → first_place start points ≡ cut → start ≡ cut
 reached start cut points none e = sym (ap (first_place start) none) ∙ e
 
 -- three stretches, one after another

@@ -1,14 +1,16 @@
 -- A set of targets, made by toggling each, multiplies their letters where it is added to a column.
-use Rattle.std.proofs.Common.{◌≡◌, ℕ, zero, suc, ◌+◌, ◌<◌, Bool, true, false, not, ◌&&◌, List, [], ◌∷◌, length, drop, get_or, length-set, refl, ap, ap₂, ◌∙◌, arith}
-use Rattle.std.specs.Prelude.{replicate}
+use Rattle.std.proofs.Common.{◌≡◌, ℕ, zero, suc, ◌<◌, Bool, true, false, not, ◌&&◌, List, [], ◌∷◌, length, refl, ap, ap₂, sym, ◌∙◌, arith}
+use Rattle.std.specs.Prelude.{All, replicate}
 use Rattle.std.proofs.Math.Nat.{suc_inj}
-use Rattle.std.proofs.lemmas.List.{length-replicate}
+use Rattle.pauli_word.specs.declared.letter.Letter.{Letter}
 use Rattle.pauli_word.specs.Bits.{x_bit, z_bit, letters_of}
 use Rattle.pauli_word.specs.Parity.{exclusive_or}
 use Rattle.pauli_word.proofs.Parities.{exclusive_or-false}
 use Rattle.backward.specs.private.Collapses.{toggled}
-use Rattle.backward.specs.private.Transposed.{xor_where, flipped_where, times_at, Multiplies}
+use Rattle.backward.specs.private.Sets.{row_of_set}
+use Rattle.backward.specs.private.Transposed.{xor_where, flipped_where, times_at, times_each}
 use Rattle.backward.proofs.ColumnLemmas.{flipped_rows}
+use Rattle.backward.proofs.SetLemmas.{length-row_of_set, row_of_more, row_of_no_set}
 use Rattle.backward.proofs.TimesEach.{one_before}
 
 length-xor_where : (b : Bool) (p q : List Bool) → length (xor_where b p q) ≡ length p
@@ -41,21 +43,21 @@ xor_where-toggled b (a ∷ p) [] t h lt = cc
 xor_where-toggled b (a ∷ p) (c ∷ q) zero h lt = ap (λ d. d ∷ xor_where b p q) (turned a b c)
 xor_where-toggled b (a ∷ p) (c ∷ q) (suc t) h lt = ap (λ r. exclusive_or a (b && c) ∷ r) (xor_where-toggled b p q t (suc_inj h) (omega (arith, lt)))
 
-pub multiplies_none : (n : ℕ) → Multiplies [] (replicate n false)
-multiplies_none n letter x z h k =
-    ap₂ letters_of (xor_where-none (x_bit letter) x n (h ∙ length-replicate n false)) (xor_where-none (z_bit letter) z n (k ∙ length-replicate n false))
-
--- the targets from one on, and the one before
-pub multiplies_more : (targets : List ℕ) (row : List Bool) (i left : ℕ) → i + 1 ≡ left → i < length targets → get_or targets i 0 < length row
-    → Multiplies (drop left targets) row → Multiplies (drop i targets) (toggled (get_or targets i 0) row)
-multiplies_more targets row i left next within low before letter x z h k =
-    let t = get_or targets i 0 in
-    let same = length-set row t (not (get_or row t false)) in
-    let x_long : length x ≡ length row = h ∙ same in
-    let z_long : length z ≡ length row = k ∙ same in
+-- the set of some targets, added to a column's X bits where a letter has X in it, and to its Z bits where the letter has
+-- Z, multiplies the column by the letter at each of them
+pub times_by_set : (letter : Letter) (targets : List ℕ) (m : ℕ) (x z : List Bool) → All (λ t. t < m) targets → length x ≡ m → length z ≡ m
+    → letters_of (xor_where (x_bit letter) x (row_of_set m targets)) (xor_where (z_bit letter) z (row_of_set m targets)) ≡ times_each letter targets (letters_of x z)
+times_by_set letter [] m x z fits h k =
+    ap₂ (λ p q. letters_of (xor_where (x_bit letter) x p) (xor_where (z_bit letter) z q)) (row_of_no_set m) (row_of_no_set m)
+    ∙ ap₂ letters_of (xor_where-none (x_bit letter) x m h) (xor_where-none (z_bit letter) z m k)
+times_by_set letter (t ∷ targets) m x z fits h k =
+    let low : t < m = fits 0 t (omega arith) in
+    let row = row_of_set m targets in
+    let long = length-row_of_set m targets in
     let px = xor_where (x_bit letter) x row in
     let pz = xor_where (z_bit letter) z row in
-    ap₂ letters_of (xor_where-toggled (x_bit letter) x row t x_long (omega (arith, low, x_long))) (xor_where-toggled (z_bit letter) z row t z_long (omega (arith, low, z_long)))
-    ∙ (flipped_rows letter t px pz (omega (arith, length-xor_where (x_bit letter) x row, length-xor_where (z_bit letter) z row, x_long, z_long))
-    ∙ (ap (times_at letter t) (before letter x z x_long z_long)
-    ∙ one_before letter targets (letters_of x z) i left next within))
+    ap₂ (λ p q. letters_of (xor_where (x_bit letter) x p) (xor_where (z_bit letter) z q)) (row_of_more m t targets low) (row_of_more m t targets low)
+    ∙ (ap₂ letters_of (xor_where-toggled (x_bit letter) x row t (h ∙ sym long) (omega (arith, low, h))) (xor_where-toggled (z_bit letter) z row t (k ∙ sym long) (omega (arith, low, k)))
+    ∙ (flipped_rows letter t px pz (omega (arith, length-xor_where (x_bit letter) x row, length-xor_where (z_bit letter) z row, h, k))
+    ∙ (ap (times_at letter t) (times_by_set letter targets m x z (λ i d within. fits (suc i) d (omega (arith, within))) h k)
+    ∙ one_before letter (t ∷ targets) (letters_of x z) 0 1 refl (omega arith))))

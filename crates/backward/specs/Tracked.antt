@@ -1,16 +1,18 @@
 -- What a tracker keeps: one unsigned word a target, on some number of qubits; and what each call makes of the words.
 -- (Sensitivities taken back over a circuit: Gidney, Quantum 5, 497 (2021). How they are kept here is this project's
 -- own.)
-use Rattle.std.specs.Prelude.{ℕ, ◌==◌, Bool, false, List, [], map, filter, length, replicate, slice_index_or, slice_set}
+use Rattle.std.specs.Prelude.{◌≡◌, ◌<◌, ◌*◌, ◌==◌, ℕ, All, Bool, false, List, [], ◌∷◌, map, filter, length, replicate, slice_index_or, slice_set}
 use Rattle.std.specs.List.{range_with_len, list_any}
 use Rattle.gate_table.specs.declared.gate.Gate.{Gate}
 use Rattle.pauli_word.specs.declared.letter.Letter.{Letter}
 use Rattle.pauli_word.specs.declared.letter.Letter.TheVariants.{I}
+use Rattle.pauli_word.specs.Bits.{letter_of}
 use Rattle.pauli_word.specs.Words.{signed, anticommute, no_letters, lone_letter}
 use Rattle.step_model.specs.declared.step.Term.{Term}
 use Rattle.gate_table.specs.WordImages.{preimage_at, preimage_at_two}
 use Rattle.step_model.specs.Listing.{word_of_terms}
 use Rattle.step_model.specs.Sensitivities.{multiplied}
+use Rattle.step_model.specs.Targets.{is_listed}
 
 -- the number of qubits, and the word of each target
 pub record Tracked : Type 0 where
@@ -54,3 +56,19 @@ added targets letter q t =
 abbrev pub anticommuting : List Term → Tracked → List ℕ
 anticommuting terms t =
     filter (λ k. anticommute (slice_index_or t.words k []) (word_of_terms t.qubits terms)) (range_with_len 0 (length t.words))
+
+-- the word of a target, from two lists of targets a qubit: its letter has an X in it where the first lists the target,
+-- and a Z where the second does
+abbrev pub listed_word : List (List ℕ) → ℕ → List Letter
+listed_word (x ∷ z ∷ lists) t = letter_of (is_listed x t) (is_listed z t) ∷ listed_word lists t
+listed_word (x ∷ []) t = []
+listed_word [] t = []
+
+-- there are two lists a qubit, of targets that have words
+pub record Fit (t : Tracked) (lists : List (List ℕ)) : Type 0 where
+  pub two_each : length lists ≡ 2 * t.qubits
+  pub named : All (All (λ k. k < length t.words)) lists
+
+-- the words that lists stand for, in place of those that there are
+abbrev pub restored : List (List ℕ) → Tracked → Tracked
+restored lists t = record { qubits = t.qubits; words = map (listed_word lists) (range_with_len 0 (length t.words)) }

@@ -1,13 +1,15 @@
-ghost use Rattle.std.specs.Prelude.{◌≡◌, ◌<◌, map, length, true, All, IfOk, IfSome, OnOk};
+ghost use Rattle.std.specs.Prelude.{◌≡◌, ◌<◌, ◌≤◌, ◌^◌, ◌++◌, map, length, true, All, IfOk, IfSome, OnOk};
 ghost use Rattle.bit_rows.specs.Rows.{xor_rows};
 ghost use Rattle.pauli_word.specs.Bits.{x_bit, z_bit, letters_of};
 ghost use Rattle.pauli_word.specs.declared.letter.Letter.TheVariants.{I, X, Y, Z};
 ghost use Rattle.pauli_word.specs.Letters.{letters_clash};
 ghost use Rattle.pauli_word.specs.Words.{letters_product, no_letters};
+ghost use Rattle.backward.specs.private.Sets.{row_of_set};
 ghost use Rattle.backward.specs.private.TargetSets.{members};
-ghost use Rattle.backward.specs.private.Transposed.{combined, xor_where, times_each, times_at, flipped_where, Multiplies};
+ghost use Rattle.backward.specs.private.Transposed.{combined, xor_where, times_each, times_at, flipped_where, column_of, lists_of};
 
 use crate::target_set::TargetSet;
+use flat_lists::FlatLists;
 use pauli_word::Letter;
 use std::alloc::{AllocError, Allocator};
 use std::marker::Model;
@@ -45,13 +47,31 @@ impl<S: TargetSet> Column<S> {
         Ok(Column { x, z })
     }
 
-    /// A copy, which has room for no more than the sets hold.
-    pub(crate) fn copy(&self) -> Result<Self, AllocError>
-        ensures { IfOk result (λ column. column ≡ self.now) }
+    /// Appends the lists of the targets whose letter has an X in it, and of those whose letter has a Z. `list` is a
+    /// buffer.
+    pub(crate) fn keep<B: Allocator + Copy>(
+        &self,
+        lists: &mut FlatLists<u32, B>,
+        list: &mut Vec<u32, B>,
+    ) -> Result<(), AllocError>
+        requires { length self.now ≤ 2 ^ 32 }
+        ensures { OnOk result (lists.new ≡ lists.old ++ lists_of self.now) }
     {
-        let x = self.x.copy()?;
-        let z = self.z.copy()?;
-        Ok(Column { x, z })
+        self.x.list(list)?;
+        lists.push(list.as_slice())?;
+        self.z.list(list)?;
+        lists.push(list.as_slice())
+    }
+
+    /// Makes the letters those for which such lists stand.
+    pub(crate) fn restore(&mut self, x: &[u32], z: &[u32]) -> Result<(), AllocError>
+        requires x { All (λ t. t < length self.old) x.now }
+        requires z { All (λ t. t < length self.old) z.now }
+        ensures ok { OnOk result (self.new ≡ column_of (length self.old) x.now z.now) }
+        ensures len { length self.new ≡ length self.old }
+    {
+        make_set(&mut self.x, x)?;
+        make_set(&mut self.z, z)
     }
 
     /// Makes every letter I.
@@ -302,32 +322,6 @@ pub(crate) fn multiply_both<S: TargetSet>(
     second.add_image(first, to_second.0, to_second.1, spare)
 }
 
-/// Whether X and Z are their own images.
-pub(crate) fn is_kept(x: Letter, z: Letter) -> bool
-    ensures { result ≡ true → (x ≡ X) × (z ≡ Z) }
-{
-    matches!((x, z), (Letter::X, Letter::Z))
-}
-
-/// Whether the images of X and Z are both I.
-pub(crate) fn is_left(x: Letter, z: Letter) -> bool
-    ensures { result ≡ true → (x ≡ I) × (z ≡ I) }
-{
-    matches!((x, z), (Letter::I, Letter::I))
-}
-
-/// Whether the image of a letter is I, from those of X and Z.
-pub(crate) fn is_lost(x: Letter, z: Letter, letter: Letter) -> bool
-    ensures { result ≡ true → combined x z letter ≡ I }
-{
-    match letter {
-        Letter::I => true,
-        Letter::X => matches!(x, Letter::I),
-        Letter::Z => matches!(z, Letter::I),
-        Letter::Y => matches!((x, z), (Letter::I, Letter::I)),
-    }
-}
-
 #[inline(always)]
 fn is_x(letter: Letter) -> bool
     ensures { result ≡ true → letter ≡ X }
@@ -378,10 +372,10 @@ fn add_where<S: TargetSet>(
     if add { set.add(other, spare) } else { Ok(()) }
 }
 
-// Empties a set and toggles each of these targets in it; adding the set then multiplies their letters.
+// Makes a set that of the targets of a list.
 fn make_set<S: TargetSet>(set: &mut S, targets: &[u32]) -> Result<(), AllocError>
     requires { All (λ t. t < length (S.bits set.old)) targets.now }
-    ensures ok { OnOk result (Multiplies targets.now (S.bits set.new)) }
+    ensures ok { OnOk result (S.bits set.new ≡ row_of_set (length (S.bits set.old)) targets.now) }
     ensures len { length (S.bits set.new) ≡ length (S.bits set.old) }
 {
     set.clear();

@@ -5,6 +5,7 @@ mod changing_lists;
 mod collapse;
 mod column;
 mod found;
+mod images;
 mod line_store;
 mod pairs;
 mod pass;

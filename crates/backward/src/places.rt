@@ -82,7 +82,8 @@ fn lowest_at_start<'a, A: Allocator + Copy, T: Tracker>(
     hit: &mut Vec<u32, A>,
 ) -> Result<Vec<Option<u32>, A>, AllocError>
     requires { T.tracked tracker.old ≡ tracked_before program.now.listing program.now.listing.steps }
-    ensures { IfOk result (λ lowest. opened (length (targets_of program.now.listing)) lowest.items ≡ lowest_below program.now.listing program.now.listing.qubits) }
+    ensures lowest { IfOk result (λ lowest. opened (length (targets_of program.now.listing)) lowest.items ≡ lowest_below program.now.listing program.now.listing.qubits) }
+    ensures words { OnOk result (T.tracked tracker.new ≡ T.tracked tracker.old) }
 {
     program.well_formed();
     let targets = target_count(program);
@@ -108,6 +109,7 @@ pub(crate) fn random_target<'s, 'a, A: Allocator + Copy, T: Tracker>(
     requires passed { IsPassed program.now.listing 0 (T.tracked tracker.old) found.old }
     ensures none { IfOk result (λ random. IfNone random (NoneIsRandom program.now.listing)) }
     ensures lowest { IfOk result (λ random. IfSome random (λ random. IsLowestRandom program.now.listing random.0 random.1)) }
+    ensures words { OnOk result (T.tracked tracker.new ≡ T.tracked tracker.old) }
     ensures lists { found.new.lists ≡ found.old.lists }
     ensures known { found.new.known ≡ found.old.known }
     ensures keeps { found.new.keeps ≡ found.old.keeps }

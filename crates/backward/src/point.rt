@@ -1,7 +1,10 @@
 //! A place between two steps of a program, with the words there.
-ghost use Rattle.std.specs.Prelude.{◌≡◌, IfOk};
+ghost use Rattle.std.specs.Prelude.{◌≡◌, IfOk, OnOk};
+ghost use Rattle.backward.specs.Tracked.{Fit, restored};
+ghost use Rattle.backward.specs.private.Points.{Keeps};
 
 use crate::tracker::Tracker;
+use flat_lists::FlatLists;
 use programs::Walk;
 use std::alloc::{AllocError, Allocator};
 
@@ -12,15 +15,33 @@ pub(crate) struct Point<'p, 'a, A: Allocator + Copy, T> {
     pub(crate) tracker: T,
 }
 
+/// A point from which a pass starts later: a walk, and the words at its place as lists of targets.
+#[derive(Drop)]
+pub(crate) struct KeptPoint<'p, 'a, A: Allocator + Copy> {
+    pub(crate) walk: Walk<'p, 'a, A>,
+    pub(crate) lists: FlatLists<u32, A>,
+}
+
 impl<'p, 'a, A: Allocator + Copy, T: Tracker> Point<'p, 'a, A, T> {
-    /// A copy. It fails only where memory runs out.
-    pub(crate) fn copy(&self) -> Result<Self, AllocError>
+    /// What a later pass starts from.
+    pub(crate) fn keep(&self, alloc: A) -> Result<KeptPoint<'p, 'a, A>, AllocError>
         ensures walk { IfOk result (λ point. point.walk ≡ self.now.walk) }
-        ensures words { IfOk result (λ point. T.tracked point.tracker ≡ T.tracked self.now.tracker) }
+        ensures words { IfOk result (λ point. Keeps (T.tracked self.now.tracker) point.lists) }
     {
-        Ok(Point {
+        Ok(KeptPoint {
             walk: self.walk.copy(),
-            tracker: self.tracker.copy()?,
+            lists: self.tracker.keep(alloc)?,
         })
+    }
+
+    /// Goes to a point that was kept.
+    pub(crate) fn restore(&mut self, point: KeptPoint<'p, 'a, A>) -> Result<(), AllocError>
+        requires { Fit (T.tracked self.old.tracker) point.lists }
+        ensures walk { OnOk result (self.new.walk ≡ point.entry.walk) }
+        ensures words { OnOk result (T.tracked self.new.tracker ≡ restored point.entry.lists (T.tracked self.old.tracker)) }
+    {
+        self.tracker.restore(&point.lists)?;
+        self.walk = point.walk;
+        Ok(())
     }
 }

@@ -6,20 +6,20 @@ ghost use Rattle.backward.specs.private.Points.{ArePoints, IsLeft};
 use crate::found::Found;
 use crate::line_store::NoLines;
 use crate::pass::step_back;
-use crate::point::Point;
+use crate::point::{KeptPoint, Point};
 use crate::tracker::Tracker;
 use programs::Program;
 use std::alloc::{AllocError, Allocator};
 
 /// Goes back to `from`, finds no lines, and leaves points on the way: one where it begins, and further ones `distance`
 /// steps apart.
-pub(crate) fn leave_points<'s, 'p, 'a, A: Allocator + Copy, T: Tracker + Drop>(
+pub(crate) fn leave_points<'s, 'p, 'a, A: Allocator + Copy, T: Tracker>(
     program: &Program<'a, A>,
     from: usize,
     distance: usize,
     at: &mut Point<'p, 'a, A, T>,
     found: &mut Found<'s, A>,
-) -> Result<Vec<Point<'p, 'a, A, T>, A>, AllocError>
+) -> Result<Vec<KeptPoint<'p, 'a, A>, A>, AllocError>
     requires program { at.old.walk.program ≡ program.now }
     requires from { from ≤ at.old.walk.place }
     requires passed { IsPassed program.now.listing at.old.walk.place (T.tracked at.old.tracker) found.old }
@@ -27,7 +27,7 @@ pub(crate) fn leave_points<'s, 'p, 'a, A: Allocator + Copy, T: Tracker + Drop>(
     ensures place { OnOk result (at.new.walk.place ≡ from) }
     ensures passed { OnOk result (IsPassed program.now.listing at.new.walk.place (T.tracked at.new.tracker) found.new) }
     ensures stays { Stays found.old found.new }
-    ensures points { IfOk result (λ points. ArePoints T.tracked program.now from at.old.walk.place points.items) }
+    ensures points { IfOk result (λ points. ArePoints program.now from at.old.walk.place points.items) }
 {
     let mut points = Vec::new(*found.alloc);
     if at.walk.place() > from {
@@ -44,14 +44,14 @@ pub(crate) fn leave_points<'s, 'p, 'a, A: Allocator + Copy, T: Tracker + Drop>(
     Ok(points)
 }
 
-// Leaves a copy of a point.
-fn leave<'p, 'a, A: Allocator + Copy, T: Tracker + Drop>(
-    points: &mut Vec<Point<'p, 'a, A, T>, A>,
+// Leaves a point.
+fn leave<'p, 'a, A: Allocator + Copy, T: Tracker>(
+    points: &mut Vec<KeptPoint<'p, 'a, A>, A>,
     at: &Point<'p, 'a, A, T>,
 ) -> Result<(), AllocError>
     ensures { OnOk result (IsLeft T.tracked at.now points.old.items points.new.items) }
 {
-    let point = at.copy()?;
+    let point = at.keep(*points.allocator())?;
     points.push(point)?;
     Ok(())
 }

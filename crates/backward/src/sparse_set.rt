@@ -85,10 +85,6 @@ impl<'a, A: Allocator + Copy> TargetSet for SparseSet<'a, A> {
         })
     }
 
-    fn none_like(&self) -> Result<Self, AllocError> {
-        Ok(SparseSet::none(*self.items.allocator(), self.targets))
-    }
-
     fn clear(&mut self) {
         empty(&mut self.items);
     }

@@ -5,11 +5,11 @@ ghost use Rattle.error_models.specs.HeldText.{HoldsLines};
 ghost use Rattle.streams.specs.Pushed.{Pushes};
 ghost use Rattle.backward.specs.private.Passes.{IsPassed, Stays};
 ghost use Rattle.backward.specs.private.Stretches.{lines_between, text_between};
-ghost use Rattle.backward.specs.private.Points.{AreParts, ArePoints, IsReady, PushesSome, first_place};
+ghost use Rattle.backward.specs.private.Points.{AreParts, ArePoints, IsFor, IsReady, PushesSome, first_place};
 
 use crate::found::Found;
 use crate::pass::step_back;
-use crate::point::Point;
+use crate::point::{KeptPoint, Point};
 use crate::points::leave_points;
 use crate::text_store::TextStore;
 use crate::tracker::Tracker;
@@ -58,19 +58,19 @@ fn find_back<'s, 'p, 'a, A: Allocator + Copy, T: Tracker>(
 /// What is left of a stretch when its start is reached: the text of its end, and points before that, the first of them
 /// where that text begins.
 #[derive(Drop)]
-pub(crate) struct Parts<'p, 'a, A: Allocator + Copy, T> {
-    pub(crate) points: Vec<Point<'p, 'a, A, T>, A>,
+pub(crate) struct Parts<'p, 'a, A: Allocator + Copy> {
+    pub(crate) points: Vec<KeptPoint<'p, 'a, A>, A>,
     pub(crate) end: HeldText<A>,
 }
 
 /// Goes back over a stretch: finds lines until their text is full, and leaves points on the rest of the way.
-pub(crate) fn cut<'s, 'p, 'a, A: Allocator + Copy, T: Tracker + Drop>(
+pub(crate) fn cut<'s, 'p, 'a, A: Allocator + Copy, T: Tracker>(
     program: &Program<'a, A>,
     from: usize,
     at: &mut Point<'p, 'a, A, T>,
     found: &mut Found<'s, A>,
     lines: &mut TextStore<'_, 'a, A>,
-) -> Result<Parts<'p, 'a, A, T>, AllocError>
+) -> Result<Parts<'p, 'a, A>, AllocError>
     requires program { at.old.walk.program ≡ program.now }
     requires from { from ≤ at.old.walk.place }
     requires store { lines.old.program.now ≡ program.now }
@@ -82,7 +82,7 @@ pub(crate) fn cut<'s, 'p, 'a, A: Allocator + Copy, T: Tracker + Drop>(
     ensures settled { found.new.settled ≡ found.old.settled }
     ensures keeps { OnOk result (found.new.keeps ≡ true) }
     ensures known { found.old.keeps ≡ true → found.new.known ≡ found.old.known }
-    ensures parts { IfOk result (AreParts T.tracked program.now from at.old.walk.place found.new.known) }
+    ensures parts { IfOk result (AreParts program.now from at.old.walk.place found.new.known) }
     ensures none { OnOk result (lines.new.text.text ≡ []) }
     ensures store { lines.new.program.now ≡ lines.old.program.now }
 {
@@ -100,25 +100,30 @@ pub(crate) fn cut<'s, 'p, 'a, A: Allocator + Copy, T: Tracker + Drop>(
     Ok(Parts { points, end })
 }
 
-// How far apart points are left on a way of this many steps, where the text of the steps behind them is full.
+// How far apart points are left on a way of this many steps, where the text of the steps behind them is full. The text
+// between two points is shorter, since it is held beside that one.
 fn distance_for(way: usize, full: usize) -> usize {
-    full.max(way / POINTS + 1)
+    (full / 2).max(way / POINTS + 1)
 }
 
 /// Writes the text of what is before a cut, from the first of its points' parts to the last: from the last point on.
-pub(crate) fn write_parts<'s, 'p, 'a, A: Allocator + Copy, T: Tracker + Drop, W: Sink>(
+/// What the tracker has is lost.
+pub(crate) fn write_parts<'s, 'p, 'a, A: Allocator + Copy, T: Tracker, W: Sink>(
     program: &Program<'a, A>,
     from: usize,
-    mut points: Vec<Point<'p, 'a, A, T>, A>,
+    mut points: Vec<KeptPoint<'p, 'a, A>, A>,
+    at: &mut Point<'p, 'a, A, T>,
     found: &mut Found<'s, A>,
     lines: &mut TextStore<'_, 'a, A>,
     out: &mut Pieces,
     sink: &mut W,
 ) -> Result<(), AllocError>
-    requires points { ArePoints T.tracked program.now from (first_place from points.items) points.items }
+    requires points { ArePoints program.now from (first_place from points.items) points.items }
+    requires tracker { IsFor program.now.listing (T.tracked at.old.tracker) }
     requires ready { IsReady program.now.listing (first_place from points.items) found.old }
     requires store { lines.old.program.now ≡ program.now }
     requires none { lines.old.text.text ≡ [] }
+    ensures tracker { OnOk result (IsFor program.now.listing (T.tracked at.new.tracker)) }
     ensures ready { OnOk result (IsReady program.now.listing (first_place from points.entry.items) found.new) }
     ensures known { found.new.known ≡ found.old.known }
     ensures none { OnOk result (lines.new.text.text ≡ []) }
@@ -127,13 +132,14 @@ pub(crate) fn write_parts<'s, 'p, 'a, A: Allocator + Copy, T: Tracker + Drop, W:
     ensures some { OnErr result (PushesSome W.taken W.failures sink.old sink.new out.old out.new (text_between program.now.listing from (first_place from points.entry.items))) }
 {
     let mut start = from;
-    while let Some(mut point) = points.pop() {
+    while let Some(point) = points.pop() {
         if out.has_failed() {
             return Ok(());
         }
         let end = point.walk.place();
-        let parts = cut(program, start, &mut point, found, lines)?;
-        write_parts(program, start, parts.points, found, lines, out, sink)?;
+        at.restore(point)?;
+        let parts = cut(program, start, at, found, lines)?;
+        write_parts(program, start, parts.points, at, found, lines, out, sink)?;
         parts.end.push_to(out, sink);
         lines.reuse(parts.end);
         start = end;

@@ -19,10 +19,6 @@ pub trait TargetSet: Drop {
     fn copy(&self) -> Result<Self, AllocError>
         ensures { IfOk result (λ set. bits set ≡ bits self.now) };
 
-    /// An empty set of as many targets, on the same allocator.
-    fn none_like(&self) -> Result<Self, AllocError>
-        ensures { IfOk result (λ set. bits set ≡ replicate (length (bits self.now)) false) };
-
     /// Takes all targets out.
     fn clear(&mut self)
         ensures { bits self.new ≡ replicate (length (bits self.old)) false };
@@ -75,12 +71,6 @@ impl<A: Allocator + Copy> TargetSet for BitRow<A> {
 
     fn copy(&self) -> Result<Self, AllocError> {
         BitRow::copy(self)
-    }
-
-    fn none_like(&self) -> Result<Self, AllocError> {
-        let mut none = BitRow::copy(self)?;
-        BitRow::clear(&mut none);
-        Ok(none)
     }
 
     fn clear(&mut self) {

@@ -1,8 +1,9 @@
 ghost use Rattle.std.specs.Prelude.{◌≡◌, ◌≢◌, ◌<◌, [], length, All, IfOk, OnErr, OnOk};
 ghost use Rattle.std.specs.List.Sorted.{IsStrictlyIncreasing};
 ghost use Rattle.gate_table.specs.Images.{arity_of};
-ghost use Rattle.backward.specs.Tracked.{Tracked, each_word, undone_one, undone_two, with_I_at, added, anticommuting};
+ghost use Rattle.backward.specs.Tracked.{Tracked, each_word, undone_one, undone_two, with_I_at, added, anticommuting, Fit, restored};
 
+use flat_lists::FlatLists;
 use gate_table::Gate;
 use pauli_word::Letter;
 use std::alloc::{AllocError, Allocator};
@@ -11,15 +12,23 @@ use step_model::Term;
 /// An unsigned Pauli word for each target, taken back over the steps of a program: the words of the detectors, then
 /// those of the observables. Lists of targets ascend.
 ///
-/// After an error in `undo1`, `undo2` or `add` nothing is promised about the words, and the tracker is not used again.
-/// After one in `hit` it is as it was.
+/// After an error in `undo1`, `undo2`, `add` or `restore` nothing is promised about the words, and the tracker is not
+/// used again. After one in `hit` it is as it was.
 pub trait Tracker: Sized {
     // The words, in the order of their targets, and how many qubits they have.
     ghost tracked: { Self → Tracked };
 
-    /// A copy, on the same allocator. It fails only where memory runs out; this one stays as it was.
-    fn copy(&self) -> Result<Self, AllocError>
-        ensures { IfOk result (λ t. tracked t ≡ tracked self.now) };
+    /// The words as lists of targets, which take little memory: two for each qubit, of the targets whose letter there
+    /// has an X in it, and of those whose letter has a Z. It fails only where memory runs out, or where the lists would
+    /// have 2^32 targets or more.
+    fn keep<B: Allocator + Copy>(&self, alloc: B) -> Result<FlatLists<u32, B>, AllocError>
+        ensures fit { IfOk result (Fit (tracked self.now)) }
+        ensures words { IfOk result (λ lists. restored lists (tracked self.now) ≡ tracked self.now) };
+
+    /// Puts the words that such lists stand for in place of those that it has.
+    fn restore<B: Allocator + Copy>(&mut self, lists: &FlatLists<u32, B>) -> Result<(), AllocError>
+        requires { Fit (tracked self.old) lists.now }
+        ensures { OnOk result (tracked self.new ≡ restored lists.now (tracked self.old)) };
 
     /// Takes each word to its preimage under a one-qubit gate, the sign left out.
     fn undo1(&mut self, gate: Gate, q: usize) -> Result<(), AllocError>

@@ -1,4 +1,4 @@
-ghost use Rattle.std.specs.Prelude.{◌≡◌, ◌<◌, ◌≤◌, ◌≢◌, ◌^◌, ◌∷◌, [], ℕ, false, true, length, All, IfOk, OnOk, map, replicate};
+ghost use Rattle.std.specs.Prelude.{◌≡◌, ◌<◌, ◌≤◌, ◌≢◌, ◌*◌, ◌^◌, ◌∷◌, [], ℕ, false, true, length, All, IfOk, OnOk, map, replicate};
 ghost use Rattle.gate_table.specs.Images.{arity_of};
 ghost use Rattle.gate_table.specs.declared.gate.Gate.TheVariants.{CX};
 ghost use Rattle.pauli_word.specs.declared.letter.Letter.TheVariants.{I, Y};
@@ -8,15 +8,17 @@ ghost use Rattle.step_model.specs.Listing.{word_of_terms};
 ghost use Rattle.step_model.specs.Targets.{targets_of};
 ghost use Rattle.backward.specs.Tracked.{anticommuting, each_word, fresh, undone_two};
 ghost use Rattle.backward.specs.private.TargetSets.{members};
-ghost use Rattle.backward.specs.private.Transposed.{combined, exchanged_at, multiplied_at, word_at};
+ghost use Rattle.backward.specs.private.Transposed.{combined, exchanged_at, lists_of_each, multiplied_at, word_at, AreRestored};
 
-use crate::column::{Column, is_kept, is_left, is_lost, is_y};
+use crate::column::{Column, is_y};
+use crate::images::{is_kept, is_left, is_lost};
 use crate::pairs::{exchange_pair, image_pair, multiply_pair};
 use crate::sparse_set::SparseSet;
 use crate::target_set::TargetSet;
 use crate::targets::target_count;
 use crate::tracker::Tracker;
 use bit_rows::BitRow;
+use flat_lists::FlatLists;
 use gate_table::Gate;
 use pauli_word::Letter;
 use programs::Program;
@@ -294,20 +296,15 @@ impl<S: TargetSet, A: Allocator + Copy> Words<S, A> {
 impl<S: TargetSet, A: Allocator + Copy> Tracker for Words<S, A> {
     ghost tracked = { λ w. w };
 
-    fn copy(&self) -> Result<Self, AllocError> {
-        let none = self.spare.none_like()?;
-        let columns = copies(&self.columns)?;
-        let first = Column::of_copies(&none)?;
-        let second = Column::of_copies(&none)?;
-        let set = none.copy()?;
-        Ok(Words {
-            targets: self.targets,
-            columns,
-            first,
-            second,
-            set,
-            spare: none,
-        })
+    fn keep<B: Allocator + Copy>(&self, alloc: B) -> Result<FlatLists<u32, B>, AllocError> {
+        keep_columns(&self.columns, alloc)
+    }
+
+    fn restore<B: Allocator + Copy>(
+        &mut self,
+        lists: &FlatLists<u32, B>,
+    ) -> Result<(), AllocError> {
+        restore_columns(self.columns.as_mut_slice(), lists)
     }
 
     fn undo1(&mut self, gate: Gate, q: usize) -> Result<(), AllocError> {
@@ -346,17 +343,37 @@ impl<S: TargetSet, A: Allocator + Copy> Tracker for Words<S, A> {
     }
 }
 
-// Copies of these columns, on the same allocator.
-fn copies<S: TargetSet, A: Allocator + Copy>(
-    columns: &Vec<Column<S>, A>,
-) -> Result<Vec<Column<S>, A>, AllocError>
-    ensures { IfOk result (λ made. made.items ≡ columns.now.items) }
+// The lists of each column, which take no more memory than they need.
+fn keep_columns<S: TargetSet, B: Allocator + Copy>(
+    columns: &[Column<S>],
+    alloc: B,
+) -> Result<FlatLists<u32, B>, AllocError>
+    requires { All (λ column. length column ≤ 2 ^ 32) columns.now }
+    ensures { IfOk result (λ lists. lists ≡ lists_of_each columns.now) }
 {
-    let mut made = Vec::with_capacity(*columns.allocator(), columns.len())?;
+    let mut lists = FlatLists::with_room(alloc, columns.len().saturating_mul(2))?;
+    let mut list = Vec::new(alloc);
     for column in columns {
-        made.push(column.copy()?)?;
+        column.keep(&mut lists, &mut list)?;
     }
-    Ok(made)
+    lists.shrink_to_fit();
+    Ok(lists)
+}
+
+// Makes each column that for which its two lists stand.
+fn restore_columns<S: TargetSet, B: Allocator + Copy>(
+    columns: &mut [Column<S>],
+    lists: &FlatLists<u32, B>,
+) -> Result<(), AllocError>
+    requires two_each { length lists.now ≡ 2 * length columns.old }
+    requires named { All (λ column. All (All (λ t. t < length column)) lists.now) columns.old }
+    ensures ok { OnOk result (AreRestored lists.now columns.old columns.new) }
+    ensures long { map length columns.new ≡ map length columns.old }
+{
+    for q in 0..lists.len() / 2 {
+        columns[q].restore(lists.get(2 * q), lists.get(2 * q + 1))?;
+    }
+    Ok(())
 }
 
 // The targets whose words anticommute with the product of these letters at qubits.

@@ -112,7 +112,16 @@ fn push_analysis<'a, A: Allocator + Copy, T: Tracker + Drop, W: Sink>(
         None => {
             found.settled = true;
             lines.hold_parts();
-            write_parts(program, 0, parts.points, &mut found, &mut lines, out, sink)?;
+            write_parts(
+                program,
+                0,
+                parts.points,
+                &mut at,
+                &mut found,
+                &mut lines,
+                out,
+                sink,
+            )?;
             parts.end.push_to(out, sink);
             push_declarations(program, out, sink);
             Ok(None)

@@ -1,7 +1,7 @@
 -- Words kept by qubit: for each qubit a column, the letters that all words have there. The words are the columns
 -- transposed. A column is kept as two rows of bits, one bit a word: X in the letter, and Z in it. (Sensitivities taken
 -- back over a circuit: Gidney, Quantum 5, 497 (2021). How they are kept here is this project's own.)
-use Rattle.std.specs.Prelude.{◌≡◌, ◌≤◌, ◌^◌, ℕ, Bool, ◌&&◌, List, [], ◌∷◌, false, map, length, All, slice_index_or, slice_set}
+use Rattle.std.specs.Prelude.{◌≡◌, ◌<◌, ◌≤◌, ◌+◌, ◌*◌, ◌^◌, ℕ, Bool, ◌&&◌, List, [], ◌∷◌, ◌++◌, false, map, length, All, slice_index_or, slice_set}
 use Rattle.std.specs.List.{range_with_len}
 use Rattle.gate_table.specs.declared.gate.Gate.{Gate}
 use Rattle.gate_table.specs.Images.{image2, inverse_of}
@@ -12,6 +12,8 @@ use Rattle.pauli_word.specs.Letters.{letter_product}
 use Rattle.pauli_word.specs.Parity.{exclusive_or}
 use Rattle.pauli_word.specs.Words.{letter_at, letters_product}
 use Rattle.backward.specs.Tracked.{Tracked}
+use Rattle.backward.specs.private.Sets.{row_of_set}
+use Rattle.backward.specs.private.TargetSets.{members}
 
 -- the word of target t
 abbrev pub word_at : List (List Letter) → ℕ → List Letter
@@ -24,6 +26,23 @@ transposed m columns = map (word_at columns) (range_with_len 0 m)
 -- what is tracked, from the columns of m targets
 abbrev pub tracked_of : ℕ → List (List Letter) → Tracked
 tracked_of m columns = record { qubits = length columns; words = transposed m columns }
+
+-- the column for which two lists of targets stand: those whose letter has an X in it, and those whose letter has a Z
+abbrev pub column_of : ℕ → List ℕ → List ℕ → List Letter
+column_of m x z = letters_of (row_of_set m x) (row_of_set m z)
+
+-- these lists of a column, and those of columns
+abbrev pub lists_of : List Letter → List (List ℕ)
+lists_of column = members (map x_bit column) ∷ members (map z_bit column) ∷ []
+
+abbrev pub lists_of_each : List (List Letter) → List (List ℕ)
+lists_of_each [] = []
+lists_of_each (column ∷ columns) = lists_of column ++ lists_of_each columns
+
+-- each column is that for which its two lists stand
+pub record AreRestored (lists : List (List ℕ)) (old new : List (List Letter)) : Type 0 where
+  pub count : length new ≡ length old
+  pub each : (k : ℕ) → k < length old → slice_index_or new k [] ≡ column_of (length (slice_index_or old k [])) (slice_index_or lists (2 * k) []) (slice_index_or lists (2 * k + 1) [])
 
 -- the image of a letter, from the images of X and Z, signs left out
 abbrev pub combined : Letter → Letter → Letter → Letter
@@ -48,13 +67,6 @@ times_at letter t column = slice_set column t (letter_product letter (letter_at 
 abbrev pub times_each : Letter → List ℕ → List Letter → List Letter
 times_each letter [] column = column
 times_each letter (t ∷ ts) column = times_each letter ts (times_at letter t column)
-
--- adding this row of bits to a column's X bits where a letter has X in it, and to its Z bits where the letter has Z,
--- multiplies the column by the letter at each place of a list
-abbrev pub Multiplies : List ℕ → List Bool → Type 0
-Multiplies targets row =
-    (letter : Letter) (x z : List Bool) → length x ≡ length row → length z ≡ length row
-    → letters_of (xor_where (x_bit letter) x row) (xor_where (z_bit letter) z row) ≡ times_each letter targets (letters_of x z)
 
 -- the letters at the first and at the second of two qubits before a gate, from those after it
 abbrev pub first_before : Gate → List Letter → List Letter → List Letter

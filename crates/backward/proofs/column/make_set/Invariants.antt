@@ -1,5 +1,5 @@
 use Rattle.std.proofs.Common.{◌≡◌, ◌≤◌, length, drop}
-use Rattle.backward.specs.private.Transposed.{Multiplies}
+use Rattle.backward.specs.private.Sets.{row_of_set}
 use Rattle.backward.proofs.column.make_set.Given as goal
 
 -- the set is of the targets from this one on
@@ -8,7 +8,7 @@ invariant-loop-left g l =
     record {
       long : length (g.S.TargetSet.bits l.set) ≡ length (g.S.TargetSet.bits l.fn.set);
       within : l.left ≤ length l.targets;
-      done : Multiplies (drop l.left l.targets) (g.S.TargetSet.bits l.set);
+      done : g.S.TargetSet.bits l.set ≡ row_of_set (length (g.S.TargetSet.bits l.fn.set)) (drop l.left l.targets);
     }
 
 abbrev pub decreases-loop-left : goal.decreases-loop-left

@@ -43,8 +43,11 @@ loop-qubit-preserved g c =
           ∙ lowest_below-more program qubit c.well_formed-2.ensures.listing.steps_fit (omega (arith, c.loop-qubit-test.true, c.qubits-qubit-end.ensures)));
     }
 
-pub returns : goal.returns
-returns g c =
+pub returns-clause-lowest : goal.returns-clause-lowest
+returns-clause-lowest g c =
     let program = c.args.program.now.listing in
     subst (λ n. opened n c.loop-qubit.lowest.items ≡ lowest_below program program.qubits) c.target_count-targets.ensures.count
     (c.loop-qubit.invariant.lowest ∙ ap (lowest_below program) (omega (arith, c.qubits-qubit-end.ensures)))
+
+pub returns-clause-words : goal.returns-clause-words
+returns-clause-words g c = c.loop-qubit.invariant.words ∙ sym c.requires

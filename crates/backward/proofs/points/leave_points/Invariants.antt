@@ -12,7 +12,7 @@ invariant-loop-at g l =
       below : l.at.walk.place ≤ l.fn.at.walk.place;
       passed : IsPassed l.program.listing l.at.walk.place (g.T.Tracker.tracked l.at.tracker) l.found;
       stays : Stays l.fn.found l.found;
-      points : ArePoints (g.T.Tracker.tracked) l.program l.from l.fn.at.walk.place l.points.items;
+      points : ArePoints l.program l.from l.fn.at.walk.place l.points.items;
       behind : All (λ p. l.at.walk.place ≤ p.walk.place) l.points.items;
     }
 

@@ -1,6 +1,6 @@
 use Rattle.std.proofs.Common.{◌≡◌, ◌≤◌, ◌-◌, [], length}
 use Rattle.streams.specs.Pushed.{Pushes}
-use Rattle.backward.specs.private.Points.{ArePoints, IsReady, first_place}
+use Rattle.backward.specs.private.Points.{ArePoints, IsFor, IsReady, first_place}
 use Rattle.backward.specs.private.Stretches.{text_between}
 use Rattle.backward.proofs.stretch.+write_parts.Given as goal
 
@@ -10,7 +10,8 @@ invariant-loop-point g l =
       store : l.lines.program.now ≡ l.fn.lines.program.now;
       none : l.lines.text.text ≡ [];
       from : l.from ≤ l.start;
-      points : ArePoints (g.T.Tracker.tracked) l.program l.start (first_place l.from l.fn.points.items) l.points.items;
+      points : ArePoints l.program l.start (first_place l.from l.fn.points.items) l.points.items;
+      tracker : IsFor l.program.listing (g.T.Tracker.tracked l.at.tracker);
       ready : IsReady l.program.listing (first_place l.from l.fn.points.items) l.found;
       known : l.found.known ≡ l.fn.found.known;
       pushed : Pushes (g.W.Sink.taken) (g.W.Sink.failures) l.fn.sink l.sink l.fn.out l.out (text_between l.program.listing l.from l.start);

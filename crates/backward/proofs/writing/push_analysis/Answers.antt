@@ -5,10 +5,15 @@ use Rattle.streams.proofs.Pushing.{Pushes-nil, Pushes-trans}
 use Rattle.std.specs.Prelude.{IfNone}
 use Rattle.backward.specs.Places.{NoneIsRandom}
 use Rattle.backward.specs.private.Passes.{records_before}
-use Rattle.backward.specs.private.Points.{first_place}
+use Rattle.backward.specs.private.Points.{IsFor, first_place}
 use Rattle.backward.specs.private.Stretches.{text_between}
-use Rattle.backward.proofs.StretchLemmas.{Pushes-as, on_err_any, ready_first, some-then, whole_model}
+use Rattle.backward.proofs.StretchLemmas.{Pushes-as, on_err_any, passed_for, ready_first, some-then, whole_model}
 use Rattle.backward.proofs.writing.push_analysis.Goals as goal
+
+pub write_parts-requires-clause-tracker : goal.write_parts-requires-clause-tracker
+write_parts-requires-clause-tracker g c =
+    let program = c.args.program.now.listing in
+    subst (IsFor program) (sym c.in_ok-random.ensures.words) (passed_for program 0 (g.T.Tracker.tracked c.cut.new.at.tracker) c.cut.new.found c.in_ok-parts.ensures.passed)
 
 pub write_parts-requires-clause-ready : goal.write_parts-requires-clause-ready
 write_parts-requires-clause-ready g c =
