@@ -27,7 +27,7 @@ pub loop-steps-preserved : goal.loop-steps-preserved
 loop-steps-preserved g c =
     let parts = c.args.parts.now in
     let inv = c.loop-steps.invariant in
-    let over : GoesOver parts.nodes.items c.loop-steps.place c.next.new.place c.in-Some.step c.loop-steps.steps =
+    let over : GoesOver parts.nodes c.loop-steps.place c.next.new.place c.in-Some.step c.loop-steps.steps =
     subst (λ (ns : List Node). GoesOver ns c.loop-steps.place c.next.new.place c.in-Some.step c.loop-steps.steps) inv.nodes_are
     (c.in-Some.ensures c.loop-steps.steps (subst (λ (ns : List Node). IsAt ns c.loop-steps.place c.loop-steps.steps) (sym inv.nodes_are) inv.fits.at_place)) in
     record {
