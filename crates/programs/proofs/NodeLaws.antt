@@ -1,9 +1,8 @@
 -- Nodes as they are kept, and one block more.
-use Rattle.std.proofs.Common.{◌≡◌, ℕ, suc, ◌<◌, ◌≤◌, List, [], ◌∷◌, ◌++◌, length, map, set, refl, sym, ap, ap₂, ◌∙◌, subst, arith, length-append}
+use Rattle.std.proofs.Common.{◌≡◌, ℕ, suc, ◌<◌, List, [], ◌∷◌, ◌++◌, length, set, refl, ap, ap₂, ◌∙◌, arith}
 use Rattle.std.specs.Prelude.{All}
 use Rattle.std.proofs.Math.Seq.{get_or-append_seam}
 use Rattle.std.proofs.lemmas.List.{get_or_append_left, map-append, map-set}
-use Rattle.std.proofs.lemmas.List.Elements.{All-push, All-set}
 use Rattle.programs.specs.declared.kept_node.BlockSize.{BlockSize}
 use Rattle.programs.specs.declared.kept_node.KeptNode.{KeptNode}
 use Rattle.programs.specs.declared.kept_node.KeptNode.TheVariants as kept

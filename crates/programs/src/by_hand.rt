@@ -128,10 +128,7 @@ fn keep<'a, A: Allocator + Copy>(
 }
 
 // The nodes of a circuit in pieces, where its blocks are whole, have a turn and aren't too deep.
-fn nodes_of<A: Allocator + Copy>(
-    alloc: A,
-    pieces: &[Piece],
-) -> Result<Option<Nodes<A>>, AllocError>
+fn nodes_of<A: Allocator + Copy>(alloc: A, pieces: &[Piece]) -> Result<Option<Nodes<A>>, AllocError>
     ensures circuit { IfOk result (λ nodes. IfSome nodes IsCircuit) }
     ensures steps { IfOk result (λ nodes. IfSome nodes (λ v. unrolled (tree_of v) ≡ written pieces.now [] [])) }
 {

@@ -50,7 +50,8 @@ impl<A: Allocator + Copy> Nodes<A> {
     /// The node at an index, if there is one.
     #[inline(always)]
     pub(crate) fn get(&self, index: usize) -> Option<Node>
-        ensures { result ≡ slice_get self.now index }
+        ensures node { result ≡ slice_get self.now index }
+        ensures few { length self.now < 2 ^ 64 }
     {
         if index < self.kept.len() {
             Some(node_of(self.kept[index], self.sizes.as_slice()))
@@ -62,7 +63,7 @@ impl<A: Allocator + Copy> Nodes<A> {
     /// Appends a step. It fails only where memory runs out.
     pub(crate) fn push(&mut self, step: TextStep) -> Result<(), AllocError>
         ensures ok { OnOk result (self.new ≡ self.old ++ Do step ∷ []) }
-        ensures fits { OnOk result (length self.new < 2 ^ 64) }
+        ensures few { OnOk result (length self.new < 2 ^ 64) }
         ensures err { OnErr result (self.new ≡ self.old) }
     {
         self.kept.push(kept_step(step))?;

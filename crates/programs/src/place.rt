@@ -1,4 +1,4 @@
-ghost use Rattle.std.specs.Prelude.{◌≡◌, ◌<◌, ◌+◌, ℕ, None, IfSome, slice_get};
+ghost use Rattle.std.specs.Prelude.{◌≡◌, ◌<◌, ◌+◌, ◌^◌, ℕ, length, None, IfSome, slice_get};
 ghost use Rattle.programs.specs.Trees.{IsCircuit};
 ghost use Rattle.programs.specs.Steps.{IsAt, KeepsStep, IsNoOpen, IsNoClose, NextStep, PreviousStep, node_before};
 
@@ -207,7 +207,8 @@ pub fn previous<A: Allocator + Copy>(nodes: &Nodes<A>, place: &mut Place) -> Opt
 // The node before a place.
 #[inline(always)]
 fn node_before<A: Allocator + Copy>(nodes: &Nodes<A>, index: usize) -> Option<Node>
-    ensures { result ≡ node_before nodes.now index }
+    ensures node { result ≡ node_before nodes.now index }
+    ensures few { IfSome result (λ node. length nodes.now < 2 ^ 64) }
 {
     if index == 0 {
         None

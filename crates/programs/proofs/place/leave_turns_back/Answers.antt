@@ -36,7 +36,7 @@ overflow_add-place g c =
     let l = leaves_back c.args.nodes.now c.requires.circuit (c.loop-length.place.index - 1) c.loop-length.place.turns.items k c.in-Some-Open.field-0-0 c.in-Some-Open.length c.pop.new.self.items c.unwrap-turn.result here b.node_is split in
     let there = l.again c.if-turn-gt0.true in
     let bounds = bounded (tree_of c.args.nodes.now) _ _ k there in
-    omega (arith, bounds.nodes, b.i_is, ap length c.requires.circuit.written)
+    omega (arith, bounds.nodes, b.i_is, ap length c.requires.circuit.written, c.in-Some-Open.ensures.few)
 
 pub returns-then-turn-gt0-clause-kept : goal.returns-then-turn-gt0-clause-kept
 returns-then-turn-gt0-clause-kept g c k h =

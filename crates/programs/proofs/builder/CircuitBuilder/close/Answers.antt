@@ -1,7 +1,6 @@
-use Rattle.std.proofs.Common.{◌≡◌, ◌+◌, ◌-◌, ◌<◌, ℕ, List, [], ◌∷◌, ◌++◌, length, take, get_or, set, sym, ap, ap₂, ◌∙◌, subst, arith}
+use Rattle.std.proofs.Common.{◌≡◌, ◌-◌, ◌<◌, ℕ, List, [], ◌∷◌, ◌++◌, length, take, get_or, set, sym, ap, ap₂, ◌∙◌, subst, arith}
 use Rattle.programs.specs.declared.builder.CircuitBuilder.TheInside.{Inside}
 use Rattle.programs.specs.declared.builder.Outer.{Outer}
-use Rattle.programs.specs.declared.node.Node.{Node}
 use Rattle.programs.specs.declared.node.Node.TheVariants.{Open, Close}
 use Rattle.programs.specs.Builders.{Building, Builds, building, Closes}
 use Rattle.programs.proofs.BuilderCloses.{enough, all-counted, Closed, closed_empty, closed_full, last-open}
@@ -75,17 +74,17 @@ overflow_sub-self-2 g c =
     let new = c.if-self-eq0.self-inside in
     let closed : (new.outer.items ≡ outer) × Closed nodes outer count c.self.invariant rest o split new.nodes = elim c.if-self-eq0.branch [
       | then-self-eq0 w ↦ (
-            ap (λ (x : Inside g.row.A.Denot). x.outer.items) w.self-inside-is,
-            closed_empty nodes outer count c.self.invariant rest o split new.nodes w.if-self-eq0.true
+        ap (λ (x : Inside g.row.A.Denot). x.outer.items) w.self-inside-is,
+        closed_empty nodes outer count c.self.invariant rest o split new.nodes w.if-self-eq0.true
             (ap (λ (x : Inside g.row.A.Denot). x.nodes) w.self-inside-is
             ∙ (w.truncate.ensures ∙ ap (λ (k : ℕ). take (k - count - 1) nodes) c.len.ensures)),
-          )
+      )
       | else-self-eq0+in_ok-close w ↦ (
-            ap (λ (x : Inside g.row.A.Denot). x.outer.items) w.self-inside-is,
-            closed_full nodes outer count c.self.invariant rest o split new.nodes (omega (arith, w.if-self-eq0.false))
+        ap (λ (x : Inside g.row.A.Denot). x.outer.items) w.self-inside-is,
+        closed_full nodes outer count c.self.invariant rest o split new.nodes (omega (arith, w.if-self-eq0.false))
             (ap (λ (x : Inside g.row.A.Denot). x.nodes) w.self-inside-is
             ∙ (w.in_ok-close.ensures.ok ∙ ap (λ (k : ℕ). set nodes (k - count - 1) (Open o.turns count) ++ Close o.turns count ∷ []) c.len.ensures)),
-          )
+      )
     ] in
     omega (arith, c.len.ensures, c.len-2.ensures, closed.1.enough_left)
 
@@ -103,17 +102,17 @@ invariant_of-self-2 g c =
     let new = c.if-self-eq0.self-inside in
     let closed : (new.outer.items ≡ outer) × Closed nodes outer count c.self.invariant rest o split new.nodes = elim c.if-self-eq0.branch [
       | then-self-eq0 w ↦ (
-            ap (λ (x : Inside g.row.A.Denot). x.outer.items) w.self-inside-is,
-            closed_empty nodes outer count c.self.invariant rest o split new.nodes w.if-self-eq0.true
+        ap (λ (x : Inside g.row.A.Denot). x.outer.items) w.self-inside-is,
+        closed_empty nodes outer count c.self.invariant rest o split new.nodes w.if-self-eq0.true
             (ap (λ (x : Inside g.row.A.Denot). x.nodes) w.self-inside-is
             ∙ (w.truncate.ensures ∙ ap (λ (k : ℕ). take (k - count - 1) nodes) c.len.ensures)),
-          )
+      )
       | else-self-eq0+in_ok-close w ↦ (
-            ap (λ (x : Inside g.row.A.Denot). x.outer.items) w.self-inside-is,
-            closed_full nodes outer count c.self.invariant rest o split new.nodes (omega (arith, w.if-self-eq0.false))
+        ap (λ (x : Inside g.row.A.Denot). x.outer.items) w.self-inside-is,
+        closed_full nodes outer count c.self.invariant rest o split new.nodes (omega (arith, w.if-self-eq0.false))
             (ap (λ (x : Inside g.row.A.Denot). x.nodes) w.self-inside-is
             ∙ (w.in_ok-close.ensures.ok ∙ ap (λ (k : ℕ). set nodes (k - count - 1) (Open o.turns count) ++ Close o.turns count ∷ []) c.len.ensures)),
-          )
+      )
     ] in
     let outer_is : c.truncate-2.new.self.items ≡ rest = c.truncate-2.ensures.items ∙ ap (take (n - 1)) closed.0 in
     let count_is : c.len-2.result - (c.len.result - count - 1 - o.length) ≡ length new.nodes - (length nodes - count - 1 - o.length) = ap₂ (λ (k m : ℕ). k - (m - count - 1 - o.length)) c.len-2.ensures c.len.ensures in
@@ -134,17 +133,17 @@ returns-clause-ok g c =
     let new = c.if-self-eq0.self-inside in
     let closed : (new.outer.items ≡ outer) × Closed nodes outer count c.self.invariant rest o split new.nodes = elim c.if-self-eq0.branch [
       | then-self-eq0 w ↦ (
-            ap (λ (x : Inside g.row.A.Denot). x.outer.items) w.self-inside-is,
-            closed_empty nodes outer count c.self.invariant rest o split new.nodes w.if-self-eq0.true
+        ap (λ (x : Inside g.row.A.Denot). x.outer.items) w.self-inside-is,
+        closed_empty nodes outer count c.self.invariant rest o split new.nodes w.if-self-eq0.true
             (ap (λ (x : Inside g.row.A.Denot). x.nodes) w.self-inside-is
             ∙ (w.truncate.ensures ∙ ap (λ (k : ℕ). take (k - count - 1) nodes) c.len.ensures)),
-          )
+      )
       | else-self-eq0+in_ok-close w ↦ (
-            ap (λ (x : Inside g.row.A.Denot). x.outer.items) w.self-inside-is,
-            closed_full nodes outer count c.self.invariant rest o split new.nodes (omega (arith, w.if-self-eq0.false))
+        ap (λ (x : Inside g.row.A.Denot). x.outer.items) w.self-inside-is,
+        closed_full nodes outer count c.self.invariant rest o split new.nodes (omega (arith, w.if-self-eq0.false))
             (ap (λ (x : Inside g.row.A.Denot). x.nodes) w.self-inside-is
             ∙ (w.in_ok-close.ensures.ok ∙ ap (λ (k : ℕ). set nodes (k - count - 1) (Open o.turns count) ++ Close o.turns count ∷ []) c.len.ensures)),
-          )
+      )
     ] in
     let outer_is : c.truncate-2.new.self.items ≡ rest = c.truncate-2.ensures.items ∙ ap (take (n - 1)) closed.0 in
     subst (λ (v : Building). Closes v (building new.nodes c.truncate-2.new.self.items)) c.self.view_is

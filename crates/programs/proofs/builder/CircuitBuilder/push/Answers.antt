@@ -8,7 +8,7 @@ use Rattle.programs.proofs.builder.CircuitBuilder.push.Goals as goal
 pub overflow_add-self : goal.overflow_add-self
 overflow_add-self g c =
     let nodes = c.self.inside.nodes in
-    omega (arith, count-below nodes c.self.inside.outer.items c.self.inside.count c.self.invariant, c.in_ok-push.ensures.fits, ap length c.in_ok-push.ensures.ok, length-append nodes (Do c.args.step ∷ []))
+    omega (arith, count-below nodes c.self.inside.outer.items c.self.inside.count c.self.invariant, c.in_ok-push.ensures.few, ap length c.in_ok-push.ensures.ok, length-append nodes (Do c.args.step ∷ []))
 
 pub invariant_of-self-2 : goal.invariant_of-self-2
 invariant_of-self-2 g c =

@@ -1,4 +1,4 @@
-use Rattle.std.proofs.Common.{◌≡◌, List, [], ◌∷◌, ◌++◌, length, set, ap, ap₂, ◌∙◌, arith}
+use Rattle.std.proofs.Common.{◌≡◌, List, [], ◌∷◌, ◌++◌, set, ap, ap₂, ◌∙◌, arith}
 use Rattle.programs.specs.declared.kept_node.KeptNode.{KeptNode}
 use Rattle.programs.specs.declared.kept_node.KeptNode.TheVariants as kept
 use Rattle.programs.specs.declared.node.Node.{Node}
