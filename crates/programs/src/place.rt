@@ -81,23 +81,7 @@ fn enter_turns<A: Allocator + Copy>(nodes: &Nodes<A>, place: &mut Place)
     }
 }
 
-// Goes forward to a place before a step, or to the end. Most places are before a step, and nothing is to be done there.
-#[inline(always)]
-fn go_to_step<A: Allocator + Copy>(nodes: &Nodes<A>, place: &mut Place)
-    requires circuit { IsCircuit nodes.now }
-    requires place { (k : ℕ) × IsAt nodes.now place.old k }
-    ensures kept { KeepsStep nodes.now place.old place.new }
-    ensures no_close { IsNoClose (slice_get nodes.now place.new.index) }
-    ensures no_open { IsNoOpen (slice_get nodes.now place.new.index) }
-{
-    if let Some(Node::Do(_)) = nodes.get(place.index) {
-        return;
-    }
-    go_past_turns(nodes, place);
-}
-
-// Goes forward over the ends and starts of turns, which few places are at.
-#[inline(never)]
+// Goes forward over the ends and starts of turns, to a place before a step or to the end.
 fn go_past_turns<A: Allocator + Copy>(nodes: &Nodes<A>, place: &mut Place)
     requires circuit { IsCircuit nodes.now }
     requires place { (k : ℕ) × IsAt nodes.now place.old k }
@@ -109,20 +93,36 @@ fn go_past_turns<A: Allocator + Copy>(nodes: &Nodes<A>, place: &mut Place)
     enter_turns(nodes, place);
 }
 
-// Answers the step after a place, and goes over it.
-#[inline(always)]
-pub fn next<A: Allocator + Copy>(nodes: &Nodes<A>, place: &mut Place) -> Option<TextStep>
+// Answers the step after a place, and goes over it, from a place that may be at the start or the end of a turn. Few are.
+#[inline(never)]
+fn next_past_turns<A: Allocator + Copy>(nodes: &Nodes<A>, place: &mut Place) -> Option<TextStep>
     requires circuit { IsCircuit nodes.now }
     requires place { (k : ℕ) × IsAt nodes.now place.old k }
     ensures { NextStep nodes.now place.old place.new result }
 {
-    go_to_step(nodes, place);
+    go_past_turns(nodes, place);
     match nodes.get(place.index) {
         Some(Node::Do(step)) => {
             place.index += 1;
             Some(step)
         }
         _ => None,
+    }
+}
+
+// Answers the step after a place, and goes over it. Most places are before a step.
+#[inline(always)]
+pub fn next<A: Allocator + Copy>(nodes: &Nodes<A>, place: &mut Place) -> Option<TextStep>
+    requires circuit { IsCircuit nodes.now }
+    requires place { (k : ℕ) × IsAt nodes.now place.old k }
+    ensures { NextStep nodes.now place.old place.new result }
+{
+    match nodes.get(place.index) {
+        Some(Node::Do(step)) => {
+            place.index += 1;
+            Some(step)
+        }
+        _ => next_past_turns(nodes, place),
     }
 }
 
@@ -159,23 +159,7 @@ fn enter_turns_back<A: Allocator + Copy>(nodes: &Nodes<A>, place: &mut Place)
     }
 }
 
-// Goes back to a place after a step, or to the start. Most places are after a step, and nothing is to be done there.
-#[inline(always)]
-fn go_back_to_step<A: Allocator + Copy>(nodes: &Nodes<A>, place: &mut Place)
-    requires circuit { IsCircuit nodes.now }
-    requires place { (k : ℕ) × IsAt nodes.now place.old k }
-    ensures kept { KeepsStep nodes.now place.old place.new }
-    ensures no_open { IsNoOpen (node_before nodes.now place.new.index) }
-    ensures no_close { IsNoClose (node_before nodes.now place.new.index) }
-{
-    if let Some(Node::Do(_)) = node_before(nodes, place.index) {
-        return;
-    }
-    go_back_past_turns(nodes, place);
-}
-
-// Goes back over the starts and ends of turns, which few places are at.
-#[inline(never)]
+// Goes back over the starts and ends of turns, to a place after a step or to the start.
 fn go_back_past_turns<A: Allocator + Copy>(nodes: &Nodes<A>, place: &mut Place)
     requires circuit { IsCircuit nodes.now }
     requires place { (k : ℕ) × IsAt nodes.now place.old k }
@@ -187,20 +171,36 @@ fn go_back_past_turns<A: Allocator + Copy>(nodes: &Nodes<A>, place: &mut Place)
     enter_turns_back(nodes, place);
 }
 
-// Answers the step before a place, and goes back over it.
-#[inline(always)]
-pub fn previous<A: Allocator + Copy>(nodes: &Nodes<A>, place: &mut Place) -> Option<TextStep>
+// Answers the step before a place, and goes back over it, from a place that may be at the start or the end of a turn.
+#[inline(never)]
+fn previous_past_turns<A: Allocator + Copy>(nodes: &Nodes<A>, place: &mut Place) -> Option<TextStep>
     requires circuit { IsCircuit nodes.now }
     requires place { (k : ℕ) × IsAt nodes.now place.old k }
     ensures { PreviousStep nodes.now place.old place.new result }
 {
-    go_back_to_step(nodes, place);
+    go_back_past_turns(nodes, place);
     match node_before(nodes, place.index) {
         Some(Node::Do(step)) => {
             place.index -= 1;
             Some(step)
         }
         _ => None,
+    }
+}
+
+// Answers the step before a place, and goes back over it. Most places are after a step.
+#[inline(always)]
+pub fn previous<A: Allocator + Copy>(nodes: &Nodes<A>, place: &mut Place) -> Option<TextStep>
+    requires circuit { IsCircuit nodes.now }
+    requires place { (k : ℕ) × IsAt nodes.now place.old k }
+    ensures { PreviousStep nodes.now place.old place.new result }
+{
+    match node_before(nodes, place.index) {
+        Some(Node::Do(step)) => {
+            place.index -= 1;
+            Some(step)
+        }
+        _ => previous_past_turns(nodes, place),
     }
 }
 
