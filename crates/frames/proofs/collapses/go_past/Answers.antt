@@ -1,77 +1,85 @@
+-- Each step of the walk is the next of those that are left before it, and its records are counted.
 use Rattle.std.proofs.Common.{◌≡◌, ◌+◌, ◌<◌, true, false, length, take, sym, ap, ◌∙◌, arith}
 use Rattle.programs.specs.Listed.{listed}
 use Rattle.step_model.specs.WellFormed.{records_made}
-use Rattle.step_model.specs.Listing.{step_records, is_collapse}
+use Rattle.step_model.specs.Listing.{ListedStep, step_records, is_collapse}
 use Rattle.frames.proofs.Passing.{ahead-step, ahead-collapse, ahead-found, ahead-none, made_after-step, records_made-more}
-use Rattle.frames.proofs.Walking.{goes_over, rests}
+use Rattle.frames.proofs.Walking.{GoesOver, goes_over, rests}
+use Rattle.frames.proofs.collapses.go_past.Given.{Over}
 use Rattle.frames.proofs.collapses.go_past.Goals as goal
+use Rattle.frames.proofs.collapses.go_past.Goals.{After-records_after-made}
+
+-- what the walk went over
+over : (g : Over) (c : After-records_after-made g) → GoesOver c.args.program.now c.loop-step.walk c.next_step.new.self c.in-Some.step
+over g c =
+    goes_over c.args.program.now c.loop-step.walk c.next_step.new.self c.in-Some.step c.loop-step.invariant.program c.in-Some.ensures.step c.in-Some.ensures.named c.in-Some.ensures.program c.in-Some.ensures.place
+
+-- the step, as it is listed
+abbrev step_of : (g : Over) → After-records_after-made g → ListedStep
+step_of g c = listed c.args.program.now.listing.qubits c.args.program.now.products c.in-Some.step
+
+-- the records behind the step
+counted : (g : Over) (c : After-records_after-made g) → c.records_after-made.result ≡ c.loop-step.made + length (step_records (step_of g c))
+counted g c =
+    c.records_after-made.ensures
+    ∙ made_after-step c.args.program.now c.well_formed-2.ensures.listing c.loop-step.walk.place c.loop-step.made c.loop-step.invariant.made c.in-Some.step (over g c).here
+
+made : (g : Over) (c : After-records_after-made g) → c.records_after-made.result ≡ length (records_made (take c.next_step.new.self.place c.args.program.now.listing.steps))
+made g c =
+    let steps = c.args.program.now.listing.steps in
+    let step = step_of g c in
+    counted g c
+    ∙ (ap (λ m. m + length (step_records step)) c.loop-step.invariant.made
+    ∙ (sym (records_made-more steps c.loop-step.walk.place step (over g c).here)
+    ∙ ap (λ k. length (records_made (take k steps))) (sym (over g c).place)))
 
 pub returns-then-before-collapse-clause-passed : goal.returns-then-before-collapse-clause-passed
 returns-then-before-collapse-clause-passed g c =
     let program = c.args.program.now in
-    let made = c.loop-step.made in
-    let over = goes_over c.args.program.now c.loop-step.walk c.next_step.new.self c.in-Some.step c.loop-step.invariant.program c.in-Some.ensures.step c.in-Some.ensures.named c.in-Some.ensures.program c.in-Some.ensures.place in
-    let step = listed program.listing.qubits program.products c.in-Some.step in
+    let behind = (goal.at.returns-then-before-collapse-clause-passed g c).After-records_after-made in
+    let past = over g behind in
+    let step = step_of g behind in
     let here : is_collapse step ≡ true = sym (c.is_collapse.ensures program.listing.qubits program.products) ∙ c.if-is_collapse.true in
-    let counted : c.records_after-made.result ≡ made + length (step_records step) =
-    c.records_after-made.ensures
-    ∙ made_after-step program c.well_formed-2.ensures.listing c.loop-step.walk.place made c.loop-step.invariant.made c.in-Some.step over.here in
-    let found = ahead-found program.listing c.args.collapse made step _ here (rw (over.left, c.if-before-collapse.true) at c.loop-step.invariant.ahead) in
+    let found = ahead-found program.listing c.args.collapse c.loop-step.made step _ here (rw (past.left, c.if-before-collapse.true) at c.loop-step.invariant.ahead) in
     record {
-      named = over.named;
+      named = past.named;
       word = found.word;
-      flips = λ v. rw counted (found.flips v);
+      flips = λ v. rw (counted g behind) (found.flips v);
     }
 
 pub loop-step-smaller-then-is_collapse : goal.loop-step-smaller-then-is_collapse
-loop-step-smaller-then-is_collapse g c =
-    (goes_over c.args.program.now c.loop-step.walk c.next_step.new.self c.in-Some.step c.loop-step.invariant.program c.in-Some.ensures.step c.in-Some.ensures.named c.in-Some.ensures.program c.in-Some.ensures.place).smaller
+loop-step-smaller-then-is_collapse g c = (over g (goal.at.loop-step-smaller-then-is_collapse g c).After-records_after-made).smaller
 
 pub loop-step-preserved-then-is_collapse : goal.loop-step-preserved-then-is_collapse
 loop-step-preserved-then-is_collapse g c =
     let program = c.args.program.now in
-    let made = c.loop-step.made in
-    let over = goes_over c.args.program.now c.loop-step.walk c.next_step.new.self c.in-Some.step c.loop-step.invariant.program c.in-Some.ensures.step c.in-Some.ensures.named c.in-Some.ensures.program c.in-Some.ensures.place in
-    let step = listed program.listing.qubits program.products c.in-Some.step in
+    let behind = (goal.at.loop-step-preserved-then-is_collapse g c).After-records_after-made in
+    let past = over g behind in
+    let step = step_of g behind in
     let here : is_collapse step ≡ true = sym (c.is_collapse.ensures program.listing.qubits program.products) ∙ c.if-is_collapse.true in
-    let counted : c.records_after-made.result ≡ made + length (step_records step) =
-    c.records_after-made.ensures
-    ∙ made_after-step program c.well_formed-2.ensures.listing c.loop-step.walk.place made c.loop-step.invariant.made c.in-Some.step over.here in
     let earlier : c.loop-step.before < c.args.collapse = omega (arith, c.loop-step.invariant.earlier, c.if-before-collapse.false) in
     record {
-      program = over.program_is;
+      program = past.program_is;
       earlier = omega (arith, earlier);
-      made =
-          counted
-          ∙ (ap (λ m. m + length (step_records step)) c.loop-step.invariant.made
-          ∙ (sym (records_made-more program.listing.steps c.loop-step.walk.place step over.here)
-          ∙ ap (λ k. length (records_made (take k program.listing.steps))) (sym over.place)));
-      ahead = rw counted (ahead-collapse program.listing c.args.collapse c.loop-step.before made step _ here earlier (rw over.left at c.loop-step.invariant.ahead));
+      made = made g behind;
+      ahead = rw (counted g behind) (ahead-collapse program.listing c.args.collapse c.loop-step.before c.loop-step.made step _ here earlier (rw past.left at c.loop-step.invariant.ahead));
     }
 
 pub loop-step-smaller : goal.loop-step-smaller
-loop-step-smaller g c =
-    (goes_over c.args.program.now c.loop-step.walk c.next_step.new.self c.in-Some.step c.loop-step.invariant.program c.in-Some.ensures.step c.in-Some.ensures.named c.in-Some.ensures.program c.in-Some.ensures.place).smaller
+loop-step-smaller g c = (over g (goal.at.loop-step-smaller g c).After-records_after-made).smaller
 
 pub loop-step-preserved : goal.loop-step-preserved
 loop-step-preserved g c =
     let program = c.args.program.now in
-    let made = c.loop-step.made in
-    let over = goes_over c.args.program.now c.loop-step.walk c.next_step.new.self c.in-Some.step c.loop-step.invariant.program c.in-Some.ensures.step c.in-Some.ensures.named c.in-Some.ensures.program c.in-Some.ensures.place in
-    let step = listed program.listing.qubits program.products c.in-Some.step in
+    let behind = (goal.at.loop-step-preserved g c).After-records_after-made in
+    let past = over g behind in
+    let step = step_of g behind in
     let other : is_collapse step ≡ false = sym (c.is_collapse.ensures program.listing.qubits program.products) ∙ c.if-is_collapse.false in
-    let counted : c.records_after-made.result ≡ made + length (step_records step) =
-    c.records_after-made.ensures
-    ∙ made_after-step program c.well_formed-2.ensures.listing c.loop-step.walk.place made c.loop-step.invariant.made c.in-Some.step over.here in
     record {
-      program = over.program_is;
+      program = past.program_is;
       earlier = c.loop-step.invariant.earlier;
-      made =
-          counted
-          ∙ (ap (λ m. m + length (step_records step)) c.loop-step.invariant.made
-          ∙ (sym (records_made-more program.listing.steps c.loop-step.walk.place step over.here)
-          ∙ ap (λ k. length (records_made (take k program.listing.steps))) (sym over.place)));
-      ahead = rw counted (ahead-step program.listing c.args.collapse c.loop-step.before made step _ other (rw over.left at c.loop-step.invariant.ahead));
+      made = made g behind;
+      ahead = rw (counted g behind) (ahead-step program.listing c.args.collapse c.loop-step.before c.loop-step.made step _ other (rw past.left at c.loop-step.invariant.ahead));
     }
 
 pub returns-clause-passed : goal.returns-clause-passed

@@ -1,34 +1,32 @@
+-- Each count is at most where the whole pass leaves it, so it stays below its limit at each step of the pass.
 use Rattle.std.proofs.Common.{◌+◌, ◌++◌, [], ◌∷◌, ℕ, length, refl, ap, ◌∙◌, arith}
 use Rattle.stim_lexer.specs.Kept.{instruction_in}
 use Rattle.unroll.specs.private.Placing.{downs, placing, raised_by, turned_by, turned_on, ups}
-use Rattle.unroll.proofs.PlacingLoops.{HasPopped, placing-begins, placing-does, placing-done, placing-ends, placing-first, placing-fits, placing-room, placing-same, placing-some, placing-stated, placing-up-to, small-added, small-counts, with_turns}
+use Rattle.unroll.proofs.PlacingLoops.{HasPopped, IsUpTo, limit, placing-begins, placing-does, placing-done, placing-ends, placing-first, placing-fits, placing-room, placing-same, placing-some, placing-stated, placing-up-to, small-added, small-counts, with_turns}
+use Rattle.unroll.proofs.coordinates.coordinates_of.Given.{Over}
 use Rattle.unroll.proofs.coordinates.coordinates_of.Goals as goal
-use Rattle.unroll.proofs.coordinates.coordinates_of.Goals.{in-InstructionLine+in_ok-push_coordinates-in-InstructionLine, in-BlockStart, in-BlockEnd+in_ok-push_later_turns-in-BlockEnd}
+use Rattle.unroll.proofs.coordinates.coordinates_of.Goals.{After-saturating_sub-later, in-InstructionLine+in_ok-push_coordinates-in-InstructionLine, in-BlockStart, in-BlockEnd+in_ok-push_later_turns-in-BlockEnd}
 
 pub loop-i-init : goal.loop-i-init
 loop-i-init g c =
     placing-first c.args.circuit.now _ c.in_ok-coordinates.coordinates c.new-blocks.result.items c.fits.ensures c.requires.few refl c.in_ok-coordinates.ensures c.new-blocks.ensures
 
-pub push_coordinates-requires-clause-fits : goal.push_coordinates-requires-clause-fits
-push_coordinates-requires-clause-fits g c =
-    placing-fits c.args.circuit.now c.loop-i.i c.loop-i.offset c.loop-i.coordinates c.loop-i.blocks.items (instruction_in c.in-InstructionLine.instruction) c.loop-i.invariant c.in-InstructionLine.ensures
+pub push_coordinates-requires : goal.push_coordinates-requires
+push_coordinates-requires g c =
+    let t = c.args.circuit.now in
+    let i = c.loop-i.i in
+    let p = c.loop-i.offset in
+    let found = c.loop-i.coordinates in
+    let blocks = c.loop-i.blocks.items in
+    let within = placing-up-to t i p found blocks c.loop-i.invariant in
+    record {
+      fits = placing-fits t i p found blocks (instruction_in c.in-InstructionLine.instruction) c.loop-i.invariant c.in-InstructionLine.ensures;
+      small_up = small-counts p.up within.up;
+      small_down = small-counts p.down within.down;
+    }
 
-pub push_coordinates-requires-clause-small_up : goal.push_coordinates-requires-clause-small_up
-push_coordinates-requires-clause-small_up g c =
-    let within = placing-up-to c.args.circuit.now c.loop-i.i c.loop-i.offset c.loop-i.coordinates c.loop-i.blocks.items c.loop-i.invariant in
-    small-counts c.loop-i.offset.up within.up
-
-pub push_coordinates-requires-clause-small_down : goal.push_coordinates-requires-clause-small_down
-push_coordinates-requires-clause-small_down g c =
-    let within = placing-up-to c.args.circuit.now c.loop-i.i c.loop-i.offset c.loop-i.coordinates c.loop-i.blocks.items c.loop-i.invariant in
-    small-counts c.loop-i.offset.down within.down
-
-pub shift-requires-clause-fits : goal.shift-requires-clause-fits
-shift-requires-clause-fits g c =
-    placing-fits c.args.circuit.now c.loop-i.i c.loop-i.offset c.loop-i.coordinates c.loop-i.blocks.items (instruction_in c.in-InstructionLine.instruction) c.loop-i.invariant c.in-InstructionLine.ensures
-
-pub shift-requires-clause-small_up : goal.shift-requires-clause-small_up
-shift-requires-clause-small_up g c =
+pub shift-requires : goal.shift-requires
+shift-requires g c =
     let t = c.args.circuit.now in
     let i = c.loop-i.i in
     let p = c.loop-i.offset in
@@ -37,19 +35,11 @@ shift-requires-clause-small_up g c =
     let x = instruction_in c.in-InstructionLine.instruction in
     let next = placing-does t i p found blocks x c.loop-i.invariant c.in-InstructionLine.ensures in
     let within = placing-up-to t (i + 1) (placing.next p x) (found ++ placing.gives p x) blocks next in
-    small-counts (raised_by p.up (ups x)) within.up
-
-pub shift-requires-clause-small_down : goal.shift-requires-clause-small_down
-shift-requires-clause-small_down g c =
-    let t = c.args.circuit.now in
-    let i = c.loop-i.i in
-    let p = c.loop-i.offset in
-    let found = c.loop-i.coordinates in
-    let blocks = c.loop-i.blocks.items in
-    let x = instruction_in c.in-InstructionLine.instruction in
-    let next = placing-does t i p found blocks x c.loop-i.invariant c.in-InstructionLine.ensures in
-    let within = placing-up-to t (i + 1) (placing.next p x) (found ++ placing.gives p x) blocks next in
-    small-counts (raised_by p.down (downs x)) within.down
+    record {
+      fits = placing-fits t i p found blocks x c.loop-i.invariant c.in-InstructionLine.ensures;
+      small_up = small-counts (raised_by p.up (ups x)) within.up;
+      small_down = small-counts (raised_by p.down (downs x)) within.down;
+    }
 
 pub push-requires : goal.push-requires
 push-requires g c =
@@ -59,12 +49,9 @@ pub unwrap-block-requires : goal.unwrap-block-requires
 unwrap-block-requires g c =
     c.pop.ensures.variant.1 (placing-some c.args.circuit.now c.loop-i.i c.loop-i.offset c.loop-i.coordinates c.loop-i.blocks.items c.loop-i.invariant c.in-BlockEnd.ensures)
 
-pub push_later_turns-requires-clause-stated : goal.push_later_turns-requires-clause-stated
-push_later_turns-requires-clause-stated g c =
-    placing-stated c.args.circuit.now c.loop-i.i c.loop-i.offset c.loop-i.coordinates c.loop-i.blocks.items c.loop-i.invariant
-
-pub push_later_turns-requires-clause-small_up : goal.push_later_turns-requires-clause-small_up
-push_later_turns-requires-clause-small_up g c =
+-- the counts behind all turns of a block
+behind_turns : (g : Over) (c : After-saturating_sub-later g) → IsUpTo limit (turned_on c.saturating_sub-later.result c.unwrap-block.result.before.place c.loop-i.offset)
+behind_turns g c =
     let t = c.args.circuit.now in
     let i = c.loop-i.i in
     let p = c.loop-i.offset in
@@ -72,52 +59,33 @@ push_later_turns-requires-clause-small_up g c =
     let blocks = c.loop-i.blocks.items in
     let n = c.saturating_sub-later.result in
     let block = c.unwrap-block.result in
-    let popped : HasPopped blocks c.pop.new.self.items c.pop.result block n = record { rest_is = c.pop.ensures.items; block_is = c.unwrap-block.ensures; turns_is = c.saturating_sub-later.ensures } in
-    let next = placing-ends t i p found blocks c.pop.new.self.items c.pop.result block n c.loop-i.invariant c.in-BlockEnd.ensures popped in
-    let within = placing-up-to t (i + 1) (turned_on n block.before.place p) (with_turns n block p found) c.pop.new.self.items next in
-    small-added n block.before.place.up p.up (small-counts (turned_by n block.before.place.up p.up) within.up)
+    let rest = c.pop.new.self.items in
+    let popped : HasPopped blocks rest c.pop.result block n = record { rest_is = c.pop.ensures.items; block_is = c.unwrap-block.ensures; turns_is = c.saturating_sub-later.ensures } in
+    let next = placing-ends t i p found blocks rest c.pop.result block n c.loop-i.invariant c.in-BlockEnd.ensures popped in
+    placing-up-to t (i + 1) (turned_on n block.before.place p) (with_turns n block p found) rest next
 
-pub push_later_turns-requires-clause-small_down : goal.push_later_turns-requires-clause-small_down
-push_later_turns-requires-clause-small_down g c =
-    let t = c.args.circuit.now in
-    let i = c.loop-i.i in
+pub push_later_turns-requires : goal.push_later_turns-requires
+push_later_turns-requires g c =
     let p = c.loop-i.offset in
-    let found = c.loop-i.coordinates in
-    let blocks = c.loop-i.blocks.items in
     let n = c.saturating_sub-later.result in
-    let block = c.unwrap-block.result in
-    let popped : HasPopped blocks c.pop.new.self.items c.pop.result block n = record { rest_is = c.pop.ensures.items; block_is = c.unwrap-block.ensures; turns_is = c.saturating_sub-later.ensures } in
-    let next = placing-ends t i p found blocks c.pop.new.self.items c.pop.result block n c.loop-i.invariant c.in-BlockEnd.ensures popped in
-    let within = placing-up-to t (i + 1) (turned_on n block.before.place p) (with_turns n block p found) c.pop.new.self.items next in
-    small-added n block.before.place.down p.down (small-counts (turned_by n block.before.place.down p.down) within.down)
+    let before = c.unwrap-block.result.before.place in
+    let within = behind_turns g (goal.at.push_later_turns-requires g c).After-saturating_sub-later in
+    record {
+      stated = placing-stated c.args.circuit.now c.loop-i.i p c.loop-i.coordinates c.loop-i.blocks.items c.loop-i.invariant;
+      small_up = small-added n before.up p.up (small-counts (turned_by n before.up p.up) within.up);
+      small_down = small-added n before.down p.down (small-counts (turned_by n before.down p.down) within.down);
+    }
 
-pub turn_on-requires-clause-small_up : goal.turn_on-requires-clause-small_up
-turn_on-requires-clause-small_up g c =
-    let t = c.args.circuit.now in
-    let i = c.loop-i.i in
+pub turn_on-requires : goal.turn_on-requires
+turn_on-requires g c =
     let p = c.loop-i.offset in
-    let found = c.loop-i.coordinates in
-    let blocks = c.loop-i.blocks.items in
     let n = c.saturating_sub-later.result in
-    let block = c.unwrap-block.result in
-    let popped : HasPopped blocks c.pop.new.self.items c.pop.result block n = record { rest_is = c.pop.ensures.items; block_is = c.unwrap-block.ensures; turns_is = c.saturating_sub-later.ensures } in
-    let next = placing-ends t i p found blocks c.pop.new.self.items c.pop.result block n c.loop-i.invariant c.in-BlockEnd.ensures popped in
-    let within = placing-up-to t (i + 1) (turned_on n block.before.place p) (with_turns n block p found) c.pop.new.self.items next in
-    small-counts (turned_by n block.before.place.up p.up) within.up
-
-pub turn_on-requires-clause-small_down : goal.turn_on-requires-clause-small_down
-turn_on-requires-clause-small_down g c =
-    let t = c.args.circuit.now in
-    let i = c.loop-i.i in
-    let p = c.loop-i.offset in
-    let found = c.loop-i.coordinates in
-    let blocks = c.loop-i.blocks.items in
-    let n = c.saturating_sub-later.result in
-    let block = c.unwrap-block.result in
-    let popped : HasPopped blocks c.pop.new.self.items c.pop.result block n = record { rest_is = c.pop.ensures.items; block_is = c.unwrap-block.ensures; turns_is = c.saturating_sub-later.ensures } in
-    let next = placing-ends t i p found blocks c.pop.new.self.items c.pop.result block n c.loop-i.invariant c.in-BlockEnd.ensures popped in
-    let within = placing-up-to t (i + 1) (turned_on n block.before.place p) (with_turns n block p found) c.pop.new.self.items next in
-    small-counts (turned_by n block.before.place.down p.down) within.down
+    let before = c.unwrap-block.result.before.place in
+    let within = behind_turns g (goal.at.turn_on-requires g c).After-saturating_sub-later in
+    record {
+      small_up = small-counts (turned_by n before.up p.up) within.up;
+      small_down = small-counts (turned_by n before.down p.down) within.down;
+    }
 
 pub loop-i-preserved : goal.loop-i-preserved
 loop-i-preserved g c =

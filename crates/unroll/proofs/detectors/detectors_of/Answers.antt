@@ -1,12 +1,15 @@
-use Rattle.std.proofs.Common.{◌+◌, ◌*◌, ◌++◌, [], ◌∷◌, ℕ, length, refl, ap, ◌∙◌, arith}
+-- The records never pass the total of the circuit, which is below the limit.
+use Rattle.std.proofs.Common.{◌+◌, ◌*◌, ◌<◌, ◌++◌, [], ◌∷◌, ℕ, length, refl, ap, ◌∙◌, arith}
+use Rattle.std.specs.Prelude.{◌^◌}
 use Rattle.stim_lexer.specs.Kept.{instruction_in}
 use Rattle.unroll.specs.private.Detecting.{detecting, records_moved}
 use Rattle.unroll.specs.TargetsMade.{operation_detectors}
 use Rattle.unroll.specs.private.MadeTotals.{record_count, records_made}
 use Rattle.unroll.proofs.CountLemmas.{HasPopped, counting-begins, counting-does, counting-does_few, counting-ends, counting-ends_few, counting-few, counting-first, counting-room, counting-same, counting-some, with_turns}
 use Rattle.unroll.proofs.DetectorLemmas.{IsWithin, detecting-counts, detecting-done, within-limit}
+use Rattle.unroll.proofs.detectors.detectors_of.Given.{Over}
 use Rattle.unroll.proofs.detectors.detectors_of.Goals as goal
-use Rattle.unroll.proofs.detectors.detectors_of.Goals.{in-InstructionLine+in_ok-push_detector-in-InstructionLine, in-BlockStart, in-BlockEnd+in_ok-push_later_turns-in-BlockEnd}
+use Rattle.unroll.proofs.detectors.detectors_of.Goals.{After-saturating_sub-by, in-InstructionLine+in_ok-push_detector-in-InstructionLine, in-BlockStart, in-BlockEnd+in_ok-push_later_turns-in-BlockEnd}
 
 pub loop-i-init : goal.loop-i-init
 loop-i-init g c =
@@ -31,29 +34,34 @@ pub unwrap-block-requires : goal.unwrap-block-requires
 unwrap-block-requires g c =
     c.pop.ensures.variant.1 (counting-some c.args.circuit.now c.loop-i.i c.loop-i.records c.loop-i.detectors c.loop-i.blocks.items c.loop-i.invariant c.in-BlockEnd.ensures)
 
-pub push_later_turns-requires-clause-few : goal.push_later_turns-requires-clause-few
-push_later_turns-requires-clause-few g c =
-    let popped : HasPopped c.loop-i.blocks.items c.pop.new.self.items c.pop.result c.unwrap-block.result c.loop-i.records c.saturating_sub-later.result c.saturating_sub-by.result = record { rest_is = c.pop.ensures.items; block_is = c.unwrap-block.ensures; turns_is = c.saturating_sub-later.ensures; by_is = c.saturating_sub-by.ensures } in
-    let few = counting-ends_few detecting-counts c.args.circuit.now c.loop-i.i c.loop-i.records c.loop-i.detectors c.loop-i.blocks.items c.pop.new.self.items c.pop.result c.unwrap-block.result c.saturating_sub-later.result c.saturating_sub-by.result c.loop-i.invariant c.in-BlockEnd.ensures popped in
+-- the records behind all turns of a block
+few_behind : (g : Over) (c : After-saturating_sub-by g) → c.loop-i.records + c.saturating_sub-later.result * c.saturating_sub-by.result < 2 ^ 32
+few_behind g c =
+    let r = c.loop-i.records in
+    let blocks = c.loop-i.blocks.items in
+    let n = c.saturating_sub-later.result in
+    let by = c.saturating_sub-by.result in
+    let block = c.unwrap-block.result in
+    let rest = c.pop.new.self.items in
+    let popped : HasPopped blocks rest c.pop.result block r n by = record { rest_is = c.pop.ensures.items; block_is = c.unwrap-block.ensures; turns_is = c.saturating_sub-later.ensures; by_is = c.saturating_sub-by.ensures } in
+    let few = counting-ends_few detecting-counts c.args.circuit.now c.loop-i.i r c.loop-i.detectors blocks rest c.pop.result block n by c.loop-i.invariant c.in-BlockEnd.ensures popped in
     omega (arith, few, c.requires.few)
 
-pub push_later_turns-requires-clause-small : goal.push_later_turns-requires-clause-small
-push_later_turns-requires-clause-small g c =
-    let popped : HasPopped c.loop-i.blocks.items c.pop.new.self.items c.pop.result c.unwrap-block.result c.loop-i.records c.saturating_sub-later.result c.saturating_sub-by.result = record { rest_is = c.pop.ensures.items; block_is = c.unwrap-block.ensures; turns_is = c.saturating_sub-later.ensures; by_is = c.saturating_sub-by.ensures } in
-    let few = counting-ends_few detecting-counts c.args.circuit.now c.loop-i.i c.loop-i.records c.loop-i.detectors c.loop-i.blocks.items c.pop.new.self.items c.pop.result c.unwrap-block.result c.saturating_sub-later.result c.saturating_sub-by.result c.loop-i.invariant c.in-BlockEnd.ensures popped in
-    within-limit c.loop-i.records (c.saturating_sub-later.result * c.saturating_sub-by.result) 4294967296 c.loop-i.detectors (omega (arith, few, c.requires.few)) c.loop-i.invariant.within
+pub push_later_turns-requires : goal.push_later_turns-requires
+push_later_turns-requires g c =
+    let few = few_behind g (goal.at.push_later_turns-requires g c).After-saturating_sub-by in
+    record {
+      few = omega (arith, few);
+      small = within-limit c.loop-i.records (c.saturating_sub-later.result * c.saturating_sub-by.result) 4294967296 c.loop-i.detectors few c.loop-i.invariant.within;
+    }
 
 pub overflow_mul-records : goal.overflow_mul-records
 overflow_mul-records g c =
-    let popped : HasPopped c.loop-i.blocks.items c.pop.new.self.items c.pop.result c.unwrap-block.result c.loop-i.records c.saturating_sub-later.result c.saturating_sub-by.result = record { rest_is = c.pop.ensures.items; block_is = c.unwrap-block.ensures; turns_is = c.saturating_sub-later.ensures; by_is = c.saturating_sub-by.ensures } in
-    let few = counting-ends_few detecting-counts c.args.circuit.now c.loop-i.i c.loop-i.records c.loop-i.detectors c.loop-i.blocks.items c.pop.new.self.items c.pop.result c.unwrap-block.result c.saturating_sub-later.result c.saturating_sub-by.result c.loop-i.invariant c.in-BlockEnd.ensures popped in
-    omega (arith, few, c.requires.few)
+    omega (arith, few_behind g (goal.at.overflow_mul-records g c).After-saturating_sub-by)
 
 pub overflow_add-records-in-BlockEnd : goal.overflow_add-records-in-BlockEnd
 overflow_add-records-in-BlockEnd g c =
-    let popped : HasPopped c.loop-i.blocks.items c.pop.new.self.items c.pop.result c.unwrap-block.result c.loop-i.records c.saturating_sub-later.result c.saturating_sub-by.result = record { rest_is = c.pop.ensures.items; block_is = c.unwrap-block.ensures; turns_is = c.saturating_sub-later.ensures; by_is = c.saturating_sub-by.ensures } in
-    let few = counting-ends_few detecting-counts c.args.circuit.now c.loop-i.i c.loop-i.records c.loop-i.detectors c.loop-i.blocks.items c.pop.new.self.items c.pop.result c.unwrap-block.result c.saturating_sub-later.result c.saturating_sub-by.result c.loop-i.invariant c.in-BlockEnd.ensures popped in
-    omega (arith, few, c.requires.few)
+    omega (arith, few_behind g (goal.at.overflow_add-records-in-BlockEnd g c).After-saturating_sub-by)
 
 pub loop-i-preserved : goal.loop-i-preserved
 loop-i-preserved g c =

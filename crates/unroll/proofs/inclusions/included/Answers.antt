@@ -1,5 +1,6 @@
-use Rattle.std.proofs.Common.{◌≡◌, ◌+◌, ◌-◌, ◌*◌, ◌<◌, ◌++◌, [], ◌∷◌, ℕ, List, length, take, drop, replicate, refl, ap, ◌∙◌, subst, sym, arith}
-use Rattle.std.specs.Prelude.{All}
+-- The records never pass the total of the circuit, and the notes of an open block are never dropped.
+use Rattle.std.proofs.Common.{◌≡◌, ◌+◌, ◌-◌, ◌*◌, ◌<◌, ◌≤◌, ◌++◌, [], ◌∷◌, ℕ, List, length, take, drop, replicate, refl, ap, ◌∙◌, subst, sym, arith}
+use Rattle.std.specs.Prelude.{◌^◌, All}
 use Rattle.std.proofs.lemmas.List.{length-map, length-replicate}
 use Rattle.stim_lexer.specs.Kept.{instruction_in}
 use Rattle.unroll.specs.declared.inclusions.Note.{Note}
@@ -8,8 +9,9 @@ use Rattle.unroll.specs.private.Including.{notes_of, with_included}
 use Rattle.unroll.specs.private.MadeTotals.{record_count, records_made}
 use Rattle.unroll.proofs.CountLemmas.{HasPopped}
 use Rattle.unroll.proofs.IncludingLoops.{including-begins, including-does, including-does_few, including-done, including-early, including-ends, including-ends_few, including-few, including-first, including-nested, including-room, including-same, including-small, including-some, including-there, noting_block, tail-is}
+use Rattle.unroll.proofs.inclusions.included.Given.{Over}
 use Rattle.unroll.proofs.inclusions.included.Goals as goal
-use Rattle.unroll.proofs.inclusions.included.Goals.{in-InstructionLine+in_ok-include-in-InstructionLine, in-BlockStart, in-BlockEnd+in_ok-include_all_noted-in-BlockEnd}
+use Rattle.unroll.proofs.inclusions.included.Goals.{After-saturating_sub-by, in-InstructionLine+in_ok-include-in-InstructionLine, in-BlockStart, in-BlockEnd+in_ok-include_all_noted-in-BlockEnd}
 
 pub loop-i-init : goal.loop-i-init
 loop-i-init g c =
@@ -45,78 +47,73 @@ unwrap-block-requires g c =
     let n = observable_total t in
     c.pop.ensures.variant.1 (including-some t c.loop-i.i c.loop-i.records n c.loop-i.lists c.loop-i.notes.items c.loop-i.closed.items c.loop-i.blocks.items c.loop-i.invariant c.in-BlockEnd.ensures)
 
+-- the last of the open blocks, its later turns and the records of each
+popped : (g : Over) (c : After-saturating_sub-by g) → HasPopped c.loop-i.blocks.items c.pop.new.self.items c.pop.result c.unwrap-block.result c.loop-i.records c.saturating_sub-later.result c.saturating_sub-by.result
+popped g c =
+    record {
+      rest_is = c.pop.ensures.items;
+      block_is = c.unwrap-block.ensures;
+      turns_is = c.saturating_sub-later.ensures;
+      by_is = c.saturating_sub-by.ensures;
+    }
+
+-- the notes from before that block are still there
+within_notes : (g : Over) (c : After-saturating_sub-by g) → c.unwrap-block.result.before.found ≤ length c.loop-i.notes.items
+within_notes g c =
+    (including-nested c.args.circuit.now c.loop-i.i c.loop-i.records (observable_total c.args.circuit.now) c.loop-i.lists c.loop-i.notes.items c.loop-i.closed.items c.loop-i.blocks.items c.pop.new.self.items c.pop.result c.unwrap-block.result c.saturating_sub-later.result c.saturating_sub-by.result c.loop-i.invariant (popped g c)).within
+
+-- the records behind all turns of that block
+few_behind : (g : Over) (c : After-saturating_sub-by g) → c.loop-i.records + c.saturating_sub-later.result * c.saturating_sub-by.result < 2 ^ 32
+few_behind g c =
+    let t = c.args.circuit.now in
+    let few = including-ends_few t c.loop-i.i c.loop-i.records (observable_total t) c.loop-i.lists c.loop-i.notes.items c.loop-i.closed.items c.loop-i.blocks.items c.pop.new.self.items c.pop.result c.unwrap-block.result c.saturating_sub-later.result c.saturating_sub-by.result c.loop-i.invariant c.in-BlockEnd.ensures (popped g c) in
+    omega (arith, few, c.requires.few)
+
 pub offset_bounds-deref-block : goal.offset_bounds-deref-block
 offset_bounds-deref-block g c =
-    let t = c.args.circuit.now in
-    let n = observable_total t in
-    let popped : HasPopped c.loop-i.blocks.items c.pop.new.self.items c.pop.result c.unwrap-block.result c.loop-i.records c.saturating_sub-later.result c.saturating_sub-by.result = record { rest_is = c.pop.ensures.items; block_is = c.unwrap-block.ensures; turns_is = c.saturating_sub-later.ensures; by_is = c.saturating_sub-by.ensures } in
-    let nest = including-nested t c.loop-i.i c.loop-i.records n c.loop-i.lists c.loop-i.notes.items c.loop-i.closed.items c.loop-i.blocks.items c.pop.new.self.items c.pop.result c.unwrap-block.result c.saturating_sub-later.result c.saturating_sub-by.result c.loop-i.invariant popped in
-    omega (arith, nest.within, ap length c.deref.ensures.value, c.deref.type_inv.1)
+    let within = within_notes g (goal.at.offset_bounds-deref-block g c).After-saturating_sub-by in
+    omega (arith, within, ap length c.deref.ensures.value, c.deref.type_inv.1)
 
 pub slice_bounds-noted-count : goal.slice_bounds-noted-count
 slice_bounds-noted-count g c =
-    let t = c.args.circuit.now in
-    let n = observable_total t in
-    let popped : HasPopped c.loop-i.blocks.items c.pop.new.self.items c.pop.result c.unwrap-block.result c.loop-i.records c.saturating_sub-later.result c.saturating_sub-by.result = record { rest_is = c.pop.ensures.items; block_is = c.unwrap-block.ensures; turns_is = c.saturating_sub-later.ensures; by_is = c.saturating_sub-by.ensures } in
-    let nest = including-nested t c.loop-i.i c.loop-i.records n c.loop-i.lists c.loop-i.notes.items c.loop-i.closed.items c.loop-i.blocks.items c.pop.new.self.items c.pop.result c.unwrap-block.result c.saturating_sub-later.result c.saturating_sub-by.result c.loop-i.invariant popped in
-    omega (arith, nest.within, ap length c.deref.ensures.value)
+    let within = within_notes g (goal.at.slice_bounds-noted-count g c).After-saturating_sub-by in
+    omega (arith, within, ap length c.deref.ensures.value)
 
 pub slice_bounds-noted-start : goal.slice_bounds-noted-start
 slice_bounds-noted-start g c =
+    let within = within_notes g (goal.at.slice_bounds-noted-start g c).After-saturating_sub-by in
+    omega (arith, within, ap length c.deref.ensures.value)
+
+pub include_all_noted-requires : goal.include_all_noted-requires
+include_all_noted-requires g c =
     let t = c.args.circuit.now in
     let n = observable_total t in
-    let popped : HasPopped c.loop-i.blocks.items c.pop.new.self.items c.pop.result c.unwrap-block.result c.loop-i.records c.saturating_sub-later.result c.saturating_sub-by.result = record { rest_is = c.pop.ensures.items; block_is = c.unwrap-block.ensures; turns_is = c.saturating_sub-later.ensures; by_is = c.saturating_sub-by.ensures } in
-    let nest = including-nested t c.loop-i.i c.loop-i.records n c.loop-i.lists c.loop-i.notes.items c.loop-i.closed.items c.loop-i.blocks.items c.pop.new.self.items c.pop.result c.unwrap-block.result c.saturating_sub-later.result c.saturating_sub-by.result c.loop-i.invariant popped in
-    omega (arith, nest.within, ap length c.deref.ensures.value)
-
-pub include_all_noted-requires-clause-there : goal.include_all_noted-requires-clause-there
-include_all_noted-requires-clause-there g c =
-    let t = c.args.circuit.now in
-    let n = observable_total t in
-    let tail : take (length c.deref.result.now - c.unwrap-block.result.before.found) (drop c.unwrap-block.result.before.found c.deref.result.now) ≡ drop c.unwrap-block.result.before.found c.loop-i.notes.items = ap (λ (xs : List Note). take (length xs - c.unwrap-block.result.before.found) (drop c.unwrap-block.result.before.found xs)) c.deref.ensures.value ∙ tail-is c.loop-i.notes.items c.unwrap-block.result.before.found in
-    subst (All (λ (note : Note). note.observable < length c.loop-i.lists)) (sym tail)
-    (including-there t c.loop-i.i c.loop-i.records n c.unwrap-block.result.before.found c.loop-i.lists c.loop-i.notes.items c.loop-i.closed.items c.loop-i.blocks.items c.loop-i.invariant)
-
-pub include_all_noted-requires-clause-each : goal.include_all_noted-requires-clause-each
-include_all_noted-requires-clause-each g c = c.loop-i.invariant.closings ∙ sym c.loop-i.invariant.count
-
-pub include_all_noted-requires-clause-early : goal.include_all_noted-requires-clause-early
-include_all_noted-requires-clause-early g c =
-    let t = c.args.circuit.now in
-    let n = observable_total t in
-    including-early t c.loop-i.i c.loop-i.records n c.loop-i.lists c.loop-i.notes.items c.loop-i.closed.items c.loop-i.blocks.items c.loop-i.invariant
-
-pub include_all_noted-requires-clause-few : goal.include_all_noted-requires-clause-few
-include_all_noted-requires-clause-few g c =
-    let t = c.args.circuit.now in
-    let n = observable_total t in
-    let popped : HasPopped c.loop-i.blocks.items c.pop.new.self.items c.pop.result c.unwrap-block.result c.loop-i.records c.saturating_sub-later.result c.saturating_sub-by.result = record { rest_is = c.pop.ensures.items; block_is = c.unwrap-block.ensures; turns_is = c.saturating_sub-later.ensures; by_is = c.saturating_sub-by.ensures } in
-    let few = including-ends_few t c.loop-i.i c.loop-i.records n c.loop-i.lists c.loop-i.notes.items c.loop-i.closed.items c.loop-i.blocks.items c.pop.new.self.items c.pop.result c.unwrap-block.result c.saturating_sub-later.result c.saturating_sub-by.result c.loop-i.invariant c.in-BlockEnd.ensures popped in
-    omega (arith, few, c.requires.few)
-
-pub include_all_noted-requires-clause-small : goal.include_all_noted-requires-clause-small
-include_all_noted-requires-clause-small g c =
-    let t = c.args.circuit.now in
-    let n = observable_total t in
-    let popped : HasPopped c.loop-i.blocks.items c.pop.new.self.items c.pop.result c.unwrap-block.result c.loop-i.records c.saturating_sub-later.result c.saturating_sub-by.result = record { rest_is = c.pop.ensures.items; block_is = c.unwrap-block.ensures; turns_is = c.saturating_sub-later.ensures; by_is = c.saturating_sub-by.ensures } in
-    let few = including-ends_few t c.loop-i.i c.loop-i.records n c.loop-i.lists c.loop-i.notes.items c.loop-i.closed.items c.loop-i.blocks.items c.pop.new.self.items c.pop.result c.unwrap-block.result c.saturating_sub-later.result c.saturating_sub-by.result c.loop-i.invariant c.in-BlockEnd.ensures popped in
-    including-small t c.loop-i.i c.loop-i.records n (c.saturating_sub-later.result * c.saturating_sub-by.result) 4294967296 c.loop-i.lists c.loop-i.notes.items c.loop-i.closed.items c.loop-i.blocks.items c.loop-i.invariant (omega (arith, few, c.requires.few))
+    let i = c.loop-i.i in
+    let r = c.loop-i.records in
+    let lists = c.loop-i.lists in
+    let notes = c.loop-i.notes.items in
+    let closed = c.loop-i.closed.items in
+    let blocks = c.loop-i.blocks.items in
+    let start = c.unwrap-block.result.before.found in
+    let tail : take (length c.deref.result.now - start) (drop start c.deref.result.now) ≡ drop start notes = ap (λ (xs : List Note). take (length xs - start) (drop start xs)) c.deref.ensures.value ∙ tail-is notes start in
+    let few = few_behind g (goal.at.include_all_noted-requires g c).After-saturating_sub-by in
+    record {
+      there =
+          subst (All (λ (note : Note). note.observable < length lists)) (sym tail)
+          (including-there t i r n start lists notes closed blocks c.loop-i.invariant);
+      each = c.loop-i.invariant.closings ∙ sym c.loop-i.invariant.count;
+      early = including-early t i r n lists notes closed blocks c.loop-i.invariant;
+      few = omega (arith, few);
+      small = including-small t i r n (c.saturating_sub-later.result * c.saturating_sub-by.result) 4294967296 lists notes closed blocks c.loop-i.invariant few;
+    }
 
 pub overflow_mul-records : goal.overflow_mul-records
 overflow_mul-records g c =
-    let t = c.args.circuit.now in
-    let n = observable_total t in
-    let popped : HasPopped c.loop-i.blocks.items c.pop.new.self.items c.pop.result c.unwrap-block.result c.loop-i.records c.saturating_sub-later.result c.saturating_sub-by.result = record { rest_is = c.pop.ensures.items; block_is = c.unwrap-block.ensures; turns_is = c.saturating_sub-later.ensures; by_is = c.saturating_sub-by.ensures } in
-    let few = including-ends_few t c.loop-i.i c.loop-i.records n c.loop-i.lists c.loop-i.notes.items c.loop-i.closed.items c.loop-i.blocks.items c.pop.new.self.items c.pop.result c.unwrap-block.result c.saturating_sub-later.result c.saturating_sub-by.result c.loop-i.invariant c.in-BlockEnd.ensures popped in
-    omega (arith, few, c.requires.few)
+    omega (arith, few_behind g (goal.at.overflow_mul-records g c).After-saturating_sub-by)
 
 pub overflow_add-records-in-BlockEnd : goal.overflow_add-records-in-BlockEnd
 overflow_add-records-in-BlockEnd g c =
-    let t = c.args.circuit.now in
-    let n = observable_total t in
-    let popped : HasPopped c.loop-i.blocks.items c.pop.new.self.items c.pop.result c.unwrap-block.result c.loop-i.records c.saturating_sub-later.result c.saturating_sub-by.result = record { rest_is = c.pop.ensures.items; block_is = c.unwrap-block.ensures; turns_is = c.saturating_sub-later.ensures; by_is = c.saturating_sub-by.ensures } in
-    let few = including-ends_few t c.loop-i.i c.loop-i.records n c.loop-i.lists c.loop-i.notes.items c.loop-i.closed.items c.loop-i.blocks.items c.pop.new.self.items c.pop.result c.unwrap-block.result c.saturating_sub-later.result c.saturating_sub-by.result c.loop-i.invariant c.in-BlockEnd.ensures popped in
-    omega (arith, few, c.requires.few)
+    omega (arith, few_behind g (goal.at.overflow_add-records-in-BlockEnd g c).After-saturating_sub-by)
 
 pub loop-i-preserved : goal.loop-i-preserved
 loop-i-preserved g c =
