@@ -299,7 +299,7 @@ const STEP: TextStep = TextStep::One {
 fn step_is_right(memory: Memory<'_>) -> Result<bool, Fault> {
     let mut circuit = CircuitBuilder::new(memory);
     if circuit.push(STEP).is_err() {
-        return refused(circuit.finish().is_empty());
+        return refused(circuit.finish().len() == 0);
     }
     Ok(circuit.finish().len() == 1)
 }
