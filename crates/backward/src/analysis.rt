@@ -17,7 +17,7 @@ use error_models::Model;
 use flat_lists::FlatLists;
 use programs::{Program, Walk};
 use std::alloc::{AllocError, Allocator};
-use step_model::{Cause, Fault, Place};
+use step_model::{Fault, Place};
 
 /// What an analysis answers.
 #[derive(Drop)]
@@ -27,11 +27,6 @@ pub enum Analysed<'a, A: Allocator + Copy> {
     /// The lowest random target, observable k being the number of detectors and k more, and its place.
     Random { which: u32, place: Place },
 }
-
-pub(crate) const NO_MEMORY: Fault = Fault {
-    cause: Cause::Memory,
-    line: 0,
-};
 
 /// The error model of a program, or the lowest target that is random. It fails only where memory runs out.
 pub fn analyse<'a, A: Allocator + Copy, T: Tracker + Drop>(
@@ -43,10 +38,7 @@ pub fn analyse<'a, A: Allocator + Copy, T: Tracker + Drop>(
     ensures ok { IfOk result (IsAnalysed program.now.listing) }
     ensures err { IfErr result (λ e. e ≡ memory_fault) }
 {
-    match find_model(alloc, program, tracker) {
-        Ok(analysed) => Ok(analysed),
-        Err(_) => Err(NO_MEMORY),
-    }
+    Ok(find_model(alloc, program, tracker)?)
 }
 
 fn find_model<'a, A: Allocator + Copy, T: Tracker + Drop>(

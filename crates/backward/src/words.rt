@@ -38,11 +38,11 @@ pub struct Words<S: TargetSet, A: Allocator + Copy> {
     spare: S,
 }
 
-/// Words kept by qubit, whose sets are rows of bits. `Words::dense` makes them.
+/// Words kept by qubit, whose sets are rows of bits.
 pub type DenseWords<A> = Words<BitRow<A>, A>;
 
 /// Words kept by qubit, whose sets are lists of the targets in them, so that sets of few among many targets take little
-/// memory. `Words::sparse` makes them.
+/// memory.
 pub type QubitSets<'a, A> = Words<SparseSet<'a, A>, A>;
 
 impl<S: TargetSet, A: Allocator + Copy> Model for Words<S, A> {
@@ -58,7 +58,7 @@ impl<S: TargetSet, A: Allocator + Copy> Model for Words<S, A> {
 
 impl<A: Allocator + Copy> Words<BitRow<A>, A> {
     /// An identity word for each of this many targets, on this many qubits. It fails only where memory runs out.
-    pub fn dense(alloc: A, qubits: usize, targets: usize) -> Result<Self, AllocError>
+    pub fn new(alloc: A, qubits: usize, targets: usize) -> Result<Self, AllocError>
         requires { targets ≤ 2 ^ 32 }
         ensures { IfOk result (λ w. w ≡ fresh qubits targets) }
     {
@@ -66,16 +66,16 @@ impl<A: Allocator + Copy> Words<BitRow<A>, A> {
     }
 
     /// An identity word for each target of a program, on its qubits. It fails only where memory runs out.
-    pub fn dense_for(alloc: A, program: &Program<'_, A>) -> Result<Self, AllocError>
+    pub fn of_program(alloc: A, program: &Program<'_, A>) -> Result<Self, AllocError>
         ensures { IfOk result (λ w. w ≡ fresh program.now.listing.qubits (length (targets_of program.now.listing))) }
     {
-        Words::dense(alloc, program.qubits() as usize, target_count(program))
+        DenseWords::new(alloc, program.qubits() as usize, target_count(program))
     }
 }
 
 impl<'a, A: Allocator + Copy> Words<SparseSet<'a, A>, A> {
     /// An identity word for each of this many targets, on this many qubits. It fails only where memory runs out.
-    pub fn sparse(alloc: &'a A, qubits: usize, targets: usize) -> Result<Self, AllocError>
+    pub fn new(alloc: &'a A, qubits: usize, targets: usize) -> Result<Self, AllocError>
         requires { targets ≤ 2 ^ 32 }
         ensures { IfOk result (λ w. w ≡ fresh qubits targets) }
     {
@@ -83,10 +83,10 @@ impl<'a, A: Allocator + Copy> Words<SparseSet<'a, A>, A> {
     }
 
     /// An identity word for each target of a program, on its qubits. It fails only where memory runs out.
-    pub fn sparse_for(alloc: &'a A, program: &Program<'_, A>) -> Result<Self, AllocError>
+    pub fn of_program(alloc: &'a A, program: &Program<'_, A>) -> Result<Self, AllocError>
         ensures { IfOk result (λ w. w ≡ fresh program.now.listing.qubits (length (targets_of program.now.listing))) }
     {
-        Words::sparse(alloc, program.qubits() as usize, target_count(program))
+        QubitSets::new(alloc, program.qubits() as usize, target_count(program))
     }
 }
 

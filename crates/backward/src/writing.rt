@@ -10,7 +10,6 @@ ghost use Rattle.backward.specs.Places.{IsLowestRandom, NoneIsRandom};
 ghost use Rattle.backward.specs.Tracked.{fresh};
 ghost use Rattle.backward.specs.private.Points.{PushesSome};
 
-use crate::analysis::NO_MEMORY;
 use crate::found::Found;
 use crate::places::random_target;
 use crate::point::Point;
@@ -20,16 +19,11 @@ use crate::tracker::Tracker;
 use error_models::{push_detector, push_observable};
 use programs::{Program, Walk};
 use std::alloc::{AllocError, Allocator};
-use step_model::{Cause, Fault, Place, Sink};
+use step_model::{Fault, Place, Sink};
 use streams::Pieces;
 
 /// How much text of error lines is held at once. A longer text is found in parts, in a second pass.
 const ROOM: usize = 2 << 20;
-
-const NO_WRITE: Fault = Fault {
-    cause: Cause::Write,
-    line: 0,
-};
 
 /// Writes the text of the error model of a program; or answers the lowest target that is random, observable k being the
 /// number of detectors and k more, and its place. Then nothing is written.
@@ -79,8 +73,8 @@ pub fn write_in_parts<'a, A: Allocator + Copy, T: Tracker + Drop, W: Sink>(
             Ok(None)
         }
         Ok(random) => Ok(random),
-        Err(_) if out.has_failed() => Err(NO_WRITE),
-        Err(_) => Err(NO_MEMORY),
+        Err(_) if out.has_failed() => Err(Fault::WRITE),
+        Err(_) => Err(Fault::MEMORY),
     }
 }
 

@@ -13,7 +13,7 @@ ghost use Rattle.engine.specs.Output as output;
 use crate::lines::random_lines;
 use crate::order::Status;
 use crate::refusing::refuse;
-use backward::{QubitSets, Words, write_analysis};
+use backward::{QubitSets, write_analysis};
 use frames::coin_pair;
 use programs::Program;
 use std::alloc::Allocator;
@@ -96,7 +96,7 @@ fn fresh_words<'s, A: Allocator + Copy>(
     ensures ok { IfOk result (λ words. words ≡ fresh program.now.listing.qubits (length (targets_of program.now.listing))) }
     ensures err { IfErr result (λ e. e ≡ memory_fault) }
 {
-    Ok(Words::sparse_for(alloc, program)?)
+    Ok(QubitSets::of_program(alloc, program)?)
 }
 
 /// The lines of a random target with its place.

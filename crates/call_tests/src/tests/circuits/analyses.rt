@@ -3,7 +3,7 @@
 use super::are_digits;
 use super::runs::differences;
 use super::table::text_of;
-use backward::{Analysed, Words, analyse};
+use backward::{Analysed, DenseWords, QubitSets, analyse};
 use frames::coin_pair;
 use plain_runs::place_of;
 use programs::Program;
@@ -35,7 +35,7 @@ pub(super) fn by_dense<'p>(
     alloc: Global,
     program: &Program<'p, Global>,
 ) -> Result<Analysed<'p, Global>, Fail> {
-    Ok(analyse(alloc, program, Words::dense_for(alloc, program)?)?)
+    Ok(analyse(alloc, program, DenseWords::of_program(alloc, program)?)?)
 }
 
 /// The analysis by lists of targets.
@@ -43,7 +43,7 @@ pub(super) fn by_sparse<'p>(
     alloc: &Global,
     program: &Program<'p, Global>,
 ) -> Result<Analysed<'p, Global>, Fail> {
-    Ok(analyse(*alloc, program, Words::sparse_for(alloc, program)?)?)
+    Ok(analyse(*alloc, program, QubitSets::of_program(alloc, program)?)?)
 }
 
 fn answer_holds(

@@ -1,7 +1,7 @@
 //! Analyses of a program, and frames.
 use super::growths::{Call, Memory, Ration};
 use super::lent::{Lent, are_false, identity_of};
-use backward::{Analysed, Words, analyse, write_analysis, write_in_parts};
+use backward::{Analysed, DenseWords, QubitSets, analyse, write_analysis, write_in_parts};
 use frames::{coin_pair, flips};
 use programs::Program;
 use step_model::{Fault, MemorySink, Place};
@@ -51,7 +51,7 @@ fn sparse_is_right<'m>(
     ration: Ration<'m>,
     program: &Program<'_, Memory<'m>>,
 ) -> Result<bool, Fault> {
-    match Words::sparse_for(&ration.memory, program) {
+    match QubitSets::of_program(&ration.memory, program) {
         Ok(words) => Ok(is_model(&analyse(ration.begin(), program, words)?)),
         Err(_) => Err(Fault::MEMORY),
     }
@@ -61,7 +61,7 @@ fn dense_is_right<'m>(
     ration: Ration<'m>,
     program: &Program<'_, Memory<'m>>,
 ) -> Result<bool, Fault> {
-    match Words::dense_for(ration.memory, program) {
+    match DenseWords::of_program(ration.memory, program) {
         Ok(words) => Ok(is_model(&analyse(ration.begin(), program, words)?)),
         Err(_) => Err(Fault::MEMORY),
     }
@@ -94,7 +94,7 @@ fn is_text(answer: Result<Option<(u32, Place)>, Fault>, bytes: &[u8]) -> Result<
 }
 
 fn text_is_right<'m>(ration: Ration<'m>, program: &Program<'_, Memory<'m>>) -> Result<bool, Fault> {
-    let Ok(words) = Words::sparse_for(&ration.memory, program) else {
+    let Ok(words) = QubitSets::of_program(&ration.memory, program) else {
         return Err(Fault::MEMORY);
     };
     let mut sink = MemorySink::new(ration.alloc);
@@ -107,7 +107,7 @@ fn parts_are_right<'m>(
     ration: Ration<'m>,
     program: &Program<'_, Memory<'m>>,
 ) -> Result<bool, Fault> {
-    let Ok(words) = Words::sparse_for(&ration.memory, program) else {
+    let Ok(words) = QubitSets::of_program(&ration.memory, program) else {
         return Err(Fault::MEMORY);
     };
     let mut sink = MemorySink::new(ration.alloc);

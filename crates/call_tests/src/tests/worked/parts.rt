@@ -1,5 +1,5 @@
 //! The text of an error model, written in parts to a device that fails at one of its calls.
-use backward::{Words, write_in_parts};
+use backward::{QubitSets, write_in_parts};
 use programs::Program;
 use std::alloc::{AllocError, Global};
 use std::io::{Error, ErrorKind, Write};
@@ -60,7 +60,7 @@ fn write_to(
     room: usize,
     sink: &mut WriterSink<Device>,
 ) -> Answer {
-    match Words::sparse_for(&alloc, program) {
+    match QubitSets::of_program(&alloc, program) {
         Ok(words) => write_in_parts(alloc, program, words, room, sink),
         Err(_) => Err(Fault::MEMORY),
     }

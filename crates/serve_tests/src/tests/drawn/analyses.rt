@@ -5,7 +5,7 @@ use super::models::model_holds;
 use super::parts::parts_hold;
 use super::randoms::random_holds;
 use super::{Finding, Tally};
-use backward::{Analysed, Words, analyse};
+use backward::{Analysed, DenseWords, QubitSets, analyse};
 use programs::Program;
 use std::alloc::Global;
 use step_model::{Fault, Place};
@@ -48,7 +48,7 @@ fn analyse_dense<'a>(
     alloc: Global,
     program: &Program<'a, Global>,
 ) -> Result<Analysed<'a, Global>, Fault> {
-    match Words::dense_for(alloc, program) {
+    match DenseWords::of_program(alloc, program) {
         Ok(words) => analyse(alloc, program, words),
         Err(_) => Err(Fault::MEMORY),
     }
@@ -67,7 +67,7 @@ fn analyse_sparse<'a>(
     alloc: &Global,
     program: &Program<'a, Global>,
 ) -> Result<Analysed<'a, Global>, Fault> {
-    match Words::sparse_for(alloc, program) {
+    match QubitSets::of_program(alloc, program) {
         Ok(words) => analyse(*alloc, program, words),
         Err(_) => Err(Fault::MEMORY),
     }

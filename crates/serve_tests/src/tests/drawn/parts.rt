@@ -1,6 +1,6 @@
 //! The analysis of a drawn text's program that is written in parts, by both trackers.
 
-use backward::{Analysed, Words, write_in_parts};
+use backward::{Analysed, DenseWords, QubitSets, write_in_parts};
 use error_models::Model;
 use programs::Program;
 use std::alloc::Global;
@@ -56,7 +56,7 @@ fn writes_by_sparse(
     random: Option<(u32, Place)>,
     text: &[u8],
 ) -> Result<bool, Fault> {
-    let Ok(words) = Words::sparse_for(&alloc, program) else {
+    let Ok(words) = QubitSets::of_program(&alloc, program) else {
         return Err(Fault::MEMORY);
     };
     let mut sink = MemorySink::new(alloc);
@@ -71,7 +71,7 @@ fn writes_by_dense(
     random: Option<(u32, Place)>,
     text: &[u8],
 ) -> Result<bool, Fault> {
-    let Ok(words) = Words::dense_for(alloc, program) else {
+    let Ok(words) = DenseWords::of_program(alloc, program) else {
         return Err(Fault::MEMORY);
     };
     let mut sink = MemorySink::new(alloc);
