@@ -34,7 +34,8 @@ pub fn analyse<'a, A: Allocator + Copy, T: Tracker + Drop>(
     program: &Program<'a, A>,
     tracker: T,
 ) -> Result<Analysed<'a, A>, Fault>
-    requires { T.tracked tracker ≡ fresh program.now.listing.qubits (length (targets_of program.now.listing)) }
+    requires { T.tracked tracker
+        ≡ fresh program.now.listing.qubits (length (targets_of program.now.listing)) }
     ensures ok { IfOk result (IsAnalysed program.now.listing) }
     ensures err { IfErr result (λ e. e ≡ memory_fault) }
 {
@@ -46,7 +47,8 @@ fn find_model<'a, A: Allocator + Copy, T: Tracker + Drop>(
     program: &Program<'a, A>,
     tracker: T,
 ) -> Result<Analysed<'a, A>, AllocError>
-    requires { T.tracked tracker ≡ fresh program.now.listing.qubits (length (targets_of program.now.listing)) }
+    requires { T.tracked tracker
+        ≡ fresh program.now.listing.qubits (length (targets_of program.now.listing)) }
     ensures { IfOk result (IsAnalysed program.now.listing) }
 {
     program.well_formed();
@@ -78,10 +80,13 @@ fn go_back<'s, 'p, 'a, A: Allocator + Copy, T: Tracker>(
     requires store { lines.old.program.now ≡ program.now }
     requires none { lines.old.model.lines ≡ [] }
     requires first { found.old.settled ≡ false }
-    requires passed { IsPassed program.now.listing at.old.walk.place (T.tracked at.old.tracker) found.old }
+    requires passed { IsPassed program.now.listing at.old.walk.place (T.tracked at.old.tracker)
+        found.old }
     ensures first { found.new.settled ≡ false }
-    ensures passed { OnOk result (IsPassed program.now.listing 0 (T.tracked at.new.tracker) found.new) }
-    ensures lines { OnOk result (lines.new.model.lines ≡ reverse (model_of program.now.listing).lines) }
+    ensures passed { OnOk result
+        (IsPassed program.now.listing 0 (T.tracked at.new.tracker) found.new) }
+    ensures lines { OnOk result
+        (lines.new.model.lines ≡ reverse (model_of program.now.listing).lines) }
 {
     program.well_formed();
     while at.walk.place() > 0 {

@@ -77,7 +77,10 @@ impl<'s, A: Allocator + Copy> ChangingLists<'s, A> {
         requires rec { rec < length self.old }
         requires targets { All (λ t. t < length (slice_index_or self.old rec [])) targets.now }
         requires long { All (λ set. length set ≤ 2 ^ 32) self.old }
-        ensures { OnOk result (self.new ≡ slice_set self.old rec (toggled_each targets.now (slice_index_or self.old rec []))) }
+        ensures { OnOk result
+            (self.new
+            ≡ slice_set self.old rec
+            (toggled_each targets.now (slice_index_or self.old rec []))) }
     {
         if targets.len() < MANY {
             put_back(&mut self.lists, &mut self.apart, self.targets, &self.set)?;
@@ -101,7 +104,9 @@ impl<'s, A: Allocator + Copy> ChangingLists<'s, A> {
     pub(crate) fn let_go(&mut self, records: usize)
         ensures kept { take records self.new ≡ take records self.old }
         ensures len { length self.new ≡ length self.old }
-        ensures long { (n : ℕ) → All (λ set. length set ≡ n) self.old → All (λ set. length set ≡ n) self.new }
+        ensures long { (n : ℕ)
+            → All (λ set. length set ≡ n) self.old
+            → All (λ set. length set ≡ n) self.new }
     {
         self.lists.let_go(records);
     }
@@ -140,7 +145,9 @@ fn take_out<'s, A: Allocator + Copy>(
     requires apart { IsApart targets lists.old apart.old set.old.items }
     requires few { targets ≤ 2 ^ 32 }
     requires rec { rec < length lists.old }
-    ensures rows { OnOk result (with_apart targets lists.new apart.new set.new.items ≡ with_apart targets lists.old apart.old set.old.items) }
+    ensures rows { OnOk result
+        (with_apart targets lists.new apart.new set.new.items
+        ≡ with_apart targets lists.old apart.old set.old.items) }
     ensures some { OnOk result (apart.new ≡ Some rec) }
     ensures apart { IsApart targets lists.new apart.new set.new.items }
 {

@@ -19,7 +19,9 @@ pub(crate) fn undo_collapse<T: Tracker>(
     requires terms { All (λ term. term.qubit < (T.tracked tracker.old).qubits) terms.now }
     requires ascending { IsStrictlyIncreasing targets.now }
     requires named { All (λ t. t < length (T.tracked tracker.old).words) targets.now }
-    ensures { OnOk result (T.tracked tracker.new ≡ undone_collapse targets.now terms.now reset (T.tracked tracker.old)) }
+    ensures { OnOk result
+        (T.tracked tracker.new
+        ≡ undone_collapse targets.now terms.now reset (T.tracked tracker.old)) }
 {
     clear_reset(tracker, reset);
     multiply(tracker, targets, terms)
@@ -39,7 +41,8 @@ fn multiply<T: Tracker>(tracker: &mut T, targets: &[u32], terms: &[Term]) -> Res
     requires terms { All (λ term. term.qubit < (T.tracked tracker.old).qubits) terms.now }
     requires ascending { IsStrictlyIncreasing targets.now }
     requires named { All (λ t. t < length (T.tracked tracker.old).words) targets.now }
-    ensures { OnOk result (T.tracked tracker.new ≡ times_terms targets.now terms.now (T.tracked tracker.old)) }
+    ensures { OnOk result
+        (T.tracked tracker.new ≡ times_terms targets.now terms.now (T.tracked tracker.old)) }
 {
     for term in terms {
         tracker.add(targets, term.letter, term.qubit as usize)?;

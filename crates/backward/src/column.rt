@@ -120,7 +120,10 @@ impl<S: TargetSet> Column<S> {
         requires first { length first.now ≡ length self.old }
         requires second { length second.now ≡ length self.old }
         requires spare { length (S.bits spare.old) ≡ length self.old }
-        ensures ok { OnOk result (self.new ≡ letters_product (map (combined of_first.0 of_first.1) first.now) (map (combined of_second.0 of_second.1) second.now)) }
+        ensures ok { OnOk result
+            (self.new
+            ≡ letters_product (map (combined of_first.0 of_first.1) first.now)
+            (map (combined of_second.0 of_second.1) second.now)) }
         ensures len { length self.new ≡ length self.old }
         ensures spare { length (S.bits spare.new) ≡ length (S.bits spare.old) }
     {
@@ -175,7 +178,8 @@ impl<S: TargetSet> Column<S> {
     ) -> Result<(), AllocError>
         requires from { length from.now ≡ length self.old }
         requires spare { length (S.bits spare.old) ≡ length self.old }
-        ensures ok { OnOk result (self.new ≡ letters_product self.old (map (combined x z) from.now)) }
+        ensures ok { OnOk result
+            (self.new ≡ letters_product self.old (map (combined x z) from.now)) }
         ensures len { length self.new ≡ length self.old }
         ensures spare { length (S.bits spare.new) ≡ length (S.bits spare.old) }
     {
@@ -194,7 +198,8 @@ impl<S: TargetSet> Column<S> {
     ) -> Result<(), AllocError>
         requires set { length (S.bits set.old) ≡ length self.now }
         requires spare { length (S.bits spare.old) ≡ length self.now }
-        ensures ok { OnOk result (S.bits set.new ≡ xor_rows (S.bits set.old) (map (letters_clash letter) self.now)) }
+        ensures ok { OnOk result
+            (S.bits set.new ≡ xor_rows (S.bits set.old) (map (letters_clash letter) self.now)) }
         ensures len { length (S.bits set.new) ≡ length (S.bits set.old) }
         ensures spare { length (S.bits spare.new) ≡ length (S.bits spare.old) }
     {
@@ -225,7 +230,10 @@ impl<S: TargetSet> Column<S> {
         hit: &mut Vec<u32, B>,
     ) -> Result<bool, AllocError>
         requires { length self.now ≡ length other.now }
-        ensures { IfOk result (λ done. done ≡ true → hit.new.items ≡ members (xor_rows (map (letters_clash Y) self.now) (map (letters_clash Y) other.now))) }
+        ensures { IfOk result (λ done. done ≡ true
+            → hit.new.items
+            ≡ members
+            (xor_rows (map (letters_clash Y) self.now) (map (letters_clash Y) other.now))) }
     {
         self.x.list_sum_of_four(&self.z, &other.x, &other.z, hit)
     }
@@ -312,8 +320,11 @@ pub(crate) fn multiply_both<S: TargetSet>(
     requires spare { length (S.bits spare.old) ≡ length first.old }
     requires x_is_lost { combined to_second.0 to_second.1 to_first.0 ≡ I }
     requires z_is_lost { combined to_second.0 to_second.1 to_first.1 ≡ I }
-    ensures first { OnOk result (first.new ≡ letters_product first.old (map (combined to_first.0 to_first.1) second.old)) }
-    ensures second { OnOk result (second.new ≡ letters_product second.old (map (combined to_second.0 to_second.1) first.old)) }
+    ensures first { OnOk result
+        (first.new ≡ letters_product first.old (map (combined to_first.0 to_first.1) second.old)) }
+    ensures second { OnOk result
+        (second.new
+        ≡ letters_product second.old (map (combined to_second.0 to_second.1) first.old)) }
     ensures first_len { length first.new ≡ length first.old }
     ensures second_len { length second.new ≡ length second.old }
     ensures spare { length (S.bits spare.new) ≡ length (S.bits spare.old) }

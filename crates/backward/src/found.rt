@@ -40,7 +40,9 @@ impl<'s, A: Allocator + Copy> Found<'s, A> {
     /// After the last step.
     pub(crate) fn new<'a>(alloc: &'s A, program: &Program<'a, A>) -> Result<Self, AllocError>
         ensures first { IfOk result (λ found. found.settled ≡ false) }
-        ensures passed { IfOk result (λ found. IsPassed program.now.listing (length program.now.listing.steps) (fresh program.now.listing.qubits (length (targets_of program.now.listing))) found) }
+        ensures passed { IfOk result (λ found. IsPassed program.now.listing
+            (length program.now.listing.steps)
+            (fresh program.now.listing.qubits (length (targets_of program.now.listing))) found) }
     {
         program.well_formed();
         let lists = ChangingLists::new(alloc, program)?;
@@ -73,9 +75,14 @@ impl<'s, A: Allocator + Copy> Found<'s, A> {
         requires terms { All (λ term. term.qubit < (T.tracked tracker.old).qubits) terms.now }
         requires words { length (T.tracked tracker.old).words ≡ targets }
         requires left { self.old.settled ≡ false → 0 < self.old.left }
-        requires long { self.old.settled ≡ false → length (opened targets self.old.latest.items) ≡ targets }
+        requires long { self.old.settled ≡ false
+            → length (opened targets self.old.latest.items) ≡ targets }
         ensures words { T.tracked tracker.new ≡ T.tracked tracker.old }
-        ensures latest { OnOk result (self.old.settled ≡ false → opened targets self.new.latest.items ≡ noted (self.old.left - 1) (anticommuting terms.now (T.tracked tracker.old)) (opened targets self.old.latest.items)) }
+        ensures latest { OnOk result
+            (self.old.settled ≡ false
+            → opened targets self.new.latest.items
+            ≡ noted (self.old.left - 1) (anticommuting terms.now (T.tracked tracker.old))
+            (opened targets self.old.latest.items)) }
         ensures left { OnOk result (self.old.settled ≡ false → self.new.left ≡ self.old.left - 1) }
         ensures lists { self.new.lists ≡ self.old.lists }
         ensures settled { self.new.settled ≡ self.old.settled }
@@ -119,7 +126,10 @@ impl<'s, A: Allocator + Copy> Found<'s, A> {
 
     /// Lets go of the lists from a record on, unless they are kept: the pass has gone over the collapse that makes it.
     pub(crate) fn let_go(&mut self, rec: Option<u32>)
-        ensures lists { (program : Listing) (place : ℕ) → IfSome rec (λ r. (records_before program place ≤ r) × (r ≤ self.old.known)) → HoldsLists program self.old.settled place self.old.known self.old.lists → HoldsLists program self.new.settled place self.new.known self.new.lists }
+        ensures lists { (program : Listing) (place : ℕ)
+            → IfSome rec (λ r. (records_before program place ≤ r) × (r ≤ self.old.known))
+            → HoldsLists program self.old.settled place self.old.known self.old.lists
+            → HoldsLists program self.new.settled place self.new.known self.new.lists }
         ensures settled { self.new.settled ≡ self.old.settled }
         ensures keeps { self.new.keeps ≡ self.old.keeps }
         ensures known { self.old.keeps ≡ true → self.new.known ≡ self.old.known }

@@ -27,7 +27,8 @@ pub(crate) fn multiply_pair<S: TargetSet>(
     requires long { All (λ column. length column ≡ length (S.bits spare.old)) columns.old }
     requires x_is_lost { combined to_second.0 to_second.1 to_first.0 ≡ I }
     requires z_is_lost { combined to_second.0 to_second.1 to_first.1 ≡ I }
-    ensures columns { OnOk result (columns.new ≡ multiplied_columns a b to_first to_second columns.old) }
+    ensures columns { OnOk result
+        (columns.new ≡ multiplied_columns a b to_first to_second columns.old) }
     ensures long { All (λ column. length column ≡ length (S.bits spare.old)) columns.new }
     ensures spare { length (S.bits spare.new) ≡ length (S.bits spare.old) }
 {
@@ -53,7 +54,8 @@ fn multiply_ahead<S: TargetSet>(
     requires long { All (λ column. length column ≡ length (S.bits spare.old)) columns.old }
     requires x_is_lost { combined to_second.0 to_second.1 to_first.0 ≡ I }
     requires z_is_lost { combined to_second.0 to_second.1 to_first.1 ≡ I }
-    ensures columns { OnOk result (columns.new ≡ multiplied_columns a b to_first to_second columns.old) }
+    ensures columns { OnOk result
+        (columns.new ≡ multiplied_columns a b to_first to_second columns.old) }
     ensures long { All (λ column. length column ≡ length (S.bits spare.old)) columns.new }
     ensures spare { length (S.bits spare.new) ≡ length (S.bits spare.old) }
 {
@@ -76,7 +78,8 @@ fn multiply_behind<S: TargetSet>(
     requires long { All (λ column. length column ≡ length (S.bits spare.old)) columns.old }
     requires x_is_lost { combined to_second.0 to_second.1 to_first.0 ≡ I }
     requires z_is_lost { combined to_second.0 to_second.1 to_first.1 ≡ I }
-    ensures columns { OnOk result (columns.new ≡ multiplied_columns a b to_first to_second columns.old) }
+    ensures columns { OnOk result
+        (columns.new ≡ multiplied_columns a b to_first to_second columns.old) }
     ensures long { All (λ column. length column ≡ length (S.bits spare.old)) columns.new }
     ensures spare { length (S.bits spare.new) ≡ length (S.bits spare.old) }
 {
@@ -100,7 +103,8 @@ pub(crate) fn exchange_pair<S: TargetSet>(
     requires different { a ≢ b }
     requires long { All (λ column. length column ≡ length (S.bits spare.old)) columns.old }
     requires other { length other.old ≡ length (S.bits spare.old) }
-    ensures columns { OnOk result (columns.new ≡ exchanged_columns a b to_first to_second columns.old) }
+    ensures columns { OnOk result
+        (columns.new ≡ exchanged_columns a b to_first to_second columns.old) }
     ensures long { All (λ column. length column ≡ length (S.bits spare.old)) columns.new }
     ensures other { length other.new ≡ length other.old }
     ensures spare { length (S.bits spare.new) ≡ length (S.bits spare.old) }
@@ -126,8 +130,14 @@ pub(crate) fn image_pair<S: TargetSet>(
     requires long { All (λ column. length column ≡ length (S.bits spare.old)) columns.now }
     requires first_long { length first.old ≡ length (S.bits spare.old) }
     requires second_long { length second.old ≡ length (S.bits spare.old) }
-    ensures first { OnOk result (first.new ≡ first_before gate (slice_index_or columns.now a []) (slice_index_or columns.now b [])) }
-    ensures second { OnOk result (second.new ≡ second_before gate (slice_index_or columns.now a []) (slice_index_or columns.now b [])) }
+    ensures first { OnOk result
+        (first.new
+        ≡ first_before gate (slice_index_or columns.now a [])
+        (slice_index_or columns.now b [])) }
+    ensures second { OnOk result
+        (second.new
+        ≡ second_before gate (slice_index_or columns.now a [])
+        (slice_index_or columns.now b [])) }
     ensures first_len { length first.new ≡ length first.old }
     ensures second_len { length second.new ≡ length second.old }
     ensures spare { length (S.bits spare.new) ≡ length (S.bits spare.old) }

@@ -29,12 +29,16 @@ pub(crate) fn step_back<'s, 'p, 'a, A: Allocator + Copy, T: Tracker, L: LineStor
     requires program { at.old.walk.program ≡ program.now }
     requires some { 0 < at.old.walk.place }
     requires store { L.program lines.old ≡ program.now }
-    requires passed { IsPassed program.now.listing at.old.walk.place (T.tracked at.old.tracker) found.old }
+    requires passed { IsPassed program.now.listing at.old.walk.place (T.tracked at.old.tracker)
+        found.old }
     ensures program { at.new.walk.program ≡ at.old.walk.program }
     ensures place { at.new.walk.place ≡ at.old.walk.place - 1 }
-    ensures passed { OnOk result (IsPassed program.now.listing at.new.walk.place (T.tracked at.new.tracker) found.new) }
+    ensures passed { OnOk result
+        (IsPassed program.now.listing at.new.walk.place (T.tracked at.new.tracker) found.new) }
     ensures stays { Stays found.old found.new }
-    ensures lines { OnOk result (Gives (L.holds lines.old) (L.holds lines.new) (lines_at program.now.listing at.new.walk.place)) }
+    ensures lines { OnOk result
+        (Gives (L.holds lines.old) (L.holds lines.new)
+        (lines_at program.now.listing at.new.walk.place)) }
     ensures store { L.program lines.new ≡ L.program lines.old }
 {
     program.well_formed();
@@ -52,14 +56,19 @@ fn go_over<'s, 'p, 'a, A: Allocator + Copy, T: Tracker, L: LineStore>(
     found: &mut Found<'s, A>,
     lines: &mut L,
 ) -> Result<(), AllocError>
-    requires step { IsStepAt program.now.listing at.old.walk.place (listed program.now.listing.qubits program.now.products step) }
+    requires step { IsStepAt program.now.listing at.old.walk.place
+        (listed program.now.listing.qubits program.now.products step) }
     requires named { IsStepOf program.now step }
     requires store { L.program lines.old ≡ program.now }
-    requires passed { IsPassed program.now.listing (at.old.walk.place + 1) (T.tracked at.old.tracker) found.old }
+    requires passed { IsPassed program.now.listing (at.old.walk.place + 1)
+        (T.tracked at.old.tracker) found.old }
     ensures walk { at.new.walk ≡ at.old.walk }
-    ensures passed { OnOk result (IsPassed program.now.listing at.old.walk.place (T.tracked at.new.tracker) found.new) }
+    ensures passed { OnOk result
+        (IsPassed program.now.listing at.old.walk.place (T.tracked at.new.tracker) found.new) }
     ensures stays { Stays found.old found.new }
-    ensures lines { OnOk result (Gives (L.holds lines.old) (L.holds lines.new) (lines_at program.now.listing at.old.walk.place)) }
+    ensures lines { OnOk result
+        (Gives (L.holds lines.old) (L.holds lines.new)
+        (lines_at program.now.listing at.old.walk.place)) }
     ensures store { L.program lines.new ≡ L.program lines.old }
 {
     program.well_formed();
@@ -115,11 +124,15 @@ fn collapse<'s, 'p, 'a, A: Allocator + Copy, T: Tracker, L: LineStore>(
 ) -> Result<(), AllocError>
     requires step { IsCollapseAt program.now at.old.walk.place terms.now reset rec flip }
     requires store { L.program lines.old ≡ program.now }
-    requires passed { IsPassed program.now.listing (at.old.walk.place + 1) (T.tracked at.old.tracker) found.old }
+    requires passed { IsPassed program.now.listing (at.old.walk.place + 1)
+        (T.tracked at.old.tracker) found.old }
     ensures walk { at.new.walk ≡ at.old.walk }
-    ensures passed { OnOk result (IsPassed program.now.listing at.old.walk.place (T.tracked at.new.tracker) found.new) }
+    ensures passed { OnOk result
+        (IsPassed program.now.listing at.old.walk.place (T.tracked at.new.tracker) found.new) }
     ensures stays { Stays found.old found.new }
-    ensures lines { OnOk result (Gives (L.holds lines.old) (L.holds lines.new) (lines_at program.now.listing at.old.walk.place)) }
+    ensures lines { OnOk result
+        (Gives (L.holds lines.old) (L.holds lines.new)
+        (lines_at program.now.listing at.old.walk.place)) }
     ensures store { L.program lines.new ≡ L.program lines.old }
 {
     program.well_formed();
@@ -142,7 +155,8 @@ fn note_flip<'a, A: Allocator + Copy, L: LineStore>(
     requires flip { IsNamedFlip program.now flip }
     requires named { All (λ t. t < length (targets_of program.now.listing)) targets.now }
     requires store { L.program lines.old ≡ program.now }
-    ensures lines { OnOk result (Gives (L.holds lines.old) (L.holds lines.new) (flip_line program.now flip targets.now)) }
+    ensures lines { OnOk result
+        (Gives (L.holds lines.old) (L.holds lines.new) (flip_line program.now flip targets.now)) }
     ensures store { L.program lines.new ≡ L.program lines.old }
 {
     match flip {
@@ -161,7 +175,9 @@ fn note_line<'a, A: Allocator + Copy, L: LineStore>(
     requires entry { entry < length program.now.kept }
     requires named { All (λ t. t < length (targets_of program.now.listing)) targets.now }
     requires store { L.program lines.old ≡ program.now }
-    ensures lines { OnOk result (Gives (L.holds lines.old) (L.holds lines.new) (line_for (kept_at program.now entry).text targets.now)) }
+    ensures lines { OnOk result
+        (Gives (L.holds lines.old) (L.holds lines.new)
+        (line_for (kept_at program.now entry).text targets.now)) }
     ensures store { L.program lines.new ≡ L.program lines.old }
 {
     if targets.is_empty() {
@@ -182,11 +198,15 @@ fn fault<'s, 'p, 'a, A: Allocator + Copy, T: Tracker, L: LineStore>(
     requires step { IsStepAt program.now.listing at.old.walk.place (Fault name.number) }
     requires named { IsNamed program.now name }
     requires store { L.program lines.old ≡ program.now }
-    requires passed { IsPassed program.now.listing (at.old.walk.place + 1) (T.tracked at.old.tracker) found.old }
+    requires passed { IsPassed program.now.listing (at.old.walk.place + 1)
+        (T.tracked at.old.tracker) found.old }
     ensures walk { at.new.walk ≡ at.old.walk }
-    ensures passed { OnOk result (IsPassed program.now.listing at.old.walk.place (T.tracked at.new.tracker) found.new) }
+    ensures passed { OnOk result
+        (IsPassed program.now.listing at.old.walk.place (T.tracked at.new.tracker) found.new) }
     ensures stays { Stays found.old found.new }
-    ensures lines { OnOk result (Gives (L.holds lines.old) (L.holds lines.new) (lines_at program.now.listing at.old.walk.place)) }
+    ensures lines { OnOk result
+        (Gives (L.holds lines.old) (L.holds lines.new)
+        (lines_at program.now.listing at.old.walk.place)) }
     ensures store { L.program lines.new ≡ L.program lines.old }
 {
     if !lines.wants() {
@@ -208,9 +228,11 @@ fn feedback<'s, 'p, 'a, A: Allocator + Copy, T: Tracker>(
     found: &mut Found<'s, A>,
 ) -> Result<(), AllocError>
     requires step { IsFeedbackAt program.now.listing at.old.walk.place term rec }
-    requires passed { IsPassed program.now.listing (at.old.walk.place + 1) (T.tracked at.old.tracker) found.old }
+    requires passed { IsPassed program.now.listing (at.old.walk.place + 1)
+        (T.tracked at.old.tracker) found.old }
     ensures walk { at.new.walk ≡ at.old.walk }
-    ensures passed { OnOk result (IsPassed program.now.listing at.old.walk.place (T.tracked at.new.tracker) found.new) }
+    ensures passed { OnOk result
+        (IsPassed program.now.listing at.old.walk.place (T.tracked at.new.tracker) found.new) }
     ensures stays { Stays found.old found.new }
 {
     if found.settled {

@@ -23,7 +23,8 @@ pub(crate) fn note<A: Allocator + Copy>(
 ) -> Result<(), AllocError>
     requires long { length (opened targets found.old.items) ≡ targets }
     requires hit { All (λ t. t < targets) hit.now }
-    ensures { OnOk result (opened targets found.new.items ≡ noted value hit.now (opened targets found.old.items)) }
+    ensures { OnOk result
+        (opened targets found.new.items ≡ noted value hit.now (opened targets found.old.items)) }
 {
     if hit.is_empty() {
         return Ok(());
@@ -81,8 +82,11 @@ fn lowest_at_start<'a, A: Allocator + Copy, T: Tracker>(
     tracker: &mut T,
     hit: &mut Vec<u32, A>,
 ) -> Result<Vec<Option<u32>, A>, AllocError>
-    requires { T.tracked tracker.old ≡ tracked_before program.now.listing program.now.listing.steps }
-    ensures lowest { IfOk result (λ lowest. opened (length (targets_of program.now.listing)) lowest.items ≡ lowest_below program.now.listing program.now.listing.qubits) }
+    requires { T.tracked tracker.old
+        ≡ tracked_before program.now.listing program.now.listing.steps }
+    ensures lowest { IfOk result (λ lowest. opened (length (targets_of program.now.listing))
+        lowest.items
+        ≡ lowest_below program.now.listing program.now.listing.qubits) }
     ensures words { OnOk result (T.tracked tracker.new ≡ T.tracked tracker.old) }
 {
     program.well_formed();
@@ -108,7 +112,8 @@ pub(crate) fn random_target<'s, 'a, A: Allocator + Copy, T: Tracker>(
     requires first { found.old.settled ≡ false }
     requires passed { IsPassed program.now.listing 0 (T.tracked tracker.old) found.old }
     ensures none { IfOk result (λ random. IfNone random (NoneIsRandom program.now.listing)) }
-    ensures lowest { IfOk result (λ random. IfSome random (λ random. IsLowestRandom program.now.listing random.0 random.1)) }
+    ensures lowest { IfOk result (λ random. IfSome random (λ random. IsLowestRandom
+        program.now.listing random.0 random.1)) }
     ensures words { OnOk result (T.tracked tracker.new ≡ T.tracked tracker.old) }
     ensures lists { found.new.lists ≡ found.old.lists }
     ensures known { found.new.known ≡ found.old.known }
@@ -127,10 +132,18 @@ fn lowest_random(
     lowest: &[Option<u32>],
 ) -> Option<(u32, Place)>
     requires few { targets ≤ 2 ^ 32 }
-    ensures none { IfNone result ((d : ℕ) → d < targets → place_from (slice_index_or latest.now d None) (slice_index_or lowest.now d None) ≡ None) }
+    ensures none { IfNone result
+        ((d : ℕ)
+        → d < targets
+        → place_from (slice_index_or latest.now d None) (slice_index_or lowest.now d None)
+        ≡ None) }
     ensures in_range { IfSome result (λ r. r.0 < targets) }
-    ensures place { IfSome result (λ r. place_from (slice_index_or latest.now r.0 None) (slice_index_or lowest.now r.0 None) ≡ Some r.1) }
-    ensures before { IfSome result (λ r. (d : ℕ) → d < r.0 → place_from (slice_index_or latest.now d None) (slice_index_or lowest.now d None) ≡ None) }
+    ensures place { IfSome result (λ r. place_from (slice_index_or latest.now r.0 None)
+        (slice_index_or lowest.now r.0 None)
+        ≡ Some r.1) }
+    ensures before { IfSome result (λ r. (d : ℕ)
+        → d < r.0
+        → place_from (slice_index_or latest.now d None) (slice_index_or lowest.now d None) ≡ None) }
 {
     for d in 0..targets {
         if let Some(place) = place_from(noted_for(latest, d), noted_for(lowest, d)) {

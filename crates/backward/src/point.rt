@@ -38,7 +38,8 @@ impl<'p, 'a, A: Allocator + Copy, T: Tracker> Point<'p, 'a, A, T> {
     pub(crate) fn restore(&mut self, point: KeptPoint<'p, 'a, A>) -> Result<(), AllocError>
         requires { Fit (T.tracked self.old.tracker) point.lists }
         ensures walk { OnOk result (self.new.walk ≡ point.entry.walk) }
-        ensures words { OnOk result (T.tracked self.new.tracker ≡ restored point.entry.lists (T.tracked self.old.tracker)) }
+        ensures words { OnOk result
+            (T.tracked self.new.tracker ≡ restored point.entry.lists (T.tracked self.old.tracker)) }
     {
         self.tracker.restore(&point.lists)?;
         self.walk = point.walk;

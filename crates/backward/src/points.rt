@@ -22,12 +22,15 @@ pub(crate) fn leave_points<'s, 'p, 'a, A: Allocator + Copy, T: Tracker>(
 ) -> Result<Vec<KeptPoint<'p, 'a, A>, A>, AllocError>
     requires program { at.old.walk.program ≡ program.now }
     requires from { from ≤ at.old.walk.place }
-    requires passed { IsPassed program.now.listing at.old.walk.place (T.tracked at.old.tracker) found.old }
+    requires passed { IsPassed program.now.listing at.old.walk.place (T.tracked at.old.tracker)
+        found.old }
     ensures program { at.new.walk.program ≡ at.old.walk.program }
     ensures place { OnOk result (at.new.walk.place ≡ from) }
-    ensures passed { OnOk result (IsPassed program.now.listing at.new.walk.place (T.tracked at.new.tracker) found.new) }
+    ensures passed { OnOk result
+        (IsPassed program.now.listing at.new.walk.place (T.tracked at.new.tracker) found.new) }
     ensures stays { Stays found.old found.new }
-    ensures points { IfOk result (λ points. ArePoints program.now from at.old.walk.place points.items) }
+    ensures points { IfOk result (λ points. ArePoints program.now from at.old.walk.place
+        points.items) }
 {
     let mut points = Vec::new(*found.alloc);
     if at.walk.place() > from {

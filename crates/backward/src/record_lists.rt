@@ -141,11 +141,16 @@ impl<'s, A: Allocator + Copy> RecordLists<'s, A> {
         requires rec { rec < length self.old }
         requires targets { All (λ t. t < length (slice_index_or self.old rec [])) targets.now }
         requires long { All (λ set. length set ≤ 2 ^ 32) self.old }
-        ensures ok { OnOk result (self.new ≡ slice_set self.old rec (toggled_each targets.now (slice_index_or self.old rec []))) }
+        ensures ok { OnOk result
+            (self.new
+            ≡ slice_set self.old rec
+            (toggled_each targets.now (slice_index_or self.old rec []))) }
 
         // After an error too.
         ensures len { length self.new ≡ length self.old }
-        ensures long { (n : ℕ) → All (λ set. length set ≡ n) self.old → All (λ set. length set ≡ n) self.new }
+        ensures long { (n : ℕ)
+            → All (λ set. length set ≡ n) self.old
+            → All (λ set. length set ≡ n) self.new }
     {
         self.shorten()?;
         self.put(rec, targets)
@@ -154,8 +159,12 @@ impl<'s, A: Allocator + Copy> RecordLists<'s, A> {
     /// Makes the set of a record empty. Takes no memory.
     pub(crate) fn empty(&mut self, rec: usize)
         requires { rec < length self.old }
-        ensures set { (m : ℕ) → All (λ set. length set ≡ m) self.old → self.new ≡ slice_set self.old rec (replicate m false) }
-        ensures long { (n : ℕ) → All (λ set. length set ≡ n) self.old → All (λ set. length set ≡ n) self.new }
+        ensures set { (m : ℕ)
+            → All (λ set. length set ≡ m) self.old
+            → self.new ≡ slice_set self.old rec (replicate m false) }
+        ensures long { (n : ℕ)
+            → All (λ set. length set ≡ n) self.old
+            → All (λ set. length set ≡ n) self.new }
     {
         self.places[rec] = 0;
     }
@@ -165,7 +174,9 @@ impl<'s, A: Allocator + Copy> RecordLists<'s, A> {
     pub(crate) fn let_go(&mut self, records: usize)
         ensures kept { take records self.new ≡ take records self.old }
         ensures len { length self.new ≡ length self.old }
-        ensures long { (n : ℕ) → All (λ set. length set ≡ n) self.old → All (λ set. length set ≡ n) self.new }
+        ensures long { (n : ℕ)
+            → All (λ set. length set ≡ n) self.old
+            → All (λ set. length set ≡ n) self.new }
     {
         let end = self.asked.min(self.places.len());
         if records < end {
@@ -209,9 +220,14 @@ impl<'s, A: Allocator + Copy> RecordLists<'s, A> {
     fn put(&mut self, rec: usize, targets: &[u32]) -> Result<(), AllocError>
         requires rec { rec < length self.old }
         requires targets { All (λ t. t < length (slice_index_or self.old rec [])) targets.now }
-        ensures ok { OnOk result (self.new ≡ slice_set self.old rec (toggled_each targets.now (slice_index_or self.old rec []))) }
+        ensures ok { OnOk result
+            (self.new
+            ≡ slice_set self.old rec
+            (toggled_each targets.now (slice_index_or self.old rec []))) }
         ensures len { length self.new ≡ length self.old }
-        ensures long { (n : ℕ) → All (λ set. length set ≡ n) self.old → All (λ set. length set ≡ n) self.new }
+        ensures long { (n : ℕ)
+            → All (λ set. length set ≡ n) self.old
+            → All (λ set. length set ≡ n) self.new }
     {
         let first = put_each(&mut self.links, self.places[rec], targets)?;
         self.places[rec] = first;
@@ -232,7 +248,8 @@ fn many_links(links: usize, records: usize) -> usize
 
 // How many records the targets list together, each as often as it is listed.
 fn listed_count<'a, A: Allocator + Copy>(program: &Program<'a, A>) -> usize
-    ensures { sum_by length (targets_of program.now.listing) < 2 ^ 64 → result ≡ sum_by length (targets_of program.now.listing) }
+    ensures { sum_by length (targets_of program.now.listing) < 2 ^ 64
+        → result ≡ sum_by length (targets_of program.now.listing) }
 {
     let mut count: usize = 0;
     for t in 0..target_count(program) {
@@ -251,7 +268,11 @@ fn put_in_each<A: Allocator + Copy>(
     requires named { All (λ r. r < length places.old.items) named.now }
     requires lists { AreLists target links.old.items places.old.items }
     ensures lists { OnOk result (AreLists (target + 1) links.new.items places.new.items) }
-    ensures rows { OnOk result ((m : ℕ) → target < m → rows_at m links.new.items places.new.items ≡ toggled_in_each target named.now (rows_at m links.old.items places.old.items)) }
+    ensures rows { OnOk result
+        ((m : ℕ)
+        → target < m
+        → rows_at m links.new.items places.new.items
+        ≡ toggled_in_each target named.now (rows_at m links.old.items places.old.items)) }
 {
     for rec in named {
         let first = put_first(links, places[*rec as usize], target)?;
@@ -269,7 +290,8 @@ fn put_each<A: Allocator + Copy>(
 ) -> Result<u32, AllocError>
     requires back { LeadBack links.old.items }
     requires placed { place ≤ length links.old.items }
-    ensures put { IfOk result (λ first. IsPutAt targets.now links.old.items place links.new.items first) }
+    ensures put { IfOk result (λ first. IsPutAt targets.now links.old.items place links.new.items
+        first) }
     ensures grown { IsGrown links.old.items links.new.items }
 {
     let mut first = place;
@@ -287,7 +309,8 @@ fn put_first<A: Allocator + Copy>(
 ) -> Result<u32, AllocError>
     requires back { LeadBack links.old.items }
     requires placed { place ≤ length links.old.items }
-    ensures put { IfOk result (λ first. IsPutAt (target ∷ []) links.old.items place links.new.items first) }
+    ensures put { IfOk result (λ first. IsPutAt (target ∷ []) links.old.items place links.new.items
+        first) }
     ensures grown { IsGrown links.old.items links.new.items }
 {
     if links.len() >= MOST_LINKS {
@@ -304,7 +327,8 @@ fn put_first<A: Allocator + Copy>(
 fn empty_lists<A: Allocator + Copy>(places: &mut Vec<u32, A>, from: usize, to: usize)
     requires order { from ≤ to }
     requires within { to ≤ length places.old.items }
-    ensures { places.new.items ≡ take from places.old.items ++ (replicate (to - from) 0 ++ drop to places.old.items) }
+    ensures { places.new.items
+        ≡ take from places.old.items ++ (replicate (to - from) 0 ++ drop to places.old.items) }
 {
     places.as_mut_slice()[from..to].fill(0);
 }

@@ -221,9 +221,15 @@ fn toggle_in<A: Allocator + Copy>(
     items: &mut SmallVec<u32, 4, A>,
     target: u32,
 ) -> Result<(), AllocError>
-    ensures ok { OnOk result ((m : ℕ) → DescendsBelow m items.old.items → items.new.items ≡ xor_sets (target ∷ []) items.old.items) }
+    ensures ok { OnOk result
+        ((m : ℕ)
+        → DescendsBelow m items.old.items
+        → items.new.items ≡ xor_sets (target ∷ []) items.old.items) }
     ensures err { OnErr result (items.new.items ≡ items.old.items) }
-    ensures descends { (m : ℕ) → target < m → DescendsBelow m items.old.items → DescendsBelow m items.new.items }
+    ensures descends { (m : ℕ)
+        → target < m
+        → DescendsBelow m items.old.items
+        → DescendsBelow m items.new.items }
 {
     let place = place_of(items.as_slice(), target);
     if place > 0 && items.as_slice()[place - 1] == target {
@@ -384,7 +390,8 @@ fn list_sum<B: Allocator + Copy>(
     second: &[u32],
     into: &mut Vec<u32, B>,
 ) -> Result<bool, AllocError>
-    ensures { IfOk result (λ done. done ≡ true → into.new.items ≡ reverse (xor_sets first.now second.now)) }
+    ensures { IfOk result (λ done. done ≡ true
+        → into.new.items ≡ reverse (xor_sets first.now second.now)) }
 {
     if first.is_empty() {
         list_ascending(second, into)?;
@@ -411,7 +418,9 @@ fn list_sum_of_four<B: Allocator + Copy>(
     fourth: &[u32],
     into: &mut Vec<u32, B>,
 ) -> Result<bool, AllocError>
-    ensures { IfOk result (λ done. done ≡ true → into.new.items ≡ reverse (xor_sets (xor_sets first.now second.now) (xor_sets third.now fourth.now))) }
+    ensures { IfOk result (λ done. done ≡ true
+        → into.new.items
+        ≡ reverse (xor_sets (xor_sets first.now second.now) (xor_sets third.now fourth.now))) }
 {
     if first.len() > FOURTH || second.len() > FOURTH {
         return Ok(false);

@@ -34,14 +34,22 @@ fn find_back<'s, 'p, 'a, A: Allocator + Copy, T: Tracker>(
     requires program { at.old.walk.program ≡ program.now }
     requires from { from ≤ at.old.walk.place }
     requires store { lines.old.program.now ≡ program.now }
-    requires passed { IsPassed program.now.listing at.old.walk.place (T.tracked at.old.tracker) found.old }
+    requires passed { IsPassed program.now.listing at.old.walk.place (T.tracked at.old.tracker)
+        found.old }
     ensures program { at.new.walk.program ≡ at.old.walk.program }
     ensures from { OnOk result (from ≤ at.new.walk.place) }
     ensures back { at.new.walk.place ≤ at.old.walk.place }
     ensures some { OnOk result (from < at.old.walk.place → at.new.walk.place < at.old.walk.place) }
-    ensures passed { OnOk result (IsPassed program.now.listing at.new.walk.place (T.tracked at.new.tracker) found.new) }
+    ensures passed { OnOk result
+        (IsPassed program.now.listing at.new.walk.place (T.tracked at.new.tracker) found.new) }
     ensures stays { Stays found.old found.new }
-    ensures lines { OnOk result ((given : List ErrorLine) → HoldsLines lines.old.text given → HoldsLines lines.new.text (given ++ reverse (lines_between program.now.listing at.new.walk.place at.old.walk.place))) }
+    ensures lines { OnOk result
+        ((given : List ErrorLine)
+        → HoldsLines lines.old.text given
+        → HoldsLines lines.new.text
+        (given
+        ++ reverse
+        (lines_between program.now.listing at.new.walk.place at.old.walk.place))) }
     ensures store { lines.new.program.now ≡ lines.old.program.now }
 {
     let to = at.walk.place();
@@ -75,10 +83,12 @@ pub(crate) fn cut<'s, 'p, 'a, A: Allocator + Copy, T: Tracker>(
     requires from { from ≤ at.old.walk.place }
     requires store { lines.old.program.now ≡ program.now }
     requires none { lines.old.text.text ≡ [] }
-    requires passed { IsPassed program.now.listing at.old.walk.place (T.tracked at.old.tracker) found.old }
+    requires passed { IsPassed program.now.listing at.old.walk.place (T.tracked at.old.tracker)
+        found.old }
     ensures program { at.new.walk.program ≡ at.old.walk.program }
     ensures place { OnOk result (at.new.walk.place ≡ from) }
-    ensures passed { OnOk result (IsPassed program.now.listing from (T.tracked at.new.tracker) found.new) }
+    ensures passed { OnOk result
+        (IsPassed program.now.listing from (T.tracked at.new.tracker) found.new) }
     ensures settled { found.new.settled ≡ found.old.settled }
     ensures keeps { OnOk result (found.new.keeps ≡ true) }
     ensures known { found.old.keeps ≡ true → found.new.known ≡ found.old.known }
@@ -124,12 +134,17 @@ pub(crate) fn write_parts<'s, 'p, 'a, A: Allocator + Copy, T: Tracker, W: Sink>(
     requires store { lines.old.program.now ≡ program.now }
     requires none { lines.old.text.text ≡ [] }
     ensures tracker { OnOk result (IsFor program.now.listing (T.tracked at.new.tracker)) }
-    ensures ready { OnOk result (IsReady program.now.listing (first_place from points.entry.items) found.new) }
+    ensures ready { OnOk result
+        (IsReady program.now.listing (first_place from points.entry.items) found.new) }
     ensures known { found.new.known ≡ found.old.known }
     ensures none { OnOk result (lines.new.text.text ≡ []) }
     ensures store { lines.new.program.now ≡ lines.old.program.now }
-    ensures text { OnOk result (Pushes W.taken W.failures sink.old sink.new out.old out.new (text_between program.now.listing from (first_place from points.entry.items))) }
-    ensures some { OnErr result (PushesSome W.taken W.failures sink.old sink.new out.old out.new (text_between program.now.listing from (first_place from points.entry.items))) }
+    ensures text { OnOk result
+        (Pushes W.taken W.failures sink.old sink.new out.old out.new
+        (text_between program.now.listing from (first_place from points.entry.items))) }
+    ensures some { OnErr result
+        (PushesSome W.taken W.failures sink.old sink.new out.old out.new
+        (text_between program.now.listing from (first_place from points.entry.items))) }
 {
     let mut start = from;
     while let Some(point) = points.pop() {

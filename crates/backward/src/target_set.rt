@@ -26,7 +26,10 @@ pub trait TargetSet: Drop {
     /// Puts a target in where it isn't there, and takes it out where it is.
     fn toggle(&mut self, target: u32) -> Result<(), AllocError>
         requires { target < length (bits self.old) }
-        ensures ok { OnOk result (bits self.new ≡ slice_set (bits self.old) target (not (slice_index_or (bits self.old) target false))) }
+        ensures ok { OnOk result
+            (bits self.new
+            ≡ slice_set (bits self.old) target
+            (not (slice_index_or (bits self.old) target false))) }
         ensures len { length (bits self.new) ≡ length (bits self.old) };
 
     /// Toggles each target of another set. What the spare set held is lost.

@@ -9,7 +9,8 @@ use std::alloc::Allocator;
 pub(crate) fn target_count<'a, A: Allocator + Copy>(program: &Program<'a, A>) -> usize
     ensures count { result ≡ length (targets_of program.now.listing) }
     ensures few { result ≤ 1001024 }
-    ensures records { All (All (λ r. r < program.now.listing.records)) (targets_of program.now.listing) }
+    ensures records { All (All (λ r. r < program.now.listing.records))
+        (targets_of program.now.listing) }
 {
     program.well_formed();
     program.detector_count() + program.observable_count()

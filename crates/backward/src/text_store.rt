@@ -73,7 +73,8 @@ impl<'p, 'a, A: Allocator + Copy> TextStore<'p, 'a, A> {
     pub(crate) fn take_text(&mut self) -> HeldText<A>
         ensures text { result ≡ self.old.text.text }
         ensures none { self.new.text.text ≡ [] }
-        ensures detectors { self.old.text.detectors ≡ length self.old.program.now.listing.detectors }
+        ensures detectors { self.old.text.detectors
+            ≡ length self.old.program.now.listing.detectors }
         ensures program { self.new.program.now ≡ self.old.program.now }
     {
         self.text.take_text()

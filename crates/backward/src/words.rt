@@ -67,7 +67,8 @@ impl<A: Allocator + Copy> Words<BitRow<A>, A> {
 
     /// An identity word for each target of a program, on its qubits. It fails only where memory runs out.
     pub fn of_program(alloc: A, program: &Program<'_, A>) -> Result<Self, AllocError>
-        ensures { IfOk result (λ w. w ≡ fresh program.now.listing.qubits (length (targets_of program.now.listing))) }
+        ensures { IfOk result (λ w. w
+            ≡ fresh program.now.listing.qubits (length (targets_of program.now.listing))) }
     {
         DenseWords::new(alloc, program.qubits() as usize, target_count(program))
     }
@@ -84,7 +85,8 @@ impl<'a, A: Allocator + Copy> Words<SparseSet<'a, A>, A> {
 
     /// An identity word for each target of a program, on its qubits. It fails only where memory runs out.
     pub fn of_program(alloc: &'a A, program: &Program<'_, A>) -> Result<Self, AllocError>
-        ensures { IfOk result (λ w. w ≡ fresh program.now.listing.qubits (length (targets_of program.now.listing))) }
+        ensures { IfOk result (λ w. w
+            ≡ fresh program.now.listing.qubits (length (targets_of program.now.listing))) }
     {
         QubitSets::new(alloc, program.qubits() as usize, target_count(program))
     }
@@ -128,7 +130,8 @@ impl<S: TargetSet, A: Allocator + Copy> Words<S, A> {
         requires different { a ≢ b }
         requires x_is_lost { combined to_second.0 to_second.1 to_first.0 ≡ I }
         requires z_is_lost { combined to_second.0 to_second.1 to_first.1 ≡ I }
-        ensures { OnOk result (self.new ≡ each_word (multiplied_at a b to_first to_second) self.old) }
+        ensures { OnOk result
+            (self.new ≡ each_word (multiplied_at a b to_first to_second) self.old) }
     {
         multiply_pair(
             self.columns.as_mut_slice(),
@@ -151,7 +154,8 @@ impl<S: TargetSet, A: Allocator + Copy> Words<S, A> {
         requires first_in_range { a < self.old.qubits }
         requires second_in_range { b < self.old.qubits }
         requires different { a ≢ b }
-        ensures { OnOk result (self.new ≡ each_word (exchanged_at a b to_first to_second) self.old) }
+        ensures { OnOk result
+            (self.new ≡ each_word (exchanged_at a b to_first to_second) self.old) }
     {
         exchange_pair(
             self.columns.as_mut_slice(),
@@ -206,7 +210,8 @@ impl<S: TargetSet, A: Allocator + Copy> Words<S, A> {
     ) -> Result<bool, AllocError>
         requires first_in_range { first.now.qubit < self.now.qubits }
         requires second_in_range { second.now.qubit < self.now.qubits }
-        ensures { IfOk result (λ done. done ≡ true → hit.new.items ≡ anticommuting (first.now ∷ second.now ∷ []) self.now) }
+        ensures { IfOk result (λ done. done ≡ true
+            → hit.new.items ≡ anticommuting (first.now ∷ second.now ∷ []) self.now) }
     {
         if is_y(first.letter) && is_y(second.letter) {
             return self.list_both_y(first, second, hit);
@@ -230,7 +235,8 @@ impl<S: TargetSet, A: Allocator + Copy> Words<S, A> {
         requires second_in_range { second.now.qubit < self.now.qubits }
         requires first_is_y { first.now.letter ≡ Y }
         requires second_is_y { second.now.letter ≡ Y }
-        ensures { IfOk result (λ done. done ≡ true → hit.new.items ≡ anticommuting (first.now ∷ second.now ∷ []) self.now) }
+        ensures { IfOk result (λ done. done ≡ true
+            → hit.new.items ≡ anticommuting (first.now ∷ second.now ∷ []) self.now) }
     {
         let other = &self.columns[second.qubit as usize];
         self.columns[first.qubit as usize].list_clashing_y(other, hit)
@@ -387,7 +393,12 @@ fn clashing<S: TargetSet>(
     requires terms { All (λ term. term.qubit < length columns.now) terms.now }
     requires long { All (λ column. length column ≡ length (S.bits set.old)) columns.now }
     requires spare { length (S.bits spare.old) ≡ length (S.bits set.old) }
-    ensures ok { OnOk result (S.bits set.new ≡ map (λ t. anticommute (word_at columns.now t) (word_of_terms (length columns.now) terms.now)) (range_with_len 0 (length (S.bits set.old)))) }
+    ensures ok { OnOk result
+        (S.bits set.new
+        ≡ map
+        (λ t. anticommute (word_at columns.now t)
+        (word_of_terms (length columns.now) terms.now))
+        (range_with_len 0 (length (S.bits set.old)))) }
     ensures len { length (S.bits set.new) ≡ length (S.bits set.old) }
     ensures spare { length (S.bits spare.new) ≡ length (S.bits spare.old) }
 {

@@ -36,13 +36,20 @@ pub fn write_analysis<'a, A: Allocator + Copy, T: Tracker + Drop, W: Sink>(
     tracker: T,
     sink: &mut W,
 ) -> Result<Option<(u32, Place)>, Fault>
-    requires { T.tracked tracker ≡ fresh program.now.listing.qubits (length (targets_of program.now.listing)) }
+    requires { T.tracked tracker
+        ≡ fresh program.now.listing.qubits (length (targets_of program.now.listing)) }
     ensures none { IfOk result (λ random. IfNone random (NoneIsRandom program.now.listing)) }
-    ensures written { IfOk result (λ random. IfNone random (Takes (W.taken sink.old) (W.taken sink.new) (model_text (model_of program.now.listing)))) }
-    ensures lowest { IfOk result (λ random. IfSome random (λ random. IsLowestRandom program.now.listing random.0 random.1)) }
+    ensures written { IfOk result (λ random. IfNone random
+        (Takes (W.taken sink.old) (W.taken sink.new) (model_text (model_of program.now.listing)))) }
+    ensures lowest { IfOk result (λ random. IfSome random (λ random. IsLowestRandom
+        program.now.listing random.0 random.1)) }
     ensures nothing { IfOk result (λ random. IfSome random (λ _. sink.new ≡ sink.old)) }
     ensures fault { IfErr result (λ e. (e ≡ memory_fault) ⊎ (e ≡ write_fault)) }
-    ensures beginning { OnErr result ((sink.new ≡ sink.old) ⊎ (NoneIsRandom program.now.listing × TakesSome (W.taken sink.old) (W.taken sink.new) (model_text (model_of program.now.listing)))) }
+    ensures beginning { OnErr result
+        ((sink.new ≡ sink.old)
+        ⊎ (NoneIsRandom program.now.listing
+        × TakesSome (W.taken sink.old) (W.taken sink.new)
+        (model_text (model_of program.now.listing)))) }
     ensures writes { W.failures sink.new ≡ write_failures result (W.failures sink.old) }
 {
     write_in_parts(alloc, program, tracker, ROOM, sink)
@@ -57,13 +64,20 @@ pub fn write_in_parts<'a, A: Allocator + Copy, T: Tracker + Drop, W: Sink>(
     room: usize,
     sink: &mut W,
 ) -> Result<Option<(u32, Place)>, Fault>
-    requires { T.tracked tracker ≡ fresh program.now.listing.qubits (length (targets_of program.now.listing)) }
+    requires { T.tracked tracker
+        ≡ fresh program.now.listing.qubits (length (targets_of program.now.listing)) }
     ensures none { IfOk result (λ random. IfNone random (NoneIsRandom program.now.listing)) }
-    ensures written { IfOk result (λ random. IfNone random (Takes (W.taken sink.old) (W.taken sink.new) (model_text (model_of program.now.listing)))) }
-    ensures lowest { IfOk result (λ random. IfSome random (λ random. IsLowestRandom program.now.listing random.0 random.1)) }
+    ensures written { IfOk result (λ random. IfNone random
+        (Takes (W.taken sink.old) (W.taken sink.new) (model_text (model_of program.now.listing)))) }
+    ensures lowest { IfOk result (λ random. IfSome random (λ random. IsLowestRandom
+        program.now.listing random.0 random.1)) }
     ensures nothing { IfOk result (λ random. IfSome random (λ _. sink.new ≡ sink.old)) }
     ensures fault { IfErr result (λ e. (e ≡ memory_fault) ⊎ (e ≡ write_fault)) }
-    ensures beginning { OnErr result ((sink.new ≡ sink.old) ⊎ (NoneIsRandom program.now.listing × TakesSome (W.taken sink.old) (W.taken sink.new) (model_text (model_of program.now.listing)))) }
+    ensures beginning { OnErr result
+        ((sink.new ≡ sink.old)
+        ⊎ (NoneIsRandom program.now.listing
+        × TakesSome (W.taken sink.old) (W.taken sink.new)
+        (model_text (model_of program.now.listing)))) }
     ensures writes { W.failures sink.new ≡ write_failures result (W.failures sink.old) }
 {
     let mut out = Pieces::new();
@@ -86,12 +100,21 @@ fn push_analysis<'a, A: Allocator + Copy, T: Tracker + Drop, W: Sink>(
     out: &mut Pieces,
     sink: &mut W,
 ) -> Result<Option<(u32, Place)>, AllocError>
-    requires { T.tracked tracker ≡ fresh program.now.listing.qubits (length (targets_of program.now.listing)) }
+    requires { T.tracked tracker
+        ≡ fresh program.now.listing.qubits (length (targets_of program.now.listing)) }
     ensures none { IfOk result (λ random. IfNone random (NoneIsRandom program.now.listing)) }
-    ensures text { IfOk result (λ random. IfNone random (Pushes W.taken W.failures sink.old sink.new out.old out.new (model_text (model_of program.now.listing)))) }
-    ensures lowest { IfOk result (λ random. IfSome random (λ random. IsLowestRandom program.now.listing random.0 random.1)) }
-    ensures nothing { IfOk result (λ random. IfSome random (λ _. (sink.new ≡ sink.old) × (out.new ≡ out.old))) }
-    ensures some { OnErr result (((sink.new ≡ sink.old) × (out.new ≡ out.old)) ⊎ (NoneIsRandom program.now.listing × PushesSome W.taken W.failures sink.old sink.new out.old out.new (model_text (model_of program.now.listing)))) }
+    ensures text { IfOk result (λ random. IfNone random
+        (Pushes W.taken W.failures sink.old sink.new out.old out.new
+        (model_text (model_of program.now.listing)))) }
+    ensures lowest { IfOk result (λ random. IfSome random (λ random. IsLowestRandom
+        program.now.listing random.0 random.1)) }
+    ensures nothing { IfOk result (λ random. IfSome random (λ _. (sink.new ≡ sink.old)
+        × (out.new ≡ out.old))) }
+    ensures some { OnErr result
+        (((sink.new ≡ sink.old) × (out.new ≡ out.old))
+        ⊎ (NoneIsRandom program.now.listing
+        × PushesSome W.taken W.failures sink.old sink.new out.old out.new
+        (model_text (model_of program.now.listing)))) }
 {
     program.well_formed();
     let mut found = Found::new(&alloc, program)?;
@@ -129,7 +152,9 @@ fn push_declarations<'a, A: Allocator + Copy, W: Sink>(
     out: &mut Pieces,
     sink: &mut W,
 )
-    ensures { Pushes W.taken W.failures sink.old sink.new out.old out.new (detectors_text (model_of program.now.listing) ++ observables_text (model_of program.now.listing)) }
+    ensures { Pushes W.taken W.failures sink.old sink.new out.old out.new
+        (detectors_text (model_of program.now.listing)
+        ++ observables_text (model_of program.now.listing)) }
 {
     push_detectors(program, out, sink);
     push_observables(program, out, sink);
@@ -140,7 +165,8 @@ fn push_detectors<'a, A: Allocator + Copy, W: Sink>(
     out: &mut Pieces,
     sink: &mut W,
 )
-    ensures { Pushes W.taken W.failures sink.old sink.new out.old out.new (detectors_text (model_of program.now.listing)) }
+    ensures { Pushes W.taken W.failures sink.old sink.new out.old out.new
+        (detectors_text (model_of program.now.listing)) }
 {
     program.well_formed();
     for detector in 0..program.detector_count() {
@@ -154,7 +180,8 @@ fn push_observables<'a, A: Allocator + Copy, W: Sink>(
     out: &mut Pieces,
     sink: &mut W,
 )
-    ensures { Pushes W.taken W.failures sink.old sink.new out.old out.new (observables_text (model_of program.now.listing)) }
+    ensures { Pushes W.taken W.failures sink.old sink.new out.old out.new
+        (observables_text (model_of program.now.listing)) }
 {
     for observable in 0..program.observable_count() {
         push_observable(out, sink, observable);

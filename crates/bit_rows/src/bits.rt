@@ -22,7 +22,9 @@ pub(crate) fn put_bit(words: &mut [u64], place: usize, bit: bool)
 
 pub(crate) fn flip_bit(words: &mut [u64], place: usize)
     requires { place / 64 < length words.old }
-    ensures { (k : ℕ) → bit_in words.new k ≡ (if k == place then not (bit_in words.old place) else bit_in words.old k) }
+    ensures { (k : ℕ)
+        → bit_in words.new k
+        ≡ (if k == place then not (bit_in words.old place) else bit_in words.old k) }
 {
     let mask = 1u64 << (place % 64);
     words[place / 64] ^= mask;

@@ -27,7 +27,10 @@ pub(crate) fn mark(marks: u64, block: usize) -> u64
 // Sets the mark of a block where a condition holds.
 #[inline(always)]
 pub(crate) fn mark_where(marks: u64, block: usize, condition: bool) -> u64
-    ensures { (b : ℕ) → b < 64 → bit_of result b ≡ true → (bit_of marks b ≡ true) ⊎ ((b ≡ block) × (condition ≡ true)) }
+    ensures { (b : ℕ)
+        → b < 64
+        → bit_of result b ≡ true
+        → (bit_of marks b ≡ true) ⊎ ((b ≡ block) × (condition ≡ true)) }
 {
     if condition {
         return mark(marks, block);
@@ -38,7 +41,9 @@ pub(crate) fn mark_where(marks: u64, block: usize, condition: bool) -> u64
 // The marks that either of two lists has.
 #[inline(always)]
 pub(crate) fn either(first: u64, second: u64) -> u64
-    ensures { (b : ℕ) → bit_of result b ≡ false → (bit_of first b ≡ false) × (bit_of second b ≡ false) }
+    ensures { (b : ℕ)
+        → bit_of result b ≡ false
+        → (bit_of first b ≡ false) × (bit_of second b ≡ false) }
 {
     first | second
 }
@@ -46,7 +51,10 @@ pub(crate) fn either(first: u64, second: u64) -> u64
 // Marks of the exclusive or of two lists, whose noted blocks are known to be blank.
 #[inline(always)]
 pub(crate) fn marks_of_sum(first: u64, second: u64, noted: u64) -> u64
-    ensures { (b : ℕ) → b < 64 → bit_of result b ≡ false → (bit_of noted b ≡ true) ⊎ ((bit_of first b ≡ false) × (bit_of second b ≡ false)) }
+    ensures { (b : ℕ)
+        → b < 64
+        → bit_of result b ≡ false
+        → (bit_of noted b ≡ true) ⊎ ((bit_of first b ≡ false) × (bit_of second b ≡ false)) }
 {
     (first | second) & !noted
 }

@@ -25,8 +25,10 @@ pub(crate) fn multiply_words(
     requires x_marks { MarksOnes marks xb.now }
     requires z_marks { MarksOnes marks zb.now }
     ensures power { result.0 ≡ words_phase xa.old za.old xb.now zb.now (length xa.old) % 4 }
-    ensures x { (k : ℕ) → slice_index xa.new k ≡ bit_xor (slice_index xa.old k) (slice_index xb.now k) }
-    ensures z { (k : ℕ) → slice_index za.new k ≡ bit_xor (slice_index za.old k) (slice_index zb.now k) }
+    ensures x { (k : ℕ)
+        → slice_index xa.new k ≡ bit_xor (slice_index xa.old k) (slice_index xb.now k) }
+    ensures z { (k : ℕ)
+        → slice_index za.new k ≡ bit_xor (slice_index za.old k) (slice_index zb.now k) }
     ensures blank { BlanksBelow result.1 xa.new za.new (length xa.old) }
 {
     if xb.len() < 4 {
@@ -42,8 +44,10 @@ fn multiply_few(xa: &mut [u64], za: &mut [u64], xb: &[u64], zb: &[u64]) -> u8
     requires xb { length xb.now ≡ length xa.old }
     requires zb { length zb.now ≡ length xa.old }
     ensures power { result ≡ words_phase xa.old za.old xb.now zb.now (length xa.old) % 4 }
-    ensures x { (k : ℕ) → slice_index xa.new k ≡ bit_xor (slice_index xa.old k) (slice_index xb.now k) }
-    ensures z { (k : ℕ) → slice_index za.new k ≡ bit_xor (slice_index za.old k) (slice_index zb.now k) }
+    ensures x { (k : ℕ)
+        → slice_index xa.new k ≡ bit_xor (slice_index xa.old k) (slice_index xb.now k) }
+    ensures z { (k : ℕ)
+        → slice_index za.new k ≡ bit_xor (slice_index za.old k) (slice_index zb.now k) }
 {
     let mut ones = 0u64;
     let mut twos = 0u64;
@@ -66,8 +70,10 @@ fn multiply_many(xa: &mut [u64], za: &mut [u64], xb: &[u64], zb: &[u64], marks: 
     requires x_marks { MarksOnes marks xb.now }
     requires z_marks { MarksOnes marks zb.now }
     ensures power { result.0 ≡ words_phase xa.old za.old xb.now zb.now (length xa.old) % 4 }
-    ensures x { (k : ℕ) → slice_index xa.new k ≡ bit_xor (slice_index xa.old k) (slice_index xb.now k) }
-    ensures z { (k : ℕ) → slice_index za.new k ≡ bit_xor (slice_index za.old k) (slice_index zb.now k) }
+    ensures x { (k : ℕ)
+        → slice_index xa.new k ≡ bit_xor (slice_index xa.old k) (slice_index xb.now k) }
+    ensures z { (k : ℕ)
+        → slice_index za.new k ≡ bit_xor (slice_index za.old k) (slice_index zb.now k) }
     ensures blank { BlanksBelow result.1 xa.new za.new (length xa.old) }
 {
     let (mut ones, mut twos, noted) = multiply_blocks(xa, za, xb, zb, marks);
@@ -92,7 +98,8 @@ fn multiply_blocks(
     requires zb { length zb.now ≡ length xa.old }
     requires x_marks { MarksOnes marks xb.now }
     requires z_marks { MarksOnes marks zb.now }
-    ensures power { carried result.0 result.1 % 4 ≡ words_phase xa.old za.old xb.now zb.now (length xb.now / 4 * 4) % 4 }
+    ensures power { carried result.0 result.1 % 4
+        ≡ words_phase xa.old za.old xb.now zb.now (length xb.now / 4 * 4) % 4 }
     ensures x { XorsWithin xa.old xb.now xa.new 0 (length xb.now / 4 * 4) }
     ensures z { XorsWithin za.old zb.now za.new 0 (length xb.now / 4 * 4) }
     ensures blank { BlanksBelow result.2 xa.new za.new (length xb.now / 4 * 4) }
@@ -113,7 +120,8 @@ fn multiply_all(xa: &mut [u64], za: &mut [u64], xb: &[u64], zb: &[u64]) -> (u64,
     requires za { length za.old ≡ length xa.old }
     requires xb { length xb.now ≡ length xa.old }
     requires zb { length zb.now ≡ length xa.old }
-    ensures power { carried result.0 result.1 % 4 ≡ words_phase xa.old za.old xb.now zb.now (length xb.now / 4 * 4) % 4 }
+    ensures power { carried result.0 result.1 % 4
+        ≡ words_phase xa.old za.old xb.now zb.now (length xb.now / 4 * 4) % 4 }
     ensures x { XorsWithin xa.old xb.now xa.new 0 (length xb.now / 4 * 4) }
     ensures z { XorsWithin za.old zb.now za.new 0 (length xb.now / 4 * 4) }
 {
@@ -139,7 +147,8 @@ fn multiply_marked(
     requires zb { length zb.now ≡ length xa.old }
     requires x_marks { MarksOnes marks xb.now }
     requires z_marks { MarksOnes marks zb.now }
-    ensures power { carried result.0 result.1 % 4 ≡ words_phase xa.old za.old xb.now zb.now (length xb.now / 4 * 4) % 4 }
+    ensures power { carried result.0 result.1 % 4
+        ≡ words_phase xa.old za.old xb.now zb.now (length xb.now / 4 * 4) % 4 }
     ensures x { XorsWithin xa.old xb.now xa.new 0 (length xb.now / 4 * 4) }
     ensures z { XorsWithin za.old zb.now za.new 0 (length xb.now / 4 * 4) }
     ensures blank { BlanksBelow result.2 xa.new za.new (length xb.now / 4 * 4) }
@@ -183,7 +192,10 @@ fn multiply_block(
         (slice_index xb.now (block * 4 + k)) (slice_index zb.now (block * 4 + k))) % 4 }
     ensures x { XorsWithin xa.old xb.now xa.new (block * 4) (block * 4 + 4) }
     ensures z { XorsWithin za.old zb.now za.new (block * 4) (block * 4 + 4) }
-    ensures emptied { result.2 ≡ true → (k : ℕ) → k < 4 → (slice_index xa.new (block * 4 + k) ≡ 0) × (slice_index za.new (block * 4 + k) ≡ 0) }
+    ensures emptied { result.2 ≡ true
+        → (k : ℕ)
+        → k < 4
+        → (slice_index xa.new (block * 4 + k) ≡ 0) × (slice_index za.new (block * 4 + k) ≡ 0) }
 {
     let unmarked = is_unmarked(marks, block);
     if unmarked {
@@ -204,7 +216,10 @@ fn xor_both(xa: &mut [u64], za: &mut [u64], xb: &[u64], zb: &[u64], at: usize) -
     requires zb { at + 4 ≤ length zb.now }
     ensures x { XorsWithin xa.old xb.now xa.new at (at + 4) }
     ensures z { XorsWithin za.old zb.now za.new at (at + 4) }
-    ensures blank { result ≡ 0 → (k : ℕ) → k < 4 → (slice_index xa.new (at + k) ≡ 0) × (slice_index za.new (at + k) ≡ 0) }
+    ensures blank { result ≡ 0
+        → (k : ℕ)
+        → k < 4
+        → (slice_index xa.new (at + k) ≡ 0) × (slice_index za.new (at + k) ≡ 0) }
 {
     let x = u64x4::from_slice(&xa[at..]) ^ u64x4::from_slice(&xb[at..]);
     let z = u64x4::from_slice(&za[at..]) ^ u64x4::from_slice(&zb[at..]);

@@ -60,7 +60,8 @@ pub(crate) fn join_lanes(ones: &[u64], twos: &[u64]) -> (u64, u64)
 // One pair of carry words that holds, modulo 4, the sum of what two pairs hold.
 #[inline(always)]
 fn join(ones: u64, twos: u64, more_ones: u64, more_twos: u64) -> (u64, u64)
-    ensures { carried result.0 result.1 % 4 ≡ (carried ones twos + carried more_ones more_twos) % 4 }
+    ensures { carried result.0 result.1 % 4
+        ≡ (carried ones twos + carried more_ones more_twos) % 4 }
 {
     (ones ^ more_ones, (twos ^ more_twos) ^ (ones & more_ones))
 }

@@ -6,7 +6,8 @@ use std::simd::prelude::*;
 
 pub(crate) fn xor_words(first: &mut [u64], second: &[u64])
     requires { length first.old ≡ length second.now }
-    ensures { (k : ℕ) → slice_index first.new k ≡ bit_xor (slice_index first.old k) (slice_index second.now k) }
+    ensures { (k : ℕ)
+        → slice_index first.new k ≡ bit_xor (slice_index first.old k) (slice_index second.now k) }
 {
     xor_blocks(first, second);
     for i in second.len() / 8 * 8..second.len() {

@@ -23,7 +23,8 @@ pub fn number_of<'a, A: Allocator + Copy>(
     ensures kept { KeepsChances texts.old.items texts.new.items }
     ensures few { length texts.new.items ≤ length texts.old.items + 1 }
     ensures within { IfOk result (λ n. n < length texts.new.items) }
-    ensures named { IfOk result (λ n. chance_at texts.new.items n ≡ record { text = text.now; bound = bound }) }
+    ensures named { IfOk result (λ n. chance_at texts.new.items n
+        ≡ record { text = text.now; bound = bound }) }
     ensures err { OnErr result (texts.new.items ≡ texts.old.items) }
 {
     if let Some(number) = latest(texts.as_slice(), text, bound) {
@@ -37,7 +38,8 @@ pub fn number_of<'a, A: Allocator + Copy>(
 // Where this text stands with this bound, if it is among the latest.
 fn latest(texts: &[ChanceText<'_>], text: &[u8], bound: u128) -> Option<usize>
     ensures within { IfSome result (λ n. n < length texts.now) }
-    ensures named { IfSome result (λ n. chance_at texts.now n ≡ record { text = text.now; bound = bound }) }
+    ensures named { IfSome result (λ n. chance_at texts.now n
+        ≡ record { text = text.now; bound = bound }) }
 {
     let mut left = texts.len();
     let last = left.saturating_sub(LATEST);

@@ -33,7 +33,10 @@ fn push_error<'a, A: Allocator + Copy>(
     requires detectors { greatest_by detectors_to line.now.targets ≤ counts.detectors }
     requires observables { greatest_by observables_to line.now.targets ≤ counts.observables }
     requires few { counts.detectors + counts.observables ≤ 2 ^ 32 }
-    ensures { IfOk result (λ _. model.new ≡ record model.old { lines = model.old.lines ++ error_lines counts.detectors counts.observables (line.now ∷ []) }) }
+    ensures { IfOk result
+        (λ _. model.new
+        ≡ record model.old
+        { lines = model.old.lines ++ error_lines counts.detectors counts.observables (line.now ∷ []) }) }
 {
     if !line.is_error() {
         return Ok(());
@@ -52,10 +55,14 @@ fn push_errors<'a, A: Allocator + Copy>(
     table: &LineTable<'a, A>,
     counts: LineCounts,
 ) -> Result<(), AllocError>
-    requires counts { AreCounts (placed_lines table.now) counts.detectors counts.observables counts.errors }
+    requires counts { AreCounts (placed_lines table.now) counts.detectors counts.observables
+        counts.errors }
     requires few { counts.detectors + counts.observables ≤ 2 ^ 32 }
     requires short { length (reached table.now) < 2 ^ 64 }
-    ensures { IfOk result (λ _. model.new ≡ record model.old { lines = model.old.lines ++ error_lines counts.detectors counts.observables (placed_lines table.now) }) }
+    ensures { IfOk result
+        (λ _. model.new
+        ≡ record model.old
+        { lines = model.old.lines ++ error_lines counts.detectors counts.observables (placed_lines table.now) }) }
 {
     let mut room = Room {
         targets: Vec::new(alloc),

@@ -40,7 +40,8 @@ fn behind<'t>(front: &[u8], text: &'t [u8]) -> Option<&'t [u8]>
 /// What follows `error(`, these arguments and `)` in a text that begins with them.
 #[inline(always)]
 fn behind_head<'t>(arguments: &[u8], text: &'t [u8]) -> Option<&'t [u8]>
-    ensures { IfSome result (λ rest. text.now ≡ codes "error(" ++ (arguments.now ++ 41 ∷ rest.now)) }
+    ensures { IfSome result
+        (λ rest. text.now ≡ codes "error(" ++ (arguments.now ++ 41 ∷ rest.now)) }
 {
     let inside = behind(b"error(", text)?;
     let closed = behind(arguments, inside)?;

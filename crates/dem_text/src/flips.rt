@@ -35,7 +35,8 @@ fn push_number<A: Allocator + Copy>(
 ) -> Result<(), AllocError>
     requires detector { detectors_to (shifted_target shift target) ≤ 2 ^ 32 }
     requires observable { detectors + observables_to (shifted_target shift target) ≤ 2 ^ 32 }
-    ensures { IfOk result (λ _. numbers.new.items ≡ numbers.old.items ++ numbered detectors (shifted_target shift target)) }
+    ensures { IfOk result (λ _. numbers.new.items
+        ≡ numbers.old.items ++ numbered detectors (shifted_target shift target)) }
 {
     match target {
         Target::Detector(detector) => numbers.push(detector_at(shift, detector))?,
@@ -52,9 +53,13 @@ fn read_numbers<A: Allocator + Copy>(
     shift: u128,
     targets: &[Target],
 ) -> Result<(), AllocError>
-    requires detectors { greatest_by detectors_to (map (shifted_target shift) targets.now) ≤ 2 ^ 32 }
-    requires observables { detectors + greatest_by observables_to (map (shifted_target shift) targets.now) ≤ 2 ^ 32 }
-    ensures { IfOk result (λ _. numbers.new.items ≡ numbers_of detectors (map (shifted_target shift) targets.now)) }
+    requires detectors { greatest_by detectors_to (map (shifted_target shift) targets.now)
+        ≤ 2 ^ 32 }
+    requires observables { detectors + greatest_by observables_to
+        (map (shifted_target shift) targets.now)
+        ≤ 2 ^ 32 }
+    ensures { IfOk result (λ _. numbers.new.items
+        ≡ numbers_of detectors (map (shifted_target shift) targets.now)) }
 {
     numbers.clear();
     for target in targets {
@@ -65,8 +70,11 @@ fn read_numbers<A: Allocator + Copy>(
 
 /// Takes a number off the end, or puts it there where it isn't.
 fn toggle<A: Allocator + Copy>(kept: &mut Vec<u32, A>, number: u32) -> Result<(), AllocError>
-    ensures there { IfOk result (λ _. (before : List ℕ) → kept.old.items ≡ before ++ number ∷ [] → kept.new.items ≡ before) }
-    ensures absent { IfOk result (λ _. All (λ n. n < number) kept.old.items → kept.new.items ≡ kept.old.items ++ number ∷ []) }
+    ensures there { IfOk result (λ _. (before : List ℕ)
+        → kept.old.items ≡ before ++ number ∷ []
+        → kept.new.items ≡ before) }
+    ensures absent { IfOk result (λ _. All (λ n. n < number) kept.old.items
+        → kept.new.items ≡ kept.old.items ++ number ∷ []) }
 {
     if let Some(last) = kept.pop() {
         if last == number {
@@ -81,7 +89,9 @@ fn toggle<A: Allocator + Copy>(kept: &mut Vec<u32, A>, number: u32) -> Result<()
 /// Puts into `kept`, in place of what it held, the numbers that these ascending ones have an odd number of times.
 fn keep_odd<A: Allocator + Copy>(kept: &mut Vec<u32, A>, numbers: &[u32]) -> Result<(), AllocError>
     requires { IsNonDecreasing numbers.now }
-    ensures { IfOk result (λ _. (n : ℕ) → All (λ m. m < n) numbers.now → kept.new.items ≡ odd_below n numbers.now) }
+    ensures { IfOk result (λ _. (n : ℕ)
+        → All (λ m. m < n) numbers.now
+        → kept.new.items ≡ odd_below n numbers.now) }
 {
     kept.clear();
     for number in numbers {
@@ -111,10 +121,13 @@ pub(crate) fn read_flipped<A: Allocator + Copy>(
     shift: u128,
     targets: &[Target],
 ) -> Result<(), AllocError>
-    requires detectors { greatest_by detectors_to (map (shifted_target shift) targets.now) ≤ counts.detectors }
-    requires observables { greatest_by observables_to (map (shifted_target shift) targets.now) ≤ counts.observables }
+    requires detectors { greatest_by detectors_to (map (shifted_target shift) targets.now)
+        ≤ counts.detectors }
+    requires observables { greatest_by observables_to (map (shifted_target shift) targets.now)
+        ≤ counts.observables }
     requires few { counts.detectors + counts.observables ≤ 2 ^ 32 }
-    ensures { IfOk result (λ _. kept.new.items ≡ flipped counts.detectors counts.observables (map (shifted_target shift) targets.now)) }
+    ensures { IfOk result (λ _. kept.new.items
+        ≡ flipped counts.detectors counts.observables (map (shifted_target shift) targets.now)) }
 {
     read_numbers(numbers, counts.detectors, shift, targets)?;
     put_in_order(numbers)?;

@@ -20,7 +20,8 @@ fn counts_past<A: Allocator + Copy>(
     line: &PlacedLine<'_, '_>,
 ) -> Result<Option<LineCounts>, AllocError>
     requires { counts.errors + 1 < 2 ^ 64 }
-    ensures { IfOk result (λ found. MatchOption found (is_beyond line.now ≡ true) (λ after. HasCounted counts line.now after × (is_beyond line.now ≡ false))) }
+    ensures { IfOk result (λ found. MatchOption found (is_beyond line.now ≡ true)
+        (λ after. HasCounted counts line.now after × (is_beyond line.now ≡ false))) }
 {
     let Some(detectors) = line.detectors() else {
         return Ok(None);
@@ -46,9 +47,12 @@ pub(crate) fn counts_of<A: Allocator + Copy>(
     table: &LineTable<'_, A>,
 ) -> Result<LineCounts, Fault>
     requires { length (reached table.now) < 2 ^ 64 }
-    ensures counts { IfOk result (λ counts. AreCounts (placed_lines table.now) counts.detectors counts.observables counts.errors) }
+    ensures counts { IfOk result (λ counts. AreCounts (placed_lines table.now) counts.detectors
+        counts.observables counts.errors) }
     ensures within { IfOk result (λ counts. first_beyond (placed_lines table.now) ≡ None) }
-    ensures err { IfErr result (λ fault. (fault ≡ memory_fault) ⊎ (option_map (refused cause.DemNumber) (first_beyond (placed_lines table.now)) ≡ Some fault)) }
+    ensures err { IfErr result (λ fault. (fault ≡ memory_fault)
+        ⊎ (option_map (refused cause.DemNumber) (first_beyond (placed_lines table.now))
+        ≡ Some fault)) }
 {
     let mut room = Vec::new(alloc);
     let mut counts = NO_LINES;

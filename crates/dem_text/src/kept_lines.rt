@@ -87,7 +87,8 @@ impl<'a, A: Allocator + Copy> KeptLines<'a, A> {
     #[inline(always)]
     pub(crate) fn push_error(&mut self, at: usize, extent: Extent) -> Result<(), AllocError>
         requires { IsKept self.old.text at PauliError extent 0 [] }
-        ensures { IfOk result (λ _. self.new ≡ with_item self.old (InstructionLine (instruction_at self.old.text at PauliError))) }
+        ensures { IfOk result (λ _. self.new
+            ≡ with_item self.old (InstructionLine (instruction_at self.old.text at PauliError))) }
     {
         self.entries.push(Entry::Error {
             observables: extent.observables,
@@ -100,7 +101,8 @@ impl<'a, A: Allocator + Copy> KeptLines<'a, A> {
     /// Appends any other line, with the numbers that it states.
     pub(crate) fn push_rare(&mut self, rare: Rare, numbers: &[i64]) -> Result<(), AllocError>
         requires { IsRareKept self.old.text rare numbers.now }
-        ensures { IfOk result (λ _. self.new ≡ with_item self.old (item_of_rare self.old.text rare)) }
+        ensures { IfOk result (λ _. self.new
+            ≡ with_item self.old (item_of_rare self.old.text rare)) }
     {
         // Room first, so that nothing changes where memory runs out.
         self.entries.reserve(1)?;

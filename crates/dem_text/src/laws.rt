@@ -9,10 +9,17 @@ ghost use Rattle.dem_text.specs.Models.{model_in, model_of_tree};
 
 /// The lines of each text make exactly one tree, or are refused by exactly one fault, and never both.
 pub fn texts_are_judged_once()
-    ensures judged { (text : List ℕ) → ((tree : Tree) × Writes text tree) ⊎ ((fault : Fault) × IsRefusedBy text fault) }
+    ensures judged { (text : List ℕ)
+        → ((tree : Tree) × Writes text tree) ⊎ ((fault : Fault) × IsRefusedBy text fault) }
     ensures one_tree { (text : List ℕ) (t u : Tree) → Writes text t → Writes text u → t ≡ u }
-    ensures one_fault { (text : List ℕ) (f g : Fault) → IsRefusedBy text f → IsRefusedBy text g → f ≡ g }
-    ensures not_both { (text : List ℕ) (t : Tree) (f : Fault) → Writes text t → IsRefusedBy text f → ⊥ }
+    ensures one_fault { (text : List ℕ) (f g : Fault)
+        → IsRefusedBy text f
+        → IsRefusedBy text g
+        → f ≡ g }
+    ensures not_both { (text : List ℕ) (t : Tree) (f : Fault)
+        → Writes text t
+        → IsRefusedBy text f
+        → ⊥ }
 {}
 
 /// In a tree that a text writes, each instruction has the arguments and targets that its name takes, each block has a
@@ -23,6 +30,10 @@ pub fn texts_write_accepted_trees()
 
 /// A text stands for the model of the tree that it writes; one that writes none is refused as its lines are.
 pub fn texts_stand_for_trees()
-    ensures model { (text : List ℕ) (tree : Tree) → Writes text tree → model_in text ≡ model_of_tree tree }
-    ensures refusal { (text : List ℕ) (fault : Fault) → IsRefusedBy text fault → model_in text ≡ Err fault }
+    ensures model { (text : List ℕ) (tree : Tree)
+        → Writes text tree
+        → model_in text ≡ model_of_tree tree }
+    ensures refusal { (text : List ℕ) (fault : Fault)
+        → IsRefusedBy text fault
+        → model_in text ≡ Err fault }
 {}

@@ -65,9 +65,13 @@ impl<'a, A: Allocator + Copy> LineReader<'a, A> {
     fn keep(&mut self, at: usize, operation: Operation, arguments: &[u8]) -> Result<(), AllocError>
         requires speaks { Speaks (line_at self.old.lines.text at) }
         requires fits { Fits (instruction_at self.old.lines.text at operation) }
-        requires arguments { arguments_in arguments.now ≡ (instruction_at self.old.lines.text at operation).arguments }
-        requires targets { self.old.targets.items ≡ (instruction_at self.old.lines.text at operation).targets }
-        ensures lines { IfOk result (λ _. self.new.lines ≡ with_item self.old.lines (InstructionLine (instruction_at self.old.lines.text at operation))) }
+        requires arguments { arguments_in arguments.now
+            ≡ (instruction_at self.old.lines.text at operation).arguments }
+        requires targets { self.old.targets.items
+            ≡ (instruction_at self.old.lines.text at operation).targets }
+        ensures lines { IfOk result (λ _. self.new.lines
+            ≡ with_item self.old.lines
+            (InstructionLine (instruction_at self.old.lines.text at operation))) }
         ensures opened { IfOk result (λ _. self.new.opened.items ≡ self.old.opened.items) }
     {
         let extent = extent_of(self.targets.as_slice());
@@ -122,7 +126,8 @@ impl<'a, A: Allocator + Copy> LineReader<'a, A> {
         requires some { 0 < length text.now }
         requires line { before_first is_line_feed text.now ≡ line_at self.old.lines.text at }
         requires number { number ≡ line_number self.old.lines.text at }
-        ensures { IfOk result (λ passed. PassesFirst text.now passed.after.now number passed.refused self.old.lines self.old.opened.items self.new.lines self.new.opened.items) }
+        ensures { IfOk result (λ passed. PassesFirst text.now passed.after.now number passed.refused
+            self.old.lines self.old.opened.items self.new.lines self.new.opened.items) }
     {
         let (line, after) = first_line(text);
         let refused = match line_in(line) {
@@ -145,7 +150,8 @@ impl<'a, A: Allocator + Copy> LineReader<'a, A> {
         requires some { 0 < length text.now }
         requires line { before_first is_line_feed text.now ≡ line_at self.old.lines.text at }
         requires number { number ≡ line_number self.old.lines.text at }
-        ensures { IfOk result (λ passed. PassesFirst text.now passed.after.now number passed.refused self.old.lines self.old.opened.items self.new.lines self.new.opened.items) }
+        ensures { IfOk result (λ passed. PassesFirst text.now passed.after.now number passed.refused
+            self.old.lines self.old.opened.items self.new.lines self.new.opened.items) }
     {
         match error_anew(&mut self.head, &mut self.last.probability, text) {
             Some((extent, after)) => {
@@ -171,7 +177,8 @@ impl<'a, A: Allocator + Copy> LineReader<'a, A> {
         requires some { 0 < length text.now }
         requires line { before_first is_line_feed text.now ≡ line_at self.old.lines.text at }
         requires number { number ≡ line_number self.old.lines.text at }
-        ensures { IfOk result (λ passed. PassesFirst text.now passed.after.now number passed.refused self.old.lines self.old.opened.items self.new.lines self.new.opened.items) }
+        ensures { IfOk result (λ passed. PassesFirst text.now passed.after.now number passed.refused
+            self.old.lines self.old.opened.items self.new.lines self.new.opened.items) }
     {
         if let Some((extent, after)) = error_alike(self.head, text) {
             self.lines.push_error(at, extent)?;

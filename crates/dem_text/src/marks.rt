@@ -59,7 +59,8 @@ impl<A: Allocator + Copy> Marking<A> {
     /// Marks the detectors to which a line gives coordinates.
     fn mark(&mut self, line: &PlacedLine<'_, '_>) -> Result<(), AllocError>
         requires { is_beyond line.now ≡ false }
-        ensures { IfOk result (λ _. HasMarked line.now self.old.lists self.old.marks.items self.new.lists self.new.marks.items) }
+        ensures { IfOk result (λ _. HasMarked line.now self.old.lists self.old.marks.items
+            self.new.lists self.new.marks.items) }
     {
         let within = line.read_coordinates(&mut self.room)?;
         prove!(within);
@@ -107,7 +108,8 @@ pub(crate) fn coordinates_of<A: Allocator + Copy>(
 ) -> Result<FlatLists<i64, A>, AllocError>
     requires near { first_beyond (placed_lines table.now) ≡ None }
     requires few { length (reached table.now) < 2 ^ 64 }
-    ensures { IfOk result (λ found. found ≡ map (λ d. last_coordinates d [] (placed_lines table.now)) (range_with_len 0 detectors)) }
+    ensures { IfOk result (λ found. found
+        ≡ map (λ d. last_coordinates d [] (placed_lines table.now)) (range_with_len 0 detectors)) }
 {
     let mut marking = Marking {
         lists: FlatLists::new(alloc),

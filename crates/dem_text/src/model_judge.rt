@@ -113,7 +113,8 @@ pub fn read_line<'a, A: Allocator + Copy>(
     depth: usize,
     line: Line<'a>,
 ) -> Result<Said<'a, Operation>, AllocError>
-    ensures { IfOk result (λ said. reading_in line.entry.number said targets.new.items ≡ reading_of model_table depth line.entry.number (cut_in line.entry)) }
+    ensures { IfOk result (λ said. reading_in line.entry.number said targets.new.items
+        ≡ reading_of model_table depth line.entry.number (cut_in line.entry)) }
 {
     stim_parser::read_line::<Operation, Target, TargetForm, ModelJudge, A>(
         last, targets, depth, line,

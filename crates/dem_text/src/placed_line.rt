@@ -64,7 +64,9 @@ fn shifted(shift: u128, detectors: u32) -> Option<u32>
 
 /// A coordinate within its limit; none where it is beyond.
 fn near(coordinate: i128) -> Option<i64>
-    ensures { MatchOption result (is_coordinate_beyond coordinate ≡ true) (λ found. (found ≡ coordinate) × (is_coordinate_beyond coordinate ≡ false)) }
+    ensures { MatchOption result (is_coordinate_beyond coordinate ≡ true) (λ found. (found
+        ≡ coordinate)
+        × (is_coordinate_beyond coordinate ≡ false)) }
 {
     if coordinate.unsigned_abs() > GREATEST_NUMBER as u128 {
         None
@@ -150,7 +152,8 @@ impl<'w, 'a> PlacedLine<'w, 'a> {
         &self,
         targets: &mut Vec<Target, A>,
     ) -> Result<u128, AllocError>
-        ensures { IfOk result (λ shift. map (shifted_target shift) targets.new.items ≡ self.now.targets) }
+        ensures { IfOk result (λ shift. map (shifted_target shift) targets.new.items
+            ≡ self.now.targets) }
     {
         let line = self.line;
         let shift = self.shift;

@@ -76,7 +76,8 @@ fn turn_target(bits: &mut [bool], detectors: u32, shift: u128, target: Target)
 
 /// The same for targets, one after another.
 fn turn_targets(bits: &mut [bool], detectors: u32, shift: u128, targets: &[Target])
-    ensures { bits.new ≡ turned bits.old (numbers_of detectors (map (shifted_target shift) targets.now)) }
+    ensures { bits.new
+        ≡ turned bits.old (numbers_of detectors (map (shifted_target shift) targets.now)) }
 {
     for target in targets {
         turn_target(bits, detectors, shift, *target);
@@ -94,7 +95,8 @@ fn pass_line<A: Allocator + Copy>(
     line: &PlacedLine<'_, '_>,
 ) -> Result<usize, AllocError>
     requires { passed + 1 < 2 ^ 64 }
-    ensures bits { IfOk result (λ after. bits.new ≡ turned_past detectors named.now passed line.now bits.old) }
+    ensures bits { IfOk result (λ after. bits.new
+        ≡ turned_past detectors named.now passed line.now bits.old) }
     ensures passed { IfOk result (λ after. after ≡ passed_after passed line.now) }
 {
     if !line.is_error() {

@@ -16,8 +16,10 @@ use step_model::{Cause, Fault};
 
 /// The counts of the lines as they are reached, or the refusal of their numbers.
 fn judged<A: Allocator + Copy>(alloc: A, table: &LineTable<'_, A>) -> Result<LineCounts, Fault>
-    ensures ok { IfOk result (λ counts. IsJudged table.now counts.detectors counts.observables counts.errors) }
-    ensures err { IfErr result (λ fault. (fault ≡ memory_fault) ⊎ (model_of_tree table.now ≡ Err fault)) }
+    ensures ok { IfOk result (λ counts. IsJudged table.now counts.detectors counts.observables
+        counts.errors) }
+    ensures err { IfErr result (λ fault. (fault ≡ memory_fault)
+        ⊎ (model_of_tree table.now ≡ Err fault)) }
 {
     table.fits();
     if let Some(counts) = table.chain_counts() {

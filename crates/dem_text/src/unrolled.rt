@@ -53,7 +53,8 @@ impl Counting {
     /// Goes past a place.
     fn pass(&mut self, stand: Stand)
         requires { CanStandAt stand (array_vec_len self.old.blocks) }
-        ensures { Counts stand self.old.counts self.old.blocks.items self.new.counts self.new.blocks.items }
+        ensures { Counts stand self.old.counts self.old.blocks.items self.new.counts
+            self.new.blocks.items }
     {
         match stand {
             Stand::Line => {

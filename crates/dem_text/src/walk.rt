@@ -45,7 +45,8 @@ impl Place {
         requires stands { CanStandAt stand (array_vec_len self.old.blocks) }
         requires room { array_vec_len self.old.blocks ≤ 32 }
         requires few { self.old.index < 2 ^ 64 - 1 }
-        ensures { after_stand stand self.old.index (reverse self.old.blocks.items) ≡ (self.new.index, reverse self.new.blocks.items) }
+        ensures { after_stand stand self.old.index (reverse self.old.blocks.items)
+            ≡ (self.new.index, reverse self.new.blocks.items) }
     {
         match stand {
             Stand::Line => self.index += 1,
@@ -65,7 +66,8 @@ impl Place {
         requires open { 0 < array_vec_len self.old.blocks }
         requires room { array_vec_len self.old.blocks ≤ 32 }
         requires few { self.old.index < 2 ^ 64 - 1 }
-        ensures { after_stand BlockEnd self.old.index (reverse self.old.blocks.items) ≡ (self.new.index, reverse self.new.blocks.items) }
+        ensures { after_stand BlockEnd self.old.index (reverse self.old.blocks.items)
+            ≡ (self.new.index, reverse self.new.blocks.items) }
     {
         let block = self.blocks.pop().unwrap();
         if block.left == 0 {
@@ -84,7 +86,9 @@ impl Place {
     fn go_to_line<A: Allocator + Copy>(&mut self, table: &LineTable<'_, A>)
         requires { IsWalk (items_of table.now) self.old.index (reverse self.old.blocks.items) }
         ensures walk { IsWalk (items_of table.now) self.new.index (reverse self.new.blocks.items) }
-        ensures same { lines_left (items_of table.now) self.new.index (reverse self.new.blocks.items) ≡ lines_left (items_of table.now) self.old.index (reverse self.old.blocks.items) }
+        ensures same { lines_left (items_of table.now) self.new.index
+            (reverse self.new.blocks.items)
+            ≡ lines_left (items_of table.now) self.old.index (reverse self.old.blocks.items) }
         ensures line { IsAtLine (slice_get (items_of table.now) self.new.index) }
     {
         while let Some(stand) = table.stand_at(self.index) {
@@ -147,7 +151,9 @@ impl<'t, 'a, A: Allocator + Copy> Walk<'t, 'a, A> {
     /// The line that is next, and none at the end.
     #[inline(always)]
     pub(crate) fn line(&self) -> Option<PlacedLine<'_, 'a>>
-        ensures { MatchOption result (self.now ≡ []) (λ line. (rest : List Placed) → rest ≡ drop 1 self.now → self.now ≡ line ∷ rest) }
+        ensures { MatchOption result (self.now ≡ []) (λ line. (rest : List Placed)
+            → rest ≡ drop 1 self.now
+            → self.now ≡ line ∷ rest) }
     {
         match self.table.line_at(self.place.index) {
             Some(line) => Some(PlacedLine {

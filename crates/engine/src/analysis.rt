@@ -26,15 +26,20 @@ pub(crate) fn answer_analysis<W: Sink, A: Allocator + Copy>(
     text: &[u8],
     sink: &mut W,
 ) -> Result<Status, Fault>
-    ensures written { OnOk result (Takes (W.taken sink.old) (W.taken sink.new) (refused_or (analysis_output text.now)).bytes) }
-    ensures status { IfOk result (λ status. status ≡ (refused_or (analysis_output text.now)).status) }
+    ensures written { OnOk result
+        (Takes (W.taken sink.old) (W.taken sink.new)
+        (refused_or (analysis_output text.now)).bytes) }
+    ensures status { IfOk result (λ status. status
+        ≡ (refused_or (analysis_output text.now)).status) }
     ensures exact { IfOk result (λ status. status ≡ Done →
         (bytes : List ℕ) × Takes (W.taken sink.old) (W.taken sink.new) bytes × IsExactFor text.now bytes) }
     ensures random { IfOk result (λ status. status ≡ Random →
         (bytes : List ℕ) × Takes (W.taken sink.old) (W.taken sink.new) bytes × IsRandomFor text.now bytes) }
     ensures fault { IfErr result (λ e. (e ≡ memory_fault) ⊎ (e ≡ write_fault)) }
     ensures writes { W.failures sink.new ≡ write_failures result (W.failures sink.old) }
-    ensures beginning { OnErr result (TakesSome (W.taken sink.old) (W.taken sink.new) (refused_or (analysis_output text.now)).bytes) }
+    ensures beginning { OnErr result
+        (TakesSome (W.taken sink.old) (W.taken sink.new)
+        (refused_or (analysis_output text.now)).bytes) }
 {
     match read_program(alloc, text) {
         Ok(program) => write_finding(alloc, &program, sink),
@@ -48,7 +53,8 @@ fn write_finding<W: Sink, A: Allocator + Copy>(
     program: &Program<'_, A>,
     sink: &mut W,
 ) -> Result<Status, Fault>
-    ensures written { OnOk result (Takes (W.taken sink.old) (W.taken sink.new) (found_in program.now.listing).bytes) }
+    ensures written { OnOk result
+        (Takes (W.taken sink.old) (W.taken sink.new) (found_in program.now.listing).bytes) }
     ensures status { IfOk result (λ status. status ≡ (found_in program.now.listing).status) }
     ensures exact { IfOk result (λ status. status ≡ Done →
         (bytes : List ℕ) × Takes (W.taken sink.old) (W.taken sink.new) bytes × IsExactIn program.now.listing bytes) }
@@ -56,7 +62,8 @@ fn write_finding<W: Sink, A: Allocator + Copy>(
         (bytes : List ℕ) × Takes (W.taken sink.old) (W.taken sink.new) bytes × IsRandomIn program.now.listing bytes) }
     ensures fault { IfErr result (λ e. (e ≡ memory_fault) ⊎ (e ≡ write_fault)) }
     ensures writes { W.failures sink.new ≡ write_failures result (W.failures sink.old) }
-    ensures beginning { OnErr result (TakesSome (W.taken sink.old) (W.taken sink.new) (found_in program.now.listing).bytes) }
+    ensures beginning { OnErr result
+        (TakesSome (W.taken sink.old) (W.taken sink.new) (found_in program.now.listing).bytes) }
 {
     program.well_formed();
     let words = fresh_words(&alloc, program)?;
@@ -75,12 +82,17 @@ fn write_random<W: Sink, A: Allocator + Copy>(
     sink: &mut W,
 ) -> Result<Status, Fault>
     requires { IsLowestRandom program.now.listing which place }
-    ensures written { OnOk result (Takes (W.taken sink.old) (W.taken sink.new) (found_in program.now.listing).bytes) }
+    ensures written { OnOk result
+        (Takes (W.taken sink.old) (W.taken sink.new) (found_in program.now.listing).bytes) }
     ensures status { IfOk result (λ status. status ≡ (found_in program.now.listing).status) }
-    ensures random { IfOk result (λ status. (status ≡ Random) × ((bytes : List ℕ) × Takes (W.taken sink.old) (W.taken sink.new) bytes × IsRandomIn program.now.listing bytes)) }
+    ensures random { IfOk result (λ status. (status ≡ Random)
+        × ((bytes : List ℕ)
+        × Takes (W.taken sink.old) (W.taken sink.new) bytes
+        × IsRandomIn program.now.listing bytes)) }
     ensures fault { IfErr result (λ e. (e ≡ memory_fault) ⊎ (e ≡ write_fault)) }
     ensures writes { W.failures sink.new ≡ write_failures result (W.failures sink.old) }
-    ensures beginning { OnErr result (TakesSome (W.taken sink.old) (W.taken sink.new) (found_in program.now.listing).bytes) }
+    ensures beginning { OnErr result
+        (TakesSome (W.taken sink.old) (W.taken sink.new) (found_in program.now.listing).bytes) }
 {
     program.well_formed();
     let lines = random_text(alloc, program, which as usize, place)?;
@@ -93,7 +105,8 @@ fn fresh_words<'s, A: Allocator + Copy>(
     alloc: &'s A,
     program: &Program<'_, A>,
 ) -> Result<QubitSets<'s, A>, Fault>
-    ensures ok { IfOk result (λ words. words ≡ fresh program.now.listing.qubits (length (targets_of program.now.listing))) }
+    ensures ok { IfOk result (λ words. words
+        ≡ fresh program.now.listing.qubits (length (targets_of program.now.listing))) }
     ensures err { IfErr result (λ e. e ≡ memory_fault) }
 {
     Ok(QubitSets::of_program(alloc, program)?)
@@ -106,7 +119,8 @@ fn random_text<A: Allocator + Copy>(
     target: usize,
     place: Place,
 ) -> Result<Vec<u8, A>, Fault>
-    ensures ok { IfOk result (λ lines. lines.items ≡ output.random_lines program.now.listing target place) }
+    ensures ok { IfOk result (λ lines. lines.items
+        ≡ output.random_lines program.now.listing target place) }
     ensures err { IfErr result (λ e. e ≡ memory_fault) }
 {
     let (first, second) = coin_pair(alloc, program, place)?;

@@ -47,7 +47,12 @@ pub(crate) fn random_lines<A: Allocator + Copy>(
     first: &[bool],
     second: &[bool],
 ) -> Result<Vec<u8, A>, AllocError>
-    ensures { IfOk result (λ text. text.items ≡ codes "random" ++ target_text detectors target ++ 10 ∷ line_of first.now ++ line_of second.now) }
+    ensures { IfOk result (λ text. text.items
+        ≡ codes "random"
+        ++ target_text detectors target
+        ++ 10
+        ∷ line_of first.now
+        ++ line_of second.now) }
 {
     // The word and its space, a letter, twenty digits, and three line feeds.
     let length = first.len().saturating_add(second.len());

@@ -16,11 +16,14 @@ pub(crate) fn answer_faults<W: Sink, A: Allocator + Copy>(
     text: &[u8],
     sink: &mut W,
 ) -> Result<Status, Fault>
-    ensures written { OnOk result (Takes (W.taken sink.old) (W.taken sink.new) (refused_or (faults_output text.now)).bytes) }
+    ensures written { OnOk result
+        (Takes (W.taken sink.old) (W.taken sink.new) (refused_or (faults_output text.now)).bytes) }
     ensures status { IfOk result (λ status. status ≡ (refused_or (faults_output text.now)).status) }
     ensures fault { IfErr result (λ e. (e ≡ memory_fault) ⊎ (e ≡ write_fault)) }
     ensures writes { W.failures sink.new ≡ write_failures result (W.failures sink.old) }
-    ensures beginning { OnErr result (TakesSome (W.taken sink.old) (W.taken sink.new) (refused_or (faults_output text.now)).bytes) }
+    ensures beginning { OnErr result
+        (TakesSome (W.taken sink.old) (W.taken sink.new)
+        (refused_or (faults_output text.now)).bytes) }
 {
     match read_program(alloc, text) {
         Ok(program) => {

@@ -21,7 +21,8 @@ pub(crate) fn answer_prediction<W: Sink, A: Allocator + Copy>(
 ) -> Result<Status, Fault>
     ensures written { OnOk result (Takes (W.taken sink.old) (W.taken sink.new)
         (refused_or (prediction_output lines.now text.now)).bytes) }
-    ensures status { IfOk result (λ status. status ≡ (refused_or (prediction_output lines.now text.now)).status) }
+    ensures status { IfOk result (λ status. status
+        ≡ (refused_or (prediction_output lines.now text.now)).status) }
     ensures fault { IfErr result (λ e. (e ≡ memory_fault) ⊎ (e ≡ write_fault)) }
     ensures writes { W.failures sink.new ≡ write_failures result (W.failures sink.old) }
     ensures beginning { OnErr result (TakesSome (W.taken sink.old) (W.taken sink.new)
@@ -43,7 +44,8 @@ fn prediction_text<A: Allocator + Copy>(
     text: &[u8],
 ) -> Result<Vec<u8, A>, Fault>
     ensures ok { IfOk result (λ line. prediction_output lines.now text.now ≡ Ok (done line.items)) }
-    ensures err { IfErr result (λ e. (e ≡ memory_fault) ⊎ (prediction_output lines.now text.now ≡ Err e)) }
+    ensures err { IfErr result (λ e. (e ≡ memory_fault)
+        ⊎ (prediction_output lines.now text.now ≡ Err e)) }
 {
     let model = place(alloc, text)?;
     predict(alloc, &model, lines)
@@ -56,7 +58,8 @@ fn predict<A: Allocator + Copy>(
     lines: &[u8],
 ) -> Result<Vec<u8, A>, Fault>
     ensures ok { IfOk result (λ line. model_prediction lines.now model.now ≡ Ok (done line.items)) }
-    ensures err { IfErr result (λ e. (e ≡ memory_fault) ⊎ (model_prediction lines.now model.now ≡ Err e)) }
+    ensures err { IfErr result (λ e. (e ≡ memory_fault)
+        ⊎ (model_prediction lines.now model.now ≡ Err e)) }
 {
     let named = read_numbers(alloc, model.line_count(), lines)?;
     let flipped = model.symptom(alloc, named.as_slice())?;

@@ -19,12 +19,14 @@ pub(crate) fn refuse<W: Sink, A: Allocator + Copy>(
     sink: &mut W,
 ) -> Result<Status, Fault>
     ensures refused { OnOk result (fault.cause ≢ Memory) }
-    ensures written { OnOk result (Takes (W.taken sink.old) (W.taken sink.new) (refusal_line fault)) }
+    ensures written { OnOk result
+        (Takes (W.taken sink.old) (W.taken sink.new) (refusal_line fault)) }
     ensures status { IfOk result (λ status. status ≡ Refused) }
     ensures fault { IfErr result (λ e. (e ≡ memory_fault) ⊎ (e ≡ write_fault)) }
     ensures writes { W.failures sink.new ≡ write_failures result (W.failures sink.old) }
     ensures none { fault.cause ≡ Memory → W.taken sink.new ≡ W.taken sink.old }
-    ensures beginning { OnErr result (TakesSome (W.taken sink.old) (W.taken sink.new) (refusal_line fault)) }
+    ensures beginning { OnErr result
+        (TakesSome (W.taken sink.old) (W.taken sink.new) (refusal_line fault)) }
 {
     if fault.cause == Cause::Memory {
         return Err(Fault::MEMORY);

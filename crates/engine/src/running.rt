@@ -54,7 +54,8 @@ fn run_text<A: Allocator + Copy>(
     faults: &[u8],
     text: &[u8],
 ) -> Result<Vec<u8, A>, Fault>
-    ensures ok { IfOk result (λ lines. run_output (option_copied coins.entry) faults.now text.now ≡ Ok (done lines.items)) }
+    ensures ok { IfOk result (λ lines. run_output (option_copied coins.entry) faults.now text.now
+        ≡ Ok (done lines.items)) }
     ensures err { IfErr result (λ e. (e ≡ memory_fault)
         ⊎ (run_output (option_copied coins.entry) faults.now text.now ≡ Err e)) }
 {
@@ -69,7 +70,9 @@ fn run_program<A: Allocator + Copy>(
     coins: Option<&[u8]>,
     faults: &[u8],
 ) -> Result<Vec<u8, A>, Fault>
-    ensures ok { IfOk result (λ lines. program_output (option_copied coins.entry) faults.now program.now.listing ≡ Ok (done lines.items)) }
+    ensures ok { IfOk result (λ lines. program_output (option_copied coins.entry) faults.now
+        program.now.listing
+        ≡ Ok (done lines.items)) }
     ensures err { IfErr result (λ e. (e ≡ memory_fault)
         ⊎ (program_output (option_copied coins.entry) faults.now program.now.listing ≡ Err e)) }
 {
@@ -84,7 +87,8 @@ fn coins_given<A: Allocator + Copy>(
     program: &Program<'_, A>,
     text: Option<&[u8]>,
 ) -> Result<Vec<bool, A>, Fault>
-    ensures ok { IfOk result (λ coins. run_coins program.now.listing (option_copied text.entry) ≡ Some coins.items) }
+    ensures ok { IfOk result (λ coins. run_coins program.now.listing (option_copied text.entry)
+        ≡ Some coins.items) }
     ensures err { IfErr result (λ e. (e ≡ memory_fault)
         ⊎ ((e ≡ without_line CoinCount) × (run_coins program.now.listing (option_copied text.entry) ≡ None))) }
 {
@@ -109,7 +113,8 @@ fn lines_of_run<A: Allocator + Copy>(
     faults: &[bool],
     coins: &[bool],
 ) -> Result<Vec<u8, A>, Fault>
-    ensures ok { IfOk result (λ lines. lines.items ≡ output.run_lines program.now.listing faults.now coins.now) }
+    ensures ok { IfOk result (λ lines. lines.items
+        ≡ output.run_lines program.now.listing faults.now coins.now) }
     ensures err { IfErr result (λ e. e ≡ memory_fault) }
 {
     let reference = noiseless_records(alloc, program)?;
@@ -136,7 +141,9 @@ fn lines_beside<A: Allocator + Copy>(
 ) -> Result<Vec<u8, A>, Fault>
     requires records_fit { length records.now ≡ program.now.listing.records }
     requires reference_fit { length reference.now ≡ program.now.listing.records }
-    ensures ok { IfOk result (λ lines. lines.items ≡ line_of records.now ++ line_of (difference program.now.listing records.now reference.now)) }
+    ensures ok { IfOk result (λ lines. lines.items
+        ≡ line_of records.now
+        ++ line_of (difference program.now.listing records.now reference.now)) }
     ensures err { IfErr result (λ e. e ≡ memory_fault) }
 {
     let detections = detections(alloc, program, records, reference)?;
@@ -148,7 +155,8 @@ fn noiseless_records<A: Allocator + Copy>(
     alloc: A,
     program: &Program<'_, A>,
 ) -> Result<Records<A>, Fault>
-    ensures ok { IfOk result (λ records. records ≡ records_of program.now.listing [] (zero_coins program.now.listing)) }
+    ensures ok { IfOk result (λ records. records
+        ≡ records_of program.now.listing [] (zero_coins program.now.listing)) }
     ensures count { IfOk result (λ records. length records ≡ program.now.listing.records) }
     ensures err { IfErr result (λ e. e ≡ memory_fault) }
 {

@@ -40,7 +40,8 @@ pub fn serve<R: Source, W: Sink, A: Allocator + Copy>(
         (bytes : List ℕ) × Takes (W.taken sink.old) (W.taken sink.new) bytes × IsRandomFor text bytes)) }
 
     // Which half it is: a text that stands for a program is answered Random exactly where some target is random.
-    ensures decided { IfOk result (λ status. order.now ≡ Analyze → IfSome (R.left source.old) (λ text. IsDecided text status)) }
+    ensures decided { IfOk result (λ status. order.now ≡ Analyze
+        → IfSome (R.left source.old) (λ text. IsDecided text status)) }
 
     // The source failed, the sink failed, or there was no memory: a count goes up exactly where its source or sink failed.
     ensures fault { IfErr result (λ e. (e ≡ memory_fault) ⊎ (e ≡ read_fault) ⊎ (e ≡ write_fault)) }
@@ -52,7 +53,8 @@ pub fn serve<R: Source, W: Sink, A: Allocator + Copy>(
 
     // After an error a beginning of the output is written, and none of it unless all was read.
     ensures rest { OnErr result (HandsOutSome (R.left source.old) (R.left source.new)) }
-    ensures unread { OnErr result ((W.taken sink.new ≡ W.taken sink.old) ⊎ IsAtEnd (R.left source.new)) }
+    ensures unread { OnErr result
+        ((W.taken sink.new ≡ W.taken sink.old) ⊎ IsAtEnd (R.left source.new)) }
     ensures beginning { OnErr result (IfSome (R.left source.old) (λ text.
         TakesSome (W.taken sink.old) (W.taken sink.new) (output_of order.now text).bytes)) }
 {
@@ -67,7 +69,8 @@ fn answer<W: Sink, A: Allocator + Copy>(
     text: &[u8],
     sink: &mut W,
 ) -> Result<Status, Fault>
-    ensures written { OnOk result (Takes (W.taken sink.old) (W.taken sink.new) (output_of order.now text.now).bytes) }
+    ensures written { OnOk result
+        (Takes (W.taken sink.old) (W.taken sink.new) (output_of order.now text.now).bytes) }
     ensures status { IfOk result (λ status. status ≡ (output_of order.now text.now).status) }
     ensures exact { IfOk result (λ status. order.now ≡ Analyze → status ≡ Done →
         (bytes : List ℕ) × Takes (W.taken sink.old) (W.taken sink.new) bytes × IsExactFor text.now bytes) }
@@ -75,7 +78,8 @@ fn answer<W: Sink, A: Allocator + Copy>(
         (bytes : List ℕ) × Takes (W.taken sink.old) (W.taken sink.new) bytes × IsRandomFor text.now bytes) }
     ensures fault { IfErr result (λ e. (e ≡ memory_fault) ⊎ (e ≡ write_fault)) }
     ensures writes { W.failures sink.new ≡ write_failures result (W.failures sink.old) }
-    ensures beginning { OnErr result (TakesSome (W.taken sink.old) (W.taken sink.new) (output_of order.now text.now).bytes) }
+    ensures beginning { OnErr result
+        (TakesSome (W.taken sink.old) (W.taken sink.new) (output_of order.now text.now).bytes) }
 {
     match *order {
         Order::Run { coins, faults } => answer_run(alloc, coins, faults, text, sink),

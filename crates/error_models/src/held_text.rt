@@ -57,7 +57,8 @@ fn push_blocks<W: Sink, A: Allocator + Copy>(
     full: &[TextBlock<A>],
     block: &TextBlock<A>,
 )
-    ensures { Pushes W.taken W.failures sink.old sink.new out.old out.new (text_in block.now full.now) }
+    ensures { Pushes W.taken W.failures sink.old sink.new out.old out.new
+        (text_in block.now full.now) }
 {
     out.push(sink, block.text());
     push_full(out, sink, full);

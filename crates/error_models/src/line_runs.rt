@@ -45,7 +45,9 @@ pub(crate) fn lines_before<'a, A: Allocator + Copy>(
     requires within { next ≤ length model.now.lines }
     requires short { (k : ℕ) → line ≤ k → k < next → IsShort (line_at model.now k) }
     ensures start { result ≤ 4096 }
-    ensures written { drop result buffer.new ≡ flat_map (line_text model.now.detectors) (take (next - line) (drop line model.now.lines)) }
+    ensures written { drop result buffer.new
+        ≡ flat_map (line_text model.now.detectors)
+        (take (next - line) (drop line model.now.lines)) }
 {
     let detectors = model.detector_count();
     let mut left = next;

@@ -52,7 +52,8 @@ impl<'a> LineText<'a> {
         requires within { end ≤ length buffer.old }
         ensures within { result ≤ end }
         ensures least { end ≤ result + 40 }
-        ensures written { drop result buffer.new ≡ codes "error(" ++ self.now ++ codes ")" ++ drop end buffer.old }
+        ensures written { drop result buffer.new
+            ≡ codes "error(" ++ self.now ++ codes ")" ++ drop end buffer.old }
     {
         // A local copy cannot overlap the buffer, so no check is made at run time.
         let head = self.head;

@@ -43,7 +43,8 @@ impl<'a, A: Allocator + Copy> Lines<'a, A> {
 
     /// Appends a line. It fails only where memory runs out.
     pub(crate) fn push(&mut self, text: &'a [u8], targets: &[u32]) -> Result<(), AllocError>
-        ensures ok { OnOk result (self.new ≡ self.old ++ record { text = text.now; targets = targets.now } ∷ []) }
+        ensures ok { OnOk result
+            (self.new ≡ self.old ++ record { text = text.now; targets = targets.now } ∷ []) }
         ensures err { OnErr result (self.new ≡ self.old) }
     {
         let number = number_of(&mut self.texts, text)?;

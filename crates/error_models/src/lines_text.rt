@@ -42,7 +42,8 @@ impl<'a, A: Allocator + Copy> LinesText<'a, A> {
     pub fn new(alloc: A, detectors: usize, targets: usize) -> Result<Self, AllocError>
         requires few_detectors { detectors ≤ 1000000 }
         requires few { targets ≤ detectors + 1000000 }
-        ensures { IfOk result (λ lines. lines ≡ record { detectors = detectors; targets = targets; texts = []; text = [] }) }
+        ensures { IfOk result (λ lines. lines
+            ≡ record { detectors = detectors; targets = targets; texts = []; text = [] }) }
     {
         Ok(LinesText {
             names: Names::new(alloc, detectors, targets)?,
@@ -70,7 +71,11 @@ impl<'a, A: Allocator + Copy> LinesText<'a, A> {
     pub fn put_line(&mut self, number: usize, targets: &[u32]) -> Result<(), AllocError>
         requires number { number < length self.old.texts }
         requires targets { All (λ target. target < self.old.targets) targets.now }
-        ensures ok { OnOk result (self.new.text ≡ line_text self.old.detectors (record { text = text_at self.old.texts number; targets = targets.now }) ++ self.old.text) }
+        ensures ok { OnOk result
+            (self.new.text
+            ≡ line_text self.old.detectors
+            (record { text = text_at self.old.texts number; targets = targets.now })
+            ++ self.old.text) }
         ensures kept { EndsIn self.old.text self.new.text }
         ensures detectors { self.new.detectors ≡ self.old.detectors }
         ensures targets { self.new.targets ≡ self.old.targets }
@@ -89,7 +94,10 @@ impl<'a, A: Allocator + Copy> LinesText<'a, A> {
     #[inline(never)]
     fn put_long_line(&mut self, text: &[u8], targets: &[u32]) -> Result<(), AllocError>
         requires { All (λ target. target < self.old.targets) targets.now }
-        ensures ok { OnOk result (self.new.text ≡ line_text self.old.detectors (record { text = text.now; targets = targets.now }) ++ self.old.text) }
+        ensures ok { OnOk result
+            (self.new.text
+            ≡ line_text self.old.detectors (record { text = text.now; targets = targets.now })
+            ++ self.old.text) }
         ensures kept { EndsIn self.old.text self.new.text }
         ensures detectors { self.new.detectors ≡ self.old.detectors }
         ensures targets { self.new.targets ≡ self.old.targets }
@@ -123,7 +131,8 @@ impl<'a, A: Allocator + Copy> LinesText<'a, A> {
     // Puts the text of targets before the text.
     fn put_targets(&mut self, targets: &[u32]) -> Result<(), AllocError>
         requires { All (λ target. target < self.old.targets) targets.now }
-        ensures ok { OnOk result (self.new.text ≡ targets_text self.old.detectors targets.now ++ self.old.text) }
+        ensures ok { OnOk result
+            (self.new.text ≡ targets_text self.old.detectors targets.now ++ self.old.text) }
         ensures kept { EndsIn self.old.text self.new.text }
         ensures detectors { self.new.detectors ≡ self.old.detectors }
         ensures targets { self.new.targets ≡ self.old.targets }

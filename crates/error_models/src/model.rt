@@ -35,7 +35,9 @@ impl<'a, A: Allocator + Copy> std::marker::Model for Model<'a, A> {
 impl<'a, A: Allocator + Copy> Model<'a, A> {
     /// A model without lines, with a detector for each list of coordinates. Takes no memory.
     pub fn new(alloc: A, coordinates: FlatLists<i64, A>, observables: usize) -> Self
-        ensures { result ≡ record { lines = []; coordinates = coordinates; detectors = length coordinates; observables = observables } }
+        ensures { result
+            ≡ record
+            { lines = []; coordinates = coordinates; detectors = length coordinates; observables = observables } }
     {
         Model {
             back: Lines::new(alloc),
@@ -48,7 +50,9 @@ impl<'a, A: Allocator + Copy> Model<'a, A> {
     /// A model with the lines of another in the opposite order, with a detector for each list of coordinates. Copies no
     /// line.
     pub fn in_reverse(lines: Self, coordinates: FlatLists<i64, A>, observables: usize) -> Self
-        ensures { result ≡ record { lines = reverse lines.entry.lines; coordinates = coordinates; detectors = length coordinates; observables = observables } }
+        ensures { result
+            ≡ record
+            { lines = reverse lines.entry.lines; coordinates = coordinates; detectors = length coordinates; observables = observables } }
     {
         Model {
             back: lines.front,
@@ -60,7 +64,10 @@ impl<'a, A: Allocator + Copy> Model<'a, A> {
 
     /// Appends a line. It fails only where memory runs out.
     pub fn push_line(&mut self, text: &'a [u8], targets: &[u32]) -> Result<(), AllocError>
-        ensures ok { OnOk result (self.new ≡ record self.old { lines = self.old.lines ++ record { text = text.now; targets = targets.now } ∷ [] }) }
+        ensures ok { OnOk result
+            (self.new
+            ≡ record self.old
+            { lines = self.old.lines ++ record { text = text.now; targets = targets.now } ∷ [] }) }
         ensures err { OnErr result (self.new ≡ self.old) }
     {
         self.front.push(text, targets)

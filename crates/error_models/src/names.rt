@@ -85,7 +85,8 @@ impl<A: Allocator + Copy> Names<A> {
     pub(crate) fn new(alloc: A, detectors: usize, targets: usize) -> Result<Self, AllocError>
         requires few_detectors { detectors ≤ 1000000 }
         requires few { targets ≤ detectors + 1000000 }
-        ensures { IfOk result (λ names. names ≡ record { detectors = detectors; targets = targets }) }
+        ensures { IfOk result (λ names. names
+            ≡ record { detectors = detectors; targets = targets }) }
     {
         let mut names = Vec::with_capacity(alloc, targets)?;
         for target in 0..targets {
@@ -102,7 +103,8 @@ impl<A: Allocator + Copy> Names<A> {
         requires targets { All (λ target. target < self.now.targets) targets.now }
         ensures within { result ≤ end }
         ensures least { end ≤ result + length targets.now * 8 }
-        ensures written { drop result buffer.new ≡ targets_text self.now.detectors targets.now ++ drop end buffer.old }
+        ensures written { drop result buffer.new
+            ≡ targets_text self.now.detectors targets.now ++ drop end buffer.old }
     {
         let mut left = targets.len();
         let mut at = end;

@@ -30,7 +30,8 @@ fn coordinates_before(buffer: &mut [u8], end: usize, coordinates: &[i64]) -> usi
     requires room { length coordinates.now * 22 + 2 ≤ end }
     ensures within { result ≤ end }
     ensures least { end ≤ result + length coordinates.now * 22 + 2 }
-    ensures written { drop result buffer.new ≡ coordinates_text coordinates.now ++ drop end buffer.old }
+    ensures written { drop result buffer.new
+        ≡ coordinates_text coordinates.now ++ drop end buffer.old }
 {
     match coordinates {
         [first, more @ ..] => {
@@ -49,7 +50,8 @@ fn more_before(buffer: &mut [u8], end: usize, coordinates: &[i64]) -> usize
     requires room { length coordinates.now * 22 ≤ end }
     ensures within { result ≤ end }
     ensures least { end ≤ result + length coordinates.now * 22 }
-    ensures written { drop result buffer.new ≡ more_coordinates_text coordinates.now ++ drop end buffer.old }
+    ensures written { drop result buffer.new
+        ≡ more_coordinates_text coordinates.now ++ drop end buffer.old }
 {
     let mut left = coordinates.len();
     let mut at = end;

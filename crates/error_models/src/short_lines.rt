@@ -33,7 +33,9 @@ pub(crate) fn line_before<'a>(
     requires few { length targets.now ≤ 16 }
     ensures within { result ≤ end }
     ensures least { end ≤ result + 240 }
-    ensures written { drop result buffer.new ≡ line_text detectors (record { text = text.now; targets = targets.now }) ++ drop end buffer.old }
+    ensures written { drop result buffer.new
+        ≡ line_text detectors (record { text = text.now; targets = targets.now })
+        ++ drop end buffer.old }
 {
     let at = text_before(buffer, end, b"\n");
     let at = targets_before(buffer, at, detectors, targets);
@@ -53,7 +55,8 @@ pub(crate) fn targets_before(
     requires room { length targets.now * 12 ≤ end }
     ensures within { result ≤ end }
     ensures least { end ≤ result + length targets.now * 12 }
-    ensures written { drop result buffer.new ≡ targets_text detectors targets.now ++ drop end buffer.old }
+    ensures written { drop result buffer.new
+        ≡ targets_text detectors targets.now ++ drop end buffer.old }
 {
     let mut left = targets.len();
     let mut at = end;

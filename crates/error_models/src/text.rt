@@ -25,7 +25,8 @@ pub fn write<'a, A: Allocator + Copy, W: Sink>(
     ensures all { OnOk result (Takes (W.taken sink.old) (W.taken sink.new) (model_text model.now)) }
 
     ensures fault { IfErr result (λ e. e ≡ write_fault) }
-    ensures beginning { OnErr result (TakesBeginning (W.taken sink.old) (W.taken sink.new) (model_text model.now)) }
+    ensures beginning { OnErr result
+        (TakesBeginning (W.taken sink.old) (W.taken sink.new) (model_text model.now)) }
 
     // One more where the sink failed, otherwise as before.
     ensures count { W.failures sink.new ≡ write_failures result (W.failures sink.old) }
@@ -75,7 +76,9 @@ fn write_some<'a, A: Allocator + Copy, W: Sink>(
     requires line { line < count }
     ensures some { line < result }
     ensures within { result ≤ length model.now.lines }
-    ensures pushed { Pushes W.taken W.failures sink.old sink.new out.old out.new (flat_map (line_text model.now.detectors) (take (result - line) (drop line model.now.lines))) }
+    ensures pushed { Pushes W.taken W.failures sink.old sink.new out.old out.new
+        (flat_map (line_text model.now.detectors)
+        (take (result - line) (drop line model.now.lines))) }
 {
     let next = end_of_short(model, line);
     if line < next {
@@ -102,7 +105,8 @@ fn write_long_line<W: Sink>(
     probability: &[u8],
     targets: &[u32],
 )
-    ensures { Pushes W.taken W.failures sink.old sink.new out.old out.new (line_text detectors (record { text = probability.now; targets = targets.now })) }
+    ensures { Pushes W.taken W.failures sink.old sink.new out.old out.new
+        (line_text detectors (record { text = probability.now; targets = targets.now })) }
 {
     out.push(sink, b"error(");
     out.push(sink, probability);
@@ -119,7 +123,8 @@ fn write_targets<W: Sink>(
     detectors: usize,
     targets: &[u32],
 )
-    ensures { Pushes W.taken W.failures sink.old sink.new out.old out.new (targets_text detectors targets.now) }
+    ensures { Pushes W.taken W.failures sink.old sink.new out.old out.new
+        (targets_text detectors targets.now) }
 {
     let mut done = 0;
     while done < targets.len() {
@@ -135,7 +140,8 @@ fn write_detectors<'a, A: Allocator + Copy, W: Sink>(
     sink: &mut W,
     model: &Model<'a, A>,
 )
-    ensures { Pushes W.taken W.failures sink.old sink.new out.old out.new (detectors_text model.now) }
+    ensures { Pushes W.taken W.failures sink.old sink.new out.old out.new
+        (detectors_text model.now) }
 {
     for detector in 0..model.detector_count() {
         push_detector(out, sink, detector, model.coordinates(detector));
@@ -144,7 +150,8 @@ fn write_detectors<'a, A: Allocator + Copy, W: Sink>(
 
 /// Pushes the line of a detector. Most have few coordinates, and their lines go out as one text.
 pub fn push_detector<W: Sink>(out: &mut Pieces, sink: &mut W, detector: usize, coordinates: &[i64])
-    ensures { Pushes W.taken W.failures sink.old sink.new out.old out.new (detector_text detector coordinates.now) }
+    ensures { Pushes W.taken W.failures sink.old sink.new out.old out.new
+        (detector_text detector coordinates.now) }
 {
     if coordinates.len() <= SHORT_COORDINATES && detector <= u32::MAX as usize {
         let mut buffer = [0; DETECTOR_ROOM];
@@ -161,7 +168,8 @@ fn write_long_detector<W: Sink>(
     detector: usize,
     coordinates: &[i64],
 )
-    ensures { Pushes W.taken W.failures sink.old sink.new out.old out.new (detector_text detector coordinates.now) }
+    ensures { Pushes W.taken W.failures sink.old sink.new out.old out.new
+        (detector_text detector coordinates.now) }
 {
     out.push(sink, b"detector");
     write_coordinates(out, sink, coordinates);
@@ -171,7 +179,8 @@ fn write_long_detector<W: Sink>(
 }
 
 fn write_coordinates<W: Sink>(out: &mut Pieces, sink: &mut W, coordinates: &[i64])
-    ensures { Pushes W.taken W.failures sink.old sink.new out.old out.new (coordinates_text coordinates.now) }
+    ensures { Pushes W.taken W.failures sink.old sink.new out.old out.new
+        (coordinates_text coordinates.now) }
 {
     if let [first, more @ ..] = coordinates {
         out.push(sink, b"(");
@@ -182,7 +191,8 @@ fn write_coordinates<W: Sink>(out: &mut Pieces, sink: &mut W, coordinates: &[i64
 }
 
 fn write_more_coordinates<W: Sink>(out: &mut Pieces, sink: &mut W, coordinates: &[i64])
-    ensures { Pushes W.taken W.failures sink.old sink.new out.old out.new (more_coordinates_text coordinates.now) }
+    ensures { Pushes W.taken W.failures sink.old sink.new out.old out.new
+        (more_coordinates_text coordinates.now) }
 {
     for coordinate in coordinates {
         out.push(sink, b", ");
@@ -195,7 +205,8 @@ fn write_observables<'a, A: Allocator + Copy, W: Sink>(
     sink: &mut W,
     model: &Model<'a, A>,
 )
-    ensures { Pushes W.taken W.failures sink.old sink.new out.old out.new (observables_text model.now) }
+    ensures { Pushes W.taken W.failures sink.old sink.new out.old out.new
+        (observables_text model.now) }
 {
     for observable in 0..model.observable_count() {
         push_observable(out, sink, observable);
@@ -204,7 +215,8 @@ fn write_observables<'a, A: Allocator + Copy, W: Sink>(
 
 /// Pushes the line of an observable.
 pub fn push_observable<W: Sink>(out: &mut Pieces, sink: &mut W, observable: usize)
-    ensures { Pushes W.taken W.failures sink.old sink.new out.old out.new (observable_text observable) }
+    ensures { Pushes W.taken W.failures sink.old sink.new out.old out.new
+        (observable_text observable) }
 {
     out.push(sink, b"logical_observable L");
     write_number(out, sink, observable);

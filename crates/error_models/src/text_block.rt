@@ -103,7 +103,9 @@ impl<A: Allocator + Copy> TextBlock<A> {
         requires short { length text.now ≤ 32 }
         requires few { length targets.now ≤ 16 }
         requires targets { All (λ target. target < names.now.targets) targets.now }
-        ensures { self.new.text ≡ line_text names.now.detectors (record { text = text.now; targets = targets.now }) ++ self.old.text }
+        ensures { self.new.text
+            ≡ line_text names.now.detectors (record { text = text.now; targets = targets.now })
+            ++ self.old.text }
     {
         let bytes = self.bytes.as_mut_slice();
         let at = text_before(bytes, self.start, b"\n");

@@ -110,7 +110,9 @@ impl<A: Allocator + Copy> TextBlocks<A> {
         requires short { length text.now ≤ 32 }
         requires few { length targets.now ≤ 16 }
         requires targets { All (λ target. target < names.now.targets) targets.now }
-        ensures { self.new.text ≡ line_text names.now.detectors (record { text = text.now; targets = targets.now }) ++ self.old.text }
+        ensures { self.new.text
+            ≡ line_text names.now.detectors (record { text = text.now; targets = targets.now })
+            ++ self.old.text }
     {
         self.block.put_line(names, text, targets);
     }

@@ -30,7 +30,8 @@ pub(crate) fn write_letters<W: Sink>(
 ) -> bool
     requires { from + length letters.now ≤ u32.MAX }
     ensures first { result ≡ (first && is_none (letter_factors from letters.now)) }
-    ensures pushed { Pushes W.taken W.failures sink.old sink.new out.old out.new (joined_on first (letter_factors from letters.now)) }
+    ensures pushed { Pushes W.taken W.failures sink.old sink.new out.old out.new
+        (joined_on first (letter_factors from letters.now)) }
 {
     let mut none = first;
     let mut done = 0;
@@ -55,7 +56,8 @@ fn write_block<W: Sink>(
     requires within { from + length letters.now ≤ u32.MAX }
     requires few { length letters.now ≤ 16 }
     ensures first { result ≡ (first && is_none (letter_factors from letters.now)) }
-    ensures pushed { Pushes W.taken W.failures sink.old sink.new out.old out.new (joined_on first (letter_factors from letters.now)) }
+    ensures pushed { Pushes W.taken W.failures sink.old sink.new out.old out.new
+        (joined_on first (letter_factors from letters.now)) }
 {
     let start = letters_before(buffer, ROOM, letters, from);
     if start == ROOM {
@@ -74,7 +76,8 @@ fn letters_before(buffer: &mut [u8], end: usize, letters: &[Letter], from: u32) 
     requires room { length letters.now * 12 ≤ end }
     requires fits { from + length letters.now ≤ u32.MAX }
     ensures within { result ≤ end }
-    ensures written { drop result buffer.new ≡ starred (letter_factors from letters.now) ++ drop end buffer.old }
+    ensures written { drop result buffer.new
+        ≡ starred (letter_factors from letters.now) ++ drop end buffer.old }
 {
     let mut left = letters.len();
     let mut at = end;
@@ -92,7 +95,9 @@ fn letter_before(buffer: &mut [u8], end: usize, qubit: u32, letter: Letter) -> u
     requires room { 12 ≤ end }
     ensures within { result ≤ end }
     ensures least { end ≤ result + 12 }
-    ensures written { drop result buffer.new ≡ (if is_I letter then [] else codes "*" ++ factor_text qubit letter) ++ drop end buffer.old }
+    ensures written { drop result buffer.new
+        ≡ (if is_I letter then [] else codes "*" ++ factor_text qubit letter)
+        ++ drop end buffer.old }
 {
     if acts(letter) {
         starred_before(buffer, end, Term { qubit, letter })
@@ -108,7 +113,8 @@ fn starred_before(buffer: &mut [u8], end: usize, term: Term) -> usize
     requires room { 12 ≤ end }
     ensures within { result ≤ end }
     ensures least { end ≤ result + 12 }
-    ensures written { drop result buffer.new ≡ codes "*" ++ factor_text term.qubit term.letter ++ drop end buffer.old }
+    ensures written { drop result buffer.new
+        ≡ codes "*" ++ factor_text term.qubit term.letter ++ drop end buffer.old }
 {
     let at = factor_before(buffer, end, term);
     byte_before(buffer, at, b'*')
@@ -120,7 +126,8 @@ fn factor_before(buffer: &mut [u8], end: usize, term: Term) -> usize
     requires room { 11 ≤ end }
     ensures within { result ≤ end }
     ensures least { end ≤ result + 11 }
-    ensures written { drop result buffer.new ≡ factor_text term.qubit term.letter ++ drop end buffer.old }
+    ensures written { drop result buffer.new
+        ≡ factor_text term.qubit term.letter ++ drop end buffer.old }
 {
     let at = number_before(buffer, end, term.qubit);
     byte_before(buffer, at, letter_byte(term.letter))

@@ -11,7 +11,9 @@ use step_model::Term;
 
 /// Makes each letter the product of those that terms have at its qubit; the first is that of this qubit.
 pub(crate) fn gather(letters: &mut [Letter], terms: &[Term], from: u32)
-    ensures { (k : ℕ) → k < length letters.old → slice_index_or letters.new k I ≡ letter_in terms.now (from + k) }
+    ensures { (k : ℕ)
+        → k < length letters.old
+        → slice_index_or letters.new k I ≡ letter_in terms.now (from + k) }
 {
     letters.fill(Letter::I);
     for term in terms {
@@ -22,7 +24,10 @@ pub(crate) fn gather(letters: &mut [Letter], terms: &[Term], from: u32)
 // Multiplies a term into the letter of its qubit, where that is among them.
 #[inline(always)]
 fn multiply(letters: &mut [Letter], from: u32, term: Term)
-    ensures { (k : ℕ) → k < length letters.old → slice_index_or letters.new k I ≡ letter_product (slice_index_or letters.old k I) (letter_here term (from + k)) }
+    ensures { (k : ℕ)
+        → k < length letters.old
+        → slice_index_or letters.new k I
+        ≡ letter_product (slice_index_or letters.old k I) (letter_here term (from + k)) }
 {
     if term.qubit < from {
         return;

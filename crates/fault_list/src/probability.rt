@@ -54,7 +54,11 @@ impl<'t, 'a> Probability<'t, 'a> {
         ensures same { self.new ≡ self.old }
         ensures from { IfSome result (λ end. at ≤ end) }
         ensures within { IfSome result (λ end. end ≤ at + 32) }
-        ensures written { IfSome result (λ end. take end buffer.new ≡ take at buffer.old ++ probability_text (chance_at self.old.parts.now (slice_index_or self.old.numbers.now entry 0)).text) }
+        ensures written { IfSome result
+            (λ end. take end buffer.new
+            ≡ take at buffer.old
+            ++ probability_text
+            (chance_at self.old.parts.now (slice_index_or self.old.numbers.now entry 0)).text) }
         ensures kept { result ≡ None → buffer.new ≡ buffer.old }
     {
         let part = self.table.numbers[entry as usize];
@@ -72,7 +76,8 @@ impl<'t, 'a> Probability<'t, 'a> {
         ensures same { self.new ≡ self.old }
         ensures from { IfSome result (λ end. at ≤ end) }
         ensures within { IfSome result (λ end. end ≤ at + 32) }
-        ensures written { IfSome result (λ end. take end buffer.new ≡ take at buffer.old ++ probability_text (chance_at self.old.parts.now part).text) }
+        ensures written { IfSome result (λ end. take end buffer.new
+            ≡ take at buffer.old ++ probability_text (chance_at self.old.parts.now part).text) }
         ensures kept { result ≡ None → buffer.new ≡ buffer.old }
     {
         let parts = self.table.parts;

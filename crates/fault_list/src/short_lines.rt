@@ -56,7 +56,8 @@ pub(crate) fn put_line<'t, 'a, A: Allocator + Copy>(
     requires texts { TellsChances program.now.kept texts.old.probability }
     ensures same { texts.new.probability ≡ texts.old.probability }
     ensures within { IfSome result (λ end. end ≤ at + 256) }
-    ensures written { IfSome result (λ end. take end buffer.new ≡ take at buffer.old ++ fault_line program.now.listing fault.number) }
+    ensures written { IfSome result (λ end. take end buffer.new
+        ≡ take at buffer.old ++ fault_line program.now.listing fault.number) }
     ensures kept { result ≡ None → take at buffer.new ≡ take at buffer.old }
 {
     let end = texts.number.put(buffer, at, fault.number);
@@ -78,7 +79,10 @@ fn put_effect<'t, 'a, A: Allocator + Copy>(
     requires fault { IsFaultOf program.now fault }
     ensures same { texts.new.probability ≡ texts.old.probability }
     ensures within { IfSome result (λ end. end ≤ at + 192) }
-    ensures written { IfSome result (λ end. take end buffer.new ≡ take at buffer.old ++ effect_text program.now.listing.qubits (effect_at program.now.listing fault.number)) }
+    ensures written { IfSome result (λ end. take end buffer.new
+        ≡ take at buffer.old
+        ++ effect_text program.now.listing.qubits
+        (effect_at program.now.listing fault.number)) }
     ensures kept { result ≡ None → buffer.new ≡ buffer.old }
 {
     program.well_formed();
@@ -120,7 +124,8 @@ fn put_word(
     requires room { at + 200 ≤ length buffer.old }
     requires fit { TermsFit qubits terms.now }
     ensures within { IfSome result (λ end. end ≤ at + 192) }
-    ensures written { IfSome result (λ end. take end buffer.new ≡ take at buffer.old ++ word_text (word_of_terms qubits terms.now)) }
+    ensures written { IfSome result (λ end. take end buffer.new
+        ≡ take at buffer.old ++ word_text (word_of_terms qubits terms.now)) }
     ensures kept { result ≡ None → buffer.new ≡ buffer.old }
 {
     match terms {
@@ -146,7 +151,8 @@ fn put_ordered(
     requires room { at + 200 ≤ length buffer.old }
     requires fit { TermsFit qubits terms.now }
     ensures within { IfSome result (λ end. end ≤ at + 192) }
-    ensures written { IfSome result (λ end. take end buffer.new ≡ take at buffer.old ++ word_text (word_of_terms qubits terms.now)) }
+    ensures written { IfSome result (λ end. take end buffer.new
+        ≡ take at buffer.old ++ word_text (word_of_terms qubits terms.now)) }
     ensures kept { result ≡ None → buffer.new ≡ buffer.old }
 {
     if terms.len() > SHORT_TERMS || !is_ordered(terms) {
@@ -194,7 +200,8 @@ fn put_factors(buffer: &mut [u8], at: usize, names: &mut QubitNames, terms: &[Te
 fn put_starred(buffer: &mut [u8], at: usize, names: &mut QubitNames, term: Term) -> usize
     requires room { at + 18 ≤ length buffer.old }
     ensures within { result ≤ at + 12 }
-    ensures written { take result buffer.new ≡ take at buffer.old ++ (codes "*" ++ factor_text term.qubit term.letter) }
+    ensures written { take result buffer.new
+        ≡ take at buffer.old ++ (codes "*" ++ factor_text term.qubit term.letter) }
 {
     let end = put_byte(buffer, at, b'*');
     put_factor(buffer, end, names, term)
@@ -204,7 +211,8 @@ fn put_starred(buffer: &mut [u8], at: usize, names: &mut QubitNames, term: Term)
 fn put_factor(buffer: &mut [u8], at: usize, names: &mut QubitNames, term: Term) -> usize
     requires room { at + 17 ≤ length buffer.old }
     ensures within { result ≤ at + 11 }
-    ensures written { take result buffer.new ≡ take at buffer.old ++ factor_text term.qubit term.letter }
+    ensures written { take result buffer.new
+        ≡ take at buffer.old ++ factor_text term.qubit term.letter }
 {
     let end = put_byte(buffer, at, letter_byte(term.letter));
     put_qubit(buffer, end, names, term.qubit)

@@ -25,10 +25,12 @@ pub fn write<'a, A: Allocator + Copy, W: Sink>(
     program: &Program<'a, A>,
     sink: &mut W,
 ) -> Result<(), Fault>
-    ensures all { OnOk result (Takes (W.taken sink.old) (W.taken sink.new) (list_text program.now.listing)) }
+    ensures all { OnOk result
+        (Takes (W.taken sink.old) (W.taken sink.new) (list_text program.now.listing)) }
 
     ensures fault { IfErr result (λ e. e ≡ write_fault) }
-    ensures beginning { OnErr result (TakesBeginning (W.taken sink.old) (W.taken sink.new) (list_text program.now.listing)) }
+    ensures beginning { OnErr result
+        (TakesBeginning (W.taken sink.old) (W.taken sink.new) (list_text program.now.listing)) }
 
     // One more where the sink failed, otherwise as before.
     ensures count { W.failures sink.new ≡ write_failures result (W.failures sink.old) }
@@ -59,7 +61,8 @@ fn write_faults<'a, A: Allocator + Copy, W: Sink>(
     sink: &mut W,
     program: &Program<'a, A>,
 )
-    ensures { Pushes W.taken W.failures sink.old sink.new out.old out.new (fault_lines program.now.listing) }
+    ensures { Pushes W.taken W.failures sink.old sink.new out.old out.new
+        (fault_lines program.now.listing) }
 {
     program.well_formed();
     let mut desk = Desk {
@@ -91,7 +94,9 @@ fn write_line<'t, 'a, A: Allocator + Copy, W: Sink>(
     requires texts { TellsChances program.now.kept desk.old.texts.probability }
     ensures held { result ≤ 3840 }
     ensures texts { desk.new.texts.probability ≡ desk.old.texts.probability }
-    ensures pushed { PushesSome W.taken W.failures sink.old sink.new out.old out.new (take held desk.old.lines) (take result desk.new.lines) (fault_line program.now.listing fault.number) }
+    ensures pushed { PushesSome W.taken W.failures sink.old sink.new out.old out.new
+        (take held desk.old.lines) (take result desk.new.lines)
+        (fault_line program.now.listing fault.number) }
 {
     match put_line(&mut desk.lines, held, &mut desk.texts, program, fault) {
         Some(end) if end <= LAST_LINE => end,
@@ -123,7 +128,8 @@ fn write_long_line<'a, A: Allocator + Copy, W: Sink>(
     fault: FoundFault,
 )
     requires { IsFaultOf program.now fault }
-    ensures { Pushes W.taken W.failures sink.old sink.new out.old out.new (fault_line program.now.listing fault.number) }
+    ensures { Pushes W.taken W.failures sink.old sink.new out.old out.new
+        (fault_line program.now.listing fault.number) }
 {
     write_number(out, sink, fault.number);
     out.push(sink, b" ");
@@ -143,7 +149,8 @@ fn write_effect<'a, A: Allocator + Copy, W: Sink>(
     fault: FoundFault,
 )
     requires { IsFaultOf program.now fault }
-    ensures { Pushes W.taken W.failures sink.old sink.new out.old out.new (effect_text program.now.listing.qubits (effect_at program.now.listing fault.number)) }
+    ensures { Pushes W.taken W.failures sink.old sink.new out.old out.new
+        (effect_text program.now.listing.qubits (effect_at program.now.listing fault.number)) }
 {
     program.well_formed();
     match fault.flips {

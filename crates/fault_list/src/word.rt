@@ -27,7 +27,8 @@ pub(crate) fn write_word<W: Sink>(
     terms: &[Term],
 )
     requires { TermsFit qubits terms.now }
-    ensures { Pushes W.taken W.failures sink.old sink.new out.old out.new (word_text (word_of_terms qubits terms.now)) }
+    ensures { Pushes W.taken W.failures sink.old sink.new out.old out.new
+        (word_text (word_of_terms qubits terms.now)) }
 {
     let mut first = true;
     let mut from = lowest_from(terms, 0, qubits);
@@ -80,7 +81,8 @@ fn write_span<W: Sink>(
 ) -> bool
     requires { from + length letters.old ≤ u32.MAX }
     ensures first { result ≡ (first && is_none (term_factors terms.now from (length letters.old))) }
-    ensures pushed { Pushes W.taken W.failures sink.old sink.new out.old out.new (joined_on first (term_factors terms.now from (length letters.old))) }
+    ensures pushed { Pushes W.taken W.failures sink.old sink.new out.old out.new
+        (joined_on first (term_factors terms.now from (length letters.old))) }
 {
     gather(letters, terms, from);
     write_letters(out, sink, buffer, letters, from, first)

@@ -50,7 +50,8 @@ impl<T: Copy, A: Allocator + Copy> ListRooms<T, A> {
     /// Appends an item to the list at an index. It fails only where the list's room is full.
     pub fn push(&mut self, index: usize, item: T) -> Result<(), AllocError>
         requires { index < length self.old }
-        ensures ok { OnOk result (self.new ≡ slice_set self.old index (slice_index_or self.old index [] ++ item ∷ [])) }
+        ensures ok { OnOk result
+            (self.new ≡ slice_set self.old index (slice_index_or self.old index [] ++ item ∷ [])) }
         ensures err { OnErr result (self.new ≡ self.old) }
     {
         let start = start_of(&self.ends, index);

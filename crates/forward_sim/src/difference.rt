@@ -19,7 +19,8 @@ pub fn detections<A: Allocator + Copy>(
 ) -> Result<Vec<bool, A>, Fault>
     requires records_fit { length records.now ≡ program.now.listing.records }
     requires reference_fit { length reference.now ≡ program.now.listing.records }
-    ensures ok { IfOk result (λ answers. answers.items ≡ difference program.now.listing records.now reference.now) }
+    ensures ok { IfOk result (λ answers. answers.items
+        ≡ difference program.now.listing records.now reference.now) }
     ensures err { IfErr result (λ fault. fault ≡ memory_fault) }
 {
     Ok(differences(alloc, program, records, reference)?)
@@ -34,7 +35,8 @@ fn differences<A: Allocator + Copy>(
 ) -> Result<Vec<bool, A>, AllocError>
     requires records_fit { length records.now ≡ program.now.listing.records }
     requires reference_fit { length reference.now ≡ program.now.listing.records }
-    ensures { IfOk result (λ answers. answers.items ≡ difference program.now.listing records.now reference.now) }
+    ensures { IfOk result (λ answers. answers.items
+        ≡ difference program.now.listing records.now reference.now) }
 {
     let targets = program.target_count();
     let mut answers = Vec::with_capacity(alloc, targets)?;
@@ -49,7 +51,8 @@ fn differences<A: Allocator + Copy>(
 fn differs<A: Allocator + Copy>(named: &[u32], records: &Records<A>, reference: &Records<A>) -> bool
     requires records_fit { All (λ r. r < length records.now) named.now }
     requires reference_fit { All (λ r. r < length reference.now) named.now }
-    ensures { result ≡ exclusive_or (parity named.now records.now) (parity named.now reference.now) }
+    ensures { result
+        ≡ exclusive_or (parity named.now records.now) (parity named.now reference.now) }
 {
     let mut differ = false;
     for index in named {

@@ -17,9 +17,15 @@ pub fn draw<A: Allocator + Copy>(
     program: &Program<'_, A>,
     rng: &mut Pcg64,
 ) -> Result<(Vec<bool, A>, Vec<bool, A>), Fault>
-    ensures faults { IfOk result (λ drawn. drawn.0.items ≡ drawn_faults (bounds_of program.now.listing) rng.old) }
-    ensures coins { IfOk result (λ drawn. drawn.1.items ≡ drawn_coins program.now.listing.collapses (after_words (length program.now.listing.faults) rng.old)) }
-    ensures taken { OnOk result (rng.new ≡ after_words (length program.now.listing.faults + program.now.listing.collapses) rng.old) }
+    ensures faults { IfOk result (λ drawn. drawn.0.items
+        ≡ drawn_faults (bounds_of program.now.listing) rng.old) }
+    ensures coins { IfOk result (λ drawn. drawn.1.items
+        ≡ drawn_coins program.now.listing.collapses
+        (after_words (length program.now.listing.faults) rng.old)) }
+    ensures taken { OnOk result
+        (rng.new
+        ≡ after_words (length program.now.listing.faults + program.now.listing.collapses)
+        rng.old) }
     ensures err { IfErr result (λ fault. fault ≡ memory_fault) }
     ensures stays { OnErr result (rng.new ≡ rng.old) }
 {

@@ -35,11 +35,16 @@ pub(crate) fn follow_step<A: Allocator + Copy>(
 )
     requires of_program { IsStepOf program.now step }
     requires qubits { qubit_count machine.old ≡ program.now.listing.qubits }
-    requires room { length machine.old.records + length (step_records (listed program.now.listing.qubits program.now.products step)) ≤ machine.old.room }
+    requires room { length machine.old.records + length
+        (step_records (listed program.now.listing.qubits program.now.products step))
+        ≤ machine.old.room }
     requires letters { program.now.listing.qubits ≤ vec_capacity terms.old }
     ensures letters { vec_capacity terms.new ≡ vec_capacity terms.old }
-    ensures run { ComesTo machine.old machine.new (next program.now.listing [] (listed program.now.listing.qubits program.now.products step) (run_of machine.old)) }
-    ensures entry { IsStepEntry program.now.listing.qubits (run_of machine.old).state (listed program.now.listing.qubits program.now.products step) (entry_of terms.new.items) }
+    ensures run { ComesTo machine.old machine.new
+        (next program.now.listing [] (listed program.now.listing.qubits program.now.products step)
+        (run_of machine.old)) }
+    ensures entry { IsStepEntry program.now.listing.qubits (run_of machine.old).state
+        (listed program.now.listing.qubits program.now.products step) (entry_of terms.new.items) }
 {
     program.well_formed();
     match step {
@@ -82,9 +87,14 @@ fn follow_letter<A: Allocator + Copy>(
     requires qubits { qubit_count machine.old ≡ program.now.listing.qubits }
     requires letters { program.now.listing.qubits ≤ vec_capacity terms.old }
     ensures letters { vec_capacity terms.new ≡ vec_capacity terms.old }
-    ensures outcome { result ≡ outcome (run_of machine.old).state (lone_letter (qubit_count machine.old) qubit letter) (next_coin machine.old.coins) }
-    ensures run { ComesTo machine.old machine.new (after_collapse (lone_letter (qubit_count machine.old) qubit letter) None false false (run_of machine.old)) }
-    ensures entry { IsEntry (qubit_count machine.old) (run_of machine.old).state (lone_letter (qubit_count machine.old) qubit letter) (entry_of terms.new.items) }
+    ensures outcome { result
+        ≡ outcome (run_of machine.old).state (lone_letter (qubit_count machine.old) qubit letter)
+        (next_coin machine.old.coins) }
+    ensures run { ComesTo machine.old machine.new
+        (after_collapse (lone_letter (qubit_count machine.old) qubit letter) None false false
+        (run_of machine.old)) }
+    ensures entry { IsEntry (qubit_count machine.old) (run_of machine.old).state
+        (lone_letter (qubit_count machine.old) qubit letter) (entry_of terms.new.items) }
 {
     let (seen, row) = collapse_letter(machine, letter, qubit);
     read_row(machine, program, terms, row);
@@ -102,9 +112,14 @@ fn follow_product<A: Allocator + Copy>(
     requires qubits { qubit_count machine.old ≡ program.now.listing.qubits }
     requires letters { program.now.listing.qubits ≤ vec_capacity terms.old }
     ensures letters { vec_capacity terms.new ≡ vec_capacity terms.old }
-    ensures outcome { result ≡ outcome (run_of machine.old).state (word_of_terms (qubit_count machine.old) product.now) (next_coin machine.old.coins) }
-    ensures run { ComesTo machine.old machine.new (after_collapse (word_of_terms (qubit_count machine.old) product.now) None false false (run_of machine.old)) }
-    ensures entry { IsEntry (qubit_count machine.old) (run_of machine.old).state (word_of_terms (qubit_count machine.old) product.now) (entry_of terms.new.items) }
+    ensures outcome { result
+        ≡ outcome (run_of machine.old).state (word_of_terms (qubit_count machine.old) product.now)
+        (next_coin machine.old.coins) }
+    ensures run { ComesTo machine.old machine.new
+        (after_collapse (word_of_terms (qubit_count machine.old) product.now) None false false
+        (run_of machine.old)) }
+    ensures entry { IsEntry (qubit_count machine.old) (run_of machine.old).state
+        (word_of_terms (qubit_count machine.old) product.now) (entry_of terms.new.items) }
 {
     let (seen, row) = collapse_product(machine, product);
     read_row(machine, program, terms, row);
@@ -123,7 +138,8 @@ fn read_row<A: Allocator + Copy>(
     requires letters { program.now.listing.qubits ≤ vec_capacity terms.old }
     ensures letters { vec_capacity terms.new ≡ vec_capacity terms.old }
     ensures machine { machine.new ≡ machine.old }
-    ensures long { IfSome row (λ r. length (destabilizer_at machine.old.rows r).letters ≡ qubit_count machine.old) }
+    ensures long { IfSome row (λ r. length (destabilizer_at machine.old.rows r).letters
+        ≡ qubit_count machine.old) }
     ensures read { entry_of terms.new.items ≡ entry_for machine.old.rows row }
 {
     match row {

@@ -20,7 +20,8 @@ pub fn run<A: Allocator + Copy>(
     faults: &[bool],
     coins: &[bool],
 ) -> Result<Records<A>, Fault>
-    ensures ok { IfOk result (λ records. records ≡ records_of program.now.listing faults.now coins.now) }
+    ensures ok { IfOk result (λ records. records
+        ≡ records_of program.now.listing faults.now coins.now) }
     ensures count { IfOk result (λ records. length records ≡ program.now.listing.records) }
     ensures err { IfErr result (λ fault. fault ≡ memory_fault) }
 {
@@ -34,7 +35,8 @@ fn take_steps<A: Allocator + Copy>(
     faults: &[bool],
     coins: &[bool],
 ) -> Result<Records<A>, AllocError>
-    ensures ok { IfOk result (λ records. records ≡ records_of program.now.listing faults.now coins.now) }
+    ensures ok { IfOk result (λ records. records
+        ≡ records_of program.now.listing faults.now coins.now) }
     ensures count { IfOk result (λ records. length records ≡ program.now.listing.records) }
 {
     program.well_formed();

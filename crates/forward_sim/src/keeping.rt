@@ -24,7 +24,8 @@ pub(crate) fn follow<A: Allocator + Copy>(
     program: &Program<'_, A>,
     bytes: usize,
 ) -> Result<(Records<A>, ReplacedWords<A>), AllocError>
-    ensures records { IfOk result (λ made. made.0 ≡ records_of program.now.listing [] (zero_coins program.now.listing)) }
+    ensures records { IfOk result (λ made. made.0
+        ≡ records_of program.now.listing [] (zero_coins program.now.listing)) }
     ensures count { IfOk result (λ made. length made.0 ≡ program.now.listing.records) }
     ensures words { IfOk result (λ made. AreWordsOf program.now.listing (words_of made.1)) }
 {
@@ -50,9 +51,13 @@ fn follow_steps<A: Allocator + Copy>(
     requires room { walk.old.room ≡ program.now.listing.records }
     requires starts { IsSameRun program.now.listing.qubits (walking_run walk.old) (start []) }
     requires empty { kept.old.replaced ≡ [] }
-    ensures records { OnOk result (walk.new.records ≡ records_of program.now.listing [] (zero_coins program.now.listing)) }
+    ensures records { OnOk result
+        (walk.new.records ≡ records_of program.now.listing [] (zero_coins program.now.listing)) }
     ensures count { OnOk result (length walk.new.records ≡ program.now.listing.records) }
-    ensures kept { OnOk result (kept.new.whole ≡ true → AreEntries program.now.listing program.now.listing.steps (start (zero_coins program.now.listing)) kept.new.replaced) }
+    ensures kept { OnOk result
+        (kept.new.whole ≡ true
+        → AreEntries program.now.listing program.now.listing.steps
+        (start (zero_coins program.now.listing)) kept.new.replaced) }
 {
     program.well_formed();
     let mut steps = Walk::start(program);
@@ -72,11 +77,19 @@ fn keep_step<A: Allocator + Copy>(
 ) -> Result<(), AllocError>
     requires of_program { IsStepOf program.now step }
     requires qubits { walking_qubits walk.old ≡ program.now.listing.qubits }
-    requires room { length walk.old.records + length (step_records (listed program.now.listing.qubits program.now.products step)) ≤ walk.old.room }
+    requires room { length walk.old.records + length
+        (step_records (listed program.now.listing.qubits program.now.products step))
+        ≤ walk.old.room }
     ensures qubits { OnOk result (walking_qubits walk.new ≡ walking_qubits walk.old) }
     ensures room { OnOk result (walk.new.room ≡ walk.old.room) }
-    ensures run { OnOk result (IsSameRun (walking_qubits walk.old) (walking_run walk.new) (next program.now.listing [] (listed program.now.listing.qubits program.now.products step) (walking_run walk.old))) }
-    ensures kept { OnOk result (StepIsKept program.now.listing.qubits (walking_run walk.old).state (listed program.now.listing.qubits program.now.products step) kept.old kept.new) }
+    ensures run { OnOk result
+        (IsSameRun (walking_qubits walk.old) (walking_run walk.new)
+        (next program.now.listing []
+        (listed program.now.listing.qubits program.now.products step)
+        (walking_run walk.old))) }
+    ensures kept { OnOk result
+        (StepIsKept program.now.listing.qubits (walking_run walk.old).state
+        (listed program.now.listing.qubits program.now.products step) kept.old kept.new) }
 {
     if !kept.is_whole() {
         walk.go_past(program, step);

@@ -57,7 +57,9 @@ impl<A: Allocator + Copy> KeptWords<A> {
     /// for them, it gives back the memory of all that was kept.
     pub(crate) fn push(&mut self, word: &[Term]) -> Result<(), AllocError>
         ensures whole { OnOk result (self.new.whole ≡ true → self.old.whole ≡ true) }
-        ensures kept { OnOk result (self.new.whole ≡ true → self.new.replaced ≡ self.old.replaced ++ entry_of word.now ∷ []) }
+        ensures kept { OnOk result
+            (self.new.whole ≡ true
+            → self.new.replaced ≡ self.old.replaced ++ entry_of word.now ∷ []) }
     {
         let found = self.words.find(word);
         let taken = bytes_taken(found.is_some(), word.len());
@@ -84,7 +86,8 @@ impl<A: Allocator + Copy> KeptWords<A> {
     #[inline(always)]
     pub(crate) fn get(&self, collapse: usize) -> Option<&[Term]>
         requires { collapse < length self.now.replaced }
-        ensures { option_map (λ terms. terms.now) result ≡ slice_index_or self.now.replaced collapse None }
+        ensures { option_map (λ terms. terms.now) result
+            ≡ slice_index_or self.now.replaced collapse None }
     {
         word_in(self.words.get(self.numbers[collapse] as usize))
     }

@@ -14,7 +14,8 @@ use rand_pcg::Pcg64;
 pub(crate) fn draw_faults(faults: &mut [u64], runs: &[BoundRun], lane: u32, rng: &mut Pcg64)
     requires faults { length faults.old ≡ length (bounds_in runs.now) }
     requires lane { lane < 64 }
-    ensures drawn { DrawsInto lane 0 (length (bounds_in runs.now)) (fault_hits (bounds_in runs.now) rng.old) faults.old faults.new }
+    ensures drawn { DrawsInto lane 0 (length (bounds_in runs.now))
+        (fault_hits (bounds_in runs.now) rng.old) faults.old faults.new }
     ensures taken { rng.new ≡ after_words (length (bounds_in runs.now)) rng.old }
 {
     let mut start = 0;
@@ -30,7 +31,8 @@ fn draw_run(faults: &mut [u64], start: usize, end: usize, bound: u128, lane: u32
     requires order { start ≤ end }
     requires within { end ≤ length faults.old }
     requires lane { lane < 64 }
-    ensures drawn { DrawsInto lane start end (λ f. nat_lt (word_at rng.old (f - start)) bound) faults.old faults.new }
+    ensures drawn { DrawsInto lane start end (λ f. nat_lt (word_at rng.old (f - start)) bound)
+        faults.old faults.new }
     ensures taken { rng.new ≡ after_words (end - start) rng.old }
 {
     for f in start..end {
@@ -76,7 +78,8 @@ pub(crate) fn toss(coins: &mut [u64], c: usize, lane: u32, coin: bool)
 #[inline(always)]
 fn with_coin(word: u64, lane: u32, coin: bool) -> u64
     requires { lane < 64 }
-    ensures { (j : ℕ) → lane_bit j result ≡ (if j == lane then (coin || lane_bit j word) else lane_bit j word) }
+    ensures { (j : ℕ)
+        → lane_bit j result ≡ (if j == lane then (coin || lane_bit j word) else lane_bit j word) }
 {
     let heads = with_bit(word, lane);
     if coin { heads } else { word }

@@ -16,9 +16,14 @@ pub(crate) fn collapse_letter<A: Allocator + Copy>(
     qubit: u32,
 ) -> (bool, Option<usize>)
     requires { qubit < qubit_count machine.old }
-    ensures outcome { result.0 ≡ outcome (run_of machine.old).state (lone_letter (qubit_count machine.old) qubit letter) (next_coin machine.old.coins) }
-    ensures run { ComesTo machine.old machine.new (after_collapse (lone_letter (qubit_count machine.old) qubit letter) None false false (run_of machine.old)) }
-    ensures row { NamesRow machine.old.rows machine.new.rows (lone_letter (qubit_count machine.old) qubit letter) result.1 }
+    ensures outcome { result.0
+        ≡ outcome (run_of machine.old).state (lone_letter (qubit_count machine.old) qubit letter)
+        (next_coin machine.old.coins) }
+    ensures run { ComesTo machine.old machine.new
+        (after_collapse (lone_letter (qubit_count machine.old) qubit letter) None false false
+        (run_of machine.old)) }
+    ensures row { NamesRow machine.old.rows machine.new.rows
+        (lone_letter (qubit_count machine.old) qubit letter) result.1 }
 {
     let coin = machine.take_coin();
     machine.tableau.collapse(letter, qubit as usize, coin)

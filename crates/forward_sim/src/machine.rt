@@ -98,7 +98,9 @@ impl<'c, A: Allocator + Copy> Machine<'c, A> {
     /// Where `reset`, ends the reset of a qubit whose letter was measured with this outcome.
     pub(crate) fn correct(&mut self, letter: Letter, qubit: u32, reset: bool, seen: bool)
         requires { qubit < qubit_count self.old }
-        ensures { ComesTo self.old self.new (record (run_of self.old) { state = corrected (correction (qubit_count self.old) (measured (qubit_count self.old) reset letter qubit)) seen (run_of self.old).state }) }
+        ensures { ComesTo self.old self.new
+            (record (run_of self.old)
+            { state = corrected (correction (qubit_count self.old) (measured (qubit_count self.old) reset letter qubit)) seen (run_of self.old).state }) }
     {
         if reset {
             self.reset_after(letter, qubit, seen);
@@ -107,7 +109,9 @@ impl<'c, A: Allocator + Copy> Machine<'c, A> {
 
     fn reset_after(&mut self, letter: Letter, qubit: u32, seen: bool)
         requires { qubit < qubit_count self.old }
-        ensures { ComesTo self.old self.new (record (run_of self.old) { state = applied seen (lone_letter (qubit_count self.old) qubit (correcting letter)) (run_of self.old).state }) }
+        ensures { ComesTo self.old self.new
+            (record (run_of self.old)
+            { state = applied seen (lone_letter (qubit_count self.old) qubit (correcting letter)) (run_of self.old).state }) }
     {
         self.tableau.reset_after(letter, qubit as usize, seen);
     }
@@ -115,7 +119,9 @@ impl<'c, A: Allocator + Copy> Machine<'c, A> {
     /// Records a value, where there is a number for it.
     pub(crate) fn keep(&mut self, number: Option<u32>, value: bool)
         requires { length self.old.records + (if is_some number then 1 else 0) ≤ self.old.room }
-        ensures { self.new ≡ record self.old { records = if is_some number then self.old.records ++ value ∷ [] else self.old.records } }
+        ensures { self.new
+            ≡ record self.old
+            { records = if is_some number then self.old.records ++ value ∷ [] else self.old.records } }
     {
         if number.is_some() {
             self.records.push_reserved(value);
@@ -133,7 +139,9 @@ impl<'c, A: Allocator + Copy> Machine<'c, A> {
     pub(crate) fn apply_one(&mut self, gate: Gate, qubit: u32)
         requires arity { arity_of gate ≡ 1 }
         requires inside { qubit < qubit_count self.old }
-        ensures { ComesTo self.old self.new (record (run_of self.old) { state = λ p. (run_of self.old).state (preimage_at gate qubit p) }) }
+        ensures { ComesTo self.old self.new
+            (record (run_of self.old)
+            { state = λ p. (run_of self.old).state (preimage_at gate qubit p) }) }
     {
         self.tableau.apply(gate, qubit as usize, 0);
     }
@@ -144,7 +152,9 @@ impl<'c, A: Allocator + Copy> Machine<'c, A> {
         requires first_inside { a < qubit_count self.old }
         requires second_inside { b < qubit_count self.old }
         requires differ { a ≢ b }
-        ensures { ComesTo self.old self.new (record (run_of self.old) { state = λ p. (run_of self.old).state (preimage_at_two gate a b p) }) }
+        ensures { ComesTo self.old self.new
+            (record (run_of self.old)
+            { state = λ p. (run_of self.old).state (preimage_at_two gate a b p) }) }
     {
         self.tableau.apply(gate, a as usize, b as usize);
     }
@@ -152,7 +162,9 @@ impl<'c, A: Allocator + Copy> Machine<'c, A> {
     /// Applies a letter at a qubit, as the gate of that name.
     pub(crate) fn apply_letter(&mut self, letter: Letter, qubit: u32)
         requires { qubit < qubit_count self.old }
-        ensures { ComesTo self.old self.new (record (run_of self.old) { state = applied true (lone_letter (qubit_count self.old) qubit letter) (run_of self.old).state }) }
+        ensures { ComesTo self.old self.new
+            (record (run_of self.old)
+            { state = applied true (lone_letter (qubit_count self.old) qubit letter) (run_of self.old).state }) }
     {
         let gate = match letter {
             Letter::I => Gate::I,
@@ -166,7 +178,9 @@ impl<'c, A: Allocator + Copy> Machine<'c, A> {
     /// Applies a product of letters at qubits.
     pub(crate) fn apply_terms(&mut self, terms: &[Term])
         requires { TermsFit (qubit_count self.old) terms.now }
-        ensures { ComesTo self.old self.new (record (run_of self.old) { state = applied true (word_of_terms (qubit_count self.old) terms.now) (run_of self.old).state }) }
+        ensures { ComesTo self.old self.new
+            (record (run_of self.old)
+            { state = applied true (word_of_terms (qubit_count self.old) terms.now) (run_of self.old).state }) }
     {
         for term in terms {
             self.apply_letter(term.letter, term.qubit);

@@ -31,11 +31,15 @@ pub(crate) fn draw_pair(
     second: &mut Pcg64,
 )
     requires { length faults.old ≡ length (bounds_in runs.now) }
-    ensures faults { DrawsIntoBoth lanes.first lanes.second 0 (length (bounds_in runs.now)) (fault_hits (bounds_in runs.now) first.old) (fault_hits (bounds_in runs.now) second.old) faults.old faults.new }
+    ensures faults { DrawsIntoBoth lanes.first lanes.second 0 (length (bounds_in runs.now))
+        (fault_hits (bounds_in runs.now) first.old) (fault_hits (bounds_in runs.now) second.old)
+        faults.old faults.new }
     ensures coins { let n = length (bounds_in runs.now) in
         DrawsIntoBoth lanes.first lanes.second 0 (length coins.old) (coin_hits (after_words n first.old)) (coin_hits (after_words n second.old)) coins.old coins.new }
-    ensures first { first.new ≡ after_words (length coins.old) (after_words (length (bounds_in runs.now)) first.old) }
-    ensures second { second.new ≡ after_words (length coins.old) (after_words (length (bounds_in runs.now)) second.old) }
+    ensures first { first.new
+        ≡ after_words (length coins.old) (after_words (length (bounds_in runs.now)) first.old) }
+    ensures second { second.new
+        ≡ after_words (length coins.old) (after_words (length (bounds_in runs.now)) second.old) }
 {
     draw_faults(faults, runs, lanes, first, second);
     draw_coins(coins, lanes, first, second);
@@ -50,7 +54,9 @@ fn draw_faults(
     second: &mut Pcg64,
 )
     requires { length faults.old ≡ length (bounds_in runs.now) }
-    ensures drawn { DrawsIntoBoth lanes.first lanes.second 0 (length (bounds_in runs.now)) (fault_hits (bounds_in runs.now) first.old) (fault_hits (bounds_in runs.now) second.old) faults.old faults.new }
+    ensures drawn { DrawsIntoBoth lanes.first lanes.second 0 (length (bounds_in runs.now))
+        (fault_hits (bounds_in runs.now) first.old) (fault_hits (bounds_in runs.now) second.old)
+        faults.old faults.new }
     ensures first { first.new ≡ after_words (length (bounds_in runs.now)) first.old }
     ensures second { second.new ≡ after_words (length (bounds_in runs.now)) second.old }
 {
@@ -73,7 +79,9 @@ fn draw_run(
     second: &mut Pcg64,
 )
     requires { start + run.count ≤ length faults.old }
-    ensures drawn { DrawsIntoBoth lanes.first lanes.second start (start + run.count) (λ f. nat_lt (word_at first.old (f - start)) run.bound) (λ f. nat_lt (word_at second.old (f - start)) run.bound) faults.old faults.new }
+    ensures drawn { DrawsIntoBoth lanes.first lanes.second start (start + run.count)
+        (λ f. nat_lt (word_at first.old (f - start)) run.bound)
+        (λ f. nat_lt (word_at second.old (f - start)) run.bound) faults.old faults.new }
     ensures first { first.new ≡ after_words run.count first.old }
     ensures second { second.new ≡ after_words run.count second.old }
 {
@@ -111,7 +119,8 @@ fn word_below(bound: u128) -> u64
 
 // A coin is its word's lowest bit.
 fn draw_coins(coins: &mut [u64], lanes: LanePair, first: &mut Pcg64, second: &mut Pcg64)
-    ensures drawn { DrawsIntoBoth lanes.first lanes.second 0 (length coins.old) (coin_hits first.old) (coin_hits second.old) coins.old coins.new }
+    ensures drawn { DrawsIntoBoth lanes.first lanes.second 0 (length coins.old)
+        (coin_hits first.old) (coin_hits second.old) coins.old coins.new }
     ensures first { first.new ≡ after_words (length coins.old) first.old }
     ensures second { second.new ≡ after_words (length coins.old) second.old }
 {

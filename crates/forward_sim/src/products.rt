@@ -18,9 +18,14 @@ pub(crate) fn collapse_product<A: Allocator + Copy>(
     terms: &[Term],
 ) -> (bool, Option<usize>)
     requires { TermsFit (qubit_count machine.old) terms.now }
-    ensures outcome { result.0 ≡ outcome (run_of machine.old).state (word_of_terms (qubit_count machine.old) terms.now) (next_coin machine.old.coins) }
-    ensures run { ComesTo machine.old machine.new (after_collapse (word_of_terms (qubit_count machine.old) terms.now) None false false (run_of machine.old)) }
-    ensures row { NamesRow machine.old.rows machine.new.rows (word_of_terms (qubit_count machine.old) terms.now) result.1 }
+    ensures outcome { result.0
+        ≡ outcome (run_of machine.old).state (word_of_terms (qubit_count machine.old) terms.now)
+        (next_coin machine.old.coins) }
+    ensures run { ComesTo machine.old machine.new
+        (after_collapse (word_of_terms (qubit_count machine.old) terms.now) None false false
+        (run_of machine.old)) }
+    ensures row { NamesRow machine.old.rows machine.new.rows
+        (word_of_terms (qubit_count machine.old) terms.now) result.1 }
 {
     let coin = machine.take_coin();
     set_product(&mut machine.word, terms);

@@ -44,7 +44,8 @@ impl<A: Allocator + Copy> Reference<A> {
     /// of qubits. It stands before the first step.
     pub fn of(alloc: A, program: &Program<'_, A>) -> Result<Self, Fault>
         ensures ok { IfOk result (IsReferenceOf program.now.listing) }
-        ensures records { IfOk result (λ reference. length reference.records ≡ program.now.listing.records) }
+        ensures records { IfOk result (λ reference. length reference.records
+            ≡ program.now.listing.records) }
         ensures err { IfErr result (λ fault. fault ≡ memory_fault) }
     {
         let bytes = MOST_BYTES + 4 * program.record_count() as usize;
@@ -54,7 +55,8 @@ impl<A: Allocator + Copy> Reference<A> {
     /// The same, where the words are kept if they take at most so many bytes.
     pub fn in_room(alloc: A, program: &Program<'_, A>, bytes: usize) -> Result<Self, Fault>
         ensures ok { IfOk result (IsReferenceOf program.now.listing) }
-        ensures records { IfOk result (λ reference. length reference.records ≡ program.now.listing.records) }
+        ensures records { IfOk result (λ reference. length reference.records
+            ≡ program.now.listing.records) }
         ensures err { IfErr result (λ fault. fault ≡ memory_fault) }
     {
         let (records, words) = follow(alloc, program, bytes)?;
@@ -71,7 +73,8 @@ impl<A: Allocator + Copy> Reference<A> {
     /// Goes back before the first step of the program. Allocates nothing.
     pub fn restart(&mut self, program: &Program<'_, A>)
         requires { IsReferenceOf program.now.listing self.old }
-        ensures stand { StandBefore program.now.listing program.now.listing.steps (start (zero_coins program.now.listing)) 0 self.new.words }
+        ensures stand { StandBefore program.now.listing program.now.listing.steps
+            (start (zero_coins program.now.listing)) 0 self.new.words }
         ensures reference { IsReferenceOf program.now.listing self.new }
         ensures records { self.new.records ≡ self.old.records }
     {
@@ -82,9 +85,19 @@ impl<A: Allocator + Copy> Reference<A> {
     #[inline(always)]
     pub fn go_over(&mut self, program: &Program<'_, A>, step: &Step)
         requires of_program { IsStepOf program.now step.now }
-        requires next { IsNext program.now.listing (listed program.now.listing.qubits program.now.products step.now) self.old.words }
-        ensures over { (rest : List ListedStep) → (m : RunState) → (k : ℕ) → StandBefore program.now.listing (listed program.now.listing.qubits program.now.products step.now ∷ rest) m k self.old.words → GoneOver program.now.listing (listed program.now.listing.qubits program.now.products step.now) rest m k self.new.words }
-        ensures reference { IsReferenceOf program.now.listing self.old → IsReferenceOf program.now.listing self.new }
+        requires next { IsNext program.now.listing
+            (listed program.now.listing.qubits program.now.products step.now) self.old.words }
+        ensures over { (rest : List ListedStep)
+            → (m : RunState)
+            → (k : ℕ)
+            → StandBefore program.now.listing
+            (listed program.now.listing.qubits program.now.products step.now ∷ rest) m k
+            self.old.words
+            → GoneOver program.now.listing
+            (listed program.now.listing.qubits program.now.products step.now) rest m k
+            self.new.words }
+        ensures reference { IsReferenceOf program.now.listing self.old
+            → IsReferenceOf program.now.listing self.new }
         ensures records { self.new.records ≡ self.old.records }
     {
         self.words.go_over(program, step);

@@ -41,7 +41,9 @@ fn count_fault<A: Allocator + Copy>(
     bound: u128,
 ) -> Result<(), AllocError>
     requires { last.old.count + 1 < 2 ^ 64 }
-    ensures { OnOk result (bounds_in runs.new.items ++ bounds_of_run last.new ≡ (bounds_in runs.old.items ++ bounds_of_run last.old) ++ bound ∷ []) }
+    ensures { OnOk result
+        (bounds_in runs.new.items ++ bounds_of_run last.new
+        ≡ (bounds_in runs.old.items ++ bounds_of_run last.old) ++ bound ∷ []) }
 {
     if bound == last.bound {
         last.count += 1;

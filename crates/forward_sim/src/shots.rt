@@ -36,8 +36,10 @@ impl<A: Allocator + Copy> Shots<A> {
     /// Shots in which no fault happens and all coins are 0. All memory is taken here.
     pub fn new(alloc: A, program: &Program<'_, A>) -> Result<Self, Fault>
         ensures bounds { IfOk result (λ shots. shots.bounds ≡ bounds_of program.now.listing) }
-        ensures faults { IfOk result (λ shots. shots.faults ≡ replicate (length program.now.listing.faults) 0) }
-        ensures coins { IfOk result (λ shots. shots.coins ≡ replicate program.now.listing.collapses 0) }
+        ensures faults { IfOk result (λ shots. shots.faults
+            ≡ replicate (length program.now.listing.faults) 0) }
+        ensures coins { IfOk result (λ shots. shots.coins
+            ≡ replicate program.now.listing.collapses 0) }
         ensures err { IfErr result (λ fault. fault ≡ memory_fault) }
     {
         let runs = bound_runs(alloc, program)?;
@@ -55,8 +57,10 @@ impl<A: Allocator + Copy> Shots<A> {
     pub fn draw(&mut self, count: u32, rng: &mut Pcg64)
         requires { count ≤ 64 }
         ensures bounds { self.new.bounds ≡ self.old.bounds }
-        ensures drawn { AreDrawn self.old.bounds (length self.old.coins) count rng.old self.new.faults self.new.coins }
-        ensures taken { rng.new ≡ after_shots (length self.old.bounds) (length self.old.coins) count rng.old }
+        ensures drawn { AreDrawn self.old.bounds (length self.old.coins) count rng.old
+            self.new.faults self.new.coins }
+        ensures taken { rng.new
+            ≡ after_shots (length self.old.bounds) (length self.old.coins) count rng.old }
     {
         draw_lanes(
             &mut self.faults,

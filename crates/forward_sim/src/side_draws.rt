@@ -19,8 +19,10 @@ pub(crate) fn draw_lanes(
 )
     requires faults { length faults.old ≡ length (bounds_in runs.now) }
     requires count { count ≤ 64 }
-    ensures drawn { AreDrawn (bounds_in runs.now) (length coins.old) count rng.old faults.new coins.new }
-    ensures taken { rng.new ≡ after_shots (length (bounds_in runs.now)) (length coins.old) count rng.old }
+    ensures drawn { AreDrawn (bounds_in runs.now) (length coins.old) count rng.old faults.new
+        coins.new }
+    ensures taken { rng.new
+        ≡ after_shots (length (bounds_in runs.now)) (length coins.old) count rng.old }
 {
     draw_halves(faults, coins, runs, count / 2, rng);
     if count % 2 == 1 {
@@ -34,8 +36,10 @@ pub(crate) fn draw_lanes(
 fn draw_halves(faults: &mut [u64], coins: &mut [u64], runs: &[BoundRun], half: u32, rng: &mut Pcg64)
     requires faults { length faults.old ≡ length (bounds_in runs.now) }
     requires half { half ≤ 32 }
-    ensures drawn { AreDrawn (bounds_in runs.now) (length coins.old) (2 * half) rng.old faults.new coins.new }
-    ensures taken { rng.new ≡ after_shots (length (bounds_in runs.now)) (length coins.old) (2 * half) rng.old }
+    ensures drawn { AreDrawn (bounds_in runs.now) (length coins.old) (2 * half) rng.old faults.new
+        coins.new }
+    ensures taken { rng.new
+        ≡ after_shots (length (bounds_in runs.now)) (length coins.old) (2 * half) rng.old }
 {
     faults.fill(0);
     coins.fill(0);

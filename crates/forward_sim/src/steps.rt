@@ -25,8 +25,12 @@ pub(crate) fn take_step<A: Allocator + Copy>(
 )
     requires of_program { IsStepOf program.now step }
     requires qubits { qubit_count machine.old ≡ program.now.listing.qubits }
-    requires room { length machine.old.records + length (step_records (listed program.now.listing.qubits program.now.products step)) ≤ machine.old.room }
-    ensures { ComesTo machine.old machine.new (next program.now.listing faults.now (listed program.now.listing.qubits program.now.products step) (run_of machine.old)) }
+    requires room { length machine.old.records + length
+        (step_records (listed program.now.listing.qubits program.now.products step))
+        ≤ machine.old.room }
+    ensures { ComesTo machine.old machine.new
+        (next program.now.listing faults.now
+        (listed program.now.listing.qubits program.now.products step) (run_of machine.old)) }
 {
     program.well_formed();
     match step {
@@ -105,7 +109,8 @@ fn take_fault<A: Allocator + Copy>(
 )
     requires named { IsNamed program.now name }
     requires qubits { qubit_count machine.old ≡ program.now.listing.qubits }
-    ensures { ComesTo machine.old machine.new (next program.now.listing faults.now (Fault name.number) (run_of machine.old)) }
+    ensures { ComesTo machine.old machine.new
+        (next program.now.listing faults.now (Fault name.number) (run_of machine.old)) }
 {
     program.well_formed();
     if value_at(faults, name.number) {
@@ -121,7 +126,9 @@ pub(crate) fn feed_back<A: Allocator + Copy>(
     rec: u32,
 )
     requires { qubit < qubit_count machine.old }
-    ensures { ComesTo machine.old machine.new (record (run_of machine.old) { state = applied (slice_index_or machine.old.records rec false) (lone_letter (qubit_count machine.old) qubit letter) (run_of machine.old).state }) }
+    ensures { ComesTo machine.old machine.new
+        (record (run_of machine.old)
+        { state = applied (slice_index_or machine.old.records rec false) (lone_letter (qubit_count machine.old) qubit letter) (run_of machine.old).state }) }
 {
     if machine.record(rec) {
         machine.apply_letter(letter, qubit);

@@ -41,7 +41,8 @@ impl<A: Allocator + Copy> WalkingRun<A> {
     pub(crate) fn start(alloc: A, program: &Program<'_, A>) -> Result<Self, AllocError>
         ensures qubits { IfOk result (λ walk. walking_qubits walk ≡ program.now.listing.qubits) }
         ensures room { IfOk result (λ walk. walk.room ≡ program.now.listing.records) }
-        ensures run { IfOk result (λ walk. IsSameRun program.now.listing.qubits (walking_run walk) (start [])) }
+        ensures run { IfOk result (λ walk. IsSameRun program.now.listing.qubits (walking_run walk)
+            (start [])) }
     {
         let qubits = program.qubits() as usize;
         let terms = Vec::with_capacity(alloc, qubits)?;
@@ -53,7 +54,8 @@ impl<A: Allocator + Copy> WalkingRun<A> {
     pub(crate) fn restart(&mut self)
         ensures qubits { walking_qubits self.new ≡ walking_qubits self.old }
         ensures room { self.new.room ≡ self.old.room }
-        ensures run { IsSameRun (walking_qubits self.old) (walking_run self.new) (start self.old.coins) }
+        ensures run { IsSameRun (walking_qubits self.old) (walking_run self.new)
+            (start self.old.coins) }
     {
         self.machine.restart();
     }
@@ -62,11 +64,18 @@ impl<A: Allocator + Copy> WalkingRun<A> {
     pub(crate) fn go_over(&mut self, program: &Program<'_, A>, step: Step)
         requires of_program { IsStepOf program.now step }
         requires qubits { walking_qubits self.old ≡ program.now.listing.qubits }
-        requires room { length self.old.records + length (step_records (listed program.now.listing.qubits program.now.products step)) ≤ self.old.room }
+        requires room { length self.old.records + length
+            (step_records (listed program.now.listing.qubits program.now.products step))
+            ≤ self.old.room }
         ensures qubits { walking_qubits self.new ≡ walking_qubits self.old }
         ensures room { self.new.room ≡ self.old.room }
-        ensures run { IsSameRun (walking_qubits self.old) (walking_run self.new) (next program.now.listing [] (listed program.now.listing.qubits program.now.products step) (walking_run self.old)) }
-        ensures entry { IsStepEntry program.now.listing.qubits (walking_run self.old).state (listed program.now.listing.qubits program.now.products step) (entry_of self.new.terms) }
+        ensures run { IsSameRun (walking_qubits self.old) (walking_run self.new)
+            (next program.now.listing []
+            (listed program.now.listing.qubits program.now.products step)
+            (walking_run self.old)) }
+        ensures entry { IsStepEntry program.now.listing.qubits (walking_run self.old).state
+            (listed program.now.listing.qubits program.now.products step)
+            (entry_of self.new.terms) }
     {
         follow_step(&mut self.machine, program, &mut self.terms, step);
     }
@@ -75,10 +84,15 @@ impl<A: Allocator + Copy> WalkingRun<A> {
     pub(crate) fn go_past(&mut self, program: &Program<'_, A>, step: Step)
         requires of_program { IsStepOf program.now step }
         requires qubits { walking_qubits self.old ≡ program.now.listing.qubits }
-        requires room { length self.old.records + length (step_records (listed program.now.listing.qubits program.now.products step)) ≤ self.old.room }
+        requires room { length self.old.records + length
+            (step_records (listed program.now.listing.qubits program.now.products step))
+            ≤ self.old.room }
         ensures qubits { walking_qubits self.new ≡ walking_qubits self.old }
         ensures room { self.new.room ≡ self.old.room }
-        ensures run { IsSameRun (walking_qubits self.old) (walking_run self.new) (next program.now.listing [] (listed program.now.listing.qubits program.now.products step) (walking_run self.old)) }
+        ensures run { IsSameRun (walking_qubits self.old) (walking_run self.new)
+            (next program.now.listing []
+            (listed program.now.listing.qubits program.now.products step)
+            (walking_run self.old)) }
     {
         take_step(&mut self.machine, program, &[], step);
     }

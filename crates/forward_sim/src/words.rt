@@ -27,7 +27,8 @@ impl<A: Allocator + Copy> ReplacedWords<A> {
     /// Goes back before the first step of the program.
     pub(crate) fn restart(&mut self, program: &Program<'_, A>)
         requires { AreWordsOf program.now.listing (words_of self.old) }
-        ensures stand { StandBefore program.now.listing program.now.listing.steps (start (zero_coins program.now.listing)) 0 (words_of self.new) }
+        ensures stand { StandBefore program.now.listing program.now.listing.steps
+            (start (zero_coins program.now.listing)) 0 (words_of self.new) }
         ensures words { AreWordsOf program.now.listing (words_of self.new) }
     {
         program.well_formed();
@@ -41,9 +42,19 @@ impl<A: Allocator + Copy> ReplacedWords<A> {
     #[inline(always)]
     pub(crate) fn go_over(&mut self, program: &Program<'_, A>, step: &Step)
         requires of_program { IsStepOf program.now step.now }
-        requires next { IsNext program.now.listing (listed program.now.listing.qubits program.now.products step.now) (words_of self.old) }
-        ensures over { (rest : List ListedStep) → (m : RunState) → (k : ℕ) → StandBefore program.now.listing (listed program.now.listing.qubits program.now.products step.now ∷ rest) m k (words_of self.old) → GoneOver program.now.listing (listed program.now.listing.qubits program.now.products step.now) rest m k (words_of self.new) }
-        ensures words { AreWordsOf program.now.listing (words_of self.old) → AreWordsOf program.now.listing (words_of self.new) }
+        requires next { IsNext program.now.listing
+            (listed program.now.listing.qubits program.now.products step.now) (words_of self.old) }
+        ensures over { (rest : List ListedStep)
+            → (m : RunState)
+            → (k : ℕ)
+            → StandBefore program.now.listing
+            (listed program.now.listing.qubits program.now.products step.now ∷ rest) m k
+            (words_of self.old)
+            → GoneOver program.now.listing
+            (listed program.now.listing.qubits program.now.products step.now) rest m k
+            (words_of self.new) }
+        ensures words { AreWordsOf program.now.listing (words_of self.old)
+            → AreWordsOf program.now.listing (words_of self.new) }
     {
         match self {
             ReplacedWords::Kept(_) => {}

@@ -106,7 +106,9 @@ impl<A: Allocator + Copy> Batch<A> {
     /// A record of all runs: bit j is that of run j.
     pub fn records_word(&self, index: usize) -> u64
         requires { index < length self.now.reference.records }
-        ensures { (j : ℕ) → j < 64 → lane_bit j result ≡ slice_index_or (shot_records j self.now) index false }
+        ensures { (j : ℕ)
+            → j < 64
+            → lane_bit j result ≡ slice_index_or (shot_records j self.now) index false }
     {
         let value = self.reference.records().get(index);
         xor(self.frames.flips(index), spread(value))
@@ -115,8 +117,14 @@ impl<A: Allocator + Copy> Batch<A> {
     /// In which runs the parity of a target differs from that in the reference run, a bit a run: detection events, and
     /// flips of observables. Detectors are numbered first, then observables.
     pub fn detections_word(&self, program: &Program<'_, A>, number: usize) -> u64
-        requires { number < length program.now.listing.detectors + length program.now.listing.observables }
-        ensures { (j : ℕ) → lane_bit j result ≡ slice_index_or (difference program.now.listing (shot_records j self.now) self.now.reference.records) number false }
+        requires { number
+            < length program.now.listing.detectors + length program.now.listing.observables }
+        ensures { (j : ℕ)
+            → lane_bit j result
+            ≡ slice_index_or
+            (difference program.now.listing (shot_records j self.now)
+            self.now.reference.records)
+            number false }
     {
         self.frames.parity(program.target(number))
     }

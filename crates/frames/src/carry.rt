@@ -21,7 +21,8 @@ pub fn flips<A: Allocator + Copy>(
     word: &Word<A>,
 ) -> Result<Vec<bool, A>, Fault>
     requires { length word.now.letters ≡ program.now.listing.qubits }
-    ensures ok { IfOk result (λ flips. flips.items ≡ flips_of program.now.listing place word.now.letters) }
+    ensures ok { IfOk result (λ flips. flips.items
+        ≡ flips_of program.now.listing place word.now.letters) }
     ensures err { IfErr result (λ e. e ≡ memory_fault) }
 {
     match flips_at(alloc, program, place, word) {
@@ -40,7 +41,8 @@ pub(crate) fn flips_at<A: Allocator + Copy>(
     word: &Word<A>,
 ) -> Result<Vec<bool, A>, AllocError>
     requires { length word.now.letters ≡ program.now.listing.qubits }
-    ensures { IfOk result (λ flips. flips.items ≡ flips_of program.now.listing place word.now.letters) }
+    ensures { IfOk result (λ flips. flips.items
+        ≡ flips_of program.now.listing place word.now.letters) }
 {
     let mut walk = Walk::start(program);
     let mut flips = Vec::new(alloc);
@@ -62,7 +64,10 @@ fn go_to<A: Allocator + Copy>(
     requires start { walk.old.place ≡ 0 }
     requires none { flips.old.items ≡ [] }
     ensures program { OnOk result (walk.new.program ≡ program.now) }
-    ensures flips { IfOk result (λ made. (v : List Letter) → flips.new.items ++ flips_from program.now.listing.qubits (begun v made) (drop walk.new.place program.now.listing.steps) ≡ flips_of program.now.listing place v) }
+    ensures flips { IfOk result (λ made. (v : List Letter)
+        → flips.new.items ++ flips_from program.now.listing.qubits (begun v made)
+        (drop walk.new.place program.now.listing.steps)
+        ≡ flips_of program.now.listing place v) }
 {
     match place {
         Place::Start(_) => Ok(0),
@@ -88,7 +93,11 @@ fn push_flips<A: Allocator + Copy>(
 ) -> Result<(), AllocError>
     requires program { walk.old.program ≡ program.now }
     requires size { length frame.old.word ≡ program.now.listing.qubits }
-    ensures { OnOk result (flips.new.items ≡ flips.old.items ++ flips_from program.now.listing.qubits frame.old (drop walk.old.place program.now.listing.steps)) }
+    ensures { OnOk result
+        (flips.new.items
+        ≡ flips.old.items
+        ++ flips_from program.now.listing.qubits frame.old
+        (drop walk.old.place program.now.listing.steps)) }
 {
     program.well_formed();
     while let Some(step) = walk.next_step() {

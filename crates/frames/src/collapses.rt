@@ -22,7 +22,8 @@ pub(crate) fn go_past<A: Allocator + Copy>(
     requires program { walk.old.program ≡ program.now }
     requires start { walk.old.place ≡ 0 }
     ensures program { walk.new.program ≡ program.now }
-    ensures passed { Passes program.now collapse (drop walk.new.place program.now.listing.steps) result }
+    ensures passed { Passes program.now collapse (drop walk.new.place program.now.listing.steps)
+        result }
 {
     program.well_formed();
     let mut made = 0;

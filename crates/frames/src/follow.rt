@@ -21,7 +21,8 @@ pub(crate) fn follow_steps<A: Allocator + Copy>(
     coins: &[u64],
 )
     requires reference { IsReferenceOf program.now.listing reference.old }
-    requires stands { StandBefore program.now.listing program.now.listing.steps (start (zero_coins program.now.listing)) 0 reference.old.words }
+    requires stands { StandBefore program.now.listing program.now.listing.steps
+        (start (zero_coins program.now.listing)) 0 reference.old.words }
     requires qubits { length frames.old.letters ≡ program.now.listing.qubits }
     requires room { frames.old.room ≡ program.now.listing.records }
     requires start { AreAtStart frames.old }
@@ -29,7 +30,9 @@ pub(crate) fn follow_steps<A: Allocator + Copy>(
     ensures room { frames.new.room ≡ frames.old.room }
     ensures reference { IsReferenceOf program.now.listing reference.new }
     ensures records { reference.new.records ≡ reference.old.records }
-    ensures runs { (j : ℕ) → flipped_by (lane j frames.new.flips) reference.new.records ≡ records_of program.now.listing (lane j faults.now) (lane j coins.now) }
+    ensures runs { (j : ℕ)
+        → flipped_by (lane j frames.new.flips) reference.new.records
+        ≡ records_of program.now.listing (lane j faults.now) (lane j coins.now) }
 {
     program.well_formed();
     let _collapses = program.collapse_count();

@@ -50,8 +50,13 @@ impl<A: Allocator + Copy> Frame<A> {
     ) -> Result<Option<bool>, AllocError>
         requires named { IsStepOf program.now step }
         requires size { length self.old.word ≡ program.now.listing.qubits }
-        ensures flip { IfOk result (λ flip. flip ≡ flip_of program.now.listing.qubits self.old (listed program.now.listing.qubits program.now.products step)) }
-        ensures carried { OnOk result (self.new ≡ carried program.now.listing.qubits (listed program.now.listing.qubits program.now.products step) self.old) }
+        ensures flip { IfOk result (λ flip. flip
+            ≡ flip_of program.now.listing.qubits self.old
+            (listed program.now.listing.qubits program.now.products step)) }
+        ensures carried { OnOk result
+            (self.new
+            ≡ carried program.now.listing.qubits
+            (listed program.now.listing.qubits program.now.products step) self.old) }
     {
         match step {
             Step::One { gate, q } => self.move_one(gate, q as usize),
@@ -84,7 +89,8 @@ impl<A: Allocator + Copy> Frame<A> {
     fn move_one(&mut self, gate: Gate, q: usize)
         requires arity { arity_of gate ≡ 1 }
         requires there { q < length self.old.word }
-        ensures { self.new ≡ record self.old { word = (image_at gate q (signed self.old.word false)).letters } }
+        ensures { self.new
+            ≡ record self.old { word = (image_at gate q (signed self.old.word false)).letters } }
     {
         let (letter, _) = gate.image1(self.word.letter(q));
         self.word.set_letter(q, letter);
@@ -94,7 +100,9 @@ impl<A: Allocator + Copy> Frame<A> {
         requires arity { arity_of gate ≡ 2 }
         requires first { a < length self.old.word }
         requires second { b < length self.old.word }
-        ensures { self.new ≡ record self.old { word = (image_at_two gate a b (signed self.old.word false)).letters } }
+        ensures { self.new
+            ≡ record self.old
+            { word = (image_at_two gate a b (signed self.old.word false)).letters } }
     {
         let (first, second, _) = gate.image2(self.word.letter(a), self.word.letter(b));
         self.word.set_letter(a, first);
@@ -105,7 +113,10 @@ impl<A: Allocator + Copy> Frame<A> {
     fn meets(&self, program: &Program<'_, A>, product: u32) -> bool
         requires there { product < length program.now.products }
         requires size { length self.now.word ≡ program.now.listing.qubits }
-        ensures { result ≡ anticommute self.now.word (word_of_terms program.now.listing.qubits (slice_index_or program.now.products product [])) }
+        ensures { result
+            ≡ anticommute self.now.word
+            (word_of_terms program.now.listing.qubits
+            (slice_index_or program.now.products product [])) }
     {
         program.well_formed();
         anticommutes(&self.word, program.product(product))
@@ -113,7 +124,8 @@ impl<A: Allocator + Copy> Frame<A> {
 
     // Notes whether a collapse's record is flipped, where the collapse makes one.
     fn record(&mut self, rec: Option<u32>, flip: bool) -> Result<(), AllocError>
-        ensures { OnOk result (self.new ≡ record self.old { records = self.old.records ++ recorded_flips rec flip }) }
+        ensures { OnOk result
+            (self.new ≡ record self.old { records = self.old.records ++ recorded_flips rec flip }) }
     {
         if rec.is_some() {
             self.records.push(flip)?;
@@ -124,7 +136,9 @@ impl<A: Allocator + Copy> Frame<A> {
     // Feedback applies a letter where an earlier record is 1: the frame takes it in where it flips that record.
     fn feed_back(&mut self, rec: u32, q: usize, letter: Letter)
         requires { q < length self.old.word }
-        ensures { self.new ≡ record self.old { word = multiplied (slice_index_or self.old.records rec false) (lone_letter (length self.old.word) q letter) self.old.word } }
+        ensures { self.new
+            ≡ record self.old
+            { word = multiplied (slice_index_or self.old.records rec false) (lone_letter (length self.old.word) q letter) self.old.word } }
     {
         let rec = rec as usize;
         if rec < self.records.len() && self.records[rec] {

@@ -70,7 +70,8 @@ impl<A: Allocator + Copy> Frames<A> {
     // Puts letters at a qubit.
     fn put(&mut self, qubit: usize, letters: Letters)
         requires { qubit < length self.old.letters }
-        ensures { self.new ≡ record self.old { letters = slice_set self.old.letters qubit letters } }
+        ensures { self.new
+            ≡ record self.old { letters = slice_set self.old.letters qubit letters } }
     {
         self.letters[qubit] = letters;
     }
@@ -79,7 +80,8 @@ impl<A: Allocator + Copy> Frames<A> {
     pub(crate) fn move_one(&mut self, gate: Gate, qubit: usize)
         requires arity { arity_of gate ≡ 1 }
         requires inside { qubit < length self.old.letters }
-        ensures { GoesTo self.old self.new (λ j v. record v { word = (image_at gate qubit (signed v.word false)).letters }) }
+        ensures { GoesTo self.old self.new (λ j v. record v
+            { word = (image_at gate qubit (signed v.word false)).letters }) }
     {
         let image = self.at(qubit).image(gate);
         self.put(qubit, image);
@@ -90,7 +92,8 @@ impl<A: Allocator + Copy> Frames<A> {
         requires arity { arity_of gate ≡ 2 }
         requires first { a < length self.old.letters }
         requires second { b < length self.old.letters }
-        ensures { GoesTo self.old self.new (λ j v. record v { word = (image_at_two gate a b (signed v.word false)).letters }) }
+        ensures { GoesTo self.old self.new (λ j v. record v
+            { word = (image_at_two gate a b (signed v.word false)).letters }) }
     {
         let (first, second) = Letters::images(gate, self.at(a), self.at(b));
         self.put(a, first);
@@ -108,7 +111,9 @@ impl<A: Allocator + Copy> Frames<A> {
     /// Multiplies the frames of these runs by a letter at a qubit.
     pub(crate) fn times(&mut self, letter: Letter, qubit: usize, runs: u64)
         requires { qubit < length self.old.letters }
-        ensures { GoesTo self.old self.new (λ j v. record v { word = multiplied (lane_bit j runs) (lone_letter (length self.old.letters) qubit letter) v.word }) }
+        ensures { GoesTo self.old self.new
+            (λ j v. record v
+            { word = multiplied (lane_bit j runs) (lone_letter (length self.old.letters) qubit letter) v.word }) }
     {
         let letters = self.at(qubit).times(letter, runs);
         self.put(qubit, letters);
@@ -117,7 +122,9 @@ impl<A: Allocator + Copy> Frames<A> {
     /// Multiplies the frames of these runs by a product of letters at qubits.
     pub(crate) fn times_terms(&mut self, terms: &[Term], runs: u64)
         requires { TermsFit (length self.old.letters) terms.now }
-        ensures { GoesTo self.old self.new (λ j v. record v { word = multiplied (lane_bit j runs) (word_of_terms (length self.old.letters) terms.now) v.word }) }
+        ensures { GoesTo self.old self.new
+            (λ j v. record v
+            { word = multiplied (lane_bit j runs) (word_of_terms (length self.old.letters) terms.now) v.word }) }
     {
         let mut left = terms.len();
         while left > 0 {
@@ -130,7 +137,10 @@ impl<A: Allocator + Copy> Frames<A> {
     /// The runs whose frame anticommutes with a product of letters at qubits.
     pub(crate) fn meet(&self, terms: &[Term]) -> u64
         requires { TermsFit (length self.now.letters) terms.now }
-        ensures { (j : ℕ) → lane_bit j result ≡ anticommute (word_in j self.now.letters) (word_of_terms (length self.now.letters) terms.now) }
+        ensures { (j : ℕ)
+            → lane_bit j result
+            ≡ anticommute (word_in j self.now.letters)
+            (word_of_terms (length self.now.letters) terms.now) }
     {
         let mut odd = 0;
         let mut left = terms.len();
@@ -154,7 +164,8 @@ impl<A: Allocator + Copy> Frames<A> {
 
     /// The flips of a record: 0 where it isn't made yet.
     pub(crate) fn flips(&self, number: usize) -> u64
-        ensures { (j : ℕ) → lane_bit j result ≡ slice_index_or (lane j self.now.flips) number false }
+        ensures { (j : ℕ)
+            → lane_bit j result ≡ slice_index_or (lane j self.now.flips) number false }
     {
         word_at(self.flips.as_slice(), number)
     }

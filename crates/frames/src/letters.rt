@@ -42,7 +42,8 @@ impl Letters {
     /// come in no order that could be predicted.
     #[inline(always)]
     pub(crate) fn times(self, letter: Letter, runs: u64) -> Letters
-        ensures { (j : ℕ) → letter_in j result ≡ times_where (lane_bit j runs) letter (letter_in j self) }
+        ensures { (j : ℕ)
+            → letter_in j result ≡ times_where (lane_bit j runs) letter (letter_in j self) }
     {
         Letters {
             x: xor(self.x, lanes_where(has_x(letter), runs)),
@@ -63,8 +64,10 @@ impl Letters {
     /// The images of the letters of two qubits under a gate of two qubits, their signs left out.
     pub(crate) fn images(gate: Gate, a: Letters, b: Letters) -> (Letters, Letters)
         requires { arity_of gate ≡ 2 }
-        ensures first { (j : ℕ) → letter_in j result.0 ≡ (image2 gate (letter_in j a) (letter_in j b)).0 }
-        ensures second { (j : ℕ) → letter_in j result.1 ≡ (image2 gate (letter_in j a) (letter_in j b)).1 }
+        ensures first { (j : ℕ)
+            → letter_in j result.0 ≡ (image2 gate (letter_in j a) (letter_in j b)).0 }
+        ensures second { (j : ℕ)
+            → letter_in j result.1 ≡ (image2 gate (letter_in j a) (letter_in j b)).1 }
     {
         let (ax, bx, _) = gate.image2(Letter::X, Letter::I);
         let (az, bz, _) = gate.image2(Letter::Z, Letter::I);
@@ -80,7 +83,10 @@ impl Letters {
 
     // The letters, multiplied by the images of others under a map that makes `x` of X and `z` of Z.
     fn times_images(self, others: Letters, x: Letter, z: Letter) -> Letters
-        ensures { (j : ℕ) → letter_in j result ≡ times_where (lane_bit j others.z) z (times_where (lane_bit j others.x) x (letter_in j self)) }
+        ensures { (j : ℕ)
+            → letter_in j result
+            ≡ times_where (lane_bit j others.z) z
+            (times_where (lane_bit j others.x) x (letter_in j self)) }
     {
         self.times(x, others.x).times(z, others.z)
     }

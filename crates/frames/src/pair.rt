@@ -26,7 +26,9 @@ pub fn coin_pair<A: Allocator + Copy>(
 ) -> Result<(Vec<bool, A>, Vec<bool, A>), Fault>
     ensures first { IfOk result (λ pair. pair.0.items ≡ zero_coins program.now.listing) }
     ensures second { IfOk result (λ pair. pair.1.items ≡ pair_coins program.now.listing place) }
-    ensures differ { IfOk result (λ pair. (d : ℕ) → place_of program.now.listing d ≡ Some place → PairDiffers program.now.listing d pair.0.items pair.1.items) }
+    ensures differ { IfOk result (λ pair. (d : ℕ)
+        → place_of program.now.listing d ≡ Some place
+        → PairDiffers program.now.listing d pair.0.items pair.1.items) }
     ensures err { IfErr result (λ e. e ≡ memory_fault) }
 {
     program.well_formed();
@@ -97,7 +99,9 @@ fn word_measured<A: Allocator + Copy>(
     step: Step,
 ) -> Result<Word<A>, AllocError>
     requires { IsStepOf program.now step }
-    ensures word { IfOk result (λ word. word.letters ≡ collapse_word program.now.listing.qubits (listed program.now.listing.qubits program.now.products step)) }
+    ensures word { IfOk result (λ word. word.letters
+        ≡ collapse_word program.now.listing.qubits
+        (listed program.now.listing.qubits program.now.products step)) }
     ensures size { IfOk result (λ word. length word.letters ≡ program.now.listing.qubits) }
 {
     program.well_formed();

@@ -30,9 +30,14 @@ pub(crate) fn take_step<A: Allocator + Copy>(
 )
     requires of_program { IsStepOf program.now step }
     requires qubits { length frames.old.letters ≡ program.now.listing.qubits }
-    requires room { length frames.old.flips + length (step_records (listed program.now.listing.qubits program.now.products step)) ≤ frames.old.room }
-    requires turns { TurnsAt program.now.listing.qubits (terms_of replaced) (listed program.now.listing.qubits program.now.products step) }
-    ensures { GoesTo frames.old frames.new (λ j v. followed program.now.listing (lane j faults.now) (terms_of replaced.entry) (lane_bit j coins) (listed program.now.listing.qubits program.now.products step) v) }
+    requires room { length frames.old.flips + length
+        (step_records (listed program.now.listing.qubits program.now.products step))
+        ≤ frames.old.room }
+    requires turns { TurnsAt program.now.listing.qubits (terms_of replaced)
+        (listed program.now.listing.qubits program.now.products step) }
+    ensures { GoesTo frames.old frames.new (λ j v. followed program.now.listing (lane j faults.now)
+        (terms_of replaced.entry) (lane_bit j coins)
+        (listed program.now.listing.qubits program.now.products step) v) }
 {
     program.well_formed();
     match step {
@@ -81,7 +86,8 @@ fn collapse_letter<A: Allocator + Copy>(
     reset: bool,
 ) -> u64
     requires inside { qubit < length frames.old.letters }
-    requires turns { Turns (length frames.old.letters) (terms_of replaced) (lone_letter (length frames.old.letters) qubit letter) }
+    requires turns { Turns (length frames.old.letters) (terms_of replaced)
+        (lone_letter (length frames.old.letters) qubit letter) }
     ensures moved { let n = length frames.old.letters in
         GoesTo frames.old frames.new (λ j v. record v { word = cleared (measured n reset letter qubit) (turned n (terms_of replaced.entry) (lane_bit j coins) (lone_letter n qubit letter) v).word }) }
     ensures flips { let n = length frames.old.letters in
@@ -103,7 +109,8 @@ fn collapse_product<A: Allocator + Copy>(
     terms: &[Term],
 ) -> u64
     requires inside { TermsFit (length frames.old.letters) terms.now }
-    requires turns { Turns (length frames.old.letters) (terms_of replaced) (word_of_terms (length frames.old.letters) terms.now) }
+    requires turns { Turns (length frames.old.letters) (terms_of replaced)
+        (word_of_terms (length frames.old.letters) terms.now) }
     ensures moved { let n = length frames.old.letters in
         GoesTo frames.old frames.new (λ j v. turned n (terms_of replaced.entry) (lane_bit j coins) (word_of_terms n terms.now) v) }
     ensures flips { let n = length frames.old.letters in
@@ -122,8 +129,11 @@ fn turn<A: Allocator + Copy>(
     met: u64,
 ) -> u64
     requires { TermsFit (length frames.old.letters) (terms_or_none (terms_of replaced)) }
-    ensures moved { GoesTo frames.old frames.new (λ j v. turned_where (length frames.old.letters) (terms_of replaced.entry) (exclusive_or (lane_bit j coins) (lane_bit j met)) v) }
-    ensures flips { (j : ℕ) → lane_bit j result ≡ (if is_some (terms_of replaced.entry) then lane_bit j coins else lane_bit j met) }
+    ensures moved { GoesTo frames.old frames.new (λ j v. turned_where (length frames.old.letters)
+        (terms_of replaced.entry) (exclusive_or (lane_bit j coins) (lane_bit j met)) v) }
+    ensures flips { (j : ℕ)
+        → lane_bit j result
+        ≡ (if is_some (terms_of replaced.entry) then lane_bit j coins else lane_bit j met) }
 {
     match replaced {
         Some(terms) => {
@@ -136,7 +146,8 @@ fn turn<A: Allocator + Copy>(
 
 // The runs in which the fault that flips a record happens, if there is such a fault.
 fn flips_of(faults: &[u64], flip: Option<FaultName>) -> u64
-    ensures { (j : ℕ) → lane_bit j result ≡ flip_happens (lane j faults.now) (option_map number_of flip) }
+    ensures { (j : ℕ)
+        → lane_bit j result ≡ flip_happens (lane j faults.now) (option_map number_of flip) }
 {
     match flip {
         Some(name) => word_at(faults, name.number as usize),

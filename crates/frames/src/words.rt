@@ -11,7 +11,8 @@ use step_model::Term;
 // Whether a word anticommutes with a product of letters at qubits.
 pub(crate) fn anticommutes<A: Allocator + Copy>(word: &Word<A>, terms: &[Term]) -> bool
     requires { TermsFit (length word.now.letters) terms.now }
-    ensures { result ≡ anticommute word.now.letters (word_of_terms (length word.now.letters) terms.now) }
+    ensures { result
+        ≡ anticommute word.now.letters (word_of_terms (length word.now.letters) terms.now) }
 {
     let mut odd = false;
     for term in terms {
@@ -23,7 +24,9 @@ pub(crate) fn anticommutes<A: Allocator + Copy>(word: &Word<A>, terms: &[Term]) 
 // Multiplies a word by a letter at a qubit, and leaves its sign.
 pub(crate) fn multiply_at<A: Allocator + Copy>(word: &mut Word<A>, qubit: usize, letter: Letter)
     requires { qubit < length word.old.letters }
-    ensures { word.new ≡ record word.old { letters = letters_product (lone_letter (length word.old.letters) qubit letter) word.old.letters } }
+    ensures { word.new
+        ≡ record word.old
+        { letters = letters_product (lone_letter (length word.old.letters) qubit letter) word.old.letters } }
 {
     word.set_letter(qubit, letter.times(word.letter(qubit)));
 }

@@ -41,26 +41,64 @@ pub fn images_keep_identity()
 
 /// The image of a product of two words is the product of their images, signs included.
 pub fn word_images_keep_products()
-    ensures one { (g : Gate) (q : ℕ) (p r : Signed) → length p.letters ≡ length r.letters → q < length p.letters → image_at g q (product p r) ≡ product (image_at g q p) (image_at g q r) }
-    ensures two { (g : Gate) (a b : ℕ) (p r : Signed) → length p.letters ≡ length r.letters → a ≢ b → a < length p.letters → b < length p.letters → image_at_two g a b (product p r) ≡ product (image_at_two g a b p) (image_at_two g a b r) }
+    ensures one { (g : Gate) (q : ℕ) (p r : Signed)
+        → length p.letters ≡ length r.letters
+        → q < length p.letters
+        → image_at g q (product p r) ≡ product (image_at g q p) (image_at g q r) }
+    ensures two { (g : Gate) (a b : ℕ) (p r : Signed)
+        → length p.letters ≡ length r.letters
+        → a ≢ b
+        → a < length p.letters
+        → b < length p.letters
+        → image_at_two g a b (product p r) ≡ product (image_at_two g a b p) (image_at_two g a b r) }
 {}
 
 /// The images of two words commute exactly when the words do.
 pub fn word_images_keep_commuting()
-    ensures one { (g : Gate) (q : ℕ) (p r : Signed) → q < length p.letters → q < length r.letters → anticommute (image_at g q p).letters (image_at g q r).letters ≡ anticommute p.letters r.letters }
-    ensures two { (g : Gate) (a b : ℕ) (p r : Signed) → length p.letters ≡ length r.letters → a ≢ b → a < length p.letters → b < length p.letters → anticommute (image_at_two g a b p).letters (image_at_two g a b r).letters ≡ anticommute p.letters r.letters }
+    ensures one { (g : Gate) (q : ℕ) (p r : Signed)
+        → q < length p.letters
+        → q < length r.letters
+        → anticommute (image_at g q p).letters (image_at g q r).letters
+        ≡ anticommute p.letters r.letters }
+    ensures two { (g : Gate) (a b : ℕ) (p r : Signed)
+        → length p.letters ≡ length r.letters
+        → a ≢ b
+        → a < length p.letters
+        → b < length p.letters
+        → anticommute (image_at_two g a b p).letters (image_at_two g a b r).letters
+        ≡ anticommute p.letters r.letters }
 {}
 
 /// The image of the preimage of a word is the word, and so is the preimage of the image.
 pub fn word_preimages_undo()
-    ensures one { (g : Gate) (q : ℕ) (p : Signed) → q < length p.letters → image_at g q (preimage_at g q p) ≡ p }
-    ensures one_back { (g : Gate) (q : ℕ) (p : Signed) → q < length p.letters → preimage_at g q (image_at g q p) ≡ p }
-    ensures two { (g : Gate) (a b : ℕ) (p : Signed) → a ≢ b → a < length p.letters → b < length p.letters → image_at_two g a b (preimage_at_two g a b p) ≡ p }
-    ensures two_back { (g : Gate) (a b : ℕ) (p : Signed) → a ≢ b → a < length p.letters → b < length p.letters → preimage_at_two g a b (image_at_two g a b p) ≡ p }
+    ensures one { (g : Gate) (q : ℕ) (p : Signed)
+        → q < length p.letters
+        → image_at g q (preimage_at g q p) ≡ p }
+    ensures one_back { (g : Gate) (q : ℕ) (p : Signed)
+        → q < length p.letters
+        → preimage_at g q (image_at g q p) ≡ p }
+    ensures two { (g : Gate) (a b : ℕ) (p : Signed)
+        → a ≢ b
+        → a < length p.letters
+        → b < length p.letters
+        → image_at_two g a b (preimage_at_two g a b p) ≡ p }
+    ensures two_back { (g : Gate) (a b : ℕ) (p : Signed)
+        → a ≢ b
+        → a < length p.letters
+        → b < length p.letters
+        → preimage_at_two g a b (image_at_two g a b p) ≡ p }
 {}
 
 /// A gate at any qubits of a state keeps the state's words a commutative group without minus the identity.
 pub fn gates_keep_group()
-    ensures one { (n : ℕ) (g : Gate) (q : ℕ) (s : State) → q < n → IsGroup n s → IsGroup n (λ p. s (preimage_at g q p)) }
-    ensures two { (n : ℕ) (g : Gate) (a b : ℕ) (s : State) → a < n → b < n → a ≢ b → IsGroup n s → IsGroup n (λ p. s (preimage_at_two g a b p)) }
+    ensures one { (n : ℕ) (g : Gate) (q : ℕ) (s : State)
+        → q < n
+        → IsGroup n s
+        → IsGroup n (λ p. s (preimage_at g q p)) }
+    ensures two { (n : ℕ) (g : Gate) (a b : ℕ) (s : State)
+        → a < n
+        → b < n
+        → a ≢ b
+        → IsGroup n s
+        → IsGroup n (λ p. s (preimage_at_two g a b p)) }
 {}

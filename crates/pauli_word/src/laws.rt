@@ -11,10 +11,12 @@ ghost use Rattle.pauli_word.specs.Words.{Signed, letters_product, letters_power,
 
 /// The powers of i form a commutative group, in which the fourth power of each is 1.
 pub fn powers_form_a_group()
-    ensures associative { (p q r : Power) → power_product (power_product p q) r ≡ power_product p (power_product q r) }
+    ensures associative { (p q r : Power)
+        → power_product (power_product p q) r ≡ power_product p (power_product q r) }
     ensures commutative { (p q : Power) → power_product p q ≡ power_product q p }
     ensures identity { (p : Power) → power_product one p ≡ p }
-    ensures fourth_power { (p : Power) → power_product p (power_product p (power_product p p)) ≡ one }
+    ensures fourth_power { (p : Power)
+        → power_product p (power_product p (power_product p p)) ≡ one }
 {}
 
 /// The product of two words of one length has that length.
@@ -24,8 +26,13 @@ pub fn products_keep_length()
 
 /// Three words of one length multiply to the same letters in either grouping, and to the same power of i.
 pub fn products_associate()
-    ensures letters { (p q r : List Letter) → letters_product (letters_product p q) r ≡ letters_product p (letters_product q r) }
-    ensures powers { (p q r : List Letter) → length p ≡ length q → length q ≡ length r → power_product (letters_power p q) (letters_power (letters_product p q) r) ≡ power_product (letters_power q r) (letters_power p (letters_product q r)) }
+    ensures letters { (p q r : List Letter)
+        → letters_product (letters_product p q) r ≡ letters_product p (letters_product q r) }
+    ensures powers { (p q r : List Letter)
+        → length p ≡ length q
+        → length q ≡ length r
+        → power_product (letters_power p q) (letters_power (letters_product p q) r)
+        ≡ power_product (letters_power q r) (letters_power p (letters_product q r)) }
 {}
 
 /// Multiplying by the word of letters I changes no word of its length, and brings no factor.
@@ -43,13 +50,18 @@ pub fn words_are_their_own_inverses()
 /// In the other order two words multiply to the same letters, and to the other sign where they anticommute.
 pub fn order_changes_the_sign()
     ensures letters { (p q : List Letter) → letters_product p q ≡ letters_product q p }
-    ensures power { (p q : List Letter) → letters_power p q ≡ power_product (sign_power (anticommute p q)) (letters_power q p) }
+    ensures power { (p q : List Letter)
+        → letters_power p q ≡ power_product (sign_power (anticommute p q)) (letters_power q p) }
 {}
 
 /// Two words commute exactly where the power of i of their product is 1 or -1, a sign.
 pub fn commuting_products_are_signed()
-    ensures signed { (p q : List Letter) → anticommute p q ≡ false → letters_power p q ≡ sign_power (is_minus (letters_power p q)) }
-    ensures commuting { (p q : List Letter) (negative : Bool) → letters_power p q ≡ sign_power negative → anticommute p q ≡ false }
+    ensures signed { (p q : List Letter)
+        → anticommute p q ≡ false
+        → letters_power p q ≡ sign_power (is_minus (letters_power p q)) }
+    ensures commuting { (p q : List Letter) (negative : Bool)
+        → letters_power p q ≡ sign_power negative
+        → anticommute p q ≡ false }
 {}
 
 /// Whether two words anticommute doesn't depend on their order. A word commutes with itself and with the
@@ -58,14 +70,23 @@ pub fn anticommuting_adds_up()
     ensures symmetric { (p q : List Letter) → anticommute p q ≡ anticommute q p }
     ensures itself { (p : List Letter) → anticommute p p ≡ false }
     ensures identity { (n : ℕ) (p : List Letter) → anticommute (no_letters n) p ≡ false }
-    ensures additive { (p q r : List Letter) → length p ≡ length q → anticommute (letters_product p q) r ≡ exclusive_or (anticommute p r) (anticommute q r) }
+    ensures additive { (p q r : List Letter)
+        → length p ≡ length q
+        → anticommute (letters_product p q) r ≡ exclusive_or (anticommute p r) (anticommute q r) }
 {}
 
 /// Products of commuting words are associative and commute. The identity changes no word, and a word times itself
 /// is the identity, of sign plus.
 pub fn commuting_words_form_a_group()
-    ensures associative { (p q r : Signed) → length p.letters ≡ length q.letters → length q.letters ≡ length r.letters → anticommute p.letters q.letters ≡ false → anticommute q.letters r.letters ≡ false → product (product p q) r ≡ product p (product q r) }
-    ensures commutative { (p q : Signed) → anticommute p.letters q.letters ≡ false → product p q ≡ product q p }
+    ensures associative { (p q r : Signed)
+        → length p.letters ≡ length q.letters
+        → length q.letters ≡ length r.letters
+        → anticommute p.letters q.letters ≡ false
+        → anticommute q.letters r.letters ≡ false
+        → product (product p q) r ≡ product p (product q r) }
+    ensures commutative { (p q : Signed)
+        → anticommute p.letters q.letters ≡ false
+        → product p q ≡ product q p }
     ensures identity { (p : Signed) → product (identity_word (length p.letters)) p ≡ p }
     ensures inverse { (p : Signed) → product p p ≡ identity_word (length p.letters) }
 {}
@@ -77,10 +98,15 @@ pub fn start_is_group()
 
 /// Applying a Pauli word, as a fault that happens or the correction of a reset does, keeps a state's words such a group.
 pub fn applied_words_keep_group()
-    ensures { (n : ℕ) (b : Bool) (w : List Letter) (s : State) → IsGroup n s → IsGroup n (applied b w s) }
+    ensures { (n : ℕ) (b : Bool) (w : List Letter) (s : State)
+        → IsGroup n s
+        → IsGroup n (applied b w s) }
 {}
 
 /// A collapse of any word keeps a state's words such a group, whether its outcome is decided or random.
 pub fn collapses_keep_group()
-    ensures { (n : ℕ) (w : List Letter) (coin : Bool) (s : State) → length w ≡ n → IsGroup n s → IsGroup n (collapsed w coin s) }
+    ensures { (n : ℕ) (w : List Letter) (coin : Bool) (s : State)
+        → length w ≡ n
+        → IsGroup n s
+        → IsGroup n (collapsed w coin s) }
 {}

@@ -110,7 +110,8 @@ impl<A: Allocator + Copy> Word<A> {
     pub fn times(&mut self, other: &Word<A>) -> bool
         requires { length self.old.letters ≡ length other.now.letters }
         ensures product { self.new ≡ product self.old other.now }
-        ensures brings_minus { result ≡ is_minus (letters_power self.old.letters other.now.letters) }
+        ensures brings_minus { result
+            ≡ is_minus (letters_power self.old.letters other.now.letters) }
     {
         // -1 and -i are the powers 2 and 3
         let power = BitRow::multiply(&mut self.x, &mut self.z, &other.x, &other.z);

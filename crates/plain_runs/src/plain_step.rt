@@ -122,7 +122,8 @@ fn fault_word<A: Allocator + Copy>(
 ) -> Result<Word<A>, AllocError>
     requires named { IsNamed program.now name }
     requires applies { applies_word (effect_at program.now.listing name.number) ≡ true }
-    ensures word { IfOk result (λ w. w ≡ signed (fault_word program.now.listing name.number) false) }
+    ensures word { IfOk result (λ w. w
+        ≡ signed (fault_word program.now.listing name.number) false) }
     ensures letters { IfOk result (λ w. length w.letters ≡ program.now.listing.qubits) }
 {
     program.well_formed();

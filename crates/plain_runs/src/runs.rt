@@ -312,7 +312,10 @@ fn record_after<A: Allocator + Copy>(
     requires within { steps ≤ length program.now.listing.steps }
     requires letters { length word.now.letters ≡ program.now.listing.qubits }
     requires plus { word.now.negative ≡ false }
-    requires numbered { (r : Recording) → recording ≡ Some r → r.number ≡ length (run_state_after program.now.listing faults.now coins.now steps).records }
+    requires numbered { (r : Recording)
+        → recording ≡ Some r
+        → r.number
+        ≡ length (run_state_after program.now.listing faults.now coins.now steps).records }
     ensures { let before = run_state_after program.now.listing faults.now coins.now steps in
         let collapse = listing.Collapse (listing.Word word.now.letters) (option_map recorded recording) in
         IfOk result (λ made. made ≡ slice_index_or (next program.now.listing faults.now collapse before).records number false) }
@@ -352,7 +355,8 @@ fn coin_after<A: Allocator + Copy>(
     steps: usize,
 ) -> bool
     requires { steps ≤ length program.now.listing.steps }
-    ensures { (faults : List Bool) → result ≡ next_coin (run_state_after program.now.listing faults coins.now steps).coins }
+    ensures { (faults : List Bool)
+        → result ≡ next_coin (run_state_after program.now.listing faults coins.now steps).coins }
 {
     truth_at(coins, collapses_before(program, steps))
 }

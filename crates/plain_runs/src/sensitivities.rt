@@ -56,7 +56,8 @@ pub fn sensitivity<A: Allocator + Copy>(
     steps: usize,
 ) -> Result<TargetSensitivity<A>, AllocError>
     requires { steps ≤ length program.now.listing.steps }
-    ensures { IfOk result (λ s. s ≡ sensitivity program.now.listing.qubits named.now (drop steps program.now.listing.steps)) }
+    ensures { IfOk result (λ s. s
+        ≡ sensitivity program.now.listing.qubits named.now (drop steps program.now.listing.steps)) }
 {
     let program = Unrolled::of(alloc, program)?;
     sensitivity_after(alloc, &program, named, steps)
@@ -89,7 +90,8 @@ fn sensitivity_after<A: Allocator + Copy>(
     steps: usize,
 ) -> Result<TargetSensitivity<A>, AllocError>
     requires { steps ≤ length program.now.listing.steps }
-    ensures sensitivity { IfOk result (λ s. s ≡ sensitivity program.now.listing.qubits named.now (drop steps program.now.listing.steps)) }
+    ensures sensitivity { IfOk result (λ s. s
+        ≡ sensitivity program.now.listing.qubits named.now (drop steps program.now.listing.steps)) }
     ensures letters { IfOk result (λ s. length s.word ≡ program.now.listing.qubits) }
 {
     let mut left = program.len();
@@ -123,7 +125,10 @@ fn go_back_over<A: Allocator + Copy>(
 ) -> Result<(), AllocError>
     requires within { step < length program.now.listing.steps }
     requires letters { length s.old.word ≡ program.now.listing.qubits }
-    ensures before { OnOk result (s.new ≡ sensitivity_before program.now.listing.qubits (step_at program.now.listing step) s.old) }
+    ensures before { OnOk result
+        (s.new
+        ≡ sensitivity_before program.now.listing.qubits (step_at program.now.listing step)
+        s.old) }
     ensures letters { OnOk result (length s.new.word ≡ program.now.listing.qubits) }
 {
     let plain = plain_step(alloc, program, step)?;
@@ -138,7 +143,8 @@ fn go_back_over_plain<A: Allocator + Copy>(
 ) -> Result<(), AllocError>
     requires words { WordsFit program.now.listing step.now }
     requires letters { length s.old.word ≡ program.now.listing.qubits }
-    ensures before { OnOk result (s.new ≡ sensitivity_before program.now.listing.qubits (listed_step step.now) s.old) }
+    ensures before { OnOk result
+        (s.new ≡ sensitivity_before program.now.listing.qubits (listed_step step.now) s.old) }
     ensures letters { OnOk result (length s.new.word ≡ program.now.listing.qubits) }
 {
     match step {
@@ -178,7 +184,9 @@ fn before_collapse<A: Allocator + Copy>(
     requires word { length word.now.letters ≡ qubits }
     requires reset { ResetFits qubits reset }
     requires after { length after.now.letters ≡ qubits }
-    ensures before { IfOk result (λ v. v.letters ≡ multiplied counts word.now.letters (cleared (measured word.now.letters reset) after.now.letters)) }
+    ensures before { IfOk result (λ v. v.letters
+        ≡ multiplied counts word.now.letters
+        (cleared (measured word.now.letters reset) after.now.letters)) }
     ensures letters { IfOk result (λ v. length v.letters ≡ qubits) }
 {
     let clear = cleared(reset, after)?;
@@ -213,7 +221,8 @@ fn latest_place<A: Allocator + Copy>(
     program: &Unrolled<'_, '_, A>,
     named: &[u32],
 ) -> Result<Option<u32>, AllocError>
-    ensures { IfOk result (λ place. place ≡ latest_place program.now.listing.qubits named.now program.now.listing.steps) }
+    ensures { IfOk result (λ place. place
+        ≡ latest_place program.now.listing.qubits named.now program.now.listing.steps) }
 {
     program.well_formed();
     let mut left = program.len();

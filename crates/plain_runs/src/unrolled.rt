@@ -58,7 +58,8 @@ impl<'a, 'p, A: Allocator + Copy> Unrolled<'a, 'p, A> {
 
     pub(crate) fn step(&self, index: usize) -> Step
         requires { index < length self.now.listing.steps }
-        ensures step { listed self.now.listing.qubits self.now.products result ≡ step_at self.now.listing index }
+        ensures step { listed self.now.listing.qubits self.now.products result
+            ≡ step_at self.now.listing index }
         ensures named { IsStepOf self.now result }
     {
         self.steps[index]

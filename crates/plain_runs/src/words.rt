@@ -157,7 +157,8 @@ pub(crate) fn cleared<A: Allocator + Copy>(
     word: &Word<A>,
 ) -> Result<Word<A>, AllocError>
     requires { ResetFits (length word.now.letters) reset }
-    ensures { IfOk result (λ v. (w : List Letter) → v.letters ≡ cleared (measured w reset) word.now.letters) }
+    ensures { IfOk result (λ v. (w : List Letter)
+        → v.letters ≡ cleared (measured w reset) word.now.letters) }
 {
     let mut copy = word.copy()?;
     if let Some(term) = reset {
@@ -175,7 +176,8 @@ pub(crate) fn multiplied<A: Allocator + Copy>(
 ) -> Result<Word<A>, AllocError>
     requires first { length first.now.letters ≡ qubits }
     requires word { length word.now.letters ≡ qubits }
-    ensures { IfOk result (λ v. v.letters ≡ multiplied multiplies first.now.letters word.now.letters) }
+    ensures { IfOk result (λ v. v.letters
+        ≡ multiplied multiplies first.now.letters word.now.letters) }
 {
     let mut copy = word.copy()?;
     if multiplies {
@@ -211,7 +213,8 @@ pub(crate) fn uncorrected<A: Allocator + Copy>(
 ) -> Result<Word<A>, AllocError>
     requires reset { ResetFits qubits reset }
     requires letters { length word.now.letters ≡ qubits }
-    ensures state { IfOk result (λ v. (w : List Letter) (s : State) → corrected (correction qubits (measured w reset)) seen s word.now ≡ s v) }
+    ensures state { IfOk result (λ v. (w : List Letter) (s : State)
+        → corrected (correction qubits (measured w reset)) seen s word.now ≡ s v) }
     ensures letters { IfOk result (λ v. length v.letters ≡ qubits) }
 {
     match reset {

@@ -58,7 +58,8 @@ impl<A: Allocator + Copy> CircuitBuilder<A> {
 
     /// Appends a step. It fails only where memory runs out.
     pub fn push(&mut self, step: TextStep) -> Result<(), AllocError>
-        ensures ok { OnOk result (self.new ≡ record self.old { here = self.old.here ++ step ∷ [] }) }
+        ensures ok { OnOk result
+            (self.new ≡ record self.old { here = self.old.here ++ step ∷ [] }) }
         ensures err { OnErr result (self.new ≡ self.old) }
     {
         self.nodes.push(step)?;
@@ -70,7 +71,10 @@ impl<A: Allocator + Copy> CircuitBuilder<A> {
     pub fn open(&mut self, turns: u64) -> Result<(), AllocError>
         requires turns { 0 < turns }
         requires room { length self.old.outer < 32 }
-        ensures ok { OnOk result (self.new ≡ record { outer = self.old.outer ++ record { before = self.old.here; turns = turns } ∷ []; here = [] }) }
+        ensures ok { OnOk result
+            (self.new
+            ≡ record
+            { outer = self.old.outer ++ record { before = self.old.here; turns = turns } ∷ []; here = [] }) }
         ensures err { OnErr result (self.new ≡ self.old) }
     {
         self.nodes.open()?;

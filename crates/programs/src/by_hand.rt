@@ -57,15 +57,23 @@ pub fn program_of<'a, A: Allocator + Copy>(
     lists: Lists<'a>,
 ) -> Result<Option<Program<'a, A>>, AllocError>
     ensures qubits { IfOk result (λ o. IfSome o (λ p. p.listing.qubits ≡ qubits)) }
-    ensures steps { IfOk result (λ o. IfSome o (λ p. p.listing.steps ≡ listed_steps qubits p.products no_counts (written pieces.now [] []))) }
-    ensures detectors { IfOk result (λ o. IfSome o (λ p. p.listing.detectors ≡ map (λ list. list.now) lists.entry.detectors.now)) }
-    ensures observables { IfOk result (λ o. IfSome o (λ p. p.listing.observables ≡ map (λ list. list.now) lists.entry.observables.now)) }
-    ensures coordinates { IfOk result (λ o. IfSome o (λ p. p.listing.coordinates ≡ map (λ list. list.now) lists.entry.coordinates.now)) }
+    ensures steps { IfOk result (λ o. IfSome o (λ p. p.listing.steps
+        ≡ listed_steps qubits p.products no_counts (written pieces.now [] []))) }
+    ensures detectors { IfOk result (λ o. IfSome o (λ p. p.listing.detectors
+        ≡ map (λ list. list.now) lists.entry.detectors.now)) }
+    ensures observables { IfOk result (λ o. IfSome o (λ p. p.listing.observables
+        ≡ map (λ list. list.now) lists.entry.observables.now)) }
+    ensures coordinates { IfOk result (λ o. IfSome o (λ p. p.listing.coordinates
+        ≡ map (λ list. list.now) lists.entry.coordinates.now)) }
     ensures kept { IfOk result (λ o. IfSome o (λ p. p.kept ≡ map kept_of lists.entry.entries.now)) }
-    ensures faults { IfOk result (λ o. IfSome o (λ p. p.listing.faults ≡ made_faults p.kept no_counts (written pieces.now [] []))) }
-    ensures records { IfOk result (λ o. IfSome o (λ p. p.listing.records ≡ (counts_over no_counts (written pieces.now [] [])).records)) }
-    ensures collapses { IfOk result (λ o. IfSome o (λ p. p.listing.collapses ≡ (counts_over no_counts (written pieces.now [] [])).collapses)) }
-    ensures products { IfOk result (λ o. IfSome o (λ p. p.products ≡ map (λ list. list.now) lists.entry.products.now)) }
+    ensures faults { IfOk result (λ o. IfSome o (λ p. p.listing.faults
+        ≡ made_faults p.kept no_counts (written pieces.now [] []))) }
+    ensures records { IfOk result (λ o. IfSome o (λ p. p.listing.records
+        ≡ (counts_over no_counts (written pieces.now [] [])).records)) }
+    ensures collapses { IfOk result (λ o. IfSome o (λ p. p.listing.collapses
+        ≡ (counts_over no_counts (written pieces.now [] [])).collapses)) }
+    ensures products { IfOk result (λ o. IfSome o (λ p. p.products
+        ≡ map (λ list. list.now) lists.entry.products.now)) }
 {
     let Some(nodes) = nodes_of(alloc, pieces)? else {
         return Ok(None);
@@ -130,7 +138,8 @@ fn keep<'a, A: Allocator + Copy>(
 // The nodes of a circuit in pieces, where its blocks are whole, have a turn and aren't too deep.
 fn nodes_of<A: Allocator + Copy>(alloc: A, pieces: &[Piece]) -> Result<Option<Nodes<A>>, AllocError>
     ensures circuit { IfOk result (λ nodes. IfSome nodes IsCircuit) }
-    ensures steps { IfOk result (λ nodes. IfSome nodes (λ v. unrolled (tree_of v) ≡ written pieces.now [] [])) }
+    ensures steps { IfOk result (λ nodes. IfSome nodes (λ v. unrolled (tree_of v)
+        ≡ written pieces.now [] [])) }
 {
     let mut builder = CircuitBuilder::new(alloc);
     for piece in pieces {
@@ -195,7 +204,8 @@ fn texts_of<'a, A: Allocator + Copy>(
     alloc: A,
     entries: &'a [Entry<'a>],
 ) -> Result<Option<Vec<ChanceText<'a>, A>>, AllocError>
-    ensures { IfOk result (λ texts. IfSome texts (λ v. map chance_of v.items ≡ map chance_by_hand entries.now)) }
+    ensures { IfOk result (λ texts. IfSome texts (λ v. map chance_of v.items
+        ≡ map chance_by_hand entries.now)) }
 {
     let mut texts = Vec::new(alloc);
     for entry in entries {

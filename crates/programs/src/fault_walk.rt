@@ -21,7 +21,8 @@ pub fn next_fault<'a, 'p, A: Allocator + Copy>(walk: &mut Walk<'a, 'p, A>) -> Op
     // `Program::well_formed` gives this for each program.
     requires { IsWellFormed walk.old.program.listing }
     ensures program { walk.new.program ≡ walk.old.program }
-    ensures next { IfSome result (λ fault. faults_left walk.old ≡ fault.number ∷ faults_left walk.new) }
+    ensures next { IfSome result (λ fault. faults_left walk.old
+        ≡ fault.number ∷ faults_left walk.new) }
     ensures found { IfSome result (IsFaultOf walk.old.program) }
     ensures end { result ≡ None → faults_left walk.old ≡ [] }
     // No fault is left then after the place where the walk stands.

@@ -73,7 +73,8 @@ pub(crate) enum KeptNode {
 
 // A collapse of a letter as it is kept.
 fn kept_collapse(letter: Letter, qubit: u32, reset: bool, recording: Option<Recording>) -> KeptNode
-    ensures value { (sizes : List BlockSize) → node_of sizes result ≡ Do (Collapse letter qubit reset recording) }
+    ensures value { (sizes : List BlockSize)
+        → node_of sizes result ≡ Do (Collapse letter qubit reset recording) }
     ensures apart { NamesBlockBelow 0 result }
 {
     match recording {
@@ -110,7 +111,8 @@ fn kept_collapse(letter: Letter, qubit: u32, reset: bool, recording: Option<Reco
 
 // A collapse of a product as it is kept.
 fn kept_collapse_word(product: u32, recording: Option<Recording>) -> KeptNode
-    ensures value { (sizes : List BlockSize) → node_of sizes result ≡ Do (CollapseWord product recording) }
+    ensures value { (sizes : List BlockSize)
+        → node_of sizes result ≡ Do (CollapseWord product recording) }
     ensures apart { NamesBlockBelow 0 result }
 {
     match recording {

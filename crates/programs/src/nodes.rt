@@ -82,7 +82,11 @@ impl<A: Allocator + Copy> Nodes<A> {
     /// Appends the end of a block, and puts its start where it was opened. It fails only where memory runs out.
     pub(crate) fn close(&mut self, start: usize, size: BlockSize) -> Result<(), AllocError>
         requires { start < length self.old }
-        ensures ok { OnOk result (self.new ≡ set self.old start (Open size.turns size.length) ++ Close size.turns size.length ∷ []) }
+        ensures ok { OnOk result
+            (self.new
+            ≡ set self.old start (Open size.turns size.length)
+            ++ Close size.turns size.length
+            ∷ []) }
         ensures err { OnErr result (self.new ≡ self.old) }
     {
         let block = number_of(self.sizes.len())?;

@@ -151,7 +151,8 @@ impl<'a, A: Allocator + Copy> Program<'a, A> {
 
     /// The records of a target, which is a detector or an observable: detectors are numbered first, then observables.
     pub fn target(&self, number: usize) -> &[u32]
-        requires { number < length self.now.listing.detectors + length self.now.listing.observables }
+        requires { number
+            < length self.now.listing.detectors + length self.now.listing.observables }
         ensures value { result.now ≡ target_at self.now.listing number }
         ensures within { All (λ r. r < self.now.listing.records) result.now }
     {

@@ -97,7 +97,8 @@ impl Step {
     /// Whether it measures a letter or a product: then it takes a coin, which is the outcome where that is random.
     #[inline(always)]
     pub fn is_collapse(self) -> bool
-        ensures { (n : ℕ) (products : List (List Term)) → result ≡ is_collapse (listed n products self) }
+        ensures { (n : ℕ) (products : List (List Term))
+            → result ≡ is_collapse (listed n products self) }
     {
         matches!(self, Step::Collapse { .. } | Step::CollapseWord { .. })
     }

@@ -95,10 +95,14 @@ impl<'a, 'p, A: Allocator + Copy> Walk<'a, 'p, A> {
     /// Answers the step after this place and goes over it. None at the end, where nothing changes.
     #[inline(always)]
     pub fn next_step(&mut self) -> Option<Step>
-        ensures step { option_map (listed self.old.program.listing.qubits self.old.program.products) result ≡ slice_get self.old.program.listing.steps self.old.place }
+        ensures step { option_map (listed self.old.program.listing.qubits self.old.program.products)
+            result
+            ≡ slice_get self.old.program.listing.steps self.old.place }
         ensures named { IfSome result (IsStepOf self.old.program) }
         ensures program { self.new.program ≡ self.old.program }
-        ensures place { self.new.place ≡ (if nat_lt self.old.place (length self.old.program.listing.steps) then self.old.place + 1 else self.old.place) }
+        ensures place { self.new.place
+            ≡ (if nat_lt self.old.place (length self.old.program.listing.steps) then self.old.place
+            + 1 else self.old.place) }
     {
         let step = match next(self.text.nodes, &mut self.place) {
             Some(step) => step,
@@ -113,7 +117,10 @@ impl<'a, 'p, A: Allocator + Copy> Walk<'a, 'p, A> {
     /// Answers the step before this place and goes back over it. None at the start, where nothing changes.
     #[inline(always)]
     pub fn previous_step(&mut self) -> Option<Step>
-        ensures step { option_map (listed self.old.program.listing.qubits self.old.program.products) result ≡ (if self.old.place == 0 then None else slice_get self.old.program.listing.steps (self.old.place - 1)) }
+        ensures step { option_map (listed self.old.program.listing.qubits self.old.program.products)
+            result
+            ≡ (if self.old.place == 0 then None else slice_get self.old.program.listing.steps
+            (self.old.place - 1)) }
         ensures named { IfSome result (IsStepOf self.old.program) }
         ensures program { self.new.program ≡ self.old.program }
         ensures place { self.new.place ≡ self.old.place - 1 }

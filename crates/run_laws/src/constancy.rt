@@ -24,15 +24,24 @@ pub fn sensitivities_stay()
 /// what the steps bring, as in `sensitivities_stay`. A target has no place where its sensitivity just after each collapse
 /// commutes with the collapse's word, and has no X or Y at the start.
 pub fn parity_is_constant()
-    ensures constant { (program : Listing) (d : ℕ) → IsWellFormed program → place_of program d ≡ None → IsConstant program d }
-    ensures brought { (program : Listing) (d : ℕ) → IsWellFormed program → place_of program d ≡ None → ParityIsWhatStepsBring program d }
+    ensures constant { (program : Listing) (d : ℕ)
+        → IsWellFormed program
+        → place_of program d ≡ None
+        → IsConstant program d }
+    ensures brought { (program : Listing) (d : ℕ)
+        → IsWellFormed program
+        → place_of program d ≡ None
+        → ParityIsWhatStepsBring program d }
 {}
 
 /// Such a target differs between a run with faults and one without, under any coins, exactly where an odd number
 /// of the faults that happen hit it: one fault flips the targets that it hits and no others, and a set of
 /// faults flips their exclusive sum.
 pub fn faults_add_up()
-    ensures { (program : Listing) (d : ℕ) → IsWellFormed program → place_of program d ≡ None → AddsUp program d }
+    ensures { (program : Listing) (d : ℕ)
+        → IsWellFormed program
+        → place_of program d ≡ None
+        → AddsUp program d }
 {}
 
 /// So one fault more or less changes such a target exactly where that fault hits it: two runs, under any coins, whose
@@ -48,7 +57,10 @@ pub fn one_fault_flips_what_it_hits()
 /// sum of the targets of those faults.
 pub fn hits_make_exact_model()
     ensures fits { (program : Listing) → Fits program (hitting_faults program) (model_of program) }
-    ensures exact { (program : Listing) → IsWellFormed program → ((d : ℕ) → d < length (targets_of program) → place_of program d ≡ None) → IsExact program (hitting_faults program) (model_of program) }
+    ensures exact { (program : Listing)
+        → IsWellFormed program
+        → ((d : ℕ) → d < length (targets_of program) → place_of program d ≡ None)
+        → IsExact program (hitting_faults program) (model_of program) }
 {}
 
 /// No other model does: two models that fit a program and are exact are equal, and their lines stand for the same faults.

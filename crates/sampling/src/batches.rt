@@ -29,9 +29,13 @@ pub fn write_shots<S: SideRuns, W: Sink, A: Allocator + Copy>(
     requires bounds { drawn.old.bounds ≡ bounds_of (S.program runs.old) }
     requires coins { length drawn.old.coins ≡ (S.program runs.old).collapses }
     requires line { length line.old ≡ length (S.lane_words runs.old) + 1 }
-    ensures all { OnOk result (Takes (W.taken sink.old) (W.taken sink.new) (shots_text (shown_line S.shown) shots seed (S.program runs.old))) }
+    ensures all { OnOk result
+        (Takes (W.taken sink.old) (W.taken sink.new)
+        (shots_text (shown_line S.shown) shots seed (S.program runs.old))) }
     ensures fault { IfErr result (λ e. e ≡ write_fault) }
-    ensures beginning { OnErr result (TakesBeginning (W.taken sink.old) (W.taken sink.new) (shots_text (shown_line S.shown) shots seed (S.program runs.old))) }
+    ensures beginning { OnErr result
+        (TakesBeginning (W.taken sink.old) (W.taken sink.new)
+        (shots_text (shown_line S.shown) shots seed (S.program runs.old))) }
     ensures count { W.failures sink.new ≡ write_failures result (W.failures sink.old) }
 {
     let mut rng = Pcg64::seed_from_u64(seed);
@@ -52,7 +56,8 @@ fn push_shots<S: SideRuns, W: Sink, A: Allocator + Copy>(
     requires bounds { drawn.old.bounds ≡ bounds_of (S.program runs.old) }
     requires coins { length drawn.old.coins ≡ (S.program runs.old).collapses }
     requires line { length line.old ≡ length (S.lane_words runs.old) + 1 }
-    ensures { Pushes W.taken W.failures sink.old sink.new out.old out.new (lines_from (shown_line S.shown) (S.program runs.old) shots rng.old) }
+    ensures { Pushes W.taken W.failures sink.old sink.new out.old out.new
+        (lines_from (shown_line S.shown) (S.program runs.old) shots rng.old) }
 {
     let mut left = shots;
     while left > 0 {
@@ -90,7 +95,8 @@ fn push_batch<S: SideRuns, W: Sink, A: Allocator + Copy>(
     requires coins { length drawn.old.coins ≡ (S.program runs.old).collapses }
     requires line { length line.old ≡ length (S.lane_words runs.old) + 1 }
     requires count { count ≤ 64 }
-    ensures lines { Pushes W.taken W.failures sink.old sink.new out.old out.new (lines_from (shown_line S.shown) (S.program runs.old) count rng.old) }
+    ensures lines { Pushes W.taken W.failures sink.old sink.new out.old out.new
+        (lines_from (shown_line S.shown) (S.program runs.old) count rng.old) }
     ensures taken { rng.new ≡ shot_generator (S.program runs.old) rng.old count }
     ensures program { S.program runs.new ≡ S.program runs.old }
     ensures bounds { drawn.new.bounds ≡ bounds_of (S.program runs.old) }

@@ -69,9 +69,17 @@ impl<'b, 'p, A: Allocator + Copy> SideRuns for DetectionRuns<'b, 'p, A> {
 
 // The detections of all runs, a word for each target.
 fn fill<A: Allocator + Copy>(words: &mut [u64], batch: &Batch<A>, program: &Program<'_, A>)
-    requires { length words.old ≡ length program.now.listing.detectors + length program.now.listing.observables }
+    requires { length words.old
+        ≡ length program.now.listing.detectors + length program.now.listing.observables }
     ensures size { length words.new ≡ length words.old }
-    ensures filled { (index : ℕ) → index < length words.old → (j : ℕ) → lane_bit j (slice_index words.new index) ≡ slice_index_or (difference program.now.listing (shot_records j batch.now) batch.now.reference.records) index false }
+    ensures filled { (index : ℕ)
+        → index < length words.old
+        → (j : ℕ)
+        → lane_bit j (slice_index words.new index)
+        ≡ slice_index_or
+        (difference program.now.listing (shot_records j batch.now)
+        batch.now.reference.records)
+        index false }
 {
     for index in 0..words.len() {
         words[index] = batch.detections_word(program, index);

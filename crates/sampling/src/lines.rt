@@ -19,7 +19,8 @@ pub(crate) fn push_lines<W: Sink>(
 )
     requires room { length line.old ≡ length words.now + 1 }
     requires count { count ≤ 64 }
-    ensures lines { Pushes W.taken W.failures sink.old sink.new out.old out.new (lane_lines words.now count) }
+    ensures lines { Pushes W.taken W.failures sink.old sink.new out.old out.new
+        (lane_lines words.now count) }
     ensures room { length line.new ≡ length line.old }
 {
     for shot in 0..count {

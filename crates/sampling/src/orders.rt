@@ -22,10 +22,14 @@ pub fn sample<W: Sink, A: Allocator + Copy>(
     seed: u64,
     sink: &mut W,
 ) -> Result<(), Fault>
-    ensures written { OnOk result (Takes (W.taken sink.old) (W.taken sink.new) (shots_text record_line shots seed program.now.listing)) }
+    ensures written { OnOk result
+        (Takes (W.taken sink.old) (W.taken sink.new)
+        (shots_text record_line shots seed program.now.listing)) }
     ensures fault { IfErr result (λ e. (e ≡ memory_fault) ⊎ (e ≡ write_fault)) }
     ensures writes { W.failures sink.new ≡ write_failures result (W.failures sink.old) }
-    ensures beginning { OnErr result (TakesSome (W.taken sink.old) (W.taken sink.new) (shots_text record_line shots seed program.now.listing)) }
+    ensures beginning { OnErr result
+        (TakesSome (W.taken sink.old) (W.taken sink.new)
+        (shots_text record_line shots seed program.now.listing)) }
 {
     let mut drawn = Shots::new(alloc, program)?;
     let mut runs = RecordRuns::new(alloc, program)?;
@@ -45,10 +49,14 @@ pub fn detect<W: Sink, A: Allocator + Copy>(
     seed: u64,
     sink: &mut W,
 ) -> Result<(), Fault>
-    ensures written { OnOk result (Takes (W.taken sink.old) (W.taken sink.new) (shots_text detection_line shots seed program.now.listing)) }
+    ensures written { OnOk result
+        (Takes (W.taken sink.old) (W.taken sink.new)
+        (shots_text detection_line shots seed program.now.listing)) }
     ensures fault { IfErr result (λ e. (e ≡ memory_fault) ⊎ (e ≡ write_fault)) }
     ensures writes { W.failures sink.new ≡ write_failures result (W.failures sink.old) }
-    ensures beginning { OnErr result (TakesSome (W.taken sink.old) (W.taken sink.new) (shots_text detection_line shots seed program.now.listing)) }
+    ensures beginning { OnErr result
+        (TakesSome (W.taken sink.old) (W.taken sink.new)
+        (shots_text detection_line shots seed program.now.listing)) }
 {
     let mut drawn = Shots::new(alloc, program)?;
     let mut runs = DetectionRuns::new(alloc, program)?;

@@ -69,7 +69,12 @@ impl<'b, 'p, A: Allocator + Copy> SideRuns for RecordRuns<'b, 'p, A> {
 fn fill<A: Allocator + Copy>(words: &mut [u64], batch: &Batch<A>)
     requires { length words.old ≡ length batch.now.reference.records }
     ensures size { length words.new ≡ length words.old }
-    ensures filled { (index : ℕ) → index < length words.old → (j : ℕ) → j < 64 → lane_bit j (slice_index words.new index) ≡ slice_index_or (shot_records j batch.now) index false }
+    ensures filled { (index : ℕ)
+        → index < length words.old
+        → (j : ℕ)
+        → j < 64
+        → lane_bit j (slice_index words.new index)
+        ≡ slice_index_or (shot_records j batch.now) index false }
 {
     for index in 0..words.len() {
         words[index] = batch.records_word(index);

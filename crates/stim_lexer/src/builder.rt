@@ -59,9 +59,12 @@ impl<'a, O: Copy, T: Copy, A: Allocator + Copy> Builder<'a, O, T, A> {
         targets: &[T],
     ) -> Result<Option<Cause>, AllocError>
         requires { OpensFew (length self.old.text.opened) said }
-        ensures refused { IfOk result (λ refused. refused ≡ cause_in (reading_in line said.entry targets.now)) }
-        ensures after { IfOk result (λ refused. self.new.text ≡ after_line line (reading_in line said.entry targets.now) self.old.text) }
-        ensures marks { IfOk result (λ refused. self.new.marks ≡ self.old.marks ++ line_marks said.entry mark) }
+        ensures refused { IfOk result (λ refused. refused
+            ≡ cause_in (reading_in line said.entry targets.now)) }
+        ensures after { IfOk result (λ refused. self.new.text
+            ≡ after_line line (reading_in line said.entry targets.now) self.old.text) }
+        ensures marks { IfOk result (λ refused. self.new.marks
+            ≡ self.old.marks ++ line_marks said.entry mark) }
     {
         match said {
             Said::Accepts {
@@ -90,7 +93,8 @@ impl<'a, O: Copy, T: Copy, A: Allocator + Copy> Builder<'a, O, T, A> {
     /// The items that were read. Where a block is left open, the refusal for this cause, with the line of the innermost.
     pub fn finish(mut self, cause: Cause) -> Result<Items<'a, O, T, A>, Fault>
         ensures opened { IfOk result (λ items. self.entry.text.opened ≡ []) }
-        ensures items { IfOk result (λ items. items ≡ record { items = self.entry.text.items; marks = self.entry.marks }) }
+        ensures items { IfOk result (λ items. items
+            ≡ record { items = self.entry.text.items; marks = self.entry.marks }) }
         ensures err { IfErr result (λ fault. left_open cause self.entry.text.opened ≡ Some fault) }
     {
         match self.blocks.pop() {

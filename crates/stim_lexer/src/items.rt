@@ -89,7 +89,9 @@ impl<'a, O: Copy, T: Copy, A: Allocator + Copy> Items<'a, O, T, A> {
     // Appends an item with a copy of its targets.
     #[tactic(auto, using(crate::proofs::FlatLemmas::pushes))]
     fn keep(&mut self, node: Node<'a, O>, targets: &[T]) -> Result<(), AllocError>
-        ensures ok { OnOk result (self.new ≡ with_item (item_kept targets.now node.entry) (mark_kept node.entry) self.old) }
+        ensures ok { OnOk result
+            (self.new
+            ≡ with_item (item_kept targets.now node.entry) (mark_kept node.entry) self.old) }
         ensures err { OnErr result (self.new ≡ self.old) }
     {
         // Room for the node first, so that nothing changes where memory runs out.
@@ -101,7 +103,10 @@ impl<'a, O: Copy, T: Copy, A: Allocator + Copy> Items<'a, O, T, A> {
 
     /// Appends an instruction with a copy of its targets. It fails only where memory runs out.
     pub(crate) fn push(&mut self, instruction: Instruction<'_, 'a, O, T>) -> Result<(), AllocError>
-        ensures ok { OnOk result (self.new ≡ with_item (InstructionLine (instruction_in instruction.entry)) instruction.entry.mark self.old) }
+        ensures ok { OnOk result
+            (self.new
+            ≡ with_item (InstructionLine (instruction_in instruction.entry))
+            instruction.entry.mark self.old) }
         ensures err { OnErr result (self.new ≡ self.old) }
     {
         let node = Node::InstructionLine {

@@ -76,10 +76,13 @@ impl<'a> Lexer<'a> {
     /// Passes over lines that say nothing, up to the first one that does.
     fn pass_silent(&mut self) -> Option<Found<'a>>
         ensures rest { self.new ≡ after_silent self.old.read self.old.lines }
-        ensures lines { IfSome result (λ found. self.new.lines ≡ found.line.now ∷ lines_of found.after.now) }
+        ensures lines { IfSome result (λ found. self.new.lines
+            ≡ found.line.now ∷ lines_of found.after.now) }
         ensures content { IfSome result (λ found. found.content.now ≡ content_of found.line.now) }
-        ensures special { IfSome result (λ found. found.special ≡ list_any is_special found.line.now) }
-        ensures room { IfSome result (λ found. self.new.read + 1 + length found.after.now < 2 ^ 64) }
+        ensures special { IfSome result (λ found. found.special
+            ≡ list_any is_special found.line.now) }
+        ensures room { IfSome result (λ found. self.new.read + 1 + length found.after.now
+            < 2 ^ 64) }
         ensures none { result ≡ None → self.new.lines ≡ [] }
     {
         while !self.rest.is_empty() {

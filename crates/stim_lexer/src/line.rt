@@ -62,7 +62,8 @@ pub(crate) fn content_of(line: &[u8], special: bool) -> &[u8]
 
 /// Whether a line with this content closes a block.
 pub(crate) fn is_closing(content: &[u8]) -> bool
-    ensures { result ≡ (begins_with is_close_brace content.now && list_all is_blank (drop 1 content.now)) }
+    ensures { result
+        ≡ (begins_with is_close_brace content.now && list_all is_blank (drop 1 content.now)) }
 {
     match content {
         [b'}', rest @ ..] => is_blank_text(rest),

@@ -170,9 +170,12 @@ pub(crate) struct Bracketed<'a> {
 
 /// Cuts a text at the first closing byte, where it begins with an opening one after any blanks.
 pub(crate) fn cut_brackets(text: &[u8], opening: u8, closing: u8) -> Bracketed<'_>
-    ensures inside { result.inside.now ≡ in_brackets (λ b. b == opening) (λ b. b == closing) text.now }
-    ensures after { result.after.now ≡ after_brackets (λ b. b == opening) (λ b. b == closing) text.now }
-    ensures stays_open { result.stays_open ≡ leaves_open (λ b. b == opening) (λ b. b == closing) text.now }
+    ensures inside { result.inside.now
+        ≡ in_brackets (λ b. b == opening) (λ b. b == closing) text.now }
+    ensures after { result.after.now
+        ≡ after_brackets (λ b. b == opening) (λ b. b == closing) text.now }
+    ensures stays_open { result.stays_open
+        ≡ leaves_open (λ b. b == opening) (λ b. b == closing) text.now }
 {
     match after_blanks(text) {
         [first, opened @ ..] if *first == opening => {

@@ -104,7 +104,8 @@ pub(crate) fn chance_of<'a>(
 
 /// Whether one of the whole numbers is of a magnitude above the greatest one.
 fn are_coordinates_beyond(greatest: u64, arguments: &[&[u8]]) -> bool
-    ensures { result ≡ list_any (λ argument. nat_lt greatest (magnitude_of argument.now)) arguments.now }
+    ensures { result
+        ≡ list_any (λ argument. nat_lt greatest (magnitude_of argument.now)) arguments.now }
 {
     arguments
         .iter()
@@ -113,7 +114,8 @@ fn are_coordinates_beyond(greatest: u64, arguments: &[&[u8]]) -> bool
 
 /// Whether one of the numbers is beyond the limit of all that have none of their own.
 fn are_numbers_beyond(arguments: &[&[u8]]) -> bool
-    ensures { result ≡ list_any (λ argument. is_number_beyond (value_of argument.now)) arguments.now }
+    ensures { result
+        ≡ list_any (λ argument. is_number_beyond (value_of argument.now)) arguments.now }
 {
     arguments
         .iter()

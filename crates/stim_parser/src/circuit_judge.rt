@@ -43,7 +43,9 @@ fn read_line_targets<A: Allocator + Copy>(
 
 /// Whether there are targets where none is taken, or another number of them than is taken.
 fn has_wrong_number(form: TargetForm, text: &[u8], targets: &[Target]) -> bool
-    ensures { result ≡ ((takes_none form && not (is_empty (after_blanks text.now))) || has_wrong_count form targets.now) }
+    ensures { result
+        ≡ ((takes_none form && not (is_empty (after_blanks text.now)))
+        || has_wrong_count form targets.now) }
 {
     (takes_none(form) && !after_blanks(text).is_empty()) || has_wrong_count(form, targets)
 }

@@ -70,7 +70,8 @@ fn arguments_of<'a>(
     ensures refusal { MatchResult result
         (λ beyond. (beyond ≡ has_argument_beyond greatest form (arguments_in line.entry.arguments.now)) × (first_of (refusals_of_arguments causes form (cut_in line.entry)) ≡ None))
         (λ refused. first_of (refusals_of_arguments causes form (cut_in line.entry)) ≡ Some refused) }
-    ensures last { IfOk result (λ beyond. takes_probability form ≡ true → last.new.parentheses.text ≡ line.entry.arguments.now) }
+    ensures last { IfOk result (λ beyond. takes_probability form ≡ true
+        → last.new.parentheses.text ≡ line.entry.arguments.now) }
 {
     if line.stays_open {
         return Err(causes.arguments);
@@ -97,7 +98,8 @@ fn closed_arguments_of<'a>(
     ensures refusal { MatchResult result
         (λ beyond. (beyond ≡ has_argument_beyond greatest form (arguments_in line.entry.arguments.now)) × (first_of (refusals_of_arguments causes form (cut_in line.entry)) ≡ None))
         (λ refused. first_of (refusals_of_arguments causes form (cut_in line.entry)) ≡ Some refused) }
-    ensures last { IfOk result (λ beyond. takes_probability form ≡ true → last.new.parentheses.text ≡ line.entry.arguments.now) }
+    ensures last { IfOk result (λ beyond. takes_probability form ≡ true
+        → last.new.parentheses.text ≡ line.entry.arguments.now) }
 {
     let Some(arguments) = read_arguments(line.arguments) else {
         return Err(causes.arguments);
@@ -123,7 +125,8 @@ fn read_line_targets<O: Copy, T: Copy, F: Copy, J: Judge<O, T, F>, A: Allocator 
     text: &[u8],
 ) -> Result<bool, AllocError>
     ensures wrong { IfOk result (λ right. has_wrong_target J.table form text.now ≡ not right) }
-    ensures items { IfOk result (λ right. right ≡ true → targets.new.items ≡ read_targets J.table form text.now) }
+    ensures items { IfOk result (λ right. right ≡ true
+        → targets.new.items ≡ read_targets J.table form text.now) }
 {
     if !J::read_targets(targets, form, text)? {
         return Ok(false);
@@ -165,9 +168,12 @@ fn refusal_of_amounts<O: Copy, T: Copy, F: Copy, J: Judge<O, T, F>>(
     beyond: bool,
     targets: &[T],
 ) -> Option<Cause>
-    requires arguments { beyond ≡ has_argument_beyond J.table.greatest_coordinate (J.table.argument_form keyword) (arguments_in line.arguments.now) }
+    requires arguments { beyond
+        ≡ has_argument_beyond J.table.greatest_coordinate (J.table.argument_form keyword)
+        (arguments_in line.arguments.now) }
     requires form { form ≡ J.table.target_form keyword }
-    requires targets { targets.now ≡ read_targets J.table (J.table.target_form keyword) line.targets.now }
+    requires targets { targets.now
+        ≡ read_targets J.table (J.table.target_form keyword) line.targets.now }
     ensures { result ≡ first_of (refusals_of_amounts J.table depth keyword (cut_in line.entry)) }
 {
     if beyond || J::has_target_beyond(form, targets) {
@@ -188,9 +194,14 @@ fn refusal_of<'a, O: Copy, T: Copy, F: Copy, J: Judge<O, T, F>, A: Allocator + C
     keyword: Keyword<O>,
     line: Line<'a>,
 ) -> Result<Option<Cause>, AllocError>
-    ensures refusal { IfOk result (λ refusal. refusal ≡ first_of (refusals_of_keyword J.table depth keyword (cut_in line.entry))) }
-    ensures targets { IfOk result (λ refusal. refusal ≡ None → targets.new.items ≡ read_targets J.table (J.table.target_form keyword) line.entry.targets.now) }
-    ensures last { IfOk result (λ refusal. refusal ≡ None → takes_probability (J.table.argument_form keyword) ≡ true → last.new.parentheses.text ≡ line.entry.arguments.now) }
+    ensures refusal { IfOk result (λ refusal. refusal
+        ≡ first_of (refusals_of_keyword J.table depth keyword (cut_in line.entry))) }
+    ensures targets { IfOk result (λ refusal. refusal ≡ None
+        → targets.new.items
+        ≡ read_targets J.table (J.table.target_form keyword) line.entry.targets.now) }
+    ensures last { IfOk result (λ refusal. refusal ≡ None
+        → takes_probability (J.table.argument_form keyword) ≡ true
+        → last.new.parentheses.text ≡ line.entry.arguments.now) }
 {
     let asked = J::argument_form(keyword);
     let beyond = match arguments_of(last, J::causes(), J::greatest_coordinate(), asked, line) {
@@ -211,8 +222,12 @@ fn accepted<'a, O: Copy, T: Copy, F: Copy, J: Judge<O, T, F>>(
     targets: &[T],
 ) -> Said<'a, O>
     requires { targets.now ≡ read_targets J.table (J.table.target_form keyword) line.targets.now }
-    ensures reading { reading_in line.entry.number result targets.now ≡ accepted J.table line.entry.number (Some keyword) (cut_in line.entry) }
-    ensures last { (last : Parentheses) → (takes_probability (J.table.argument_form keyword) ≡ true → last.text ≡ line.entry.arguments.now) → Remembers J.table result last }
+    ensures reading { reading_in line.entry.number result targets.now
+        ≡ accepted J.table line.entry.number (Some keyword) (cut_in line.entry) }
+    ensures last { (last : Parentheses)
+        → (takes_probability (J.table.argument_form keyword) ≡ true
+        → last.text ≡ line.entry.arguments.now)
+        → Remembers J.table result last }
 {
     match keyword {
         Keyword::Repeats => Said::Opens(J::turns_of(targets)),
@@ -225,7 +240,8 @@ fn accepted<'a, O: Copy, T: Copy, F: Copy, J: Judge<O, T, F>>(
 
 /// What a line says that closes a block, where so many are open.
 fn closed_at<'a, O: Copy, T: Copy>(causes: Causes, depth: usize) -> Said<'a, O>
-    ensures reading { (number : ℕ) (targets : List T) → reading_in number result targets ≡ (if depth == 0 then Refuses causes.block else Closes) }
+    ensures reading { (number : ℕ) (targets : List T)
+        → reading_in number result targets ≡ (if depth == 0 then Refuses causes.block else Closes) }
     ensures nothing { TakesNothing result }
 {
     if depth == 0 {
@@ -242,7 +258,8 @@ fn judged<'a, O: Copy, T: Copy, F: Copy, J: Judge<O, T, F>, A: Allocator + Copy>
     depth: usize,
     line: Line<'a>,
 ) -> Result<Said<'a, O>, AllocError>
-    ensures reading { IfOk result (λ said. reading_in line.entry.number said targets.new.items ≡ judged J.table depth line.entry.number (cut_in line.entry)) }
+    ensures reading { IfOk result (λ said. reading_in line.entry.number said targets.new.items
+        ≡ judged J.table depth line.entry.number (cut_in line.entry)) }
     ensures last { IfOk result (λ said. Remembers J.table said last.new.parentheses) }
 {
     let keyword = match keyword_of::<O, T, F, J>(last, line) {
@@ -264,7 +281,8 @@ pub fn read_line<'a, O: Copy, T: Copy, F: Copy, J: Judge<O, T, F>, A: Allocator 
     depth: usize,
     line: Line<'a>,
 ) -> Result<Said<'a, O>, AllocError>
-    ensures reading { IfOk result (λ said. reading_in line.entry.number said targets.new.items ≡ reading_of J.table depth line.entry.number (cut_in line.entry)) }
+    ensures reading { IfOk result (λ said. reading_in line.entry.number said targets.new.items
+        ≡ reading_of J.table depth line.entry.number (cut_in line.entry)) }
     ensures last { IfOk result (λ said. Remembers J.table said last.new.parentheses) }
 {
     match line.braces {

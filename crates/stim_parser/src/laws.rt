@@ -9,10 +9,17 @@ ghost use Rattle.stim_parser.specs.Written.{AreAlike, circuit_text, with_lines};
 
 /// Each text writes exactly one tree, or is refused by exactly one fault, and never both.
 pub fn texts_are_judged_once()
-    ensures judged { (text : List ℕ) → ((tree : Tree) × Writes text tree) ⊎ ((fault : Fault) × IsRefusedBy text fault) }
+    ensures judged { (text : List ℕ)
+        → ((tree : Tree) × Writes text tree) ⊎ ((fault : Fault) × IsRefusedBy text fault) }
     ensures one_tree { (text : List ℕ) (t u : Tree) → Writes text t → Writes text u → t ≡ u }
-    ensures one_fault { (text : List ℕ) (f g : Fault) → IsRefusedBy text f → IsRefusedBy text g → f ≡ g }
-    ensures not_both { (text : List ℕ) (t : Tree) (f : Fault) → Writes text t → IsRefusedBy text f → ⊥ }
+    ensures one_fault { (text : List ℕ) (f g : Fault)
+        → IsRefusedBy text f
+        → IsRefusedBy text g
+        → f ≡ g }
+    ensures not_both { (text : List ℕ) (t : Tree) (f : Fault)
+        → Writes text t
+        → IsRefusedBy text f
+        → ⊥ }
 {}
 
 /// In a tree that a text writes, each instruction has the arguments and targets that its operation takes, each block
@@ -29,8 +36,14 @@ pub fn trees_are_told_apart()
 /// Each tree that fits has a text that writes it, but for the numbers of its lines: these are as they stand in the text. The
 /// text says all else of the tree: two trees have one text just where they are the same but for the numbers of their lines.
 pub fn circuits_are_written()
-    ensures written { (tree : Tree) → IsCircuit tree → Writes (circuit_text tree) (with_lines tree) }
+    ensures written { (tree : Tree)
+        → IsCircuit tree
+        → Writes (circuit_text tree) (with_lines tree) }
     ensures alike { (tree : Tree) → AreAlike tree (with_lines tree) }
     ensures one_text { (t u : Tree) → AreAlike t u → circuit_text t ≡ circuit_text u }
-    ensures told_apart { (t u : Tree) → IsCircuit t → IsCircuit u → circuit_text t ≡ circuit_text u → AreAlike t u }
+    ensures told_apart { (t u : Tree)
+        → IsCircuit t
+        → IsCircuit u
+        → circuit_text t ≡ circuit_text u
+        → AreAlike t u }
 {}

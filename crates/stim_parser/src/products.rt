@@ -80,7 +80,8 @@ fn is_factor_within(named: &QubitSet, target: Target) -> bool
 /// Puts a factor's qubit into a set.
 fn put_in(named: &mut QubitSet, target: Target)
     requires { is_target_beyond Products target ≡ false }
-    ensures { (q : ℕ) → is_named named.new.words q ≡ (is_factor_at q target || is_named named.old.words q) }
+    ensures { (q : ℕ)
+        → is_named named.new.words q ≡ (is_factor_at q target || is_named named.old.words q) }
 {
     if let Target::Pauli(_, _, qubit) = target {
         named.insert(qubit.value());
@@ -90,7 +91,8 @@ fn put_in(named: &mut QubitSet, target: Target)
 /// Takes a factor's qubit out of a set.
 fn take_out(named: &mut QubitSet, target: Target)
     requires { is_target_beyond Products target ≡ false }
-    ensures { (q : ℕ) → is_named named.new.words q ≡ (not (is_factor_at q target) && is_named named.old.words q) }
+    ensures { (q : ℕ)
+        → is_named named.new.words q ≡ (not (is_factor_at q target) && is_named named.old.words q) }
 {
     if let Target::Pauli(_, _, qubit) = target {
         named.remove(qubit.value());
@@ -104,7 +106,8 @@ fn go_over<'a>(named: &mut QubitSet, targets: &'a [Target]) -> Option<&'a [Targe
     ensures again { MatchOption result
         ((goes_on_within (is_named named.old.words) targets.now || has_product_of_one targets.now) ≡ true)
         (λ after. (goes_on_within (is_named named.old.words) targets.now || has_product_of_one targets.now) ≡ has_product_of_one after.now) }
-    ensures named { IfSome result (λ after. (q : ℕ) → is_named named.new.words q ≡ (goes_on_with q targets.now || is_named named.old.words q)) }
+    ensures named { IfSome result (λ after. (q : ℕ)
+        → is_named named.new.words q ≡ (goes_on_with q targets.now || is_named named.old.words q)) }
     ensures within { IfSome result (λ after. has_target_beyond Products after.now ≡ false) }
     ensures less { IfSome result (λ after. length after.now ≤ length targets.now) }
 {
@@ -125,7 +128,9 @@ fn go_over<'a>(named: &mut QubitSet, targets: &'a [Target]) -> Option<&'a [Targe
 /// Goes over a product after its first factor and takes its qubits out of a set.
 fn go_back(named: &mut QubitSet, targets: &[Target])
     requires { has_target_beyond Products targets.now ≡ false }
-    ensures { (q : ℕ) → is_named named.new.words q ≡ (not (goes_on_with q targets.now) && is_named named.old.words q) }
+    ensures { (q : ℕ)
+        → is_named named.new.words q
+        ≡ (not (goes_on_with q targets.now) && is_named named.old.words q) }
 {
     let mut left = targets;
     while let [first, second, rest @ ..] = left {

@@ -34,7 +34,8 @@ impl QubitSet {
     /// Takes a qubit out.
     pub(crate) fn remove(&mut self, qubit: u64)
         requires { qubit < 4096 }
-        ensures { (q : ℕ) → is_named self.new.words q ≡ (not (q == qubit) && is_named self.old.words q) }
+        ensures { (q : ℕ)
+            → is_named self.new.words q ≡ (not (q == qubit) && is_named self.old.words q) }
     {
         self.words[(qubit / 64) as usize] &= !(1u64 << (qubit % 64));
     }

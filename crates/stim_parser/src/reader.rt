@@ -62,8 +62,14 @@ fn read_next<'a, O: Copy, T: Copy, F: Copy, J: Judge<O, T, F>, A: Allocator + Co
     line: Line<'a>,
 ) -> Result<Option<Cause>, AllocError>
     requires { Keeps J.table texts.old.items (marked_in builder.old) }
-    ensures refused { IfOk result (λ refused. refused ≡ cause_in (reading_at (format_of J.table) builder.old.text line.entry.number (cut_in line.entry))) }
-    ensures after { IfOk result (λ refused. builder.new.text ≡ after_line line.entry.number (reading_at (format_of J.table) builder.old.text line.entry.number (cut_in line.entry)) builder.old.text) }
+    ensures refused { IfOk result (λ refused. refused
+        ≡ cause_in
+        (reading_at (format_of J.table) builder.old.text line.entry.number
+        (cut_in line.entry))) }
+    ensures after { IfOk result (λ refused. builder.new.text
+        ≡ after_line line.entry.number
+        (reading_at (format_of J.table) builder.old.text line.entry.number (cut_in line.entry))
+        builder.old.text) }
     ensures kept { IfOk result (λ refused. Keeps J.table texts.new.items (marked_in builder.new)) }
 {
     let number = line.number;
@@ -80,7 +86,8 @@ fn read_items<'a, O: Copy, T: Copy, F: Copy, J: Judge<O, T, F>, A: Allocator + C
 ) -> Result<Numbered<'a, O, T, A>, Fault>
     ensures ok { IfOk result (λ read. items_in (format_of J.table) text.now ≡ Ok read.items.items) }
     ensures kept { IfOk result (λ read. Keeps J.table read.texts.items read.items) }
-    ensures err { IfErr result (λ fault. (fault ≡ memory_fault) ⊎ IsRefusedBy (format_of J.table) text.now fault) }
+    ensures err { IfErr result (λ fault. (fault ≡ memory_fault)
+        ⊎ IsRefusedBy (format_of J.table) text.now fault) }
 {
     let mut lexer = Lexer::new(text);
     let mut builder = Builder::new(alloc);
@@ -112,7 +119,8 @@ pub fn read_text<'a, O: Copy, T: Copy, F: Copy, J: Judge<O, T, F>, A: Allocator 
 ) -> Result<JudgedText<'a, O, T, F, J, A>, Fault>
     requires { LinesFit J.Fits (format_of J.table) }
     ensures ok { IfOk result (λ read. Writes (format_of J.table) text.now read) }
-    ensures err { IfErr result (λ fault. (fault ≡ memory_fault) ⊎ IsRefusedBy (format_of J.table) text.now fault) }
+    ensures err { IfErr result (λ fault. (fault ≡ memory_fault)
+        ⊎ IsRefusedBy (format_of J.table) text.now fault) }
 {
     let read = read_items::<O, T, F, J, A>(alloc, text)?;
     Ok(JudgedText::new(read))

@@ -61,11 +61,14 @@ impl Pieces {
 
     /// Sends what is still held back. Fails where the sink has failed, now or before.
     pub fn finish<W: Sink>(mut self, sink: &mut W) -> Result<(), Fault>
-        ensures after_failure { self.failed ≡ true → (result ≡ Err write_fault) × (sink.new ≡ sink.old) }
+        ensures after_failure { self.failed ≡ true
+            → (result ≡ Err write_fault) × (sink.new ≡ sink.old) }
         ensures all { OnOk result (Takes (W.taken sink.old) (W.taken sink.new) self.bytes) }
         ensures fault { IfErr result (λ e. e ≡ write_fault) }
-        ensures beginning { self.failed ≡ false → OnErr result (TakesBeginning (W.taken sink.old) (W.taken sink.new) self.bytes) }
-        ensures count { self.failed ≡ false → W.failures sink.new ≡ write_failures result (W.failures sink.old) }
+        ensures beginning { self.failed ≡ false
+            → OnErr result (TakesBeginning (W.taken sink.old) (W.taken sink.new) self.bytes) }
+        ensures count { self.failed ≡ false
+            → W.failures sink.new ≡ write_failures result (W.failures sink.old) }
     {
         self.send(sink);
         if self.failed {
@@ -79,7 +82,9 @@ impl Pieces {
 
     // Holds back these bytes too, where they fit, and says whether they do.
     fn hold(&mut self, bytes: &[u8]) -> bool
-        ensures { self.new ≡ (if result then record self.old { bytes = self.old.bytes ++ bytes.now } else self.old) }
+        ensures { self.new
+            ≡ (if result then record self.old { bytes = self.old.bytes ++ bytes.now } else
+            self.old) }
     {
         self.held.try_extend_from_slice(bytes).is_ok()
     }

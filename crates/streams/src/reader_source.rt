@@ -50,7 +50,8 @@ impl<R: Read + Drop> Source for ReaderSource<R> {
     // Where the reader's bytes are known, as of one over memory, the next of them are handed out, and none is lost.
     fn read(&mut self, buffer: &mut [u8]) -> Result<usize, Fault>
         ensures within { IfOk result (λ n. n ≤ length buffer.new) }
-        ensures passed_on { ReadConsumes (R.remaining self.old.reader) (R.remaining self.new.reader) result buffer.new }
+        ensures passed_on { ReadConsumes (R.remaining self.old.reader) (R.remaining self.new.reader)
+            result buffer.new }
         ensures fault { IfErr result (λ e. e ≡ read_fault) }
         ensures kept { OnErr result (buffer.new ≡ buffer.old) }
         ensures count { self.new.failures ≡ read_failures result self.old.failures }

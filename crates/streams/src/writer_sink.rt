@@ -48,7 +48,8 @@ impl<W: Write + Drop> Sink for WriterSink<W> {
     fn write(&mut self, bytes: &[u8]) -> Result<usize, Fault>
         ensures within { IfOk result (λ n. n ≤ length bytes.now) }
         ensures some { IfOk result (λ n. 0 < length bytes.now → 0 < n) }
-        ensures passed_on { WriteAppends (W.contents self.old.writer) (W.contents self.new.writer) result bytes.now }
+        ensures passed_on { WriteAppends (W.contents self.old.writer) (W.contents self.new.writer)
+            result bytes.now }
         ensures fault { IfErr result (λ e. e ≡ write_fault) }
         ensures count { self.new.failures ≡ write_failures result self.old.failures }
     {

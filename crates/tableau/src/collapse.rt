@@ -66,8 +66,10 @@ pub(crate) fn collapse_code<A: Allocator + Copy>(
     requires word { length word.now.letters ≡ length rows.old.items }
     requires only { IfSome only (λ k. (i : ℕ) → i ≢ k → letter_at word.now.letters i ≡ I) }
     requires code { HasLength (length rows.old.items) code.old }
-    requires of_word { code.old.0 ≡ code_of (length rows.old.items) rows.old.items word.now.letters }
-    ensures rows { rows.new.items ≡ after_collapse (length rows.old.items) code.old.0 coin rows.old.items }
+    requires of_word { code.old.0
+        ≡ code_of (length rows.old.items) rows.old.items word.now.letters }
+    ensures rows { rows.new.items
+        ≡ after_collapse (length rows.old.items) code.old.0 coin rows.old.items }
     ensures code { HasLength (length rows.old.items) code.new }
     ensures outcome { result.0 ≡ outcome_of code.old.0 coin }
     ensures row { result.1 ≡ lowest_X_or_Y code.old.0.letters }
@@ -121,8 +123,15 @@ fn turn_rows<A: Allocator + Copy>(
     requires only { IfSome only (λ k. (i : ℕ) → i ≢ k → letter_at word.now.letters i ≡ I) }
     requires pivot { IsPivot (length code.now.0.letters) qubit code.now }
     requires sizes { All (HasLength (length code.now.0.letters)) rows.old.items }
-    requires clashes { (i : ℕ) → i < length rows.old.items → ClashesAt (letter_at word.now.letters i) letter qubit code.now.0 (pair_at (length code.now.0.letters) rows.old.items i) }
-    ensures { rows.new.items ≡ mapped (λ v. image_at (turning_gate letter) qubit (twisted (lone (length code.now.0.letters) qubit Z) code.now.0 v)) rows.old.items }
+    requires clashes { (i : ℕ)
+        → i < length rows.old.items
+        → ClashesAt (letter_at word.now.letters i) letter qubit code.now.0
+        (pair_at (length code.now.0.letters) rows.old.items i) }
+    ensures { rows.new.items
+        ≡ mapped
+        (λ v. image_at (turning_gate letter) qubit
+        (twisted (lone (length code.now.0.letters) qubit Z) code.now.0 v))
+        rows.old.items }
 {
     for row in 0..rows.len() {
         let measured = measured_at(word, only, row);
@@ -156,7 +165,14 @@ fn turn_pair<A: Allocator + Copy>(
     requires pivot { IsPivot (length code.now.0.letters) qubit code.now }
     requires size { HasLength (length code.now.0.letters) pair.old }
     requires clashes { ClashesAt measured letter qubit code.now.0 pair.old }
-    ensures { pair.new ≡ (image_at (turning_gate letter) qubit (twisted (lone (length code.now.0.letters) qubit Z) code.now.0 pair.old.0), image_at (turning_gate letter) qubit (twisted (lone (length code.now.0.letters) qubit Z) code.now.0 pair.old.1)) }
+    ensures { pair.new
+        ≡ (
+          image_at (turning_gate letter) qubit
+              (twisted (lone (length code.now.0.letters) qubit Z) code.now.0 pair.old.0),
+          image_at
+              (turning_gate letter) qubit
+              (twisted (lone (length code.now.0.letters) qubit Z) code.now.0 pair.old.1),
+        ) }
 {
     turn_row(
         &mut pair.0,
@@ -185,8 +201,11 @@ fn turn_row<A: Allocator + Copy>(
 )
     requires pivot { IsPivot (length code.now.0.letters) qubit code.now }
     requires size { length row.old.letters ≡ length code.now.0.letters }
-    requires clashes { anticommute row.old.letters code.now.0.letters ≡ exclusive_or clashes (letters_clash (letter_at row.old.letters qubit) letter) }
-    ensures { row.new ≡ image_at (turning_gate letter) qubit (twisted (lone (length code.now.0.letters) qubit Z) code.now.0 row.old) }
+    requires clashes { anticommute row.old.letters code.now.0.letters
+        ≡ exclusive_or clashes (letters_clash (letter_at row.old.letters qubit) letter) }
+    ensures { row.new
+        ≡ image_at (turning_gate letter) qubit
+        (twisted (lone (length code.now.0.letters) qubit Z) code.now.0 row.old) }
 {
     let here = row.letter(qubit);
     if stays(here, clashes) {
@@ -215,8 +234,11 @@ fn change_row<A: Allocator + Copy>(
     requires pivot { IsPivot (length code.now.0.letters) qubit code.now }
     requires size { length row.old.letters ≡ length code.now.0.letters }
     requires here { here ≡ letter_at row.old.letters qubit }
-    requires clashes { anticommute row.old.letters code.now.0.letters ≡ exclusive_or clashes (letters_clash here letter) }
-    ensures { row.new ≡ image_at (turning_gate letter) qubit (twisted (lone (length code.now.0.letters) qubit Z) code.now.0 row.old) }
+    requires clashes { anticommute row.old.letters code.now.0.letters
+        ≡ exclusive_or clashes (letters_clash here letter) }
+    ensures { row.new
+        ≡ image_at (turning_gate letter) qubit
+        (twisted (lone (length code.now.0.letters) qubit Z) code.now.0 row.old) }
 {
     let twisted = twist(row, code, letter, qubit, here, clashes);
     put_image(row, turning_gate(letter), qubit, twisted);
@@ -236,8 +258,10 @@ fn twist<A: Allocator + Copy>(
     requires pivot { IsPivot (length code.now.0.letters) qubit code.now }
     requires size { length row.old.letters ≡ length code.now.0.letters }
     requires here { here ≡ letter_at row.old.letters qubit }
-    requires clashes { anticommute row.old.letters code.now.0.letters ≡ exclusive_or clashes (letters_clash here letter) }
-    ensures twisted { record row.new { letters = slice_set row.new.letters qubit result } ≡ twisted (lone (length code.now.0.letters) qubit Z) code.now.0 row.old }
+    requires clashes { anticommute row.old.letters code.now.0.letters
+        ≡ exclusive_or clashes (letters_clash here letter) }
+    ensures twisted { record row.new { letters = slice_set row.new.letters qubit result } ≡ twisted
+        (lone (length code.now.0.letters) qubit Z) code.now.0 row.old }
     ensures size { length row.new.letters ≡ length code.now.0.letters }
 {
     let anticommutes = clashes ^ here.clashes(letter);
@@ -266,7 +290,9 @@ fn twist<A: Allocator + Copy>(
 fn put_image<A: Allocator + Copy>(word: &mut Word<A>, gate: Gate, qubit: usize, here: Letter)
     requires arity { arity_of gate ≡ 1 }
     requires inside { qubit < length word.old.letters }
-    ensures { word.new ≡ image_at gate qubit (record word.old { letters = slice_set word.old.letters qubit here }) }
+    ensures { word.new
+        ≡ image_at gate qubit
+        (record word.old { letters = slice_set word.old.letters qubit here }) }
 {
     let (letter, minus) = gate.image1(here);
     word.set_letter(qubit, letter);

@@ -97,9 +97,14 @@ fn multiply_both<A: Allocator + Copy>(
     requires own { own ≢ Y }
     requires first { HasLength (length first.old.0.letters) first.old }
     requires second { HasLength (length first.old.0.letters) second.old }
-    requires commuting { (a : Letter) → anticommute (word_of (length first.old.0.letters) first.old a).letters second.old.1.letters ≡ false }
-    ensures first { first.new ≡ controlled_pair (length first.old.0.letters) own other first.old second.old }
-    ensures second { second.new ≡ controlled_pair (length first.old.0.letters) other own second.old first.old }
+    requires commuting { (a : Letter)
+        → anticommute (word_of (length first.old.0.letters) first.old a).letters
+        second.old.1.letters
+        ≡ false }
+    ensures first { first.new
+        ≡ controlled_pair (length first.old.0.letters) own other first.old second.old }
+    ensures second { second.new
+        ≡ controlled_pair (length first.old.0.letters) other own second.old first.old }
 {
     multiply_clashing(first, own, second, other);
     multiply_clashing(second, other, first, own);

@@ -16,7 +16,9 @@ pub(crate) fn decode<A: Allocator + Copy>(rows: &Vec<Pair<A>, A>, row: usize, wo
     requires tableau { IsTableau (length rows.now.items) rows.now.items }
     requires inside { row < length rows.now.items }
     requires lengths { length word.old.letters ≡ length rows.now.items }
-    ensures { word.new ≡ signed (decoded_letters rows.now.items (lone_letter (length rows.now.items) row X)) false }
+    ensures { word.new
+        ≡ signed (decoded_letters rows.now.items (lone_letter (length rows.now.items) row X))
+        false }
 {
     for qubit in 0..rows.len() {
         word.set_letter(qubit, decoded_letter(&rows[qubit], row));
@@ -28,7 +30,9 @@ pub(crate) fn decode<A: Allocator + Copy>(rows: &Vec<Pair<A>, A>, row: usize, wo
 fn decoded_letter<A: Allocator + Copy>(pair: &Pair<A>, row: usize) -> Letter
     requires x { row < length pair.now.0.letters }
     requires z { row < length pair.now.1.letters }
-    ensures { result ≡ letter_of (letters_clash X (letter_at pair.now.1.letters row)) (letters_clash X (letter_at pair.now.0.letters row)) }
+    ensures { result
+        ≡ letter_of (letters_clash X (letter_at pair.now.1.letters row))
+        (letters_clash X (letter_at pair.now.0.letters row)) }
 {
     Letter::of_bits(
         Letter::X.clashes(pair.1.letter(row)),

@@ -79,7 +79,12 @@ fn set_preimages<A: Allocator + Copy>(new: &mut Pair<A>, pair: &Pair<A>, gate: G
     requires arity { arity_of gate ≡ 1 }
     requires new { HasLength (length new.old.0.letters) new.old }
     requires pair { HasLength (length new.old.0.letters) pair.now }
-    ensures { new.new ≡ (preimage_word (length new.old.0.letters) gate pair.now X, preimage_word (length new.old.0.letters) gate pair.now Z) }
+    ensures { new.new
+        ≡ (
+          preimage_word (length new.old.0.letters) gate pair.now X,
+          preimage_word
+              (length new.old.0.letters) gate pair.now Z,
+        ) }
 {
     let inverse = gate.inverse();
     let (x, x_minus) = inverse.image1(Letter::X);
@@ -167,8 +172,15 @@ fn set_products<A: Allocator + Copy>(
     requires new { HasLength (length new.old.0.letters) new.old }
     requires first { HasLength (length new.old.0.letters) first.now }
     requires second { HasLength (length new.old.0.letters) second.now }
-    requires commuting { (a : Letter) → anticommute (word_of (length new.old.0.letters) first.now a).letters second.now.1.letters ≡ false }
-    ensures { new.new ≡ (preimage_product (length new.old.0.letters) gate first.now second.now x, preimage_product (length new.old.0.letters) gate first.now second.now z) }
+    requires commuting { (a : Letter)
+        → anticommute (word_of (length new.old.0.letters) first.now a).letters second.now.1.letters
+        ≡ false }
+    ensures { new.new
+        ≡ (
+          preimage_product (length new.old.0.letters) gate first.now second.now x,
+          preimage_product
+              (length new.old.0.letters) gate first.now second.now z,
+        ) }
 {
     let inverse = gate.inverse();
     set_product(&mut new.0, first, second, inverse.image2(x.0, x.1));
@@ -184,8 +196,13 @@ fn set_product<A: Allocator + Copy>(
 )
     requires first { HasLength (length word.old.letters) first.now }
     requires second { HasLength (length word.old.letters) second.now }
-    requires commuting { (a : Letter) → anticommute (word_of (length word.old.letters) first.now a).letters second.now.1.letters ≡ false }
-    ensures { word.new ≡ with_sign_changed letters.2 (product (word_of (length word.old.letters) first.now letters.0) (word_of (length word.old.letters) second.now letters.1)) }
+    requires commuting { (a : Letter)
+        → anticommute (word_of (length word.old.letters) first.now a).letters second.now.1.letters
+        ≡ false }
+    ensures { word.new
+        ≡ with_sign_changed letters.2
+        (product (word_of (length word.old.letters) first.now letters.0)
+        (word_of (length word.old.letters) second.now letters.1)) }
 {
     match letters.0 {
         Letter::I => set_word(word, second, letters.1, letters.2),

@@ -95,7 +95,8 @@ pub(crate) fn set_word<A: Allocator + Copy>(
     minus: bool,
 )
     requires { HasLength (length word.old.letters) pair.now }
-    ensures { word.new ≡ with_sign_changed minus (word_of (length word.old.letters) pair.now letter) }
+    ensures { word.new
+        ≡ with_sign_changed minus (word_of (length word.old.letters) pair.now letter) }
 {
     match letter {
         Letter::I => word.clear(),

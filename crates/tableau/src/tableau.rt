@@ -79,8 +79,10 @@ impl<A: Allocator + Copy> Tableau<A> {
         requires second_inside { arity_of gate ≡ 2 → b < row_count self.old }
         requires differ { arity_of gate ≡ 2 → a ≢ b }
         ensures len { row_count self.new ≡ row_count self.old }
-        ensures one { arity_of gate ≡ 1 → HasState self.new (λ p. state_of self.old (preimage_at gate a p)) }
-        ensures two { arity_of gate ≡ 2 → HasState self.new (λ p. state_of self.old (preimage_at_two gate a b p)) }
+        ensures one { arity_of gate ≡ 1
+            → HasState self.new (λ p. state_of self.old (preimage_at gate a p)) }
+        ensures two { arity_of gate ≡ 2
+            → HasState self.new (λ p. state_of self.old (preimage_at_two gate a b p)) }
     {
         if gate.arity() == 1 {
             self.apply_one(gate, a);
@@ -130,11 +132,18 @@ impl<A: Allocator + Copy> Tableau<A> {
     pub fn collapse(&mut self, letter: Letter, qubit: usize, coin: bool) -> (bool, Option<usize>)
         requires { qubit < row_count self.old }
         ensures len { row_count self.new ≡ row_count self.old }
-        ensures outcome { result.0 ≡ outcome (state_of self.old) (lone_letter (row_count self.old) qubit letter) coin }
-        ensures state { HasState self.new (collapsed (lone_letter (row_count self.old) qubit letter) coin (state_of self.old)) }
-        ensures decided { IfNone result.1 (is_decided (state_of self.old) (lone_letter (row_count self.old) qubit letter) ≡ true) }
-        ensures random { IfSome result.1 (λ row. is_decided (state_of self.old) (lone_letter (row_count self.old) qubit letter) ≡ false) }
-        ensures replaced { IfSome result.1 (IsReplaced self.old self.new (lone_letter (row_count self.old) qubit letter)) }
+        ensures outcome { result.0
+            ≡ outcome (state_of self.old) (lone_letter (row_count self.old) qubit letter) coin }
+        ensures state { HasState self.new
+            (collapsed (lone_letter (row_count self.old) qubit letter) coin (state_of self.old)) }
+        ensures decided { IfNone result.1
+            (is_decided (state_of self.old) (lone_letter (row_count self.old) qubit letter)
+            ≡ true) }
+        ensures random { IfSome result.1 (λ row. is_decided (state_of self.old)
+            (lone_letter (row_count self.old) qubit letter)
+            ≡ false) }
+        ensures replaced { IfSome result.1
+            (IsReplaced self.old self.new (lone_letter (row_count self.old) qubit letter)) }
     {
         match sign_seen(&self.rows[qubit], letter) {
             Some(outcome) => (outcome, None),
@@ -151,11 +160,18 @@ impl<A: Allocator + Copy> Tableau<A> {
     ) -> (bool, Option<usize>)
         requires { qubit < row_count self.old }
         ensures len { row_count self.new ≡ row_count self.old }
-        ensures outcome { result.0 ≡ outcome (state_of self.old) (lone_letter (row_count self.old) qubit letter) coin }
-        ensures state { HasState self.new (collapsed (lone_letter (row_count self.old) qubit letter) coin (state_of self.old)) }
-        ensures decided { IfNone result.1 (is_decided (state_of self.old) (lone_letter (row_count self.old) qubit letter) ≡ true) }
-        ensures random { IfSome result.1 (λ row. is_decided (state_of self.old) (lone_letter (row_count self.old) qubit letter) ≡ false) }
-        ensures replaced { IfSome result.1 (IsReplaced self.old self.new (lone_letter (row_count self.old) qubit letter)) }
+        ensures outcome { result.0
+            ≡ outcome (state_of self.old) (lone_letter (row_count self.old) qubit letter) coin }
+        ensures state { HasState self.new
+            (collapsed (lone_letter (row_count self.old) qubit letter) coin (state_of self.old)) }
+        ensures decided { IfNone result.1
+            (is_decided (state_of self.old) (lone_letter (row_count self.old) qubit letter)
+            ≡ true) }
+        ensures random { IfSome result.1 (λ row. is_decided (state_of self.old)
+            (lone_letter (row_count self.old) qubit letter)
+            ≡ false) }
+        ensures replaced { IfSome result.1
+            (IsReplaced self.old self.new (lone_letter (row_count self.old) qubit letter)) }
     {
         self.second.0.clear();
         self.second.0.set_letter(qubit, letter);
@@ -177,7 +193,8 @@ impl<A: Allocator + Copy> Tableau<A> {
         ensures outcome { result.0 ≡ outcome (state_of self.old) word.now.letters coin }
         ensures state { HasState self.new (collapsed word.now.letters coin (state_of self.old)) }
         ensures decided { IfNone result.1 (is_decided (state_of self.old) word.now.letters ≡ true) }
-        ensures random { IfSome result.1 (λ row. is_decided (state_of self.old) word.now.letters ≡ false) }
+        ensures random { IfSome result.1 (λ row. is_decided (state_of self.old) word.now.letters
+            ≡ false) }
         ensures replaced { IfSome result.1 (IsReplaced self.old self.new word.now.letters) }
     {
         encode(&self.rows, word, &mut self.first.0);
@@ -189,7 +206,9 @@ impl<A: Allocator + Copy> Tableau<A> {
     pub fn reset_after(&mut self, letter: Letter, qubit: usize, outcome: bool)
         requires { qubit < row_count self.old }
         ensures len { row_count self.new ≡ row_count self.old }
-        ensures state { HasState self.new (applied outcome (lone_letter (row_count self.old) qubit (correcting letter)) (state_of self.old)) }
+        ensures state { HasState self.new
+            (applied outcome (lone_letter (row_count self.old) qubit (correcting letter))
+            (state_of self.old)) }
     {
         if outcome {
             match letter {

@@ -87,7 +87,8 @@ pub fn unroll<'a, A: Allocator + Copy>(
     circuit: Circuit<'a, A>,
 ) -> Result<Program<'a, A>, Fault>
     ensures ok { IfOk result (λ program. program_of circuit.entry ≡ Ok program.listing) }
-    ensures err { IfErr result (λ fault. (fault ≡ memory_fault) ⊎ (program_of circuit.entry ≡ Err fault)) }
+    ensures err { IfErr result (λ fault. (fault ≡ memory_fault)
+        ⊎ (program_of circuit.entry ≡ Err fault)) }
 {
     circuit.fits();
     let totals = totals_of(&circuit);

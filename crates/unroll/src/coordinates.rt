@@ -58,7 +58,11 @@ fn push_moved<A: Allocator + Copy>(
     requires stated { All IsStated (slice_range lists.old first end) }
     requires small_up { All (λ n. n < 2 ^ 62) (added_by turns before.now.up after.now.up) }
     requires small_down { All (λ n. n < 2 ^ 62) (added_by turns before.now.down after.now.down) }
-    ensures { OnOk result (lists.new ≡ lists.old ++ map (placing.moved turns before.now after.now) (slice_range lists.old first end)) }
+    ensures { OnOk result
+        (lists.new
+        ≡ lists.old
+        ++ map (placing.moved turns before.now after.now)
+        (slice_range lists.old first end)) }
 {
     for k in first..end {
         let stated = lists.get(k);
@@ -77,7 +81,8 @@ fn push_coordinates<A: Allocator + Copy>(
     requires fits { Fits (instruction_in instruction) }
     requires small_up { All (λ n. n < 2 ^ 62) offset.now.up }
     requires small_down { All (λ n. n < 2 ^ 62) offset.now.down }
-    ensures { OnOk result (lists.new ≡ lists.old ++ placing.gives offset.now (instruction_in instruction.entry)) }
+    ensures { OnOk result
+        (lists.new ≡ lists.old ++ placing.gives offset.now (instruction_in instruction.entry)) }
 {
     match instruction.operation {
         Operation::DetectorDeclaration => {
@@ -100,8 +105,13 @@ fn push_later_turns<A: Allocator + Copy>(
 ) -> Result<(), AllocError>
     requires stated { All IsStated lists.old }
     requires small_up { All (λ n. n < 2 ^ 62) (added_by turns before.now.place.up after.now.up) }
-    requires small_down { All (λ n. n < 2 ^ 62) (added_by turns before.now.place.down after.now.down) }
-    ensures { OnOk result (lists.new ≡ lists.old ++ later (λ n. placing.moved n before.now.place after.now) turns (drop before.now.found lists.old)) }
+    requires small_down { All (λ n. n < 2 ^ 62)
+        (added_by turns before.now.place.down after.now.down) }
+    ensures { OnOk result
+        (lists.new
+        ≡ lists.old
+        ++ later (λ n. placing.moved n before.now.place after.now) turns
+        (drop before.now.found lists.old)) }
 {
     let first = before.found;
     let end = lists.len();

@@ -51,7 +51,8 @@ fn push_detector<A: Allocator + Copy>(
     targets: &[Target],
 ) -> Result<(), AllocError>
     requires { records < 2 ^ 32 }
-    ensures { OnOk result (detectors.new ≡ detectors.old ++ operation_detectors records operation targets.now) }
+    ensures { OnOk result
+        (detectors.new ≡ detectors.old ++ operation_detectors records operation targets.now) }
 {
     match operation {
         Operation::DetectorDeclaration => {
@@ -89,7 +90,8 @@ fn push_moved<A: Allocator + Copy>(
     requires ordered { first ≤ end }
     requires within { end ≤ length lists.old }
     requires small { All (All (λ r. r + by < 2 ^ 32)) (slice_range lists.old first end) }
-    ensures { OnOk result (lists.new ≡ lists.old ++ map (records_moved by) (slice_range lists.old first end)) }
+    ensures { OnOk result
+        (lists.new ≡ lists.old ++ map (records_moved by) (slice_range lists.old first end)) }
 {
     for k in first..end {
         copy_moved(moved, lists.get(k), by)?;
@@ -109,7 +111,9 @@ fn push_later_turns<A: Allocator + Copy>(
 ) -> Result<(), AllocError>
     requires few { turns * by < 2 ^ 32 }
     requires small { All (All (λ r. r + turns * by < 2 ^ 32)) lists.old }
-    ensures { OnOk result (lists.new ≡ lists.old ++ later (λ n. records_moved (n * by)) turns (drop first lists.old)) }
+    ensures { OnOk result
+        (lists.new
+        ≡ lists.old ++ later (λ n. records_moved (n * by)) turns (drop first lists.old)) }
 {
     let end = lists.len();
     if end <= first {

@@ -60,7 +60,14 @@ fn push_entries<A: Allocator + Copy>(
 ) -> Result<(), AllocError>
     requires small { All IsSmall targets.now }
     requires there { number < length entries.old.chances }
-    ensures { OnOk result (entries.new ≡ with_entries (map (λ target. entry_from (slice_index_or entries.old.chances number no_chance) (term_at letter target ∷ [])) targets.now) entries.old) }
+    ensures { OnOk result
+        (entries.new
+        ≡ with_entries
+        (map
+        (λ target. entry_from (slice_index_or entries.old.chances number no_chance)
+        (term_at letter target ∷ []))
+        targets.now)
+        entries.old) }
 {
     for target in targets {
         entries.push(number, &[term_at(letter, *target)])?;
@@ -73,8 +80,12 @@ fn push_flip<A: Allocator + Copy>(
     entries: &mut EntryBuilder<'_, A>,
     instruction: Instruction<'_, '_>,
 ) -> Result<(), AllocError>
-    requires { IsFlipNumber entries.old.chances (instruction_in instruction).arguments instruction.mark }
-    ensures { OnOk result (entries.new ≡ with_entries (flip_entries (instruction_in instruction.entry).arguments) entries.old) }
+    requires { IsFlipNumber entries.old.chances (instruction_in instruction).arguments
+        instruction.mark }
+    ensures { OnOk result
+        (entries.new
+        ≡ with_entries (flip_entries (instruction_in instruction.entry).arguments)
+        entries.old) }
 {
     if has_argument(instruction.arguments) {
         entries.push(instruction.mark as usize, &[])
@@ -90,8 +101,10 @@ pub(crate) fn push_instruction<A: Allocator + Copy>(
     instruction: Instruction<'_, '_>,
 ) -> Result<(), AllocError>
     requires small { All IsSmall instruction.targets.now }
-    requires number { IsInstructionNumber entries.old.chances (instruction_in instruction) instruction.mark }
-    ensures { OnOk result (entries.new ≡ with_entries (entries_made (instruction_in instruction.entry)) entries.old) }
+    requires number { IsInstructionNumber entries.old.chances (instruction_in instruction)
+        instruction.mark }
+    ensures { OnOk result
+        (entries.new ≡ with_entries (entries_made (instruction_in instruction.entry)) entries.old) }
 {
     let number = instruction.mark as usize;
     match instruction.operation {

@@ -33,7 +33,8 @@ fn include_records<A: Allocator + Copy>(
 ) -> Result<(), AllocError>
     requires there { observable < length lists.old }
     requires few { records < 2 ^ 32 }
-    ensures { OnOk result (lists.new ≡ with_more observable (records_named records targets.now) lists.old) }
+    ensures { OnOk result
+        (lists.new ≡ with_more observable (records_named records targets.now) lists.old) }
 {
     for target in targets {
         lists.push(observable, record_named(records, *target))?;
@@ -49,8 +50,11 @@ fn include<A: Allocator + Copy>(
     instruction: Instruction<'_, '_>,
 ) -> Result<(), AllocError>
     requires { records < 2 ^ 32 }
-    ensures lists { OnOk result (lists.new ≡ with_included records (instruction_in instruction.entry) lists.old) }
-    ensures notes { OnOk result (notes.new.items ≡ notes.old.items ++ notes_of (instruction_in instruction.entry) lists.old) }
+    ensures lists { OnOk result
+        (lists.new ≡ with_included records (instruction_in instruction.entry) lists.old) }
+    ensures notes { OnOk result
+        (notes.new.items
+        ≡ notes.old.items ++ notes_of (instruction_in instruction.entry) lists.old) }
 {
     match instruction.operation {
         Operation::ObservableInclude => {
@@ -126,8 +130,10 @@ fn include_noted<A: Allocator + Copy>(
     requires there { note.observable < length lists.old }
     requires each { length closed.old.items ≡ length lists.old }
     requires few { turns * by < 2 ^ 32 }
-    requires small { IsOpen closed.old.items end note → CanMove (turns * by) (records_in note.observable lists.old) }
-    ensures lists { OnOk result (lists.new ≡ with_noted turns by closed.old.items end note lists.old) }
+    requires small { IsOpen closed.old.items end note
+        → CanMove (turns * by) (records_in note.observable lists.old) }
+    ensures lists { OnOk result
+        (lists.new ≡ with_noted turns by closed.old.items end note lists.old) }
     ensures closed { OnOk result (closed.new.items ≡ with_closed closed.old.items end note) }
 {
     if closed[note.observable] >= end {

@@ -8,6 +8,10 @@ ghost use Rattle.unroll.specs.Programs.{program_in, program_of};
 
 /// A text stands for the program of the tree that it writes; one that writes none is refused as its lines are.
 pub fn texts_stand_for_trees()
-    ensures program { (text : List ℕ) (tree : Tree) → Writes text tree → program_in text ≡ program_of tree }
-    ensures refusal { (text : List ℕ) (fault : Fault) → IsRefusedBy text fault → program_in text ≡ Err fault }
+    ensures program { (text : List ℕ) (tree : Tree)
+        → Writes text tree
+        → program_in text ≡ program_of tree }
+    ensures refusal { (text : List ℕ) (fault : Fault)
+        → IsRefusedBy text fault
+        → program_in text ≡ Err fault }
 {}

@@ -14,7 +14,9 @@ use stim_parser::{Circuit, Instruction, Operation, first_number};
 
 /// One more than the observable that an instruction names, and 0 where it names none.
 pub(crate) fn named_to(instruction: Instruction<'_, '_>) -> u64
-    ensures { result ≡ named_to (instruction_in instruction.entry).operation (instruction_in instruction.entry).arguments }
+    ensures { result
+        ≡ named_to (instruction_in instruction.entry).operation
+        (instruction_in instruction.entry).arguments }
 {
     match instruction.operation {
         Operation::ObservableInclude => first_number(instruction.arguments)

@@ -18,7 +18,8 @@ fn push_each_product<A: Allocator + Copy>(
     targets: &[Target],
 ) -> Result<(), AllocError>
     requires { All IsSmall targets.now }
-    ensures { OnOk result (products.new ≡ products.old ++ map (map term_of) (products_of targets.now)) }
+    ensures { OnOk result
+        (products.new ≡ products.old ++ map (map term_of) (products_of targets.now)) }
 {
     terms.clear();
     let mut rest = targets;
@@ -43,7 +44,8 @@ pub(crate) fn push_kept_products<A: Allocator + Copy>(
     targets: &[Target],
 ) -> Result<(), AllocError>
     requires small { All IsSmall targets.now }
-    ensures { OnOk result (products.new ≡ products.old ++ operation_products operation targets.now) }
+    ensures { OnOk result
+        (products.new ≡ products.old ++ operation_products operation targets.now) }
 {
     match operation {
         Operation::ProductMeasurement => push_each_product(products, terms, targets),

@@ -15,7 +15,8 @@ pub fn read_program<'a, A: Allocator + Copy>(
     text: &'a [u8],
 ) -> Result<Program<'a, A>, Fault>
     ensures ok { IfOk result (λ program. program_in text.now ≡ Ok program.listing) }
-    ensures err { IfErr result (λ fault. (fault ≡ memory_fault) ⊎ (program_in text.now ≡ Err fault)) }
+    ensures err { IfErr result (λ fault. (fault ≡ memory_fault)
+        ⊎ (program_in text.now ≡ Err fault)) }
 {
     let circuit = parse(alloc, text)?;
     unroll(alloc, circuit)

@@ -10,7 +10,8 @@ use stim_parser::{Instruction, Operation, read_coordinates};
 
 /// An instruction's arguments as coordinates; no coordinates where the arguments aren't any.
 pub(crate) fn coordinates_read(instruction: Instruction<'_, '_>) -> ArrayVec<i64, AXES>
-    ensures { result.items ≡ unwrap_or (coordinates_in (instruction_in instruction.entry).arguments) [] }
+    ensures { result.items
+        ≡ unwrap_or (coordinates_in (instruction_in instruction.entry).arguments) [] }
 {
     match read_coordinates(instruction.arguments) {
         Some(found) => found,
@@ -21,8 +22,10 @@ pub(crate) fn coordinates_read(instruction: Instruction<'_, '_>) -> ArrayVec<i64
 /// Takes an offset past an instruction.
 pub(crate) fn shift(offset: &mut Offset, instruction: Instruction<'_, '_>)
     requires fits { Fits (instruction_in instruction) }
-    requires small_up { All (λ n. n < 2 ^ 62) (raised_by offset.old.up (ups (instruction_in instruction))) }
-    requires small_down { All (λ n. n < 2 ^ 62) (raised_by offset.old.down (downs (instruction_in instruction))) }
+    requires small_up { All (λ n. n < 2 ^ 62)
+        (raised_by offset.old.up (ups (instruction_in instruction))) }
+    requires small_down { All (λ n. n < 2 ^ 62)
+        (raised_by offset.old.down (downs (instruction_in instruction))) }
     ensures { offset.new ≡ placing.next offset.old (instruction_in instruction.entry) }
 {
     match instruction.operation {

@@ -35,7 +35,8 @@ fn count_included<A: Allocator + Copy>(
     times: u64,
     instruction: Instruction<'_, '_>,
 ) -> Result<(), AllocError>
-    ensures { OnOk result (sizes.new.items ≡ with_counted times (instruction_in instruction.entry) sizes.old.items) }
+    ensures { OnOk result
+        (sizes.new.items ≡ with_counted times (instruction_in instruction.entry) sizes.old.items) }
 {
     let named = named_to(instruction);
     if named == 0 {

@@ -196,7 +196,8 @@ fn push_products<A: Allocator + Copy>(
     targets: &[Target],
 ) -> Result<(), AllocError>
     requires { first + length (products_of targets.now) < 2 ^ 32 }
-    ensures { OnOk result (Adds (product_steps flip first (products_of targets.now)) builder.old builder.new) }
+    ensures { OnOk result
+        (Adds (product_steps flip first (products_of targets.now)) builder.old builder.new) }
 {
     let mut product = first;
     let mut inverted = false;
@@ -230,7 +231,9 @@ pub(crate) fn push_steps<A: Allocator + Copy>(
     requires small { All IsSmall targets.now }
     requires entries { entries + target_count operation targets.now < 2 ^ 32 }
     requires products { products + target_count operation targets.now < 2 ^ 32 }
-    ensures { OnOk result (Adds (operation_steps operation entries products flip targets.now) builder.old builder.new) }
+    ensures { OnOk result
+        (Adds (operation_steps operation entries products flip targets.now) builder.old
+        builder.new) }
 {
     match operation {
         Operation::Applies(gate) => {

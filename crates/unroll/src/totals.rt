@@ -143,7 +143,8 @@ impl Summing {
     /// Goes past an item.
     fn pass(&mut self, item: Item<'_, '_>)
         requires { CanStand (item_in item) (array_vec_len self.old.blocks) }
-        ensures { Passes summing (item_in item.entry) self.old.totals self.old.blocks.items self.new.totals self.new.blocks.items }
+        ensures { Passes summing (item_in item.entry) self.old.totals self.old.blocks.items
+            self.new.totals self.new.blocks.items }
     {
         match item {
             Item::InstructionLine(instruction) => self.totals = self.totals.after(instruction),

@@ -53,7 +53,8 @@ fn flip_of(entry: u32, instruction: Instruction<'_, '_>) -> Option<u32>
 impl<'a, A: Allocator + Copy> Writing<'a, A> {
     /// Nothing so far. The probabilities of all instructions are among these.
     fn new(alloc: A, texts: Vec<ChanceText<'a>, A>) -> Self
-        ensures draft { draft_of result ≡ record { outer = []; here = []; entries = []; products = [] } }
+        ensures draft { draft_of result
+            ≡ record { outer = []; here = []; entries = []; products = [] } }
         ensures chances { result.entries.chances ≡ map chance_of texts.entry.items }
     {
         Writing {
@@ -67,8 +68,11 @@ impl<'a, A: Allocator + Copy> Writing<'a, A> {
     /// Writes down an instruction. What is kept of it is numbered from what is kept already.
     fn write_instruction(&mut self, instruction: Instruction<'_, 'a>) -> Result<(), AllocError>
         requires room { HasRoom (instruction_in instruction) (draft_of self.old) }
-        requires number { IsInstructionNumber self.old.entries.chances (instruction_in instruction) instruction.mark }
-        ensures draft { OnOk result (draft_of self.new ≡ with_instruction (instruction_in instruction.entry) (draft_of self.old)) }
+        requires number { IsInstructionNumber self.old.entries.chances (instruction_in instruction)
+            instruction.mark }
+        ensures draft { OnOk result
+            (draft_of self.new
+            ≡ with_instruction (instruction_in instruction.entry) (draft_of self.old)) }
         ensures chances { OnOk result (self.new.entries.chances ≡ self.old.entries.chances) }
     {
         let operation = instruction.operation;
@@ -92,7 +96,8 @@ impl<'a, A: Allocator + Copy> Writing<'a, A> {
     fn write_item(&mut self, item: Item<'_, 'a>) -> Result<(), AllocError>
         requires can { CanWrite (item_in item) (draft_of self.old) }
         requires number { IsItemNumber self.old.entries.chances (item_in item) (mark_in item) }
-        ensures writes { OnOk result (Writes (item_in item.entry) (draft_of self.old) (draft_of self.new)) }
+        ensures writes { OnOk result
+            (Writes (item_in item.entry) (draft_of self.old) (draft_of self.new)) }
         ensures chances { OnOk result (self.new.entries.chances ≡ self.old.entries.chances) }
     {
         match item {
