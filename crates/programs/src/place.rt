@@ -1,6 +1,6 @@
-ghost use Rattle.std.specs.Prelude.{◌≡◌, ◌<◌, ◌+◌, ◌^◌, ℕ, length, None, IfSome, slice_get};
+ghost use Rattle.std.specs.Prelude.{◌≡◌, ◌<◌, ◌+◌, ◌^◌, false, ℕ, length, None, IfSome, slice_get};
 ghost use Rattle.programs.specs.Trees.{IsCircuit};
-ghost use Rattle.programs.specs.Steps.{IsAt, KeepsStep, IsNoOpen, IsNoClose, NextStep, PreviousStep, node_before};
+ghost use Rattle.programs.specs.Steps.{IsAt, KeepsStep, IsNoOpen, IsNoClose, NextStep, PreviousStep, is_step, node_before};
 
 use crate::node::Node;
 use crate::nodes::Nodes;
@@ -81,49 +81,50 @@ fn enter_turns<A: Allocator + Copy>(nodes: &Nodes<A>, place: &mut Place)
     }
 }
 
-// Goes forward over the ends and starts of turns, to a place before a step or to the end.
-fn go_past_turns<A: Allocator + Copy>(nodes: &Nodes<A>, place: &mut Place)
+// Goes forward over the ends and starts of turns, which few places are at. Answers whether a step follows then.
+#[inline(never)]
+fn go_past_turns<A: Allocator + Copy>(nodes: &Nodes<A>, place: &mut Place) -> bool
     requires circuit { IsCircuit nodes.now }
     requires place { (k : ℕ) × IsAt nodes.now place.old k }
     ensures kept { KeepsStep nodes.now place.old place.new }
-    ensures no_close { IsNoClose (slice_get nodes.now place.new.index) }
-    ensures no_open { IsNoOpen (slice_get nodes.now place.new.index) }
+    ensures step { result ≡ is_step (slice_get nodes.now place.new.index) }
+    ensures end { result ≡ false → slice_get nodes.now place.new.index ≡ None }
+    ensures few { length nodes.now < 2 ^ 64 }
 {
     leave_turns(nodes, place);
     enter_turns(nodes, place);
+    nodes.is_step(place.index)
 }
 
-// Answers the step after a place, and goes over it, from a place that may be at the start or the end of a turn. Few are.
-#[inline(never)]
-fn next_past_turns<A: Allocator + Copy>(nodes: &Nodes<A>, place: &mut Place) -> Option<TextStep>
+// Goes forward to a place before a step, or to the end, and answers whether a step follows. Most places are before a step.
+#[inline(always)]
+fn go_to_step<A: Allocator + Copy>(nodes: &Nodes<A>, place: &mut Place) -> bool
     requires circuit { IsCircuit nodes.now }
     requires place { (k : ℕ) × IsAt nodes.now place.old k }
-    ensures { NextStep nodes.now place.old place.new result }
+    ensures kept { KeepsStep nodes.now place.old place.new }
+    ensures step { result ≡ is_step (slice_get nodes.now place.new.index) }
+    ensures end { result ≡ false → slice_get nodes.now place.new.index ≡ None }
+    ensures few { length nodes.now < 2 ^ 64 }
 {
-    go_past_turns(nodes, place);
-    match nodes.get(place.index) {
-        Some(Node::Do(step)) => {
-            place.index += 1;
-            Some(step)
-        }
-        _ => None,
+    if nodes.is_step(place.index) {
+        return true;
     }
+    go_past_turns(nodes, place)
 }
 
-// Answers the step after a place, and goes over it. Most places are before a step.
+// Answers the step after a place, and goes over it.
 #[inline(always)]
 pub fn next<A: Allocator + Copy>(nodes: &Nodes<A>, place: &mut Place) -> Option<TextStep>
     requires circuit { IsCircuit nodes.now }
     requires place { (k : ℕ) × IsAt nodes.now place.old k }
     ensures { NextStep nodes.now place.old place.new result }
 {
-    match nodes.get(place.index) {
-        Some(Node::Do(step)) => {
-            place.index += 1;
-            Some(step)
-        }
-        _ => next_past_turns(nodes, place),
+    if !go_to_step(nodes, place) {
+        return None;
     }
+    let index = place.index;
+    place.index += 1;
+    Some(nodes.step(index))
 }
 
 // Goes back over the starts of turns, to a place that isn't after one.
@@ -159,53 +160,58 @@ fn enter_turns_back<A: Allocator + Copy>(nodes: &Nodes<A>, place: &mut Place)
     }
 }
 
-// Goes back over the starts and ends of turns, to a place after a step or to the start.
-fn go_back_past_turns<A: Allocator + Copy>(nodes: &Nodes<A>, place: &mut Place)
+// Goes back over the starts and ends of turns, which few places are at. Answers whether a step is before then.
+#[inline(never)]
+fn go_back_past_turns<A: Allocator + Copy>(nodes: &Nodes<A>, place: &mut Place) -> bool
     requires circuit { IsCircuit nodes.now }
     requires place { (k : ℕ) × IsAt nodes.now place.old k }
     ensures kept { KeepsStep nodes.now place.old place.new }
-    ensures no_open { IsNoOpen (node_before nodes.now place.new.index) }
-    ensures no_close { IsNoClose (node_before nodes.now place.new.index) }
+    ensures step { result ≡ is_step (node_before nodes.now place.new.index) }
+    ensures start { result ≡ false → node_before nodes.now place.new.index ≡ None }
 {
     leave_turns_back(nodes, place);
     enter_turns_back(nodes, place);
+    is_after_step(nodes, place.index)
 }
 
-// Answers the step before a place, and goes back over it, from a place that may be at the start or the end of a turn.
-#[inline(never)]
-fn previous_past_turns<A: Allocator + Copy>(nodes: &Nodes<A>, place: &mut Place) -> Option<TextStep>
+// Goes back to a place after a step, or to the start, and answers whether a step is before. Most places are after a step.
+#[inline(always)]
+fn go_back_to_step<A: Allocator + Copy>(nodes: &Nodes<A>, place: &mut Place) -> bool
     requires circuit { IsCircuit nodes.now }
     requires place { (k : ℕ) × IsAt nodes.now place.old k }
-    ensures { PreviousStep nodes.now place.old place.new result }
+    ensures kept { KeepsStep nodes.now place.old place.new }
+    ensures step { result ≡ is_step (node_before nodes.now place.new.index) }
+    ensures start { result ≡ false → node_before nodes.now place.new.index ≡ None }
 {
-    go_back_past_turns(nodes, place);
-    match node_before(nodes, place.index) {
-        Some(Node::Do(step)) => {
-            place.index -= 1;
-            Some(step)
-        }
-        _ => None,
+    if is_after_step(nodes, place.index) {
+        return true;
     }
+    go_back_past_turns(nodes, place)
 }
 
-// Answers the step before a place, and goes back over it. Most places are after a step.
+// Answers the step before a place, and goes back over it.
 #[inline(always)]
 pub fn previous<A: Allocator + Copy>(nodes: &Nodes<A>, place: &mut Place) -> Option<TextStep>
     requires circuit { IsCircuit nodes.now }
     requires place { (k : ℕ) × IsAt nodes.now place.old k }
     ensures { PreviousStep nodes.now place.old place.new result }
 {
-    match node_before(nodes, place.index) {
-        Some(Node::Do(step)) => {
-            place.index -= 1;
-            Some(step)
-        }
-        _ => previous_past_turns(nodes, place),
+    if !go_back_to_step(nodes, place) {
+        return None;
     }
+    place.index -= 1;
+    Some(nodes.step(place.index))
+}
+
+// Whether the node before a place is a step.
+#[inline(always)]
+fn is_after_step<A: Allocator + Copy>(nodes: &Nodes<A>, index: usize) -> bool
+    ensures { result ≡ is_step (node_before nodes.now index) }
+{
+    index > 0 && nodes.is_step(index - 1)
 }
 
 // The node before a place.
-#[inline(always)]
 fn node_before<A: Allocator + Copy>(nodes: &Nodes<A>, index: usize) -> Option<Node>
     ensures node { result ≡ node_before nodes.now index }
     ensures few { IfSome result (λ node. length nodes.now < 2 ^ 64) }
