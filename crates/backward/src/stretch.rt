@@ -22,6 +22,9 @@ use streams::Pieces;
 /// How many points are left on the way to the start of a stretch, at most.
 const POINTS: usize = 60;
 
+/// A point takes little where there are no more qubits than these.
+const FEW_QUBITS: u32 = 256;
+
 /// Goes back to `from`, over one step at least where there is one, until the text of the lines found is full, or some
 /// target is known to be random: then no text is written. A text that seems to be whole soon is full later.
 fn find_back<'s, 'p, 'a, A: Allocator + Copy, T: Tracker>(
@@ -103,7 +106,7 @@ pub(crate) fn cut<'s, 'p, 'a, A: Allocator + Copy, T: Tracker>(
     let distance = if found.is_random() {
         usize::MAX
     } else {
-        distance_for(place - from, to - place)
+        distance_for(place - from, to - place, program.qubits())
     };
     found.keeps = true;
     let points = leave_points(program, from, distance, at, found)?;
@@ -111,9 +114,10 @@ pub(crate) fn cut<'s, 'p, 'a, A: Allocator + Copy, T: Tracker>(
 }
 
 // How far apart points are left on a way of this many steps, where the text of the steps behind them is full. The text
-// between two points is shorter, since it is held beside that one.
-fn distance_for(way: usize, full: usize) -> usize {
-    (full / 2).max(way / POINTS + 1)
+// between two points is held beside that one, so it is shorter where more points take little.
+fn distance_for(way: usize, full: usize, qubits: u32) -> usize {
+    let near = if qubits <= FEW_QUBITS { full / 4 } else { full };
+    near.max(way / POINTS + 1)
 }
 
 /// Writes the text of what is before a cut, from the first of its points' parts to the last: from the last point on.
