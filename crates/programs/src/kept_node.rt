@@ -74,7 +74,8 @@ pub(crate) enum KeptNode {
 
 // A collapse of a letter as it is kept.
 fn kept_collapse(letter: Letter, q: u32, reset: bool, recording: Option<Recording>) -> KeptNode
-    ensures value { (sizes : List BlockSize) → node_of sizes result ≡ Do (Collapse letter q reset recording) }
+    ensures value { (sizes : List BlockSize)
+        → node_of sizes result ≡ Do (Collapse letter q reset recording) }
     ensures apart { NamesBlockBelow 0 result }
 {
     match recording {
