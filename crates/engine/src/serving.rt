@@ -8,7 +8,7 @@ ghost use Rattle.engine.specs.Headline.{IsDecided, IsExactFor, IsRandomFor};
 ghost use Rattle.engine.specs.Output.{output_of};
 
 use crate::analysis::answer_analysis;
-use crate::drawing::{answer_detections, answer_samples};
+use crate::drawing::{Shown, answer_shots};
 use crate::listing::answer_faults;
 use crate::order::{Order, Status};
 use crate::predicting::answer_prediction;
@@ -86,7 +86,11 @@ fn answer<W: Sink, A: Allocator + Copy>(
         Order::Analyze => answer_analysis(alloc, text, sink),
         Order::Faults => answer_faults(alloc, text, sink),
         Order::Predict { lines } => answer_prediction(alloc, lines, text, sink),
-        Order::Sample { shots, seed } => answer_samples(alloc, shots, seed, text, sink),
-        Order::Detect { shots, seed } => answer_detections(alloc, shots, seed, text, sink),
+        Order::Sample { shots, seed } => {
+            answer_shots(alloc, Shown::Records, shots, seed, text, sink)
+        }
+        Order::Detect { shots, seed } => {
+            answer_shots(alloc, Shown::Detections, shots, seed, text, sink)
+        }
     }
 }
