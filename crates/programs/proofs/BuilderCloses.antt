@@ -1,5 +1,6 @@
 -- What a builder of circuits keeps where a block closes, and what it answers at the end.
-use Rattle.std.proofs.Common.{◌≡◌, ℕ, zero, suc, ◌+◌, ◌-◌, ◌<◌, ◌≤◌, List, [], ◌∷◌, ◌++◌, length, take, set, refl, sym, ap, ap₂, ◌∙◌, subst, arith, length-append, append_assoc, append-nil}
+use Rattle.std.proofs.Common.{◌≡◌, ℕ, zero, suc, ◌+◌, ◌-◌, ◌<◌, ◌≤◌, List, [], ◌∷◌, ◌++◌, length, take, get_or, set, refl, sym, ap, ap₂, ◌∙◌, subst, arith, length-append, append_assoc, append-nil}
+use Rattle.std.proofs.lemmas.List.{length-take, length-set, take_all, take_more}
 use Rattle.programs.specs.declared.builder.Outer.{Outer}
 use Rattle.programs.specs.declared.node.Node.{Node}
 use Rattle.programs.specs.declared.node.Node.TheVariants.{Open, Close}
@@ -27,19 +28,19 @@ module _ (nodes : List Node) (outer : List Outer) (count : ℕ) (b : Builds node
   abbrev pub outside : List Node
   outside = flat last.before last.frame.before
 
-  pub split : nodes ≡ outside ++ Open last.frame.turns 0 ∷ nodes_of b.tree
+  pub split : nodes ≡ outside ++ Open 0 0 ∷ nodes_of b.tree
   split = b.nodes_are ∙ ap (λ fs. flat fs b.tree) last.frames_are ∙ flat-inside last.before last.frame b.tree
 
   pub start_is : length nodes - count - 1 ≡ length outside
-  start_is = omega (arith, ap length split, length-append outside (Open last.frame.turns 0 ∷ nodes_of b.tree), b.count_is)
+  start_is = omega (arith, ap length split, length-append outside (Open 0 0 ∷ nodes_of b.tree), b.count_is)
 
   pub enough : count + 1 ≤ length nodes
-  enough = omega (arith, ap length split, length-append outside (Open last.frame.turns 0 ∷ nodes_of b.tree), b.count_is)
+  enough = omega (arith, ap length split, length-append outside (Open 0 0 ∷ nodes_of b.tree), b.count_is)
 
   -- what stands before the block and in it is there
   pub all-counted : o.length + 1 + count ≤ length nodes
   all-counted =
-      omega (arith, ap length split, length-append outside (Open last.frame.turns 0 ∷ nodes_of b.tree), b.count_is, last.length_is, length-flat last.before last.frame.before)
+      omega (arith, ap length split, length-append outside (Open 0 0 ∷ nodes_of b.tree), b.count_is, last.length_is, length-flat last.before last.frame.before)
 
   pub fits : FitsOutside 32 last.before last.frame b.tree
   fits = fit-outside 32 last.before last.frame b.tree (subst (λ fs. FramesFit 32 fs b.tree) last.frames_are b.fit)
@@ -73,7 +74,7 @@ module _ (nodes : List Node) (outer : List Outer) (count : ℕ) (b : Builds node
       record {
         frames = last.before;
         tree = last.frame.before;
-        nodes_are = ap₂ take start_is split ∙ take-there outside (Open last.frame.turns 0 ∷ nodes_of b.tree);
+        nodes_are = ap₂ take start_is split ∙ take-there outside (Open 0 0 ∷ nodes_of b.tree);
         outer_is = last.outer_is;
         count_is = last.length_is;
         fit = fits.outside;
@@ -93,7 +94,7 @@ module _ (nodes : List Node) (outer : List Outer) (count : ℕ) (b : Builds node
       let turns : 0 < o.turns = subst (λ n. 0 < n) (sym last.turns_is) fits.turns in
       let put : set nodes (length nodes - count - 1) (Open o.turns count) ≡ outside ++ Open o.turns count ∷ nodes_of b.tree =
       ap₂ (λ (ns : List Node) (i : ℕ). set ns i (Open o.turns count)) split start_is
-      ∙ set-there outside (nodes_of b.tree) (Open last.frame.turns 0) (Open o.turns count) in
+      ∙ set-there outside (nodes_of b.tree) (Open 0 0) (Open o.turns count) in
       let sized : Open o.turns count ∷ (nodes_of b.tree ++ Close o.turns count ∷ []) ≡ nodes_of whole =
       ap (λ k. Open o.turns k ∷ (nodes_of b.tree ++ Close o.turns k ∷ [])) b.count_is in
       record {
@@ -119,6 +120,41 @@ module _ (nodes : List Node) (outer : List Outer) (count : ℕ) (b : Builds node
       (unrolled-beside last.frame.before whole
       ∙ ap (λ xs. unrolled last.frame.before ++ xs) (append-nil (repeated o.turns (unrolled b.tree)))
       ∙ ap (λ n. unrolled last.frame.before ++ repeated n (unrolled b.tree)) last.turns_is)
+
+  -- the nodes after that: all that aren't before what the block stood in are counted now
+  pub record Closed (new : List Node) : Type 0 where
+    pub builds : Builds new rest (length new - (length nodes - count - 1 - o.length))
+    pub closes : Closes (building nodes outer) (building new rest)
+    pub enough_left : length nodes - count - 1 - o.length ≤ length new
+
+  closed_with : (new was : List Node) (k : ℕ) → new ≡ was → k + (length nodes - count - 1 - o.length) ≡ length was → Builds was rest k → Closes (building nodes outer) (building was rest) → Closed new
+  closed_with new was k is k_is builds closes =
+      let k_here : k ≡ length new - (length nodes - count - 1 - o.length) = omega (arith, ap length is, k_is) in
+      record {
+        builds = subst (λ (n : ℕ). Builds new rest n) k_here (subst (λ (ns : List Node). Builds ns rest k) (sym is) builds);
+        closes = subst (λ (ns : List Node). Closes (building nodes outer) (building ns rest)) (sym is) closes;
+        enough_left = omega (arith, ap length is, k_is);
+      }
+
+  pub closed_empty : (new : List Node) → count ≡ 0 → new ≡ take (length nodes - count - 1) nodes → Closed new
+  closed_empty new none is =
+      closed_with new _ o.length is
+      (omega (arith, all-counted, length-take (length nodes - count - 1) nodes))
+      (dropped none) (dropped-view none)
+
+  pub closed_full : (new : List Node) → 0 < count → new ≡ set nodes (length nodes - count - 1) (Open o.turns count) ++ Close o.turns count ∷ [] → Closed new
+  closed_full new some is =
+      let put = set nodes (length nodes - count - 1) (Open o.turns count) in
+      closed_with new _ (count + (o.length + 2)) is
+      (omega (arith, all-counted, length-append put (Close o.turns count ∷ []), length-set nodes (length nodes - count - 1) (Open o.turns count)))
+      (written some) (written-view some)
+
+-- the last of the open blocks, and those before it
+pub last-open : (outer read : List Outer) (len : ℕ) (d : Outer) → read ≡ outer → len ≡ length outer → 0 < len → outer ≡ take (len - 1) outer ++ get_or read (len - 1) d ∷ []
+last-open outer read len d read_is len_is some =
+    sym (take_all (len - 1 + 1) outer (omega arith))
+    ∙ take_more outer (len - 1) d (omega arith)
+    ∙ ap (λ (os : List Outer). take (len - 1) outer ++ get_or os (len - 1) d ∷ []) (sym read_is)
 
 -- where no block is open the nodes write a circuit
 no_frames : (fs : List Frame) → seen fs ≡ [] → fs ≡ []

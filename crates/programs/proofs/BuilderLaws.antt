@@ -35,9 +35,9 @@ building-flat [] t = ap (λ u. record { outer = []; here = unrolled u }) (tree_o
 building-flat (f ∷ fs) t =
     let front = nodes_of f.before in
     let first : tree_of (take (length front) (flat (f ∷ fs) t)) ≡ f.before =
-    ap tree_of (take-there front (Open f.turns 0 ∷ flat fs t)) ∙ tree_of-written f.before in
+    ap tree_of (take-there front (Open 0 0 ∷ flat fs t)) ∙ tree_of-written f.before in
     let behind : building (drop (suc (length front)) (flat (f ∷ fs) t)) (outer_of fs) ≡ view_of fs t =
-    ap (λ ns. building ns (outer_of fs)) (drop-past front (Open f.turns 0) (flat fs t)) ∙ building-flat fs t in
+    ap (λ ns. building ns (outer_of fs)) (drop-past front (Open 0 0) (flat fs t)) ∙ building-flat fs t in
     ap₂ (λ (u : Tree) (b : Building). record { outer = record { before = unrolled u; turns = f.turns } ∷ b.outer; here = b.here }) first behind
 
 pub viewed : (nodes : List Node) (outer : List Outer) (count : ℕ) (b : Builds nodes outer count) → building nodes outer ≡ view_of b.frames b.tree
@@ -61,8 +61,8 @@ depth-seen nodes outer count b =
 pub flat-beside : (fs : List Frame) (t u : Tree) → flat fs (beside t u) ≡ flat fs t ++ nodes_of u
 flat-beside [] t u = nodes_of-beside t u
 flat-beside (f ∷ fs) t u =
-    ap (λ ns. nodes_of f.before ++ Open f.turns 0 ∷ ns) (flat-beside fs t u)
-    ∙ sym (append_assoc (nodes_of f.before) (Open f.turns 0 ∷ flat fs t) (nodes_of u))
+    ap (λ ns. nodes_of f.before ++ Open 0 0 ∷ ns) (flat-beside fs t u)
+    ∙ sym (append_assoc (nodes_of f.before) (Open 0 0 ∷ flat fs t) (nodes_of u))
 
 pub fit-beside : (room : ℕ) (fs : List Frame) (t u : Tree) → FramesFit room fs t → IsFull u → depth u + length fs ≤ room → FramesFit room fs (beside t u)
 fit-beside room [] t u h full deep = (IsFull-beside t u h.0 full, depth-beside t u room h.1 (omega arith))
@@ -73,11 +73,11 @@ few-open room [] t h = omega arith
 few-open room (f ∷ fs) t h = omega (arith, h.3, few-open (room - 1) fs t h.4)
 
 -- a block behind the others
-pub flat-inside : (fs : List Frame) (f : Frame) (t : Tree) → flat (fs ++ f ∷ []) t ≡ flat fs f.before ++ Open f.turns 0 ∷ nodes_of t
+pub flat-inside : (fs : List Frame) (f : Frame) (t : Tree) → flat (fs ++ f ∷ []) t ≡ flat fs f.before ++ Open 0 0 ∷ nodes_of t
 flat-inside [] f t = refl
 flat-inside (g ∷ fs) f t =
-    ap (λ ns. nodes_of g.before ++ Open g.turns 0 ∷ ns) (flat-inside fs f t)
-    ∙ sym (append_assoc (nodes_of g.before) (Open g.turns 0 ∷ flat fs f.before) (Open f.turns 0 ∷ nodes_of t))
+    ap (λ ns. nodes_of g.before ++ Open 0 0 ∷ ns) (flat-inside fs f t)
+    ∙ sym (append_assoc (nodes_of g.before) (Open 0 0 ∷ flat fs f.before) (Open 0 0 ∷ nodes_of t))
 
 pub outer_of-inside : (fs : List Frame) (f : Frame) → outer_of (fs ++ f ∷ []) ≡ outer_of fs ++ record { length = length (nodes_of f.before); turns = f.turns } ∷ []
 outer_of-inside [] f = refl
@@ -135,7 +135,7 @@ last_of (f ∷ fs) (p ∷ outer) o h =
 -- what is counted is there
 pub length-flat : (fs : List Frame) (t : Tree) → length (nodes_of t) ≤ length (flat fs t)
 length-flat [] t = omega arith
-length-flat (f ∷ fs) t = omega (arith, length-flat fs t, length-append (nodes_of f.before) (Open f.turns 0 ∷ flat fs t))
+length-flat (f ∷ fs) t = omega (arith, length-flat fs t, length-append (nodes_of f.before) (Open 0 0 ∷ flat fs t))
 
 pub count-below : (nodes : List Node) (outer : List Outer) (count : ℕ) → Builds nodes outer count → count ≤ length nodes
 count-below nodes outer count b = omega (arith, b.count_is, ap length b.nodes_are, length-flat b.frames b.tree)
@@ -164,13 +164,13 @@ module _ (nodes : List Node) (outer : List Outer) (count : ℕ) (b : Builds node
       ∙ ap (λ (v : Building). record v { here = v.here ++ s ∷ [] }) (sym (viewed nodes outer count b))
 
   -- a block opens
-  abbrev pub opens : (n : ℕ) → 0 < n → length outer < 32 → Builds (nodes ++ Open n 0 ∷ []) (outer ++ record { length = count; turns = n } ∷ []) 0
+  abbrev pub opens : (n : ℕ) → 0 < n → length outer < 32 → Builds (nodes ++ Open 0 0 ∷ []) (outer ++ record { length = count; turns = n } ∷ []) 0
   opens n some below =
       let f : Frame = record { before = b.tree; turns = n } in
       record {
         frames = b.frames ++ f ∷ [];
         tree = Nothing;
-        nodes_are = ap (λ ns. ns ++ Open n 0 ∷ []) b.nodes_are ∙ sym (flat-inside b.frames f Nothing);
+        nodes_are = ap (λ ns. ns ++ Open 0 0 ∷ []) b.nodes_are ∙ sym (flat-inside b.frames f Nothing);
         outer_is =
             ap₂ (λ (os : List Outer) (k : ℕ). os ++ record { length = k; turns = n } ∷ []) b.outer_is b.count_is
             ∙ sym (outer_of-inside b.frames f);
@@ -178,7 +178,7 @@ module _ (nodes : List Node) (outer : List Outer) (count : ℕ) (b : Builds node
         fit = fit-inside 32 b.frames b.tree n b.fit some (omega (arith, ap length b.outer_is, length-outer_of b.frames));
       }
 
-  pub opens-view : (n : ℕ) → 0 < n → length outer < 32 → building (nodes ++ Open n 0 ∷ []) (outer ++ record { length = count; turns = n } ∷ []) ≡ record { outer = (building nodes outer).outer ++ record { before = (building nodes outer).here; turns = n } ∷ []; here = [] }
+  pub opens-view : (n : ℕ) → 0 < n → length outer < 32 → building (nodes ++ Open 0 0 ∷ []) (outer ++ record { length = count; turns = n } ∷ []) ≡ record { outer = (building nodes outer).outer ++ record { before = (building nodes outer).here; turns = n } ∷ []; here = [] }
   opens-view n some below =
       let f : Frame = record { before = b.tree; turns = n } in
       viewed _ _ 0 (opens n some below)

@@ -66,10 +66,10 @@ module _ {A : Type 0} (parts : Parts A) where
         fit = record { texts_fit = refl; all_kept = refl; feedback = tt; counted = refl };
       }
     where
-      at_first : IsAt parts.nodes.items place 0
+      at_first : IsAt parts.nodes place 0
       at_first =
-          subst (λ n. IsAt parts.nodes.items (record { index = n; turns = place.turns }) 0) (sym i)
-          (subst (λ ts. IsAt parts.nodes.items (record { index = 0; turns = record { items = ts } }) 0) (sym t) (first_place (tree_of parts.nodes.items)))
+          subst (λ n. IsAt parts.nodes (record { index = n; turns = place.turns }) 0) (sym i)
+          (subst (λ ts. IsAt parts.nodes (record { index = 0; turns = record { items = ts } }) 0) (sym t) (first_place (tree_of parts.nodes)))
 
   pub record Counted (made : Counts) (count : ℕ) : Type 0 where
     pub records : made.records ≤ count
@@ -85,7 +85,7 @@ module _ {A : Type 0} (parts : Parts A) where
         faults = omega (arith, ap (λ (c : Counts). c.faults) f.fit.counted, all.faults);
       }
 
-  pub fits_further : (old new : Place) (count : ℕ) (made : Counts) (step : TextStep) → FitsUpTo parts old count made → GoesOver parts.nodes.items old new step count → text_fits parts.qubits step ≡ true → is_kept parts.entries parts.products step ≡ true → feeds_back made step → FitsUpTo parts new (count + 1) (counts_after made step)
+  pub fits_further : (old new : Place) (count : ℕ) (made : Counts) (step : TextStep) → FitsUpTo parts old count made → GoesOver parts.nodes old new step count → text_fits parts.qubits step ≡ true → is_kept parts.entries parts.products step ≡ true → feeds_back made step → FitsUpTo parts new (count + 1) (counts_after made step)
   fits_further old new count made step f over text kept feeds =
       let steps = text_steps parts in
       let more : take (count + 1) steps ≡ take count steps ++ step ∷ [] =
@@ -106,7 +106,7 @@ module _ {A : Type 0} (parts : Parts A) where
         });
       }
 
-  pub fits_all : (old new : Place) (count : ℕ) (made : Counts) → FitsUpTo parts old count made → StaysAtEnd parts.nodes.items old new count → count ≤ 1000000 → AllFit parts (record { steps = count; counts = made })
+  pub fits_all : (old new : Place) (count : ℕ) (made : Counts) → FitsUpTo parts old count made → StaysAtEnd parts.nodes old new count → count ≤ 1000000 → AllFit parts (record { steps = count; counts = made })
   fits_all old new count made f stays small =
       record {
         fit = subst (λ (xs : List TextStep). StepsFit parts xs made) (take_all count (text_steps parts) (omega (arith, stays.k_is))) f.fit;
@@ -115,7 +115,7 @@ module _ {A : Type 0} (parts : Parts A) where
       }
 
   -- parts whose totals are put in
-  pub parts_fit : (totals : Totals) → IsCircuit parts.nodes.items → AllFit parts totals → All (EntryFits parts.qubits) parts.entries → All (ProductFits parts.qubits) parts.products → All (All (λ r. r < totals.counts.records)) parts.detectors → All (All (λ r. r < totals.counts.records)) parts.observables → length parts.coordinates ≡ length parts.detectors → All CoordinatesFit parts.coordinates → length parts.detectors ≤ 1000000 → length parts.observables ≤ 1024 → PartsFit (record parts { steps = totals.steps; counts = totals.counts })
+  pub parts_fit : (totals : Totals) → IsCircuit parts.nodes → AllFit parts totals → All (EntryFits parts.qubits) parts.entries → All (ProductFits parts.qubits) parts.products → All (All (λ r. r < totals.counts.records)) parts.detectors → All (All (λ r. r < totals.counts.records)) parts.observables → length parts.coordinates ≡ length parts.detectors → All CoordinatesFit parts.coordinates → length parts.detectors ≤ 1000000 → length parts.observables ≤ 1024 → PartsFit (record parts { steps = totals.steps; counts = totals.counts })
   parts_fit totals circuit all entries products detectors observables given coordinates few_detectors few_observables =
       record {
         circuit = circuit;

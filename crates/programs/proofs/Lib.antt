@@ -10,6 +10,7 @@ pub mod MadeLaws
 pub mod Moves
 pub mod NamedFaults
 pub mod NamedLaws
+pub mod NodeLaws
 pub mod Numbers
 pub mod Orders
 pub mod PlaceMoves

@@ -93,7 +93,7 @@ pub parts_are_well_kept : {A : Type 0} (parts : Parts A) → PartsFit parts → 
 parts_are_well_kept parts fit = record { kept_fit = λ k d h. (fit.entries_fit k d h).terms; products_fit = fit.products_fit }
 
 -- and its text is held
-pub text_is_held : {A : Type 0} (parts : Parts A) → PartsFit parts → Held (kept_program parts) parts.nodes.items parts.steps parts.counts
+pub text_is_held : {A : Type 0} (parts : Parts A) → PartsFit parts → Held (kept_program parts) parts.nodes parts.steps parts.counts
 text_is_held parts fit =
     record {
       circuit = fit.circuit;

@@ -20,7 +20,7 @@ use Rattle.programs.specs.Kept.{KeptProgram}
 use Rattle.std.proofs.lemmas.List.{length-map}
 use Rattle.programs.proofs.Numbers.{length-numbered, get-numbered, get-past, counts_over-more, FeedBack-at, few, goes_back}
 
-module _ (program : KeptProgram) (text : Text) where
+module _ {A : Type 0} (program : KeptProgram) (text : Text A) where
   length-listed : Held program text.nodes.now text.steps text.counts → length program.listing.steps ≡ length (unrolled (tree_of text.nodes.now))
   length-listed held = ap length held.steps ∙ length-map (numbered no_counts (unrolled (tree_of text.nodes.now))) (listed program.listing.qubits program.products) ∙ length-numbered no_counts (unrolled (tree_of text.nodes.now))
 

@@ -60,7 +60,7 @@ pub record StepsFit {A : Type 0} (parts : Parts A) (steps : List TextStep) (made
 
 -- the first of the unrolled steps, up to a place, fit and make this many
 pub record FitsUpTo {A : Type 0} (parts : Parts A) (place : Place) (count : ℕ) (made : Counts) : Type 0 where
-  pub at_place : IsAt parts.nodes.items place count
+  pub at_place : IsAt parts.nodes place count
   pub fit : StepsFit parts (take count (text_steps parts)) made
 
 -- all of them do, and they are at most a million

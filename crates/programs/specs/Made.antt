@@ -17,7 +17,7 @@ use Rattle.programs.specs.Trees.{IsCircuit, tree_of, unrolled}
 
 -- the steps of the unrolled text
 abbrev pub text_steps : {A : Type 0} → Parts A → List TextStep
-text_steps parts = unrolled (tree_of parts.nodes.items)
+text_steps parts = unrolled (tree_of parts.nodes)
 
 -- the program that parts make
 abbrev pub listing_of : {A : Type 0} → Parts A → Listing
@@ -44,7 +44,7 @@ pub record EntryFits (qubits : ℕ) (entry : Kept) : Type 0 where
 
 -- what is required of parts
 pub record PartsFit {A : Type 0} (parts : Parts A) : Type 0 where
-  pub circuit : IsCircuit parts.nodes.items
+  pub circuit : IsCircuit parts.nodes
   pub texts_fit : list_all (text_fits parts.qubits) (text_steps parts) ≡ true
   pub all_kept : list_all (is_kept parts.entries parts.products) (text_steps parts) ≡ true
   pub feedback : FeedBack no_counts (text_steps parts)

@@ -2,7 +2,8 @@ ghost use Rattle.std.specs.Prelude.{◌≡◌, ◌<◌, [], ◌∷◌, ◌++◌,
 ghost use Rattle.programs.specs.Builders.{Closes};
 ghost use Rattle.programs.specs.Trees.{IsCircuit, tree_of, unrolled};
 
-use crate::node::Node;
+use crate::kept_node::BlockSize;
+use crate::nodes::Nodes;
 use crate::place::LEVELS;
 use crate::step::TextStep;
 use arrayvec::ArrayVec;
@@ -20,7 +21,7 @@ pub struct Outer {
 /// whatever its turns. A turn is one repetition of a block.
 #[derive(Drop)]
 pub struct CircuitBuilder<A: Allocator + Copy> {
-    nodes: Vec<Node, A>,
+    nodes: Nodes<A>,
     outer: ArrayVec<Outer, LEVELS>,
     // How many nodes the innermost open block has so far, or the circuit where none is open.
     count: usize,
@@ -31,9 +32,9 @@ impl<A: Allocator + Copy> Model for CircuitBuilder<A> {
 
     ghost Value = { Building };
 
-    ghost view = { λ b. building b.nodes.items b.outer.items };
+    ghost view = { λ b. building b.nodes b.outer.items };
 
-    ghost invariant = { λ b. Builds b.nodes.items b.outer.items b.count };
+    ghost invariant = { λ b. Builds b.nodes b.outer.items b.count };
 }
 
 impl<A: Allocator + Copy> CircuitBuilder<A> {
@@ -42,7 +43,7 @@ impl<A: Allocator + Copy> CircuitBuilder<A> {
         ensures { result ≡ record { outer = []; here = [] } }
     {
         CircuitBuilder {
-            nodes: Vec::new(alloc),
+            nodes: Nodes::new(alloc),
             outer: ArrayVec::new(),
             count: 0,
         }
@@ -60,7 +61,7 @@ impl<A: Allocator + Copy> CircuitBuilder<A> {
         ensures ok { OnOk result (self.new ≡ record self.old { here = self.old.here ++ step ∷ [] }) }
         ensures err { OnErr result (self.new ≡ self.old) }
     {
-        self.nodes.push(Node::Do(step))?;
+        self.nodes.push(step)?;
         self.count += 1;
         Ok(())
     }
@@ -72,7 +73,7 @@ impl<A: Allocator + Copy> CircuitBuilder<A> {
         ensures ok { OnOk result (self.new ≡ record { outer = self.old.outer ++ record { before = self.old.here; turns = turns } ∷ []; here = [] }) }
         ensures err { OnErr result (self.new ≡ self.old) }
     {
-        self.nodes.push(Node::Open { turns, length: 0 })?;
+        self.nodes.open()?;
         self.outer.push(Outer {
             length: self.count,
             turns,
@@ -87,31 +88,28 @@ impl<A: Allocator + Copy> CircuitBuilder<A> {
         ensures ok { OnOk result (Closes self.old self.new) }
         ensures err { OnErr result (self.new ≡ self.old) }
     {
-        self.nodes.reserve(1)?;
-        let Outer { length, turns } = self.outer.pop().unwrap();
+        let last = self.outer.len() - 1;
+        let Outer { length, turns } = self.outer[last];
         let start = self.nodes.len() - self.count - 1;
         if self.count == 0 {
             self.nodes.truncate(start);
-            self.count = length;
         } else {
-            self.nodes[start] = Node::Open {
+            let size = BlockSize {
                 turns,
                 length: self.count,
             };
-            self.nodes.push_reserved(Node::Close {
-                turns,
-                length: self.count,
-            });
-            self.count += length + 2;
+            self.nodes.close(start, size)?;
         }
+        self.count = self.nodes.len() - (start - length);
+        self.outer.truncate(last);
         Ok(())
     }
 
     /// The nodes of the circuit.
-    pub fn finish(self) -> Vec<Node, A>
+    pub fn finish(self) -> Nodes<A>
         requires { self.outer ≡ [] }
-        ensures circuit { IsCircuit result.items }
-        ensures steps { unrolled (tree_of result.items) ≡ self.here }
+        ensures circuit { IsCircuit result }
+        ensures steps { unrolled (tree_of result) ≡ self.here }
     {
         self.nodes
     }

@@ -13,7 +13,7 @@ mod fit;
 use crate::builder::CircuitBuilder;
 use crate::entries::Entries;
 use crate::entry_builder::EntryBuilder;
-use crate::node::Node;
+use crate::nodes::Nodes;
 use crate::place::LEVELS;
 use crate::program::{Parts, Program};
 use crate::step::{Counts, TextStep};
@@ -85,7 +85,7 @@ pub fn program_of<'a, A: Allocator + Copy>(
 fn bare<'a, A: Allocator + Copy>(
     alloc: A,
     qubits: u32,
-    nodes: Vec<Node, A>,
+    nodes: Nodes<A>,
     entries: Entries<'a, A>,
 ) -> Parts<'a, A>
     ensures qubits { result.qubits ≡ qubits }
@@ -128,12 +128,9 @@ fn keep<'a, A: Allocator + Copy>(
 }
 
 // The nodes of a circuit in pieces, where its blocks are whole, have a turn and aren't too deep.
-fn nodes_of<A: Allocator + Copy>(
-    alloc: A,
-    pieces: &[Piece],
-) -> Result<Option<Vec<Node, A>>, AllocError>
-    ensures circuit { IfOk result (λ nodes. IfSome nodes (λ v. IsCircuit v.items)) }
-    ensures steps { IfOk result (λ nodes. IfSome nodes (λ v. unrolled (tree_of v.items) ≡ written pieces.now [] [])) }
+fn nodes_of<A: Allocator + Copy>(alloc: A, pieces: &[Piece]) -> Result<Option<Nodes<A>>, AllocError>
+    ensures circuit { IfOk result (λ nodes. IfSome nodes IsCircuit) }
+    ensures steps { IfOk result (λ nodes. IfSome nodes (λ v. unrolled (tree_of v) ≡ written pieces.now [] [])) }
 {
     let mut builder = CircuitBuilder::new(alloc);
     for piece in pieces {

@@ -1,10 +1,12 @@
-ghost use Rattle.std.specs.Prelude.{◌≡◌, ◌<◌, ◌+◌, ℕ, None, IfSome, slice_get};
+ghost use Rattle.std.specs.Prelude.{◌≡◌, ◌<◌, ◌+◌, ◌^◌, ℕ, length, None, IfSome, slice_get};
 ghost use Rattle.programs.specs.Trees.{IsCircuit};
 ghost use Rattle.programs.specs.Steps.{IsAt, KeepsStep, IsNoOpen, IsNoClose, NextStep, PreviousStep, node_before};
 
 use crate::node::Node;
+use crate::nodes::Nodes;
 use crate::step::TextStep;
 use arrayvec::ArrayVec;
+use std::alloc::Allocator;
 
 /// How deep blocks may be nested.
 pub const LEVELS: usize = 32;
@@ -31,18 +33,6 @@ impl Place {
     }
 }
 
-// The node after a place.
-#[inline(always)]
-fn node_at(nodes: &[Node], index: usize) -> Option<Node>
-    ensures { result ≡ slice_get nodes.now index }
-{
-    if index < nodes.len() {
-        Some(nodes[index])
-    } else {
-        None
-    }
-}
-
 // The turn after this one, where it isn't the last.
 fn turn_after(turn: u64, turns: u64) -> Option<u64>
     requires { turn < turns }
@@ -57,13 +47,13 @@ fn turn_after(turn: u64, turns: u64) -> Option<u64>
 }
 
 // Goes forward over the ends of turns, to a place that isn't before one.
-fn leave_turns(nodes: &[Node], place: &mut Place)
+fn leave_turns<A: Allocator + Copy>(nodes: &Nodes<A>, place: &mut Place)
     requires circuit { IsCircuit nodes.now }
     requires place { (k : ℕ) × IsAt nodes.now place.old k }
     ensures kept { KeepsStep nodes.now place.old place.new }
     ensures no_close { IsNoClose (slice_get nodes.now place.new.index) }
 {
-    while let Some(Node::Close { turns, length }) = node_at(nodes, place.index) {
+    while let Some(Node::Close { turns, length }) = nodes.get(place.index) {
         let turn = place.turns.pop().unwrap();
         match turn_after(turn, turns) {
             Some(next) => {
@@ -77,7 +67,7 @@ fn leave_turns(nodes: &[Node], place: &mut Place)
 }
 
 // Goes forward into the first turns of the blocks that start here.
-fn enter_turns(nodes: &[Node], place: &mut Place)
+fn enter_turns<A: Allocator + Copy>(nodes: &Nodes<A>, place: &mut Place)
     requires circuit { IsCircuit nodes.now }
     requires place { (k : ℕ) × IsAt nodes.now place.old k }
     requires no_close { IsNoClose (slice_get nodes.now place.old.index) }
@@ -85,7 +75,7 @@ fn enter_turns(nodes: &[Node], place: &mut Place)
     ensures no_close { IsNoClose (slice_get nodes.now place.new.index) }
     ensures no_open { IsNoOpen (slice_get nodes.now place.new.index) }
 {
-    while let Some(Node::Open { .. }) = node_at(nodes, place.index) {
+    while let Some(Node::Open { .. }) = nodes.get(place.index) {
         place.turns.push(0);
         place.index += 1;
     }
@@ -93,14 +83,14 @@ fn enter_turns(nodes: &[Node], place: &mut Place)
 
 // Goes forward to a place before a step, or to the end. Most places are before a step, and nothing is to be done there.
 #[inline(always)]
-fn go_to_step(nodes: &[Node], place: &mut Place)
+fn go_to_step<A: Allocator + Copy>(nodes: &Nodes<A>, place: &mut Place)
     requires circuit { IsCircuit nodes.now }
     requires place { (k : ℕ) × IsAt nodes.now place.old k }
     ensures kept { KeepsStep nodes.now place.old place.new }
     ensures no_close { IsNoClose (slice_get nodes.now place.new.index) }
     ensures no_open { IsNoOpen (slice_get nodes.now place.new.index) }
 {
-    if let Some(Node::Do(_)) = node_at(nodes, place.index) {
+    if let Some(Node::Do(_)) = nodes.get(place.index) {
         return;
     }
     go_past_turns(nodes, place);
@@ -108,7 +98,7 @@ fn go_to_step(nodes: &[Node], place: &mut Place)
 
 // Goes forward over the ends and starts of turns, which few places are at.
 #[inline(never)]
-fn go_past_turns(nodes: &[Node], place: &mut Place)
+fn go_past_turns<A: Allocator + Copy>(nodes: &Nodes<A>, place: &mut Place)
     requires circuit { IsCircuit nodes.now }
     requires place { (k : ℕ) × IsAt nodes.now place.old k }
     ensures kept { KeepsStep nodes.now place.old place.new }
@@ -121,13 +111,13 @@ fn go_past_turns(nodes: &[Node], place: &mut Place)
 
 // Answers the step after a place, and goes over it.
 #[inline(always)]
-pub fn next(nodes: &[Node], place: &mut Place) -> Option<TextStep>
+pub fn next<A: Allocator + Copy>(nodes: &Nodes<A>, place: &mut Place) -> Option<TextStep>
     requires circuit { IsCircuit nodes.now }
     requires place { (k : ℕ) × IsAt nodes.now place.old k }
     ensures { NextStep nodes.now place.old place.new result }
 {
     go_to_step(nodes, place);
-    match node_at(nodes, place.index) {
+    match nodes.get(place.index) {
         Some(Node::Do(step)) => {
             place.index += 1;
             Some(step)
@@ -137,7 +127,7 @@ pub fn next(nodes: &[Node], place: &mut Place) -> Option<TextStep>
 }
 
 // Goes back over the starts of turns, to a place that isn't after one.
-fn leave_turns_back(nodes: &[Node], place: &mut Place)
+fn leave_turns_back<A: Allocator + Copy>(nodes: &Nodes<A>, place: &mut Place)
     requires circuit { IsCircuit nodes.now }
     requires place { (k : ℕ) × IsAt nodes.now place.old k }
     ensures kept { KeepsStep nodes.now place.old place.new }
@@ -155,7 +145,7 @@ fn leave_turns_back(nodes: &[Node], place: &mut Place)
 }
 
 // Goes back into the last turns of the blocks that end here.
-fn enter_turns_back(nodes: &[Node], place: &mut Place)
+fn enter_turns_back<A: Allocator + Copy>(nodes: &Nodes<A>, place: &mut Place)
     requires circuit { IsCircuit nodes.now }
     requires place { (k : ℕ) × IsAt nodes.now place.old k }
     requires no_open { IsNoOpen (node_before nodes.now place.old.index) }
@@ -171,7 +161,7 @@ fn enter_turns_back(nodes: &[Node], place: &mut Place)
 
 // Goes back to a place after a step, or to the start. Most places are after a step, and nothing is to be done there.
 #[inline(always)]
-fn go_back_to_step(nodes: &[Node], place: &mut Place)
+fn go_back_to_step<A: Allocator + Copy>(nodes: &Nodes<A>, place: &mut Place)
     requires circuit { IsCircuit nodes.now }
     requires place { (k : ℕ) × IsAt nodes.now place.old k }
     ensures kept { KeepsStep nodes.now place.old place.new }
@@ -186,7 +176,7 @@ fn go_back_to_step(nodes: &[Node], place: &mut Place)
 
 // Goes back over the starts and ends of turns, which few places are at.
 #[inline(never)]
-fn go_back_past_turns(nodes: &[Node], place: &mut Place)
+fn go_back_past_turns<A: Allocator + Copy>(nodes: &Nodes<A>, place: &mut Place)
     requires circuit { IsCircuit nodes.now }
     requires place { (k : ℕ) × IsAt nodes.now place.old k }
     ensures kept { KeepsStep nodes.now place.old place.new }
@@ -199,7 +189,7 @@ fn go_back_past_turns(nodes: &[Node], place: &mut Place)
 
 // Answers the step before a place, and goes back over it.
 #[inline(always)]
-pub fn previous(nodes: &[Node], place: &mut Place) -> Option<TextStep>
+pub fn previous<A: Allocator + Copy>(nodes: &Nodes<A>, place: &mut Place) -> Option<TextStep>
     requires circuit { IsCircuit nodes.now }
     requires place { (k : ℕ) × IsAt nodes.now place.old k }
     ensures { PreviousStep nodes.now place.old place.new result }
@@ -216,12 +206,13 @@ pub fn previous(nodes: &[Node], place: &mut Place) -> Option<TextStep>
 
 // The node before a place.
 #[inline(always)]
-fn node_before(nodes: &[Node], index: usize) -> Option<Node>
-    ensures { result ≡ node_before nodes.now index }
+fn node_before<A: Allocator + Copy>(nodes: &Nodes<A>, index: usize) -> Option<Node>
+    ensures node { result ≡ node_before nodes.now index }
+    ensures few { IfSome result (λ node. length nodes.now < 2 ^ 64) }
 {
-    if 0 < index && index <= nodes.len() {
-        Some(nodes[index - 1])
-    } else {
+    if index == 0 {
         None
+    } else {
+        nodes.get(index - 1)
     }
 }

@@ -9,7 +9,7 @@ ghost use Rattle.programs.specs.private.Held.{HoldsText};
 ghost use Rattle.programs.specs.Made.{kept_program, PartsFit};
 
 use crate::entries::{ChanceTable, Entries};
-use crate::node::Node;
+use crate::nodes::Nodes;
 use crate::step::Counts;
 use arrayvec::ArrayVec;
 use flat_lists::{FlatLists, MOST_NUMBERS, NumberLists};
@@ -25,7 +25,7 @@ pub struct Parts<'a, A: Allocator + Copy> {
     pub qubits: u32,
     pub steps: usize,
     pub counts: Counts,
-    pub nodes: Vec<Node, A>,
+    pub nodes: Nodes<A>,
     pub detectors: FlatLists<u32, A>,
     pub observables: FlatLists<u32, A>,
     pub coordinates: NumberLists<A>,
@@ -35,8 +35,8 @@ pub struct Parts<'a, A: Allocator + Copy> {
 
 /// A circuit with its blocks, how many steps it has once unrolled, and how many records, collapses and faults they make.
 #[derive(Clone, Copy, Drop)]
-pub struct Text<'a> {
-    pub nodes: &'a [Node],
+pub struct Text<'a, A: Allocator + Copy> {
+    pub nodes: &'a Nodes<A>,
     pub steps: usize,
     pub counts: Counts,
 }
@@ -70,11 +70,11 @@ impl<'a, A: Allocator + Copy> Program<'a, A> {
     }
 
     /// The circuit with its blocks.
-    pub(crate) fn text(&self) -> Text<'_>
+    pub(crate) fn text(&self) -> Text<'_, A>
         ensures { HoldsText self.now result }
     {
         Text {
-            nodes: self.parts.nodes.as_slice(),
+            nodes: &self.parts.nodes,
             steps: self.parts.steps,
             counts: self.parts.counts,
         }

@@ -13,7 +13,7 @@ use std::marker::Model;
 #[derive(Drop)]
 pub struct Walk<'a, 'p, A: Allocator + Copy> {
     program: &'a Program<'p, A>,
-    text: Text<'a>,
+    text: Text<'a, A>,
     place: Place,
     counts: Counts,
     steps: usize,

@@ -16,7 +16,7 @@ use crate::products::push_kept_products;
 use crate::steps::push_steps;
 use chances::ChanceText;
 use flat_lists::FlatLists;
-use programs::{CircuitBuilder, Entries, EntryBuilder, Node};
+use programs::{CircuitBuilder, Entries, EntryBuilder, Nodes};
 use std::alloc::{AllocError, Allocator};
 use step_model::Term;
 use stim_parser::{Circuit, Instruction, Item, Numbered, has_argument};
@@ -24,7 +24,7 @@ use stim_parser::{Circuit, Instruction, Item, Numbered, has_argument};
 /// A circuit's steps with its blocks, and what is kept beside them.
 #[derive(Drop)]
 pub(crate) struct Written<'a, A: Allocator + Copy> {
-    pub nodes: Vec<Node, A>,
+    pub nodes: Nodes<A>,
     pub entries: Entries<'a, A>,
     pub products: FlatLists<Term, A>,
 }
@@ -105,8 +105,8 @@ impl<'a, A: Allocator + Copy> Writing<'a, A> {
     /// What is written down.
     fn finish(self) -> Written<'a, A>
         requires { self.builder.outer ≡ [] }
-        ensures circuit { IsCircuit result.nodes.items }
-        ensures steps { unrolled (tree_of result.nodes.items) ≡ self.entry.builder.here }
+        ensures circuit { IsCircuit result.nodes }
+        ensures steps { unrolled (tree_of result.nodes) ≡ self.entry.builder.here }
         ensures entries { result.entries ≡ self.entry.entries.kept }
         ensures products { result.products ≡ self.entry.products }
     {
@@ -126,8 +126,8 @@ pub(crate) fn written_of<'a, A: Allocator + Copy>(
     requires near { first_far_from 0 circuit ≡ None }
     requires few_records { record_total circuit < 2 ^ 32 }
     requires few_steps { step_total circuit < 2 ^ 32 }
-    ensures circuit { IfOk result (λ w. IsCircuit w.nodes.items) }
-    ensures steps { IfOk result (λ w. unrolled (tree_of w.nodes.items) ≡ steps_of circuit.entry) }
+    ensures circuit { IfOk result (λ w. IsCircuit w.nodes) }
+    ensures steps { IfOk result (λ w. unrolled (tree_of w.nodes) ≡ steps_of circuit.entry) }
     ensures entries { IfOk result (λ w. w.entries ≡ kept_entries circuit.entry) }
     ensures products { IfOk result (λ w. w.products ≡ kept_products circuit.entry) }
 {

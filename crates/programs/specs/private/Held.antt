@@ -22,5 +22,5 @@ pub record Held (program : KeptProgram) (nodes : List Node) (count : ℕ) (made 
   pub named : (k : ℕ) (s : Step) → slice_get (numbered no_counts (unrolled (tree_of nodes))) k ≡ Some s → IsStepOf program s
 
 -- so do the nodes of a text, with its counts
-abbrev pub HoldsText : KeptProgram → Text → Type 0
+abbrev pub HoldsText : {A : Type 0} → KeptProgram → Text A → Type 0
 HoldsText program text = Held program text.nodes.now text.steps text.counts

@@ -20,6 +20,6 @@ pub record IsWalk (nodes : List Node) (at_place : Place) (counted : Counts) (k :
   pub counts : counted ≡ counts_over no_counts (take k (unrolled (tree_of nodes)))
 
 -- a walk over a program
-pub record IsWalkOf (program : KeptProgram) (text : Text) (at_place : Place) (counted : Counts) (k : ℕ) : Type 0 where
+pub record IsWalkOf {A : Type 0} (program : KeptProgram) (text : Text A) (at_place : Place) (counted : Counts) (k : ℕ) : Type 0 where
   pub held : HoldsText program text
   pub walk : IsWalk text.nodes.now at_place counted k

@@ -28,7 +28,7 @@ struct Totals {
 
 // The program of these parts, once their steps are counted.
 pub(crate) fn checked<'a, A: Allocator + Copy>(parts: Parts<'a, A>) -> Option<Program<'a, A>>
-    requires { IsCircuit parts.nodes.items }
+    requires { IsCircuit parts.nodes }
     ensures { IfSome result (λ p. p ≡ counted_program parts.entry) }
 {
     let Some(totals) = total_of(&parts) else {
@@ -59,10 +59,9 @@ pub(crate) fn checked<'a, A: Allocator + Copy>(parts: Parts<'a, A>) -> Option<Pr
 
 // Goes over the unrolled steps. None where one doesn't fit, or where there are more than a million.
 fn total_of<A: Allocator + Copy>(parts: &Parts<'_, A>) -> Option<Totals>
-    requires { IsCircuit parts.now.nodes.items }
+    requires { IsCircuit parts.now.nodes }
     ensures { IfSome result (AllFit parts.now) }
 {
-    let nodes = parts.nodes.as_slice();
     let mut place = Place {
         index: 0,
         turns: ArrayVec::new(),
@@ -73,7 +72,7 @@ fn total_of<A: Allocator + Copy>(parts: &Parts<'_, A>) -> Option<Totals>
         faults: 0,
     };
     for steps in 0..1000001 {
-        let Some(step) = next(nodes, &mut place) else {
+        let Some(step) = next(&parts.nodes, &mut place) else {
             return Some(Totals { steps, counts });
         };
         if !step_fits(parts, counts, step) {

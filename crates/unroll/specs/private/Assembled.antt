@@ -25,7 +25,7 @@ pub record ArePartsOf {A : Type 0} (tree : Tree) (parts : Parts A) : Type 0 wher
   pub qubits : parts.qubits ≡ qubit_total tree
   pub steps : parts.steps ≡ made_total tree
   pub counts : parts.counts ≡ counts_in tree
-  pub circuit : IsCircuit parts.nodes.items
+  pub circuit : IsCircuit parts.nodes
   pub unrolled : text_steps parts ≡ steps_of tree
   pub detectors : parts.detectors ≡ detectors_of tree
   pub observables : parts.observables ≡ observables_of tree

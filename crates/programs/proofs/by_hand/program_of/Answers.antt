@@ -15,7 +15,7 @@ returns g c =
       qubits = c.in_ok-kept.ensures.qubits ∙ c.bare-parts.ensures.qubits;
       entries = c.in_ok-kept.ensures.entries ∙ c.bare-parts.ensures.entries ∙ of_some _ _ c.in-Some-2.entries c.in-Some-2.is c.in_ok-entries.ensures;
       steps =
-          ap (λ nodes. unrolled (tree_of nodes.items)) (c.in_ok-kept.ensures.nodes ∙ c.bare-parts.ensures.nodes)
+          ap (λ nodes. unrolled (tree_of nodes)) (c.in_ok-kept.ensures.nodes ∙ c.bare-parts.ensures.nodes)
           ∙ of_some _ _ c.in-Some.nodes c.in-Some.is c.in_ok-nodes.ensures.steps;
       keeps = c.in_ok-kept.ensures.lists c.if-not-kept.false;
     } in

@@ -8,7 +8,7 @@ use Rattle.programs.proofs.Places.{moved}
 use Rattle.programs.proofs.place.enter_turns.Goals as goal
 
 pub push-requires : goal.push-requires
-push-requires c =
+push-requires g c =
     let node : slice_get c.args.nodes.now c.loop-place.place.index ≡ Some (Open c.in-Some-Open.field-0-0 c.in-Some-Open.field-0-1) = cc in
     let k = c.requires.place.0 in
     let here = c.loop-place.invariant.0 k c.requires.place.1 in
@@ -16,19 +16,19 @@ push-requires c =
     (omega arith, into.room)
 
 pub overflow_add-place : goal.overflow_add-place
-overflow_add-place c =
+overflow_add-place g c =
     let node : slice_get c.args.nodes.now c.loop-place.place.index ≡ Some (Open c.in-Some-Open.field-0-0 c.in-Some-Open.field-0-1) = cc in
     let within = slice_get_within c.args.nodes.now c.loop-place.place.index _ node in
     omega (arith, within)
 
 pub loop-place-smaller : goal.loop-place-smaller
-loop-place-smaller c =
+loop-place-smaller g c =
     let node : slice_get c.args.nodes.now c.loop-place.place.index ≡ Some (Open c.in-Some-Open.field-0-0 c.in-Some-Open.field-0-1) = cc in
     let within = slice_get_within c.args.nodes.now c.loop-place.place.index _ node in
     omega (arith, within)
 
 pub loop-place-preserved : goal.loop-place-preserved
-loop-place-preserved c =
+loop-place-preserved g c =
     let node : slice_get c.args.nodes.now c.loop-place.place.index ≡ Some (Open c.in-Some-Open.field-0-0 c.in-Some-Open.field-0-1) = cc in (
       (λ k h. let here = c.loop-place.invariant.0 k h in
           let into = enters c.args.nodes.now c.requires.circuit c.loop-place.place.index c.loop-place.place.turns.items k c.in-Some-Open.field-0-0 c.in-Some-Open.field-0-1 here node in

@@ -3,7 +3,7 @@ use Rattle.programs.specs.Steps.{KeepsStep, IsNoClose}
 use Rattle.programs.proofs.place.enter_turns.Given as goal
 
 abbrev pub invariant-loop-place : goal.invariant-loop-place
-invariant-loop-place l = KeepsStep l.nodes l.initial.place l.place × IsNoClose (slice_get l.nodes l.place.index)
+invariant-loop-place g l = KeepsStep l.nodes l.initial.place l.place × IsNoClose (slice_get l.nodes l.place.index)
 
 abbrev pub decreases-loop-place : goal.decreases-loop-place
-decreases-loop-place l = length l.nodes - l.place.index
+decreases-loop-place g l = length l.nodes - l.place.index

@@ -7,7 +7,7 @@ use Rattle.programs.specs.Steps.{node_before}
 use Rattle.programs.proofs.place.enter_turns_back.Goals as goal
 
 pub overflow_sub-turns : goal.overflow_sub-turns
-overflow_sub-turns c =
+overflow_sub-turns g c =
     let node : node_before c.args.nodes.now c.loop-turns.place.index ≡ Some (Close c.in-Some-Close.turns c.in-Some-Close.field-0-1) = cc in
     let b = before c.args.nodes.now c.requires.circuit c.loop-turns.place.index (Close c.in-Some-Close.turns c.in-Some-Close.field-0-1) node in
     let k = c.requires.place.0 in
@@ -16,7 +16,7 @@ overflow_sub-turns c =
     into.some
 
 pub push-requires : goal.push-requires
-push-requires c =
+push-requires g c =
     let node : node_before c.args.nodes.now c.loop-turns.place.index ≡ Some (Close c.in-Some-Close.turns c.in-Some-Close.field-0-1) = cc in
     let b = before c.args.nodes.now c.requires.circuit c.loop-turns.place.index (Close c.in-Some-Close.turns c.in-Some-Close.field-0-1) node in
     let k = c.requires.place.0 in
@@ -25,7 +25,7 @@ push-requires c =
     (omega arith, into.room)
 
 pub loop-turns-preserved : goal.loop-turns-preserved
-loop-turns-preserved c =
+loop-turns-preserved g c =
     let node : node_before c.args.nodes.now c.loop-turns.place.index ≡ Some (Close c.in-Some-Close.turns c.in-Some-Close.field-0-1) = cc in
     let b = before c.args.nodes.now c.requires.circuit c.loop-turns.place.index (Close c.in-Some-Close.turns c.in-Some-Close.field-0-1) node in (
       (λ k h. let here = moved (tree_of c.args.nodes.now) b.i_is refl refl (c.loop-turns.invariant.0 k h) in

@@ -11,7 +11,7 @@ use Rattle.programs.specs.Places.{IsPlace}
 use Rattle.programs.proofs.place.leave_turns.Goals as goal
 
 pub unwrap-turn-requires : goal.unwrap-turn-requires
-unwrap-turn-requires c =
+unwrap-turn-requires g c =
     let node : slice_get c.args.nodes.now c.loop-turns.place.index ≡ Some (Close c.in-Some-Close.turns c.in-Some-Close.length) = cc in
     let k = c.requires.place.0 in
     let here = c.loop-turns.invariant k c.requires.place.1 in
@@ -19,7 +19,7 @@ unwrap-turn-requires c =
     c.pop.ensures.variant.1 some
 
 pub turn_after-requires : goal.turn_after-requires
-turn_after-requires c =
+turn_after-requires g c =
     let node : slice_get c.args.nodes.now c.loop-turns.place.index ≡ Some (Close c.in-Some-Close.turns c.in-Some-Close.length) = cc in
     let k = c.requires.place.0 in
     let here = c.loop-turns.invariant k c.requires.place.1 in
@@ -28,7 +28,7 @@ turn_after-requires c =
     l.below
 
 pub push-requires : goal.push-requires
-push-requires c =
+push-requires g c =
     let node : slice_get c.args.nodes.now c.loop-turns.place.index ≡ Some (Close c.in-Some-Close.turns c.in-Some-Close.length) = cc in
     let k = c.requires.place.0 in
     let here = c.loop-turns.invariant k c.requires.place.1 in
@@ -37,7 +37,7 @@ push-requires c =
     (omega arith, l.room)
 
 pub overflow_sub-place : goal.overflow_sub-place
-overflow_sub-place c =
+overflow_sub-place g c =
     let node : slice_get c.args.nodes.now c.loop-turns.place.index ≡ Some (Close c.in-Some-Close.turns c.in-Some-Close.length) = cc in
     let k = c.requires.place.0 in
     let here = c.loop-turns.invariant k c.requires.place.1 in
@@ -46,7 +46,7 @@ overflow_sub-place c =
     l.enough
 
 pub returns-in-Some-clause-kept : goal.returns-in-Some-clause-kept
-returns-in-Some-clause-kept c k h =
+returns-in-Some-clause-kept g c k h =
     let node : slice_get c.args.nodes.now c.loop-turns.place.index ≡ Some (Close c.in-Some-Close.turns c.in-Some-Close.length) = cc in
     let here = c.loop-turns.invariant k h in
     let split : c.loop-turns.place.turns.items ≡ c.pop.new.self.items ++ c.unwrap-turn.result ∷ [] = c.pop.ensures.items ∙ ap (λ o. c.pop.new.self.items ++ option_to_list o) c.unwrap-turn.ensures in
@@ -54,24 +54,24 @@ returns-in-Some-clause-kept c k h =
     moved (tree_of c.args.nodes.now) refl (sym c.push.ensures.items) refl (subst (λ (t : ℕ). IsPlace (tree_of c.args.nodes.now) (c.loop-turns.place.index - c.in-Some-Close.length) (c.pop.new.self.items ++ t ∷ []) k) (sym c.in-Some.ensures.more.0) (l.again (omega (arith, c.in-Some.ensures.more.0, c.in-Some.ensures.more.1))))
 
 pub returns-in-Some-clause-no_close : goal.returns-in-Some-clause-no_close
-returns-in-Some-clause-no_close c =
+returns-in-Some-clause-no_close g c =
     let node : slice_get c.args.nodes.now c.loop-turns.place.index ≡ Some (Close c.in-Some-Close.turns c.in-Some-Close.length) = cc in
     no_close_at_turn c.args.nodes.now c.requires.circuit c.loop-turns.place.index c.in-Some-Close.turns c.in-Some-Close.length node
 
 pub overflow_add-place : goal.overflow_add-place
-overflow_add-place c =
+overflow_add-place g c =
     let node : slice_get c.args.nodes.now c.loop-turns.place.index ≡ Some (Close c.in-Some-Close.turns c.in-Some-Close.length) = cc in
     let within = slice_get_within c.args.nodes.now c.loop-turns.place.index _ node in
     omega (arith, within)
 
 pub loop-turns-smaller : goal.loop-turns-smaller
-loop-turns-smaller c =
+loop-turns-smaller g c =
     let node : slice_get c.args.nodes.now c.loop-turns.place.index ≡ Some (Close c.in-Some-Close.turns c.in-Some-Close.length) = cc in
     let within = slice_get_within c.args.nodes.now c.loop-turns.place.index _ node in
     omega (arith, within)
 
 pub loop-turns-preserved : goal.loop-turns-preserved
-loop-turns-preserved c k h =
+loop-turns-preserved g c k h =
     let node : slice_get c.args.nodes.now c.loop-turns.place.index ≡ Some (Close c.in-Some-Close.turns c.in-Some-Close.length) = cc in
     let here = c.loop-turns.invariant k h in
     let split : c.loop-turns.place.turns.items ≡ c.pop.new.self.items ++ c.unwrap-turn.result ∷ [] = c.pop.ensures.items ∙ ap (λ o. c.pop.new.self.items ++ option_to_list o) c.unwrap-turn.ensures in

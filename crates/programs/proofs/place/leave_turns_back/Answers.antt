@@ -8,7 +8,7 @@ use Rattle.programs.specs.Steps.{node_before, IsNoOpen}
 use Rattle.programs.proofs.place.leave_turns_back.Goals as goal
 
 pub unwrap-turn-requires : goal.unwrap-turn-requires
-unwrap-turn-requires c =
+unwrap-turn-requires g c =
     let node : node_before c.args.nodes.now c.loop-length.place.index ≡ Some (Open c.in-Some-Open.field-0-0 c.in-Some-Open.length) = cc in
     let b = before c.args.nodes.now c.requires.circuit c.loop-length.place.index (Open c.in-Some-Open.field-0-0 c.in-Some-Open.length) node in
     let k = c.requires.place.0 in
@@ -17,7 +17,7 @@ unwrap-turn-requires c =
     c.pop.ensures.variant.1 some
 
 pub push-requires : goal.push-requires
-push-requires c =
+push-requires g c =
     let node : node_before c.args.nodes.now c.loop-length.place.index ≡ Some (Open c.in-Some-Open.field-0-0 c.in-Some-Open.length) = cc in
     let b = before c.args.nodes.now c.requires.circuit c.loop-length.place.index (Open c.in-Some-Open.field-0-0 c.in-Some-Open.length) node in
     let k = c.requires.place.0 in
@@ -27,7 +27,7 @@ push-requires c =
     (omega arith, l.room)
 
 pub overflow_add-place : goal.overflow_add-place
-overflow_add-place c =
+overflow_add-place g c =
     let node : node_before c.args.nodes.now c.loop-length.place.index ≡ Some (Open c.in-Some-Open.field-0-0 c.in-Some-Open.length) = cc in
     let b = before c.args.nodes.now c.requires.circuit c.loop-length.place.index (Open c.in-Some-Open.field-0-0 c.in-Some-Open.length) node in
     let k = c.requires.place.0 in
@@ -36,10 +36,10 @@ overflow_add-place c =
     let l = leaves_back c.args.nodes.now c.requires.circuit (c.loop-length.place.index - 1) c.loop-length.place.turns.items k c.in-Some-Open.field-0-0 c.in-Some-Open.length c.pop.new.self.items c.unwrap-turn.result here b.node_is split in
     let there = l.again c.if-turn-gt0.true in
     let bounds = bounded (tree_of c.args.nodes.now) _ _ k there in
-    omega (arith, bounds.nodes, b.i_is, ap length c.requires.circuit.written)
+    omega (arith, bounds.nodes, b.i_is, ap length c.requires.circuit.written, c.in-Some-Open.ensures.few)
 
 pub returns-then-turn-gt0-clause-kept : goal.returns-then-turn-gt0-clause-kept
-returns-then-turn-gt0-clause-kept c k h =
+returns-then-turn-gt0-clause-kept g c k h =
     let node : node_before c.args.nodes.now c.loop-length.place.index ≡ Some (Open c.in-Some-Open.field-0-0 c.in-Some-Open.length) = cc in
     let b = before c.args.nodes.now c.requires.circuit c.loop-length.place.index (Open c.in-Some-Open.field-0-0 c.in-Some-Open.length) node in
     let here = moved (tree_of c.args.nodes.now) b.i_is refl refl (c.loop-length.invariant k h) in
@@ -48,14 +48,14 @@ returns-then-turn-gt0-clause-kept c k h =
     moved (tree_of c.args.nodes.now) (omega (arith, b.i_is)) (sym c.push.ensures.items) refl (l.again c.if-turn-gt0.true)
 
 pub returns-then-turn-gt0-clause-no_open : goal.returns-then-turn-gt0-clause-no_open
-returns-then-turn-gt0-clause-no_open c =
+returns-then-turn-gt0-clause-no_open g c =
     let node : node_before c.args.nodes.now c.loop-length.place.index ≡ Some (Open c.in-Some-Open.field-0-0 c.in-Some-Open.length) = cc in
     let b = before c.args.nodes.now c.requires.circuit c.loop-length.place.index (Open c.in-Some-Open.field-0-0 c.in-Some-Open.length) node in
     subst IsNoOpen (sym (node_before-suc c.args.nodes.now c.requires.circuit (c.loop-length.place.index - 1 + c.in-Some-Open.length) (c.loop-length.place.index + c.in-Some-Open.length) (omega (arith, b.i_is))))
     (no_open_at_turn c.args.nodes.now c.requires.circuit (c.loop-length.place.index - 1) (c.loop-length.place.index - 1 + c.in-Some-Open.length) c.in-Some-Open.field-0-0 c.in-Some-Open.length b.node_is refl)
 
 pub loop-length-preserved : goal.loop-length-preserved
-loop-length-preserved c k h =
+loop-length-preserved g c k h =
     let node : node_before c.args.nodes.now c.loop-length.place.index ≡ Some (Open c.in-Some-Open.field-0-0 c.in-Some-Open.length) = cc in
     let b = before c.args.nodes.now c.requires.circuit c.loop-length.place.index (Open c.in-Some-Open.field-0-0 c.in-Some-Open.length) node in
     let here = moved (tree_of c.args.nodes.now) b.i_is refl refl (c.loop-length.invariant k h) in

@@ -1,90 +1,150 @@
-use Rattle.std.proofs.Common.{◌≡◌, ◌+◌, ◌-◌, ◌<◌, ℕ, List, [], ◌∷◌, ◌++◌, length, take, set, sym, ap, ap₂, ◌∙◌, subst, arith}
-use Rattle.std.specs.Option.{option_to_list}
-use Rattle.programs.specs.declared.node.Node.{Node}
+use Rattle.std.proofs.Common.{◌≡◌, ◌-◌, ◌<◌, ℕ, List, [], ◌∷◌, ◌++◌, length, take, get_or, set, sym, ap, ap₂, ◌∙◌, subst, arith}
+use Rattle.programs.specs.declared.builder.CircuitBuilder.TheInside.{Inside}
+use Rattle.programs.specs.declared.builder.Outer.{Outer}
 use Rattle.programs.specs.declared.node.Node.TheVariants.{Open, Close}
 use Rattle.programs.specs.Builders.{Building, Builds, building, Closes}
-use Rattle.programs.proofs.BuilderCloses.{enough, all-counted, dropped, dropped-view, written, written-view}
+use Rattle.programs.proofs.BuilderCloses.{enough, all-counted, Closed, closed_empty, closed_full, last-open}
+use Rattle.programs.proofs.BuilderLaws.{depth-seen}
 use Rattle.programs.proofs.builder.CircuitBuilder.close.Goals as goal
+use Rattle.programs.proofs.builder.CircuitBuilder.close.Goals.{then-self-eq0, else-self-eq0+in_ok-close}
 
 pub overflow_sub-start : goal.overflow_sub-start
 overflow_sub-start g c =
-    let split : c.self.inside.outer.items ≡ c.pop.new.self.items ++ c.unwrap-length.result ∷ [] = c.pop.ensures.items ∙ ap (λ o. c.pop.new.self.items ++ option_to_list o) c.unwrap-length.ensures in
-    let nodes : c.reserve.new.self.items ≡ c.self.inside.nodes.items = c.reserve.ensures.items in
-    let len : c.len.result ≡ length c.self.inside.nodes.items = omega (arith, c.len.ensures, ap length nodes) in
-    omega (arith, len, enough c.self.inside.nodes.items c.self.inside.outer.items c.self.inside.count c.self.invariant c.pop.new.self.items c.unwrap-length.result split)
+    let nodes = c.self.inside.nodes in
+    let outer = c.self.inside.outer.items in
+    let count = c.self.inside.count in
+    let n = c.len-last.result in
+    let seen = depth-seen nodes outer count c.self.invariant in
+    let some : 0 < n = omega (arith, seen, c.len-last.ensures.value, ap (λ (v : Building). length v.outer) c.self.view_is, c.requires) in
+    let rest = take (n - 1) outer in
+    let o : Outer = get_or c.deref.result.now (n - 1) (record { length = 0; turns = 0 }) in
+    let split : outer ≡ rest ++ o ∷ [] = last-open outer c.deref.result.now n (record { length = 0; turns = 0 }) c.deref.ensures.0 c.len-last.ensures.value some in
+    omega (arith, c.len.ensures, enough nodes outer count c.self.invariant rest o split)
 
 pub overflow_sub-start-2 : goal.overflow_sub-start-2
 overflow_sub-start-2 g c =
-    let split : c.self.inside.outer.items ≡ c.pop.new.self.items ++ c.unwrap-length.result ∷ [] = c.pop.ensures.items ∙ ap (λ o. c.pop.new.self.items ++ option_to_list o) c.unwrap-length.ensures in
-    let nodes : c.reserve.new.self.items ≡ c.self.inside.nodes.items = c.reserve.ensures.items in
-    let len : c.len.result ≡ length c.self.inside.nodes.items = omega (arith, c.len.ensures, ap length nodes) in
-    omega (arith, len, enough c.self.inside.nodes.items c.self.inside.outer.items c.self.inside.count c.self.invariant c.pop.new.self.items c.unwrap-length.result split)
+    let nodes = c.self.inside.nodes in
+    let outer = c.self.inside.outer.items in
+    let count = c.self.inside.count in
+    let n = c.len-last.result in
+    let seen = depth-seen nodes outer count c.self.invariant in
+    let some : 0 < n = omega (arith, seen, c.len-last.ensures.value, ap (λ (v : Building). length v.outer) c.self.view_is, c.requires) in
+    let rest = take (n - 1) outer in
+    let o : Outer = get_or c.deref.result.now (n - 1) (record { length = 0; turns = 0 }) in
+    let split : outer ≡ rest ++ o ∷ [] = last-open outer c.deref.result.now n (record { length = 0; turns = 0 }) c.deref.ensures.0 c.len-last.ensures.value some in
+    omega (arith, c.len.ensures, enough nodes outer count c.self.invariant rest o split)
 
-pub index_mut-requires : goal.index_mut-requires
-index_mut-requires g c =
-    let split : c.self.inside.outer.items ≡ c.pop.new.self.items ++ c.unwrap-length.result ∷ [] = c.pop.ensures.items ∙ ap (λ o. c.pop.new.self.items ++ option_to_list o) c.unwrap-length.ensures in
-    let nodes : c.reserve.new.self.items ≡ c.self.inside.nodes.items = c.reserve.ensures.items in
-    let len : c.len.result ≡ length c.self.inside.nodes.items = omega (arith, c.len.ensures, ap length nodes) in
-    omega (arith, len, ap length nodes, enough c.self.inside.nodes.items c.self.inside.outer.items c.self.inside.count c.self.invariant c.pop.new.self.items c.unwrap-length.result split)
+pub close-requires : goal.close-requires
+close-requires g c =
+    let nodes = c.self.inside.nodes in
+    let outer = c.self.inside.outer.items in
+    let count = c.self.inside.count in
+    let n = c.len-last.result in
+    let seen = depth-seen nodes outer count c.self.invariant in
+    let some : 0 < n = omega (arith, seen, c.len-last.ensures.value, ap (λ (v : Building). length v.outer) c.self.view_is, c.requires) in
+    let rest = take (n - 1) outer in
+    let o : Outer = get_or c.deref.result.now (n - 1) (record { length = 0; turns = 0 }) in
+    let split : outer ≡ rest ++ o ∷ [] = last-open outer c.deref.result.now n (record { length = 0; turns = 0 }) c.deref.ensures.0 c.len-last.ensures.value some in
+    omega (arith, c.len.ensures, enough nodes outer count c.self.invariant rest o split)
 
-pub overflow_add-self : goal.overflow_add-self
-overflow_add-self g c =
-    let split : c.self.inside.outer.items ≡ c.pop.new.self.items ++ c.unwrap-length.result ∷ [] = c.pop.ensures.items ∙ ap (λ o. c.pop.new.self.items ++ option_to_list o) c.unwrap-length.ensures in
-    let nodes : c.reserve.new.self.items ≡ c.self.inside.nodes.items = c.reserve.ensures.items in
-    let len : c.len.result ≡ length c.self.inside.nodes.items = omega (arith, c.len.ensures, ap length nodes) in
-    omega (arith, all-counted c.self.inside.nodes.items c.self.inside.outer.items c.self.inside.count c.self.invariant c.pop.new.self.items c.unwrap-length.result split, ap length nodes)
+pub overflow_sub-self : goal.overflow_sub-self
+overflow_sub-self g c =
+    let nodes = c.self.inside.nodes in
+    let outer = c.self.inside.outer.items in
+    let count = c.self.inside.count in
+    let n = c.len-last.result in
+    let seen = depth-seen nodes outer count c.self.invariant in
+    let some : 0 < n = omega (arith, seen, c.len-last.ensures.value, ap (λ (v : Building). length v.outer) c.self.view_is, c.requires) in
+    let rest = take (n - 1) outer in
+    let o : Outer = get_or c.deref.result.now (n - 1) (record { length = 0; turns = 0 }) in
+    let split : outer ≡ rest ++ o ∷ [] = last-open outer c.deref.result.now n (record { length = 0; turns = 0 }) c.deref.ensures.0 c.len-last.ensures.value some in
+    omega (arith, c.len.ensures, all-counted nodes outer count c.self.invariant rest o split)
 
-pub overflow_add-self-else-self-eq0 : goal.overflow_add-self-else-self-eq0
-overflow_add-self-else-self-eq0 g c =
-    let split : c.self.inside.outer.items ≡ c.pop.new.self.items ++ c.unwrap-length.result ∷ [] = c.pop.ensures.items ∙ ap (λ o. c.pop.new.self.items ++ option_to_list o) c.unwrap-length.ensures in
-    let nodes : c.reserve.new.self.items ≡ c.self.inside.nodes.items = c.reserve.ensures.items in
-    let len : c.len.result ≡ length c.self.inside.nodes.items = omega (arith, c.len.ensures, ap length nodes) in
-    omega (arith, all-counted c.self.inside.nodes.items c.self.inside.outer.items c.self.inside.count c.self.invariant c.pop.new.self.items c.unwrap-length.result split, ap length nodes)
+pub overflow_sub-self-2 : goal.overflow_sub-self-2
+overflow_sub-self-2 g c =
+    let nodes = c.self.inside.nodes in
+    let outer = c.self.inside.outer.items in
+    let count = c.self.inside.count in
+    let n = c.len-last.result in
+    let seen = depth-seen nodes outer count c.self.invariant in
+    let some : 0 < n = omega (arith, seen, c.len-last.ensures.value, ap (λ (v : Building). length v.outer) c.self.view_is, c.requires) in
+    let rest = take (n - 1) outer in
+    let o : Outer = get_or c.deref.result.now (n - 1) (record { length = 0; turns = 0 }) in
+    let split : outer ≡ rest ++ o ∷ [] = last-open outer c.deref.result.now n (record { length = 0; turns = 0 }) c.deref.ensures.0 c.len-last.ensures.value some in
+    let new = c.if-self-eq0.self-inside in
+    let closed : (new.outer.items ≡ outer) × Closed nodes outer count c.self.invariant rest o split new.nodes = elim c.if-self-eq0.branch [
+      | then-self-eq0 w ↦ (
+        ap (λ (x : Inside g.row.A.Denot). x.outer.items) w.self-inside-is,
+        closed_empty nodes outer count c.self.invariant rest o split new.nodes w.if-self-eq0.true
+            (ap (λ (x : Inside g.row.A.Denot). x.nodes) w.self-inside-is
+            ∙ (w.truncate.ensures ∙ ap (λ (k : ℕ). take (k - count - 1) nodes) c.len.ensures)),
+      )
+      | else-self-eq0+in_ok-close w ↦ (
+        ap (λ (x : Inside g.row.A.Denot). x.outer.items) w.self-inside-is,
+        closed_full nodes outer count c.self.invariant rest o split new.nodes (omega (arith, w.if-self-eq0.false))
+            (ap (λ (x : Inside g.row.A.Denot). x.nodes) w.self-inside-is
+            ∙ (w.in_ok-close.ensures.ok ∙ ap (λ (k : ℕ). set nodes (k - count - 1) (Open o.turns count) ++ Close o.turns count ∷ []) c.len.ensures)),
+      )
+    ] in
+    omega (arith, c.len.ensures, c.len-2.ensures, closed.1.enough_left)
 
-pub invariant_of-self-then-self-eq0 : goal.invariant_of-self-then-self-eq0
-invariant_of-self-then-self-eq0 g c =
-    let split : c.self.inside.outer.items ≡ c.pop.new.self.items ++ c.unwrap-length.result ∷ [] = c.pop.ensures.items ∙ ap (λ o. c.pop.new.self.items ++ option_to_list o) c.unwrap-length.ensures in
-    let nodes : c.reserve.new.self.items ≡ c.self.inside.nodes.items = c.reserve.ensures.items in
-    let len : c.len.result ≡ length c.self.inside.nodes.items = omega (arith, c.len.ensures, ap length nodes) in
-    let kept : c.truncate.new.self.items ≡ take (length c.self.inside.nodes.items - c.self.inside.count - 1) c.self.inside.nodes.items =
-    c.truncate.ensures.items ∙ ap₂ take (ap (λ n. n - c.self.inside.count - 1) len) nodes in
-    let none : c.self.inside.count ≡ 0 = c.if-self-eq0.true in
-    subst (λ (ns : List Node). Builds ns c.pop.new.self.items c.unwrap-length.result.length) (sym kept)
-    (dropped c.self.inside.nodes.items c.self.inside.outer.items c.self.inside.count c.self.invariant c.pop.new.self.items c.unwrap-length.result split none)
+pub invariant_of-self-2 : goal.invariant_of-self-2
+invariant_of-self-2 g c =
+    let nodes = c.self.inside.nodes in
+    let outer = c.self.inside.outer.items in
+    let count = c.self.inside.count in
+    let n = c.len-last.result in
+    let seen = depth-seen nodes outer count c.self.invariant in
+    let some : 0 < n = omega (arith, seen, c.len-last.ensures.value, ap (λ (v : Building). length v.outer) c.self.view_is, c.requires) in
+    let rest = take (n - 1) outer in
+    let o : Outer = get_or c.deref.result.now (n - 1) (record { length = 0; turns = 0 }) in
+    let split : outer ≡ rest ++ o ∷ [] = last-open outer c.deref.result.now n (record { length = 0; turns = 0 }) c.deref.ensures.0 c.len-last.ensures.value some in
+    let new = c.if-self-eq0.self-inside in
+    let closed : (new.outer.items ≡ outer) × Closed nodes outer count c.self.invariant rest o split new.nodes = elim c.if-self-eq0.branch [
+      | then-self-eq0 w ↦ (
+        ap (λ (x : Inside g.row.A.Denot). x.outer.items) w.self-inside-is,
+        closed_empty nodes outer count c.self.invariant rest o split new.nodes w.if-self-eq0.true
+            (ap (λ (x : Inside g.row.A.Denot). x.nodes) w.self-inside-is
+            ∙ (w.truncate.ensures ∙ ap (λ (k : ℕ). take (k - count - 1) nodes) c.len.ensures)),
+      )
+      | else-self-eq0+in_ok-close w ↦ (
+        ap (λ (x : Inside g.row.A.Denot). x.outer.items) w.self-inside-is,
+        closed_full nodes outer count c.self.invariant rest o split new.nodes (omega (arith, w.if-self-eq0.false))
+            (ap (λ (x : Inside g.row.A.Denot). x.nodes) w.self-inside-is
+            ∙ (w.in_ok-close.ensures.ok ∙ ap (λ (k : ℕ). set nodes (k - count - 1) (Open o.turns count) ++ Close o.turns count ∷ []) c.len.ensures)),
+      )
+    ] in
+    let outer_is : c.truncate-2.new.self.items ≡ rest = c.truncate-2.ensures.items ∙ ap (take (n - 1)) closed.0 in
+    let count_is : c.len-2.result - (c.len.result - count - 1 - o.length) ≡ length new.nodes - (length nodes - count - 1 - o.length) = ap₂ (λ (k m : ℕ). k - (m - count - 1 - o.length)) c.len-2.ensures c.len.ensures in
+    subst (λ (k : ℕ). Builds new.nodes c.truncate-2.new.self.items k) (sym count_is)
+    (subst (λ (os : List Outer). Builds new.nodes os (length new.nodes - (length nodes - count - 1 - o.length))) (sym outer_is) closed.1.builds)
 
-pub returns-then-self-eq0-clause-ok : goal.returns-then-self-eq0-clause-ok
-returns-then-self-eq0-clause-ok g c =
-    let split : c.self.inside.outer.items ≡ c.pop.new.self.items ++ c.unwrap-length.result ∷ [] = c.pop.ensures.items ∙ ap (λ o. c.pop.new.self.items ++ option_to_list o) c.unwrap-length.ensures in
-    let nodes : c.reserve.new.self.items ≡ c.self.inside.nodes.items = c.reserve.ensures.items in
-    let len : c.len.result ≡ length c.self.inside.nodes.items = omega (arith, c.len.ensures, ap length nodes) in
-    let kept : c.truncate.new.self.items ≡ take (length c.self.inside.nodes.items - c.self.inside.count - 1) c.self.inside.nodes.items =
-    c.truncate.ensures.items ∙ ap₂ take (ap (λ n. n - c.self.inside.count - 1) len) nodes in
-    let none : c.self.inside.count ≡ 0 = c.if-self-eq0.true in
-    subst (λ (v : Building). Closes v (building c.truncate.new.self.items c.pop.new.self.items)) c.self.view_is
-    (subst (λ (ns : List Node). Closes (building c.self.inside.nodes.items c.self.inside.outer.items) (building ns c.pop.new.self.items)) (sym kept)
-    (dropped-view c.self.inside.nodes.items c.self.inside.outer.items c.self.inside.count c.self.invariant c.pop.new.self.items c.unwrap-length.result split none))
-
-pub invariant_of-self-else-self-eq0 : goal.invariant_of-self-else-self-eq0
-invariant_of-self-else-self-eq0 g c =
-    let split : c.self.inside.outer.items ≡ c.pop.new.self.items ++ c.unwrap-length.result ∷ [] = c.pop.ensures.items ∙ ap (λ o. c.pop.new.self.items ++ option_to_list o) c.unwrap-length.ensures in
-    let nodes : c.reserve.new.self.items ≡ c.self.inside.nodes.items = c.reserve.ensures.items in
-    let len : c.len.result ≡ length c.self.inside.nodes.items = omega (arith, c.len.ensures, ap length nodes) in
-    let some : 0 < c.self.inside.count = omega (arith, c.if-self-eq0.false) in
-    let kept : c.push_reserved.new.self.items ≡ set c.self.inside.nodes.items (length c.self.inside.nodes.items - c.self.inside.count - 1) (Open c.unwrap-length.result.turns c.self.inside.count) ++ Close c.unwrap-length.result.turns c.self.inside.count ∷ [] =
-    c.push_reserved.ensures.items
-    ∙ ap₂ (λ (ns : List Node) (n : ℕ). set ns (n - c.self.inside.count - 1) (Open c.unwrap-length.result.turns c.self.inside.count) ++ Close c.unwrap-length.result.turns c.self.inside.count ∷ []) nodes len in
-    subst (λ (ns : List Node). Builds ns c.pop.new.self.items (c.self.inside.count + (c.unwrap-length.result.length + 2))) (sym kept)
-    (written c.self.inside.nodes.items c.self.inside.outer.items c.self.inside.count c.self.invariant c.pop.new.self.items c.unwrap-length.result split some)
-
-pub returns-else-self-eq0-clause-ok : goal.returns-else-self-eq0-clause-ok
-returns-else-self-eq0-clause-ok g c =
-    let split : c.self.inside.outer.items ≡ c.pop.new.self.items ++ c.unwrap-length.result ∷ [] = c.pop.ensures.items ∙ ap (λ o. c.pop.new.self.items ++ option_to_list o) c.unwrap-length.ensures in
-    let nodes : c.reserve.new.self.items ≡ c.self.inside.nodes.items = c.reserve.ensures.items in
-    let len : c.len.result ≡ length c.self.inside.nodes.items = omega (arith, c.len.ensures, ap length nodes) in
-    let some : 0 < c.self.inside.count = omega (arith, c.if-self-eq0.false) in
-    let kept : c.push_reserved.new.self.items ≡ set c.self.inside.nodes.items (length c.self.inside.nodes.items - c.self.inside.count - 1) (Open c.unwrap-length.result.turns c.self.inside.count) ++ Close c.unwrap-length.result.turns c.self.inside.count ∷ [] =
-    c.push_reserved.ensures.items
-    ∙ ap₂ (λ (ns : List Node) (n : ℕ). set ns (n - c.self.inside.count - 1) (Open c.unwrap-length.result.turns c.self.inside.count) ++ Close c.unwrap-length.result.turns c.self.inside.count ∷ []) nodes len in
-    subst (λ (v : Building). Closes v (building c.push_reserved.new.self.items c.pop.new.self.items)) c.self.view_is
-    (subst (λ (ns : List Node). Closes (building c.self.inside.nodes.items c.self.inside.outer.items) (building ns c.pop.new.self.items)) (sym kept)
-    (written-view c.self.inside.nodes.items c.self.inside.outer.items c.self.inside.count c.self.invariant c.pop.new.self.items c.unwrap-length.result split some))
+pub returns-clause-ok : goal.returns-clause-ok
+returns-clause-ok g c =
+    let nodes = c.self.inside.nodes in
+    let outer = c.self.inside.outer.items in
+    let count = c.self.inside.count in
+    let n = c.len-last.result in
+    let seen = depth-seen nodes outer count c.self.invariant in
+    let some : 0 < n = omega (arith, seen, c.len-last.ensures.value, ap (λ (v : Building). length v.outer) c.self.view_is, c.requires) in
+    let rest = take (n - 1) outer in
+    let o : Outer = get_or c.deref.result.now (n - 1) (record { length = 0; turns = 0 }) in
+    let split : outer ≡ rest ++ o ∷ [] = last-open outer c.deref.result.now n (record { length = 0; turns = 0 }) c.deref.ensures.0 c.len-last.ensures.value some in
+    let new = c.if-self-eq0.self-inside in
+    let closed : (new.outer.items ≡ outer) × Closed nodes outer count c.self.invariant rest o split new.nodes = elim c.if-self-eq0.branch [
+      | then-self-eq0 w ↦ (
+        ap (λ (x : Inside g.row.A.Denot). x.outer.items) w.self-inside-is,
+        closed_empty nodes outer count c.self.invariant rest o split new.nodes w.if-self-eq0.true
+            (ap (λ (x : Inside g.row.A.Denot). x.nodes) w.self-inside-is
+            ∙ (w.truncate.ensures ∙ ap (λ (k : ℕ). take (k - count - 1) nodes) c.len.ensures)),
+      )
+      | else-self-eq0+in_ok-close w ↦ (
+        ap (λ (x : Inside g.row.A.Denot). x.outer.items) w.self-inside-is,
+        closed_full nodes outer count c.self.invariant rest o split new.nodes (omega (arith, w.if-self-eq0.false))
+            (ap (λ (x : Inside g.row.A.Denot). x.nodes) w.self-inside-is
+            ∙ (w.in_ok-close.ensures.ok ∙ ap (λ (k : ℕ). set nodes (k - count - 1) (Open o.turns count) ++ Close o.turns count ∷ []) c.len.ensures)),
+      )
+    ] in
+    let outer_is : c.truncate-2.new.self.items ≡ rest = c.truncate-2.ensures.items ∙ ap (take (n - 1)) closed.0 in
+    subst (λ (v : Building). Closes v (building new.nodes c.truncate-2.new.self.items)) c.self.view_is
+    (subst (λ (os : List Outer). Closes (building nodes outer) (building new.nodes os)) (sym outer_is) closed.1.closes)

@@ -6,5 +6,5 @@ use Rattle.programs.proofs.builder.CircuitBuilder.depth.Goals as goal
 pub returns : goal.returns
 returns g c =
     c.len.ensures.value
-    ∙ depth-seen c.self.inside.nodes.items c.self.inside.outer.items c.self.inside.count c.self.invariant
+    ∙ depth-seen c.self.inside.nodes c.self.inside.outer.items c.self.inside.count c.self.invariant
     ∙ ap (λ (v : Building). length v.outer) c.self.view_is

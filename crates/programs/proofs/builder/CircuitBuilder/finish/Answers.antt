@@ -6,11 +6,11 @@ use Rattle.programs.proofs.builder.CircuitBuilder.finish.Goals as goal
 pub returns-clause-circuit : goal.returns-clause-circuit
 returns-clause-circuit g c =
     let f =
-    finished c.self.inside.nodes.items c.self.inside.outer.items c.self.inside.count c.self.invariant (ap (λ (v : Building). v.outer) c.self.view_is ∙ c.requires) in
+    finished c.self.inside.nodes c.self.inside.outer.items c.self.inside.count c.self.invariant (ap (λ (v : Building). v.outer) c.self.view_is ∙ c.requires) in
     f.circuit
 
 pub returns-clause-steps : goal.returns-clause-steps
 returns-clause-steps g c =
     let f =
-    finished c.self.inside.nodes.items c.self.inside.outer.items c.self.inside.count c.self.invariant (ap (λ (v : Building). v.outer) c.self.view_is ∙ c.requires) in
+    finished c.self.inside.nodes c.self.inside.outer.items c.self.inside.count c.self.invariant (ap (λ (v : Building). v.outer) c.self.view_is ∙ c.requires) in
     f.steps ∙ ap (λ (v : Building). v.here) c.self.view_is

@@ -7,5 +7,5 @@ use Rattle.programs.proofs.builder.CircuitBuilder.new.Goals as goal
 
 pub invariant_of-result : goal.invariant_of-result
 invariant_of-result g c =
-    subst (λ (ns : List Node). Builds ns c.new-2.result.items 0) (sym c.new.ensures.items)
+    subst (λ (ns : List Node). Builds ns c.new-2.result.items 0) (sym c.new.ensures)
     (subst (λ (os : List Outer). Builds [] os 0) (sym c.new-2.ensures) begins)

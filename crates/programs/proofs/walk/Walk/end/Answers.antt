@@ -18,7 +18,7 @@ invariant_of-result g c =
         circuit = held.circuit;
         short = held.few_steps;
         feedback = held.feedback;
-        place = moved (tree_of text.nodes.now) (ap length held.circuit.written) (sym c.new.ensures) (sym held.steps_counted) (last_place (tree_of text.nodes.now));
+        place = moved (tree_of text.nodes.now) (ap length held.circuit.written ∙ sym c.len.ensures) (sym c.new.ensures) (sym held.steps_counted) (last_place (tree_of text.nodes.now));
         counts = held.counted ∙ ap (counts_over no_counts) (sym (take_all text.steps steps (omega (arith, held.steps_counted))));
       };
     }

@@ -1,0 +1,49 @@
+-- Nodes as they are kept, and one block more.
+use Rattle.std.proofs.Common.{◌≡◌, ℕ, suc, ◌<◌, List, [], ◌∷◌, ◌++◌, length, set, refl, ap, ap₂, ◌∙◌, arith}
+use Rattle.std.specs.Prelude.{All}
+use Rattle.std.proofs.Math.Seq.{get_or-append_seam}
+use Rattle.std.proofs.lemmas.List.{get_or_append_left, map-append, map-set}
+use Rattle.programs.specs.declared.kept_node.BlockSize.{BlockSize}
+use Rattle.programs.specs.declared.kept_node.KeptNode.{KeptNode}
+use Rattle.programs.specs.declared.kept_node.KeptNode.TheVariants as kept
+use Rattle.programs.specs.declared.node.Node.{Node}
+use Rattle.programs.specs.declared.node.Node.TheVariants.{Open, Close}
+use Rattle.programs.specs.private.KeptNodes.{size_at, node_of, nodes_in, NamesBlockBelow}
+
+-- a size behind those that are there changes no node
+size_at-more : (sizes : List BlockSize) (size : BlockSize) (b : ℕ) → b < length sizes → size_at (sizes ++ size ∷ []) b ≡ size_at sizes b
+size_at-more sizes size b h = get_or_append_left sizes (size ∷ []) _ b h
+
+node_of-more : (sizes : List BlockSize) (size : BlockSize) (node : KeptNode) → NamesBlockBelow (length sizes) node → node_of (sizes ++ size ∷ []) node ≡ node_of sizes node
+node_of-more sizes size (kept.One gate q) h = refl
+node_of-more sizes size (kept.Two gate a b) h = refl
+node_of-more sizes size (kept.Collapse letter reset q) h = refl
+node_of-more sizes size (kept.CollapseRecorded letter reset inverted q) h = refl
+node_of-more sizes size (kept.CollapseFlipped letter reset inverted q entry) h = refl
+node_of-more sizes size (kept.CollapseWord p) h = refl
+node_of-more sizes size (kept.CollapseWordRecorded inverted p) h = refl
+node_of-more sizes size (kept.CollapseWordFlipped inverted p entry) h = refl
+node_of-more sizes size (kept.Fault entry) h = refl
+node_of-more sizes size (kept.Feedback letter q back) h = refl
+node_of-more sizes size kept.Unclosed h = refl
+node_of-more sizes size (kept.Open b) h = ap (λ (s : BlockSize). Open s.turns s.length) (size_at-more sizes size b h)
+node_of-more sizes size (kept.Close b) h = ap (λ (s : BlockSize). Close s.turns s.length) (size_at-more sizes size b h)
+
+nodes_in-more : (sizes : List BlockSize) (size : BlockSize) (nodes : List KeptNode) → All (NamesBlockBelow (length sizes)) nodes → nodes_in (sizes ++ size ∷ []) nodes ≡ nodes_in sizes nodes
+nodes_in-more sizes size [] h = refl
+nodes_in-more sizes size (node ∷ nodes) h =
+    ap₂ (λ (x : Node) (xs : List Node). x ∷ xs) (node_of-more sizes size node (h 0 node (omega arith)))
+    (nodes_in-more sizes size nodes (λ k d below. h (suc k) d (omega (arith, below))))
+
+-- a block closes: its size comes behind the others, its start is put where it was opened, and its end comes behind the nodes
+module _ (sizes : List BlockSize) (nodes : List KeptNode) (start b : ℕ) (size : BlockSize) where
+  size_is : b ≡ length sizes → size_at (sizes ++ size ∷ []) b ≡ size
+  size_is e = ap (size_at (sizes ++ size ∷ [])) e ∙ get_or-append_seam sizes size [] _
+
+  pub nodes_closed : b ≡ length sizes → All (NamesBlockBelow (length sizes)) nodes → nodes_in (sizes ++ size ∷ []) (set nodes start (kept.Open b) ++ kept.Close b ∷ []) ≡ set (nodes_in sizes nodes) start (Open size.turns size.length) ++ Close size.turns size.length ∷ []
+  nodes_closed e all =
+      map-append (node_of (sizes ++ size ∷ [])) (set nodes start (kept.Open b)) (kept.Close b ∷ [])
+      ∙ ap₂ (λ (xs : List Node) (s : BlockSize). xs ++ Close s.turns s.length ∷ [])
+      (map-set (node_of (sizes ++ size ∷ [])) nodes start (kept.Open b)
+      ∙ ap₂ (λ (xs : List Node) (s : BlockSize). set xs start (Open s.turns s.length)) (nodes_in-more sizes size nodes all) (size_is e))
+      (size_is e)

@@ -1,0 +1,267 @@
+ghost use Rattle.std.specs.Prelude.{◌≡◌, ℕ, List, length};
+ghost use Rattle.programs.specs.declared.kept_node.BlockSize.{BlockSize};
+ghost use Rattle.programs.specs.declared.node.Node.TheVariants.{Do, Open, Close};
+ghost use Rattle.programs.specs.declared.step.TextStep.TheVariants.{Collapse, CollapseWord};
+ghost use Rattle.programs.specs.private.KeptNodes.{node_of, recorded, flipped, NamesBlockBelow};
+
+use crate::node::Node;
+use crate::step::{Recording, TextStep};
+use gate_table::Gate;
+use pauli_word::Letter;
+
+/// How many turns a block has, and how many nodes are between its start and its end.
+#[derive(Clone, Copy)]
+pub(crate) struct BlockSize {
+    pub turns: u64,
+    pub length: usize,
+}
+
+/// A node as it is kept, in twelve bytes: whether and how a collapse is recorded is told apart here, and a block is named
+/// by the number of its size.
+#[derive(Clone, Copy)]
+pub(crate) enum KeptNode {
+    One {
+        gate: Gate,
+        q: u32,
+    },
+    Two {
+        gate: Gate,
+        a: u32,
+        b: u32,
+    },
+    Collapse {
+        letter: Letter,
+        reset: bool,
+        qubit: u32,
+    },
+    CollapseRecorded {
+        letter: Letter,
+        reset: bool,
+        inverted: bool,
+        qubit: u32,
+    },
+    CollapseFlipped {
+        letter: Letter,
+        reset: bool,
+        inverted: bool,
+        qubit: u32,
+        flip: u32,
+    },
+    CollapseWord {
+        product: u32,
+    },
+    CollapseWordRecorded {
+        inverted: bool,
+        product: u32,
+    },
+    CollapseWordFlipped {
+        inverted: bool,
+        product: u32,
+        flip: u32,
+    },
+    Fault(u32),
+    Feedback {
+        letter: Letter,
+        q: u32,
+        back: u32,
+    },
+    /// The start of a block that is still open, whose size isn't known yet.
+    Unclosed,
+    Open(u32),
+    Close(u32),
+}
+
+// A collapse of a letter as it is kept.
+fn kept_collapse(letter: Letter, qubit: u32, reset: bool, recording: Option<Recording>) -> KeptNode
+    ensures value { (sizes : List BlockSize) → node_of sizes result ≡ Do (Collapse letter qubit reset recording) }
+    ensures apart { NamesBlockBelow 0 result }
+{
+    match recording {
+        None => KeptNode::Collapse {
+            letter,
+            reset,
+            qubit,
+        },
+        Some(
+            Recording {
+                inverted,
+                flip: None,
+            },
+        ) => KeptNode::CollapseRecorded {
+            letter,
+            reset,
+            inverted,
+            qubit,
+        },
+        Some(
+            Recording {
+                inverted,
+                flip: Some(flip),
+            },
+        ) => KeptNode::CollapseFlipped {
+            letter,
+            reset,
+            inverted,
+            qubit,
+            flip,
+        },
+    }
+}
+
+// A collapse of a product as it is kept.
+fn kept_collapse_word(product: u32, recording: Option<Recording>) -> KeptNode
+    ensures value { (sizes : List BlockSize) → node_of sizes result ≡ Do (CollapseWord product recording) }
+    ensures apart { NamesBlockBelow 0 result }
+{
+    match recording {
+        None => KeptNode::CollapseWord { product },
+        Some(
+            Recording {
+                inverted,
+                flip: None,
+            },
+        ) => KeptNode::CollapseWordRecorded { inverted, product },
+        Some(
+            Recording {
+                inverted,
+                flip: Some(flip),
+            },
+        ) => KeptNode::CollapseWordFlipped {
+            inverted,
+            product,
+            flip,
+        },
+    }
+}
+
+/// A step as it is kept.
+pub(crate) fn kept_step(step: TextStep) -> KeptNode
+    ensures value { (sizes : List BlockSize) → node_of sizes result ≡ Do step }
+    ensures apart { NamesBlockBelow 0 result }
+{
+    match step {
+        TextStep::One { gate, q } => KeptNode::One { gate, q },
+        TextStep::Two { gate, a, b } => KeptNode::Two { gate, a, b },
+        TextStep::Collapse {
+            letter,
+            qubit,
+            reset,
+            recording,
+        } => kept_collapse(letter, qubit, reset, recording),
+        TextStep::CollapseWord { product, recording } => kept_collapse_word(product, recording),
+        TextStep::Fault(entry) => KeptNode::Fault(entry),
+        TextStep::Feedback { letter, q, back } => KeptNode::Feedback { letter, q, back },
+    }
+}
+
+// How a collapse is recorded whose record no fault flips.
+#[inline(always)]
+fn recorded(inverted: bool) -> Option<Recording>
+    ensures { result ≡ recorded inverted }
+{
+    Some(Recording {
+        inverted,
+        flip: None,
+    })
+}
+
+// How one is whose record a fault of this entry flips.
+#[inline(always)]
+fn flipped(inverted: bool, entry: u32) -> Option<Recording>
+    ensures { result ≡ flipped inverted entry }
+{
+    Some(Recording {
+        inverted,
+        flip: Some(entry),
+    })
+}
+
+// A collapse of a letter, as a node.
+#[inline(always)]
+fn collapse(letter: Letter, qubit: u32, reset: bool, recording: Option<Recording>) -> Node
+    ensures { result ≡ Do (Collapse letter qubit reset recording) }
+{
+    Node::Do(TextStep::Collapse {
+        letter,
+        qubit,
+        reset,
+        recording,
+    })
+}
+
+// A collapse of a product, as a node.
+#[inline(always)]
+fn collapse_word(product: u32, recording: Option<Recording>) -> Node
+    ensures { result ≡ Do (CollapseWord product recording) }
+{
+    Node::Do(TextStep::CollapseWord { product, recording })
+}
+
+// The start of a block of this size.
+#[inline(always)]
+fn start_of(size: BlockSize) -> Node
+    ensures { result ≡ Open size.turns size.length }
+{
+    Node::Open {
+        turns: size.turns,
+        length: size.length,
+    }
+}
+
+// The end of a block of this size.
+#[inline(always)]
+fn end_of(size: BlockSize) -> Node
+    ensures { result ≡ Close size.turns size.length }
+{
+    Node::Close {
+        turns: size.turns,
+        length: size.length,
+    }
+}
+
+/// The node that is kept so, where blocks have these sizes.
+#[inline(always)]
+pub(crate) fn node_of(kept: KeptNode, sizes: &[BlockSize]) -> Node
+    requires { NamesBlockBelow (length sizes.now) kept }
+    ensures { result ≡ node_of sizes.now kept }
+{
+    match kept {
+        KeptNode::One { gate, q } => Node::Do(TextStep::One { gate, q }),
+        KeptNode::Two { gate, a, b } => Node::Do(TextStep::Two { gate, a, b }),
+        KeptNode::Collapse {
+            letter,
+            reset,
+            qubit,
+        } => collapse(letter, qubit, reset, None),
+        KeptNode::CollapseRecorded {
+            letter,
+            reset,
+            inverted,
+            qubit,
+        } => collapse(letter, qubit, reset, recorded(inverted)),
+        KeptNode::CollapseFlipped {
+            letter,
+            reset,
+            inverted,
+            qubit,
+            flip,
+        } => collapse(letter, qubit, reset, flipped(inverted, flip)),
+        KeptNode::CollapseWord { product } => collapse_word(product, None),
+        KeptNode::CollapseWordRecorded { inverted, product } => {
+            collapse_word(product, recorded(inverted))
+        }
+        KeptNode::CollapseWordFlipped {
+            inverted,
+            product,
+            flip,
+        } => collapse_word(product, flipped(inverted, flip)),
+        KeptNode::Fault(entry) => Node::Do(TextStep::Fault(entry)),
+        KeptNode::Feedback { letter, q, back } => Node::Do(TextStep::Feedback { letter, q, back }),
+        KeptNode::Unclosed => Node::Open {
+            turns: 0,
+            length: 0,
+        },
+        KeptNode::Open(block) => start_of(sizes[block as usize]),
+        KeptNode::Close(block) => end_of(sizes[block as usize]),
+    }
+}

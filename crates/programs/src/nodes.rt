@@ -1,0 +1,115 @@
+//! The nodes of a circuit, each kept in few bytes.
+ghost use Rattle.std.specs.Prelude.{◌≡◌, ◌<◌, ◌^◌, [], ◌∷◌, ◌++◌, length, set, take, IfOk, OnOk, OnErr, slice_get};
+ghost use Rattle.programs.specs.declared.node.Node.TheVariants.{Do, Open, Close};
+
+use crate::kept_node::{BlockSize, KeptNode, kept_step, node_of};
+use crate::node::Node;
+use crate::step::TextStep;
+use std::alloc::{AllocError, Allocator};
+use std::marker::Model;
+
+/// The nodes of a circuit. Most circuits have few blocks, so their turns and lengths stand apart. A block that is still
+/// open has no turns and no nodes here.
+#[derive(Drop)]
+pub struct Nodes<A: Allocator + Copy> {
+    kept: Vec<KeptNode, A>,
+    sizes: Vec<BlockSize, A>,
+}
+
+impl<A: Allocator + Copy> Model for Nodes<A> {
+    ghost use Rattle.std.specs.Prelude.{List, All, length};
+    ghost use Rattle.programs.specs.declared.node.Node.{Node};
+    ghost use Rattle.programs.specs.private.KeptNodes.{nodes_in, NamesBlockBelow};
+
+    ghost Value = { List Node };
+
+    ghost view = { λ n. nodes_in n.sizes.items n.kept.items };
+
+    ghost invariant = { λ n. All (NamesBlockBelow (length n.sizes.items)) n.kept.items };
+}
+
+impl<A: Allocator + Copy> Nodes<A> {
+    /// No nodes. Allocates nothing.
+    pub(crate) fn new(alloc: A) -> Self
+        ensures { result ≡ [] }
+    {
+        Nodes {
+            kept: Vec::new(alloc),
+            sizes: Vec::new(alloc),
+        }
+    }
+
+    /// How many nodes there are.
+    #[inline(always)]
+    pub(crate) fn len(&self) -> usize
+        ensures { result ≡ length self.now }
+    {
+        self.kept.len()
+    }
+
+    /// The node at an index, if there is one.
+    #[inline(always)]
+    pub(crate) fn get(&self, index: usize) -> Option<Node>
+        ensures node { result ≡ slice_get self.now index }
+        ensures few { length self.now < 2 ^ 64 }
+    {
+        if index < self.kept.len() {
+            Some(node_of(self.kept[index], self.sizes.as_slice()))
+        } else {
+            None
+        }
+    }
+
+    /// Appends a step. It fails only where memory runs out.
+    pub(crate) fn push(&mut self, step: TextStep) -> Result<(), AllocError>
+        ensures ok { OnOk result (self.new ≡ self.old ++ Do step ∷ []) }
+        ensures few { OnOk result (length self.new < 2 ^ 64) }
+        ensures err { OnErr result (self.new ≡ self.old) }
+    {
+        self.kept.push(kept_step(step))?;
+        Ok(())
+    }
+
+    /// Appends the start of a block that is still open. It fails only where memory runs out.
+    pub(crate) fn open(&mut self) -> Result<(), AllocError>
+        ensures ok { OnOk result (self.new ≡ self.old ++ Open 0 0 ∷ []) }
+        ensures err { OnErr result (self.new ≡ self.old) }
+    {
+        self.kept.push(KeptNode::Unclosed)?;
+        Ok(())
+    }
+
+    /// Appends the end of a block, and puts its start where it was opened. It fails only where memory runs out.
+    pub(crate) fn close(&mut self, start: usize, size: BlockSize) -> Result<(), AllocError>
+        requires { start < length self.old }
+        ensures ok { OnOk result (self.new ≡ set self.old start (Open size.turns size.length) ++ Close size.turns size.length ∷ []) }
+        ensures err { OnErr result (self.new ≡ self.old) }
+    {
+        let block = number_of(self.sizes.len())?;
+
+        // Room for both first, so that nothing changes where memory runs out.
+        self.sizes.reserve(1)?;
+        self.kept.reserve(1)?;
+        self.sizes.push_reserved(size);
+        self.kept[start] = KeptNode::Open(block);
+        self.kept.push_reserved(KeptNode::Close(block));
+        Ok(())
+    }
+
+    /// Keeps the first nodes alone, if there are more.
+    pub(crate) fn truncate(&mut self, count: usize)
+        ensures { self.new ≡ take count self.old }
+    {
+        self.kept.truncate(count);
+    }
+}
+
+// The number of a block that comes after so many. So many that they have no number would take more memory than there is.
+fn number_of(blocks: usize) -> Result<u32, AllocError>
+    ensures { IfOk result (λ number. number ≡ blocks) }
+{
+    if blocks > u32::MAX as usize {
+        return Err(AllocError);
+    }
+    Ok(blocks as u32)
+}
