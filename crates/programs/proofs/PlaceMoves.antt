@@ -1,6 +1,6 @@
 -- Where the places of a circuit lead, by the nodes that are read there.
 use Rattle.std.proofs.Common.{◌≡◌, ℕ, zero, suc, ◌+◌, ◌-◌, ◌<◌, ◌≤◌, inl, inr, List, [], ◌∷◌, ◌++◌, length, refl, sym, ap, subst, ◌∙◌, arith, length-append, Option, None, Some}
-use Rattle.std.specs.Prelude.{slice_get}
+use Rattle.std.specs.Prelude.{slice_get, true}
 use Rattle.std.proofs.lemmas.Option.{slice_get_cases, none-some}
 use Rattle.programs.specs.declared.node.Node.{Node}
 use Rattle.programs.specs.declared.step.TextStep.{TextStep}
@@ -9,7 +9,7 @@ use Rattle.programs.specs.declared.place.Place.{Place}
 use Rattle.programs.specs.Trees.{nodes_of, tree_of, IsCircuit}
 use Rattle.programs.specs.Places.{IsPlace}
 use Rattle.programs.specs.private.Moves.{PastStep, IntoBlock, OutOfTurn, AtEnd, Forward, BackOverStep, BackIntoBlock, BackOutOfTurn, Backward}
-use Rattle.programs.specs.Steps.{IsAt, IsNoOpen, IsNoClose, node_before, GoesOver, StaysAtEnd, GoesBackOver, StaysAtStart}
+use Rattle.programs.specs.Steps.{is_step, IsAt, IsNoOpen, IsNoClose, node_before, GoesOver, StaysAtEnd, GoesBackOver, StaysAtStart}
 use Rattle.programs.proofs.Ends.{opened, closed, apart}
 use Rattle.programs.proofs.Moves.{forward, backward, at_start}
 use Rattle.programs.proofs.Places.{moved, bounded}
@@ -29,6 +29,17 @@ exactly n m count e h not_less = omega arith
 
 none_before : (n m : ℕ) → n ≡ m → (0 < m → ⊥) → n ≡ 0
 none_before n m e none = omega arith
+
+-- a step is among the nodes
+pub step_within : (nodes : List Node) (i : ℕ) → is_step (slice_get nodes i) ≡ true → i < length nodes
+step_within [] i h = cc
+step_within (node ∷ nodes) zero h = omega arith
+step_within (node ∷ nodes) (suc i) h = omega (arith, step_within nodes i h)
+
+-- and none is before the first
+pub step_after : (nodes : List Node) (i : ℕ) → is_step (node_before nodes i) ≡ true → 0 < i
+step_after nodes zero h = cc
+step_after nodes (suc i) h = omega arith
 
 module _ (nodes : List Node) (circuit : IsCircuit nodes) where
   there : (i : ℕ) (o : Option Node) → slice_get nodes i ≡ o → slice_get (nodes_of (tree_of nodes)) i ≡ o

@@ -1,6 +1,6 @@
 -- What moving a place does: some moves go over no step, others go over one.
 -- (Stim's circuit format, github.com/quantumlib/Stim, doc/file_format_stim_circuit.md; how it is kept is this project's own.)
-use Rattle.std.specs.Prelude.{⊤, ◌≡◌, ◌+◌, ℕ, zero, suc, List, length, Option, None, Some, slice_get}
+use Rattle.std.specs.Prelude.{⊤, ◌≡◌, ◌+◌, Bool, true, false, ℕ, zero, suc, List, length, Option, None, Some, slice_get}
 use Rattle.programs.specs.declared.node.Node.{Node}
 use Rattle.programs.specs.declared.step.TextStep.{TextStep}
 use Rattle.programs.specs.declared.node.Node.TheVariants.{Do, Open, Close}
@@ -29,6 +29,13 @@ IsNoClose None = ⊤
 IsNoClose (Some (Do step)) = ⊤
 IsNoClose (Some (Open turns size)) = ⊤
 IsNoClose (Some (Close turns size)) = ⊥
+
+-- whether there is a node, and it is a step
+abbrev pub is_step : Option Node → Bool
+is_step None = false
+is_step (Some (Do step)) = true
+is_step (Some (Open turns size)) = false
+is_step (Some (Close turns size)) = false
 
 -- the node before a place
 abbrev pub node_before : List Node → ℕ → Option Node

@@ -1,8 +1,9 @@
-ghost use Rattle.std.specs.Prelude.{◌≡◌, ℕ, List, length};
+ghost use Rattle.std.specs.Prelude.{◌≡◌, true, ℕ, List, length, Some};
 ghost use Rattle.programs.specs.declared.kept_node.BlockSize.{BlockSize};
-ghost use Rattle.programs.specs.declared.node.Node.TheVariants.{Do, Open, Close};
+ghost use Rattle.programs.specs.declared.node.Node.TheVariants.{Do};
 ghost use Rattle.programs.specs.declared.step.TextStep.TheVariants.{Collapse, CollapseWord};
 ghost use Rattle.programs.specs.private.KeptNodes.{node_of, recorded, flipped, NamesBlockBelow};
+ghost use Rattle.programs.specs.Steps.{is_step};
 
 use crate::node::Node;
 use crate::step::{Recording, TextStep};
@@ -16,8 +17,8 @@ pub(crate) struct BlockSize {
     pub length: usize,
 }
 
-/// A node as it is kept, in twelve bytes: whether and how a collapse is recorded is told apart here, and a block is named
-/// by the number of its size.
+/// A node as it is kept, in twelve bytes: its kind tells whether and how a collapse is recorded, and a block is named by the
+/// number of its size.
 #[derive(Clone, Copy)]
 pub(crate) enum KeptNode {
     One {
@@ -32,19 +33,19 @@ pub(crate) enum KeptNode {
     Collapse {
         letter: Letter,
         reset: bool,
-        qubit: u32,
+        q: u32,
     },
     CollapseRecorded {
         letter: Letter,
         reset: bool,
         inverted: bool,
-        qubit: u32,
+        q: u32,
     },
     CollapseFlipped {
         letter: Letter,
         reset: bool,
         inverted: bool,
-        qubit: u32,
+        q: u32,
         flip: u32,
     },
     CollapseWord {
@@ -72,16 +73,12 @@ pub(crate) enum KeptNode {
 }
 
 // A collapse of a letter as it is kept.
-fn kept_collapse(letter: Letter, qubit: u32, reset: bool, recording: Option<Recording>) -> KeptNode
-    ensures value { (sizes : List BlockSize) → node_of sizes result ≡ Do (Collapse letter qubit reset recording) }
+fn kept_collapse(letter: Letter, q: u32, reset: bool, recording: Option<Recording>) -> KeptNode
+    ensures value { (sizes : List BlockSize) → node_of sizes result ≡ Do (Collapse letter q reset recording) }
     ensures apart { NamesBlockBelow 0 result }
 {
     match recording {
-        None => KeptNode::Collapse {
-            letter,
-            reset,
-            qubit,
-        },
+        None => KeptNode::Collapse { letter, reset, q },
         Some(
             Recording {
                 inverted,
@@ -91,7 +88,7 @@ fn kept_collapse(letter: Letter, qubit: u32, reset: bool, recording: Option<Reco
             letter,
             reset,
             inverted,
-            qubit,
+            q,
         },
         Some(
             Recording {
@@ -102,7 +99,7 @@ fn kept_collapse(letter: Letter, qubit: u32, reset: bool, recording: Option<Reco
             letter,
             reset,
             inverted,
-            qubit,
+            q,
             flip,
         },
     }
@@ -176,76 +173,61 @@ fn flipped(inverted: bool, entry: u32) -> Option<Recording>
     })
 }
 
-// A collapse of a letter, as a node.
+// A collapse of a letter, recorded so.
 #[inline(always)]
-fn collapse(letter: Letter, qubit: u32, reset: bool, recording: Option<Recording>) -> Node
-    ensures { result ≡ Do (Collapse letter qubit reset recording) }
+fn collapse(letter: Letter, qubit: u32, reset: bool, recording: Option<Recording>) -> TextStep
+    ensures { result ≡ Collapse letter qubit reset recording }
 {
-    Node::Do(TextStep::Collapse {
+    TextStep::Collapse {
         letter,
         qubit,
         reset,
         recording,
-    })
-}
-
-// A collapse of a product, as a node.
-#[inline(always)]
-fn collapse_word(product: u32, recording: Option<Recording>) -> Node
-    ensures { result ≡ Do (CollapseWord product recording) }
-{
-    Node::Do(TextStep::CollapseWord { product, recording })
-}
-
-// The start of a block of this size.
-#[inline(always)]
-fn start_of(size: BlockSize) -> Node
-    ensures { result ≡ Open size.turns size.length }
-{
-    Node::Open {
-        turns: size.turns,
-        length: size.length,
     }
 }
 
-// The end of a block of this size.
+// A collapse of a product, recorded so.
 #[inline(always)]
-fn end_of(size: BlockSize) -> Node
-    ensures { result ≡ Close size.turns size.length }
+fn collapse_word(product: u32, recording: Option<Recording>) -> TextStep
+    ensures { result ≡ CollapseWord product recording }
 {
-    Node::Close {
-        turns: size.turns,
-        length: size.length,
-    }
+    TextStep::CollapseWord { product, recording }
 }
 
-/// The node that is kept so, where blocks have these sizes.
+/// Whether a step is kept so.
 #[inline(always)]
-pub(crate) fn node_of(kept: KeptNode, sizes: &[BlockSize]) -> Node
-    requires { NamesBlockBelow (length sizes.now) kept }
-    ensures { result ≡ node_of sizes.now kept }
+pub(crate) fn is_step(kept: KeptNode) -> bool
+    ensures { (sizes : List BlockSize) → result ≡ is_step (Some (node_of sizes kept)) }
+{
+    !matches!(
+        kept,
+        KeptNode::Unclosed | KeptNode::Open(_) | KeptNode::Close(_)
+    )
+}
+
+/// The step that is kept so.
+#[inline(always)]
+pub(crate) fn step_of(kept: KeptNode) -> TextStep
+    requires { (sizes : List BlockSize) × (is_step (Some (node_of sizes kept)) ≡ true) }
+    ensures { (sizes : List BlockSize) → node_of sizes kept ≡ Do result }
 {
     match kept {
-        KeptNode::One { gate, q } => Node::Do(TextStep::One { gate, q }),
-        KeptNode::Two { gate, a, b } => Node::Do(TextStep::Two { gate, a, b }),
-        KeptNode::Collapse {
-            letter,
-            reset,
-            qubit,
-        } => collapse(letter, qubit, reset, None),
+        KeptNode::One { gate, q } => TextStep::One { gate, q },
+        KeptNode::Two { gate, a, b } => TextStep::Two { gate, a, b },
+        KeptNode::Collapse { letter, reset, q } => collapse(letter, q, reset, None),
         KeptNode::CollapseRecorded {
             letter,
             reset,
             inverted,
-            qubit,
-        } => collapse(letter, qubit, reset, recorded(inverted)),
+            q,
+        } => collapse(letter, q, reset, recorded(inverted)),
         KeptNode::CollapseFlipped {
             letter,
             reset,
             inverted,
-            qubit,
+            q,
             flip,
-        } => collapse(letter, qubit, reset, flipped(inverted, flip)),
+        } => collapse(letter, q, reset, flipped(inverted, flip)),
         KeptNode::CollapseWord { product } => collapse_word(product, None),
         KeptNode::CollapseWordRecorded { inverted, product } => {
             collapse_word(product, recorded(inverted))
@@ -255,13 +237,30 @@ pub(crate) fn node_of(kept: KeptNode, sizes: &[BlockSize]) -> Node
             product,
             flip,
         } => collapse_word(product, flipped(inverted, flip)),
-        KeptNode::Fault(entry) => Node::Do(TextStep::Fault(entry)),
-        KeptNode::Feedback { letter, q, back } => Node::Do(TextStep::Feedback { letter, q, back }),
+        KeptNode::Fault(entry) => TextStep::Fault(entry),
+        KeptNode::Feedback { letter, q, back } => TextStep::Feedback { letter, q, back },
+        KeptNode::Unclosed | KeptNode::Open(_) | KeptNode::Close(_) => unreachable!(),
+    }
+}
+
+/// The node that is kept so, where blocks have these sizes.
+pub(crate) fn node_of(kept: KeptNode, sizes: &[BlockSize]) -> Node
+    requires { NamesBlockBelow (length sizes.now) kept }
+    ensures { result ≡ node_of sizes.now kept }
+{
+    match kept {
         KeptNode::Unclosed => Node::Open {
             turns: 0,
             length: 0,
         },
-        KeptNode::Open(block) => start_of(sizes[block as usize]),
-        KeptNode::Close(block) => end_of(sizes[block as usize]),
+        KeptNode::Open(block) => {
+            let BlockSize { turns, length } = sizes[block as usize];
+            Node::Open { turns, length }
+        }
+        KeptNode::Close(block) => {
+            let BlockSize { turns, length } = sizes[block as usize];
+            Node::Close { turns, length }
+        }
+        _ => Node::Do(step_of(kept)),
     }
 }

@@ -1,8 +1,9 @@
 //! The nodes of a circuit, each kept in few bytes.
-ghost use Rattle.std.specs.Prelude.{◌≡◌, ◌<◌, ◌^◌, [], ◌∷◌, ◌++◌, length, set, take, IfOk, OnOk, OnErr, slice_get};
+ghost use Rattle.std.specs.Prelude.{◌≡◌, ◌<◌, ◌^◌, [], ◌∷◌, ◌++◌, length, set, take, true, IfOk, OnOk, OnErr, Some, slice_get};
 ghost use Rattle.programs.specs.declared.node.Node.TheVariants.{Do, Open, Close};
+ghost use Rattle.programs.specs.Steps.{is_step};
 
-use crate::kept_node::{BlockSize, KeptNode, kept_step, node_of};
+use crate::kept_node::{BlockSize, KeptNode, is_step, kept_step, node_of, step_of};
 use crate::node::Node;
 use crate::step::TextStep;
 use std::alloc::{AllocError, Allocator};
@@ -47,8 +48,25 @@ impl<A: Allocator + Copy> Nodes<A> {
         self.kept.len()
     }
 
-    /// The node at an index, if there is one.
+    /// Whether a step stands at an index.
     #[inline(always)]
+    pub(crate) fn is_step(&self, index: usize) -> bool
+        ensures step { result ≡ is_step (slice_get self.now index) }
+        ensures few { length self.now < 2 ^ 64 }
+    {
+        index < self.kept.len() && is_step(self.kept[index])
+    }
+
+    /// The step that stands at an index.
+    #[inline(always)]
+    pub(crate) fn step(&self, index: usize) -> TextStep
+        requires { is_step (slice_get self.now index) ≡ true }
+        ensures { slice_get self.now index ≡ Some (Do result) }
+    {
+        step_of(self.kept[index])
+    }
+
+    /// The node at an index, if there is one.
     pub(crate) fn get(&self, index: usize) -> Option<Node>
         ensures node { result ≡ slice_get self.now index }
         ensures few { length self.now < 2 ^ 64 }
@@ -104,7 +122,7 @@ impl<A: Allocator + Copy> Nodes<A> {
     }
 }
 
-// The number of a block that comes after so many. So many that they have no number would take more memory than there is.
+// The number of a block that comes after so many. Blocks without a number would take more memory than there is.
 fn number_of(blocks: usize) -> Result<u32, AllocError>
     ensures { IfOk result (λ number. number ≡ blocks) }
 {

@@ -1,6 +1,6 @@
-ghost use Rattle.std.specs.Prelude.{◌≡◌, ◌<◌, ◌+◌, ◌^◌, ℕ, length, None, IfSome, slice_get};
+ghost use Rattle.std.specs.Prelude.{◌≡◌, ◌<◌, ◌+◌, ◌^◌, false, ℕ, length, None, IfSome, slice_get};
 ghost use Rattle.programs.specs.Trees.{IsCircuit};
-ghost use Rattle.programs.specs.Steps.{IsAt, KeepsStep, IsNoOpen, IsNoClose, NextStep, PreviousStep, node_before};
+ghost use Rattle.programs.specs.Steps.{IsAt, KeepsStep, IsNoOpen, IsNoClose, NextStep, PreviousStep, is_step, node_before};
 
 use crate::node::Node;
 use crate::nodes::Nodes;
@@ -81,32 +81,35 @@ fn enter_turns<A: Allocator + Copy>(nodes: &Nodes<A>, place: &mut Place)
     }
 }
 
-// Goes forward to a place before a step, or to the end. Most places are before a step, and nothing is to be done there.
-#[inline(always)]
-fn go_to_step<A: Allocator + Copy>(nodes: &Nodes<A>, place: &mut Place)
-    requires circuit { IsCircuit nodes.now }
-    requires place { (k : ℕ) × IsAt nodes.now place.old k }
-    ensures kept { KeepsStep nodes.now place.old place.new }
-    ensures no_close { IsNoClose (slice_get nodes.now place.new.index) }
-    ensures no_open { IsNoOpen (slice_get nodes.now place.new.index) }
-{
-    if let Some(Node::Do(_)) = nodes.get(place.index) {
-        return;
-    }
-    go_past_turns(nodes, place);
-}
-
-// Goes forward over the ends and starts of turns, which few places are at.
+// Goes forward over the ends and starts of turns, which few places are at. Answers whether a step follows then.
 #[inline(never)]
-fn go_past_turns<A: Allocator + Copy>(nodes: &Nodes<A>, place: &mut Place)
+fn go_past_turns<A: Allocator + Copy>(nodes: &Nodes<A>, place: &mut Place) -> bool
     requires circuit { IsCircuit nodes.now }
     requires place { (k : ℕ) × IsAt nodes.now place.old k }
     ensures kept { KeepsStep nodes.now place.old place.new }
-    ensures no_close { IsNoClose (slice_get nodes.now place.new.index) }
-    ensures no_open { IsNoOpen (slice_get nodes.now place.new.index) }
+    ensures step { result ≡ is_step (slice_get nodes.now place.new.index) }
+    ensures end { result ≡ false → slice_get nodes.now place.new.index ≡ None }
+    ensures few { length nodes.now < 2 ^ 64 }
 {
     leave_turns(nodes, place);
     enter_turns(nodes, place);
+    nodes.is_step(place.index)
+}
+
+// Goes forward to a place before a step, as most places are, or to the end. Answers whether a step follows then.
+#[inline(always)]
+fn go_to_step<A: Allocator + Copy>(nodes: &Nodes<A>, place: &mut Place) -> bool
+    requires circuit { IsCircuit nodes.now }
+    requires place { (k : ℕ) × IsAt nodes.now place.old k }
+    ensures kept { KeepsStep nodes.now place.old place.new }
+    ensures step { result ≡ is_step (slice_get nodes.now place.new.index) }
+    ensures end { result ≡ false → slice_get nodes.now place.new.index ≡ None }
+    ensures few { length nodes.now < 2 ^ 64 }
+{
+    if nodes.is_step(place.index) {
+        return true;
+    }
+    go_past_turns(nodes, place)
 }
 
 // Answers the step after a place, and goes over it.
@@ -116,14 +119,12 @@ pub fn next<A: Allocator + Copy>(nodes: &Nodes<A>, place: &mut Place) -> Option<
     requires place { (k : ℕ) × IsAt nodes.now place.old k }
     ensures { NextStep nodes.now place.old place.new result }
 {
-    go_to_step(nodes, place);
-    match nodes.get(place.index) {
-        Some(Node::Do(step)) => {
-            place.index += 1;
-            Some(step)
-        }
-        _ => None,
+    if !go_to_step(nodes, place) {
+        return None;
     }
+    let index = place.index;
+    place.index += 1;
+    Some(nodes.step(index))
 }
 
 // Goes back over the starts of turns, to a place that isn't after one.
@@ -159,32 +160,33 @@ fn enter_turns_back<A: Allocator + Copy>(nodes: &Nodes<A>, place: &mut Place)
     }
 }
 
-// Goes back to a place after a step, or to the start. Most places are after a step, and nothing is to be done there.
-#[inline(always)]
-fn go_back_to_step<A: Allocator + Copy>(nodes: &Nodes<A>, place: &mut Place)
-    requires circuit { IsCircuit nodes.now }
-    requires place { (k : ℕ) × IsAt nodes.now place.old k }
-    ensures kept { KeepsStep nodes.now place.old place.new }
-    ensures no_open { IsNoOpen (node_before nodes.now place.new.index) }
-    ensures no_close { IsNoClose (node_before nodes.now place.new.index) }
-{
-    if let Some(Node::Do(_)) = node_before(nodes, place.index) {
-        return;
-    }
-    go_back_past_turns(nodes, place);
-}
-
-// Goes back over the starts and ends of turns, which few places are at.
+// Goes back over the starts and ends of turns, which few places are at. Answers whether a step is before then.
 #[inline(never)]
-fn go_back_past_turns<A: Allocator + Copy>(nodes: &Nodes<A>, place: &mut Place)
+fn go_back_past_turns<A: Allocator + Copy>(nodes: &Nodes<A>, place: &mut Place) -> bool
     requires circuit { IsCircuit nodes.now }
     requires place { (k : ℕ) × IsAt nodes.now place.old k }
     ensures kept { KeepsStep nodes.now place.old place.new }
-    ensures no_open { IsNoOpen (node_before nodes.now place.new.index) }
-    ensures no_close { IsNoClose (node_before nodes.now place.new.index) }
+    ensures step { result ≡ is_step (node_before nodes.now place.new.index) }
+    ensures start { result ≡ false → node_before nodes.now place.new.index ≡ None }
 {
     leave_turns_back(nodes, place);
     enter_turns_back(nodes, place);
+    is_after_step(nodes, place.index)
+}
+
+// Goes back to a place after a step, as most places are, or to the start. Answers whether a step is before then.
+#[inline(always)]
+fn go_back_to_step<A: Allocator + Copy>(nodes: &Nodes<A>, place: &mut Place) -> bool
+    requires circuit { IsCircuit nodes.now }
+    requires place { (k : ℕ) × IsAt nodes.now place.old k }
+    ensures kept { KeepsStep nodes.now place.old place.new }
+    ensures step { result ≡ is_step (node_before nodes.now place.new.index) }
+    ensures start { result ≡ false → node_before nodes.now place.new.index ≡ None }
+{
+    if is_after_step(nodes, place.index) {
+        return true;
+    }
+    go_back_past_turns(nodes, place)
 }
 
 // Answers the step before a place, and goes back over it.
@@ -194,18 +196,22 @@ pub fn previous<A: Allocator + Copy>(nodes: &Nodes<A>, place: &mut Place) -> Opt
     requires place { (k : ℕ) × IsAt nodes.now place.old k }
     ensures { PreviousStep nodes.now place.old place.new result }
 {
-    go_back_to_step(nodes, place);
-    match node_before(nodes, place.index) {
-        Some(Node::Do(step)) => {
-            place.index -= 1;
-            Some(step)
-        }
-        _ => None,
+    if !go_back_to_step(nodes, place) {
+        return None;
     }
+    place.index -= 1;
+    Some(nodes.step(place.index))
+}
+
+// Whether the node before a place is a step.
+#[inline(always)]
+fn is_after_step<A: Allocator + Copy>(nodes: &Nodes<A>, index: usize) -> bool
+    ensures { result ≡ is_step (node_before nodes.now index) }
+{
+    index > 0 && nodes.is_step(index - 1)
 }
 
 // The node before a place.
-#[inline(always)]
 fn node_before<A: Allocator + Copy>(nodes: &Nodes<A>, index: usize) -> Option<Node>
     ensures node { result ≡ node_before nodes.now index }
     ensures few { IfSome result (λ node. length nodes.now < 2 ^ 64) }

@@ -1,17 +1,17 @@
-use Rattle.std.proofs.Common.{◌≡◌, Some, None}
-use Rattle.programs.specs.Steps.{node_before}
-use Rattle.programs.specs.declared.node.Node.TheVariants.{Do}
-use Rattle.programs.proofs.PlaceMoves.{back_over_step, at_the_start}
+use Rattle.std.proofs.Common.{◌≡◌, ◌-◌, ◌+◌, ◌∙◌, sym, arith}
+use Rattle.programs.proofs.PlaceMoves.{step_after, node_before-suc, back_over_step, at_the_start}
 use Rattle.programs.proofs.place.previous.Goals as goal
 
-pub returns-in-Some-Do : goal.returns-in-Some-Do
-returns-in-Some-Do g c k h =
-    let here = c.go_back_to_step.ensures.kept k h in
-    let node : node_before c.args.nodes.now c.go_back_to_step.new.place.index ≡ Some (Do c.in-Some-Do.step) = cc in
-    back_over_step c.args.nodes.now c.requires.circuit c.args.place.now c.go_back_to_step.new.place k c.in-Some-Do.step here node
+pub returns-then-not-go_back_to_step : goal.returns-then-not-go_back_to_step
+returns-then-not-go_back_to_step g c k h =
+    at_the_start c.args.nodes.now c.requires.circuit c.args.place.now c.go_back_to_step.new.place k (c.go_back_to_step.ensures.kept k h)
+    (c.go_back_to_step.ensures.start c.if-not-go_back_to_step.true)
 
-pub returns-in_default-2 : goal.returns-in_default-2
-returns-in_default-2 g c k h =
-    let here = c.go_back_to_step.ensures.kept k h in
-    let node : node_before c.args.nodes.now c.go_back_to_step.new.place.index ≡ None = cc in
-    at_the_start c.args.nodes.now c.requires.circuit c.args.place.now c.go_back_to_step.new.place k here node
+pub returns : goal.returns
+returns g c k h =
+    let nodes = c.args.nodes.now in
+    let index = c.go_back_to_step.new.place.index in
+    let some = step_after nodes index (sym c.go_back_to_step.ensures.step ∙ c.if-not-go_back_to_step.false) in
+    let one_less : index ≡ index - 1 + 1 = omega (arith, some) in
+    back_over_step nodes c.requires.circuit c.args.place.now c.go_back_to_step.new.place k c.step.result
+    (c.go_back_to_step.ensures.kept k h) (node_before-suc nodes c.requires.circuit (index - 1) index one_less ∙ c.step.ensures)
