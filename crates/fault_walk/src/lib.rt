@@ -18,6 +18,7 @@ pub struct FoundFault {
 }
 
 /// Goes forward over the next fault, and answers it; none where there is no further one.
+#[inline(always)]
 pub fn next_fault<'a, 'p, A: Allocator + Copy>(walk: &mut Walk<'a, 'p, A>) -> Option<FoundFault>
     // `Program::well_formed` gives this for each program.
     requires { IsWellFormed walk.old.program.listing }
