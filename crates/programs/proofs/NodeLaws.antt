@@ -35,7 +35,7 @@ nodes_in-more sizes size (node ∷ nodes) h =
     ap₂ (λ (x : Node) (xs : List Node). x ∷ xs) (node_of-more sizes size node (h 0 node (omega arith)))
     (nodes_in-more sizes size nodes (λ k d below. h (suc k) d (omega (arith, below))))
 
--- a block closes: its size comes behind the others, its start is put where it was opened, and its end comes behind the nodes
+-- a block closes: its size comes behind the others, its start stands where it was opened, and its end behind the nodes
 module _ (sizes : List BlockSize) (nodes : List KeptNode) (start b : ℕ) (size : BlockSize) where
   size_is : b ≡ length sizes → size_at (sizes ++ size ∷ []) b ≡ size
   size_is e = ap (size_at (sizes ++ size ∷ [])) e ∙ get_or-append_seam sizes size [] _

@@ -38,7 +38,7 @@ pub record Frame : Type 0 where
   pub before : Tree
   pub turns : ℕ
 
--- the nodes of open blocks, the outermost first, and of the tree in the innermost: the start of an open block says no size
+-- the nodes of open blocks, the outermost first, and of the tree in the innermost: the start of an open one says no size
 abbrev pub flat : List Frame → Tree → List Node
 flat [] t = nodes_of t
 flat (f ∷ fs) t = nodes_of f.before ++ Open 0 0 ∷ flat fs t

@@ -17,8 +17,8 @@ pub(crate) struct BlockSize {
     pub length: usize,
 }
 
-/// A node as it is kept, in twelve bytes: whether and how a collapse is recorded is told apart here, and a block is named
-/// by the number of its size.
+/// A node as it is kept, in twelve bytes: its kind tells whether and how a collapse is recorded, and a block is named by the
+/// number of its size.
 #[derive(Clone, Copy)]
 pub(crate) enum KeptNode {
     One {

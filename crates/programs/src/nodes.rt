@@ -42,7 +42,7 @@ impl<A: Allocator + Copy> Nodes<A> {
 
     /// How many nodes there are.
     #[inline(always)]
-    pub fn len(&self) -> usize
+    pub(crate) fn len(&self) -> usize
         ensures { result ≡ length self.now }
     {
         self.kept.len()
@@ -126,7 +126,7 @@ impl<A: Allocator + Copy> Nodes<A> {
     }
 }
 
-// The number of a block that comes after so many. So many that they have no number would take more memory than there is.
+// The number of a block that comes after so many. Blocks without a number would take more memory than there is.
 fn number_of(blocks: usize) -> Result<u32, AllocError>
     ensures { IfOk result (λ number. number ≡ blocks) }
 {

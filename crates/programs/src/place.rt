@@ -96,7 +96,7 @@ fn go_past_turns<A: Allocator + Copy>(nodes: &Nodes<A>, place: &mut Place) -> bo
     nodes.is_step(place.index)
 }
 
-// Goes forward to a place before a step, or to the end, and answers whether a step follows. Most places are before a step.
+// Goes forward to a place before a step, as most places are, or to the end. Answers whether a step follows then.
 #[inline(always)]
 fn go_to_step<A: Allocator + Copy>(nodes: &Nodes<A>, place: &mut Place) -> bool
     requires circuit { IsCircuit nodes.now }
@@ -174,7 +174,7 @@ fn go_back_past_turns<A: Allocator + Copy>(nodes: &Nodes<A>, place: &mut Place) 
     is_after_step(nodes, place.index)
 }
 
-// Goes back to a place after a step, or to the start, and answers whether a step is before. Most places are after a step.
+// Goes back to a place after a step, as most places are, or to the start. Answers whether a step is before then.
 #[inline(always)]
 fn go_back_to_step<A: Allocator + Copy>(nodes: &Nodes<A>, place: &mut Place) -> bool
     requires circuit { IsCircuit nodes.now }
