@@ -7,22 +7,12 @@ use Rattle.pauli_word.specs.declared.letter.Letter.{Letter}
 use Rattle.pauli_word.specs.declared.letter.Letter.TheVariants.{I}
 use Rattle.pauli_word.specs.Words.{letter_at}
 use Rattle.step_model.specs.Listing.{is_I}
+use Rattle.step_model.proofs.RangeLemmas.{range-append}
 use Rattle.fault_list.specs.FaultLines.{factor_text, factor_at}
 
 -- those of the qubits below one
 abbrev pub factors_below : List Letter → ℕ → List (List ℕ)
 factors_below w q = flat_map (factor_at w) (range_with_len 0 q)
-
-pub range-append : (a m n : ℕ) → range_with_len a (m + n) ≡ range_with_len a m ++ range_with_len (a + m) n
-range-append a zero n =
-    let start : a ≡ a + 0 = omega arith in
-    let count : 0 + n ≡ n = omega arith in
-    ap (range_with_len a) count ∙ ap (λ b. range_with_len b n) start
-range-append a (suc m) n =
-    let count : suc m + n ≡ suc (m + n) = omega arith in
-    let start : a + 1 + m ≡ a + suc m = omega arith in
-    ap (range_with_len a) count
-    ∙ ap (λ xs. a ∷ xs) (range-append (a + 1) m n ∙ ap (λ b. range_with_len (a + 1) m ++ range_with_len b n) start)
 
 pub none_among : (w : List Letter) (from n : ℕ) → ((q : ℕ) → from ≤ q → q < from + n → letter_at w q ≡ I) → flat_map (factor_at w) (range_with_len from n) ≡ []
 none_among w from zero none = refl

@@ -6,7 +6,7 @@ use Rattle.streams.specs.Held.{Held}
 use Rattle.streams.specs.Pushed.{Pushes}
 use Rattle.streams.proofs.Pushing.{Pushes-nil, Pushes-trans}
 use Rattle.fault_list.specs.private.HeldLines.{PushesSome}
-use Rattle.fault_list.proofs.FactorLemmas.{range-append}
+use Rattle.step_model.proofs.RangeLemmas.{range-append}
 
 -- the texts of the first numbers and of the next one
 one_more : (f : ℕ → List ℕ) (n : ℕ) → flat_map f (range_with_len 0 n) ++ f n ≡ flat_map f (range_with_len 0 (n + 1))

@@ -18,7 +18,8 @@ use Rattle.step_model.specs.WellFormed.{TermsFit}
 use Rattle.step_model.proofs.StepNumbers.{length-word_of_terms}
 use Rattle.fault_list.specs.FaultLines.{factor_text, factor_at, factors, product_text, word_text}
 use Rattle.fault_list.specs.private.TermLetters.{letter_in, is_ordered, starred_factors}
-use Rattle.fault_list.proofs.FactorLemmas.{range-append, none_among}
+use Rattle.step_model.proofs.RangeLemmas.{range-append}
+use Rattle.fault_list.proofs.FactorLemmas.{none_among}
 use Rattle.fault_list.proofs.TermLemmas.{letter_at-word, no_term, term_at}
 
 -- what the test says of the first one

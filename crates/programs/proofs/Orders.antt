@@ -1,11 +1,12 @@
 -- The records and faults of an unrolled text are in order, and feedback is by earlier records.
-use Rattle.std.proofs.Common.{◌≡◌, ℕ, zero, suc, ◌+◌, ◌-◌, true, List, [], ◌∷◌, ◌++◌, length, Option, None, Some, refl, ap, ap₂, ◌∙◌, arith, length-append}
+use Rattle.std.proofs.Common.{◌≡◌, ℕ, ◌+◌, ◌-◌, true, List, [], ◌∷◌, ◌++◌, length, Option, None, Some, refl, sym, ap, ap₂, ◌∙◌, arith, length-append}
 use Rattle.std.specs.List.{range_with_len}
 use Rattle.std.specs.Prelude.{option_map}
 use Rattle.std.specs.Option.{option_to_list}
 use Rattle.std.proofs.lemmas.List.FromFn.{length-range_with_len}
 use Rattle.std.proofs.lemmas.Bool.{and_from, lt-ltb}
 use Rattle.step_model.specs.declared.step.Term.{Term}
+use Rattle.step_model.proofs.RangeLemmas.{range-append}
 use Rattle.step_model.specs.Listing.{ListedStep, Measured, Word, Collapse, word_of_terms, step_records}
 use Rattle.programs.specs.Kept.{Kept}
 use Rattle.step_model.specs.WellFormed.{step_faults, records_made, faults_named, is_earlier, feeds_earlier, collapse_count}
@@ -46,15 +47,6 @@ step_faults_are n products c (text.CollapseWord p r) = faults_of_collapse (Word 
 step_faults_are n products c (text.Fault x) = refl
 step_faults_are n products c (text.Feedback letter q back) = refl
 
-range-append : (a m n b : ℕ) → b ≡ a + m → range_with_len a m ++ range_with_len b n ≡ range_with_len a (m + n)
-range-append a zero n b e =
-    let same : b ≡ a = omega arith in
-    let sum : n ≡ zero + n = omega arith in
-    ap (λ i. range_with_len i n) same ∙ ap (range_with_len a) sum
-range-append a (suc m) n b e =
-    let sum : suc (m + n) ≡ suc m + n = omega arith in
-    ap (λ xs. a ∷ xs) (range-append (a + 1) m n b (omega arith)) ∙ ap (range_with_len a) sum
-
 -- how many records and faults a list of steps makes
 abbrev pub total_records : List TextStep → ℕ
 total_records [] = 0
@@ -68,13 +60,13 @@ pub records_are_in_order : (n : ℕ) (products : List (List Term)) (c : Counts) 
 records_are_in_order n products c [] = refl
 records_are_in_order n products c (s ∷ steps) =
     ap₂ ◌++◌ (step_records_are n products c s) (records_are_in_order n products (counts_after c s) steps)
-    ∙ range-append c.records (made_by s).records (total_records steps) (c.records + (made_by s).records) refl
+    ∙ sym (range-append c.records (made_by s).records (total_records steps))
 
 pub faults_are_in_order : (n : ℕ) (products : List (List Term)) (c : Counts) (steps : List TextStep) → faults_named (listed_steps n products c steps) ≡ range_with_len c.faults (total_faults steps)
 faults_are_in_order n products c [] = refl
 faults_are_in_order n products c (s ∷ steps) =
     ap₂ ◌++◌ (step_faults_are n products c s) (faults_are_in_order n products (counts_after c s) steps)
-    ∙ range-append c.faults (made_by s).faults (total_faults steps) (c.faults + (made_by s).faults) refl
+    ∙ sym (range-append c.faults (made_by s).faults (total_faults steps))
 
 pub length-made_faults : (entries : List Kept) (c : Counts) (steps : List TextStep) → length (made_faults entries c steps) ≡ total_faults steps
 length-made_faults entries c [] = refl

@@ -1,11 +1,12 @@
 -- The lines of shots, batch after batch.
-use Rattle.std.proofs.Common.{◌≡◌, ℕ, zero, suc, ◌+◌, ◌*◌, ◌<◌, ◌≤◌, List, [], ◌∷◌, ◌++◌, length, refl, sym, ap, ap₂, ◌∙◌, arith}
+use Rattle.std.proofs.Common.{◌≡◌, ℕ, zero, suc, ◌+◌, ◌*◌, ◌<◌, ◌≤◌, List, [], ◌++◌, length, refl, sym, ap, ap₂, ◌∙◌, arith}
 use Rattle.std.specs.List.{flat_map, range_with_len}
 use Rattle.std.proofs.Math.Nat.{add-mul}
 use Rattle.std.proofs.lemmas.Grind.{flat_map-append}
 use Rattle.std.proofs.lemmas.List.{length-map}
 use Rattle.rand_pcg.specs.Lcg.{Lcg}
 use Rattle.step_model.specs.Listing.{Listing, ListedFault}
+use Rattle.step_model.proofs.RangeLemmas.{range-append}
 use Rattle.bit_rows.specs.Lanes.{lane}
 use Rattle.forward_sim.specs.Drawn.{after_words, bounds_of, drawn_coins, drawn_faults, after_shots}
 use Rattle.forward_sim.specs.Shots.{AreDrawn}
@@ -14,18 +15,6 @@ use Rattle.sampling.specs.private.LaneLines.{lane_line, lane_lines}
 use Rattle.sampling.specs.Lines.{line_of}
 use Rattle.sampling.specs.Sampled.{lines_from, shot_generator}
 use Rattle.sampling.specs.Shown.{ShownOf, shown_line}
-
--- so many numbers, and then so many more
-range-append : (a m n : ℕ) → range_with_len a (m + n) ≡ range_with_len a m ++ range_with_len (a + m) n
-range-append a zero n =
-    let start : a ≡ a + 0 = omega arith in
-    let count : 0 + n ≡ n = omega arith in
-    ap (range_with_len a) count ∙ ap (λ b. range_with_len b n) start
-range-append a (suc m) n =
-    let count : suc m + n ≡ suc (m + n) = omega arith in
-    let start : a + 1 + m ≡ a + suc m = omega arith in
-    ap (range_with_len a) count
-    ∙ ap (λ xs. a ∷ xs) (range-append (a + 1) m n ∙ ap (λ b. range_with_len (a + 1) m ++ range_with_len b n) start)
 
 -- texts by numbers from elsewhere on
 texts_moved : (f h : ℕ → List ℕ) (done k n : ℕ) → ((j : ℕ) → k ≤ j → j < k + n → f (done + j) ≡ h j)

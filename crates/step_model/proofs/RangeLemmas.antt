@@ -1,5 +1,5 @@
 -- The numbers of a range, and those of them that pass a test.
-use Rattle.std.proofs.Common.{◌≡◌, ◌≢◌, ℕ, zero, suc, ◌+◌, ◌≤◌, ◌<◌, Bool, true, false, cond, ◌||◌, eqb, List, [], ◌∷◌, inl, inr, refl, ap, ap₂, sym, ◌∙◌, arith, ne_eqb, eq-eqb}
+use Rattle.std.proofs.Common.{◌≡◌, ◌≢◌, ℕ, zero, suc, ◌+◌, ◌≤◌, ◌<◌, Bool, true, false, cond, ◌||◌, eqb, List, ◌∷◌, ◌++◌, inl, inr, refl, ap, ap₂, sym, ◌∙◌, arith, ne_eqb, eq-eqb}
 use Rattle.std.specs.List.{range_with_len, list_any, filter}
 use Rattle.std.specs.List.Sorted.{IsStrictlyIncreasing}
 use Rattle.std.proofs.lemmas.Bool.{cases_eq}
@@ -11,6 +11,18 @@ range_rises a n k h =
     let here = get_or-range_with_len a n k 0 (omega arith) in
     let after = get_or-range_with_len a n (k + 1) 0 (omega arith) in
     omega arith
+
+-- so many numbers, and then so many more
+pub range-append : (a m n : ℕ) → range_with_len a (m + n) ≡ range_with_len a m ++ range_with_len (a + m) n
+range-append a zero n =
+    let start : a ≡ a + 0 = omega arith in
+    let count : 0 + n ≡ n = omega arith in
+    ap (range_with_len a) count ∙ ap (λ b. range_with_len b n) start
+range-append a (suc m) n =
+    let count : suc m + n ≡ suc (m + n) = omega arith in
+    let start : a + 1 + m ≡ a + suc m = omega arith in
+    ap (range_with_len a) count
+    ∙ ap (λ xs. a ∷ xs) (range-append (a + 1) m n ∙ ap (λ b. range_with_len (a + 1) m ++ range_with_len b n) start)
 
 -- a number is among those of a range that pass a test exactly where it passes
 

@@ -1,5 +1,5 @@
 -- Word by word.
-use Rattle.std.proofs.Common.{◌≡◌, ℕ, ◌<◌, false, length, get_or, length-set, refl, ◌∙◌, arith}
+use Rattle.std.proofs.Common.{◌≡◌, ℕ, false, get_or, length-set, refl, ◌∙◌, arith}
 use Rattle.bit_rows.specs.Lanes.{lane_bit}
 use Rattle.step_model.specs.Targets.{difference}
 use Rattle.frames.specs.Batches.{shot_records}
