@@ -42,7 +42,7 @@ impl<A: Allocator + Copy> Nodes<A> {
 
     /// How many nodes there are.
     #[inline(always)]
-    pub(crate) fn len(&self) -> usize
+    pub fn len(&self) -> usize
         ensures { result ≡ length self.now }
     {
         self.kept.len()
