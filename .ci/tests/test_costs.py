@@ -1,0 +1,63 @@
+"""What texts cost that were dear once, in processor time and memory.
+
+A limit is at least twice what the program takes, and less than half of what the text took when it was dear.
+"""
+import os
+import resource
+import subprocess
+
+from pcg64 import Pcg64
+from program import PROGRAM, SECONDS, ProgramTest, bits, file_of, named
+
+MEGABYTE = 1 << 20
+
+
+class Costs(ProgramTest):
+    """Texts of few lines that ask for much, within limits on the processor's time and on memory."""
+
+    def check_within(self, seconds, megabytes, words, content, output):
+        """The program writes this output, and takes at most so much of a processor and of memory for data."""
+
+        def set_limit():
+            resource.setrlimit(resource.RLIMIT_DATA, (megabytes * MEGABYTE, megabytes * MEGABYTE))
+
+        before = os.times()
+        with file_of(content) as source:
+            ended = subprocess.run(
+                [PROGRAM, *words],
+                stdin=source,
+                stdout=subprocess.PIPE,
+                stderr=subprocess.STDOUT,
+                timeout=SECONDS,
+                preexec_fn=set_limit,
+            )
+        after = os.times()
+        self.compare((ended.stdout, ended.returncode), output, 0)
+        took = after.children_user + after.children_system - before.children_user - before.children_system
+        self.assertLess(took, seconds)
+
+    def test_feedback_that_toggles_a_record_for_100000_detectors(self):
+        """600 turns, an even number, of a record that all detectors list: it goes away again."""
+        circuit = "M 0\nREPEAT 600 {\n    CX rec[-1] 1\n}\nM 1\n" + "DETECTOR rec[-1]\n" * 100_000
+        output = "".join(f"detector D{k}\n" for k in range(100_000))
+        self.check_within(2, 100, ["analyze"], circuit, output)
+
+    def test_turns_of_a_fault_of_4096_letters(self):
+        """A fault's word is put in order in its length: 300 lines of 23,000 bytes."""
+        circuit = "REPEAT 300 {\n    E(0.1)" + named("X", range(4096)) + "\n}\n"
+        word = "*".join(f"X{k}" for k in range(4096))
+        output = "".join(f"{k} 0.1 {word}\n" for k in range(300)) + "coins 0\n"
+        self.check_within(2, 20, ["faults"], circuit, output)
+
+    def test_records_of_an_observable_that_a_block_repeats(self):
+        """20,000,000 records, four bytes each."""
+        circuit = "M 0\nREPEAT 20000 {\n    OBSERVABLE_INCLUDE(5)" + " rec[-1]" * 1000 + "\n}\n"
+        self.check_within(2, 200, ["run"], circuit, "0\n000000\n")
+
+    def test_products_whose_outcomes_are_random(self):
+        """400,000 products of 15 letters, of which each replaces a word that comes again."""
+        pairs = "".join(f"MPP {'*'.join(f'{letter}{k}' for k in range(15))}\n" for letter in "XZ")
+        circuit = "REPEAT 200000 {\n" + pairs + "}\n"
+        words = Pcg64.of_seed(0)
+        output = bits(words.next_word() % 2 for _ in range(400_000)) + "\n"
+        self.check_within(4, 24, ["sample", "--shots", "1"], circuit, output)
