@@ -1,6 +1,6 @@
--- A sum that a pass keeps up to a greatest number: behind a tree it is the tree's total, or that number where the total is
--- greater.
-use Rattle.std.proofs.Common.{◌≡◌, ℕ, zero, suc, ◌+◌, ◌-◌, ◌*◌, ◌<◌, ◌≤◌, inl, inr, refl, sym, ap, ap₂, ◌∙◌, arith}
+-- A sum that a pass keeps up to a greatest number: behind a tree it is the total of the tree, or that number where the
+-- total is greater.
+use Rattle.std.proofs.Common.{◌≡◌, ℕ, zero, suc, ◌+◌, ◌-◌, ◌*◌, ◌<◌, ◌≤◌, inl, inr, sym, ap, ap₂, ◌∙◌, arith}
 use Rattle.std.specs.Prelude.{min}
 use Rattle.std.proofs.lemmas.Bool.{cases_lt}
 use Rattle.stim_lexer.specs.Fitting.{AllFit}

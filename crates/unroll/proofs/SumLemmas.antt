@@ -1,5 +1,5 @@
--- The sums of one pass over a circuit are the totals of its tree, as far as they fit; and the first line that reaches too
--- far back is found.
+-- The sums of one pass over a circuit are the totals of its tree, as far as they fit; and the first line that reaches
+-- too far back is found.
 use Rattle.std.proofs.Common.{◌≡◌, ℕ, ◌+◌, ◌*◌, ◌≤◌, inl, inr, ◌||◌, Bool, true, false, ltb, List, [], ◌∷◌, Option, None, Some, refl, sym, ap, ap₂, ◌∙◌, arith}
 use Rattle.std.specs.Prelude.{All, min, if◌then◌else◌}
 use Rattle.std.specs.Option.{option_or}
