@@ -349,7 +349,7 @@ impl<S: TargetSet, A: Allocator + Copy> Tracker for Words<S, A> {
     }
 }
 
-// The lists of each column, which take no more memory than they need.
+// The lists of each column.
 fn keep_columns<S: TargetSet, B: Allocator + Copy>(
     columns: &[Column<S>],
     alloc: B,
@@ -362,7 +362,6 @@ fn keep_columns<S: TargetSet, B: Allocator + Copy>(
     for column in columns {
         column.keep(&mut lists, &mut list)?;
     }
-    lists.shrink_to_fit();
     Ok(lists)
 }
 
