@@ -1,6 +1,6 @@
 """What texts cost that were dear once, in processor time and memory.
 
-A limit is at least twice what the program takes, and less than half of what the text took when it was dear.
+A limit leaves room above what the program takes, and is less than half of what the text took when it was dear.
 """
 import os
 import resource
