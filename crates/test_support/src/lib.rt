@@ -1,5 +1,5 @@
-//! What tests need to fail at will: a source and a sink in memory, which move one byte a call, count their calls, and fail
-//! at one of them; and an allocator that refuses one of its calls and counts the blocks that it has handed out.
+//! What tests let fail: a source and a sink in memory, which move one byte a call, count their calls, and fail at one of
+//! them; and an allocator that refuses one of its calls and counts the blocks that it has handed out.
 #![tactic(auto)]
 
 mod counts;
