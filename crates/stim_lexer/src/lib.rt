@@ -1,5 +1,6 @@
-//! The lines of a circuit's text, one after another and cut into slices of it: name, arguments, targets and braces.
-//! Only bytes that may not stand in a text are refused here, and no memory is taken.
+//! The lines of a text, one after another and cut into slices of it: name, arguments, targets and braces (`Lexer`, which
+//! refuses only bytes that may not stand in a text, and takes no memory). And texts of lines and blocks, of circuits or of
+//! error models: a line is an instruction, or opens or closes a block, as the judge of its format says (`Builder`, `Items`).
 #![tactic(auto)]
 
 mod blocks;
