@@ -27,6 +27,10 @@ text_in block full = block.text ++ texts_of full
 abbrev pub EndsIn : List ℕ → List ℕ → Type 0
 EndsIn old new = (front : List ℕ) × (new ≡ front ++ old)
 
+-- how many detectors have names at most, and how many targets beside them: so the number of each has at most six digits
+abbrev pub most_named : ℕ
+most_named = 1_000_000
+
 -- what is held of error lines: how many detectors and how many targets there are, the texts of probabilities that lines
 -- may have, and the text of the lines
 pub record Held : Type 0 where

@@ -13,7 +13,7 @@ use std::alloc::Allocator;
 pub(crate) fn end_of_short<'a, A: Allocator + Copy>(model: &Model<'a, A>, line: usize) -> usize
     requires { line ≤ length model.now.lines }
     ensures from { line ≤ result }
-    ensures few { result ≤ line + 16 }
+    ensures few { result ≤ line + SHORT_LINES }
     ensures within { result ≤ length model.now.lines }
     ensures short { (k : ℕ) → line ≤ k → k < result → IsShort (line_at model.now k) }
 {
@@ -41,10 +41,10 @@ pub(crate) fn lines_before<'a, A: Allocator + Copy>(
     next: usize,
 ) -> usize
     requires from { line ≤ next }
-    requires few { next ≤ line + 16 }
+    requires few { next ≤ line + SHORT_LINES }
     requires within { next ≤ length model.now.lines }
     requires short { (k : ℕ) → line ≤ k → k < next → IsShort (line_at model.now k) }
-    ensures start { result ≤ 4096 }
+    ensures start { result ≤ ROOM }
     ensures written { drop result buffer.new
         ≡ flat_map (line_text model.now.detectors)
         (take (next - line) (drop line model.now.lines)) }

@@ -47,11 +47,11 @@ impl<'a> LineText<'a> {
     /// Writes the beginning of a short line so that it ends at `end`, and answers where it starts.
     #[inline(always)]
     pub(crate) fn head_before(&self, buffer: &mut [u8], end: usize) -> usize
-        requires short { length self.now ≤ 32 }
-        requires room { 40 ≤ end }
+        requires short { length self.now ≤ SHORT_TEXT }
+        requires room { HEAD ≤ end }
         requires within { end ≤ length buffer.old }
         ensures within { result ≤ end }
-        ensures least { end ≤ result + 40 }
+        ensures least { end ≤ result + HEAD }
         ensures written { drop result buffer.new
             ≡ codes "error(" ++ self.now ++ codes ")" ++ drop end buffer.old }
     {

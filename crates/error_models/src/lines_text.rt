@@ -1,14 +1,14 @@
 //! The text of error lines that are found from the last to the first.
-ghost use Rattle.std.specs.Prelude.{◌≡◌, ◌<◌, ◌≤◌, ◌+◌, ◌-◌, ◌^◌, ◌++◌, [], All, length, min, IfOk, OnOk};
+ghost use Rattle.std.specs.Prelude.{◌≡◌, ◌<◌, ◌≤◌, ◌+◌, ◌-◌, ◌++◌, [], All, length, min, IfOk, OnOk};
 ghost use Rattle.error_models.specs.ErrorLines.{text_at, KeepsTexts};
-ghost use Rattle.error_models.specs.HeldText.{EndsIn};
+ghost use Rattle.error_models.specs.HeldText.{EndsIn, most_named};
 ghost use Rattle.error_models.specs.ModelText.{line_text, targets_text};
 
 use crate::held_text::HeldText;
 use crate::line_text::LineText;
 use crate::names::Names;
-use crate::short_lines::{SHORT_TARGETS, SHORT_TEXT};
-use crate::text_blocks::{PART, TextBlocks};
+use crate::short_lines::{SHORT_LINE, SHORT_TARGETS, SHORT_TEXT};
+use crate::text_blocks::TextBlocks;
 use crate::texts::number_of;
 use std::alloc::{AllocError, Allocator};
 use std::marker::Model;
@@ -40,8 +40,8 @@ impl<'a, A: Allocator + Copy> LinesText<'a, A> {
     /// No text yet, of lines whose targets are this many, the first of them detectors. (With these bounds the number of
     /// a detector or an observable has at most six digits.)
     pub fn new(alloc: A, detectors: usize, targets: usize) -> Result<Self, AllocError>
-        requires few_detectors { detectors ≤ 1000000 }
-        requires few { targets ≤ detectors + 1000000 }
+        requires few_detectors { detectors ≤ most_named }
+        requires few { targets ≤ detectors + most_named }
         ensures { IfOk result (λ lines. lines
             ≡ record { detectors = detectors; targets = targets; texts = []; text = [] }) }
     {
@@ -120,7 +120,7 @@ impl<'a, A: Allocator + Copy> LinesText<'a, A> {
     {
         let mut left = bytes.len();
         while left > 0 {
-            let from = left.saturating_sub(PART);
+            let from = left.saturating_sub(SHORT_LINE);
             self.blocks.make_room()?;
             self.blocks.put(&bytes[from..left]);
             left = from;
@@ -150,7 +150,7 @@ impl<'a, A: Allocator + Copy> LinesText<'a, A> {
 
     /// How many bytes the text has, at most the greatest number.
     pub fn len(&self) -> usize
-        ensures { result ≡ min (length self.now.text) (2 ^ 64 - 1) }
+        ensures { result ≡ min (length self.now.text) usize.MAX }
     {
         self.blocks.len()
     }

@@ -1,16 +1,14 @@
 //! The texts of targets, made once for all lines.
 ghost use Rattle.std.specs.Prelude.{◌≡◌, ◌<◌, ◌≤◌, ◌+◌, ◌*◌, ◌++◌, All, IfOk, drop, length};
+ghost use Rattle.error_models.specs.HeldText.{most_named};
 ghost use Rattle.error_models.specs.ModelText.{target_text, targets_text};
 
-use crate::short_lines::target_before;
+use crate::short_lines::{ANY_NAME, target_before};
 use std::alloc::{AllocError, Allocator};
 use std::marker::Model;
 
 /// How long the text of a target is at most here, in bytes: a space, a letter and six digits.
-const NAME: usize = 8;
-
-/// How long the text of any target of 32 bits is at most.
-const ANY_NAME: usize = 12;
+pub(crate) const NAME: usize = 8;
 
 /// The text of a target, at the end of a fixed number of bytes, so that all of them are copied at once.
 #[derive(Drop)]
@@ -32,8 +30,8 @@ impl Model for Name {
 impl Name {
     // The name of a target, in a model with this many detectors.
     fn new(detectors: usize, target: usize) -> Self
-        requires few_detectors { detectors ≤ 1000000 }
-        requires few { target < detectors + 1000000 }
+        requires few_detectors { detectors ≤ most_named }
+        requires few { target < detectors + most_named }
         ensures { result ≡ target_text detectors target }
     {
         let mut text = [0; ANY_NAME];
@@ -49,10 +47,10 @@ impl Name {
     // Writes the text so that it ends at `end`, and answers where it starts.
     #[inline(always)]
     fn before(&self, buffer: &mut [u8], end: usize) -> usize
-        requires room { 8 ≤ end }
+        requires room { NAME ≤ end }
         requires within { end ≤ length buffer.old }
         ensures within { result ≤ end }
-        ensures least { end ≤ result + 8 }
+        ensures least { end ≤ result + NAME }
         ensures written { drop result buffer.new ≡ self.now ++ drop end buffer.old }
     {
         // A local copy cannot overlap the buffer, so no check is made at run time.
@@ -83,8 +81,8 @@ impl<A: Allocator + Copy> Model for Names<A> {
 impl<A: Allocator + Copy> Names<A> {
     /// The texts of this many targets, of which the first `detectors` are detectors.
     pub(crate) fn new(alloc: A, detectors: usize, targets: usize) -> Result<Self, AllocError>
-        requires few_detectors { detectors ≤ 1000000 }
-        requires few { targets ≤ detectors + 1000000 }
+        requires few_detectors { detectors ≤ most_named }
+        requires few { targets ≤ detectors + most_named }
         ensures { IfOk result (λ names. names
             ≡ record { detectors = detectors; targets = targets }) }
     {
@@ -99,10 +97,10 @@ impl<A: Allocator + Copy> Names<A> {
     #[inline(always)]
     pub(crate) fn targets_before(&self, buffer: &mut [u8], end: usize, targets: &[u32]) -> usize
         requires within { end ≤ length buffer.old }
-        requires room { length targets.now * 8 ≤ end }
+        requires room { length targets.now * NAME ≤ end }
         requires targets { All (λ target. target < self.now.targets) targets.now }
         ensures within { result ≤ end }
-        ensures least { end ≤ result + length targets.now * 8 }
+        ensures least { end ≤ result + length targets.now * NAME }
         ensures written { drop result buffer.new
             ≡ targets_text self.now.detectors targets.now ++ drop end buffer.old }
     {

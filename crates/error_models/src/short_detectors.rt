@@ -12,11 +12,17 @@ pub(crate) const SHORT_COORDINATES: usize = 8;
 /// How long a buffer for the line of a detector is. It is small, so that each line can have its own.
 pub(crate) const DETECTOR_ROOM: usize = 256;
 
+/// How long the text of a coordinate is at most: a sign and nineteen digits.
+const COORDINATE: usize = 20;
+
+/// How long it is behind a comma and a space.
+const LATER_COORDINATE: usize = 22;
+
 /// Writes the line of a detector so that it ends where the buffer does, and answers where it starts.
 pub(crate) fn detector_before(buffer: &mut [u8], detector: u32, coordinates: &[i64]) -> usize
-    requires room { length buffer.old ≡ 256 }
-    requires few { length coordinates.now ≤ 8 }
-    ensures within { result ≤ 256 }
+    requires room { length buffer.old ≡ DETECTOR_ROOM }
+    requires few { length coordinates.now ≤ SHORT_COORDINATES }
+    ensures within { result ≤ DETECTOR_ROOM }
     ensures written { drop result buffer.new ≡ detector_text detector coordinates.now }
 {
     let at = text_before(buffer, DETECTOR_ROOM, b"\n");
@@ -27,9 +33,9 @@ pub(crate) fn detector_before(buffer: &mut [u8], detector: u32, coordinates: &[i
 
 fn coordinates_before(buffer: &mut [u8], end: usize, coordinates: &[i64]) -> usize
     requires within { end ≤ length buffer.old }
-    requires room { length coordinates.now * 22 + 2 ≤ end }
+    requires room { length coordinates.now * LATER_COORDINATE + 2 ≤ end }
     ensures within { result ≤ end }
-    ensures least { end ≤ result + length coordinates.now * 22 + 2 }
+    ensures least { end ≤ result + length coordinates.now * LATER_COORDINATE + 2 }
     ensures written { drop result buffer.new
         ≡ coordinates_text coordinates.now ++ drop end buffer.old }
 {
@@ -47,9 +53,9 @@ fn coordinates_before(buffer: &mut [u8], end: usize, coordinates: &[i64]) -> usi
 // Writes coordinates after the first.
 fn more_before(buffer: &mut [u8], end: usize, coordinates: &[i64]) -> usize
     requires within { end ≤ length buffer.old }
-    requires room { length coordinates.now * 22 ≤ end }
+    requires room { length coordinates.now * LATER_COORDINATE ≤ end }
     ensures within { result ≤ end }
-    ensures least { end ≤ result + length coordinates.now * 22 }
+    ensures least { end ≤ result + length coordinates.now * LATER_COORDINATE }
     ensures written { drop result buffer.new
         ≡ more_coordinates_text coordinates.now ++ drop end buffer.old }
 {
@@ -67,9 +73,9 @@ fn more_before(buffer: &mut [u8], end: usize, coordinates: &[i64]) -> usize
 #[inline]
 fn whole_before(buffer: &mut [u8], end: usize, number: i64) -> usize
     requires within { end ≤ length buffer.old }
-    requires room { 20 ≤ end }
+    requires room { COORDINATE ≤ end }
     ensures within { result ≤ end }
-    ensures least { end ≤ result + 20 }
+    ensures least { end ≤ result + COORDINATE }
     ensures written { drop result buffer.new ≡ signed_decimal number ++ drop end buffer.old }
 {
     let start = write_digits(number.unsigned_abs(), buffer, end);

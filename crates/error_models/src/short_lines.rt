@@ -18,6 +18,12 @@ pub(crate) const SHORT_TARGETS: usize = 16;
 /// How long the probability text of a short line is at most.
 pub(crate) const SHORT_TEXT: usize = 32;
 
+/// How long a short line is at most.
+pub(crate) const SHORT_LINE: usize = 240;
+
+/// How long the text of a target is at most: a space, a letter and ten digits.
+pub(crate) const ANY_NAME: usize = 12;
+
 /// Writes a short line so that it ends at `end`, and answers where it starts.
 #[inline]
 pub(crate) fn line_before<'a>(
@@ -28,11 +34,11 @@ pub(crate) fn line_before<'a>(
     targets: &[u32],
 ) -> usize
     requires within { end ≤ length buffer.old }
-    requires room { 240 ≤ end }
-    requires short { length text.now ≤ 32 }
-    requires few { length targets.now ≤ 16 }
+    requires room { SHORT_LINE ≤ end }
+    requires short { length text.now ≤ SHORT_TEXT }
+    requires few { length targets.now ≤ SHORT_TARGETS }
     ensures within { result ≤ end }
-    ensures least { end ≤ result + 240 }
+    ensures least { end ≤ result + SHORT_LINE }
     ensures written { drop result buffer.new
         ≡ line_text detectors (record { text = text.now; targets = targets.now })
         ++ drop end buffer.old }
@@ -42,8 +48,7 @@ pub(crate) fn line_before<'a>(
     text.head_before(buffer, at)
 }
 
-/// Writes some targets so that they end at `end`, and answers where they start. The text of each is at most 12 long: a
-/// space, a letter and ten digits.
+/// Writes some targets so that they end at `end`, and answers where they start.
 #[inline]
 pub(crate) fn targets_before(
     buffer: &mut [u8],
@@ -52,9 +57,9 @@ pub(crate) fn targets_before(
     targets: &[u32],
 ) -> usize
     requires within { end ≤ length buffer.old }
-    requires room { length targets.now * 12 ≤ end }
+    requires room { length targets.now * ANY_NAME ≤ end }
     ensures within { result ≤ end }
-    ensures least { end ≤ result + length targets.now * 12 }
+    ensures least { end ≤ result + length targets.now * ANY_NAME }
     ensures written { drop result buffer.new
         ≡ targets_text detectors targets.now ++ drop end buffer.old }
 {
@@ -71,9 +76,9 @@ pub(crate) fn targets_before(
 #[inline(always)]
 pub(crate) fn target_before(buffer: &mut [u8], end: usize, detectors: usize, target: u32) -> usize
     requires within { end ≤ length buffer.old }
-    requires room { 12 ≤ end }
+    requires room { ANY_NAME ≤ end }
     ensures within { result ≤ end }
-    ensures least { end ≤ result + 12 }
+    ensures least { end ≤ result + ANY_NAME }
     ensures written { drop result buffer.new ≡ target_text detectors target ++ drop end buffer.old }
 {
     let target = target as usize;
@@ -88,9 +93,9 @@ pub(crate) fn target_before(buffer: &mut [u8], end: usize, detectors: usize, tar
 #[inline(always)]
 pub(crate) fn number_before(buffer: &mut [u8], end: usize, letter: u8, number: u32) -> usize
     requires within { end ≤ length buffer.old }
-    requires room { 12 ≤ end }
+    requires room { ANY_NAME ≤ end }
     ensures within { result ≤ end }
-    ensures least { end ≤ result + 12 }
+    ensures least { end ≤ result + ANY_NAME }
     ensures written { drop result buffer.new ≡ 32 ∷ letter ∷ decimal number ++ drop end buffer.old }
 {
     let start = write_digits(number as u64, buffer, end);

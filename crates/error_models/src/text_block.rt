@@ -4,8 +4,8 @@ ghost use Rattle.error_models.specs.HeldText.{no_text};
 ghost use Rattle.error_models.specs.ModelText.{line_text, targets_text};
 
 use crate::line_text::LineText;
-use crate::names::Names;
-use crate::short_lines::text_before;
+use crate::names::{NAME, Names};
+use crate::short_lines::{SHORT_LINE, SHORT_TARGETS, SHORT_TEXT, text_before};
 use std::alloc::{AllocError, Allocator};
 use std::marker::Model;
 
@@ -43,7 +43,7 @@ impl<A: Allocator + Copy> TextBlock<A> {
 
     /// A block without text.
     pub(crate) fn new(alloc: A) -> Result<Self, AllocError>
-        ensures { IfOk result (λ block. block ≡ no_text 65536) }
+        ensures { IfOk result (λ block. block ≡ no_text BLOCK) }
     {
         Ok(TextBlock {
             bytes: vec![in alloc; 0u8; BLOCK]?,
@@ -89,7 +89,7 @@ impl<A: Allocator + Copy> TextBlock<A> {
 
     /// Puts the text of targets before the text.
     pub(crate) fn put_targets(&mut self, names: &Names<A>, targets: &[u32])
-        requires room { length targets.now * 8 ≤ self.old.room }
+        requires room { length targets.now * NAME ≤ self.old.room }
         requires targets { All (λ target. target < names.now.targets) targets.now }
         ensures { self.new.text ≡ targets_text names.now.detectors targets.now ++ self.old.text }
     {
@@ -99,9 +99,9 @@ impl<A: Allocator + Copy> TextBlock<A> {
     /// Puts a short line before the text.
     #[inline(always)]
     pub(crate) fn put_line<'a>(&mut self, names: &Names<A>, text: &LineText<'a>, targets: &[u32])
-        requires room { 240 ≤ self.old.room }
-        requires short { length text.now ≤ 32 }
-        requires few { length targets.now ≤ 16 }
+        requires room { SHORT_LINE ≤ self.old.room }
+        requires short { length text.now ≤ SHORT_TEXT }
+        requires few { length targets.now ≤ SHORT_TARGETS }
         requires targets { All (λ target. target < names.now.targets) targets.now }
         ensures { self.new.text
             ≡ line_text names.now.detectors (record { text = text.now; targets = targets.now })

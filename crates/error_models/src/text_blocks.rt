@@ -1,18 +1,16 @@
 //! Text that grows at its beginning, by blocks that are filled from their ends.
-ghost use Rattle.std.specs.Prelude.{◌≡◌, ◌<◌, ◌≤◌, ◌*◌, ◌-◌, ◌^◌, ◌++◌, [], All, length, min, IfOk, OnOk, vec_len};
+ghost use Rattle.std.specs.Prelude.{◌≡◌, ◌<◌, ◌≤◌, ◌*◌, ◌++◌, [], All, length, min, IfOk, OnOk, vec_len};
 ghost use Rattle.error_models.specs.HeldText.{no_text};
 ghost use Rattle.error_models.specs.ModelText.{line_text, targets_text};
 
 use crate::held_text::HeldText;
 use crate::line_text::LineText;
-use crate::names::Names;
+use crate::names::{NAME, Names};
+use crate::short_lines::{SHORT_LINE, SHORT_TARGETS, SHORT_TEXT};
 use crate::text_block::TextBlock;
 use std::alloc::{AllocError, Allocator};
 use std::marker::Model;
 use std::mem;
-
-/// How much room a short line takes at most. What is longer is put in parts of at most this length.
-pub(crate) const PART: usize = 240;
 
 /// Text in blocks of 64 KiB, with the room before it in the block that is being filled.
 #[derive(Drop)]
@@ -53,18 +51,18 @@ impl<A: Allocator + Copy> TextBlocks<A> {
 
     /// How many bytes the text has, at most the greatest number.
     pub(crate) fn len(&self) -> usize
-        ensures { result ≡ min (length self.now.text) (2 ^ 64 - 1) }
+        ensures { result ≡ min (length self.now.text) usize.MAX }
     {
         self.full_len.saturating_add(self.block.len())
     }
 
-    /// Makes room for a part, where there isn't any.
+    /// Makes room for a short line, where there isn't any.
     #[inline(always)]
     pub(crate) fn make_room(&mut self) -> Result<(), AllocError>
-        ensures room { OnOk result (240 ≤ self.new.room) }
+        ensures room { OnOk result (SHORT_LINE ≤ self.new.room) }
         ensures same { self.new.text ≡ self.old.text }
     {
-        if self.block.room() >= PART {
+        if self.block.room() >= SHORT_LINE {
             return Ok(());
         }
         self.next_block()
@@ -72,7 +70,7 @@ impl<A: Allocator + Copy> TextBlocks<A> {
 
     #[inline(never)]
     fn next_block(&mut self) -> Result<(), AllocError>
-        ensures room { OnOk result (240 ≤ self.new.room) }
+        ensures room { OnOk result (SHORT_LINE ≤ self.new.room) }
         ensures same { self.new.text ≡ self.old.text }
     {
         // Room for the next block too, so that the list can hold all blocks of the text.
@@ -96,7 +94,7 @@ impl<A: Allocator + Copy> TextBlocks<A> {
 
     /// Puts the text of targets before the text.
     pub(crate) fn put_targets(&mut self, names: &Names<A>, targets: &[u32])
-        requires room { length targets.now * 8 ≤ self.old.room }
+        requires room { length targets.now * NAME ≤ self.old.room }
         requires targets { All (λ target. target < names.now.targets) targets.now }
         ensures { self.new.text ≡ targets_text names.now.detectors targets.now ++ self.old.text }
     {
@@ -106,9 +104,9 @@ impl<A: Allocator + Copy> TextBlocks<A> {
     /// Puts a short line before the text.
     #[inline(always)]
     pub(crate) fn put_line<'a>(&mut self, names: &Names<A>, text: &LineText<'a>, targets: &[u32])
-        requires room { 240 ≤ self.old.room }
-        requires short { length text.now ≤ 32 }
-        requires few { length targets.now ≤ 16 }
+        requires room { SHORT_LINE ≤ self.old.room }
+        requires short { length text.now ≤ SHORT_TEXT }
+        requires few { length targets.now ≤ SHORT_TARGETS }
         requires targets { All (λ target. target < names.now.targets) targets.now }
         ensures { self.new.text
             ≡ line_text names.now.detectors (record { text = text.now; targets = targets.now })
@@ -143,11 +141,11 @@ fn empty_block<A: Allocator + Copy>(
     spare: &mut Vec<TextBlock<A>, A>,
 ) -> Result<TextBlock<A>, AllocError>
     ensures empty { IfOk result (λ block. block.text ≡ []) }
-    ensures room { IfOk result (λ block. 240 ≤ block.room) }
+    ensures room { IfOk result (λ block. SHORT_LINE ≤ block.room) }
 {
     if let Some(mut block) = spare.pop() {
         block.clear();
-        if block.room() >= PART {
+        if block.room() >= SHORT_LINE {
             return Ok(block);
         }
     }
