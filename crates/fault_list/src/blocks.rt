@@ -54,7 +54,7 @@ fn write_block<W: Sink>(
     first: bool,
 ) -> bool
     requires within { from + length letters.now ≤ u32.MAX }
-    requires few { length letters.now ≤ 16 }
+    requires few { length letters.now ≤ BLOCK }
     ensures first { result ≡ (first && is_none (letter_factors from letters.now)) }
     ensures pushed { Pushes W.taken W.failures sink.old sink.new out.old out.new
         (joined_on first (letter_factors from letters.now)) }

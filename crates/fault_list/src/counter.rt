@@ -45,7 +45,7 @@ impl Counter {
     /// Puts a number at `at`, and answers where it ends.
     #[inline(always)]
     pub(crate) fn put(&mut self, buffer: &mut [u8], at: usize, number: u32) -> usize
-        requires room { at + 16 ≤ length buffer.old }
+        requires room { at + DIGITS ≤ length buffer.old }
         ensures from { at ≤ result }
         ensures within { result ≤ at + 10 }
         ensures written { take result buffer.new ≡ take at buffer.old ++ decimal number }
@@ -78,7 +78,7 @@ impl Counter {
     // Turns to the next number, where its digits are found easily.
     #[inline(always)]
     fn count_up(&mut self)
-        requires { self.old < 2 ^ 32 }
+        requires { self.old ≤ u32.MAX }
     {
         let last = self.len - 1;
         if self.digits[last] < b'9' {

@@ -48,12 +48,12 @@ impl<'t, 'a> Probability<'t, 'a> {
     /// long to be kept.
     #[inline(always)]
     pub(crate) fn put(&mut self, buffer: &mut [u8], at: usize, entry: u32) -> Option<usize>
-        requires room { at + 32 ≤ length buffer.old }
+        requires room { at + KEPT ≤ length buffer.old }
         requires entry { entry < length self.old.numbers.now }
         requires part { slice_index_or self.old.numbers.now entry 0 < length self.old.parts.now }
         ensures same { self.new ≡ self.old }
         ensures from { IfSome result (λ end. at ≤ end) }
-        ensures within { IfSome result (λ end. end ≤ at + 32) }
+        ensures within { IfSome result (λ end. end ≤ at + KEPT) }
         ensures written { IfSome result
             (λ end. take end buffer.new
             ≡ take at buffer.old
@@ -71,11 +71,11 @@ impl<'t, 'a> Probability<'t, 'a> {
     // Puts the text with a number, and keeps it, where it is short.
     #[inline(never)]
     fn put_other(&mut self, buffer: &mut [u8], at: usize, part: usize) -> Option<usize>
-        requires room { at + 32 ≤ length buffer.old }
+        requires room { at + KEPT ≤ length buffer.old }
         requires part { part < length self.old.parts.now }
         ensures same { self.new ≡ self.old }
         ensures from { IfSome result (λ end. at ≤ end) }
-        ensures within { IfSome result (λ end. end ≤ at + 32) }
+        ensures within { IfSome result (λ end. end ≤ at + KEPT) }
         ensures written { IfSome result (λ end. take end buffer.new
             ≡ take at buffer.old ++ probability_text (chance_at self.old.parts.now part).text) }
         ensures kept { result ≡ None → buffer.new ≡ buffer.old }

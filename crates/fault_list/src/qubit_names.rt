@@ -54,10 +54,10 @@ impl QubitNames {
     /// Puts the number of a qubit that has a place here at `at`, and answers where it ends.
     #[inline(always)]
     pub(crate) fn put(&mut self, buffer: &mut [u8], at: usize, qubit: u32) -> usize
-        requires named { qubit < 4096 }
-        requires room { at + 4 ≤ length buffer.old }
+        requires named { qubit < NAMED }
+        requires room { at + NAME ≤ length buffer.old }
         ensures from { at ≤ result }
-        ensures within { result ≤ at + 4 }
+        ensures within { result ≤ at + NAME }
         ensures written { take result buffer.new ≡ take at buffer.old ++ decimal qubit }
     {
         if self.names[qubit as usize].qubit as u32 != qubit {
@@ -70,7 +70,7 @@ impl QubitNames {
 
 #[inline(never)]
 fn name_of(qubit: u32) -> Name
-    requires { qubit < 4096 }
+    requires { qubit < NAMED }
     ensures qubit { result.qubit ≡ qubit }
     ensures digits { HasName result }
 {

@@ -19,6 +19,12 @@ use step_model::Term;
 /// How many terms a short line has at most.
 const SHORT_TERMS: usize = 16;
 
+/// How long a short line is at most, with what is copied behind it.
+const LINE: usize = 256;
+
+/// How long the word of a short line is at most: twelve bytes for each term.
+const WORD: usize = 192;
+
 /// Texts of the lines before that those after them have again.
 #[derive(Drop)]
 pub(crate) struct KeptTexts<'t, 'a> {
@@ -51,11 +57,11 @@ pub(crate) fn put_line<'t, 'a, A: Allocator + Copy>(
     program: &Program<'a, A>,
     fault: FoundFault,
 ) -> Option<usize>
-    requires room { at + 256 ≤ length buffer.old }
+    requires room { at + LINE ≤ length buffer.old }
     requires fault { IsFaultOf program.now fault }
     requires texts { TellsChances program.now.kept texts.old.probability }
     ensures same { texts.new.probability ≡ texts.old.probability }
-    ensures within { IfSome result (λ end. end ≤ at + 256) }
+    ensures within { IfSome result (λ end. end ≤ at + LINE) }
     ensures written { IfSome result (λ end. take end buffer.new
         ≡ take at buffer.old ++ fault_line program.now.listing fault.number) }
     ensures kept { result ≡ None → take at buffer.new ≡ take at buffer.old }
@@ -75,10 +81,10 @@ fn put_effect<'t, 'a, A: Allocator + Copy>(
     program: &Program<'a, A>,
     fault: FoundFault,
 ) -> Option<usize>
-    requires room { at + 200 ≤ length buffer.old }
+    requires room { at + WORD + 8 ≤ length buffer.old }
     requires fault { IsFaultOf program.now fault }
     ensures same { texts.new.probability ≡ texts.old.probability }
-    ensures within { IfSome result (λ end. end ≤ at + 192) }
+    ensures within { IfSome result (λ end. end ≤ at + WORD) }
     ensures written { IfSome result (λ end. take end buffer.new
         ≡ take at buffer.old
         ++ effect_text program.now.listing.qubits
@@ -121,9 +127,9 @@ fn put_word(
     qubits: u32,
     terms: &[Term],
 ) -> Option<usize>
-    requires room { at + 200 ≤ length buffer.old }
+    requires room { at + WORD + 8 ≤ length buffer.old }
     requires fit { TermsFit qubits terms.now }
-    ensures within { IfSome result (λ end. end ≤ at + 192) }
+    ensures within { IfSome result (λ end. end ≤ at + WORD) }
     ensures written { IfSome result (λ end. take end buffer.new
         ≡ take at buffer.old ++ word_text (word_of_terms qubits terms.now)) }
     ensures kept { result ≡ None → buffer.new ≡ buffer.old }
@@ -148,9 +154,9 @@ fn put_ordered(
     qubits: u32,
     terms: &[Term],
 ) -> Option<usize>
-    requires room { at + 200 ≤ length buffer.old }
+    requires room { at + WORD + 8 ≤ length buffer.old }
     requires fit { TermsFit qubits terms.now }
-    ensures within { IfSome result (λ end. end ≤ at + 192) }
+    ensures within { IfSome result (λ end. end ≤ at + WORD) }
     ensures written { IfSome result (λ end. take end buffer.new
         ≡ take at buffer.old ++ word_text (word_of_terms qubits terms.now)) }
     ensures kept { result ≡ None → buffer.new ≡ buffer.old }

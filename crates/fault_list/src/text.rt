@@ -89,10 +89,10 @@ fn write_line<'t, 'a, A: Allocator + Copy, W: Sink>(
     program: &Program<'a, A>,
     fault: FoundFault,
 ) -> usize
-    requires held { held ≤ 3840 }
+    requires held { held ≤ LAST_LINE }
     requires fault { IsFaultOf program.now fault }
     requires texts { TellsChances program.now.kept desk.old.texts.probability }
-    ensures held { result ≤ 3840 }
+    ensures held { result ≤ LAST_LINE }
     ensures texts { desk.new.texts.probability ≡ desk.old.texts.probability }
     ensures pushed { PushesSome W.taken W.failures sink.old sink.new out.old out.new
         (take held desk.old.lines) (take result desk.new.lines)

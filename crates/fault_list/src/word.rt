@@ -63,7 +63,7 @@ fn span_of(terms: usize, left: u32) -> usize
     requires { 0 < left }
     ensures some { 0 < result }
     ensures within { result ≤ left }
-    ensures room { result ≤ 4096 }
+    ensures room { result ≤ SPAN }
 {
     terms.clamp(1, SPAN).min(left as usize)
 }
