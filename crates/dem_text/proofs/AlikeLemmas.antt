@@ -17,7 +17,8 @@ use Rattle.dem_text.specs.Targets.{targets_in}
 use Rattle.dem_text.specs.Verdicts.{model_table}
 use Rattle.dem_text.specs.declared.counts.Extent.{Extent}
 use Rattle.dem_text.specs.private.ErrorTexts.{AreCounted, BeginsWithTargets, is_quiet}
-use Rattle.dem_text.specs.private.LinesRead.{BeginsWithError, IsErrorLine, IsFirstLine}
+use Rattle.stim_lexer.specs.FirstLines.{IsFirstLine}
+use Rattle.dem_text.specs.private.LinesRead.{BeginsWithError, IsErrorLine}
 use Rattle.dem_text.specs.private.Standing.{instruction_cut, read_targets}
 use Rattle.dem_text.specs.private.Tables.{IsKnown}
 use Rattle.stim_lexer.specs.Bytes.{from_first, is_close_parenthesis, is_line_feed}

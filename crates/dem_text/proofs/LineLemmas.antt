@@ -1,20 +1,18 @@
 -- One line of an error model's text by itself: what is found in it, what it says, and where it stands.
-use Rattle.std.proofs.Common.{◌≡◌, ℕ, suc, ◌+◌, ◌==◌, ◌<◌, length, Bool, true, false, if◌then◌else◌, List, [], ◌∷◌, ◌++◌, drop, Option, None, Some, Bor, Result, Ok, Err, refl, ap, ap₂, sym, subst, ◌∙◌, inl, inr, arith}
+use Rattle.std.proofs.Common.{◌≡◌, ℕ, ◌==◌, ◌<◌, Bool, true, false, if◌then◌else◌, List, [], ◌∷◌, Option, None, Some, Bor, Result, Ok, Err, refl, ap, sym, subst, ◌∙◌, inl, inr}
 use Rattle.std.specs.Prelude.{MatchOption, MatchResult}
-use Rattle.std.specs.List.{before_first, list_any, onto_first, position_or_len}
+use Rattle.std.specs.List.{list_any, onto_first}
 use Rattle.std.proofs.lemmas.Bool.{cases_Bool, or_parts}
-use Rattle.std.proofs.lemmas.List.{length-drop}
 use Rattle.step_model.specs.declared.fault.Cause.{Cause}
 use Rattle.step_model.specs.declared.fault.Cause.TheVariants as cause
 use Rattle.step_model.specs.declared.fault.Fault.{Fault}
 use Rattle.stim_lexer.specs.declared.line.Braces.{Braces}
 use Rattle.stim_lexer.specs.declared.line.Line.{Line}
 use Rattle.stim_lexer.specs.declared.line.Braces.TheVariants.{NoBrace, OpeningLast, ClosingAlone, Misplaced}
-use Rattle.stim_lexer.specs.Bytes.{from_first, is_empty, is_line_feed}
+use Rattle.stim_lexer.specs.Bytes.{is_empty, is_line_feed}
 use Rattle.stim_lexer.specs.Cut.{Cut, cut_of, has_bad_byte}
 use Rattle.stim_lexer.specs.Lexing.{Numbered, Unread, after_silent, answered, cut_in, first_found, next_found}
 use Rattle.stim_lexer.specs.Lines.{lines_of, says_nothing}
-use Rattle.stim_lexer.proofs.ScanLemmas.{lines_of-cut}
 use Rattle.stim_lexer.specs.declared.said.Said.{Said}
 use Rattle.stim_lexer.specs.declared.said.Said.TheVariants as said
 use Rattle.stim_lexer.specs.Fitting.{ReadingFits}
@@ -30,16 +28,9 @@ use Rattle.dem_text.specs.Fitting.{Fits}
 use Rattle.dem_text.specs.Instructions.{keyword_named}
 use Rattle.dem_text.specs.Verdicts.{Instruction, model_table}
 use Rattle.dem_text.proofs.FitLemmas.{reading_fits}
-use Rattle.dem_text.specs.private.LinesRead.{IsFirstLine}
 use Rattle.dem_text.specs.private.Standing.{instruction_cut, line_at, line_number}
 
 -- ---- one line
-
-pub none_before : (p : ℕ → Bool) (text : List ℕ) → list_any p (before_first p text) ≡ false
-none_before p [] = refl
-none_before p (b ∷ text) =
-    let here : 1 + position_or_len p text ≡ suc (position_or_len p text) = omega arith in
-    elim (cases_Bool (p b)) [ inl e ↦ rw e refl | inr e ↦ rw (e, here, e) (none_before p text) ]
 
 lines_alone : (line : List ℕ) → list_any is_line_feed line ≡ false → lines_of line ≡ (if is_empty line then [] else line ∷ [])
 unfolding lines_of
@@ -81,39 +72,6 @@ line_says line found h e =
     of (Ok None) said = said
     of (Ok (Some l)) said = said
     of (Err fault) said = said
-
--- ---- a line feed
-
--- what stands before a line feed, and what follows it, are the whole
-pub cut_whole : (text after : List ℕ) (b : ℕ) → from_first is_line_feed text ≡ b ∷ after → text ≡ before_first is_line_feed text ++ 10 ∷ after
-cut_whole [] after b e = absurd cc
-cut_whole (c ∷ text) after b e =
-    let here : 1 + position_or_len is_line_feed text ≡ suc (position_or_len is_line_feed text) = omega arith in
-    elim (cases_Bool (is_line_feed c)) [
-      | inl feed ↦
-          let whole : c ∷ text ≡ b ∷ after = rw feed at e in
-          let tail : text ≡ after = ap (drop 1) whole in
-          let byte : c ≡ 10 = grind arith in
-          rw feed (ap₂ (λ x xs. x ∷ xs) byte tail)
-      | inr other ↦ rw (other, here) (ap (λ xs. c ∷ xs) (cut_whole text after b (rw (other, here) at e)))
-    ]
-
-pub cut_rest : (text rest after : List ℕ) → rest ≡ from_first is_line_feed text → 0 < length rest → after ≡ drop 1 rest → text ≡ before_first is_line_feed text ++ 10 ∷ after
-cut_rest text [] after e some is = absurd (omega (arith, some))
-cut_rest text (b ∷ rest) after e some is = cut_whole text after b (sym e ∙ ap (λ xs. b ∷ xs) (sym is))
-
--- the first line of a text, from what stands before its line feed, and from there on
-pub first_cut : (text line rest after : List ℕ) → 0 < length text → line ≡ before_first is_line_feed text → rest ≡ from_first is_line_feed text → after ≡ drop 1 rest → length line + length rest ≡ length text
-    → IsFirstLine text line after
-first_cut text line rest after some cut past is long =
-    let shorter = ap length is ∙ length-drop 1 rest in
-    record {
-      lines = lines_of-cut text line rest after some cut past is;
-      cut = cut;
-      one = rw cut (none_before is_line_feed text);
-      parts = λ more. rw cut (cut_rest text rest after past (omega (arith, more, shorter)) is);
-      less = omega (arith, some, shorter, long);
-    }
 
 -- ---- the instruction of a line that is taken
 

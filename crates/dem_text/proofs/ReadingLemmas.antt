@@ -10,6 +10,7 @@ use Rattle.step_model.specs.declared.fault.Cause.TheVariants as cause
 use Rattle.stim_lexer.specs.Bytes.{is_line_feed}
 use Rattle.stim_lexer.specs.Cut.{cut_of, has_bad_byte}
 use Rattle.stim_lexer.specs.Lexing.{Unread}
+use Rattle.stim_lexer.specs.FirstLines.{IsFirstLine}
 use Rattle.stim_lexer.specs.Lines.{lines_of, says_nothing}
 use Rattle.stim_lexer.specs.Texts.{Reading, Accepts, Opens, Closes, Refuses, at_end, followed, items_from, line_reading, open_after, refused}
 use Rattle.stim_lexer.specs.Judged.{IsRefusedBy}
@@ -22,7 +23,7 @@ use Rattle.dem_text.specs.Verdicts.{Instruction, model_table}
 use Rattle.dem_text.specs.declared.operation.Operation.TheVariants.{PauliError}
 use Rattle.dem_text.specs.declared.counts.Extent.{Extent}
 use Rattle.dem_text.specs.private.Kept.{IsKept, Kept, with_item}
-use Rattle.dem_text.specs.private.LinesRead.{BeginsWithError, HasRead, HasSpoken, IsErrorLine, IsFirstLine, PassesFirst, PassesLine, unfinished}
+use Rattle.dem_text.specs.private.LinesRead.{BeginsWithError, HasRead, HasSpoken, IsErrorLine, PassesFirst, PassesLine, unfinished}
 use Rattle.dem_text.proofs.KeptLemmas.{error-read}
 use Rattle.dem_text.specs.private.Standing.{instruction_at, instruction_cut, line_at, line_number}
 

@@ -16,7 +16,7 @@ use crate::counts::{extent_of, is_error};
 use crate::entries::Rare;
 use crate::error_head::{Head, error_alike, error_anew};
 use crate::kept_lines::KeptLines;
-use crate::line_text::{first_line, line_in};
+use crate::line_text::line_in;
 use crate::model_judge::{number_in, read_line};
 use crate::operation::Operation;
 use crate::shifts::numbers_stated;
@@ -24,7 +24,7 @@ use crate::target::Target;
 use arrayvec::ArrayVec;
 use std::alloc::{AllocError, Allocator};
 use step_model::Cause;
-use stim_lexer::{LEVELS, Line, Said};
+use stim_lexer::{LEVELS, Line, Said, first_line};
 use stim_parser::Last;
 
 /// What follows a line that was read, and the cause where the line is refused.

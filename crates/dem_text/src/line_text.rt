@@ -1,26 +1,13 @@
-ghost use Rattle.std.specs.Prelude.{◌≡◌, ◌<◌, false, true, length, MatchOption, MatchResult};
+ghost use Rattle.std.specs.Prelude.{◌≡◌, false, true, MatchOption, MatchResult};
 ghost use Rattle.std.specs.List.{list_any};
 ghost use Rattle.step_model.specs.declared.fault.Cause.TheVariants as cause;
 ghost use Rattle.stim_lexer.specs.Bytes.{is_line_feed};
 ghost use Rattle.stim_lexer.specs.Cut.{cut_of, has_bad_byte};
 ghost use Rattle.stim_lexer.specs.Lexing.{cut_in};
 ghost use Rattle.stim_lexer.specs.Lines.{says_nothing};
-ghost use Rattle.dem_text.specs.private.LinesRead.{IsFirstLine};
 
 use step_model::Fault;
-use stim_lexer::{Lexer, Line, cut_at};
-
-/// The first line of a text, and what follows its line feed.
-pub(crate) fn first_line(text: &[u8]) -> (&[u8], &[u8])
-    requires { 0 < length text.now }
-    ensures { IsFirstLine text.now result.0.now result.1.now }
-{
-    let (line, rest) = cut_at(text, b'\n');
-    match rest {
-        [_, after @ ..] => (line, after),
-        [] => (line, rest),
-    }
-}
+use stim_lexer::{Lexer, Line};
 
 /// A line, cut; none where it says nothing.
 pub(crate) fn line_in(text: &[u8]) -> Result<Option<Line<'_>>, Fault>

@@ -1,12 +1,13 @@
 -- Places found by scans: where a first byte stands, what is cut there, and the lines that such cuts make.
-use Rattle.std.proofs.Common.{◌≡◌, ℕ, suc, ◌+◌, ◌<◌, ◌≤◌, Bool, false, not, cond, ltb, List, [], ◌∷◌, length, drop, Option, None, Some, refl, ap, sym, ◌∙◌, inl, inr, arith}
+use Rattle.std.proofs.Common.{◌≡◌, ℕ, suc, ◌+◌, ◌<◌, ◌≤◌, Bool, false, not, cond, ltb, List, [], ◌∷◌, ◌++◌, length, drop, Option, None, Some, refl, ap, ap₂, sym, ◌∙◌, inl, inr, arith}
 use Rattle.std.specs.Prelude.{position, unwrap_or}
 use Rattle.std.specs.List.{position_or_len, before_first, after_first, onto_first, list_any}
 use Rattle.std.proofs.lemmas.Bool.{cases_Bool, false_from_ne_true, ltb-false}
-use Rattle.std.proofs.lemmas.List.{drop-drop, nil_from_length}
+use Rattle.std.proofs.lemmas.List.{drop-drop, length-drop, nil_from_length}
 use Rattle.std.proofs.lemmas.List.Sums.{position_or_len_is, prefix_len-le-length}
 use Rattle.memchr.specs.Find.{IsFirstByte}
 use Rattle.stim_lexer.specs.Bytes.{is_line_feed, is_empty, from_first}
+use Rattle.stim_lexer.specs.FirstLines.{IsFirstLine}
 use Rattle.stim_lexer.specs.Lines.{lines_of}
 
 -- ---- places
@@ -47,6 +48,13 @@ list_any-from_first p (b ∷ text) =
 pub drop-from_first : (p : ℕ → Bool) (text : List ℕ) → drop 1 (from_first p text) ≡ after_first p text
 drop-from_first p text = drop-drop 1 (position_or_len p text) text
 
+-- a byte isn't among those before its first
+pub none_before : (p : ℕ → Bool) (text : List ℕ) → list_any p (before_first p text) ≡ false
+none_before p [] = refl
+none_before p (b ∷ text) =
+    let here : 1 + position_or_len p text ≡ suc (position_or_len p text) = omega arith in
+    elim (cases_Bool (p b)) [ inl e ↦ rw e refl | inr e ↦ rw (e, here, e) (none_before p text) ]
+
 -- ---- lines
 
 lines_of-first : (text : List ℕ) → 0 < length text → lines_of text ≡ before_first is_line_feed text ∷ lines_of (after_first is_line_feed text)
@@ -65,6 +73,37 @@ pub lines_of-cut : (text line rest after : List ℕ) → 0 < length text → lin
 lines_of-cut text line rest after h line_is rest_is after_is =
     let e : after ≡ after_first is_line_feed text = after_is ∙ (ap (drop 1) rest_is ∙ drop-from_first is_line_feed text) in
     rw (line_is, e) (lines_of-first text h)
+
+-- what stands before a line feed, and what follows it, are the whole
+cut_whole : (text after : List ℕ) (b : ℕ) → from_first is_line_feed text ≡ b ∷ after → text ≡ before_first is_line_feed text ++ 10 ∷ after
+cut_whole [] after b e = absurd cc
+cut_whole (c ∷ text) after b e =
+    let here : 1 + position_or_len is_line_feed text ≡ suc (position_or_len is_line_feed text) = omega arith in
+    elim (cases_Bool (is_line_feed c)) [
+      | inl feed ↦
+          let whole : c ∷ text ≡ b ∷ after = rw feed at e in
+          let tail : text ≡ after = ap (drop 1) whole in
+          let byte : c ≡ 10 = grind arith in
+          rw feed (ap₂ (λ x xs. x ∷ xs) byte tail)
+      | inr other ↦ rw (other, here) (ap (λ xs. c ∷ xs) (cut_whole text after b (rw (other, here) at e)))
+    ]
+
+cut_rest : (text rest after : List ℕ) → rest ≡ from_first is_line_feed text → 0 < length rest → after ≡ drop 1 rest → text ≡ before_first is_line_feed text ++ 10 ∷ after
+cut_rest text [] after e some is = absurd (omega (arith, some))
+cut_rest text (b ∷ rest) after e some is = cut_whole text after b (sym e ∙ ap (λ xs. b ∷ xs) (sym is))
+
+-- the first line of a text, from what stands before its line feed, and from there on
+pub first_line-cut : (text line rest after : List ℕ) → 0 < length text → line ≡ before_first is_line_feed text → rest ≡ from_first is_line_feed text → after ≡ drop 1 rest → length line + length rest ≡ length text
+    → IsFirstLine text line after
+first_line-cut text line rest after some cut past is long =
+    let shorter = ap length is ∙ length-drop 1 rest in
+    record {
+      lines = lines_of-cut text line rest after some cut past is;
+      cut = cut;
+      one = rw cut (none_before is_line_feed text);
+      parts = λ more. rw cut (cut_rest text rest after past (omega (arith, more, shorter)) is);
+      less = omega (arith, some, shorter, long);
+    }
 
 -- no lines are left where no text is
 pub lines_of-none : (text : List ℕ) → length text ≡ 0 → lines_of text ≡ []

@@ -1,5 +1,6 @@
 pub mod Bytes
 pub mod Lines
+pub mod FirstLines
 pub mod Cut
 pub mod Lexing
 pub mod private

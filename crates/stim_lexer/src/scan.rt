@@ -2,7 +2,7 @@ ghost use Rattle.std.specs.Prelude.{◌≡◌, ◌+◌, ◌<◌, ◌==◌, ◌�
 ghost use Rattle.std.specs.List.{list_any, list_all, before_first, after_first, position_or_len};
 ghost use Rattle.stim_lexer.specs.Bytes.{is_blank, is_bad_byte, is_brace, ends_name, from_first, after_blanks, begins_with};
 ghost use Rattle.stim_lexer.specs.Cut.{in_brackets, after_brackets, leaves_open};
-ghost use Rattle.stim_lexer.specs.Lines.{lines_of};
+ghost use Rattle.stim_lexer.specs.FirstLines.{IsFirstLine};
 ghost use Rattle.stim_lexer.specs.private.Special.{is_special};
 
 use memchr::memchr;
@@ -195,10 +195,9 @@ pub(crate) fn cut_brackets(text: &[u8], opening: u8, closing: u8) -> Bracketed<'
 }
 
 /// The first line of a text, and what follows its line feed.
-pub(crate) fn first_line(text: &[u8]) -> (&[u8], &[u8])
+pub fn first_line(text: &[u8]) -> (&[u8], &[u8])
     requires { 0 < length text.now }
-    ensures lines { lines_of text.now ≡ result.0.now ∷ lines_of result.1.now }
-    ensures len { length result.1.now < length text.now }
+    ensures { IsFirstLine text.now result.0.now result.1.now }
 {
     let (line, rest) = cut_at(text, b'\n');
     match rest {

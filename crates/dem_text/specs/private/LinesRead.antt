@@ -1,11 +1,10 @@
 -- What a reader of an error model's lines does at a line: one that says nothing changes nothing; any other adds its item, or
 -- is refused. (Stim's detector error model format, github.com/quantumlib/Stim,
 -- doc/file_format_dem_detector_error_model.md.)
-use Rattle.std.specs.Prelude.{◌≡◌, ◌⊎◌, ℕ, ◌<◌, List, [], ◌∷◌, ◌++◌, Option, None, length, reverse, true, false}
-use Rattle.std.specs.List.{before_first, list_any}
+use Rattle.std.specs.Prelude.{◌≡◌, ◌⊎◌, ℕ, List, [], Option, None, reverse, true, false}
 use Rattle.step_model.specs.declared.fault.Cause.{Cause}
-use Rattle.stim_lexer.specs.Bytes.{is_line_feed}
-use Rattle.stim_lexer.specs.Lines.{lines_of, says_nothing}
+use Rattle.stim_lexer.specs.FirstLines.{IsFirstLine}
+use Rattle.stim_lexer.specs.Lines.{says_nothing}
 use Rattle.stim_lexer.specs.Texts.{Reading, Accepts, line_reading}
 use Rattle.stim_lexer.specs.Unfinished.{Unfinished, after_line, cause_in}
 use Rattle.dem_text.specs.declared.operation.Operation.TheVariants.{PauliError}
@@ -42,14 +41,6 @@ pub record HasSpoken (line : List ℕ) (number : ℕ) (refused : Option Cause) (
 abbrev pub PassesLine : List ℕ → ℕ → Option Cause → Kept → List ℕ → Kept → List ℕ → Type 0
 PassesLine line number refused kept opened kept' opened' =
     HasPassed line refused kept opened kept' opened' ⊎ HasSpoken line number refused kept opened kept' opened'
-
--- the first line of a text, and what follows its line feed
-pub record IsFirstLine (text line after : List ℕ) : Type 0 where
-  pub lines : lines_of text ≡ line ∷ lines_of after
-  pub cut : line ≡ before_first is_line_feed text
-  pub one : list_any is_line_feed line ≡ false
-  pub parts : 0 < length after → text ≡ line ++ 10 ∷ after
-  pub less : length after < length text
 
 -- at the first line of a text, after which this follows
 pub record PassesFirst (text after : List ℕ) (number : ℕ) (refused : Option Cause) (kept : Kept) (opened : List ℕ) (kept' : Kept) (opened' : List ℕ) : Type 0 where

@@ -1,5 +1,5 @@
 use Rattle.stim_lexer.specs.Bytes.{is_line_feed}
-use Rattle.dem_text.proofs.LineLemmas.{none_before}
+use Rattle.stim_lexer.proofs.ScanLemmas.{none_before}
 use Rattle.dem_text.proofs.table_line.cut_again.Goals as goal
 
 pub line_in-requires : goal.line_in-requires
