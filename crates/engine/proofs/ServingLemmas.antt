@@ -7,19 +7,27 @@ use Rattle.step_model.specs.declared.step.Place.{Place}
 use Rattle.step_model.specs.Ends.{HandsOut, IsAtEnd}
 use Rattle.step_model.specs.Listing.{Listing}
 use Rattle.step_model.proofs.EndsLemmas.{HandsOut-all}
-use Rattle.unroll.specs.Programs.{program_in}
 use Rattle.engine.specs.declared.order.Order.{Order}
 use Rattle.engine.specs.declared.order.Order.TheVariants.{Analyze}
 use Rattle.engine.specs.declared.order.Status.{Status}
 use Rattle.engine.specs.declared.order.Status.TheVariants.{Done, Refused, Random}
 use Rattle.engine.specs.Headline.{HasRandomTarget, IsDecided, IsExactFor, IsRandomFor}
-use Rattle.engine.specs.Output.{finding, found_in, output_of, refused_or}
+use Rattle.engine.specs.Output.{finding, output_of, refused_or}
 use Rattle.engine.specs.Findings.{lowest_placed}
 use Rattle.engine.proofs.FindingLemmas.{found_of_text}
 
 pub of_told : (P : List ℕ → Type 0) (left new : Option (List ℕ)) (bytes : List ℕ) → HandsOut left new bytes → IsAtEnd new → P bytes → IfSome left P
 of_told P None new bytes handed end p = tt
 of_told P (Some all) new bytes handed end p = subst P (HandsOut-all all bytes new handed end).0 p
+
+-- what a status of an analysis promises of the text that was read, it promises of the source's bytes
+pub promised : (Wrote : List ℕ → Type 0) (which : Status) (order : Order) (left new : Option (List ℕ)) (bytes text : List ℕ) (r : Result Status Fault)
+    → HandsOut left new bytes → IsAtEnd new → text ≡ bytes
+    → IfOk r (λ status. order ≡ Analyze → status ≡ which → Wrote text)
+    → IfOk r (λ status. order ≡ Analyze → status ≡ which → IfSome left Wrote)
+promised Wrote which order left new bytes text (Ok status) handed end same wrote =
+    λ asked is. of_told Wrote left new bytes handed end (subst Wrote same (wrote asked is))
+promised Wrote which order left new bytes text (Err fault) handed end same wrote = tt
 
 -- what is found of a program is no refusal
 not_refused : (program : Listing) (found : Option (ℕ × Place)) → (finding program found).status ≡ Refused → ⊥

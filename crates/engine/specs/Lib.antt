@@ -1,4 +1,3 @@
 pub mod Findings
 pub mod Headline
 pub mod Output
-pub mod private

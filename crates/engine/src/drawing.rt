@@ -3,11 +3,12 @@ ghost use Rattle.std.specs.Prelude.{◌≡◌, ◌⊎◌, Err, IfOk, IfErr, OnOk
 ghost use Rattle.step_model.specs.Ends.{Takes, TakesSome, write_failures};
 ghost use Rattle.step_model.specs.Faults.{memory_fault, write_fault};
 ghost use Rattle.engine.specs.Output.{program_shots, refused_or, shots_output};
-ghost use Rattle.engine.specs.private.ShownLines.{shown_line};
+ghost use Rattle.sampling.specs.Shown.{shown_line};
 
 use crate::order::Status;
 use crate::refusing::refuse;
 use programs::Program;
+use sampling::Shown;
 use std::alloc::Allocator;
 use step_model::{Cause, Fault, Sink};
 use unroll::read_program;
@@ -19,13 +20,6 @@ const TOO_MANY: Fault = Fault {
     cause: Cause::Shots,
     line: 0,
 };
-
-/// What is shown of a shot, in a line.
-#[derive(Clone, Copy)]
-pub(crate) enum Shown {
-    Records,
-    Detections,
-}
 
 /// Writes what is shown of this many shots of a text's circuit, or why they are refused.
 pub(crate) fn answer_shots<W: Sink, A: Allocator + Copy>(
@@ -72,9 +66,6 @@ fn write_shots<W: Sink, A: Allocator + Copy>(
     if shots > MOST_SHOTS {
         return refuse(alloc, TOO_MANY, sink);
     }
-    match shown {
-        Shown::Records => sampling::sample(alloc, program, shots, seed, sink)?,
-        Shown::Detections => sampling::detect(alloc, program, shots, seed, sink)?,
-    }
+    sampling::write_shots(alloc, program, shown, shots, seed, sink)?;
     Ok(Status::Done)
 }

@@ -1,11 +1,12 @@
 //! The lines of runs, of random targets, of predictions and of refusals. Each text is built in one block of memory.
 ghost use Rattle.std.specs.Prelude.{◌≡◌, ◌++◌, ◌<◌, ◌∷◌, ◌+◌, codes, length, IfOk, OnOk};
 ghost use Rattle.error_models.specs.ModelText.{target_text};
-ghost use Rattle.sampling.specs.Lines.{digit_of, line_of};
+ghost use Rattle.sampling.specs.Lines.{line_of};
 ghost use Rattle.engine.specs.Output.{refusal_line};
 
 use forward_sim::Records;
 use itoa::Buffer;
+use sampling::digit;
 use std::alloc::{AllocError, Allocator};
 use step_model::Fault;
 
@@ -92,12 +93,6 @@ fn push_line<A: Allocator + Copy>(text: &mut Vec<u8, A>, values: &[bool]) -> Res
     }
     text.push(b'\n')?;
     Ok(())
-}
-
-fn digit(value: bool) -> u8
-    ensures { result ≡ digit_of value }
-{
-    if value { b'1' } else { b'0' }
 }
 
 /// The line that says why an order is refused.

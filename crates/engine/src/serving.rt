@@ -8,11 +8,12 @@ ghost use Rattle.engine.specs.Headline.{IsDecided, IsExactFor, IsRandomFor};
 ghost use Rattle.engine.specs.Output.{output_of};
 
 use crate::analysis::answer_analysis;
-use crate::drawing::{Shown, answer_shots};
+use crate::drawing::answer_shots;
 use crate::listing::answer_faults;
 use crate::order::{Order, Status};
 use crate::predicting::answer_prediction;
 use crate::running::answer_run;
+use sampling::Shown;
 use std::alloc::Allocator;
 use step_model::{Fault, Sink, Source, read_all};
 

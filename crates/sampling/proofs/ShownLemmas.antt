@@ -1,12 +1,23 @@
 -- Words filled one after another, and what their lanes then show.
-use Rattle.std.proofs.Common.{◌≡◌, ℕ, ◌+◌, ◌<◌, ◌≤◌, Bool, false, List, ◌++◌, length, take, drop, get_or, set, sym, ap, subst, ◌∙◌, arith, ⊎_elim, get_or-set_same, get_or-set_other, length-append}
+use Rattle.std.proofs.Common.{◌≡◌, ℕ, ◌+◌, ◌<◌, ◌≤◌, Bool, false, List, [], ◌++◌, length, refl, take, drop, get_or, set, sym, ap, subst, ◌∙◌, arith, ⊎_elim, get_or-set_same, get_or-set_other, length-append}
 use Rattle.std.proofs.Math.Seq.{take-append_seam}
 use Rattle.std.proofs.lemmas.Bool.{cases_lt}
 use Rattle.std.proofs.lemmas.List.{ext_get_or, get_or-map, length-map}
+use Rattle.rand_pcg.specs.Lcg.{Lcg}
 use Rattle.forward_sim.proofs.Differences.{differences-map}
+use Rattle.forward_sim.proofs.RunRecords.{length-records_of}
+use Rattle.step_model.specs.Frames.{zero_coins}
 use Rattle.step_model.specs.Listing.{Listing}
+use Rattle.step_model.specs.Runs.{records_of}
 use Rattle.step_model.specs.Targets.{difference, parity, targets_of}
+use Rattle.step_model.specs.WellFormed.{IsWellFormed}
 use Rattle.bit_rows.specs.Lanes.{lane, lane_bit}
+use Rattle.sampling.specs.declared.side_runs.Shown.{Shown}
+use Rattle.sampling.specs.declared.side_runs.Shown.TheVariants.{Records, Detections}
+use Rattle.sampling.specs.Lines.{line_of}
+use Rattle.sampling.specs.Sampled.{shot_coins, shot_faults}
+use Rattle.sampling.specs.Shown.{shown_line}
+use Rattle.sampling.specs.private.ShownRuns.{shown_count, shown_of}
 
 -- one word more
 pub filled_more : (Is : ℕ → ℕ → Type 0) (words : List ℕ) (at word : ℕ) → at < length words
@@ -30,12 +41,25 @@ lane_shows j words values size same =
     get_or-map (lane_bit j) words i 0 false within ∙ same i within)
 
 -- a truth value for each target
-pub length-difference : (program : Listing) (first second : List Bool)
+length-difference : (program : Listing) (first second : List Bool)
     → length (difference program first second) ≡ length program.detectors + length program.observables
 length-difference program first second =
     ap length (differences-map (λ t. parity t first) (λ t. parity t second) (targets_of program))
     ∙ (length-map (targets_of program) _
     ∙ length-append program.detectors program.observables)
+
+-- as many truth values as are shown
+pub length-shown : (shown : Shown) (program : Listing) (faults coins : List Bool) → IsWellFormed program
+    → length (shown_of shown program faults coins) ≡ shown_count shown program
+length-shown Records program faults coins listing = length-records_of program faults coins listing
+length-shown Detections program faults coins listing =
+    length-difference program (records_of program faults coins) (records_of program [] (zero_coins program))
+
+-- the line of a shot is that of what is shown of it
+pub shown_line-is : (shown : Shown) (program : Listing) (g : Lcg)
+    → shown_line shown program g ≡ line_of (shown_of shown program (shot_faults program g) (shot_coins program g))
+shown_line-is Records program g = refl
+shown_line-is Detections program g = refl
 
 -- a vector's items, written anew by a slice
 pub rewritten : (len : ℕ) (new items : List ℕ) → length new ≡ len → take len (new ++ drop (length new) items) ≡ new

@@ -14,7 +14,10 @@ use Rattle.forward_sim.proofs.WordLemmas.{after_words-add}
 use Rattle.sampling.specs.private.LaneLines.{lane_line, lane_lines}
 use Rattle.sampling.specs.Lines.{line_of}
 use Rattle.sampling.specs.Sampled.{lines_from, shot_generator}
-use Rattle.sampling.specs.Shown.{ShownOf, shown_line}
+use Rattle.sampling.specs.declared.side_runs.Shown.{Shown}
+use Rattle.sampling.specs.Shown.{shown_line}
+use Rattle.sampling.specs.private.ShownRuns.{shown_of}
+use Rattle.sampling.proofs.ShownLemmas.{shown_line-is}
 
 -- texts by numbers from elsewhere on
 texts_moved : (f h : ℕ → List ℕ) (done k n : ℕ) → ((j : ℕ) → k ≤ j → j < k + n → f (done + j) ≡ h j)
@@ -62,14 +65,15 @@ batch_lines line program count g words same =
     ap (λ k. line program (shot_generator program g k)) here ∙ same j (omega (arith, high))))
 
 -- the line of a shot that was drawn into a lane and run
-pub drawn_line : (shown : ShownOf) (program : Listing) (count j : ℕ) (g : Lcg) (faults coins words : List ℕ) → count ≤ 64 → j < count
+pub drawn_line : (shown : Shown) (program : Listing) (count j : ℕ) (g : Lcg) (faults coins words : List ℕ) → count ≤ 64 → j < count
     → AreDrawn (bounds_of program) program.collapses count g faults coins
-    → ((i : ℕ) → i < 64 → lane i words ≡ shown program (lane i faults) (lane i coins))
+    → ((i : ℕ) → i < 64 → lane i words ≡ shown_of shown program (lane i faults) (lane i coins))
     → shown_line shown program (shot_generator program g j) ≡ lane_line words j
 drawn_line shown program count j g faults coins words few below drawn runs =
     let n : length (bounds_of program) ≡ length program.faults = length-map program.faults (λ (fault : ListedFault). fault.bound) in
-    ap line_of
-    (ap₂ (shown program)
+    shown_line-is shown program (shot_generator program g j)
+    ∙ ap line_of
+    (ap₂ (shown_of shown program)
     (ap (λ m. drawn_faults (bounds_of program) (after_shots m program.collapses j g)) (sym n) ∙ sym (drawn.faults j below))
     (ap (λ m. drawn_coins program.collapses (after_words m (after_shots m program.collapses j g))) (sym n) ∙ sym (drawn.coins j below))
     ∙ sym (runs j (omega (arith, few, below))))

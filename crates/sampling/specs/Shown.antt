@@ -1,15 +1,12 @@
--- The line of a drawn shot, by what is shown of a run.
+-- The line of a drawn shot, by what is shown of it.
 -- (This project's own.)
-use Rattle.std.specs.Prelude.{Bool, List, ℕ}
+use Rattle.std.specs.Prelude.{List, ℕ}
 use Rattle.rand_pcg.specs.Lcg.{Lcg}
 use Rattle.step_model.specs.Listing.{Listing}
-use Rattle.sampling.specs.Lines.{line_of}
-use Rattle.sampling.specs.Sampled.{shot_coins, shot_faults}
+use Rattle.sampling.specs.declared.side_runs.Shown.{Shown}
+use Rattle.sampling.specs.declared.side_runs.Shown.TheVariants.{Records, Detections}
+use Rattle.sampling.specs.Sampled.{detection_line, record_line}
 
--- what is shown of a program's run with these faults and coins
-abbrev pub ShownOf : Type 0
-ShownOf = Listing → List Bool → List Bool → List Bool
-
--- the line of the shot that a generator's next words draw
-abbrev pub shown_line : ShownOf → Listing → Lcg → List ℕ
-shown_line shown program generator = line_of (shown program (shot_faults program generator) (shot_coins program generator))
+abbrev pub shown_line : Shown → Listing → Lcg → List ℕ
+shown_line Records = record_line
+shown_line Detections = detection_line

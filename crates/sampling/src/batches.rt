@@ -18,24 +18,24 @@ use streams::Pieces;
 
 /// Writes the lines of the first `shots` shots of a seed. `line` has room for one line. It takes no memory, and fails
 /// only where the sink fails; a beginning of the text has then gone out, and the sink is not called again.
-pub fn write_shots<S: SideRuns, W: Sink, A: Allocator + Copy>(
+pub(crate) fn write_batches<W: Sink, A: Allocator + Copy>(
     drawn: &mut Shots<A>,
-    runs: &mut S,
+    runs: &mut SideRuns<'_, '_, A>,
     line: &mut [u8],
     shots: u64,
     seed: u64,
     sink: &mut W,
 ) -> Result<(), Fault>
-    requires bounds { drawn.old.bounds ≡ bounds_of (S.program runs.old) }
-    requires coins { length drawn.old.coins ≡ (S.program runs.old).collapses }
-    requires line { length line.old ≡ length (S.lane_words runs.old) + 1 }
+    requires bounds { drawn.old.bounds ≡ bounds_of runs.old.program }
+    requires coins { length drawn.old.coins ≡ runs.old.program.collapses }
+    requires line { length line.old ≡ length runs.old.words + 1 }
     ensures all { OnOk result
         (Takes (W.taken sink.old) (W.taken sink.new)
-        (shots_text (shown_line S.shown) shots seed (S.program runs.old))) }
+        (shots_text (shown_line runs.old.shown) shots seed runs.old.program)) }
     ensures fault { IfErr result (λ e. e ≡ write_fault) }
     ensures beginning { OnErr result
         (TakesBeginning (W.taken sink.old) (W.taken sink.new)
-        (shots_text (shown_line S.shown) shots seed (S.program runs.old))) }
+        (shots_text (shown_line runs.old.shown) shots seed runs.old.program)) }
     ensures count { W.failures sink.new ≡ write_failures result (W.failures sink.old) }
 {
     let mut rng = Pcg64::seed_from_u64(seed);
@@ -44,20 +44,20 @@ pub fn write_shots<S: SideRuns, W: Sink, A: Allocator + Copy>(
     out.finish(sink)
 }
 
-fn push_shots<S: SideRuns, W: Sink, A: Allocator + Copy>(
+fn push_shots<W: Sink, A: Allocator + Copy>(
     out: &mut Pieces,
     sink: &mut W,
     drawn: &mut Shots<A>,
-    runs: &mut S,
+    runs: &mut SideRuns<'_, '_, A>,
     line: &mut [u8],
     shots: u64,
     rng: &mut Pcg64,
 )
-    requires bounds { drawn.old.bounds ≡ bounds_of (S.program runs.old) }
-    requires coins { length drawn.old.coins ≡ (S.program runs.old).collapses }
-    requires line { length line.old ≡ length (S.lane_words runs.old) + 1 }
+    requires bounds { drawn.old.bounds ≡ bounds_of runs.old.program }
+    requires coins { length drawn.old.coins ≡ runs.old.program.collapses }
+    requires line { length line.old ≡ length runs.old.words + 1 }
     ensures { Pushes W.taken W.failures sink.old sink.new out.old out.new
-        (lines_from (shown_line S.shown) (S.program runs.old) shots rng.old) }
+        (lines_from (shown_line runs.old.shown) runs.old.program shots rng.old) }
 {
     let mut left = shots;
     while left > 0 {
@@ -82,26 +82,27 @@ fn next_count(left: u64) -> u32
 }
 
 // The lines of one batch.
-fn push_batch<S: SideRuns, W: Sink, A: Allocator + Copy>(
+fn push_batch<W: Sink, A: Allocator + Copy>(
     out: &mut Pieces,
     sink: &mut W,
     drawn: &mut Shots<A>,
-    runs: &mut S,
+    runs: &mut SideRuns<'_, '_, A>,
     line: &mut [u8],
     count: u32,
     rng: &mut Pcg64,
 )
-    requires bounds { drawn.old.bounds ≡ bounds_of (S.program runs.old) }
-    requires coins { length drawn.old.coins ≡ (S.program runs.old).collapses }
-    requires line { length line.old ≡ length (S.lane_words runs.old) + 1 }
+    requires bounds { drawn.old.bounds ≡ bounds_of runs.old.program }
+    requires coins { length drawn.old.coins ≡ runs.old.program.collapses }
+    requires line { length line.old ≡ length runs.old.words + 1 }
     requires count { count ≤ 64 }
     ensures lines { Pushes W.taken W.failures sink.old sink.new out.old out.new
-        (lines_from (shown_line S.shown) (S.program runs.old) count rng.old) }
-    ensures taken { rng.new ≡ shot_generator (S.program runs.old) rng.old count }
-    ensures program { S.program runs.new ≡ S.program runs.old }
-    ensures bounds { drawn.new.bounds ≡ bounds_of (S.program runs.old) }
-    ensures coins { length drawn.new.coins ≡ (S.program runs.old).collapses }
-    ensures line { length line.new ≡ length (S.lane_words runs.new) + 1 }
+        (lines_from (shown_line runs.old.shown) runs.old.program count rng.old) }
+    ensures taken { rng.new ≡ shot_generator runs.old.program rng.old count }
+    ensures program { runs.new.program ≡ runs.old.program }
+    ensures shown { runs.new.shown ≡ runs.old.shown }
+    ensures bounds { drawn.new.bounds ≡ bounds_of runs.old.program }
+    ensures coins { length drawn.new.coins ≡ runs.old.program.collapses }
+    ensures line { length line.new ≡ length runs.new.words + 1 }
 {
     drawn.draw(count, rng);
     runs.run(drawn.faults(), drawn.coins());

@@ -5,12 +5,10 @@
 #![tactic(auto)]
 
 mod batches;
-mod detection_runs;
 mod lines;
-mod orders;
-mod record_runs;
+mod shots;
 mod side_runs;
 
-pub use batches::write_shots;
-pub use orders::{detect, sample};
-pub use side_runs::SideRuns;
+pub use lines::digit;
+pub use shots::write_shots;
+pub use side_runs::Shown;

@@ -41,8 +41,9 @@ fn fill_line(line: &mut [u8], words: &[u64], shot: u32)
     line[words.len()] = b'\n';
 }
 
+/// The character 1 or 0.
 #[inline(always)]
-fn digit(value: bool) -> u8
+pub fn digit(value: bool) -> u8
     ensures { result ≡ digit_of value }
 {
     if value { b'1' } else { b'0' }

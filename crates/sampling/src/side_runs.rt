@@ -1,28 +1,143 @@
-ghost use Rattle.std.specs.Prelude.{◌≡◌, ◌<◌, ℕ, List, Bool, length};
-ghost use Rattle.step_model.specs.Listing.{Listing};
-ghost use Rattle.bit_rows.specs.Lanes.{lane};
+//! Runs of a program, 64 side by side, of which the records or the detections are shown.
+ghost use Rattle.std.specs.Prelude.{◌≡◌, ◌+◌, ◌<◌, ℕ, false, length, slice_index, slice_index_or, IfOk, IfErr};
+ghost use Rattle.step_model.specs.Faults.{memory_fault};
+ghost use Rattle.bit_rows.specs.Lanes.{lane, lane_bit};
+ghost use Rattle.frames.specs.Batches.{shot_records};
+ghost use Rattle.sampling.specs.private.ShownRuns.{shown_beside, shown_count, shown_of};
 
-/// Runs of a program, 64 side by side, and what is shown of each: truth values, such as its records. Each call of `run`
-/// runs them anew.
-pub trait SideRuns {
-    // The program.
-    ghost program: { Self → Listing };
+use frames::Batch;
+use programs::Program;
+use std::alloc::Allocator;
+use std::marker::Model;
+use step_model::Fault;
 
-    // What is shown of a program's run with these faults and coins.
-    ghost shown: { Listing → List Bool → List Bool → List Bool };
+/// What is shown of a run: a truth value for each record; or for each detector and then for each observable, whether its parity
+/// differs from that in the run without faults whose coins are all 0. (A coin is the outcome of a collapse, the projective
+/// measurement inside a measurement or a reset, where that is random.)
+#[derive(Clone, Copy)]
+pub enum Shown {
+    Records,
+    Detections,
+}
 
-    // What is shown of the runs made last: a word for each truth value, whose bit j belongs to run j.
-    ghost lane_words: { Self → List ℕ };
+/// Runs of a program, of which words have in their lanes what is shown. Each call of `run` runs them anew.
+#[derive(Drop)]
+pub(crate) struct SideRuns<'b, 'p, A: Allocator + Copy> {
+    program: &'b Program<'p, A>,
+    batch: Batch<A>,
+    shown: Shown,
+    words: Vec<u64, A>,
+}
+
+impl<'b, 'p, A: Allocator + Copy> Model for SideRuns<'b, 'p, A> {
+    ghost use Rattle.std.specs.Prelude.{◌≡◌, length};
+    ghost use Rattle.frames.specs.Batches.{IsBatchOf};
+    ghost use Rattle.sampling.specs.private.ShownRuns.{ShownRuns, shown_count};
+
+    ghost Value = { ShownRuns };
+
+    ghost view = { λ r. record { program = r.program.now.listing; shown = r.shown; words = r.words.items } };
+
+    ghost invariant = { λ r. IsBatchOf r.program.now.listing r.batch × (length r.words.items ≡ shown_count r.shown r.program.now.listing) };
+}
+
+impl<'b, 'p, A: Allocator + Copy> SideRuns<'b, 'p, A> {
+    /// Makes the reference run. All memory is taken here.
+    pub(crate) fn new(alloc: A, program: &'b Program<'p, A>, shown: Shown) -> Result<Self, Fault>
+        ensures program { IfOk result (λ runs. runs.program ≡ program.now.listing) }
+        ensures shown { IfOk result (λ runs. runs.shown ≡ shown) }
+        ensures err { IfErr result (λ fault. fault ≡ memory_fault) }
+    {
+        let words = vec![in alloc; 0u64; count(program, shown)]?;
+        let batch = Batch::new(alloc, program)?;
+        Ok(SideRuns {
+            program,
+            batch,
+            shown,
+            words,
+        })
+    }
 
     /// Runs the program with the faults and the coins of each lane.
-    fn run(&mut self, faults: &[u64], coins: &[u64])
-        requires faults { length faults.now ≡ length (program self.old).faults }
-        requires coins { length coins.now ≡ (program self.old).collapses }
-        ensures program { program self.new ≡ program self.old }
-        ensures size { length (lane_words self.new) ≡ length (lane_words self.old) }
-        ensures shown { (j : ℕ) → j < 64 → lane j (lane_words self.new) ≡ shown (program self.old) (lane j faults.now) (lane j coins.now) };
+    pub(crate) fn run(&mut self, faults: &[u64], coins: &[u64])
+        requires faults { length faults.now ≡ length self.old.program.faults }
+        requires coins { length coins.now ≡ self.old.program.collapses }
+        ensures program { self.new.program ≡ self.old.program }
+        ensures shown { self.new.shown ≡ self.old.shown }
+        ensures size { length self.new.words ≡ length self.old.words }
+        ensures lanes { (j : ℕ)
+            → j < 64
+            → lane j self.new.words
+            ≡ shown_of self.old.shown self.old.program (lane j faults.now) (lane j coins.now) }
+    {
+        self.program.well_formed();
+        self.batch.follow(self.program, faults, coins);
+        fill(&mut self.words, &self.batch, self.program, self.shown);
+    }
 
     /// What is shown of the runs made last: a word for each truth value, whose bit j belongs to run j.
-    fn words(&self) -> &[u64]
-        ensures { result.now ≡ lane_words self.now };
+    pub(crate) fn words(&self) -> &[u64]
+        ensures { result.now ≡ self.now.words }
+    {
+        self.words.as_slice()
+    }
+}
+
+/// How many truth values are shown of a run.
+fn count<A: Allocator + Copy>(program: &Program<'_, A>, shown: Shown) -> usize
+    ensures { result ≡ shown_count shown program.now.listing }
+{
+    match shown {
+        Shown::Records => program.record_count() as usize,
+        Shown::Detections => program.target_count(),
+    }
+}
+
+/// What is shown of all runs, a word for each truth value.
+fn fill<A: Allocator + Copy>(
+    words: &mut [u64],
+    batch: &Batch<A>,
+    program: &Program<'_, A>,
+    shown: Shown,
+)
+    requires records { length batch.now.reference.records ≡ program.now.listing.records }
+    requires words { length words.old ≡ shown_count shown program.now.listing }
+    ensures size { length words.new ≡ length words.old }
+    ensures filled { (index : ℕ)
+        → index < length words.old
+        → (j : ℕ)
+        → j < 64
+        → lane_bit j (slice_index words.new index)
+        ≡ slice_index_or
+        (shown_beside shown program.now.listing (shot_records j batch.now)
+        batch.now.reference.records)
+        index false }
+{
+    for index in 0..words.len() {
+        words[index] = word(batch, program, shown, index);
+    }
+}
+
+/// One truth value of all runs.
+#[inline(always)]
+fn word<A: Allocator + Copy>(
+    batch: &Batch<A>,
+    program: &Program<'_, A>,
+    shown: Shown,
+    index: usize,
+) -> u64
+    requires records { length batch.now.reference.records ≡ program.now.listing.records }
+    requires index { index < shown_count shown program.now.listing }
+    ensures { (j : ℕ)
+        → j < 64
+        → lane_bit j result
+        ≡ slice_index_or
+        (shown_beside shown program.now.listing (shot_records j batch.now)
+        batch.now.reference.records)
+        index false }
+{
+    match shown {
+        Shown::Records => batch.records_word(index),
+        Shown::Detections => batch.detections_word(program, index),
+    }
 }

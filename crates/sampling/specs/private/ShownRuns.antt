@@ -1,18 +1,30 @@
 -- 64 runs of a program side by side, and what is shown of them.
 -- (This project's own.)
-use Rattle.std.specs.Prelude.{ℕ, Bool, List, []}
+use Rattle.std.specs.Prelude.{ℕ, ◌+◌, Bool, List, [], length}
 use Rattle.step_model.specs.Frames.{zero_coins}
 use Rattle.step_model.specs.Listing.{Listing}
 use Rattle.step_model.specs.Runs.{records_of}
 use Rattle.step_model.specs.Targets.{difference}
+use Rattle.sampling.specs.declared.side_runs.Shown.{Shown}
+use Rattle.sampling.specs.declared.side_runs.Shown.TheVariants.{Records, Detections}
 
 -- the program, and the words in whose lanes stands what is shown
 pub record ShownRuns : Type 0 where
   pub program : Listing
+  pub shown : Shown
   pub words : List ℕ
 
--- for each target of a run with these faults and coins whether it differs from that of the run without faults whose
--- coins are all 0
-abbrev pub detections_of : Listing → List Bool → List Bool → List Bool
-detections_of program faults coins =
-    difference program (records_of program faults coins) (records_of program [] (zero_coins program))
+-- how many truth values are shown of a run
+abbrev pub shown_count : Shown → Listing → ℕ
+shown_count Records program = program.records
+shown_count Detections program = length program.detectors + length program.observables
+
+-- what is shown of a run with these records, beside one with those
+abbrev pub shown_beside : Shown → Listing → List Bool → List Bool → List Bool
+shown_beside Records program records reference = records
+shown_beside Detections program records reference = difference program records reference
+
+-- what is shown of the run with these faults and coins, beside that without faults whose coins are all 0
+abbrev pub shown_of : Shown → Listing → List Bool → List Bool → List Bool
+shown_of shown program faults coins =
+    shown_beside shown program (records_of program faults coins) (records_of program [] (zero_coins program))

@@ -9,7 +9,7 @@ use programs::Program;
 use rand_core::SeedableRng;
 use rand_core::utils::NextWord;
 use rand_pcg::Pcg64;
-use sampling::{detect, sample};
+use sampling::{Shown, write_shots};
 use step_model::{Fault, MemorySink};
 
 #[derive(Clone, Copy, Debug)]
@@ -48,8 +48,8 @@ impl Call for Running {
             Running::BatchAlong => batch_is_right(ration.begin(), program, 60),
             Running::Draw => draw_is_right(ration.begin(), program),
             Running::Shots => shots_are_right(ration.begin(), program),
-            Running::Sample => lines_are_right(ration, program, true),
-            Running::Detect => lines_are_right(ration, program, false),
+            Running::Sample => lines_are_right(ration, program, Shown::Records, 27),
+            Running::Detect => lines_are_right(ration, program, Shown::Detections, 15),
         }
     }
 }
@@ -130,20 +130,15 @@ fn shots_are_right<'m>(
     Ok(shots.faults() == [0; 10].as_slice() && shots.coins() == [0; 11].as_slice())
 }
 
-/// Draws three shots, of which each line has so many bytes. Nothing goes out where memory is wanted.
+/// Draws three shots, whose lines have so many bytes. Nothing goes out where memory is wanted.
 fn lines_are_right<'m>(
     ration: Ration<'m>,
     program: &Program<'_, Memory<'m>>,
-    are_records: bool,
+    shown: Shown,
+    length: usize,
 ) -> Result<bool, Fault> {
     let mut sink = MemorySink::new(ration.alloc);
-    let memory = ration.begin();
-    let (length, end) = if are_records {
-        (27, sample(memory, program, 3, 7, &mut sink))
-    } else {
-        (15, detect(memory, program, 3, 7, &mut sink))
-    };
-    match end {
+    match write_shots(ration.begin(), program, shown, 3, 7, &mut sink) {
         Ok(()) => Ok(sink.bytes().len() == length),
         Err(fault) if sink.bytes().is_empty() => Err(fault),
         Err(_) => Ok(false),

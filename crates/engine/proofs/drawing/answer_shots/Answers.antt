@@ -1,6 +1,6 @@
 use Rattle.std.proofs.Common.{inl, inr, Result, ap, sym, subst}
 use Rattle.std.specs.Prelude.{OnErr}
-use Rattle.engine.specs.private.ShownLines.{shown_line}
+use Rattle.sampling.specs.Shown.{shown_line}
 use Rattle.step_model.specs.Ends.{TakesSome}
 use Rattle.step_model.specs.declared.fault.Fault.{Fault}
 use Rattle.step_model.specs.Faults.{◌>>=◌}

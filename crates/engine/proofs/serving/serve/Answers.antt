@@ -5,30 +5,20 @@ use Rattle.step_model.specs.Ends.{Takes}
 use Rattle.engine.specs.declared.order.Order.TheVariants.{Analyze}
 use Rattle.engine.specs.declared.order.Status.TheVariants.{Done, Random}
 use Rattle.engine.specs.Headline.{IsDecided, IsExactFor, IsRandomFor}
-use Rattle.engine.proofs.ServingLemmas.{decided, of_told}
+use Rattle.engine.proofs.ServingLemmas.{decided, of_told, promised}
 use Rattle.engine.proofs.serving.serve.Goals as goal
 
 pub returns-clause-exact : goal.returns-clause-exact
 returns-clause-exact g c =
-    let wrote : List ℕ → Type 0 =
-    λ text. (x : List ℕ) × Takes (g.W.Sink.taken c.args.sink.now) (g.W.Sink.taken c.answer.new.sink) x × IsExactFor text x in
-    IfOk-weaker c.answer.result (λ status. c.args.order.now ≡ Analyze → status ≡ Done → wrote c.as_slice.result.now)
-    (λ status. c.args.order.now ≡ Analyze → status ≡ Done → IfSome (g.R.Source.left c.args.source.now) wrote)
-    (λ status h asked done.
-    of_told wrote (g.R.Source.left c.args.source.now) (g.R.Source.left c.read_all.new.source) c.in_ok-text.text.items c.in_ok-text.ensures.all c.in_ok-text.ensures.end
-    (subst wrote c.as_slice.ensures.value (h asked done)))
-    c.answer.ensures.exact
+    promised (λ text. (x : List ℕ) × Takes (g.W.Sink.taken c.args.sink.now) (g.W.Sink.taken c.answer.new.sink) x × IsExactFor text x) Done c.args.order.now
+    (g.R.Source.left c.args.source.now) (g.R.Source.left c.read_all.new.source) c.in_ok-text.text.items c.as_slice.result.now c.answer.result
+    c.in_ok-text.ensures.all c.in_ok-text.ensures.end c.as_slice.ensures.value c.answer.ensures.exact
 
 pub returns-clause-random : goal.returns-clause-random
 returns-clause-random g c =
-    let wrote : List ℕ → Type 0 =
-    λ text. (x : List ℕ) × Takes (g.W.Sink.taken c.args.sink.now) (g.W.Sink.taken c.answer.new.sink) x × IsRandomFor text x in
-    IfOk-weaker c.answer.result (λ status. c.args.order.now ≡ Analyze → status ≡ Random → wrote c.as_slice.result.now)
-    (λ status. c.args.order.now ≡ Analyze → status ≡ Random → IfSome (g.R.Source.left c.args.source.now) wrote)
-    (λ status h asked random.
-    of_told wrote (g.R.Source.left c.args.source.now) (g.R.Source.left c.read_all.new.source) c.in_ok-text.text.items c.in_ok-text.ensures.all c.in_ok-text.ensures.end
-    (subst wrote c.as_slice.ensures.value (h asked random)))
-    c.answer.ensures.random
+    promised (λ text. (x : List ℕ) × Takes (g.W.Sink.taken c.args.sink.now) (g.W.Sink.taken c.answer.new.sink) x × IsRandomFor text x) Random c.args.order.now
+    (g.R.Source.left c.args.source.now) (g.R.Source.left c.read_all.new.source) c.in_ok-text.text.items c.as_slice.result.now c.answer.result
+    c.in_ok-text.ensures.all c.in_ok-text.ensures.end c.as_slice.ensures.value c.answer.ensures.random
 
 pub returns-clause-decided : goal.returns-clause-decided
 returns-clause-decided g c =

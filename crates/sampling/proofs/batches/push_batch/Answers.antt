@@ -9,12 +9,13 @@ use Rattle.streams.specs.Pushed.{Pushes}
 use Rattle.sampling.specs.private.LaneLines.{lane_lines}
 use Rattle.sampling.specs.Sampled.{lines_from}
 use Rattle.sampling.specs.Shown.{shown_line}
+use Rattle.sampling.specs.private.ShownRuns.{shown_of}
 use Rattle.sampling.proofs.TextLemmas.{batch_lines, drawn_line}
 use Rattle.sampling.proofs.batches.push_batch.Goals as goal
 
 pub run-requires : goal.run-requires
 run-requires g c =
-    let program = g.S.SideRuns.program c.args.runs.now in
+    let program = c.args.runs.now.program in
     let drawn = c.draw.ensures.drawn in
     record {
       faults =
@@ -33,9 +34,9 @@ push_lines-requires g c =
 
 pub returns : goal.returns
 returns g c =
-    let program = g.S.SideRuns.program c.args.runs.now in
-    let shown = g.S.SideRuns.shown in
-    let words = g.S.SideRuns.lane_words c.run.new.self in
+    let program = c.args.runs.now.program in
+    let shown = c.args.runs.now.shown in
+    let words = c.run.new.self.words in
     let rng = c.args.rng.now in
     let count = c.args.count in
     let faults = c.draw.new.self.faults in
@@ -50,11 +51,12 @@ returns g c =
     ∙ batch_lines (shown_line shown) program count rng words
     (λ j below.
     drawn_line shown program count j rng faults coins words c.requires.count below drawn
-    (λ i lane_below. c.run.ensures.shown i lane_below ∙ ap₂ (λ fs cs. shown program (lane i fs) (lane i cs)) c.faults.ensures c.coins.ensures)) in
+    (λ i lane_below. c.run.ensures.lanes i lane_below ∙ ap₂ (λ fs cs. shown_of shown program (lane i fs) (lane i cs)) c.faults.ensures c.coins.ensures)) in
     record {
       lines = subst (λ bytes. Pushes g.W.Sink.taken g.W.Sink.failures c.args.sink.now c.push_lines.new.sink c.args.out.now c.push_lines.new.out bytes) text c.push_lines.ensures.lines;
       taken = c.draw.ensures.taken ∙ ap₂ (λ a b. after_shots a b count rng) n c.requires.coins;
       program = c.run.ensures.program;
+      shown = c.run.ensures.shown;
       bounds = c.draw.ensures.bounds ∙ c.requires.bounds;
       coins = c.draw.ensures.drawn.coin_count ∙ c.requires.coins;
       line = c.push_lines.ensures.room ∙ (c.requires.line ∙ ap (λ n. n + 1) (sym c.run.ensures.size));

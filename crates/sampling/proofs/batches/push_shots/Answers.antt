@@ -13,17 +13,18 @@ use Rattle.sampling.proofs.batches.push_shots.Goals as goal
 
 pub loop-left-init : goal.loop-left-init
 loop-left-init g c =
-    let program = g.S.SideRuns.program c.args.runs.now in
+    let program = c.args.runs.now.program in
     let rng = c.args.rng.now in
     let none : c.args.shots - c.args.shots ≡ 0 = omega arith in
     record {
       within = omega arith;
       same = refl;
+      shown = refl;
       bounds = c.requires.bounds;
       coins = c.requires.coins;
       line = c.requires.line;
       lines =
-          subst (λ n. Pushes g.W.Sink.taken g.W.Sink.failures c.args.sink.now c.args.sink.now c.args.out.now c.args.out.now (lines_from (shown_line g.S.SideRuns.shown) program n rng))
+          subst (λ n. Pushes g.W.Sink.taken g.W.Sink.failures c.args.sink.now c.args.sink.now c.args.out.now c.args.out.now (lines_from (shown_line c.args.runs.now.shown) program n rng))
           (sym none) Pushes-nil;
       taken = sym (ap (shot_generator program rng) none ∙ none_taken (length program.faults) program.collapses rng);
     }
@@ -43,8 +44,8 @@ push_batch-requires g c =
 
 pub loop-left-preserved : goal.loop-left-preserved
 loop-left-preserved g c =
-    let line = shown_line g.S.SideRuns.shown in
-    let program = g.S.SideRuns.program c.args.runs.now in
+    let line = shown_line c.args.runs.now.shown in
+    let program = c.args.runs.now.program in
     let rng = c.args.rng.now in
     let at = c.loop-left.invariant in
     let batch = c.push_batch.ensures in
@@ -53,13 +54,15 @@ loop-left-preserved g c =
     let done = c.args.shots - c.loop-left.left in
     let left = c.loop-left.left - c.from-left.result in
     let whole : done + count ≡ c.args.shots - left = omega (arith, size.within, at.within, c.from-left.ensures) in
-    let text : lines_from line program done rng ++ lines_from line (g.S.SideRuns.program c.loop-left.runs) count c.loop-left.rng ≡ lines_from line program (c.args.shots - left) rng =
-    ap₂ (λ p r. lines_from line program done rng ++ lines_from line p count r) at.same at.taken
+    let text : lines_from line program done rng ++ lines_from (shown_line c.loop-left.runs.shown) c.loop-left.runs.program count c.loop-left.rng ≡ lines_from line program (c.args.shots - left) rng =
+    ap (λ shown. lines_from line program done rng ++ lines_from (shown_line shown) c.loop-left.runs.program count c.loop-left.rng) at.shown
+    ∙ (ap₂ (λ p r. lines_from line program done rng ++ lines_from line p count r) at.same at.taken
     ∙ (lines_joined line program done count rng
-    ∙ ap (λ n. lines_from line program n rng) whole) in
+    ∙ ap (λ n. lines_from line program n rng) whole)) in
     record {
       within = omega (arith, at.within);
       same = batch.program ∙ at.same;
+      shown = batch.shown ∙ at.shown;
       bounds = batch.bounds ∙ ap bounds_of at.same;
       coins = batch.coins ∙ ap (λ (p : Listing). p.collapses) at.same;
       line = batch.line;
@@ -76,14 +79,14 @@ loop-left-preserved g c =
 pub returns : goal.returns
 returns g c =
     let all : c.args.shots - c.loop-left.left ≡ c.args.shots = omega arith in
-    subst (λ n. Pushes g.W.Sink.taken g.W.Sink.failures c.args.sink.now c.loop-left.sink c.args.out.now c.loop-left.out (lines_from (shown_line g.S.SideRuns.shown) (g.S.SideRuns.program c.args.runs.now) n c.args.rng.now))
+    subst (λ n. Pushes g.W.Sink.taken g.W.Sink.failures c.args.sink.now c.loop-left.sink c.args.out.now c.loop-left.out (lines_from (shown_line c.args.runs.now.shown) c.args.runs.now.program n c.args.rng.now))
     all c.loop-left.invariant.lines
 
 -- what is left out changes nothing any more
 pub returns-then-has_failed : goal.returns-then-has_failed
 returns-then-has_failed g c =
-    let line = shown_line g.S.SideRuns.shown in
-    let program = g.S.SideRuns.program c.args.runs.now in
+    let line = shown_line c.args.runs.now.shown in
+    let program = c.args.runs.now.program in
     let rng = c.args.rng.now in
     let at = c.loop-left.invariant in
     let left = c.loop-left.left in

@@ -8,14 +8,15 @@ use Rattle.sampling.proofs.batches.push_shots.Given as goal
 -- the lines of the shots so far were pushed, and the generator stands at the next one
 abbrev pub invariant-loop-left : goal.invariant-loop-left
 invariant-loop-left g l =
-    let program = g.S.SideRuns.program l.fn.runs in
+    let program = l.fn.runs.program in
     record {
       within : l.left ≤ l.shots;
-      same : g.S.SideRuns.program l.runs ≡ program;
+      same : l.runs.program ≡ program;
+      shown : l.runs.shown ≡ l.fn.runs.shown;
       bounds : l.drawn.bounds ≡ bounds_of program;
       coins : length l.drawn.coins ≡ program.collapses;
-      line : length l.line ≡ length (g.S.SideRuns.lane_words l.runs) + 1;
-      lines : Pushes g.W.Sink.taken g.W.Sink.failures l.fn.sink l.sink l.fn.out l.out (lines_from (shown_line g.S.SideRuns.shown) program (l.shots - l.left) l.fn.rng);
+      line : length l.line ≡ length l.runs.words + 1;
+      lines : Pushes g.W.Sink.taken g.W.Sink.failures l.fn.sink l.sink l.fn.out l.out (lines_from (shown_line l.fn.runs.shown) program (l.shots - l.left) l.fn.rng);
       taken : l.rng ≡ shot_generator program l.fn.rng (l.shots - l.left);
     }
 

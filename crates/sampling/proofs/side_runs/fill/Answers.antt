@@ -2,21 +2,28 @@
 use Rattle.std.proofs.Common.{◌≡◌, ℕ, ◌<◌, false, get_or, length-set, refl, ◌∙◌, arith}
 use Rattle.bit_rows.specs.Lanes.{lane_bit}
 use Rattle.frames.specs.Batches.{shot_records}
+use Rattle.sampling.specs.private.ShownRuns.{shown_beside}
 use Rattle.sampling.proofs.ShownLemmas.{filled_more}
-use Rattle.sampling.proofs.record_runs.fill.Goals as goal
+use Rattle.sampling.proofs.side_runs.fill.Goals as goal
 
 pub loop-index-init : goal.loop-index-init
 loop-index-init g c = record { size = refl; filled = λ i below. absurd (omega arith) }
 
-pub records_word-requires : goal.records_word-requires
-records_word-requires g c = omega (arith, c.loop-index.invariant.size, c.requires)
+pub word-requires : goal.word-requires
+word-requires g c =
+    record {
+      records = c.requires.records;
+      index = omega (arith, c.loop-index.invariant.size, c.requires.words);
+    }
 
 pub loop-index-preserved : goal.loop-index-preserved
 loop-index-preserved g c =
+    let program = c.args.program.now.listing in
+    let batch = c.args.batch.now in
     record {
       size = length-set _ _ _ ∙ c.loop-index.invariant.size;
-      filled = filled_more (λ i w. (j : ℕ) → j < 64 → lane_bit j w ≡ get_or (shot_records j c.args.batch.now) i false) c.loop-index.words c.loop-index.index c.records_word.result
-          (omega (arith, c.loop-index.invariant.size)) c.loop-index.invariant.filled c.records_word.ensures;
+      filled = filled_more (λ i w. (j : ℕ) → j < 64 → lane_bit j w ≡ get_or (shown_beside c.args.shown program (shot_records j batch) batch.reference.records) i false) c.loop-index.words c.loop-index.index c.word.result
+          (omega (arith, c.loop-index.invariant.size)) c.loop-index.invariant.filled c.word.ensures;
     }
 
 pub returns : goal.returns

@@ -1,5 +1,5 @@
 use Rattle.streams.proofs.Finishing.{all-finished, beginning-finished, count-finished}
-use Rattle.sampling.proofs.batches.write_shots.Goals as goal
+use Rattle.sampling.proofs.batches.write_batches.Goals as goal
 
 pub returns-clause-all : goal.returns-clause-all
 returns-clause-all g c =

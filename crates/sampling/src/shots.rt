@@ -1,0 +1,48 @@
+//! Drawn shots of a program, a line each.
+ghost use Rattle.std.specs.Prelude.{◌≡◌, ◌⊎◌, ◌+◌, length, replicate, IfOk, IfErr, OnOk, OnErr};
+ghost use Rattle.step_model.specs.Ends.{Takes, TakesSome, write_failures};
+ghost use Rattle.step_model.specs.Faults.{memory_fault, write_fault};
+ghost use Rattle.sampling.specs.Sampled.{shots_text};
+ghost use Rattle.sampling.specs.Shown.{shown_line};
+
+use crate::batches::write_batches;
+use crate::side_runs::{Shown, SideRuns};
+use forward_sim::Shots;
+use programs::Program;
+use std::alloc::{AllocError, Allocator};
+use step_model::{Fault, Sink};
+
+/// Writes a line for each of the first `shots` shots of a seed: a digit for each truth value that is shown of it. All memory is
+/// taken before the first line goes out, and it doesn't grow with the number of shots. It fails where memory runs out or the
+/// sink fails.
+pub fn write_shots<W: Sink, A: Allocator + Copy>(
+    alloc: A,
+    program: &Program<'_, A>,
+    shown: Shown,
+    shots: u64,
+    seed: u64,
+    sink: &mut W,
+) -> Result<(), Fault>
+    ensures written { OnOk result
+        (Takes (W.taken sink.old) (W.taken sink.new)
+        (shots_text (shown_line shown) shots seed program.now.listing)) }
+    ensures fault { IfErr result (λ e. (e ≡ memory_fault) ⊎ (e ≡ write_fault)) }
+    ensures writes { W.failures sink.new ≡ write_failures result (W.failures sink.old) }
+    ensures beginning { OnErr result
+        (TakesSome (W.taken sink.old) (W.taken sink.new)
+        (shots_text (shown_line shown) shots seed program.now.listing)) }
+{
+    let mut drawn = Shots::new(alloc, program)?;
+    let mut runs = SideRuns::new(alloc, program, shown)?;
+    let mut line = room_for(alloc, runs.words())?;
+    write_batches(&mut drawn, &mut runs, &mut line, shots, seed, sink)
+}
+
+// A line with a digit for each of these words, and its line feed.
+fn room_for<A: Allocator + Copy>(alloc: A, words: &[u64]) -> Result<Vec<u8, A>, AllocError>
+    ensures { IfOk result (λ line. length line.items ≡ length words.now + 1) }
+{
+    let mut line = vec![in alloc; b'0'; words.len()]?;
+    line.push(b'\n')?;
+    Ok(line)
+}
