@@ -1,6 +1,5 @@
 -- Words filled one after another, and what their lanes then show.
-use Rattle.std.proofs.Common.{◌≡◌, ℕ, ◌+◌, ◌<◌, ◌≤◌, Bool, false, List, [], ◌++◌, length, refl, take, drop, get_or, set, sym, ap, subst, ◌∙◌, arith, ⊎_elim, get_or-set_same, get_or-set_other, length-append}
-use Rattle.std.proofs.Math.Seq.{take-append_seam}
+use Rattle.std.proofs.Common.{◌≡◌, ℕ, ◌+◌, ◌<◌, ◌≤◌, Bool, false, List, [], length, refl, get_or, set, sym, ap, subst, ◌∙◌, arith, ⊎_elim, get_or-set_same, get_or-set_other, length-append}
 use Rattle.std.proofs.lemmas.Bool.{cases_lt}
 use Rattle.std.proofs.lemmas.List.{ext_get_or, get_or-map, length-map}
 use Rattle.rand_pcg.specs.Lcg.{Lcg}
@@ -60,18 +59,3 @@ pub shown_line-is : (shown : Shown) (program : Listing) (g : Lcg)
     → shown_line shown program g ≡ line_of (shown_of shown program (shot_faults program g) (shot_coins program g))
 shown_line-is Records program g = refl
 shown_line-is Detections program g = refl
-
--- a vector's items, written anew by a slice
-pub rewritten : (len : ℕ) (new items : List ℕ) → length new ≡ len → take len (new ++ drop (length new) items) ≡ new
-rewritten len new items size = ap (λ k. take k (new ++ drop (length new) items)) (sym size) ∙ take-append_seam new (drop (length new) items)
-
--- words that are filled where a vector lends them are as many as before
-pub length-rewritten : (len n : ℕ) (new lent items : List ℕ) → length new ≡ length lent → length lent ≡ len → lent ≡ items → length items ≡ n → length (take len (new ++ drop (length new) items)) ≡ n
-length-rewritten len n new lent items size lends is many =
-    ap length (rewritten len new items (size ∙ lends)) ∙ (size ∙ (ap length is ∙ many))
-
--- what their lanes then show
-pub rewritten_shows : (j len : ℕ) (new items : List ℕ) (values : List Bool) → length new ≡ len → length new ≡ length values
-    → ((i : ℕ) → i < length new → lane_bit j (get_or new i 0) ≡ get_or values i false) → lane j (take len (new ++ drop (length new) items)) ≡ values
-rewritten_shows j len new items values size many same =
-    ap (lane j) (rewritten len new items size) ∙ lane_shows j new values many same

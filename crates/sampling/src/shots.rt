@@ -6,8 +6,9 @@ ghost use Rattle.sampling.specs.Sampled.{shots_text};
 ghost use Rattle.sampling.specs.Shown.{shown_line};
 
 use crate::batches::write_batches;
-use crate::side_runs::{Shown, SideRuns};
+use crate::side_runs::{Shown, SideRuns, count};
 use forward_sim::Shots;
+use frames::Batch;
 use programs::Program;
 use std::alloc::{AllocError, Allocator};
 use step_model::{Fault, Sink};
@@ -32,9 +33,11 @@ pub fn write_shots<W: Sink, A: Allocator + Copy>(
         (TakesSome (W.taken sink.old) (W.taken sink.new)
         (shots_text (shown_line shown) shots seed program.now.listing)) }
 {
+    let mut words = vec![in alloc; 0u64; count(program, shown)]?;
+    let mut line = room_for(alloc, &words)?;
     let mut drawn = Shots::new(alloc, program)?;
-    let mut runs = SideRuns::new(alloc, program, shown)?;
-    let mut line = room_for(alloc, runs.words())?;
+    let mut batch = Batch::new(alloc, program)?;
+    let mut runs = SideRuns::new(program, &mut batch, shown, &mut words);
     write_batches(&mut drawn, &mut runs, &mut line, shots, seed, sink)
 }
 

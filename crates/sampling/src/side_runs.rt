@@ -1,15 +1,13 @@
 //! Runs of a program, 64 side by side, of which the records or the detections are shown.
 ghost use Rattle.std.specs.Prelude.{◌≡◌, ◌+◌, ◌<◌, ℕ, false, length, slice_index, slice_index_or, IfOk, IfErr};
-ghost use Rattle.step_model.specs.Faults.{memory_fault};
 ghost use Rattle.bit_rows.specs.Lanes.{lane, lane_bit};
-ghost use Rattle.frames.specs.Batches.{shot_records};
+ghost use Rattle.frames.specs.Batches.{IsBatchOf, shot_records};
 ghost use Rattle.sampling.specs.private.ShownRuns.{shown_beside, shown_count, shown_of};
 
 use frames::Batch;
 use programs::Program;
 use std::alloc::Allocator;
 use std::marker::Model;
-use step_model::Fault;
 
 /// What is shown of a run: a truth value for each record; or for each detector and then for each observable, whether its parity
 /// differs from that in the run without faults whose coins are all 0. (A coin is the outcome of a collapse, the projective
@@ -20,13 +18,14 @@ pub enum Shown {
     Detections,
 }
 
-/// Runs of a program, of which words have in their lanes what is shown. Each call of `run` runs them anew.
+/// Runs of a program, of which words have in their lanes what is shown. Each call of `run` runs them anew. The batch and the words
+/// are lent.
 #[derive(Drop)]
 pub(crate) struct SideRuns<'b, 'p, A: Allocator + Copy> {
     program: &'b Program<'p, A>,
-    batch: Batch<A>,
+    batch: &'b mut Batch<A>,
     shown: Shown,
-    words: Vec<u64, A>,
+    words: &'b mut [u64],
 }
 
 impl<'b, 'p, A: Allocator + Copy> Model for SideRuns<'b, 'p, A> {
@@ -36,26 +35,31 @@ impl<'b, 'p, A: Allocator + Copy> Model for SideRuns<'b, 'p, A> {
 
     ghost Value = { ShownRuns };
 
-    ghost view = { λ r. record { program = r.program.now.listing; shown = r.shown; words = r.words.items } };
+    ghost view = { λ r. record { program = r.program.now.listing; shown = r.shown; words = r.words.now } };
 
-    ghost invariant = { λ r. IsBatchOf r.program.now.listing r.batch × (length r.words.items ≡ shown_count r.shown r.program.now.listing) };
+    ghost invariant = { λ r. IsBatchOf r.program.now.listing r.batch.now × (length r.words.now ≡ shown_count r.shown r.program.now.listing) };
 }
 
 impl<'b, 'p, A: Allocator + Copy> SideRuns<'b, 'p, A> {
-    /// Makes the reference run. All memory is taken here.
-    pub(crate) fn new(alloc: A, program: &'b Program<'p, A>, shown: Shown) -> Result<Self, Fault>
-        ensures program { IfOk result (λ runs. runs.program ≡ program.now.listing) }
-        ensures shown { IfOk result (λ runs. runs.shown ≡ shown) }
-        ensures err { IfErr result (λ fault. fault ≡ memory_fault) }
+    /// Runs of a program, in a batch of it, with a word for each truth value that is shown.
+    pub(crate) fn new(
+        program: &'b Program<'p, A>,
+        batch: &'b mut Batch<A>,
+        shown: Shown,
+        words: &'b mut [u64],
+    ) -> Self
+        requires batch { IsBatchOf program.now.listing batch.now }
+        requires words { length words.now ≡ shown_count shown program.now.listing }
+        ensures program { result.program ≡ program.now.listing }
+        ensures shown { result.shown ≡ shown }
+        ensures words { result.words ≡ words.entry.now }
     {
-        let words = vec![in alloc; 0u64; count(program, shown)]?;
-        let batch = Batch::new(alloc, program)?;
-        Ok(SideRuns {
+        SideRuns {
             program,
             batch,
             shown,
             words,
-        })
+        }
     }
 
     /// Runs the program with the faults and the coins of each lane.
@@ -72,19 +76,19 @@ impl<'b, 'p, A: Allocator + Copy> SideRuns<'b, 'p, A> {
     {
         self.program.well_formed();
         self.batch.follow(self.program, faults, coins);
-        fill(&mut self.words, &self.batch, self.program, self.shown);
+        fill(self.words, self.batch, self.program, self.shown);
     }
 
     /// What is shown of the runs made last: a word for each truth value, whose bit j belongs to run j.
     pub(crate) fn words(&self) -> &[u64]
         ensures { result.now ≡ self.now.words }
     {
-        self.words.as_slice()
+        self.words
     }
 }
 
 /// How many truth values are shown of a run.
-fn count<A: Allocator + Copy>(program: &Program<'_, A>, shown: Shown) -> usize
+pub(crate) fn count<A: Allocator + Copy>(program: &Program<'_, A>, shown: Shown) -> usize
     ensures { result ≡ shown_count shown program.now.listing }
 {
     match shown {

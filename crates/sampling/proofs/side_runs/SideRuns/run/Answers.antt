@@ -2,25 +2,22 @@
 use Rattle.std.proofs.Common.{◌≡◌, false, length, get_or, sym, ap, ap₂, ◌∙◌, arith}
 use Rattle.bit_rows.specs.Lanes.{lane}
 use Rattle.sampling.specs.private.ShownRuns.{ShownRuns, shown_beside, shown_of}
-use Rattle.sampling.proofs.ShownLemmas.{length-rewritten, length-shown, rewritten_shows}
+use Rattle.sampling.proofs.ShownLemmas.{lane_shows, length-shown}
 use Rattle.sampling.proofs.side_runs.SideRuns.run.Goals as goal
 
 pub fill-requires : goal.fill-requires
 fill-requires g c =
     record {
       records = c.follow.ensures.batch.records;
-      words = ap length c.deref_mut.ensures.value ∙ c.self.invariant.1;
+      words = c.self.invariant.1;
     }
 
 pub invariant_of-self : goal.invariant_of-self
-invariant_of-self g c = (
-  c.follow.ensures.batch,
-  length-rewritten _ _ c.fill.new.words _ _ c.fill.ensures.size c.deref_mut.ensures.len c.deref_mut.ensures.value c.self.invariant.1,
-)
+invariant_of-self g c = (c.follow.ensures.batch, c.fill.ensures.size ∙ c.self.invariant.1)
 
 pub returns-clause-size : goal.returns-clause-size
 returns-clause-size g c =
-    length-rewritten _ _ c.fill.new.words _ _ c.fill.ensures.size c.deref_mut.ensures.len c.deref_mut.ensures.value (ap (λ (s : ShownRuns). length s.words) c.self.view_is)
+    c.fill.ensures.size ∙ ap (λ (s : ShownRuns). length s.words) c.self.view_is
 
 pub returns-clause-lanes : goal.returns-clause-lanes
 returns-clause-lanes g c j below =
@@ -30,10 +27,8 @@ returns-clause-lanes g c j below =
     let faults = lane j c.args.faults.now in
     let coins = lane j c.args.coins.now in
     let size : length words ≡ length (shown_of shown program faults coins) =
-    c.fill.ensures.size
-    ∙ (ap length c.deref_mut.ensures.value
-    ∙ (c.self.invariant.1 ∙ sym (length-shown shown program faults coins c.well_formed-2.ensures.listing))) in
-    rewritten_shows j _ words _ (shown_of shown program faults coins) (c.fill.ensures.size ∙ c.deref_mut.ensures.len) size
+    c.fill.ensures.size ∙ (c.self.invariant.1 ∙ sym (length-shown shown program faults coins c.well_formed-2.ensures.listing)) in
+    lane_shows j words (shown_of shown program faults coins) size
     (λ i within.
     c.fill.ensures.filled i (omega (arith, within, c.fill.ensures.size)) j below
     ∙ ap₂ (λ first second. get_or (shown_beside shown program first second) i false) (c.follow.ensures.runs j) (c.follow.ensures.batch.reference.records))
