@@ -1,23 +1,25 @@
--- The letters of a word other than I, as terms, make the word; and those of the destabilizer of a row that a collapse
--- names are what is kept of the collapse.
-use Rattle.std.proofs.Common.{◌≡◌, ℕ, zero, suc, ◌+◌, ◌<◌, true, false, List, [], ◌∷◌, ◌++◌, length, set, Option, Some, None, refl, sym, ap, subst, ◌∙◌, arith, append-nil}
-use Rattle.std.specs.Prelude.{IfSome, IfNone}
+-- The letters X and Z of a word, as terms, make the word; and those of the destabilizer of a row that a collapse names are
+-- what is kept of the collapse.
+use Rattle.std.proofs.Common.{◌≡◌, ℕ, zero, suc, ◌+◌, ◌<◌, Bool, true, false, List, [], ◌∷◌, ◌++◌, length, set, Option, Some, None, refl, sym, ap, ap₂, subst, ◌∙◌, arith, append-nil}
+use Rattle.std.specs.Prelude.{IfSome, IfNone, if◌then◌else◌, map}
 use Rattle.std.proofs.lemmas.Bool.{false≢true}
-use Rattle.std.proofs.lemmas.List.Elements.{All-nil, All-cons}
+use Rattle.std.proofs.lemmas.List.{length-map}
+use Rattle.std.proofs.lemmas.List.Elements.{All-append, All-nil, All-cons}
 use Rattle.pauli_word.specs.declared.letter.Letter.{Letter}
 use Rattle.pauli_word.specs.declared.letter.Letter.TheVariants.{I, X, Y, Z}
-use Rattle.pauli_word.specs.Letters.{letter_product}
+use Rattle.pauli_word.specs.Letters.{letter_product, letters_clash}
 use Rattle.pauli_word.specs.States.{State, is_decided}
 use Rattle.pauli_word.specs.Words.{signed, anticommute, letter_at, letters_product, lone_letter, no_letters}
 use Rattle.pauli_word.proofs.LetterLaws.{letter_product-I}
-use Rattle.pauli_word.proofs.LoneLetters.{letters_product-lone_letter}
-use Rattle.pauli_word.proofs.WordLaws.{anticommute_comm, anticommute_of_none}
+use Rattle.pauli_word.proofs.LoneLetters.{letters_product-lone_letter, letters_product_of_no_letters}
+use Rattle.pauli_word.proofs.WordLaws.{letters_product_assoc, anticommute_comm, anticommute_of_none}
 use Rattle.step_model.specs.declared.step.Term.{Term}
 use Rattle.step_model.specs.Listing.{word_of_terms}
 use Rattle.step_model.specs.WellFormed.{TermsFit}
+use Rattle.step_model.proofs.StepNumbers.{length-word_of_terms}
 use Rattle.tableau.specs.Rows.{Rows, row_count, state_of, stabilizer_at, destabilizer_at, IsReplaced}
-use Rattle.forward_sim.specs.private.Kept.{terms_from, entry_for, NamesRow}
-use Rattle.forward_sim.specs.References.{entry_of, IsEntry, IsReplacing}
+use Rattle.forward_sim.specs.private.Kept.{clashing, terms_of_word, entry_for, NamesRow}
+use Rattle.forward_sim.specs.References.{entry_of, terms_at, IsEntry, IsReplacing}
 
 -- one letter behind q letters I
 one_more : (m q : ℕ) (w : List Letter) → m ≡ q + 1 → no_letters m ++ w ≡ no_letters q ++ I ∷ w
@@ -51,46 +53,70 @@ times_lone n q a w h =
     ∙ ap (set (no_letters q ++ I ∷ w) q) (letter_product-I a)
     ∙ put_at_q q a w
 
--- the terms of a word behind q letters I
-here_and_behind : (q : ℕ) (a : Letter) (w : List Letter) (n : ℕ) → n ≡ q + suc (length w) → word_of_terms n (terms_from (q + 1) w) ≡ no_letters (q + 1) ++ w → letters_product (lone_letter n q a) (word_of_terms n (terms_from (q + 1) w)) ≡ no_letters q ++ a ∷ w
-here_and_behind q a w n h behind =
-    ap (letters_product (lone_letter n q a)) (behind ∙ one_more (q + 1) q w refl) ∙ times_lone n q a w h
-
 next_size : (n q m : ℕ) → n ≡ q + suc m → n ≡ q + 1 + m
 next_size n q m h = omega (arith, h)
 
-word_behind : (q : ℕ) (w : List Letter) (n : ℕ) → n ≡ q + length w → word_of_terms n (terms_from q w) ≡ no_letters q ++ w
-word_behind q [] n h =
+-- b where a letter clashes with a, otherwise I
+abbrev part : Letter → Letter → Letter → Letter
+part a b letter = if letters_clash letter a then b else I
+
+-- b at the qubit q, or not, and at those behind it
+here_or_not : (clash : Bool) (b : Letter) (q : ℕ) (w : List Letter) (rest : List ℕ) (n : ℕ) → n ≡ q + suc (length w) → word_of_terms n (terms_at b rest) ≡ no_letters (q + 1) ++ w → word_of_terms n (terms_at b (if clash then q ∷ rest else rest)) ≡ no_letters q ++ (if clash then b else I) ∷ w
+here_or_not true b q w rest n h behind =
+    ap (letters_product (lone_letter n q b)) (behind ∙ one_more (q + 1) q w refl) ∙ times_lone n q b w h
+here_or_not false b q w rest n h behind = behind ∙ one_more (q + 1) q w refl
+
+-- b at the qubits at which a word clashes with a, behind q letters I
+parts_behind : (a b : Letter) (q : ℕ) (w : List Letter) (n : ℕ) → n ≡ q + length w → word_of_terms n (terms_at b (clashing a q w)) ≡ no_letters q ++ map (part a b) w
+parts_behind a b q [] n h =
     let same : n ≡ q = omega (arith, h) in
     ap no_letters same ∙ sym (append-nil (no_letters q))
-word_behind q (I ∷ w) n h = word_behind (q + 1) w n (next_size n q (length w) h) ∙ one_more (q + 1) q w refl
-word_behind q (X ∷ w) n h = here_and_behind q X w n h (word_behind (q + 1) w n (next_size n q (length w) h))
-word_behind q (Y ∷ w) n h = here_and_behind q Y w n h (word_behind (q + 1) w n (next_size n q (length w) h))
-word_behind q (Z ∷ w) n h = here_and_behind q Z w n h (word_behind (q + 1) w n (next_size n q (length w) h))
+parts_behind a b q (letter ∷ w) n h =
+    let size : length (map (part a b) w) ≡ length w = length-map w (part a b) in
+    let long : n ≡ q + suc (length (map (part a b) w)) = omega (arith, h, size) in
+    here_or_not (letters_clash letter a) b q (map (part a b) w) (clashing a (q + 1) w) n long
+    (parts_behind a b (q + 1) w n (next_size n q (length w) h))
+
+-- a letter is the product of its X and its Z
+both_parts : (w : List Letter) → letters_product (map (part Z X) w) (map (part X Z) w) ≡ w
+both_parts [] = refl
+both_parts (I ∷ w) = ap (λ v. I ∷ v) (both_parts w)
+both_parts (X ∷ w) = ap (λ v. X ∷ v) (both_parts w)
+both_parts (Y ∷ w) = ap (λ v. Y ∷ v) (both_parts w)
+both_parts (Z ∷ w) = ap (λ v. Z ∷ v) (both_parts w)
+
+-- the word of two lists of letters at qubits
+pub word_of_both : (n : ℕ) (us vs : List Term) → word_of_terms n (us ++ vs) ≡ letters_product (word_of_terms n us) (word_of_terms n vs)
+word_of_both n [] vs = sym (letters_product_of_no_letters n (word_of_terms n vs) (length-word_of_terms n vs))
+word_of_both n (u ∷ us) vs =
+    ap (letters_product (lone_letter n u.qubit u.letter)) (word_of_both n us vs)
+    ∙ sym (letters_product_assoc (lone_letter n u.qubit u.letter) (word_of_terms n us) (word_of_terms n vs))
 
 -- the terms of a word make it
-pub word_of_its_terms : (n : ℕ) (w : List Letter) → length w ≡ n → word_of_terms n (terms_from 0 w) ≡ w
+pub word_of_its_terms : (n : ℕ) (w : List Letter) → length w ≡ n → word_of_terms n (terms_of_word w) ≡ w
 word_of_its_terms n w h =
     let size : n ≡ 0 + length w = omega (arith, h) in
-    word_behind 0 w n size
+    word_of_both n (terms_at X (clashing Z 0 w)) (terms_at Z (clashing X 0 w))
+    ∙ ap₂ letters_product (parts_behind Z X 0 w n size) (parts_behind X Z 0 w n size)
+    ∙ both_parts w
 
 -- and stand at its qubits
-fit_here : (q : ℕ) (a : Letter) (w : List Letter) (n : ℕ) → n ≡ q + suc (length w) → TermsFit n (terms_from (q + 1) w) → TermsFit n (record { qubit = q; letter = a } ∷ terms_from (q + 1) w)
-fit_here q a w n h behind =
+fit_or_not : (clash : Bool) (b : Letter) (q : ℕ) (rest : List ℕ) (n : ℕ) → q < n → TermsFit n (terms_at b rest) → TermsFit n (terms_at b (if clash then q ∷ rest else rest))
+fit_or_not true b q rest n inside behind =
+    All-cons (λ (term : Term). term.qubit < n) (record { qubit = q; letter = b }) (terms_at b rest) inside behind
+fit_or_not false b q rest n inside behind = behind
+
+parts_fit : (a b : Letter) (q : ℕ) (w : List Letter) (n : ℕ) → n ≡ q + length w → TermsFit n (terms_at b (clashing a q w))
+parts_fit a b q [] n h = All-nil (λ (term : Term). term.qubit < n)
+parts_fit a b q (letter ∷ w) n h =
     let inside : q < n = omega (arith, h) in
-    All-cons (λ (term : Term). term.qubit < n) (record { qubit = q; letter = a }) (terms_from (q + 1) w) inside behind
+    fit_or_not (letters_clash letter a) b q (clashing a (q + 1) w) n inside (parts_fit a b (q + 1) w n (next_size n q (length w) h))
 
-fit_behind : (q : ℕ) (w : List Letter) (n : ℕ) → n ≡ q + length w → TermsFit n (terms_from q w)
-fit_behind q [] n h = All-nil (λ (term : Term). term.qubit < n)
-fit_behind q (I ∷ w) n h = fit_behind (q + 1) w n (next_size n q (length w) h)
-fit_behind q (X ∷ w) n h = fit_here q X w n h (fit_behind (q + 1) w n (next_size n q (length w) h))
-fit_behind q (Y ∷ w) n h = fit_here q Y w n h (fit_behind (q + 1) w n (next_size n q (length w) h))
-fit_behind q (Z ∷ w) n h = fit_here q Z w n h (fit_behind (q + 1) w n (next_size n q (length w) h))
-
-pub terms_fit : (n : ℕ) (w : List Letter) → length w ≡ n → TermsFit n (terms_from 0 w)
+pub terms_fit : (n : ℕ) (w : List Letter) → length w ≡ n → TermsFit n (terms_of_word w)
 terms_fit n w h =
     let size : n ≡ 0 + length w = omega (arith, h) in
-    fit_behind 0 w n size
+    All-append (λ (term : Term). term.qubit < n) (terms_at X (clashing Z 0 w)) (terms_at Z (clashing X 0 w))
+    (parts_fit Z X 0 w n size) (parts_fit X Z 0 w n size)
 
 -- the row that a collapse names
 pub names_row : (old new : Rows) (w : List Letter) (row : Option ℕ) → row_count new ≡ row_count old → IfNone row (is_decided (state_of old) w ≡ true) → IfSome row (λ r. is_decided (state_of old) w ≡ false) → IfSome row (IsReplaced old new w) → NamesRow old new w row
@@ -117,5 +143,5 @@ pub kept_entry : (n : ℕ) (old new : Rows) (w : List Letter) (row : Option ℕ)
 kept_entry n old new w None long named = named
 kept_entry n old new w (Some row) long named =
     let v = (destabilizer_at new row).letters in
-    entry_is n (state_of old) w (terms_from 0 v) (terms_fit n v long)
+    entry_is n (state_of old) w (terms_of_word v) (terms_fit n v long)
     (subst (IsReplacing (state_of old) w) (sym (word_of_its_terms n v long)) named.1)

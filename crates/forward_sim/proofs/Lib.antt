@@ -1,6 +1,7 @@
 pub mod Differences
 pub mod KeptWords
 pub mod LetterGates
+pub mod ListedWords
 pub mod NumberLemmas
 pub mod NumberedWords
 pub mod ReferenceSteps

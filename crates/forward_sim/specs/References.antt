@@ -4,9 +4,10 @@
 -- is multiplied by that word is still a frame of the same two runs, and its flip at the collapse changes: so batches of
 -- runs are sampled by frames, beside one run. The words are kept in a list, or found anew by a run that goes along.
 -- (Gidney, Quantum 5, 497 (2021): reference samples and frames.)
-use Rattle.std.specs.Prelude.{⊤, ◌≡◌, ◌<◌, ◌≤◌, ◌+◌, ℕ, Bool, true, false, if◌then◌else◌, List, [], ◌∷◌, Option, None, Some, length, drop, slice_index_or}
+use Rattle.std.specs.Prelude.{⊤, ◌≡◌, ◌<◌, ◌≤◌, ◌+◌, ℕ, Bool, true, false, if◌then◌else◌, List, [], ◌∷◌, ◌++◌, Option, None, Some, length, map, drop, slice_index_or}
 use Rattle.std.specs.List.{list_all}
 use Rattle.pauli_word.specs.declared.letter.Letter.{Letter}
+use Rattle.pauli_word.specs.declared.letter.Letter.TheVariants.{X, Z}
 use Rattle.pauli_word.specs.States.{State, is_decided}
 use Rattle.pauli_word.specs.Words.{Signed, signed, anticommute}
 use Rattle.step_model.specs.declared.step.Term.{Term}
@@ -15,6 +16,7 @@ use Rattle.step_model.specs.Listing.{Listing, ListedStep, One, Two, Collapse, Fa
 use Rattle.step_model.specs.Runs.{RunState, start, next, records_of}
 use Rattle.step_model.specs.WellFormed.{TermsFit, records_made, step_fits}
 use Rattle.tableau.specs.Rows.{Rows, row_count, state_of}
+use Rattle.forward_sim.specs.declared.replaced_word.ReplacedWord.{ReplacedWord}
 
 -- a run that goes along, between two steps: the rows of its tableau, the coins of the collapses to come, the records so
 -- far, for how many there is memory, and the letters at qubits of the word that the last collapse replaced, none of them
@@ -67,6 +69,18 @@ AreEntries program (One gate q ∷ steps) m replaced = AreEntries program steps 
 AreEntries program (Two gate a b ∷ steps) m replaced = AreEntries program steps (next program [] (Two gate a b) m) replaced
 AreEntries program (Fault f ∷ steps) m replaced = AreEntries program steps (next program [] (Fault f) m) replaced
 AreEntries program (Feedback w r ∷ steps) m replaced = AreEntries program steps (next program [] (Feedback w r) m) replaced
+
+-- the letter a at each of these qubits
+abbrev pub terms_at : Letter → List ℕ → List Term
+terms_at a qubits = map (λ q. record { qubit = q; letter = a }) qubits
+
+-- X at some qubits, and Z at some
+abbrev pub terms_with : List ℕ → List ℕ → List Term
+terms_with xs zs = terms_at X xs ++ terms_at Z zs
+
+-- the letters at qubits of a word that is handed out
+abbrev pub terms_in : ReplacedWord → List Term
+terms_in word = terms_with word.xs.now word.zs.now
 
 -- what a list of letters stands for: an empty one for an outcome that wasn't random
 abbrev pub entry_of : List Term → Option (List Term)

@@ -1,6 +1,6 @@
 //! The steps of a reference run: no fault happens, and of each collapse the word that it replaced is read. (A collapse is
 //! the projective measurement inside a measurement or a reset.)
-ghost use Rattle.std.specs.Prelude.{◌≡◌, ◌+◌, ◌<◌, ◌≤◌, [], false, None, length, vec_capacity, IfSome};
+ghost use Rattle.std.specs.Prelude.{◌≡◌, ◌+◌, ◌<◌, ◌≤◌, [], false, None, length, IfSome};
 ghost use Rattle.pauli_word.specs.States.{outcome};
 ghost use Rattle.pauli_word.specs.Words.{lone_letter};
 ghost use Rattle.programs.specs.Listed.{listed};
@@ -8,29 +8,28 @@ ghost use Rattle.programs.specs.Named.{IsStepOf};
 ghost use Rattle.step_model.specs.Listing.{word_of_terms, step_records};
 ghost use Rattle.step_model.specs.Runs.{after_collapse, next, next_coin};
 ghost use Rattle.step_model.specs.WellFormed.{TermsFit};
-ghost use Rattle.tableau.specs.Rows.{row_count, destabilizer_at};
+ghost use Rattle.tableau.specs.Rows.{destabilizer_at};
 ghost use Rattle.forward_sim.specs.References.{entry_of, IsEntry, IsStepEntry};
-ghost use Rattle.forward_sim.specs.private.Kept.{entry_for, terms_from};
+ghost use Rattle.forward_sim.specs.private.Kept.{entry_for};
 ghost use Rattle.forward_sim.specs.private.Machines.{ComesTo, qubit_count, run_of};
 
+use crate::last_word::LastWord;
 use crate::letters::collapse_letter;
 use crate::machine::Machine;
 use crate::products::collapse_product;
 use crate::steps::{end_collapse, feed_back};
-use crate::terms::read_terms;
-use pauli_word::{Letter, Word};
+use pauli_word::Letter;
 use programs::{Program, Step};
 use std::alloc::Allocator;
 use step_model::Term;
-use tableau::Tableau;
 use tableau::laws::rows_have_all_letters;
 
-/// Takes a step of a program, in which no fault happens. If it is a collapse, reads the letters of the word that it
-/// replaced, none where its outcome wasn't random.
+/// Takes a step of a program, in which no fault happens. If it is a collapse, reads the word that it replaced, none where
+/// its outcome wasn't random.
 pub(crate) fn follow_step<A: Allocator + Copy>(
     machine: &mut Machine<'_, A>,
     program: &Program<'_, A>,
-    terms: &mut Vec<Term, A>,
+    word: &mut LastWord<A>,
     step: Step,
 )
     requires of_program { IsStepOf program.now step }
@@ -38,13 +37,13 @@ pub(crate) fn follow_step<A: Allocator + Copy>(
     requires room { length machine.old.records + length
         (step_records (listed program.now.listing.qubits program.now.products step))
         ≤ machine.old.room }
-    requires letters { program.now.listing.qubits ≤ vec_capacity terms.old }
-    ensures letters { vec_capacity terms.new ≡ vec_capacity terms.old }
+    requires letters { program.now.listing.qubits ≤ word.old.room }
+    ensures letters { word.new.room ≡ word.old.room }
     ensures run { ComesTo machine.old machine.new
         (next program.now.listing [] (listed program.now.listing.qubits program.now.products step)
         (run_of machine.old)) }
     ensures entry { IsStepEntry program.now.listing.qubits (run_of machine.old).state
-        (listed program.now.listing.qubits program.now.products step) (entry_of terms.new.items) }
+        (listed program.now.listing.qubits program.now.products step) (entry_of word.new.terms) }
 {
     program.well_formed();
     match step {
@@ -58,7 +57,7 @@ pub(crate) fn follow_step<A: Allocator + Copy>(
             inverted,
             ..
         } => {
-            let seen = follow_letter(machine, program, terms, letter, qubit);
+            let seen = follow_letter(machine, word, letter, qubit);
             end_collapse(machine, letter, qubit, reset, seen, rec, inverted);
         }
         Step::CollapseWord {
@@ -67,7 +66,7 @@ pub(crate) fn follow_step<A: Allocator + Copy>(
             inverted,
             ..
         } => {
-            let seen = follow_product(machine, program, terms, program.product(product));
+            let seen = follow_product(machine, word, program.product(product));
             machine.keep(rec, seen ^ inverted);
         }
         Step::Fault(_) => {}
@@ -78,15 +77,13 @@ pub(crate) fn follow_step<A: Allocator + Copy>(
 // Measures a letter at a qubit, and reads the word that this replaced. Answers the outcome, and records nothing.
 fn follow_letter<A: Allocator + Copy>(
     machine: &mut Machine<'_, A>,
-    program: &Program<'_, A>,
-    terms: &mut Vec<Term, A>,
+    word: &mut LastWord<A>,
     letter: Letter,
     qubit: u32,
 ) -> bool
     requires inside { qubit < qubit_count machine.old }
-    requires qubits { qubit_count machine.old ≡ program.now.listing.qubits }
-    requires letters { program.now.listing.qubits ≤ vec_capacity terms.old }
-    ensures letters { vec_capacity terms.new ≡ vec_capacity terms.old }
+    requires letters { qubit_count machine.old ≤ word.old.room }
+    ensures letters { word.new.room ≡ word.old.room }
     ensures outcome { result
         ≡ outcome (run_of machine.old).state (lone_letter (qubit_count machine.old) qubit letter)
         (next_coin machine.old.coins) }
@@ -94,24 +91,22 @@ fn follow_letter<A: Allocator + Copy>(
         (after_collapse (lone_letter (qubit_count machine.old) qubit letter) None false false
         (run_of machine.old)) }
     ensures entry { IsEntry (qubit_count machine.old) (run_of machine.old).state
-        (lone_letter (qubit_count machine.old) qubit letter) (entry_of terms.new.items) }
+        (lone_letter (qubit_count machine.old) qubit letter) (entry_of word.new.terms) }
 {
     let (seen, row) = collapse_letter(machine, letter, qubit);
-    read_row(machine, program, terms, row);
+    read_row(machine, word, row);
     seen
 }
 
 // The same for a Pauli product.
 fn follow_product<A: Allocator + Copy>(
     machine: &mut Machine<'_, A>,
-    program: &Program<'_, A>,
-    terms: &mut Vec<Term, A>,
+    word: &mut LastWord<A>,
     product: &[Term],
 ) -> bool
     requires fit { TermsFit (qubit_count machine.old) product.now }
-    requires qubits { qubit_count machine.old ≡ program.now.listing.qubits }
-    requires letters { program.now.listing.qubits ≤ vec_capacity terms.old }
-    ensures letters { vec_capacity terms.new ≡ vec_capacity terms.old }
+    requires letters { qubit_count machine.old ≤ word.old.room }
+    ensures letters { word.new.room ≡ word.old.room }
     ensures outcome { result
         ≡ outcome (run_of machine.old).state (word_of_terms (qubit_count machine.old) product.now)
         (next_coin machine.old.coins) }
@@ -119,59 +114,29 @@ fn follow_product<A: Allocator + Copy>(
         (after_collapse (word_of_terms (qubit_count machine.old) product.now) None false false
         (run_of machine.old)) }
     ensures entry { IsEntry (qubit_count machine.old) (run_of machine.old).state
-        (word_of_terms (qubit_count machine.old) product.now) (entry_of terms.new.items) }
+        (word_of_terms (qubit_count machine.old) product.now) (entry_of word.new.terms) }
 {
     let (seen, row) = collapse_product(machine, product);
-    read_row(machine, program, terms, row);
+    read_row(machine, word, row);
     seen
 }
 
 // Reads the word that became the destabilizer of the row that was replaced, if one was.
 fn read_row<A: Allocator + Copy>(
-    machine: &mut Machine<'_, A>,
-    program: &Program<'_, A>,
-    terms: &mut Vec<Term, A>,
+    machine: &Machine<'_, A>,
+    word: &mut LastWord<A>,
     row: Option<usize>,
 )
-    requires inside { IfSome row (λ r. r < qubit_count machine.old) }
-    requires qubits { qubit_count machine.old ≡ program.now.listing.qubits }
-    requires letters { program.now.listing.qubits ≤ vec_capacity terms.old }
-    ensures letters { vec_capacity terms.new ≡ vec_capacity terms.old }
-    ensures machine { machine.new ≡ machine.old }
-    ensures long { IfSome row (λ r. length (destabilizer_at machine.old.rows r).letters
-        ≡ qubit_count machine.old) }
-    ensures read { entry_of terms.new.items ≡ entry_for machine.old.rows row }
+    requires inside { IfSome row (λ r. r < qubit_count machine.now) }
+    requires room { qubit_count machine.now ≤ word.old.room }
+    ensures room { word.new.room ≡ word.old.room }
+    ensures long { IfSome row (λ r. length (destabilizer_at machine.now.rows r).letters
+        ≡ qubit_count machine.now) }
+    ensures read { entry_of word.new.terms ≡ entry_for machine.now.rows row }
 {
+    rows_have_all_letters(&machine.tableau);
     match row {
-        Some(row) => read_destabilizer(
-            &machine.tableau,
-            &mut machine.word,
-            program.qubits(),
-            terms,
-            row,
-        ),
-        None => terms.clear(),
+        Some(row) => word.read(&machine.tableau, row),
+        None => word.clear(),
     }
-}
-
-// Reads the destabilizer of a row, by way of a spare word.
-fn read_destabilizer<A: Allocator + Copy>(
-    tableau: &Tableau<A>,
-    word: &mut Word<A>,
-    qubits: u32,
-    terms: &mut Vec<Term, A>,
-    row: usize,
-)
-    requires inside { row < row_count tableau.now }
-    requires qubits { qubits ≡ row_count tableau.now }
-    requires word { length word.old.letters ≡ row_count tableau.now }
-    requires letters { qubits ≤ vec_capacity terms.old }
-    ensures letters { vec_capacity terms.new ≡ vec_capacity terms.old }
-    ensures word { length word.new.letters ≡ row_count tableau.now }
-    ensures long { length (destabilizer_at tableau.now row).letters ≡ row_count tableau.now }
-    ensures read { terms.new.items ≡ terms_from 0 (destabilizer_at tableau.now row).letters }
-{
-    rows_have_all_letters(tableau);
-    tableau.destabilizer(row, word);
-    read_terms(terms, word, qubits);
 }

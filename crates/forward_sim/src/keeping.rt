@@ -97,7 +97,7 @@ fn keep_step<A: Allocator + Copy>(
     }
     walk.go_over(program, step);
     if step.is_collapse() {
-        kept.push(walk.terms())?;
+        kept.push(walk.list())?;
     }
     Ok(())
 }

@@ -1,18 +1,18 @@
 ghost use Rattle.std.specs.Prelude.{◌≡◌, ◌<◌, [], ◌∷◌, ◌++◌, true, false, None, length, option_map, slice_index_or, IfOk, OnOk};
-ghost use Rattle.forward_sim.specs.References.{entry_of};
+ghost use Rattle.forward_sim.specs.References.{entry_of, terms_in};
+ghost use Rattle.forward_sim.specs.private.Kept.{terms_listed};
 
-use crate::terms::word_in;
+use crate::replaced_word::{ReplacedWord, word_listed};
 use crate::word_table::WordTable;
 use std::alloc::{AllocError, Allocator};
 use std::marker::Model;
-use step_model::Term;
 
 /// For each collapse the word that it replaced, while there is room for all of them. A word that comes again soon is kept
 /// once.
 #[derive(Drop)]
 pub(crate) struct KeptWords<A: Allocator + Copy> {
     alloc: A,
-    // the letters other than I; a word that is replaced has at least one, so an empty one stands for no word
+    // as lists of numbers, of which an empty one stands for no word
     words: WordTable<A>,
     // for each collapse the number of its word
     numbers: Vec<u32, A>,
@@ -53,21 +53,21 @@ impl<A: Allocator + Copy> KeptWords<A> {
         self.whole
     }
 
-    /// Keeps the letters of the word that a collapse replaced, none where its outcome wasn't random. Where there is no room
-    /// for them, it gives back the memory of all that was kept.
-    pub(crate) fn push(&mut self, word: &[Term]) -> Result<(), AllocError>
+    /// Keeps the list of the word that a collapse replaced, an empty one where its outcome wasn't random. Where there is no
+    /// room for it, it gives back the memory of all that was kept.
+    pub(crate) fn push(&mut self, list: &[u16]) -> Result<(), AllocError>
         ensures whole { OnOk result (self.new.whole ≡ true → self.old.whole ≡ true) }
         ensures kept { OnOk result
             (self.new.whole ≡ true
-            → self.new.replaced ≡ self.old.replaced ++ entry_of word.now ∷ []) }
+            → self.new.replaced ≡ self.old.replaced ++ entry_of (terms_listed list.now) ∷ []) }
     {
-        let found = self.words.find(word);
-        let taken = bytes_taken(found.is_some(), word.len());
+        let found = self.words.find(list);
+        let taken = bytes_taken(found.is_some(), list.len());
         if !self.whole || taken > self.room {
             return self.give_up();
         }
         self.room -= taken;
-        let number = self.words.number(found, word)?;
+        let number = self.words.number(found, list)?;
         self.numbers.push(number)?;
         Ok(())
     }
@@ -82,22 +82,21 @@ impl<A: Allocator + Copy> KeptWords<A> {
         Ok(())
     }
 
-    /// The letters at qubits of the word that a collapse replaced.
+    /// The word that a collapse replaced.
     #[inline(always)]
-    pub(crate) fn get(&self, collapse: usize) -> Option<&[Term]>
+    pub(crate) fn get(&self, collapse: usize) -> Option<ReplacedWord<'_>>
         requires { collapse < length self.now.replaced }
-        ensures { option_map (λ terms. terms.now) result
-            ≡ slice_index_or self.now.replaced collapse None }
+        ensures { option_map terms_in result ≡ slice_index_or self.now.replaced collapse None }
     {
-        word_in(self.words.get(self.numbers[collapse] as usize))
+        word_listed(self.words.get(self.numbers[collapse] as usize))
     }
 }
 
-// How many bytes a collapse takes: four for its number, and if its word is new, four and eight for each letter.
-fn bytes_taken(is_found: bool, letters: usize) -> usize {
+// How many bytes a collapse takes: four for its number, and if its word is new, four and two for each number of its list.
+fn bytes_taken(is_found: bool, numbers: usize) -> usize {
     if is_found {
         4
     } else {
-        letters.saturating_mul(8).saturating_add(8)
+        numbers.saturating_mul(2).saturating_add(8)
     }
 }

@@ -5,15 +5,16 @@ ghost use Rattle.step_model.specs.Faults.{memory_fault};
 ghost use Rattle.step_model.specs.Frames.{zero_coins};
 ghost use Rattle.step_model.specs.Listing.{ListedStep};
 ghost use Rattle.step_model.specs.Runs.{RunState, start};
-ghost use Rattle.forward_sim.specs.References.{GoneOver, IsNext, IsReferenceOf, IsSaid, StandBefore, said_of};
+ghost use Rattle.forward_sim.specs.References.{GoneOver, IsNext, IsReferenceOf, IsSaid, StandBefore, said_of, terms_in};
 
 use crate::keeping::follow;
 use crate::records::Records;
+use crate::replaced_word::ReplacedWord;
 use crate::words::ReplacedWords;
 use programs::{Program, Step};
 use std::alloc::Allocator;
 use std::marker::Model;
-use step_model::{Fault, Term};
+use step_model::Fault;
 
 // How many bytes the words may take, beside four for each record.
 const MOST_BYTES: usize = 1 << 27;
@@ -103,13 +104,12 @@ impl<A: Allocator + Copy> Reference<A> {
         self.words.go_over(program, step);
     }
 
-    /// For the collapse with this number, the last that was gone over: the letters at qubits of a word that was in the
-    /// state, up to its sign, and anticommutes with the word measured, no qubit twice, and no letter I. None where the
-    /// outcome wasn't random.
+    /// For the collapse with this number, the last that was gone over: a word that was in the state, up to its sign, and
+    /// anticommutes with the word measured. None where the outcome wasn't random.
     #[inline(always)]
-    pub fn replaced(&self, collapse: usize) -> Option<&[Term]>
+    pub fn replaced(&self, collapse: usize) -> Option<ReplacedWord<'_>>
         requires { IsSaid collapse self.now.words }
-        ensures { option_map (λ terms. terms.now) result ≡ said_of collapse self.now.words }
+        ensures { option_map terms_in result ≡ said_of collapse self.now.words }
     {
         self.words.get(collapse)
     }

@@ -4,36 +4,37 @@ ghost use Rattle.programs.specs.Named.{IsStepOf};
 ghost use Rattle.step_model.specs.Listing.{step_records};
 ghost use Rattle.step_model.specs.Runs.{next, start};
 ghost use Rattle.forward_sim.specs.References.{entry_of, walking_qubits, walking_run, IsStepEntry};
+ghost use Rattle.forward_sim.specs.private.Kept.{terms_listed};
 ghost use Rattle.forward_sim.specs.private.SameRuns.{IsSameRun};
 
 use crate::following::follow_step;
+use crate::last_word::LastWord;
 use crate::machine::Machine;
 use crate::records::Records;
 use crate::steps::take_step;
 use programs::{Program, Step};
 use std::alloc::{AllocError, Allocator};
 use std::marker::Model;
-use step_model::Term;
 
 /// A run in which no fault happens and all coins are 0. It goes over the steps one by one, and says of each collapse which
 /// word it replaced. Only its start allocates.
 #[derive(Drop)]
 pub(crate) struct WalkingRun<A: Allocator + Copy> {
     machine: Machine<'static, A>,
-    // the letters of the word that the last collapse replaced, with room for a letter a qubit
-    terms: Vec<Term, A>,
+    // the word that the last collapse replaced
+    word: LastWord<A>,
 }
 
 impl<A: Allocator + Copy> Model for WalkingRun<A> {
-    ghost use Rattle.std.specs.Prelude.{◌≤◌, vec_capacity};
+    ghost use Rattle.std.specs.Prelude.{◌≤◌};
     ghost use Rattle.forward_sim.specs.References.{Walking};
     ghost use Rattle.forward_sim.specs.private.Machines.{qubit_count};
 
     ghost Value = { Walking };
 
-    ghost view = { λ w. record { rows = w.machine.rows; coins = w.machine.coins; records = w.machine.records; room = w.machine.room; terms = w.terms.items } };
+    ghost view = { λ w. record { rows = w.machine.rows; coins = w.machine.coins; records = w.machine.records; room = w.machine.room; terms = w.word.terms } };
 
-    ghost invariant = { λ w. qubit_count w.machine ≤ vec_capacity w.terms };
+    ghost invariant = { λ w. qubit_count w.machine ≤ w.word.room };
 }
 
 impl<A: Allocator + Copy> WalkingRun<A> {
@@ -45,9 +46,9 @@ impl<A: Allocator + Copy> WalkingRun<A> {
             (start [])) }
     {
         let qubits = program.qubits() as usize;
-        let terms = Vec::with_capacity(alloc, qubits)?;
+        let word = LastWord::new(alloc, qubits)?;
         let machine = Machine::start(alloc, qubits, program.record_count() as usize, &[])?;
-        Ok(WalkingRun { machine, terms })
+        Ok(WalkingRun { machine, word })
     }
 
     /// Goes back before the first step.
@@ -77,7 +78,7 @@ impl<A: Allocator + Copy> WalkingRun<A> {
             (listed program.now.listing.qubits program.now.products step)
             (entry_of self.new.terms) }
     {
-        follow_step(&mut self.machine, program, &mut self.terms, step);
+        follow_step(&mut self.machine, program, &mut self.word, step);
     }
 
     /// Goes over a step, and says nothing of it.
@@ -97,11 +98,11 @@ impl<A: Allocator + Copy> WalkingRun<A> {
         take_step(&mut self.machine, program, &[], step);
     }
 
-    /// The letters of the word that the last collapse replaced, none where its outcome wasn't random.
-    pub(crate) fn terms(&self) -> &[Term]
-        ensures { result.now ≡ self.now.terms }
+    /// The word that the last collapse replaced, as a list of numbers. It stands for no word where the outcome wasn't random.
+    pub(crate) fn list(&self) -> &[u16]
+        ensures { terms_listed result.now ≡ self.now.terms }
     {
-        self.terms.as_slice()
+        self.word.list()
     }
 
     /// The records made.

@@ -4,27 +4,25 @@ ghost use Rattle.forward_sim.specs.private.Kept.{HasAll};
 use flat_lists::FlatLists;
 use std::alloc::{AllocError, Allocator};
 use std::marker::Model;
-use step_model::Term;
 
 // A word is found again where none with the same slot came between.
 const SLOTS: usize = 16384;
 
-// How many letters tell in which slot a word is. Later ones are left out, to save time.
+// How many numbers of a list tell in which slot it is. Later ones are left out, to save time.
 const TELLING: usize = 16;
 
-/// Words by their letters other than I, with a number each. A word that comes again soon is found by its letters.
+/// Words as lists of numbers, each by the number of its own. A list that comes again soon is found.
 #[derive(Drop)]
 pub(crate) struct WordTable<A: Allocator + Copy> {
-    words: FlatLists<Term, A>,
+    words: FlatLists<u16, A>,
     // for each slot the number of the last word in it, if it has any
     latest: Vec<u32, A>,
 }
 
 impl<A: Allocator + Copy> Model for WordTable<A> {
-    ghost use Rattle.std.specs.Prelude.{◌≡◌, List, length};
-    ghost use Rattle.step_model.specs.declared.step.Term.{Term};
+    ghost use Rattle.std.specs.Prelude.{◌≡◌, ℕ, List, length};
 
-    ghost Value = { List (List Term) };
+    ghost Value = { List (List ℕ) };
 
     ghost view = { λ table. table.words };
 
@@ -44,7 +42,7 @@ impl<A: Allocator + Copy> WordTable<A> {
     }
 
     /// The number of a word, if it is found.
-    pub(crate) fn find(&self, word: &[Term]) -> Option<u32>
+    pub(crate) fn find(&self, word: &[u16]) -> Option<u32>
         ensures inside { IfSome result (λ number. number < length self.now) }
         ensures found { IfSome result (λ number. slice_index_or self.now number [] ≡ word.now) }
     {
@@ -57,7 +55,7 @@ impl<A: Allocator + Copy> WordTable<A> {
     }
 
     /// The number of a word: that which was found, or else the next, which it is given. Numbers stay.
-    pub(crate) fn number(&mut self, found: Option<u32>, word: &[Term]) -> Result<u32, AllocError>
+    pub(crate) fn number(&mut self, found: Option<u32>, word: &[u16]) -> Result<u32, AllocError>
         requires inside { IfSome found (λ number. number < length self.old) }
         requires found { IfSome found (λ number. slice_index_or self.old number [] ≡ word.now) }
         ensures stay { HasAll self.old self.new }
@@ -71,7 +69,7 @@ impl<A: Allocator + Copy> WordTable<A> {
     }
 
     // Gives a word the next number, and answers that.
-    fn push(&mut self, word: &[Term]) -> Result<u32, AllocError>
+    fn push(&mut self, word: &[u16]) -> Result<u32, AllocError>
         ensures ok { OnOk result (self.new ≡ self.old ++ word.now ∷ []) }
         ensures err { OnErr result (self.new ≡ self.old) }
         ensures number { IfOk result (λ number. number ≡ length self.old) }
@@ -84,7 +82,7 @@ impl<A: Allocator + Copy> WordTable<A> {
 
     /// The word with a number.
     #[inline(always)]
-    pub(crate) fn get(&self, number: usize) -> &[Term]
+    pub(crate) fn get(&self, number: usize) -> &[u16]
         requires { number < length self.now }
         ensures { result.now ≡ slice_index_or self.now number [] }
     {
@@ -92,8 +90,8 @@ impl<A: Allocator + Copy> WordTable<A> {
     }
 }
 
-// Whether two words have the same letters.
-fn is_same(word: &[Term], other: &[Term]) -> bool
+// Whether two words have the same list.
+fn is_same(word: &[u16], other: &[u16]) -> bool
     ensures { result ≡ true → word.now ≡ other.now }
 {
     word == other
@@ -110,19 +108,14 @@ fn number_after(words: usize) -> Result<u32, AllocError>
 }
 
 // The slot of a word.
-fn slot_of(word: &[Term]) -> usize
+fn slot_of(word: &[u16]) -> usize
     ensures { result < 16384 }
 {
     let mut mixed = word.len() as u64;
-    for term in &word[..word.len().min(TELLING)] {
+    for number in &word[..word.len().min(TELLING)] {
         mixed = mixed
-            .wrapping_add(number_of(*term))
+            .wrapping_add(u64::from(*number))
             .wrapping_mul(0x9e37_79b9_7f4a_7c15);
     }
     (mixed >> 32) as usize % SLOTS
-}
-
-// A number for a letter at a qubit.
-fn number_of(term: Term) -> u64 {
-    4 * term.qubit as u64 + term.letter as u64
 }

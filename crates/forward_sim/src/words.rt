@@ -4,15 +4,14 @@ ghost use Rattle.programs.specs.Named.{IsStepOf};
 ghost use Rattle.step_model.specs.Frames.{zero_coins};
 ghost use Rattle.step_model.specs.Listing.{ListedStep};
 ghost use Rattle.step_model.specs.Runs.{RunState, start};
-ghost use Rattle.forward_sim.specs.References.{AreWordsOf, GoneOver, IsNext, IsSaid, StandBefore, said_of};
+ghost use Rattle.forward_sim.specs.References.{AreWordsOf, GoneOver, IsNext, IsSaid, StandBefore, said_of, terms_in};
 ghost use Rattle.forward_sim.specs.private.Said.{words_of};
 
 use crate::kept_words::KeptWords;
-use crate::terms::word_in;
+use crate::replaced_word::{ReplacedWord, word_listed};
 use crate::walking::WalkingRun;
 use programs::{Program, Step};
 use std::alloc::Allocator;
-use step_model::Term;
 
 /// What says which words the collapses of a reference run replaced.
 #[derive(Drop)]
@@ -62,15 +61,15 @@ impl<A: Allocator + Copy> ReplacedWords<A> {
         }
     }
 
-    /// The letters at qubits of the word that a collapse replaced, which is the last that was gone over.
+    /// The word that a collapse replaced, which is the last that was gone over.
     #[inline(always)]
-    pub(crate) fn get(&self, collapse: usize) -> Option<&[Term]>
+    pub(crate) fn get(&self, collapse: usize) -> Option<ReplacedWord<'_>>
         requires { IsSaid collapse (words_of self.now) }
-        ensures { option_map (λ terms. terms.now) result ≡ said_of collapse (words_of self.now) }
+        ensures { option_map terms_in result ≡ said_of collapse (words_of self.now) }
     {
         match self {
             ReplacedWords::Kept(kept) => kept.get(collapse),
-            ReplacedWords::Walked(walk) => word_in(walk.terms()),
+            ReplacedWords::Walked(walk) => word_listed(walk.list()),
         }
     }
 }

@@ -2,6 +2,7 @@
 use Rattle.std.proofs.Common.{take, ◌≡◌, ℕ, zero, suc, replicate, ◌<◌, ◌+◌, Bool, true, false, List, [], ◌∷◌, ◌++◌, length, set, get_or, drop, refl, sym, ap, ap₂, ◌∙◌, length-set, arith}
 use Rattle.std.proofs.lemmas.List.{map-set, set-get_or, drop_more, drop_all}
 use Rattle.std.proofs.lemmas.List as lists
+use Rattle.std.proofs.lemmas.List.Elements.{All-drop, All-same, All-take}
 use Rattle.std.proofs.Math.Seq.{take-append_seam}
 use Rattle.run_laws.specs.Shifts.{flipped_by}
 use Rattle.run_laws.proofs.ShiftLists.{get_or-joined}
@@ -17,7 +18,9 @@ use Rattle.step_model.specs.declared.step.Term.{Term}
 use Rattle.step_model.specs.Frames.{Frame}
 use Rattle.step_model.specs.Listing.{word_of_terms}
 use Rattle.step_model.specs.Sensitivities.{multiplied}
+use Rattle.step_model.specs.WellFormed.{TermsFit}
 use Rattle.step_model.proofs.StepNumbers.{length-word_of_terms}
+use Rattle.forward_sim.proofs.KeptWords.{word_of_both}
 use Rattle.run_laws.proofs.ShiftSteps.{anticommute-multiplied}
 use Rattle.run_laws.proofs.ShiftWords.{anticommute-lone}
 use Rattle.frames.specs.declared.letters.Letters.{Letters}
@@ -116,6 +119,37 @@ times-none terms runs old = record {
       (sym (multiplied-none n (lane_bit j runs) (word_in j old.letters) (length-word_in j old.letters))
       ∙ ap (λ ts. multiplied (lane_bit j runs) (word_of_terms n ts) (word_in j old.letters)) (sym (drop_all (length terms) terms (omega arith))));
 }
+
+-- parts of what stands at n qubits stand there too
+pub fit_front : (n : ℕ) (us vs : List Term) → TermsFit n (us ++ vs) → TermsFit n us
+fit_front n us vs fit =
+    All-same (λ (term : Term). term.qubit < n) us (take (length us) (us ++ vs)) (sym (lists.take_at us vs (length us) refl))
+    (All-take (λ (term : Term). term.qubit < n) (length us) (us ++ vs) fit)
+
+pub fit_back : (n : ℕ) (us vs : List Term) → TermsFit n (us ++ vs) → TermsFit n vs
+fit_back n us vs fit =
+    All-same (λ (term : Term). term.qubit < n) vs (drop (length us) (us ++ vs)) (sym (lists.drop_at us vs (length us) refl))
+    (All-drop (λ (term : Term). term.qubit < n) (length us) (us ++ vs) fit)
+
+-- two products of letters one after another
+pub times-both : (us vs : List Term) (runs : ℕ) (old mid new : LaneFrames)
+    → GoesTo old mid (λ j v. record v { word = multiplied (lane_bit j runs) (word_of_terms (length old.letters) vs) v.word })
+    → GoesTo mid new (λ j v. record v { word = multiplied (lane_bit j runs) (word_of_terms (length mid.letters) us) v.word })
+    → GoesTo old new (λ j v. record v { word = multiplied (lane_bit j runs) (word_of_terms (length old.letters) (us ++ vs)) v.word })
+times-both us vs runs old mid new first second =
+    let n = length old.letters in
+    record {
+      qubits = second.qubits ∙ first.qubits;
+      room = second.room ∙ first.room;
+      frames = λ j.
+          let b = lane_bit j runs in
+          let v = frame_in j old in
+          second.frames j
+          ∙ ap (λ (u : Frame). frame_with (multiplied b (word_of_terms (length mid.letters) us) u.word) u.records) (first.frames j)
+          ∙ ap (λ m. frame_with (multiplied b (word_of_terms m us) (multiplied b (word_of_terms n vs) v.word)) v.records) first.qubits
+          ∙ ap (λ w. frame_with w v.records) (multiplied-product b (word_of_terms n us) (word_of_terms n vs) v.word)
+          ∙ ap (λ w. frame_with (multiplied b w v.word) v.records) (sym (word_of_both n us vs));
+    }
 
 -- what goes to the same frames, and two ways one after another
 pub goes_as : (old new : LaneFrames) (f g : ℕ → Frame → Frame) → GoesTo old new f → ((j : ℕ) → f j (frame_in j old) ≡ g j (frame_in j old)) → GoesTo old new g

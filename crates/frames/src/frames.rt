@@ -2,6 +2,7 @@ ghost use Rattle.std.specs.Prelude.{◌≡◌, ◌<◌, ◌≤◌, ◌+◌, ℕ,
 ghost use Rattle.gate_table.specs.Images.{arity_of};
 ghost use Rattle.gate_table.specs.WordImages.{image_at, image_at_two};
 ghost use Rattle.bit_rows.specs.Lanes.{lane, lane_bit};
+ghost use Rattle.forward_sim.specs.References.{terms_at, terms_in};
 ghost use Rattle.pauli_word.specs.declared.letter.Letter.TheVariants.{I};
 ghost use Rattle.pauli_word.specs.Words.{anticommute, letter_at, lone_letter, signed};
 ghost use Rattle.step_model.specs.Listing.{word_of_terms};
@@ -15,6 +16,7 @@ ghost use Rattle.frames.specs.LaneLetters.{letter_in, word_in};
 use crate::letters::{Letters, clear_all};
 use crate::steps::word_at;
 use bit_rows::lanes::xor;
+use forward_sim::ReplacedWord;
 use gate_table::Gate;
 use pauli_word::Letter;
 use std::alloc::{AllocError, Allocator};
@@ -131,6 +133,32 @@ impl<A: Allocator + Copy> Frames<A> {
             left -= 1;
             let term = terms[left];
             self.times(term.letter, term.qubit as usize, runs);
+        }
+    }
+
+    /// Multiplies the frames of these runs by a word.
+    pub(crate) fn times_word(&mut self, word: ReplacedWord<'_>, runs: u64)
+        requires { TermsFit (length self.old.letters) (terms_in word) }
+        ensures { GoesTo self.old self.new
+            (λ j v. record v
+            { word = multiplied (lane_bit j runs) (word_of_terms (length self.old.letters) (terms_in word.entry)) v.word }) }
+    {
+        self.times_at(Letter::Z, word.zs, runs);
+        self.times_at(Letter::X, word.xs, runs);
+    }
+
+    // Multiplies the frames of these runs by a letter at each of these qubits.
+    #[inline(always)]
+    fn times_at(&mut self, letter: Letter, qubits: &[u16], runs: u64)
+        requires { TermsFit (length self.old.letters) (terms_at letter qubits.now) }
+        ensures { GoesTo self.old self.new
+            (λ j v. record v
+            { word = multiplied (lane_bit j runs) (word_of_terms (length self.old.letters) (terms_at letter qubits.now)) v.word }) }
+    {
+        let mut left = qubits.len();
+        while left > 0 {
+            left -= 1;
+            self.times(letter, qubits[left] as usize, runs);
         }
     }
 

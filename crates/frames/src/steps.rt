@@ -13,6 +13,7 @@ ghost use Rattle.frames.specs.LaneFrames.{GoesTo, frame_in};
 
 use crate::frames::Frames;
 use bit_rows::lanes::xor;
+use forward_sim::ReplacedWord;
 use pauli_word::Letter;
 use programs::{FaultName, Program, Step};
 use std::alloc::Allocator;
@@ -24,7 +25,7 @@ pub(crate) fn take_step<A: Allocator + Copy>(
     frames: &mut Frames<A>,
     program: &Program<'_, A>,
     faults: &[u64],
-    replaced: Option<&[Term]>,
+    replaced: Option<ReplacedWord<'_>>,
     coins: u64,
     step: Step,
 )
@@ -79,7 +80,7 @@ pub(crate) fn take_step<A: Allocator + Copy>(
 // A collapse of a letter at a qubit, which is then reset where `reset`. Answers the flips.
 fn collapse_letter<A: Allocator + Copy>(
     frames: &mut Frames<A>,
-    replaced: Option<&[Term]>,
+    replaced: Option<ReplacedWord<'_>>,
     coins: u64,
     letter: Letter,
     qubit: usize,
@@ -104,7 +105,7 @@ fn collapse_letter<A: Allocator + Copy>(
 // A collapse of a product of letters at qubits. Answers the flips.
 fn collapse_product<A: Allocator + Copy>(
     frames: &mut Frames<A>,
-    replaced: Option<&[Term]>,
+    replaced: Option<ReplacedWord<'_>>,
     coins: u64,
     terms: &[Term],
 ) -> u64
@@ -124,7 +125,7 @@ fn collapse_product<A: Allocator + Copy>(
 // coin differs from their flip, so that the flips become the coins. Answers the flips.
 fn turn<A: Allocator + Copy>(
     frames: &mut Frames<A>,
-    replaced: Option<&[Term]>,
+    replaced: Option<ReplacedWord<'_>>,
     coins: u64,
     met: u64,
 ) -> u64
@@ -136,8 +137,8 @@ fn turn<A: Allocator + Copy>(
         ≡ (if is_some (terms_of replaced.entry) then lane_bit j coins else lane_bit j met) }
 {
     match replaced {
-        Some(terms) => {
-            frames.times_terms(terms, xor(coins, met));
+        Some(word) => {
+            frames.times_word(word, xor(coins, met));
             coins
         }
         None => met,

@@ -26,8 +26,9 @@ pub(crate) fn decode<A: Allocator + Copy>(rows: &Vec<Pair<A>, A>, row: usize, wo
     word.set_sign(false);
 }
 
-// The letter, at the qubit of this pair, of the word whose code is X at `row`.
-fn decoded_letter<A: Allocator + Copy>(pair: &Pair<A>, row: usize) -> Letter
+/// The letter, at the qubit of this pair, of the word whose code is X at `row`.
+#[inline(always)]
+pub(crate) fn decoded_letter<A: Allocator + Copy>(pair: &Pair<A>, row: usize) -> Letter
     requires x { row < length pair.now.0.letters }
     requires z { row < length pair.now.1.letters }
     ensures { result

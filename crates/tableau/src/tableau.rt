@@ -2,13 +2,13 @@ ghost use Rattle.std.specs.Prelude.{◌≡◌, ◌≢◌, ◌<◌, true, false, 
 ghost use Rattle.gate_table.specs.Images.{arity_of};
 ghost use Rattle.gate_table.specs.WordImages.{preimage_at, preimage_at_two};
 ghost use Rattle.pauli_word.specs.States.{start_state, applied, is_decided, outcome, collapsed, correcting};
-ghost use Rattle.pauli_word.specs.Words.{lone_letter, signed};
+ghost use Rattle.pauli_word.specs.Words.{letter_at, lone_letter, signed};
 ghost use Rattle.tableau.specs.Rows.{row_count, state_of, destabilizer_at, HasState, IsReplaced};
 
 pub mod laws;
 
 use crate::collapse::{collapse_code, encode, sign_seen};
-use crate::decode::decode;
+use crate::decode::{decode, decoded_letter};
 use crate::gates::{apply_letters, apply_one, apply_two};
 use crate::pairs::{Pair, identity_pair, restart_pairs, set_word, start_pair};
 use gate_table::Gate;
@@ -226,5 +226,15 @@ impl<A: Allocator + Copy> Tableau<A> {
         ensures { word.new ≡ signed (destabilizer_at self.now row).letters false }
     {
         decode(&self.rows, row, word);
+    }
+
+    /// The letter of a row's destabilizer at a qubit.
+    #[inline(always)]
+    pub fn destabilizer_letter(&self, row: usize, qubit: usize) -> Letter
+        requires row { row < row_count self.now }
+        requires qubit { qubit < row_count self.now }
+        ensures { result ≡ letter_at (destabilizer_at self.now row).letters qubit }
+    {
+        decoded_letter(&self.rows[qubit], row)
     }
 }

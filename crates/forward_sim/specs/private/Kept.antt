@@ -1,27 +1,39 @@
 -- How the words that a reference run's collapses replaced are found in the rows of a tableau, and kept while there is
 -- room for them all.
 -- (The replaced row of a random measurement: Aaronson and Gottesman, Phys. Rev. A 70, 052328, section III.)
-use Rattle.std.specs.Prelude.{◌≡◌, ◌<◌, ◌+◌, ℕ, Bool, true, if◌then◌else◌, List, [], ◌∷◌, ◌++◌, Option, None, Some, length, slice_index_or}
+use Rattle.std.specs.Prelude.{◌≡◌, ◌<◌, ◌+◌, ℕ, Bool, true, if◌then◌else◌, List, [], ◌∷◌, ◌++◌, Option, None, Some, length, take, drop, slice_index_or}
 use Rattle.pauli_word.specs.declared.letter.Letter.{Letter}
+use Rattle.pauli_word.specs.declared.letter.Letter.TheVariants.{X, Z}
+use Rattle.pauli_word.specs.Letters.{letters_clash}
 use Rattle.pauli_word.specs.States.{State, is_decided}
 use Rattle.step_model.specs.declared.step.Term.{Term}
-use Rattle.step_model.specs.Listing.{ListedStep, One, Two, Collapse, Fault, Feedback, measured_word, is_I}
+use Rattle.step_model.specs.Listing.{ListedStep, One, Two, Collapse, Fault, Feedback, measured_word}
 use Rattle.tableau.specs.Rows.{Rows, row_count, state_of, destabilizer_at}
-use Rattle.forward_sim.specs.References.{entry_of, IsEntry, IsReplacing}
+use Rattle.forward_sim.specs.References.{entry_of, terms_with, IsEntry, IsReplacing}
 
--- a letter at the qubit q, as a list: none where it is I
-abbrev pub term_here : ℕ → Letter → List Term
-term_here q a = if is_I a then [] else record { qubit = q; letter = a } ∷ []
+-- the qubits at which a word, the first of whose letters is at qubit q, clashes with the letter a
+abbrev pub clashing : Letter → ℕ → List Letter → List ℕ
+clashing a q [] = []
+clashing a q (letter ∷ w) = if letters_clash letter a then q ∷ clashing a (q + 1) w else clashing a (q + 1) w
 
--- the letters of a word other than I, with their qubits, the first at qubit q
-abbrev pub terms_from : ℕ → List Letter → List Term
-terms_from q [] = []
-terms_from q (a ∷ w) = term_here q a ++ terms_from (q + 1) w
+-- the letters at qubits of a word: X and Z clash with one another, and Y with both
+abbrev pub terms_of_word : List Letter → List Term
+terms_of_word w = terms_with (clashing Z 0 w) (clashing X 0 w)
+
+-- those for which a list of numbers stands: how many qubits have X, these qubits, and then those with Z
+abbrev pub terms_listed : List ℕ → List Term
+terms_listed [] = []
+terms_listed (count ∷ qubits) = terms_with (take count qubits) (drop count qubits)
+
+-- a word that was read, and for how many qubits there is room
+pub record WordRead : Type 0 where
+  pub room : ℕ
+  pub terms : List Term
 
 -- what is kept of a collapse, by the row that it names, if any
 abbrev pub entry_for : Rows → Option ℕ → Option (List Term)
 entry_for rows None = None
-entry_for rows (Some row) = entry_of (terms_from 0 (destabilizer_at rows row).letters)
+entry_for rows (Some row) = entry_of (terms_of_word (destabilizer_at rows row).letters)
 
 -- a collapse of w names a row where its outcome was random, and the row's new destabilizer is a word that it replaced
 abbrev pub NamesRow : Rows → Rows → List Letter → Option ℕ → Type 0
@@ -40,12 +52,12 @@ StepKeeps n s (Collapse c r) old new = Keeps n s (measured_word n c) old new
 StepKeeps n s (Fault f) old new = new ≡ old
 StepKeeps n s (Feedback w r) old new = new ≡ old
 
--- what is kept of a collapse, by the number of its word among these
-abbrev pub entry_with : List (List Term) → ℕ → Option (List Term)
-entry_with words number = entry_of (slice_index_or words number [])
+-- what is kept of a collapse, by the number of its word's list among these
+abbrev pub entry_with : List (List ℕ) → ℕ → Option (List Term)
+entry_with lists number = entry_of (terms_listed (slice_index_or lists number []))
 
--- words have kept their numbers, where others may have come behind them
-abbrev pub HasAll : List (List Term) → List (List Term) → Type 0
+-- lists have kept their numbers, where others may have come behind them
+abbrev pub HasAll : List (List ℕ) → List (List ℕ) → Type 0
 HasAll old new =
     (number : ℕ) → number < length old → (number < length new) × (slice_index_or new number [] ≡ slice_index_or old number [])
 

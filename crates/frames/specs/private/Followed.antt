@@ -4,7 +4,8 @@
 -- that anticommutes with the word measured; that leaves the run's state the same. (Pauli frames: Knill, Nature 434, 39
 -- (2005); with a reference sample, as in Stim's frame simulator: Gidney, Quantum 5, 497 (2021).)
 use Rattle.std.specs.Prelude.{⊤, ◌≡◌, ℕ, Bool, true, List, [], Option, None, Some, option_map}
-use Rattle.std.specs.Borrow.{Bor}
+use Rattle.forward_sim.specs.References.{terms_in}
+use Rattle.forward_sim.specs.declared.replaced_word.ReplacedWord.{ReplacedWord}
 use Rattle.pauli_word.specs.declared.letter.Letter.{Letter}
 use Rattle.pauli_word.specs.Parity.{exclusive_or}
 use Rattle.pauli_word.specs.Words.{anticommute}
@@ -37,9 +38,9 @@ abbrev pub followed : Listing → List Bool → Option (List Term) → Bool → 
 followed program faults replaced coin step v =
     carried_with program [] faults step (turned_at program.qubits replaced coin step v)
 
--- the letters at qubits that a reference points to
-abbrev pub terms_of : Option (Bor (List Term)) → Option (List Term)
-terms_of replaced = option_map (λ terms. terms.now) replaced
+-- the letters at qubits of a word that is kept of a collapse, if any
+abbrev pub terms_of : Option ReplacedWord → Option (List Term)
+terms_of replaced = option_map terms_in replaced
 
 -- these, or no letters
 abbrev pub terms_or_none : Option (List Term) → List Term

@@ -3,7 +3,7 @@ use Rattle.std.proofs.Common.{◌<◌, ◌∷◌, [], ◌++◌, length, sym, ap,
 use Rattle.std.specs.List.{All}
 use Rattle.std.specs.Prelude.{map}
 use Rattle.forward_sim.specs.References.{entry_of}
-use Rattle.forward_sim.specs.private.Kept.{KeptSoFar, entry_with}
+use Rattle.forward_sim.specs.private.Kept.{KeptSoFar, entry_with, terms_listed}
 use Rattle.forward_sim.proofs.NumberedWords.{inside_more, kept_more}
 use Rattle.forward_sim.proofs.kept_words.KeptWords.push.Goals as goal
 
@@ -17,5 +17,5 @@ pub returns-clause-kept : goal.returns-clause-kept
 returns-clause-kept g c whole =
     let new = c.number.new.self in
     ap (map (entry_with new)) c.in_ok-push.ensures.items
-    ∙ kept_more c.self.inside.words new c.self.inside.numbers.items c.in_ok-number.number c.args.word.now c.in_ok-number.ensures.stay c.self.invariant c.in_ok-number.ensures.word
-    ∙ ap (λ (k : KeptSoFar). k.replaced ++ entry_of c.args.word.now ∷ []) c.self.view_is
+    ∙ kept_more c.self.inside.words new c.self.inside.numbers.items c.in_ok-number.number c.args.list.now c.in_ok-number.ensures.stay c.self.invariant c.in_ok-number.ensures.word
+    ∙ ap (λ (k : KeptSoFar). k.replaced ++ entry_of (terms_listed c.args.list.now) ∷ []) c.self.view_is

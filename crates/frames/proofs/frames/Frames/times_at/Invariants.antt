@@ -1,0 +1,18 @@
+use Rattle.std.proofs.Common.{◌≤◌, length, drop}
+use Rattle.bit_rows.specs.Lanes.{lane_bit}
+use Rattle.step_model.specs.Listing.{word_of_terms}
+use Rattle.step_model.specs.Sensitivities.{multiplied}
+use Rattle.forward_sim.specs.References.{terms_at}
+use Rattle.frames.specs.LaneFrames.{GoesTo}
+use Rattle.frames.proofs.frames.Frames.times_at.Given as goal
+
+-- the letters from a place on are multiplied in
+abbrev pub invariant-loop-left : goal.invariant-loop-left
+invariant-loop-left g l =
+    record {
+      within : l.left ≤ length l.qubits;
+      so_far : GoesTo l.fn.self l.self (λ j v. record v { word = multiplied (lane_bit j l.fn.runs) (word_of_terms (length l.fn.self.letters) (drop l.left (terms_at l.letter l.qubits))) v.word });
+    }
+
+abbrev pub decreases-loop-left : goal.decreases-loop-left
+decreases-loop-left g l = l.left
