@@ -33,3 +33,4 @@ mod BracketLemmas
 pub mod ProductWords
 mod ProductSteps
 pub mod MarkLemmas
+mod KeptTargetLemmas

@@ -3,7 +3,7 @@ ghost use Rattle.stim_parser.specs.private.Brackets.{at_least_one, before_bracke
 ghost use Rattle.stim_parser.specs.Targets.{inverted_of, letter_of, marked_of, pauli_of, record_of, target_of, targets_in};
 
 use crate::digits::number_of;
-use crate::halved::Number;
+use crate::kept_target::KeptTarget;
 use crate::piece_values::{PieceValue, read_pieces};
 use pauli_word::Letter;
 use std::alloc::{AllocError, Allocator};
@@ -12,13 +12,13 @@ use std::alloc::{AllocError, Allocator};
 #[derive(Clone, Copy, Debug, PartialEq, Eq)]
 pub enum Target {
     /// A number alone: a qubit, or how often a block is repeated.
-    Plain(Number),
+    Plain(u64),
     /// A qubit with `!` before it.
-    Inverted(Number),
+    Inverted(u64),
     /// A record, by how far back it lies, from 1.
-    Back(Number),
+    Back(u64),
     /// A letter at a qubit, and whether `!` stands before it.
-    Pauli(bool, Letter, Number),
+    Pauli(bool, Letter, u64),
     /// A `*`, which joins the Pauli targets beside it.
     Star,
 }
@@ -66,59 +66,61 @@ fn letter_of(byte: u8) -> Option<Letter>
 }
 
 /// A letter and its qubit, after a `!` or not.
-fn pauli_of(inverted: bool, text: &[u8]) -> Option<Target>
+#[tactic(auto, using(crate::proofs::KeptTargetLemmas::number_is_small))]
+fn pauli_of(inverted: bool, text: &[u8]) -> Option<KeptTarget>
     ensures { result ≡ pauli_of inverted text.now }
 {
     match text {
         [first, digits @ ..] => {
             let letter = letter_of(*first)?;
             let qubit = number_of(digits)?;
-            Some(Target::Pauli(inverted, letter, Number::new(qubit)))
+            Some(KeptTarget::new(Target::Pauli(inverted, letter, qubit)))
         }
         [] => None,
     }
 }
 
 /// The target whose text follows a `!`.
-fn inverted_of(text: &[u8]) -> Option<Target>
+#[tactic(auto, using(crate::proofs::KeptTargetLemmas::number_is_small))]
+fn inverted_of(text: &[u8]) -> Option<KeptTarget>
     ensures { result ≡ inverted_of text.now }
 {
     match number_of(text) {
-        Some(qubit) => Some(Target::Inverted(Number::new(qubit))),
+        Some(qubit) => Some(KeptTarget::new(Target::Inverted(qubit))),
         None => pauli_of(true, text),
     }
 }
 
 /// A target that is known by its first byte.
-fn marked_of(piece: &[u8]) -> Option<Target>
+fn marked_of(piece: &[u8]) -> Option<KeptTarget>
     ensures { result ≡ marked_of piece.now }
 {
     match piece {
         [] => None,
         [b'!', rest @ ..] => inverted_of(rest),
-        [b'*'] => Some(Target::Star),
+        [b'*'] => Some(KeptTarget::new(Target::Star)),
         _ => pauli_of(false, piece),
     }
 }
 
 /// The target that a piece writes.
 #[tactic(auto, unfolding(crate::specs::Targets::target_of))]
-fn target_of(piece: &[u8]) -> Option<Target>
+fn target_of(piece: &[u8]) -> Option<KeptTarget>
     ensures { result ≡ target_of piece.now }
 {
     if let Some(number) = number_of(piece) {
-        return Some(Target::Plain(Number::new(number)));
+        return Some(KeptTarget::new(Target::Plain(number)));
     }
     if let Some(back) = record_of(piece) {
-        return Some(Target::Back(Number::new(back)));
+        return Some(KeptTarget::new(Target::Back(back)));
     }
     marked_of(piece)
 }
 
-impl PieceValue for Target {
+impl PieceValue for KeptTarget {
     ghost written = { target_of };
 
-    fn of_piece(piece: &[u8]) -> Option<Target> {
+    fn of_piece(piece: &[u8]) -> Option<KeptTarget> {
         target_of(piece)
     }
 }
@@ -126,7 +128,7 @@ impl PieceValue for Target {
 /// Puts the targets of a text in place of those that were there. Answers whether each of its pieces is a target.
 #[tactic(auto, unfolding(crate::specs::Targets::targets_in))]
 pub(crate) fn read_targets<A: Allocator + Copy>(
-    targets: &mut Vec<Target, A>,
+    targets: &mut Vec<KeptTarget, A>,
     text: &[u8],
 ) -> Result<bool, AllocError>
     ensures { IfOk result (λ all. MatchBool all

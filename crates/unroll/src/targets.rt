@@ -6,34 +6,34 @@ ghost use Rattle.unroll.specs.Refusals.{is_before_start, reaches_far};
 ghost use Rattle.unroll.specs.Totals.{qubits_to, target_count};
 ghost use Rattle.unroll.specs.private.MadeTotals.{qubits_named};
 
-use stim_parser::{Operation, Target};
+use stim_parser::{KeptTarget, Operation, Target};
 
 /// One more than the qubit that a target names, and 0 where it names none.
 #[inline(always)]
-fn qubits_to(target: Target) -> u32
+fn qubits_to(target: KeptTarget) -> u32
     requires { qubits_to target ≤ 4096 }
     ensures { result ≡ qubits_to target }
 {
-    match target {
-        Target::Plain(q) | Target::Inverted(q) | Target::Pauli(_, _, q) => q.value() as u32 + 1,
+    match target.get() {
+        Target::Plain(q) | Target::Inverted(q) | Target::Pauli(_, _, q) => q as u32 + 1,
         Target::Back(_) | Target::Star => 0,
     }
 }
 
 /// The qubit that a target names.
 #[inline(always)]
-pub(crate) fn qubit_of(target: Target) -> u32
+pub(crate) fn qubit_of(target: KeptTarget) -> u32
     requires { qubits_to target ≤ 4096 }
     ensures { result ≡ qubit_of target }
 {
-    match target {
-        Target::Plain(q) | Target::Inverted(q) | Target::Pauli(_, _, q) => q.value() as u32,
+    match target.get() {
+        Target::Plain(q) | Target::Inverted(q) | Target::Pauli(_, _, q) => q as u32,
         Target::Back(_) | Target::Star => 0,
     }
 }
 
 /// One more than the greatest qubit that targets name, and 0 where they name none.
-pub(crate) fn qubits_named(targets: &[Target]) -> u32
+pub(crate) fn qubits_named(targets: &[KeptTarget]) -> u32
     requires { All (λ target. qubits_to target ≤ 4096) targets.now }
     ensures value { result ≡ qubits_named targets.now }
     ensures small { result ≤ 4096 }
@@ -47,17 +47,17 @@ pub(crate) fn qubits_named(targets: &[Target]) -> u32
 
 /// Whether a target is a record that reaches back further than this many records.
 #[inline(always)]
-fn is_far(records: u64, target: Target) -> bool
+fn is_far(records: u64, target: KeptTarget) -> bool
     ensures { result ≡ is_before_start records target }
 {
-    match target {
-        Target::Back(k) => records < k.value(),
+    match target.get() {
+        Target::Back(k) => records < k,
         _ => false,
     }
 }
 
 /// Whether one of these targets is a record that reaches back further than this many records.
-pub(crate) fn reaches_far(records: u64, targets: &[Target]) -> bool
+pub(crate) fn reaches_far(records: u64, targets: &[KeptTarget]) -> bool
     ensures { result ≡ reaches_far records targets.now }
 {
     for target in targets {
@@ -68,17 +68,17 @@ pub(crate) fn reaches_far(records: u64, targets: &[Target]) -> bool
     false
 }
 
-fn is_star(target: Target) -> bool
+fn is_star(target: KeptTarget) -> bool
     ensures { result ≡ is_joining target }
 {
-    match target {
+    match target.get() {
         Target::Star => true,
         _ => false,
     }
 }
 
 /// Whether a star joins a factor to the next one, and what follows the factor and the star.
-pub(crate) fn end_of_factor(after: &[Target]) -> (bool, &[Target])
+pub(crate) fn end_of_factor(after: &[KeptTarget]) -> (bool, &[KeptTarget])
     ensures { FollowsFactor after.now result.0 result.1.now }
 {
     match after {
@@ -94,7 +94,7 @@ pub(crate) fn end_of_factor(after: &[Target]) -> (bool, &[Target])
 }
 
 /// How many products targets make.
-fn product_count(targets: &[Target]) -> usize
+fn product_count(targets: &[KeptTarget]) -> usize
     ensures value { result ≡ length (products_of targets.now) }
     ensures few { result ≤ length targets.now }
 {
@@ -113,7 +113,7 @@ fn product_count(targets: &[Target]) -> usize
 
 /// How many targets an operation has in these, a product being one.
 #[inline(always)]
-pub(crate) fn target_count(operation: Operation, targets: &[Target]) -> usize
+pub(crate) fn target_count(operation: Operation, targets: &[KeptTarget]) -> usize
     ensures value { result ≡ target_count operation targets.now }
     ensures few { result ≤ length targets.now }
 {
