@@ -10,7 +10,7 @@ use Rattle.pauli_word.specs.Parity.{exclusive_or}
 use Rattle.pauli_word.specs.Words.{letters_product}
 use Rattle.pauli_word.proofs.BitWords.{length-letters_of, letters_of-set_bits, letter_at-letters_of}
 use Rattle.pauli_word.proofs.LetterTests.{each_letter, at_letter, each_two_letters, at_two_letters, same_letter, same_letter-true}
-use Rattle.pauli_word.proofs.Parities.{exclusive_or-false, exclusive_or_assoc, same_truth, same_truth-true, each_two_truths, at_two_truths, each_four_truths, at_four_truths}
+use Rattle.pauli_word.proofs.Parities.{exclusive_or-false, exclusive_or_assoc, same_truth, same_truth-true, each_two_truths, at_two_truths}
 use Rattle.backward.specs.private.Transposed.{combined, xor_where, flipped_where, times_at}
 
 pub xor_where-false : (p q : List Bool) → xor_where false p q ≡ p
@@ -24,52 +24,51 @@ xor_where-true (a ∷ p) [] h = cc
 xor_where-true (a ∷ p) (b ∷ q) h = ap (λ r. exclusive_or a b ∷ r) (xor_where-true p q (suc_inj h))
 
 -- one place
-image_test : Letter → Letter → Bool → Bool → Bool → Bool → Bool
-image_test x z a b c d =
+image_test : Letter → Letter → Bool → Bool → Letter → Bool
+image_test x z a b c =
     same_letter
-    (letter_of (exclusive_or (exclusive_or a (x_bit x && c)) (x_bit z && d)) (exclusive_or (exclusive_or b (z_bit x && c)) (z_bit z && d)))
-    (letter_product (letter_of a b) (combined x z (letter_of c d)))
+    (letter_of (exclusive_or (exclusive_or a (x_bit x && x_bit c)) (x_bit z && z_bit c)) (exclusive_or (exclusive_or b (z_bit x && x_bit c)) (z_bit z && z_bit c)))
+    (letter_product (letter_of a b) (combined x z c))
 
-image_tests : each_two_letters (λ x z. each_four_truths (image_test x z)) ≡ true
+image_tests : each_two_letters (λ x z. each_two_truths (λ a b. each_letter (image_test x z a b))) ≡ true
 unfolding image_test
 image_tests = refl
 
-image_at_place : (x z : Letter) (a b c d : Bool) → letter_of (exclusive_or (exclusive_or a (x_bit x && c)) (x_bit z && d)) (exclusive_or (exclusive_or b (z_bit x && c)) (z_bit z && d)) ≡ letter_product (letter_of a b) (combined x z (letter_of c d))
+image_at_place : (x z : Letter) (a b : Bool) (c : Letter) → letter_of (exclusive_or (exclusive_or a (x_bit x && x_bit c)) (x_bit z && z_bit c)) (exclusive_or (exclusive_or b (z_bit x && x_bit c)) (z_bit z && z_bit c)) ≡ letter_product (letter_of a b) (combined x z c)
 unfolding image_test
-image_at_place x z a b c d =
+image_at_place x z a b c =
     same_letter-true _ _
-    (at_four_truths (image_test x z) (at_two_letters (λ x z. each_four_truths (image_test x z)) image_tests x z) a b c d)
+    (at_letter (image_test x z a b)
+    (at_two_truths (λ a b. each_letter (image_test x z a b))
+    (at_two_letters (λ x z. each_two_truths (λ a b. each_letter (image_test x z a b))) image_tests x z) a b) c)
 
-pub image_of_rows : (x z : Letter) (sx sz fx fz : List Bool) → length sx ≡ length sz → length fx ≡ length sx → length fz ≡ length sx
-    → letters_of (xor_where (x_bit z) (xor_where (x_bit x) sx fx) fz) (xor_where (z_bit z) (xor_where (z_bit x) sz fx) fz)
-    ≡ letters_product (letters_of sx sz) (map (combined x z) (letters_of fx fz))
-image_of_rows x z [] sz fx fz h k l = refl
-image_of_rows x z (a ∷ sx) [] fx fz h k l = cc
-image_of_rows x z (a ∷ sx) (b ∷ sz) [] fz h k l = cc
-image_of_rows x z (a ∷ sx) (b ∷ sz) (c ∷ fx) [] h k l = cc
-image_of_rows x z (a ∷ sx) (b ∷ sz) (c ∷ fx) (d ∷ fz) h k l =
-    ap₂ (λ e p. e ∷ p) (image_at_place x z a b c d) (image_of_rows x z sx sz fx fz (suc_inj h) (suc_inj k) (suc_inj l))
+pub image_of_letters : (x z : Letter) (sx sz : List Bool) (w : List Letter) → length sx ≡ length sz → length w ≡ length sx
+    → letters_of (xor_where (x_bit z) (xor_where (x_bit x) sx (map x_bit w)) (map z_bit w)) (xor_where (z_bit z) (xor_where (z_bit x) sz (map x_bit w)) (map z_bit w))
+    ≡ letters_product (letters_of sx sz) (map (combined x z) w)
+image_of_letters x z [] sz w h k = refl
+image_of_letters x z (a ∷ sx) [] w h k = cc
+image_of_letters x z (a ∷ sx) (b ∷ sz) [] h k = cc
+image_of_letters x z (a ∷ sx) (b ∷ sz) (c ∷ w) h k =
+    ap₂ (λ e p. e ∷ p) (image_at_place x z a b c) (image_of_letters x z sx sz w (suc_inj h) (suc_inj k))
 
-clash_test : Letter → Bool → Bool → Bool
-clash_test letter c d = same_truth (exclusive_or (z_bit letter && c) (x_bit letter && d)) (letters_clash letter (letter_of c d))
+clash_test : Letter → Letter → Bool
+clash_test letter c = same_truth (exclusive_or (z_bit letter && x_bit c) (x_bit letter && z_bit c)) (letters_clash letter c)
 
-clash_tests : each_letter (λ letter. each_two_truths (clash_test letter)) ≡ true
+clash_tests : each_two_letters clash_test ≡ true
 unfolding clash_test
 clash_tests = refl
 
-clash_at_place : (letter : Letter) (c d : Bool) → exclusive_or (z_bit letter && c) (x_bit letter && d) ≡ letters_clash letter (letter_of c d)
+clash_at_place : (letter c : Letter) → exclusive_or (z_bit letter && x_bit c) (x_bit letter && z_bit c) ≡ letters_clash letter c
 unfolding clash_test
-clash_at_place letter c d =
-    same_truth-true _ _ (at_two_truths (clash_test letter) (at_letter (λ letter. each_two_truths (clash_test letter)) clash_tests letter) c d)
+clash_at_place letter c = same_truth-true _ _ (at_two_letters clash_test clash_tests letter c)
 
-pub clashes_of_rows : (letter : Letter) (row x z : List Bool) → length row ≡ length x → length x ≡ length z
-    → xor_where (x_bit letter) (xor_where (z_bit letter) row x) z ≡ xor_rows row (map (letters_clash letter) (letters_of x z))
-clashes_of_rows letter [] x z h k = refl
-clashes_of_rows letter (a ∷ row) [] z h k = cc
-clashes_of_rows letter (a ∷ row) (c ∷ x) [] h k = cc
-clashes_of_rows letter (a ∷ row) (c ∷ x) (d ∷ z) h k =
-    ap₂ (λ e p. e ∷ p) (exclusive_or_assoc a (z_bit letter && c) (x_bit letter && d) ∙ ap (exclusive_or a) (clash_at_place letter c d))
-    (clashes_of_rows letter row x z (suc_inj h) (suc_inj k))
+pub clashes_of_letters : (letter : Letter) (row : List Bool) (w : List Letter) → length row ≡ length w
+    → xor_where (x_bit letter) (xor_where (z_bit letter) row (map x_bit w)) (map z_bit w) ≡ xor_rows row (map (letters_clash letter) w)
+clashes_of_letters letter [] w h = refl
+clashes_of_letters letter (a ∷ row) [] h = cc
+clashes_of_letters letter (a ∷ row) (c ∷ w) h =
+    ap₂ (λ e p. e ∷ p) (exclusive_or_assoc a (z_bit letter && x_bit c) (x_bit letter && z_bit c) ∙ ap (exclusive_or a) (clash_at_place letter c))
+    (clashes_of_letters letter row w (suc_inj h))
 
 -- a column is as long as its rows
 pub rows_long : (x z : List Bool) (column : List Letter) → length x ≡ length z → letters_of x z ≡ column → length column ≡ length x

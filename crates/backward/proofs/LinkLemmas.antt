@@ -312,39 +312,6 @@ row_of_permutation m xs ys p =
     same : (t : ℕ) → is_listed ys t ≡ is_listed xs t
     same t = listed_by_count t ys ∙ (ap odd (sum_by-IsPermutation (once t) xs ys p) ∙ sym (listed_by_count t xs))
 
--- ---- some lists made empty
-all_emptied : (P : ℕ → Type 0) (from to : ℕ) (places : List ℕ) → P 0 → All P places → All P (take from places ++ (replicate (to - from) 0 ++ drop to places))
-all_emptied P from to places none all =
-    All-append P (take from places) (replicate (to - from) 0 ++ drop to places) (All-take P from places all)
-    (All-append P (replicate (to - from) 0) (drop to places) (All-replicate P (to - from) 0 none) (All-drop P to places all))
-
-pub lists_emptied : (m from to : ℕ) (links : List Link) (places new_places : List ℕ) → AreLists m links places → new_places ≡ take from places ++ (replicate (to - from) 0 ++ drop to places) → AreLists m links new_places
-lists_emptied m from to links places new_places lists is =
-    record {
-      back = lists.back;
-      placed = subst (All (λ place. place ≤ length links)) (sym is) (all_emptied (λ place. place ≤ length links) from to places (omega arith) lists.placed);
-      below = subst (All Below) (sym is) (all_emptied Below from to places (subst (All (λ t. t < m)) (sym (list_at-none links)) (λ k d lt. absurd (omega (arith, lt)))) lists.below);
-    }
-  where
-    Below : ℕ → Type 0
-    Below place = All (λ t. t < m) (list_at links place)
-
-pub length_emptied : (from to : ℕ) (places new_places : List ℕ) → from ≤ to → to ≤ length places → new_places ≡ take from places ++ (replicate (to - from) 0 ++ drop to places) → length new_places ≡ length places
-length_emptied from to places new_places le within is =
-    let zeros : List ℕ = replicate (to - from) 0 in
-    let many : length zeros ≡ to - from = length-replicate {A = ℕ} (to - from) 0 in
-    omega (arith, le, within, many, ap length is, length-append (take from places) (zeros ++ drop to places), length-append zeros (drop to places), length-take from places, length-drop to places)
-
-pub rows_emptied : (m from to : ℕ) (links : List Link) (places new_places : List ℕ) → from ≤ length places → new_places ≡ take from places ++ (replicate (to - from) 0 ++ drop to places) → take from (rows_at m links new_places) ≡ take from (rows_at m links places)
-rows_emptied m from to links places new_places within is =
-    take-map row from new_places
-    ∙ (ap (λ ps. map row (take from ps)) is
-    ∙ (ap (map row) (take-append-le from (take from places) (replicate (to - from) 0 ++ drop to places) (omega (arith, within, length-take from places)) ∙ take-take from from places (omega arith))
-    ∙ sym (take-map row from places)))
-  where
-    row : ℕ → List Bool
-    row place = row_of_set m (list_at links place)
-
 -- all rows are of the number of targets, so a number that is the length of each stays it
 pub rows_stay_long : (m n : ℕ) (links new_links : List Link) (places new_places : List ℕ) (rows : List (List Bool)) → rows_at m links places ≡ rows → length new_places ≡ length places → All (λ set. length set ≡ n) rows → All (λ set. length set ≡ n) (rows_at m new_links new_places)
 rows_stay_long m n links new_links places new_places rows is same all k d lt =

@@ -2,12 +2,14 @@
 use Rattle.std.proofs.Common.{◌≡◌, ℕ, ◌<◌, Bool, true, false, List, [], ◌∷◌, map, length, get_or, set, refl, ap, ap₂, sym, ◌∙◌, arith}
 use Rattle.std.proofs.Math.Nat.{suc_inj}
 use Rattle.std.proofs.lemmas.List.{length-map, get_or-map}
+use Rattle.bit_rows.specs.Rows.{xor_rows}
 use Rattle.gate_table.specs.declared.gate.Gate.{Gate}
 use Rattle.gate_table.specs.Images.{image2, inverse_of}
 use Rattle.pauli_word.specs.declared.letter.Letter.{Letter}
 use Rattle.pauli_word.specs.declared.letter.Letter.TheVariants.{I, X, Y, Z}
 use Rattle.pauli_word.specs.Bits.{letter_of, letters_of}
 use Rattle.pauli_word.specs.Letters.{letter_product}
+use Rattle.pauli_word.specs.Parity.{exclusive_or}
 use Rattle.pauli_word.specs.Words.{letters_product, letter_at}
 use Rattle.pauli_word.proofs.LetterLaws.{letter_product-I, letter_product_comm}
 use Rattle.pauli_word.proofs.LetterTests.{each_four_letters, at_four_letters, same_letter, same_letter-true}
@@ -71,7 +73,32 @@ exchanged_rows (a ∷ x) [] h = cc
 exchanged_rows (a ∷ x) (b ∷ z) h =
     ap₂ (λ (c : Letter) (w : List Letter). c ∷ w) (exchanged_letter a b) (exchanged_rows x z (suc_inj h))
 
--- ---- places of a list
+-- Z multiplied into each letter that has an X in it, and X into each that has a Z
+z_added_letter : (a b : Bool) → letter_of a (exclusive_or b a) ≡ combined Y Z (letter_of a b)
+z_added_letter false false = refl
+z_added_letter false true = refl
+z_added_letter true false = refl
+z_added_letter true true = refl
+
+pub z_added_rows : (x z : List Bool) → length x ≡ length z → letters_of x (xor_rows z x) ≡ map (combined Y Z) (letters_of x z)
+z_added_rows [] [] h = refl
+z_added_rows [] (b ∷ z) h = cc
+z_added_rows (a ∷ x) [] h = cc
+z_added_rows (a ∷ x) (b ∷ z) h =
+    ap₂ (λ (c : Letter) (w : List Letter). c ∷ w) (z_added_letter a b) (z_added_rows x z (suc_inj h))
+
+x_added_letter : (a b : Bool) → letter_of (exclusive_or a b) b ≡ combined X Y (letter_of a b)
+x_added_letter false false = refl
+x_added_letter false true = refl
+x_added_letter true false = refl
+x_added_letter true true = refl
+
+pub x_added_rows : (x z : List Bool) → length x ≡ length z → letters_of (xor_rows x z) z ≡ map (combined X Y) (letters_of x z)
+x_added_rows [] [] h = refl
+x_added_rows [] (b ∷ z) h = cc
+x_added_rows (a ∷ x) [] h = cc
+x_added_rows (a ∷ x) (b ∷ z) h =
+    ap₂ (λ (c : Letter) (w : List Letter). c ∷ w) (x_added_letter a b) (x_added_rows x z (suc_inj h))
 
 -- ---- words
 

@@ -123,6 +123,10 @@ descends_summed (Ok v) m new sum ok err h = subst (DescendsBelow m) (sym ok) h
 descends_summed (Err e) m new sum ok err h = subst (DescendsBelow m) (sym err) tt
 
 -- ---- one target toggled
+pub descends_toggled : {V E : Type 0} (r : Result V E) (m t : ℕ) (old new : List ℕ) → OnOk r ((n : ℕ) → DescendsBelow n old → new ≡ xor_sets (t ∷ []) old) → OnErr r (new ≡ old) → t < m → DescendsBelow m old → DescendsBelow m new
+descends_toggled (Ok v) m t old new ok err low h = subst (DescendsBelow m) (sym (ok m h)) (DescendsBelow-xor_sets m (t ∷ []) old (low, tt) h)
+descends_toggled (Err e) m t old new ok err low h = subst (DescendsBelow m) (sym err) h
+
 get_below : (m : ℕ) (xs : List ℕ) (k : ℕ) → DescendsBelow m xs → k < length xs → get_or xs k 0 < m
 get_below m [] k h lt = absurd (omega (arith, lt))
 get_below m (x ∷ xs) zero h lt = h.0
@@ -166,6 +170,16 @@ inserted m (x ∷ xs) (suc (suc i)) t h le below above =
     let e : suc i - 1 ≡ i = omega arith in
     ap (λ l. x ∷ l) (inserted x xs (suc i) t h.1 (omega (arith, le)) (λ k p q. below (suc k) (omega (arith, p)) (omega (arith, q))) (λ some. subst (λ j. t < get_or xs j 0) (sym e) there))
     ∙ sym (xor_front t x xs (omega (arith, low, there)))
+
+-- a target that comes last
+pub appended : (m : ℕ) (xs : List ℕ) (t : ℕ) → DescendsBelow m xs → ((k : ℕ) → suc k ≡ length xs → t < get_or xs k 0) → xs ++ t ∷ [] ≡ xor_sets (t ∷ []) xs
+appended m [] t h last = refl
+appended m (x ∷ []) t h last = sym (xor_front t x [] (last 0 refl))
+appended m (x ∷ y ∷ xs) t h last =
+    let low : t < get_or (y ∷ xs) (length xs) 0 = last (suc (length xs)) refl in
+    let top : get_or (y ∷ xs) (length xs) 0 < x = get_below x (y ∷ xs) (length xs) h.1 (omega arith) in
+    ap (λ l. x ∷ l) (appended x (y ∷ xs) t h.1 (λ k e. last (suc k) (ap suc e)))
+    ∙ sym (xor_front t x (y ∷ xs) (omega (arith, low, top)))
 
 -- ---- rows
 pub length-row_of_set : (m : ℕ) (xs : List ℕ) → length (row_of_set m xs) ≡ m
@@ -213,10 +227,29 @@ same_count m n xs ys p q a b h =
     sym (length-row_of_set m xs) ∙ (ap length a ∙ (h ∙ (sym (ap length b) ∙ length-row_of_set n ys)))
 
 -- a set of none changes no row
-none_added : (row : List Bool) (k n : ℕ) → length row ≡ n → xor_rows row (map (is_listed []) (range_with_len k n)) ≡ row
+pub none_added : (row : List Bool) (k n : ℕ) → length row ≡ n → xor_rows row (map (is_listed []) (range_with_len k n)) ≡ row
 none_added [] k n h = refl
 none_added (b ∷ row) k zero h = cc
 none_added (b ∷ row) k (suc n) h = ap₂ (λ c r. c ∷ r) (exclusive_or-false b) (none_added row (k + 1) n (suc_inj h))
+
+pub none_before : (m : ℕ) (row : List Bool) → length row ≡ m → xor_rows (replicate m false) row ≡ row
+none_before zero [] h = refl
+none_before zero (b ∷ row) h = cc
+none_before (suc m) [] h = cc
+none_before (suc m) (b ∷ row) h = ap (λ r. b ∷ r) (none_before m row (suc_inj h))
+
+-- a target toggled in a sum is toggled in what is added
+not_of_sum : (a b : Bool) → not (exclusive_or a b) ≡ exclusive_or a (not b)
+not_of_sum true true = refl
+not_of_sum true false = refl
+not_of_sum false b = refl
+
+pub toggled_sum : (p q : List Bool) (t : ℕ) → length p ≡ length q → set (xor_rows p q) t (not (get_or (xor_rows p q) t false)) ≡ xor_rows p (set q t (not (get_or q t false)))
+toggled_sum [] [] t h = refl
+toggled_sum [] (b ∷ q) t h = cc
+toggled_sum (a ∷ p) [] t h = cc
+toggled_sum (a ∷ p) (b ∷ q) zero h = ap (λ c. c ∷ xor_rows p q) (not_of_sum a b)
+toggled_sum (a ∷ p) (b ∷ q) (suc t) h = ap (λ r. exclusive_or a b ∷ r) (toggled_sum p q t (suc_inj h))
 
 pub no_elements : (set : List ℕ) → (length set == 0) ≡ true → set ≡ []
 no_elements [] h = refl

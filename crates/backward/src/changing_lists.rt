@@ -99,16 +99,16 @@ impl<'s, A: Allocator + Copy> ChangingLists<'s, A> {
         Ok(())
     }
 
-    /// Lets the sets of all but the first `records` go: they are not asked for any more. It takes no memory, and a number
-    /// of steps only for each that goes.
-    pub(crate) fn let_go(&mut self, records: usize)
-        ensures kept { take records self.new ≡ take records self.old }
+    /// Lets the set of a record go, which isn't asked for any more, nor are those of later records. Takes no memory.
+    pub(crate) fn let_go(&mut self, rec: usize)
+        requires { rec < length self.old }
+        ensures kept { take rec self.new ≡ take rec self.old }
         ensures len { length self.new ≡ length self.old }
         ensures long { (n : ℕ)
             → All (λ set. length set ≡ n) self.old
             → All (λ set. length set ≡ n) self.new }
     {
-        self.lists.let_go(records);
+        self.lists.empty(rec);
     }
 }
 

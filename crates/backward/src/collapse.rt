@@ -9,6 +9,7 @@ use step_model::Term;
 
 /// Puts I at the qubit that is reset, where one is, and then multiplies the words of the targets that list the record
 /// by the product that is measured.
+#[inline(always)]
 pub(crate) fn undo_collapse<T: Tracker>(
     tracker: &mut T,
     targets: &[u32],

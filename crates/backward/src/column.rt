@@ -4,18 +4,14 @@ ghost use Rattle.pauli_word.specs.Bits.{x_bit, z_bit, letters_of};
 ghost use Rattle.pauli_word.specs.declared.letter.Letter.TheVariants.{I, X, Y, Z};
 ghost use Rattle.pauli_word.specs.Letters.{letters_clash};
 ghost use Rattle.pauli_word.specs.Words.{letters_product, no_letters};
-ghost use Rattle.backward.specs.private.Sets.{row_of_set};
 ghost use Rattle.backward.specs.private.TargetSets.{members};
-ghost use Rattle.backward.specs.private.Transposed.{combined, xor_where, times_each, times_at, flipped_where, column_of, lists_of};
+ghost use Rattle.backward.specs.private.Transposed.{combined, xor_where, times_each, column_of, lists_of};
 
-use crate::target_set::TargetSet;
+use crate::target_set::{TargetSet, add_where, make_set, toggle_where};
 use flat_lists::FlatLists;
 use pauli_word::Letter;
 use std::alloc::{AllocError, Allocator};
 use std::marker::Model;
-
-/// From this many targets on, a set of them is made and added: to toggle one takes longer in a set of many.
-const MANY: usize = 16;
 
 /// The letters that all words have at one qubit: the targets whose letter has an X in it, and those whose letter has
 /// a Z, where Y has both.
@@ -152,6 +148,8 @@ impl<S: TargetSet> Column<S> {
                 self.exchange();
                 Ok(())
             }
+            (Letter::Y, Letter::Z) => self.add_x_to_z(spare),
+            (Letter::X, Letter::Y) => self.add_z_to_x(spare),
             _ => {
                 other.set_image(self, x, z, spare)?;
                 self.swap(other);
@@ -160,11 +158,31 @@ impl<S: TargetSet> Column<S> {
         }
     }
 
-    // Puts Z for X, and X for Z.
-    fn exchange(&mut self)
+    /// Puts Z for X, and X for Z.
+    pub(crate) fn exchange(&mut self)
         ensures { self.new ≡ map (combined Z X) self.old }
     {
         std::mem::swap(&mut self.x, &mut self.z);
+    }
+
+    // Puts Y for X, and X for Y.
+    fn add_x_to_z(&mut self, spare: &mut S) -> Result<(), AllocError>
+        requires { length (S.bits spare.old) ≡ length self.old }
+        ensures ok { OnOk result (self.new ≡ map (combined Y Z) self.old) }
+        ensures len { length self.new ≡ length self.old }
+        ensures spare { length (S.bits spare.new) ≡ length (S.bits spare.old) }
+    {
+        self.z.add(&self.x, spare)
+    }
+
+    // Puts Y for Z, and Z for Y.
+    fn add_z_to_x(&mut self, spare: &mut S) -> Result<(), AllocError>
+        requires { length (S.bits spare.old) ≡ length self.old }
+        ensures ok { OnOk result (self.new ≡ map (combined X Y) self.old) }
+        ensures len { length self.new ≡ length self.old }
+        ensures spare { length (S.bits spare.new) ≡ length (S.bits spare.old) }
+    {
+        self.x.add(&self.z, spare)
     }
 
     /// Multiplies each letter by the image of that of another column, from the images of X and Z.
@@ -183,10 +201,8 @@ impl<S: TargetSet> Column<S> {
         ensures len { length self.new ≡ length self.old }
         ensures spare { length (S.bits spare.new) ≡ length (S.bits spare.old) }
     {
-        add_where(has_x(x), &mut self.x, &from.x, spare)?;
-        add_where(has_x(z), &mut self.x, &from.z, spare)?;
-        add_where(has_z(x), &mut self.z, &from.x, spare)?;
-        add_where(has_z(z), &mut self.z, &from.z, spare)
+        from.add_parts(has_x(x), has_x(z), &mut self.x, spare)?;
+        from.add_parts(has_z(x), has_z(z), &mut self.z, spare)
     }
 
     /// Toggles the targets whose letter here clashes with this one.
@@ -203,8 +219,22 @@ impl<S: TargetSet> Column<S> {
         ensures len { length (S.bits set.new) ≡ length (S.bits set.old) }
         ensures spare { length (S.bits spare.new) ≡ length (S.bits spare.old) }
     {
-        add_where(has_z(letter), set, &self.x, spare)?;
-        add_where(has_x(letter), set, &self.z, spare)
+        self.add_parts(has_z(letter), has_x(letter), set, spare)
+    }
+
+    // Toggles the targets whose letter has an X in it, where `x`, and those whose letter has a Z, where `z`.
+    #[inline(always)]
+    fn add_parts(&self, x: bool, z: bool, set: &mut S, spare: &mut S) -> Result<(), AllocError>
+        requires set { length (S.bits set.old) ≡ length self.now }
+        requires spare { length (S.bits spare.old) ≡ length self.now }
+        ensures ok { OnOk result
+            (S.bits set.new
+            ≡ xor_where z (xor_where x (S.bits set.old) (map x_bit self.now)) (map z_bit self.now)) }
+        ensures len { length (S.bits set.new) ≡ length (S.bits set.old) }
+        ensures spare { length (S.bits spare.new) ≡ length (S.bits spare.old) }
+    {
+        add_where(x, set, &self.x, spare)?;
+        add_where(z, set, &self.z, spare)
     }
 
     /// The set of the targets whose letter here clashes with this one, where it is kept: an X clashes with a Z in a
@@ -254,55 +284,8 @@ impl<S: TargetSet> Column<S> {
         ensures set { length (S.bits set.new) ≡ length (S.bits set.old) }
         ensures spare { length (S.bits spare.new) ≡ length (S.bits spare.old) }
     {
-        if targets.len() < MANY {
-            self.times_one_by_one(targets, letter)
-        } else {
-            self.times_all(targets, letter, set, spare)
-        }
-    }
-
-    fn times_one_by_one(&mut self, targets: &[u32], letter: Letter) -> Result<(), AllocError>
-        requires { All (λ t. t < length self.old) targets.now }
-        ensures ok { OnOk result (self.new ≡ times_each letter targets.now self.old) }
-        ensures len { length self.new ≡ length self.old }
-    {
-        // From the greatest down, so that each is appended where a set is empty.
-        let mut left = targets.len();
-        while left > 0 {
-            left -= 1;
-            self.times_at(targets[left], letter)?;
-        }
-        Ok(())
-    }
-
-    // The same by a set of the targets, which is faster for many.
-    fn times_all(
-        &mut self,
-        targets: &[u32],
-        letter: Letter,
-        set: &mut S,
-        spare: &mut S,
-    ) -> Result<(), AllocError>
-        requires targets { All (λ t. t < length self.old) targets.now }
-        requires set { length (S.bits set.old) ≡ length self.old }
-        requires spare { length (S.bits spare.old) ≡ length self.old }
-        ensures ok { OnOk result (self.new ≡ times_each letter targets.now self.old) }
-        ensures len { length self.new ≡ length self.old }
-        ensures set { length (S.bits set.new) ≡ length (S.bits set.old) }
-        ensures spare { length (S.bits spare.new) ≡ length (S.bits spare.old) }
-    {
-        make_set(set, targets)?;
-        add_where(has_x(letter), &mut self.x, set, spare)?;
-        add_where(has_z(letter), &mut self.z, set, spare)
-    }
-
-    fn times_at(&mut self, t: u32, letter: Letter) -> Result<(), AllocError>
-        requires { t < length self.old }
-        ensures ok { OnOk result (self.new ≡ times_at letter t self.old) }
-        ensures len { length self.new ≡ length self.old }
-    {
-        toggle_where(has_x(letter), &mut self.x, t)?;
-        toggle_where(has_z(letter), &mut self.z, t)
+        toggle_where(has_x(letter), &mut self.x, targets, set, spare)?;
+        toggle_where(has_z(letter), &mut self.z, targets, set, spare)
     }
 }
 
@@ -364,47 +347,4 @@ fn has_z(letter: Letter) -> bool
     ensures { result ≡ z_bit letter }
 {
     matches!(letter, Letter::Y | Letter::Z)
-}
-
-// Adds a set to another where `add`.
-#[inline(always)]
-fn add_where<S: TargetSet>(
-    add: bool,
-    set: &mut S,
-    other: &S,
-    spare: &mut S,
-) -> Result<(), AllocError>
-    requires other { length (S.bits set.old) ≡ length (S.bits other.now) }
-    requires spare { length (S.bits spare.old) ≡ length (S.bits set.old) }
-    ensures sum { OnOk result (S.bits set.new ≡ xor_where add (S.bits set.old) (S.bits other.now)) }
-    ensures len { length (S.bits set.new) ≡ length (S.bits set.old) }
-    ensures spare { length (S.bits spare.new) ≡ length (S.bits spare.old) }
-{
-    if add { set.add(other, spare) } else { Ok(()) }
-}
-
-// Makes a set that of the targets of a list.
-fn make_set<S: TargetSet>(set: &mut S, targets: &[u32]) -> Result<(), AllocError>
-    requires { All (λ t. t < length (S.bits set.old)) targets.now }
-    ensures ok { OnOk result (S.bits set.new ≡ row_of_set (length (S.bits set.old)) targets.now) }
-    ensures len { length (S.bits set.new) ≡ length (S.bits set.old) }
-{
-    set.clear();
-    // From the last on, so that each is appended where they ascend.
-    let mut left = targets.len();
-    while left > 0 {
-        left -= 1;
-        set.toggle(targets[left])?;
-    }
-    Ok(())
-}
-
-// Toggles a target where `toggle`.
-#[inline(always)]
-fn toggle_where<S: TargetSet>(toggle: bool, set: &mut S, t: u32) -> Result<(), AllocError>
-    requires { t < length (S.bits set.old) }
-    ensures ok { OnOk result (S.bits set.new ≡ flipped_where toggle t (S.bits set.old)) }
-    ensures len { length (S.bits set.new) ≡ length (S.bits set.old) }
-{
-    if toggle { set.toggle(t) } else { Ok(()) }
 }

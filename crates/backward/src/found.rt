@@ -66,6 +66,7 @@ impl<'s, A: Allocator + Copy> Found<'s, A> {
     }
 
     /// Notes the targets that a collapse of a product of letters is the latest place of, unless the lists are settled.
+    #[inline(always)]
     pub(crate) fn judge<T: Tracker>(
         &mut self,
         targets: usize,
@@ -124,8 +125,9 @@ impl<'s, A: Allocator + Copy> Found<'s, A> {
         }
     }
 
-    /// Lets go of the lists from a record on, unless they are kept: the pass has gone over the collapse that makes it.
+    /// Lets go of the list of a record, unless lists are kept: the pass has gone over the collapse that makes it.
     pub(crate) fn let_go(&mut self, rec: Option<u32>)
+        requires { IfSome rec (λ r. r < length self.old.lists) }
         ensures lists { (program : Listing) (place : ℕ)
             → IfSome rec (λ r. (records_before program place ≤ r) × (r ≤ self.old.known))
             → HoldsLists program self.old.settled place self.old.known self.old.lists

@@ -4,6 +4,8 @@ mod analysis;
 mod changing_lists;
 mod collapse;
 mod column;
+mod columns;
+mod descending;
 mod found;
 mod images;
 mod line_store;

@@ -1,5 +1,5 @@
 //! For each record the targets that list it, as linked lists: most records have none or few.
-ghost use Rattle.std.specs.Prelude.{◌≡◌, ◌<◌, ◌≤◌, ◌+◌, ◌-◌, ◌∷◌, ◌++◌, ◌^◌, ℕ, [], true, false, length, replicate, sum_by, slice_index_or, slice_set, take, drop, All, IfOk, IsPermutation, OnOk};
+ghost use Rattle.std.specs.Prelude.{◌≡◌, ◌<◌, ◌≤◌, ◌+◌, ◌-◌, ◌∷◌, ◌^◌, ℕ, [], true, false, length, replicate, sum_by, slice_index_or, slice_set, All, IfOk, IsPermutation, OnOk};
 ghost use Rattle.step_model.specs.Targets.{targets_of};
 ghost use Rattle.backward.specs.private.Collapses.{toggled_each};
 ghost use Rattle.backward.specs.private.Links.{list_at, rows_at, LeadBack, AreLists, Falls, IsGrown, IsPutAt};
@@ -28,16 +28,14 @@ const MOST_LINKS: usize = u32::MAX as usize;
 ///
 /// They are kept as linked lists, and a target is in a set where it is in the list an odd number of times: to toggle
 /// it, it is put in front. A list's place is how many links there are up to and with its first, and 0 where it is
-/// empty. Where feedback has put many, the lists are made anew, so the links don't grow with the number of steps. Those
-/// of records that were let go are empty, and what they had is left out then.
+/// empty. Where feedback has put many, the lists are made anew, so the links don't grow with the number of steps: what
+/// lists had that are empty now is left out.
 #[derive(Drop)]
 pub(crate) struct RecordLists<'s, A: Allocator + Copy> {
     alloc: &'s A,
     targets: usize,
     links: Vec<Link, A>,
     places: Vec<u32, A>,
-    // The records from this one on were let go.
-    asked: usize,
     // From how many links on the lists are made anew.
     many: usize,
 }
@@ -63,7 +61,6 @@ impl<'s, A: Allocator + Copy> RecordLists<'s, A> {
             targets: 0,
             links: Vec::new(*alloc),
             places: Vec::new(*alloc),
-            asked: 0,
             many: 0,
         }
     }
@@ -80,14 +77,12 @@ impl<'s, A: Allocator + Copy> RecordLists<'s, A> {
         for t in 0..targets {
             put_in_each(&mut links, &mut places, target(program, t), t as u32)?;
         }
-        let asked = places.len();
-        let many = many_links(links.len(), asked);
+        let many = many_links(links.len(), places.len());
         Ok(RecordLists {
             alloc,
             targets,
             links,
             places,
-            asked,
             many,
         })
     }
@@ -109,7 +104,6 @@ impl<'s, A: Allocator + Copy> RecordLists<'s, A> {
             targets,
             links: Vec::new(*alloc),
             places,
-            asked: records,
             many: many_links(0, records),
         })
     }
@@ -169,22 +163,6 @@ impl<'s, A: Allocator + Copy> RecordLists<'s, A> {
         self.places[rec] = 0;
     }
 
-    /// Lets the sets of all but the first `records` go: they are not asked for any more. It takes no memory, and a number
-    /// of steps only for each that goes.
-    pub(crate) fn let_go(&mut self, records: usize)
-        ensures kept { take records self.new ≡ take records self.old }
-        ensures len { length self.new ≡ length self.old }
-        ensures long { (n : ℕ)
-            → All (λ set. length set ≡ n) self.old
-            → All (λ set. length set ≡ n) self.new }
-    {
-        let end = self.asked.min(self.places.len());
-        if records < end {
-            empty_lists(&mut self.places, records, end);
-            self.asked = records;
-        }
-    }
-
     // Makes the lists anew where they have many links.
     fn shorten(&mut self) -> Result<(), AllocError>
         requires { All (λ set. length set ≤ 2 ^ 32) self.old }
@@ -193,10 +171,8 @@ impl<'s, A: Allocator + Copy> RecordLists<'s, A> {
         if self.links.len() < self.many {
             return Ok(());
         }
-        let asked = self.asked;
         let lists = self.anew()?;
         *self = lists;
-        self.asked = asked;
         self.many = many_links(self.links.len(), self.places.len());
         Ok(())
     }
@@ -321,16 +297,6 @@ fn put_first<A: Allocator + Copy>(
         next: place,
     })?;
     Ok(links.len() as u32)
-}
-
-// Makes the lists of the records from one on and below another empty.
-fn empty_lists<A: Allocator + Copy>(places: &mut Vec<u32, A>, from: usize, to: usize)
-    requires order { from ≤ to }
-    requires within { to ≤ length places.old.items }
-    ensures { places.new.items
-        ≡ take from places.old.items ++ (replicate (to - from) 0 ++ drop to places.old.items) }
-{
-    places.as_mut_slice()[from..to].fill(0);
 }
 
 // Whether each target is less than the one before it.

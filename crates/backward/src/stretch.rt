@@ -56,10 +56,11 @@ fn find_back<'s, 'p, 'a, A: Allocator + Copy, T: Tracker>(
     ensures store { lines.new.program.now ≡ lines.old.program.now }
 {
     let to = at.walk.place();
+    let mut next = 0;
     while at.walk.place() > from {
         step_back(program, at, found, lines)?;
         let steps = to.saturating_sub(at.walk.place());
-        if lines.is_full(steps, to - from) || found.is_random() {
+        if lines.is_full(&mut next, steps, to - from) || found.is_random() {
             return Ok(());
         }
     }

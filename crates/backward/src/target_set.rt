@@ -3,10 +3,15 @@ ghost use Rattle.std.specs.Prelude.{◌≡◌, ◌<◌, ◌≤◌, ◌^◌, fals
 ghost use Rattle.std.specs.List.{range_with_len};
 ghost use Rattle.bit_rows.specs.Rows.{xor_rows};
 ghost use Rattle.backward.specs.private.Collapses.{toggled_each};
+ghost use Rattle.backward.specs.private.Sets.{row_of_set};
 ghost use Rattle.backward.specs.private.TargetSets.{members};
+ghost use Rattle.backward.specs.private.Transposed.{xor_where};
 
 use bit_rows::BitRow;
 use std::alloc::{AllocError, Allocator};
+
+/// From this many targets on, a set of them is made and added: to toggle one takes longer in a set of many.
+const MANY: usize = 16;
 
 /// A set of some of a fixed number of targets. After an error in `toggle` or `add` that number stays, and nothing more
 /// is promised of the set. (`add` of a `SparseSet` may leave it empty.) After one in a call that lists, the sets are as
@@ -126,6 +131,98 @@ pub(crate) fn toggle_each<S: TargetSet>(set: &mut S, targets: &[u32]) -> Result<
 {
     for t in targets {
         set.toggle(*t)?;
+    }
+    Ok(())
+}
+
+/// Adds a set to another where `add`.
+#[inline(always)]
+pub(crate) fn add_where<S: TargetSet>(
+    add: bool,
+    set: &mut S,
+    other: &S,
+    spare: &mut S,
+) -> Result<(), AllocError>
+    requires other { length (S.bits set.old) ≡ length (S.bits other.now) }
+    requires spare { length (S.bits spare.old) ≡ length (S.bits set.old) }
+    ensures sum { OnOk result (S.bits set.new ≡ xor_where add (S.bits set.old) (S.bits other.now)) }
+    ensures len { length (S.bits set.new) ≡ length (S.bits set.old) }
+    ensures spare { length (S.bits spare.new) ≡ length (S.bits spare.old) }
+{
+    if add { set.add(other, spare) } else { Ok(()) }
+}
+
+/// Makes a set that of the targets of a list.
+pub(crate) fn make_set<S: TargetSet>(set: &mut S, targets: &[u32]) -> Result<(), AllocError>
+    requires { All (λ t. t < length (S.bits set.old)) targets.now }
+    ensures ok { OnOk result (S.bits set.new ≡ row_of_set (length (S.bits set.old)) targets.now) }
+    ensures len { length (S.bits set.new) ≡ length (S.bits set.old) }
+{
+    set.clear();
+    toggle_down(set, targets)
+}
+
+/// Toggles each of these targets, where `toggle`. What the sets `made` and `spare` held is lost.
+pub(crate) fn toggle_where<S: TargetSet>(
+    toggle: bool,
+    set: &mut S,
+    targets: &[u32],
+    made: &mut S,
+    spare: &mut S,
+) -> Result<(), AllocError>
+    requires targets { All (λ t. t < length (S.bits set.old)) targets.now }
+    requires made { length (S.bits made.old) ≡ length (S.bits set.old) }
+    requires spare { length (S.bits spare.old) ≡ length (S.bits set.old) }
+    ensures ok { OnOk result
+        (S.bits set.new
+        ≡ xor_where toggle (S.bits set.old)
+        (row_of_set (length (S.bits set.old)) targets.now)) }
+    ensures len { length (S.bits set.new) ≡ length (S.bits set.old) }
+    ensures made { length (S.bits made.new) ≡ length (S.bits made.old) }
+    ensures spare { length (S.bits spare.new) ≡ length (S.bits spare.old) }
+{
+    if toggle {
+        toggle_all(set, targets, made, spare)
+    } else {
+        Ok(())
+    }
+}
+
+fn toggle_all<S: TargetSet>(
+    set: &mut S,
+    targets: &[u32],
+    made: &mut S,
+    spare: &mut S,
+) -> Result<(), AllocError>
+    requires targets { All (λ t. t < length (S.bits set.old)) targets.now }
+    requires made { length (S.bits made.old) ≡ length (S.bits set.old) }
+    requires spare { length (S.bits spare.old) ≡ length (S.bits set.old) }
+    ensures ok { OnOk result
+        (S.bits set.new
+        ≡ xor_rows (S.bits set.old) (row_of_set (length (S.bits set.old)) targets.now)) }
+    ensures len { length (S.bits set.new) ≡ length (S.bits set.old) }
+    ensures made { length (S.bits made.new) ≡ length (S.bits made.old) }
+    ensures spare { length (S.bits spare.new) ≡ length (S.bits spare.old) }
+{
+    if targets.len() < MANY {
+        return toggle_down(set, targets);
+    }
+    make_set(made, targets)?;
+    set.add(made, spare)
+}
+
+// Toggles each of these targets, from the last on: where they ascend and the set is empty, each is appended.
+fn toggle_down<S: TargetSet>(set: &mut S, targets: &[u32]) -> Result<(), AllocError>
+    requires { All (λ t. t < length (S.bits set.old)) targets.now }
+    ensures ok { OnOk result
+        (S.bits set.new
+        ≡ xor_rows (S.bits set.old) (row_of_set (length (S.bits set.old)) targets.now)) }
+    ensures len { length (S.bits set.new) ≡ length (S.bits set.old) }
+{
+    let mut left = targets.len();
+    while left > 0 {
+        left -= 1;
+        set.toggle(targets[left])?;
     }
     Ok(())
 }

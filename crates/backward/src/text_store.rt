@@ -16,6 +16,10 @@ const WHOLE: usize = 5;
 /// The same for a part of a text, so that it isn't parted again where it is little longer than others.
 const WHOLE_PART: usize = 2;
 
+/// A text that is to be whole grows by its room in this many steps, and whether it still seems to fit is thought about
+/// after each.
+const STEPS: usize = 32;
+
 /// The text of a program's lines.
 #[derive(Drop)]
 pub(crate) struct TextStore<'p, 'a, A: Allocator + Copy> {
@@ -54,11 +58,23 @@ impl<'p, 'a, A: Allocator + Copy> TextStore<'p, 'a, A> {
         })
     }
 
-    /// Whether the text, which is that of `steps` of a stretch of `all`, is to be taken before more lines are found.
+    /// Whether the text, which is that of `steps` of a stretch of `all`, is to be taken before more lines are found. It is
+    /// thought about where the text has `next` bytes, which is 0 at the start of a stretch.
     #[inline(always)]
-    pub(crate) fn is_full(&self, steps: usize, all: usize) -> bool {
+    pub(crate) fn is_full(&self, next: &mut usize, steps: usize, all: usize) -> bool {
         let len = self.text.len();
-        len >= self.room && !fits(len, steps, all, self.whole)
+        len >= *next && self.is_full_at(len, next, steps, all)
+    }
+
+    // The same, and from how many bytes on it is thought about again.
+    #[inline(never)]
+    fn is_full_at(&self, len: usize, next: &mut usize, steps: usize, all: usize) -> bool {
+        if len < self.room {
+            *next = self.room;
+            return false;
+        }
+        *next = len.saturating_add(self.room / STEPS).min(self.whole);
+        !fits(len, steps, all, self.whole)
     }
 
     /// From now on the texts are those of parts.
@@ -90,7 +106,6 @@ impl<'p, 'a, A: Allocator + Copy> TextStore<'p, 'a, A> {
 }
 
 // Whether a text seems to have no more than `most` bytes when it is whole, by how much `steps` of `all` have.
-#[inline(never)]
 fn fits(len: usize, steps: usize, all: usize, most: usize) -> bool {
     len <= most && len.saturating_mul(all) <= most.saturating_mul(steps)
 }

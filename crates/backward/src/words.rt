@@ -1,16 +1,14 @@
-ghost use Rattle.std.specs.Prelude.{◌≡◌, ◌<◌, ◌≤◌, ◌≢◌, ◌*◌, ◌^◌, ◌∷◌, [], ℕ, false, true, length, All, IfOk, OnOk, map, replicate};
+ghost use Rattle.std.specs.Prelude.{◌≡◌, ◌<◌, ◌≤◌, ◌≢◌, ◌^◌, ◌∷◌, [], ℕ, false, true, length, All, IfOk, OnOk, replicate};
 ghost use Rattle.gate_table.specs.Images.{arity_of};
-ghost use Rattle.gate_table.specs.declared.gate.Gate.TheVariants.{CX};
+ghost use Rattle.gate_table.specs.declared.gate.Gate.TheVariants.{CX, H};
 ghost use Rattle.pauli_word.specs.declared.letter.Letter.TheVariants.{I, Y};
-ghost use Rattle.std.specs.List.{range_with_len};
-ghost use Rattle.pauli_word.specs.Words.{anticommute};
-ghost use Rattle.step_model.specs.Listing.{word_of_terms};
 ghost use Rattle.step_model.specs.Targets.{targets_of};
-ghost use Rattle.backward.specs.Tracked.{anticommuting, each_word, fresh, undone_two};
+ghost use Rattle.backward.specs.Tracked.{anticommuting, each_word, fresh, undone_one, undone_two};
 ghost use Rattle.backward.specs.private.TargetSets.{members};
-ghost use Rattle.backward.specs.private.Transposed.{combined, exchanged_at, lists_of_each, multiplied_at, word_at, AreRestored};
+ghost use Rattle.backward.specs.private.Transposed.{combined, exchanged_at, multiplied_at};
 
 use crate::column::{Column, is_y};
+use crate::columns::{clashing, keep_columns, restore_columns};
 use crate::images::{is_kept, is_left, is_lost};
 use crate::pairs::{exchange_pair, image_pair, multiply_pair};
 use crate::sparse_set::SparseSet;
@@ -225,6 +223,7 @@ impl<S: TargetSet, A: Allocator + Copy> Words<S, A> {
     }
 
     // The same for two letters Y.
+    #[inline(never)]
     fn list_both_y<B: Allocator + Copy>(
         &self,
         first: &Term,
@@ -242,6 +241,28 @@ impl<S: TargetSet, A: Allocator + Copy> Words<S, A> {
         self.columns[first.qubit as usize].list_clashing_y(other, hit)
     }
 
+    // The commonest gate of one qubit, which exchanges X and Z.
+    #[inline(always)]
+    fn undo_h(&mut self, q: usize)
+        requires { q < self.old.qubits }
+        ensures { self.new ≡ each_word (undone_one H q) self.old }
+    {
+        self.columns[q].exchange();
+    }
+
+    // Any gate of one qubit, by the images of X and Z. It isn't inlined, so that the commonest gate is called fast.
+    #[inline(never)]
+    fn undo_one_by_table(&mut self, gate: Gate, q: usize) -> Result<(), AllocError>
+        requires arity { arity_of gate ≡ 1 }
+        requires in_range { q < self.old.qubits }
+        ensures { OnOk result (self.new ≡ each_word (undone_one gate q) self.old) }
+    {
+        let inverse = gate.inverse();
+        let (x, _) = inverse.image1(Letter::X);
+        let (z, _) = inverse.image1(Letter::Z);
+        self.columns[q].become_image(x, z, &mut self.first, &mut self.spare)
+    }
+
     // The commonest gate of two qubits, whose images the compiler then knows.
     #[inline(always)]
     fn undo_cx(&mut self, a: usize, b: usize) -> Result<(), AllocError>
@@ -254,6 +275,7 @@ impl<S: TargetSet, A: Allocator + Copy> Words<S, A> {
     }
 
     // Any gate of two qubits, by what its images show.
+    #[inline(never)]
     fn undo_by_table(&mut self, gate: Gate, a: usize, b: usize) -> Result<(), AllocError>
         requires arity { arity_of gate ≡ 2 }
         requires first_in_range { a < self.old.qubits }
@@ -314,10 +336,13 @@ impl<S: TargetSet, A: Allocator + Copy> Tracker for Words<S, A> {
     }
 
     fn undo1(&mut self, gate: Gate, q: usize) -> Result<(), AllocError> {
-        let inverse = gate.inverse();
-        let (x, _) = inverse.image1(Letter::X);
-        let (z, _) = inverse.image1(Letter::Z);
-        self.columns[q].become_image(x, z, &mut self.first, &mut self.spare)
+        match gate {
+            Gate::H => {
+                self.undo_h(q);
+                Ok(())
+            }
+            _ => self.undo_one_by_table(gate, q),
+        }
     }
 
     fn undo2(&mut self, gate: Gate, a: usize, b: usize) -> Result<(), AllocError> {
@@ -347,63 +372,4 @@ impl<S: TargetSet, A: Allocator + Copy> Tracker for Words<S, A> {
         }
         listed
     }
-}
-
-// The lists of each column.
-fn keep_columns<S: TargetSet, B: Allocator + Copy>(
-    columns: &[Column<S>],
-    alloc: B,
-) -> Result<FlatLists<u32, B>, AllocError>
-    requires { All (λ column. length column ≤ 2 ^ 32) columns.now }
-    ensures { IfOk result (λ lists. lists ≡ lists_of_each columns.now) }
-{
-    let mut lists = FlatLists::with_room(alloc, columns.len().saturating_mul(2))?;
-    let mut list = Vec::new(alloc);
-    for column in columns {
-        column.keep(&mut lists, &mut list)?;
-    }
-    Ok(lists)
-}
-
-// Makes each column that for which its two lists stand.
-fn restore_columns<S: TargetSet, B: Allocator + Copy>(
-    columns: &mut [Column<S>],
-    lists: &FlatLists<u32, B>,
-) -> Result<(), AllocError>
-    requires two_each { length lists.now ≡ 2 * length columns.old }
-    requires named { All (λ column. All (All (λ t. t < length column)) lists.now) columns.old }
-    ensures ok { OnOk result (AreRestored lists.now columns.old columns.new) }
-    ensures long { map length columns.new ≡ map length columns.old }
-{
-    for q in 0..lists.len() / 2 {
-        columns[q].restore(lists.get(2 * q), lists.get(2 * q + 1))?;
-    }
-    Ok(())
-}
-
-// The targets whose words anticommute with the product of these letters at qubits.
-#[inline(never)]
-fn clashing<S: TargetSet>(
-    columns: &[Column<S>],
-    terms: &[Term],
-    set: &mut S,
-    spare: &mut S,
-) -> Result<(), AllocError>
-    requires terms { All (λ term. term.qubit < length columns.now) terms.now }
-    requires long { All (λ column. length column ≡ length (S.bits set.old)) columns.now }
-    requires spare { length (S.bits spare.old) ≡ length (S.bits set.old) }
-    ensures ok { OnOk result
-        (S.bits set.new
-        ≡ map
-        (λ t. anticommute (word_at columns.now t)
-        (word_of_terms (length columns.now) terms.now))
-        (range_with_len 0 (length (S.bits set.old)))) }
-    ensures len { length (S.bits set.new) ≡ length (S.bits set.old) }
-    ensures spare { length (S.bits spare.new) ≡ length (S.bits spare.old) }
-{
-    set.clear();
-    for term in terms {
-        columns[term.qubit as usize].toggle_clashing(term.letter, set, spare)?;
-    }
-    Ok(())
 }

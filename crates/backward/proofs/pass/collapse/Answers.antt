@@ -1,5 +1,5 @@
-use Rattle.std.proofs.Common.{◌≡◌, ◌+◌, ◌-◌, ◌<◌, length, drop, ap, subst, sym, ◌∙◌, arith}
-use Rattle.std.specs.Prelude.{All}
+use Rattle.std.proofs.Common.{◌≡◌, ◌+◌, ◌-◌, ◌<◌, Bool, List, length, drop, ap, subst, sym, ◌∙◌, arith}
+use Rattle.std.specs.Prelude.{All, IfSome}
 use Rattle.std.specs.List.Sorted.{IsStrictlyIncreasing}
 use Rattle.step_model.specs.Targets.{targets_of}
 use Rattle.programs.specs.Listed.{recorded}
@@ -54,6 +54,14 @@ undo_collapse-requires-clause-named g c =
     subst (λ n. All (λ t. t < n) c.as_slice-2.result.now) (sym count)
     (subst (All (λ t. t < length (targets_of program.listing))) (sym hit)
     (members_at-within f.lists c.args.rec (length (targets_of program.listing)) (record_has_set c.args.rec program.listing.records (length f.lists) lists.size (record_named program c.args.rec c.requires.step.is_record)) lists.long))
+
+pub let_go-requires : goal.let_go-requires
+let_go-requires g c =
+    let program = c.args.program.now in
+    let f = c.args.found.now in
+    let lists = c.requires.passed.lists in
+    subst (λ (sets : List (List Bool)). IfSome c.args.rec (λ r. r < length sets)) (sym (c.in_ok-list_record.ensures.lists ∙ c.judge.ensures.lists))
+    (record_has_set c.args.rec program.listing.records (length f.lists) lists.size (record_named program c.args.rec c.requires.step.is_record))
 
 pub returns-clause-passed : goal.returns-clause-passed
 returns-clause-passed g c =

@@ -1,14 +1,15 @@
 use Rattle.std.proofs.Common.{false, not, length, get_or, set, ap, ◌∙◌, arith}
 use Rattle.std.proofs.lemmas.Result.{on_ok_weaker}
 use Rattle.backward.specs.private.Sets.{row_of_set}
-use Rattle.backward.proofs.SetLemmas.{length-row_of_set, row_of_toggled}
+use Rattle.backward.proofs.SetLemmas.{descends_toggled, length-row_of_set, row_of_toggled}
 use Rattle.backward.proofs.sparse_set.SparseSetTargetSet.toggle.Goals as goal
 
 pub invariant_of-self : goal.invariant_of-self
 invariant_of-self g c =
     let m = c.self.inside.targets in
     let items = c.self.inside.items.items in
-    c.toggle_in.ensures.descends m (omega (arith, c.requires, ap length c.self.view_is, length-row_of_set m items)) c.self.invariant
+    descends_toggled c.toggle_in.result m c.args.target items _ c.toggle_in.ensures.ok c.toggle_in.ensures.err
+    (omega (arith, c.requires, ap length c.self.view_is, length-row_of_set m items)) c.self.invariant
 
 pub returns-clause-ok : goal.returns-clause-ok
 returns-clause-ok g c =
