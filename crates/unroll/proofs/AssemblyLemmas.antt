@@ -28,7 +28,7 @@ use Rattle.unroll.specs.Refusals.{circuit_refusal}
 use Rattle.unroll.specs.private.Steps.{steps_of}
 use Rattle.unroll.specs.private.Summed.{AreTotals, greatest}
 use Rattle.unroll.specs.Totals.{qubit_total}
-use Rattle.unroll.specs.private.MadeTotals.{fault_total, made_total, collapse_total, record_total}
+use Rattle.unroll.specs.private.MadeTotals.{detector_total, fault_total, made_total, collapse_total, record_total}
 use Rattle.unroll.specs.Meaning.{listing_of}
 use Rattle.unroll.specs.Programs.{program_of}
 use Rattle.unroll.proofs.CoordinateFits.{coordinates_fit}
@@ -104,6 +104,7 @@ small-min a b h e = e ∙ min-eq_left (omega (arith, h))
 pub record AreWhole (t : Tree) (totals : Totals) : Type 0 where
   pub records : totals.records ≡ record_total t
   pub collapses : totals.collapses ≡ collapse_total t
+  pub detectors : totals.detectors ≡ detector_total t
   pub faults : totals.faults ≡ fault_total t
   pub made : totals.made ≡ made_total t
   pub few_records : totals.records < 2 ^ 32
@@ -121,6 +122,7 @@ totals_whole t totals accepted are =
     record {
       records = records;
       collapses = collapses;
+      detectors = small-min (detector_total t) totals.detectors (omega (arith, within.detectors)) are.detectors;
       faults = faults;
       made = small-min (made_total t) totals.made made_small are.made;
       few_records = omega (arith, records, within.records);

@@ -40,7 +40,6 @@ pub mod QubitsWithin
 pub mod StepTests
 pub mod StepsKept
 pub mod TextFits
-pub mod BeyondLemmas
 pub mod CoordinateFits
 pub mod PlacingLoops
 pub mod StatedLemmas

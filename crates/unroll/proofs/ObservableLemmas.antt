@@ -17,6 +17,7 @@ use Rattle.unroll.specs.private.Including.{item_observables, named_to}
 use Rattle.unroll.specs.Totals.{observable_total, observables_to}
 use Rattle.unroll.specs.private.MadeTotals.{observables_over}
 use Rattle.unroll.proofs.PassLemmas.{drop_got}
+use Rattle.unroll.proofs.QubitsWithin.{greatest-append}
 
 pub same-number : (v k : ℕ) → eqb (v + 1) (k + 1) ≡ eqb v k
 same-number v k =
@@ -31,10 +32,6 @@ none-named k = ne_eqb 0 (k + 1) (λ e. omega (arith, e))
 pub map-same : (f g : ℕ → List ℕ) (ks : List ℕ) → ((k : ℕ) → f k ≡ g k) → map f ks ≡ map g ks
 map-same f g [] h = refl
 map-same f g (k ∷ ks) h = ap₂ (λ (x : List ℕ) (xs : List (List ℕ)). x ∷ xs) (h k) (map-same f g ks h)
-
-over-append : (is js : List Instruction) → observables_over (is ++ js) ≡ max (observables_over is) (observables_over js)
-over-append [] js = omega arith
-over-append (i ∷ is) js = omega (arith, over-append is js)
 
 -- ---- how many observables there are
 
@@ -53,7 +50,7 @@ named-tree (Then i t) rest fit =
     omega (arith, one-to i.operation i.arguments (names_number i fit.0), named-tree t rest fit.1)
 named-tree (Block line turns t u) rest fit =
     let whole = ap named_by (append_assoc (items_of t) (BlockEnd ∷ items_of u) rest) in
-    omega (arith, whole, named-tree t (BlockEnd ∷ (items_of u ++ rest)) fit.1, named-tree u rest fit.2, over-append (instructions_of t) (instructions_of u))
+    omega (arith, whole, named-tree t (BlockEnd ∷ (items_of u ++ rest)) fit.1, named-tree u rest fit.2, greatest-append (λ i. observables_to i.operation i.arguments) (instructions_of t) (instructions_of u))
 
 pub named-first : (t : Tree) → AllFit t → named_by (items_of t) ≡ observable_total t
 named-first t fit = omega (arith, ap named_by (append-nil (items_of t)), named-tree t [] fit)

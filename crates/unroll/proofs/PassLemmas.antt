@@ -2,8 +2,8 @@
 use Rattle.std.proofs.Common.{◌≡◌, ℕ, suc, ◌+◌, List, ◌∷◌, drop, Some, ap, ◌∙◌, subst, arith}
 use Rattle.std.specs.Prelude.{slice_get}
 use Rattle.stim_lexer.specs.declared.blocks.OpenBlock.{OpenBlock}
-use Rattle.stim_lexer.proofs.PassLemmas as passes
-use Rattle.stim_lexer.specs.private.Passes as private
+use Rattle.stim_lexer.proofs.PassLemmas as pass_lemmas
+use Rattle.stim_lexer.specs.private.Passes as passes
 pub use Rattle.stim_lexer.proofs.PassLemmas.{drop_got, passing-first, passing-can, passing-next, passing-done}
 use Rattle.stim_parser.specs.Circuits.{Fits, IsCircuit}
 use Rattle.stim_parser.specs.Texts.{Item}
@@ -13,17 +13,17 @@ use Rattle.unroll.specs.private.Passes.{CanStand, Pass}
 
 -- items that stand where they may, with so many blocks open before them and none behind
 abbrev pub AreWhole : List Item → ℕ → Type 0
-AreWhole items depth = private.AreWhole Fits items depth
+AreWhole items depth = passes.AreWhole Fits items depth
 
 pub whole-tree : (t : Tree) → IsCircuit t → AreWhole (items_of t) 0
-whole-tree t circuit = passes.whole-tree Fits t circuit
+whole-tree t circuit = pass_lemmas.whole-tree Fits t circuit
 
 pub can_stand : (item : Item) (items : List Item) (d : ℕ) → AreWhole (item ∷ items) d → CanStand item d
-can_stand item items d whole = passes.can_stand Fits item items d whole
+can_stand item items d whole = pass_lemmas.can_stand Fits item items d whole
 
 -- behind so many items of a tree, with these blocks open, the outermost first
 abbrev pub IsPassing : {S : Type 0} → Pass S → Tree → S → ℕ → S → List (OpenBlock S) → Type 0
-IsPassing pass t start i s blocks = passes.IsPassing Fits pass t start i s blocks
+IsPassing pass t start i s blocks = pass_lemmas.IsPassing Fits pass t start i s blocks
 
 -- an item, and what stands behind it
 pub whole-at : (t : Tree) (i depth : ℕ) (item : Item) → AreWhole (drop i (items_of t)) depth → Some item ≡ slice_get (items_of t) i → AreWhole (item ∷ drop (i + 1) (items_of t)) depth

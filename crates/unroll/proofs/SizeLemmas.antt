@@ -258,9 +258,8 @@ observables-length t = length-map-range_with_len (λ k. added_from k 0 (reached 
 pub sizes-length : (t : Tree) → length (map length (observables_of t)) ≡ observable_total t
 sizes-length t = length-map (observables_of t) length ∙ observables-length t
 
--- where there is no count, there is no observable
-pub sizes-none : (t : Tree) (sizes : List ℕ) → sizes ≡ map length (observables_of t) → length sizes ≡ 0 → [] ≡ observables_of t
-sizes-none t sizes e none = sym (nil_from_length (observables_of t) (omega (arith, ap length e, none, length-map (observables_of t) length)))
+pub observables-none : (t : Tree) → observable_total t ≡ 0 → [] ≡ observables_of t
+observables-none t none = sym (nil_from_length (observables_of t) (observables-length t ∙ none))
 
 pub sizing-done : (t : Tree) (i times : ℕ) (sizes outer : List ℕ) → IsSizing t i times sizes outer → length (items_of t) ≤ i → sizes ≡ map length (observables_of t)
 sizing-done t i times sizes outer h le =

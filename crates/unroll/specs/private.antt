@@ -1,5 +1,4 @@
 pub mod Assembled
-pub mod Beyond
 pub mod Coordinates
 pub mod Counted
 pub mod Detecting

@@ -10,7 +10,6 @@ ghost use Rattle.unroll.specs.Programs.{program_of};
 use crate::coordinates::coordinates_of;
 use crate::detectors::detectors_of;
 use crate::observables::observables_of;
-use crate::qubits::qubit_total;
 use crate::refusals::refusal_of;
 use crate::totals::{Totals, totals_of};
 use crate::writing::written_of;
@@ -35,12 +34,13 @@ fn lists_of<A: Allocator + Copy>(
     circuit: &Circuit<'_, A>,
     totals: &Totals,
 ) -> Result<Lists<A>, AllocError>
-    requires { refusal_counted circuit.now ≡ None }
+    requires accepted { refusal_counted circuit.now ≡ None }
+    requires totals { AreTotals circuit.now totals.now }
     ensures { IfOk result (HasLists circuit.now) }
 {
     let count = totals.detectors as usize;
     let detectors = detectors_of(alloc, circuit, count, totals.listed as usize)?;
-    let observables = observables_of(alloc, circuit)?;
+    let observables = observables_of(alloc, circuit, totals.observables)?;
     let coordinates = coordinates_of(alloc, circuit, count)?;
     Ok(Lists {
         detectors,
@@ -60,11 +60,10 @@ fn parts_of<'a, A: Allocator + Copy>(
     ensures { IfOk result (ArePartsOf circuit.entry) }
 {
     circuit.fits();
-    let qubits = qubit_total(&circuit);
     let lists = lists_of(alloc, &circuit, &totals)?;
     let written = written_of(alloc, circuit)?;
     Ok(Parts {
-        qubits,
+        qubits: totals.qubits,
         steps: totals.made as usize,
         counts: Counts {
             records: totals.records as u32,

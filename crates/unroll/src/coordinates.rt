@@ -5,6 +5,7 @@ ghost use Rattle.unroll.specs.private.Coordinates.{coordinates_of};
 ghost use Rattle.unroll.specs.private.Gathered.{later};
 ghost use Rattle.unroll.specs.private.Placing.{IsStated, added_by, placing};
 ghost use Rattle.unroll.specs.Totals.{step_total};
+ghost use Rattle.unroll.specs.private.MadeTotals.{detector_total};
 
 use crate::marks::Mark;
 use crate::offsets::{AXES, Offset, moved};
@@ -134,15 +135,19 @@ fn push_later_turns<A: Allocator + Copy>(
 }
 
 /// The coordinates of each detector of a circuit, in the order in which the detectors are reached. Each instruction is
-/// gone over once. `count` says for how many detectors to make room first.
+/// gone over once. `count` is how many detectors there are.
 pub(crate) fn coordinates_of<A: Allocator + Copy>(
     alloc: A,
     circuit: &Circuit<'_, A>,
     count: usize,
 ) -> Result<NumberLists<A>, AllocError>
+    requires count { count ≡ detector_total circuit.now }
     requires few { step_total circuit.now ≤ 64_000_000 }
     ensures { IfOk result (λ coordinates. coordinates ≡ coordinates_of circuit.now) }
 {
+    if count == 0 {
+        return Ok(NumberLists::new(alloc));
+    }
     circuit.fits();
     let mut coordinates = NumberLists::with_room(alloc, count)?;
     let mut offset = Offset {

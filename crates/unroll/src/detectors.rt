@@ -4,7 +4,7 @@ ghost use Rattle.unroll.specs.private.Detectors.{detectors_of};
 ghost use Rattle.unroll.specs.TargetsMade.{operation_detectors, record_named, records_named};
 ghost use Rattle.unroll.specs.private.Gathered.{later};
 ghost use Rattle.unroll.specs.private.Counted.{first_far_from};
-ghost use Rattle.unroll.specs.private.MadeTotals.{record_count, record_total};
+ghost use Rattle.unroll.specs.private.MadeTotals.{detector_total, record_count, record_total};
 
 use crate::counts::records_made;
 use crate::marks::Mark;
@@ -126,17 +126,21 @@ fn push_later_turns<A: Allocator + Copy>(
 }
 
 /// The records of each detector of a circuit, in the order in which the detectors are reached. Each instruction is gone
-/// over once. `count` says for how many detectors to make room first, and `listed` for how many records of theirs.
+/// over once. `count` is how many detectors there are, and `listed` says for how many records of theirs to make room first.
 pub(crate) fn detectors_of<A: Allocator + Copy>(
     alloc: A,
     circuit: &Circuit<'_, A>,
     count: usize,
     listed: usize,
 ) -> Result<FlatLists<u32, A>, AllocError>
+    requires count { count ≡ detector_total circuit.now }
     requires near { first_far_from 0 circuit.now ≡ None }
     requires few { record_total circuit.now < 2 ^ 32 }
     ensures { IfOk result (λ detectors. detectors ≡ detectors_of circuit.now) }
 {
+    if count == 0 {
+        return Ok(FlatLists::new(alloc));
+    }
     circuit.fits();
     let mut detectors = FlatLists::with_rooms(alloc, count, listed)?;
     let mut room = Vec::new(alloc);

@@ -12,7 +12,6 @@ mod marks;
 mod observables;
 mod offsets;
 mod products;
-mod qubits;
 mod reading;
 mod refusals;
 mod shifts;

@@ -1,9 +1,10 @@
-ghost use Rattle.std.specs.Prelude.{◌≡◌, ◌<◌, ◌^◌, None, IfOk};
+ghost use Rattle.std.specs.Prelude.{◌≡◌, ◌<◌, ◌^◌, None, nat_lt, IfOk};
 ghost use Rattle.stim_lexer.specs.Kept.{instruction_in};
 ghost use Rattle.unroll.specs.private.Including.{named_to};
 ghost use Rattle.unroll.specs.private.Observables.{observables_of};
 ghost use Rattle.unroll.specs.private.Counted.{first_far_from};
-ghost use Rattle.unroll.specs.Totals.{step_total};
+ghost use Rattle.unroll.specs.Refusals.{most_observables};
+ghost use Rattle.unroll.specs.Totals.{observable_total, step_total};
 ghost use Rattle.unroll.specs.private.MadeTotals.{record_total};
 
 use crate::inclusions::included;
@@ -11,6 +12,16 @@ use crate::sizes::sizes_of;
 use flat_lists::{FlatLists, ListRooms};
 use std::alloc::{AllocError, Allocator};
 use stim_parser::{Circuit, Instruction, Operation, first_number};
+
+const MOST_OBSERVABLES: u64 = 1024;
+
+/// Whether this many observables are more than a circuit may have.
+#[inline(always)]
+pub(crate) fn are_beyond_limit(observables: u64) -> bool
+    ensures { result ≡ nat_lt most_observables observables }
+{
+    observables > MOST_OBSERVABLES
+}
 
 /// One more than the observable that an instruction names, and 0 where it names none.
 pub(crate) fn named_to(instruction: Instruction<'_, '_>) -> u64
@@ -26,21 +37,23 @@ pub(crate) fn named_to(instruction: Instruction<'_, '_>) -> u64
     }
 }
 
-/// The records of each observable of a circuit, in the order in which they are added.
+/// The records of each observable of a circuit, in the order in which they are added. `count` is how many observables the
+/// circuit has.
 pub(crate) fn observables_of<A: Allocator + Copy>(
     alloc: A,
     circuit: &Circuit<'_, A>,
+    count: u64,
 ) -> Result<FlatLists<u32, A>, AllocError>
+    requires count { count ≡ observable_total circuit.now }
     requires near { first_far_from 0 circuit.now ≡ None }
     requires few { record_total circuit.now < 2 ^ 32 }
     requires few_steps { step_total circuit.now < 2 ^ 32 }
     ensures { IfOk result (λ observables. observables ≡ observables_of circuit.now) }
 {
-    circuit.fits();
-    let sizes = sizes_of(alloc, circuit)?;
-    if sizes.is_empty() {
+    if count == 0 {
         return Ok(FlatLists::new(alloc));
     }
+    let sizes = sizes_of(alloc, circuit)?;
     let empty = ListRooms::new(alloc, &sizes, 0)?;
     let lists = included(alloc, circuit, empty)?;
     lists.flat().ok_or(AllocError)

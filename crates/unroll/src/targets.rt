@@ -32,19 +32,6 @@ pub(crate) fn qubit_of(target: KeptTarget) -> u32
     }
 }
 
-/// One more than the greatest qubit that targets name, and 0 where they name none.
-pub(crate) fn qubits_named(targets: &[KeptTarget]) -> u32
-    requires { All (λ target. qubits_to target ≤ 4096) targets.now }
-    ensures value { result ≡ qubits_named targets.now }
-    ensures small { result ≤ 4096 }
-{
-    let mut qubits: u32 = 0;
-    for target in targets {
-        qubits = qubits.max(qubits_to(*target));
-    }
-    qubits
-}
-
 /// Whether a target is a record that reaches back further than this many records.
 #[inline(always)]
 fn is_far(records: u64, target: KeptTarget) -> bool
@@ -56,16 +43,30 @@ fn is_far(records: u64, target: KeptTarget) -> bool
     }
 }
 
-/// Whether one of these targets is a record that reaches back further than this many records.
-pub(crate) fn reaches_far(records: u64, targets: &[KeptTarget]) -> bool
-    ensures { result ≡ reaches_far records targets.now }
+/// One more than the greatest qubit that targets name, 0 where they name none; and whether one of them is a record that
+/// reaches back further than there are records.
+#[derive(Clone, Copy)]
+pub(crate) struct Reach {
+    pub qubits: u32,
+    pub is_far: bool,
+}
+
+/// How far targets reach after this many records.
+pub(crate) fn reach_of(records: u64, targets: &[KeptTarget]) -> Reach
+    requires { All (λ target. qubits_to target ≤ 4096) targets.now }
+    ensures qubits { result.qubits ≡ qubits_named targets.now }
+    ensures far { result.is_far ≡ reaches_far records targets.now }
 {
+    let mut qubits: u32 = 0;
+    let mut far = false;
     for target in targets {
-        if is_far(records, *target) {
-            return true;
-        }
+        qubits = qubits.max(qubits_to(*target));
+        far = far || is_far(records, *target);
     }
-    false
+    Reach {
+        qubits,
+        is_far: far,
+    }
 }
 
 fn is_star(target: KeptTarget) -> bool

@@ -3,21 +3,23 @@ ghost use Rattle.arrayvec.specs.ArrayVec.{array_vec_len};
 ghost use Rattle.stim_parser.specs.Circuits.{Fits};
 ghost use Rattle.stim_lexer.specs.Kept.{instruction_in, item_in};
 ghost use Rattle.unroll.specs.private.Passes.{CanStand, Passes};
-ghost use Rattle.unroll.specs.private.Summed.{AreTotals, capped_sum, far_line_after, nothing_summed, repeated_sum, summing, totals_after, totals_repeated};
-ghost use Rattle.unroll.specs.private.MadeTotals.{fault_count, has_argument};
+ghost use Rattle.unroll.specs.private.Summed.{AreTotals, capped_sum, first_line, nothing_summed, repeated_sum, summing, totals_after, totals_repeated};
+ghost use Rattle.unroll.specs.private.MadeTotals.{has_argument};
 
 use crate::counts::{
     collapses_made, detectors_made, faults_counted, records_listed, records_made, steps_made,
 };
-use crate::targets::{reaches_far, target_count};
+use crate::observables::{are_beyond_limit, named_to};
+use crate::targets::{reach_of, target_count};
 use arrayvec::ArrayVec;
 use std::alloc::Allocator;
 use stim_lexer::{LEVELS, OpenBlock};
-use stim_parser::{Circuit, Instruction, Item};
+use stim_parser::{Circuit, Instruction, Item, Operation};
 
 /// What a circuit takes up to a place of its text, at the first turn of the blocks that are open there: what counts
-/// towards its limits, the records that its detectors list, its faults, the steps that its program has, and the first line that reaches back before the
-/// first record. A sum that doesn't fit stays at the greatest number that does.
+/// towards its limits, the records that its detectors list, its faults, the steps that its program has, its qubits and
+/// observables, the first line that reaches back before the first record, and the first that names an observable beyond the
+/// limit. A sum that doesn't fit stays at the greatest number that does.
 #[derive(Clone, Copy, Default)]
 pub(crate) struct Totals {
     pub records: u64,
@@ -27,7 +29,10 @@ pub(crate) struct Totals {
     pub faults: u64,
     pub steps: u64,
     pub made: u64,
+    pub qubits: u32,
+    pub observables: u64,
     pub far_line: Option<u64>,
+    pub beyond_line: Option<u64>,
 }
 
 /// The totals up to a place of a circuit, and the blocks that are open there.
@@ -54,20 +59,14 @@ fn repeated_sum(turns: u64, before: u64, after: u64) -> u64
     after.saturating_add(more)
 }
 
-/// The first line that reaches back before the first record: that found before, or the line of an instruction that
-/// comes after this many records.
-fn far_line_after(records: u64, instruction: Instruction<'_, '_>, found: Option<u64>) -> Option<u64>
-    ensures { result ≡ far_line_after records (instruction_in instruction.entry) found }
+/// The line that was found before, or else this line where something holds of it.
+#[inline(always)]
+fn first_line(found: Option<u64>, holds: bool, line: u64) -> Option<u64>
+    ensures { result ≡ first_line found holds line }
 {
     match found {
-        Some(line) => Some(line),
-        None => {
-            if reaches_far(records, instruction.targets) {
-                Some(instruction.line)
-            } else {
-                None
-            }
-        }
+        Some(before) => Some(before),
+        None => { if holds { Some(line) } else { None } }
     }
 }
 
@@ -76,15 +75,6 @@ fn has_argument(instruction: Instruction<'_, '_>) -> bool
     ensures { result ≡ has_argument (instruction_in instruction.entry) }
 {
     stim_parser::has_argument(instruction.arguments)
-}
-
-/// How many faults an instruction makes.
-fn fault_count(instruction: Instruction<'_, '_>) -> usize
-    ensures { result ≡ fault_count (instruction_in instruction.entry) }
-{
-    let targets = target_count(instruction.operation, instruction.targets);
-    let flips = has_argument(instruction);
-    faults_counted(instruction.operation, flips, targets)
 }
 
 impl Totals {
@@ -100,25 +90,47 @@ impl Totals {
             faults: 0,
             steps: 0,
             made: 0,
+            qubits: 0,
+            observables: 0,
             far_line: None,
+            beyond_line: None,
         }
     }
 
     /// The totals after one more instruction.
+    #[inline(always)]
     fn after(self, instruction: Instruction<'_, '_>) -> Totals
+        requires { Fits (instruction_in instruction) }
         ensures { result ≡ totals_after (instruction_in instruction.entry) self }
     {
         let operation = instruction.operation;
+        let line = instruction.line;
         let targets = target_count(operation, instruction.targets);
-        Totals {
-            records: capped_sum(self.records, records_made(operation, targets)),
-            collapses: capped_sum(self.collapses, collapses_made(operation, targets)),
-            detectors: capped_sum(self.detectors, detectors_made(operation)),
-            listed: capped_sum(self.listed, records_listed(operation, targets)),
-            faults: capped_sum(self.faults, fault_count(instruction)),
+        let reach = reach_of(self.records, instruction.targets);
+        let totals = Totals {
             steps: capped_sum(self.steps, 1 + targets),
             made: capped_sum(self.made, steps_made(operation, targets)),
-            far_line: far_line_after(self.records, instruction, self.far_line),
+            qubits: self.qubits.max(reach.qubits),
+            far_line: first_line(self.far_line, reach.is_far, line),
+            ..self
+        };
+        match operation {
+            // A gate adds to nothing else, and most lines are gates.
+            Operation::Applies(_) => totals,
+            _ => {
+                let flips = has_argument(instruction);
+                let named = named_to(instruction);
+                Totals {
+                    records: capped_sum(self.records, records_made(operation, targets)),
+                    collapses: capped_sum(self.collapses, collapses_made(operation, targets)),
+                    detectors: capped_sum(self.detectors, detectors_made(operation)),
+                    listed: capped_sum(self.listed, records_listed(operation, targets)),
+                    faults: capped_sum(self.faults, faults_counted(operation, flips, targets)),
+                    observables: self.observables.max(named),
+                    beyond_line: first_line(self.beyond_line, are_beyond_limit(named), line),
+                    ..totals
+                }
+            }
         }
     }
 
@@ -134,7 +146,10 @@ impl Totals {
             faults: repeated_sum(turns, before.faults, self.faults),
             steps: repeated_sum(turns, before.steps, self.steps.saturating_add(1)),
             made: repeated_sum(turns, before.made, self.made),
+            qubits: self.qubits,
+            observables: self.observables,
             far_line: self.far_line,
+            beyond_line: self.beyond_line,
         }
     }
 }

@@ -11,7 +11,7 @@ returns g c =
     let t = c.args.circuit in
     let whole = totals_whole t c.args.totals c.requires.accepted c.requires.totals in
     record {
-      qubits = c.qubit_total-qubits.ensures.value;
+      qubits = c.requires.totals.qubits;
       steps = whole.made;
       counts = counts_are t c.args.totals whole;
       circuit = c.in_ok-written.ensures.circuit;

@@ -1,11 +1,19 @@
 -- Each count is at most where the whole pass leaves it, so it stays below its limit at each step of the pass.
-use Rattle.std.proofs.Common.{◌+◌, ◌++◌, [], ◌∷◌, ℕ, length, refl, ap, ◌∙◌, arith}
+use Rattle.std.proofs.Common.{◌+◌, ◌++◌, [], ◌∷◌, ℕ, length, refl, sym, ap, ◌∙◌, arith}
+use Rattle.std.proofs.lemmas.List.{nil_from_length}
 use Rattle.stim_lexer.specs.Kept.{instruction_in}
+use Rattle.unroll.specs.private.Coordinates.{coordinates_of}
 use Rattle.unroll.specs.private.Placing.{downs, placing, raised_by, turned_by, turned_on, ups}
 use Rattle.unroll.proofs.PlacingLoops.{HasPopped, IsUpTo, limit, placing-begins, placing-does, placing-done, placing-ends, placing-first, placing-fits, placing-room, placing-same, placing-some, placing-stated, placing-up-to, small-added, small-counts, with_turns}
+use Rattle.unroll.proofs.ReachedCounts.{coordinates_counted}
 use Rattle.unroll.proofs.coordinates.coordinates_of.Given.{Over}
 use Rattle.unroll.proofs.coordinates.coordinates_of.Goals as goal
 use Rattle.unroll.proofs.coordinates.coordinates_of.Goals.{After-saturating_sub-later, in-InstructionLine+in_ok-push_coordinates-in-InstructionLine, in-BlockStart, in-BlockEnd+in_ok-push_later_turns-in-BlockEnd}
+
+pub returns-then-count-eq0 : goal.returns-then-count-eq0
+returns-then-count-eq0 g c =
+    let t = c.args.circuit.now in
+    c.new.ensures ∙ sym (nil_from_length (coordinates_of t) (omega (arith, coordinates_counted t, c.requires.count)))
 
 pub loop-i-init : goal.loop-i-init
 loop-i-init g c =

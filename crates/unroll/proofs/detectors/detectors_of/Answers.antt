@@ -1,15 +1,23 @@
 -- The records never pass the total of the circuit, which is below the limit.
-use Rattle.std.proofs.Common.{◌+◌, ◌*◌, ◌<◌, ◌++◌, [], ◌∷◌, ℕ, length, refl, ap, ◌∙◌, arith}
+use Rattle.std.proofs.Common.{◌+◌, ◌*◌, ◌<◌, ◌++◌, [], ◌∷◌, ℕ, length, refl, sym, ap, ◌∙◌, arith}
 use Rattle.std.specs.Prelude.{◌^◌}
+use Rattle.std.proofs.lemmas.List.{nil_from_length}
 use Rattle.stim_lexer.specs.Kept.{instruction_in}
 use Rattle.unroll.specs.private.Detecting.{detecting, records_moved}
+use Rattle.unroll.specs.private.Detectors.{detectors_of}
 use Rattle.unroll.specs.TargetsMade.{operation_detectors}
 use Rattle.unroll.specs.private.MadeTotals.{record_count, records_made}
 use Rattle.unroll.proofs.CountLemmas.{HasPopped, counting-begins, counting-does, counting-does_few, counting-ends, counting-ends_few, counting-few, counting-first, counting-room, counting-same, counting-some, with_turns}
 use Rattle.unroll.proofs.DetectorLemmas.{IsWithin, detecting-counts, detecting-done, within-limit}
+use Rattle.unroll.proofs.ReachedCounts.{detectors_counted}
 use Rattle.unroll.proofs.detectors.detectors_of.Given.{Over}
 use Rattle.unroll.proofs.detectors.detectors_of.Goals as goal
 use Rattle.unroll.proofs.detectors.detectors_of.Goals.{After-saturating_sub-by, in-InstructionLine+in_ok-push_detector-in-InstructionLine, in-BlockStart, in-BlockEnd+in_ok-push_later_turns-in-BlockEnd}
+
+pub returns-then-count-eq0 : goal.returns-then-count-eq0
+returns-then-count-eq0 g c =
+    let t = c.args.circuit.now in
+    c.new.ensures ∙ sym (nil_from_length (detectors_of t) (omega (arith, detectors_counted t, c.requires.count)))
 
 pub loop-i-init : goal.loop-i-init
 loop-i-init g c =
