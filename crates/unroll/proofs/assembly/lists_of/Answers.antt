@@ -1,6 +1,4 @@
-use Rattle.std.proofs.Common.{arith}
 use Rattle.unroll.proofs.AssemblyLemmas.{totals_whole}
-use Rattle.unroll.proofs.RefusalLemmas.{within_limits}
 use Rattle.unroll.proofs.assembly.lists_of.Goals as goal
 
 pub detectors_of-requires-clause-count : goal.detectors_of-requires-clause-count
