@@ -4,6 +4,7 @@ mod rows;
 use super::analyses::answers_hold;
 use super::beside::batches_agree;
 use super::runs::runs_hold;
+use programs::Program;
 use rows::{BLOCKS, FAULTS, FEEDBACK, GATES, PRODUCTS, RESETS};
 use std::alloc::{AllocError, Global};
 use std::process::Abort;
@@ -79,11 +80,21 @@ pub(super) fn text_of(alloc: Global, lines: &str) -> Result<Vec<u8>, AllocError>
     Ok(text)
 }
 
-fn text_holds(alloc: Global, text: &[u8], (answer, runs): (&str, &str)) -> Result<bool, Fail> {
+fn text_holds(alloc: Global, text: &[u8], worked: (&str, &str)) -> Result<bool, Fail> {
     let program = read_program(alloc, text)?;
-    Ok(
-        answers_hold(alloc, answer, &program)?
-            && runs_hold(alloc, &program, runs)?
-            && batches_agree(alloc, &program)?,
-    )
+    program_holds(alloc, &program, worked)
+}
+
+fn program_holds(
+    alloc: Global,
+    program: &Program<'_, Global>,
+    (answer, runs): (&str, &str),
+) -> Result<bool, Fail> {
+    if !answers_hold(alloc, answer, program)? {
+        return Ok(false);
+    }
+    if !runs_hold(alloc, program, runs)? {
+        return Ok(false);
+    }
+    batches_agree(alloc, program)
 }
