@@ -1,6 +1,5 @@
-//! Tests of the libraries' public calls, and what no clause of theirs says. The crate has nothing but tests: `worked` has single
-//! calls on rows worked by hand, `circuits` runs and analyses of whole circuits, and `sweeps` each call that takes memory
-//! with each of its growths refused in turn, of which docs/TESTING.md tells.
+//! Tests of the libraries' public calls, one by one, on rows worked by hand: what no clause of theirs says. The crate has nothing
+//! but tests. Tests on whole circuits stand in circuit_tests.
 #![tactic(auto)]
 
 #[cfg(test)]

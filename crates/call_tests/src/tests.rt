@@ -1,13 +1,28 @@
 ghost use Rattle.std.specs.Prelude.{◌≡◌, length, IfOk};
 
-mod circuits;
-mod sweeps;
-mod worked;
+mod arguments;
+mod batches;
+mod bits;
+mod coin_pairs;
+mod drawn_shots;
+mod faults;
+mod gates;
+mod last_probabilities;
+mod lines;
+mod lists;
+mod long_streams;
+mod numbers;
+mod read_models;
+mod reader_ends;
+mod texts;
+mod walks;
+mod words;
 
 use pauli_word::{Letter, Word};
 use programs::Program;
 use programs::by_hand::{Lists, Piece, program_of};
 use std::alloc::{AllocError, Global};
+use std::process::Abort;
 
 /// No lists beside a program's pieces.
 const NOTHING: Lists<'static> = Lists {
@@ -18,14 +33,15 @@ const NOTHING: Lists<'static> = Lists {
     coordinates: &[],
 };
 
-/// The program of these pieces and lists, where they make one. The tests that take it need nothing of what is proved of it.
-fn made_program<'a>(
+/// The program of these pieces and lists, which make one. Who takes it needs nothing of what is proved of it.
+fn made<'a>(
+    rt: &impl Abort,
     alloc: Global,
     qubits: u32,
     pieces: &[Piece],
     lists: Lists<'a>,
-) -> Result<Option<Program<'a, Global>>, AllocError> {
-    program_of(alloc, qubits, pieces, lists)
+) -> Result<Program<'a, Global>, AllocError> {
+    Ok(program_of(alloc, qubits, pieces, lists)?.expect(rt, "it fits"))
 }
 
 /// The word of these letters, of sign plus.

@@ -1,0 +1,183 @@
+//! Analyses as the table has them, by both trackers, and the coin pairs of its random targets.
+
+use super::are_digits;
+use super::runs::differences;
+use super::table::text_of;
+use backward::{Analysed, DenseWords, QubitSets, analyse};
+use frames::coin_pair;
+use plain_runs::place_of;
+use programs::Program;
+use std::alloc::{AllocError, Global};
+use std::test::Fail;
+use step_model::{Fault, MemorySink, Place};
+
+/// Whether each tracker gives this answer.
+pub(super) fn answers_hold(
+    alloc: Global,
+    answer: &str,
+    program: &Program<'_, Global>,
+) -> Result<bool, Fail> {
+    if !dense_holds(alloc, answer, program)? {
+        return Ok(false);
+    }
+    sparse_holds(&alloc, answer, program)
+}
+
+fn dense_holds(alloc: Global, answer: &str, program: &Program<'_, Global>) -> Result<bool, Fail> {
+    let analysed = by_dense(alloc, program)?;
+    answer_holds(alloc, answer, program, &analysed)
+}
+
+fn sparse_holds(alloc: &Global, answer: &str, program: &Program<'_, Global>) -> Result<bool, Fail> {
+    let analysed = by_sparse(alloc, program)?;
+    answer_holds(*alloc, answer, program, &analysed)
+}
+
+/// The analysis by rows of bits.
+pub(super) fn by_dense<'p>(
+    alloc: Global,
+    program: &Program<'p, Global>,
+) -> Result<Analysed<'p, Global>, Fail> {
+    Ok(analyse(alloc, program, DenseWords::of_program(alloc, program)?)?)
+}
+
+/// The analysis by lists of targets.
+pub(super) fn by_sparse<'p>(
+    alloc: &Global,
+    program: &Program<'p, Global>,
+) -> Result<Analysed<'p, Global>, Fail> {
+    Ok(analyse(*alloc, program, QubitSets::of_program(alloc, program)?)?)
+}
+
+fn answer_holds(
+    alloc: Global,
+    answer: &str,
+    program: &Program<'_, Global>,
+    analysed: &Analysed<'_, Global>,
+) -> Result<bool, Fail> {
+    match analysed {
+        Analysed::Model(_) => is_model(alloc, analysed, answer),
+        Analysed::Random { which, place } => random_holds(alloc, answer, program, (*which, *place)),
+    }
+}
+
+/// Whether an answer names this target and its place, and the coins of the pair.
+fn random_holds(
+    alloc: Global,
+    answer: &str,
+    program: &Program<'_, Global>,
+    (which, place): (u32, Place),
+) -> Result<bool, Fail> {
+    match coins_behind(alloc, answer, (which, place))? {
+        Some(coins) => has_pair(alloc, program, (which as usize, place), coins),
+        None => Ok(false),
+    }
+}
+
+/// What stands behind a target and its place.
+fn coins_behind<'a>(
+    alloc: Global,
+    answer: &'a str,
+    (which, place): (u32, Place),
+) -> Result<Option<&'a str>, AllocError> {
+    let words = named(alloc, which, place)?;
+    Ok(answer.strip_prefix(words.as_str()))
+}
+
+/// How an answer names a target and its place.
+fn named(alloc: Global, which: u32, place: Place) -> Result<String, AllocError> {
+    match place {
+        Place::Start(qubit) => format!(in alloc; "random {which} start {qubit} "),
+        Place::After(collapse) => format!(in alloc; "random {which} after {collapse} "),
+    }
+}
+
+/// Whether the answer is the model of this text.
+fn is_model(alloc: Global, analysed: &Analysed<'_, Global>, expected: &str) -> Result<bool, Fail> {
+    let mut sink = MemorySink::new(alloc);
+    if !writes_model(analysed, &mut sink)? {
+        return Ok(false);
+    }
+    Ok(is_text(alloc, sink.bytes(), expected)?)
+}
+
+fn is_text(alloc: Global, written: &[u8], expected: &str) -> Result<bool, AllocError> {
+    let text = text_of(alloc, expected)?;
+    Ok(written == text.as_slice())
+}
+
+/// Writes the model, where the answer is one.
+fn writes_model(
+    analysed: &Analysed<'_, Global>,
+    sink: &mut MemorySink<Global>,
+) -> Result<bool, Fault> {
+    match analysed {
+        Analysed::Model(model) => {
+            error_models::write(model, sink)?;
+            Ok(true)
+        }
+        Analysed::Random { .. } => Ok(false),
+    }
+}
+
+fn has_pair(
+    alloc: Global,
+    program: &Program<'_, Global>,
+    (target, place): (usize, Place),
+    coins: &str,
+) -> Result<bool, Fail> {
+    let (first, second) = coin_pair(alloc, program, place)?;
+    let pair = (first.as_slice(), second.as_slice());
+    pair_holds(alloc, program, (target, place), pair, coins)
+}
+
+/// Whether a pair has these coins, and tells the target apart.
+fn pair_holds(
+    alloc: Global,
+    program: &Program<'_, Global>,
+    (target, place): (usize, Place),
+    pair: (&[bool], &[bool]),
+    coins: &str,
+) -> Result<bool, Fail> {
+    if !are_coins(pair, coins) {
+        return Ok(false);
+    }
+    is_random(alloc, program, (target, place), pair)
+}
+
+/// Whether the pair is as many zeros, and these coins.
+fn are_coins((first, second): (&[bool], &[bool]), coins: &str) -> bool {
+    first.len() == second.len() && first.iter().all(|coin| !*coin) && are_digits(second, coins)
+}
+
+/// Whether a target has this place, and different parities in the runs without faults under these coins.
+fn is_random(
+    alloc: Global,
+    program: &Program<'_, Global>,
+    (target, place): (usize, Place),
+    pair: (&[bool], &[bool]),
+) -> Result<bool, Fail> {
+    Ok(has_place(alloc, program, target, place)? && differs(alloc, program, target, pair)?)
+}
+
+fn has_place(
+    alloc: Global,
+    program: &Program<'_, Global>,
+    target: usize,
+    place: Place,
+) -> Result<bool, AllocError> {
+    if target >= program.target_count() {
+        return Ok(false);
+    }
+    Ok(place_of(alloc, program, target)? == Some(place))
+}
+
+fn differs(
+    alloc: Global,
+    program: &Program<'_, Global>,
+    target: usize,
+    (first, second): (&[bool], &[bool]),
+) -> Result<bool, Fail> {
+    let differ = differences(alloc, program, (&[], second), first)?;
+    Ok(differ.get(target).copied() == Some(true))
+}

@@ -1,0 +1,123 @@
+//! Runs as the table has them, by the tableau and straight from the definitions.
+use super::are_digits;
+use forward_sim::{Records, detections, read_coins, read_numbers, run};
+use programs::Program;
+use sampling::digit;
+use std::alloc::Global;
+use std::test::Fail;
+
+/// Whether there are runs in a text, and each is as it says.
+pub(super) fn runs_hold(
+    alloc: Global,
+    program: &Program<'_, Global>,
+    runs: &str,
+) -> Result<bool, Fail> {
+    let mut holds = false;
+    for run in runs.split_whitespace() {
+        holds = run_holds(alloc, program, run)?;
+        if !holds {
+            return Ok(false);
+        }
+    }
+    Ok(holds)
+}
+
+fn run_holds(alloc: Global, program: &Program<'_, Global>, run: &str) -> Result<bool, Fail> {
+    match given_of(run) {
+        Some((faults, coins, expected)) => is_as_written(alloc, program, (faults, coins), expected),
+        None => Ok(false),
+    }
+}
+
+/// The faults and the coins of a run, and what stands behind them.
+fn given_of(run: &str) -> Option<(&str, &str, &str)> {
+    let (faults, rest) = run.split_once(';')?;
+    let (coins, expected) = rest.split_once(';')?;
+    Some((faults, coins, expected))
+}
+
+fn is_as_written(
+    alloc: Global,
+    program: &Program<'_, Global>,
+    given: (&str, &str),
+    expected: &str,
+) -> Result<bool, Fail> {
+    let count = program.fault_count() as usize;
+    let faults = read_numbers(alloc, count, given.0.as_bytes())?;
+    let coins = read_coins(alloc, program, given.1.as_bytes())?;
+    is_run(
+        alloc,
+        program,
+        (faults.as_slice(), coins.as_slice()),
+        expected,
+    )
+}
+
+/// Whether the run with these faults and coins is as expected, by the tableau and straight from the definitions.
+fn is_run(
+    alloc: Global,
+    program: &Program<'_, Global>,
+    given: (&[bool], &[bool]),
+    expected: &str,
+) -> Result<bool, Fail> {
+    let Some((records, detections)) = expected.split_once(';') else {
+        return Ok(false);
+    };
+    Ok(
+        records_are(alloc, program, given, records)?
+            && plain_records_are(alloc, program, given, records)?
+            && detections_are(alloc, program, given, detections)?,
+    )
+}
+
+fn records_are(
+    alloc: Global,
+    program: &Program<'_, Global>,
+    given: (&[bool], &[bool]),
+    digits: &str,
+) -> Result<bool, Fail> {
+    let records = run(alloc, program, given.0, given.1)?;
+    Ok(are_written(&records, digits))
+}
+
+fn are_written(records: &Records<Global>, digits: &str) -> bool {
+    let digits = digits.as_bytes();
+    for number in 0..records.len() {
+        if digits.get(number).copied() != Some(digit(records.get(number))) {
+            return false;
+        }
+    }
+    records.len() == digits.len()
+}
+
+fn plain_records_are(
+    alloc: Global,
+    program: &Program<'_, Global>,
+    given: (&[bool], &[bool]),
+    digits: &str,
+) -> Result<bool, Fail> {
+    let records = plain_runs::records(alloc, program, given.0, given.1)?;
+    Ok(are_digits(records.as_slice(), digits))
+}
+
+fn detections_are(
+    alloc: Global,
+    program: &Program<'_, Global>,
+    given: (&[bool], &[bool]),
+    digits: &str,
+) -> Result<bool, Fail> {
+    let differ = differences(alloc, program, given, &[])?;
+    Ok(are_digits(differ.as_slice(), digits))
+}
+
+/// The targets that differ between the run with these faults and coins and that without faults and with other coins.
+pub(super) fn differences(
+    alloc: Global,
+    program: &Program<'_, Global>,
+    given: (&[bool], &[bool]),
+    others: &[bool],
+) -> Result<Vec<bool>, Fail> {
+    let records = run(alloc, program, given.0, given.1)?;
+    let reference = run(alloc, program, &[], others)?;
+    Ok(detections(alloc, program, &records, &reference)?)
+}

@@ -1,0 +1,9 @@
+mod analyses;
+mod growths;
+mod lent;
+mod lists;
+mod plain;
+mod quiet;
+mod runs;
+mod texts;
+mod values;
