@@ -35,7 +35,7 @@ impl KeptTarget {
     /// The target as it is kept.
     #[inline(always)]
     #[tactic(auto, using(crate::proofs::KeptTargetLemmas::given_back))]
-    pub fn new(target: Target) -> Self
+    pub(crate) fn new(target: Target) -> Self
         requires { number_in target < 2 ^ 60 }
         ensures { result ≡ target }
     {

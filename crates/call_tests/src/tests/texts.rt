@@ -5,16 +5,17 @@ use std::alloc::Global;
 use std::test::Fail;
 use step_model::Fault;
 use stim_parser::{
-    Circuit, Instruction, Item, Target, first_argument, first_number, laws, parse, read_coordinates,
+    Circuit, Instruction, Item, KeptTarget, Target, first_argument, first_number, laws, parse,
+    read_coordinates,
 };
-use written::{Named, WRITTEN, Wanted, Written, name_of};
+use written::{WRITTEN, Wanted, Written};
 
-fn are_named(targets: &[Target], wanted: &[Named]) -> bool {
+fn are(targets: &[KeptTarget], wanted: &[Target]) -> bool {
     targets.len() == wanted.len()
         && targets
             .iter()
             .zip(wanted)
-            .all(|(target, name)| name_of(*target) == *name)
+            .all(|(target, named)| target.get() == *named)
 }
 
 fn says(item: Item, wanted: Wanted) -> bool {
@@ -23,7 +24,7 @@ fn says(item: Item, wanted: Wanted) -> bool {
             found.line == line
                 && found.operation == operation
                 && found.arguments == arguments
-                && are_named(found.targets, targets)
+                && are(found.targets, targets)
         }
         (Item::BlockStart { line, turns }, Wanted::BlockStart(at, times)) => line == at
             && turns == times,
