@@ -9,25 +9,24 @@ use crate::step::TextStep;
 use std::alloc::{AllocError, Allocator};
 use std::marker::Model;
 
-/// The nodes of a circuit. Most circuits have few blocks, so their turns and lengths stand apart, and so do the few steps
-/// that don't fit in a kept node. A block that is still open has no turns and no nodes here.
+/// The nodes of a circuit. Most circuits have few blocks, so their turns and lengths stand apart. A block that is still
+/// open has no turns and no nodes here.
 #[derive(Drop)]
 pub struct Nodes<A: Allocator + Copy> {
     kept: Vec<KeptNode, A>,
     sizes: Vec<BlockSize, A>,
-    apart: Vec<TextStep, A>,
 }
 
 impl<A: Allocator + Copy> Model for Nodes<A> {
-    ghost use Rattle.std.specs.Prelude.{List};
+    ghost use Rattle.std.specs.Prelude.{List, All, length};
     ghost use Rattle.programs.specs.declared.node.Node.{Node};
-    ghost use Rattle.programs.specs.private.KeptNodes.{nodes_in, NameWhatIsThere};
+    ghost use Rattle.programs.specs.private.KeptNodes.{nodes_in, NamesBlockBelow};
 
     ghost Value = { List Node };
 
-    ghost view = { λ n. nodes_in n.sizes.items n.apart.items n.kept.items };
+    ghost view = { λ n. nodes_in n.sizes.items n.kept.items };
 
-    ghost invariant = { λ n. NameWhatIsThere n.sizes.items n.apart.items n.kept.items };
+    ghost invariant = { λ n. All (NamesBlockBelow (length n.sizes.items)) n.kept.items };
 }
 
 impl<A: Allocator + Copy> Nodes<A> {
@@ -38,7 +37,6 @@ impl<A: Allocator + Copy> Nodes<A> {
         Nodes {
             kept: Vec::new(alloc),
             sizes: Vec::new(alloc),
-            apart: Vec::new(alloc),
         }
     }
 
@@ -65,7 +63,7 @@ impl<A: Allocator + Copy> Nodes<A> {
         requires { is_step (slice_get self.now index) ≡ true }
         ensures { slice_get self.now index ≡ Some (Do result) }
     {
-        step_of(self.kept[index], self.apart.as_slice())
+        step_of(self.kept[index])
     }
 
     /// The node at an index, if there is one.
@@ -74,11 +72,7 @@ impl<A: Allocator + Copy> Nodes<A> {
         ensures few { length self.now < 2 ^ 64 }
     {
         if index < self.kept.len() {
-            Some(node_of(
-                self.kept[index],
-                self.sizes.as_slice(),
-                self.apart.as_slice(),
-            ))
+            Some(node_of(self.kept[index], self.sizes.as_slice()))
         } else {
             None
         }
@@ -90,30 +84,7 @@ impl<A: Allocator + Copy> Nodes<A> {
         ensures few { OnOk result (length self.new < 2 ^ 64) }
         ensures err { OnErr result (self.new ≡ self.old) }
     {
-        match kept_step(step) {
-            Some(kept) => {
-                self.kept.push(kept)?;
-                Ok(())
-            }
-            None => self.push_apart(step),
-        }
-    }
-
-    // Appends a step that stands apart. It fails only where memory runs out.
-    #[cold]
-    #[inline(never)]
-    fn push_apart(&mut self, step: TextStep) -> Result<(), AllocError>
-        ensures ok { OnOk result (self.new ≡ self.old ++ Do step ∷ []) }
-        ensures few { OnOk result (length self.new < 2 ^ 64) }
-        ensures err { OnErr result (self.new ≡ self.old) }
-    {
-        let number = number_of(self.apart.len())?;
-
-        // Room for both first, so that nothing changes where memory runs out.
-        self.apart.reserve(1)?;
-        self.kept.reserve(1)?;
-        self.apart.push_reserved(step);
-        self.kept.push_reserved(KeptNode::Apart(number));
+        self.kept.push(kept_step(step))?;
         Ok(())
     }
 
@@ -155,12 +126,12 @@ impl<A: Allocator + Copy> Nodes<A> {
     }
 }
 
-// The number of what comes after so many. Blocks or steps without a number would take more memory than there is.
-fn number_of(count: usize) -> Result<u32, AllocError>
-    ensures { IfOk result (λ number. number ≡ count) }
+// The number of a block that comes after so many. Blocks without a number would take more memory than there is.
+fn number_of(blocks: usize) -> Result<u32, AllocError>
+    ensures { IfOk result (λ number. number ≡ blocks) }
 {
-    if count > u32::MAX as usize {
+    if blocks > u32::MAX as usize {
         return Err(AllocError);
     }
-    Ok(count as u32)
+    Ok(blocks as u32)
 }

@@ -33,4 +33,3 @@ mod BracketLemmas
 pub mod ProductWords
 mod ProductSteps
 pub mod MarkLemmas
-mod KeptTargetLemmas

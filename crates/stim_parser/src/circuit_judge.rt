@@ -1,13 +1,11 @@
-ghost use Rattle.std.specs.Prelude.{◌≡◌, ◌&&◌, ◌||◌, ◌∷◌, List, not, None, Some, false, IfOk, MatchBool};
+ghost use Rattle.std.specs.Prelude.{◌≡◌, ◌&&◌, ◌||◌, not, None, Some, false, IfOk, MatchBool};
 ghost use Rattle.stim_lexer.specs.Bytes.{after_blanks, is_empty};
 ghost use Rattle.stim_parser.specs.Circuits as circuits;
-ghost use Rattle.stim_parser.specs.declared.target.Target.{Target};
 ghost use Rattle.stim_parser.specs.Judging.{first_of};
 ghost use Rattle.stim_parser.specs.Limits.{has_target_beyond, has_wrong_count};
 ghost use Rattle.stim_parser.specs.Verdicts.{circuit_table, line_targets, refusals_of_targets, takes_none, turns_of};
 
 use crate::forms::{ArgumentForm, TargetForm, argument_form, target_form};
-use crate::kept_target::KeptTarget;
 use crate::last::Last;
 use crate::names::is_left_out;
 use crate::numbers::GREATEST_COORDINATE;
@@ -28,7 +26,7 @@ fn takes_none(form: TargetForm) -> bool
 /// Puts the targets of a line into `targets`, in place of what it held. Answers whether each can be read. For a form without
 /// targets none is read.
 fn read_line_targets<A: Allocator + Copy>(
-    targets: &mut Vec<KeptTarget, A>,
+    targets: &mut Vec<Target, A>,
     form: TargetForm,
     text: &[u8],
 ) -> Result<bool, AllocError>
@@ -44,7 +42,7 @@ fn read_line_targets<A: Allocator + Copy>(
 }
 
 /// Whether there are targets where none is taken, or another number of them than is taken.
-fn has_wrong_number(form: TargetForm, text: &[u8], targets: &[KeptTarget]) -> bool
+fn has_wrong_number(form: TargetForm, text: &[u8], targets: &[Target]) -> bool
     ensures { result
         ≡ ((takes_none form && not (is_empty (after_blanks text.now)))
         || has_wrong_count form targets.now) }
@@ -53,7 +51,7 @@ fn has_wrong_number(form: TargetForm, text: &[u8], targets: &[KeptTarget]) -> bo
 }
 
 /// The refusal of a wrong number of targets, or of a qubit that is named twice.
-fn refusal_of_targets(form: TargetForm, text: &[u8], targets: &[KeptTarget]) -> Option<Cause>
+fn refusal_of_targets(form: TargetForm, text: &[u8], targets: &[Target]) -> Option<Cause>
     requires { has_target_beyond form targets.now ≡ false }
     ensures { result ≡ first_of (refusals_of_targets form text.now targets.now) }
 {
@@ -66,20 +64,10 @@ fn refusal_of_targets(form: TargetForm, text: &[u8], targets: &[KeptTarget]) -> 
     None
 }
 
-/// The number of a target that is a number alone, and 0 of any other.
-fn number_alone(target: KeptTarget) -> u64
-    ensures { (rest : List Target) → result ≡ turns_of (target ∷ rest) }
-{
-    match target.get() {
-        Target::Plain(number) => number,
-        _ => 0,
-    }
-}
-
 /// The judge of a circuit's lines.
 pub struct CircuitJudge;
 
-impl Judge<Operation, KeptTarget, TargetForm> for CircuitJudge {
+impl Judge<Operation, Target, TargetForm> for CircuitJudge {
     ghost table = { circuit_table };
 
     ghost Fits = { circuits.Fits };
@@ -118,7 +106,7 @@ impl Judge<Operation, KeptTarget, TargetForm> for CircuitJudge {
 
     #[inline(always)]
     fn read_targets<A: Allocator + Copy>(
-        targets: &mut Vec<KeptTarget, A>,
+        targets: &mut Vec<Target, A>,
         form: TargetForm,
         text: &[u8],
     ) -> Result<bool, AllocError> {
@@ -126,25 +114,25 @@ impl Judge<Operation, KeptTarget, TargetForm> for CircuitJudge {
     }
 
     #[inline(always)]
-    fn are_of_form(form: TargetForm, targets: &[KeptTarget]) -> bool {
+    fn are_of_form(form: TargetForm, targets: &[Target]) -> bool {
         are_of_form(form, targets)
     }
 
     #[inline(always)]
-    fn has_target_beyond(form: TargetForm, targets: &[KeptTarget]) -> bool {
+    fn has_target_beyond(form: TargetForm, targets: &[Target]) -> bool {
         has_target_beyond(form, targets)
     }
 
     #[inline(always)]
-    fn refusal_of_targets(form: TargetForm, text: &[u8], targets: &[KeptTarget]) -> Option<Cause> {
+    fn refusal_of_targets(form: TargetForm, text: &[u8], targets: &[Target]) -> Option<Cause> {
         refusal_of_targets(form, text, targets)
     }
 
     #[inline(always)]
-    fn turns_of(targets: &[KeptTarget]) -> u64 {
+    fn turns_of(targets: &[Target]) -> u64 {
         match targets {
-            [first, ..] => number_alone(*first),
-            [] => 0,
+            [Target::Plain(turns), ..] => turns.value(),
+            _ => 0,
         }
     }
 

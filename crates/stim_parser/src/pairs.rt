@@ -1,32 +1,31 @@
 ghost use Rattle.std.specs.Prelude.{◌≡◌, ◌&&◌};
 ghost use Rattle.stim_parser.specs.Limits.{is_back, is_plain, is_plain_or_back, is_same_qubit, some_pair};
 
-use crate::kept_target::KeptTarget;
 use crate::target::Target;
 
 /// Whether a target is a number alone.
-pub(crate) fn is_plain(target: KeptTarget) -> bool
+pub(crate) fn is_plain(target: Target) -> bool
     ensures { result ≡ is_plain target }
 {
-    matches!(target.get(), Target::Plain(_))
+    matches!(target, Target::Plain(_))
 }
 
 /// Whether a target is a record.
-pub(crate) fn is_back(target: KeptTarget) -> bool
+pub(crate) fn is_back(target: Target) -> bool
     ensures { result ≡ is_back target }
 {
-    matches!(target.get(), Target::Back(_))
+    matches!(target, Target::Back(_))
 }
 
 /// Whether a target is a number alone or a record.
-pub(crate) fn is_plain_or_back(target: KeptTarget) -> bool
+pub(crate) fn is_plain_or_back(target: Target) -> bool
     ensures { result ≡ is_plain_or_back target }
 {
-    matches!(target.get(), Target::Plain(_) | Target::Back(_))
+    matches!(target, Target::Plain(_) | Target::Back(_))
 }
 
 /// Whether the second of a pair from the left is a record.
-pub(crate) fn has_record_second(targets: &[KeptTarget]) -> bool
+pub(crate) fn has_record_second(targets: &[Target]) -> bool
     ensures { result ≡ some_pair (λ a b. is_back b) targets.now }
 {
     let mut rest = targets;
@@ -40,7 +39,7 @@ pub(crate) fn has_record_second(targets: &[KeptTarget]) -> bool
 }
 
 /// Whether both of a pair from the left are records.
-pub(crate) fn has_pair_of_records(targets: &[KeptTarget]) -> bool
+pub(crate) fn has_pair_of_records(targets: &[Target]) -> bool
     ensures { result ≡ some_pair (λ a b. is_back a && is_back b) targets.now }
 {
     let mut rest = targets;
@@ -54,27 +53,27 @@ pub(crate) fn has_pair_of_records(targets: &[KeptTarget]) -> bool
 }
 
 /// Whether a target is this qubit.
-fn is_plain_at(qubit: u64, target: KeptTarget) -> bool
+fn is_plain_at(qubit: u64, target: Target) -> bool
     ensures { result ≡ is_same_qubit (Target.Plain qubit) target }
 {
-    match target.get() {
-        Target::Plain(other) => qubit == other,
+    match target {
+        Target::Plain(other) => qubit == other.value(),
         _ => false,
     }
 }
 
 /// Whether two targets are the same qubit.
-fn is_same_qubit(first: KeptTarget, second: KeptTarget) -> bool
+fn is_same_qubit(first: Target, second: Target) -> bool
     ensures { result ≡ is_same_qubit first second }
 {
-    match first.get() {
-        Target::Plain(qubit) => is_plain_at(qubit, second),
+    match first {
+        Target::Plain(qubit) => is_plain_at(qubit.value(), second),
         _ => false,
     }
 }
 
 /// Whether a pair from the left names one qubit twice.
-pub(crate) fn has_pair_of_one(targets: &[KeptTarget]) -> bool
+pub(crate) fn has_pair_of_one(targets: &[Target]) -> bool
     ensures { result ≡ some_pair is_same_qubit targets.now }
 {
     let mut rest = targets;

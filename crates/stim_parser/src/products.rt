@@ -4,26 +4,25 @@ ghost use Rattle.stim_parser.specs.Limits.{are_products, has_target_beyond, is_t
 ghost use Rattle.stim_parser.specs.private.Products.{are_factors, begins_with_factor, goes_on_with, goes_on_within, has_product_of_one, is_factor, is_factor_at, is_factor_within, is_joining};
 ghost use Rattle.stim_parser.specs.private.QubitSets.{is_named};
 
-use crate::kept_target::KeptTarget;
 use crate::qubit_set::QubitSet;
 use crate::target::Target;
 
 /// Whether a target is a factor of a product, with a `!` or without.
-fn is_factor(target: KeptTarget) -> bool
+fn is_factor(target: Target) -> bool
     ensures { result ≡ is_factor target }
 {
-    matches!(target.get(), Target::Pauli(_, _, _))
+    matches!(target, Target::Pauli(_, _, _))
 }
 
 /// Whether a target is the star that joins two factors.
-fn is_joining(target: KeptTarget) -> bool
+fn is_joining(target: Target) -> bool
     ensures { result ≡ is_joining target }
 {
-    matches!(target.get(), Target::Star)
+    matches!(target, Target::Star)
 }
 
 /// Whether the first of targets is a factor.
-fn begins_with_factor(targets: &[KeptTarget]) -> bool
+fn begins_with_factor(targets: &[Target]) -> bool
     ensures { result ≡ begins_with_factor targets.now }
 {
     match targets {
@@ -33,10 +32,10 @@ fn begins_with_factor(targets: &[KeptTarget]) -> bool
 }
 
 /// Whether a target is a factor, or a star before a factor.
-fn goes_on(target: KeptTarget, rest: &[KeptTarget]) -> bool
+fn goes_on(target: Target, rest: &[Target]) -> bool
     ensures { result ≡ (is_factor target || (is_joining target && begins_with_factor rest.now)) }
 {
-    match target.get() {
+    match target {
         Target::Pauli(_, _, _) => true,
         Target::Star => begins_with_factor(rest),
         Target::Plain(_) | Target::Inverted(_) | Target::Back(_) => false,
@@ -44,7 +43,7 @@ fn goes_on(target: KeptTarget, rest: &[KeptTarget]) -> bool
 }
 
 /// Whether targets are factors and stars, each star before a factor.
-fn are_factors(targets: &[KeptTarget]) -> bool
+fn are_factors(targets: &[Target]) -> bool
     ensures { result ≡ are_factors targets.now }
 {
     let mut left = targets;
@@ -58,7 +57,7 @@ fn are_factors(targets: &[KeptTarget]) -> bool
 }
 
 /// Whether targets are factors and the stars that join them.
-pub(crate) fn are_products(targets: &[KeptTarget]) -> bool
+pub(crate) fn are_products(targets: &[Target]) -> bool
     ensures { result ≡ are_products targets.now }
 {
     match targets {
@@ -68,41 +67,41 @@ pub(crate) fn are_products(targets: &[KeptTarget]) -> bool
 }
 
 /// Whether a target is a factor at a qubit of a set.
-fn is_factor_within(named: &QubitSet, target: KeptTarget) -> bool
+fn is_factor_within(named: &QubitSet, target: Target) -> bool
     requires { is_target_beyond Products target ≡ false }
     ensures { result ≡ is_factor_within (is_named named.now.words) target }
 {
-    match target.get() {
-        Target::Pauli(_, _, qubit) => named.contains(qubit),
+    match target {
+        Target::Pauli(_, _, qubit) => named.contains(qubit.value()),
         _ => false,
     }
 }
 
 /// Puts a factor's qubit into a set.
-fn put_in(named: &mut QubitSet, target: KeptTarget)
+fn put_in(named: &mut QubitSet, target: Target)
     requires { is_target_beyond Products target ≡ false }
     ensures { (q : ℕ)
         → is_named named.new.words q ≡ (is_factor_at q target || is_named named.old.words q) }
 {
-    if let Target::Pauli(_, _, qubit) = target.get() {
-        named.insert(qubit);
+    if let Target::Pauli(_, _, qubit) = target {
+        named.insert(qubit.value());
     }
 }
 
 /// Takes a factor's qubit out of a set.
-fn take_out(named: &mut QubitSet, target: KeptTarget)
+fn take_out(named: &mut QubitSet, target: Target)
     requires { is_target_beyond Products target ≡ false }
     ensures { (q : ℕ)
         → is_named named.new.words q ≡ (not (is_factor_at q target) && is_named named.old.words q) }
 {
-    if let Target::Pauli(_, _, qubit) = target.get() {
-        named.remove(qubit);
+    if let Target::Pauli(_, _, qubit) = target {
+        named.remove(qubit.value());
     }
 }
 
 /// Goes over a product after its first factor and puts its qubits into a set. It answers what follows the product, or
 /// none where the product names a qubit of the set or one qubit twice.
-fn go_over<'a>(named: &mut QubitSet, targets: &'a [KeptTarget]) -> Option<&'a [KeptTarget]>
+fn go_over<'a>(named: &mut QubitSet, targets: &'a [Target]) -> Option<&'a [Target]>
     requires { has_target_beyond Products targets.now ≡ false }
     ensures again { MatchOption result
         ((goes_on_within (is_named named.old.words) targets.now || has_product_of_one targets.now) ≡ true)
@@ -127,7 +126,7 @@ fn go_over<'a>(named: &mut QubitSet, targets: &'a [KeptTarget]) -> Option<&'a [K
 }
 
 /// Goes over a product after its first factor and takes its qubits out of a set.
-fn go_back(named: &mut QubitSet, targets: &[KeptTarget])
+fn go_back(named: &mut QubitSet, targets: &[Target])
     requires { has_target_beyond Products targets.now ≡ false }
     ensures { (q : ℕ)
         → is_named named.new.words q
@@ -145,7 +144,7 @@ fn go_back(named: &mut QubitSet, targets: &[KeptTarget])
 
 /// Whether a product names one qubit twice. Each target is gone over at most twice: one set serves all products, and
 /// what a product put in is taken out after it. A new set for each would cost more, since most products are short.
-pub(crate) fn has_product_of_one(targets: &[KeptTarget]) -> bool
+pub(crate) fn has_product_of_one(targets: &[Target]) -> bool
     requires { has_target_beyond Products targets.now ≡ false }
     ensures { result ≡ has_product_of_one targets.now }
 {

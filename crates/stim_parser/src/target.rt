@@ -3,7 +3,7 @@ ghost use Rattle.stim_parser.specs.private.Brackets.{at_least_one, before_bracke
 ghost use Rattle.stim_parser.specs.Targets.{inverted_of, letter_of, marked_of, pauli_of, record_of, target_of, targets_in};
 
 use crate::digits::number_of;
-use crate::kept_target::KeptTarget;
+use crate::halved::Number;
 use crate::piece_values::{PieceValue, read_pieces};
 use pauli_word::Letter;
 use std::alloc::{AllocError, Allocator};
@@ -12,13 +12,13 @@ use std::alloc::{AllocError, Allocator};
 #[derive(Clone, Copy, Debug, PartialEq, Eq)]
 pub enum Target {
     /// A number alone: a qubit, or how often a block is repeated.
-    Plain(u64),
+    Plain(Number),
     /// A qubit with `!` before it.
-    Inverted(u64),
+    Inverted(Number),
     /// A record, by how far back it lies, from 1.
-    Back(u64),
+    Back(Number),
     /// A letter at a qubit, and whether `!` stands before it.
-    Pauli(bool, Letter, u64),
+    Pauli(bool, Letter, Number),
     /// A `*`, which joins the Pauli targets beside it.
     Star,
 }
@@ -66,61 +66,59 @@ fn letter_of(byte: u8) -> Option<Letter>
 }
 
 /// A letter and its qubit, after a `!` or not.
-#[tactic(auto, using(crate::proofs::KeptTargetLemmas::number_is_small))]
-fn pauli_of(inverted: bool, text: &[u8]) -> Option<KeptTarget>
+fn pauli_of(inverted: bool, text: &[u8]) -> Option<Target>
     ensures { result ≡ pauli_of inverted text.now }
 {
     match text {
         [first, digits @ ..] => {
             let letter = letter_of(*first)?;
             let qubit = number_of(digits)?;
-            Some(KeptTarget::new(Target::Pauli(inverted, letter, qubit)))
+            Some(Target::Pauli(inverted, letter, Number::new(qubit)))
         }
         [] => None,
     }
 }
 
 /// The target whose text follows a `!`.
-#[tactic(auto, using(crate::proofs::KeptTargetLemmas::number_is_small))]
-fn inverted_of(text: &[u8]) -> Option<KeptTarget>
+fn inverted_of(text: &[u8]) -> Option<Target>
     ensures { result ≡ inverted_of text.now }
 {
     match number_of(text) {
-        Some(qubit) => Some(KeptTarget::new(Target::Inverted(qubit))),
+        Some(qubit) => Some(Target::Inverted(Number::new(qubit))),
         None => pauli_of(true, text),
     }
 }
 
 /// A target that is known by its first byte.
-fn marked_of(piece: &[u8]) -> Option<KeptTarget>
+fn marked_of(piece: &[u8]) -> Option<Target>
     ensures { result ≡ marked_of piece.now }
 {
     match piece {
         [] => None,
         [b'!', rest @ ..] => inverted_of(rest),
-        [b'*'] => Some(KeptTarget::new(Target::Star)),
+        [b'*'] => Some(Target::Star),
         _ => pauli_of(false, piece),
     }
 }
 
 /// The target that a piece writes.
 #[tactic(auto, unfolding(crate::specs::Targets::target_of))]
-fn target_of(piece: &[u8]) -> Option<KeptTarget>
+fn target_of(piece: &[u8]) -> Option<Target>
     ensures { result ≡ target_of piece.now }
 {
     if let Some(number) = number_of(piece) {
-        return Some(KeptTarget::new(Target::Plain(number)));
+        return Some(Target::Plain(Number::new(number)));
     }
     if let Some(back) = record_of(piece) {
-        return Some(KeptTarget::new(Target::Back(back)));
+        return Some(Target::Back(Number::new(back)));
     }
     marked_of(piece)
 }
 
-impl PieceValue for KeptTarget {
+impl PieceValue for Target {
     ghost written = { target_of };
 
-    fn of_piece(piece: &[u8]) -> Option<KeptTarget> {
+    fn of_piece(piece: &[u8]) -> Option<Target> {
         target_of(piece)
     }
 }
@@ -128,7 +126,7 @@ impl PieceValue for KeptTarget {
 /// Puts the targets of a text in place of those that were there. Answers whether each of its pieces is a target.
 #[tactic(auto, unfolding(crate::specs::Targets::targets_in))]
 pub(crate) fn read_targets<A: Allocator + Copy>(
-    targets: &mut Vec<KeptTarget, A>,
+    targets: &mut Vec<Target, A>,
     text: &[u8],
 ) -> Result<bool, AllocError>
     ensures { IfOk result (λ all. MatchBool all

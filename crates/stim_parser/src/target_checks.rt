@@ -3,7 +3,6 @@ ghost use Rattle.std.specs.List.{list_all, list_any};
 ghost use Rattle.stim_parser.specs.Limits.{are_of_form, has_same_qubit, has_target_beyond, has_wrong_count, is_back, is_pauli, is_plain, is_plain_or_back, is_plain_or_inverted, takes_pairs, is_target_beyond};
 
 use crate::forms::TargetForm;
-use crate::kept_target::KeptTarget;
 use crate::numbers::{is_number_beyond, is_qubit_beyond};
 use crate::pairs::{
     has_pair_of_one, has_pair_of_records, has_record_second, is_back, is_plain, is_plain_or_back,
@@ -12,44 +11,44 @@ use crate::products::{are_products, has_product_of_one};
 use crate::target::Target;
 
 /// Whether a target is a number, with a `!` before it or not.
-fn is_plain_or_inverted(target: KeptTarget) -> bool
+fn is_plain_or_inverted(target: Target) -> bool
     ensures { result ≡ is_plain_or_inverted target }
 {
-    matches!(target.get(), Target::Plain(_) | Target::Inverted(_))
+    matches!(target, Target::Plain(_) | Target::Inverted(_))
 }
 
 /// Whether a target is a letter at a qubit, without a `!`.
-fn is_pauli(target: KeptTarget) -> bool
+fn is_pauli(target: Target) -> bool
     ensures { result ≡ is_pauli target }
 {
-    matches!(target.get(), Target::Pauli(false, _, _))
+    matches!(target, Target::Pauli(false, _, _))
 }
 
-fn are_plain(targets: &[KeptTarget]) -> bool
+fn are_plain(targets: &[Target]) -> bool
     ensures { result ≡ list_all is_plain targets.now }
 {
     targets.iter().all(|target| is_plain(*target))
 }
 
-fn are_plain_or_inverted(targets: &[KeptTarget]) -> bool
+fn are_plain_or_inverted(targets: &[Target]) -> bool
     ensures { result ≡ list_all is_plain_or_inverted targets.now }
 {
     targets.iter().all(|target| is_plain_or_inverted(*target))
 }
 
-fn are_plain_or_back(targets: &[KeptTarget]) -> bool
+fn are_plain_or_back(targets: &[Target]) -> bool
     ensures { result ≡ list_all is_plain_or_back targets.now }
 {
     targets.iter().all(|target| is_plain_or_back(*target))
 }
 
-fn are_paulis(targets: &[KeptTarget]) -> bool
+fn are_paulis(targets: &[Target]) -> bool
     ensures { result ≡ list_all is_pauli targets.now }
 {
     targets.iter().all(|target| is_pauli(*target))
 }
 
-fn are_back(targets: &[KeptTarget]) -> bool
+fn are_back(targets: &[Target]) -> bool
     ensures { result ≡ list_all is_back targets.now }
 {
     targets.iter().all(|target| is_back(*target))
@@ -57,7 +56,7 @@ fn are_back(targets: &[KeptTarget]) -> bool
 
 /// Whether targets are of a form. Their number isn't asked.
 #[tactic(auto, unfolding(crate::specs::Limits::are_of_form))]
-pub(crate) fn are_of_form(form: TargetForm, targets: &[KeptTarget]) -> bool
+pub(crate) fn are_of_form(form: TargetForm, targets: &[Target]) -> bool
     ensures { result ≡ are_of_form form targets.now }
 {
     match form {
@@ -87,21 +86,21 @@ fn is_plain_beyond(form: TargetForm, number: u64) -> bool
 }
 
 /// Whether a target's number is beyond its limit.
-fn is_target_beyond(form: TargetForm, target: KeptTarget) -> bool
+fn is_target_beyond(form: TargetForm, target: Target) -> bool
     ensures { result ≡ is_target_beyond form target }
 {
-    match target.get() {
-        Target::Plain(number) => is_plain_beyond(form, number),
-        Target::Back(back) => is_number_beyond(back),
-        Target::Inverted(qubit) => is_qubit_beyond(qubit),
-        Target::Pauli(_, _, qubit) => is_qubit_beyond(qubit),
+    match target {
+        Target::Plain(number) => is_plain_beyond(form, number.value()),
+        Target::Back(back) => is_number_beyond(back.value()),
+        Target::Inverted(qubit) => is_qubit_beyond(qubit.value()),
+        Target::Pauli(_, _, qubit) => is_qubit_beyond(qubit.value()),
         Target::Star => false,
     }
 }
 
 /// Whether the number of one of the targets is beyond its limit.
 #[tactic(auto, unfolding(crate::specs::Limits::has_target_beyond))]
-pub(crate) fn has_target_beyond(form: TargetForm, targets: &[KeptTarget]) -> bool
+pub(crate) fn has_target_beyond(form: TargetForm, targets: &[Target]) -> bool
     ensures { result ≡ has_target_beyond form targets.now }
 {
     targets.iter().any(|target| is_target_beyond(form, *target))
@@ -119,7 +118,7 @@ fn takes_pairs(form: TargetForm) -> bool
 
 /// Whether this is a number of targets that the form doesn't take. A form without targets is judged elsewhere.
 #[tactic(auto, unfolding(crate::specs::Limits::has_wrong_count))]
-pub(crate) fn has_wrong_count(form: TargetForm, targets: &[KeptTarget]) -> bool
+pub(crate) fn has_wrong_count(form: TargetForm, targets: &[Target]) -> bool
     ensures { result ≡ has_wrong_count form targets.now }
 {
     match form {
@@ -130,7 +129,7 @@ pub(crate) fn has_wrong_count(form: TargetForm, targets: &[KeptTarget]) -> bool
 
 /// Whether a pair or a product names one qubit twice.
 #[tactic(auto, unfolding(crate::specs::Limits::has_same_qubit))]
-pub(crate) fn has_same_qubit(form: TargetForm, targets: &[KeptTarget]) -> bool
+pub(crate) fn has_same_qubit(form: TargetForm, targets: &[Target]) -> bool
     requires { has_target_beyond form targets.now ≡ false }
     ensures { result ≡ has_same_qubit form targets.now }
 {

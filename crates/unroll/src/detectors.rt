@@ -13,15 +13,15 @@ use arrayvec::ArrayVec;
 use flat_lists::FlatLists;
 use std::alloc::{AllocError, Allocator};
 use stim_lexer::{LEVELS, OpenBlock};
-use stim_parser::{Circuit, Item, KeptTarget, Operation, Target};
+use stim_parser::{Circuit, Item, Operation, Target};
 
 /// The record that a target names after this many records; the first record where it reaches back before that.
-pub(crate) fn record_named(records: u64, target: KeptTarget) -> u32
+pub(crate) fn record_named(records: u64, target: Target) -> u32
     requires { records < 2 ^ 32 }
     ensures { result ≡ record_named records target }
 {
-    match target.get() {
-        Target::Back(k) => records.saturating_sub(k) as u32,
+    match target {
+        Target::Back(k) => records.saturating_sub(k.value()) as u32,
         _ => 0,
     }
 }
@@ -30,7 +30,7 @@ pub(crate) fn record_named(records: u64, target: KeptTarget) -> u32
 fn name_records<A: Allocator + Copy>(
     named: &mut Vec<u32, A>,
     records: u64,
-    targets: &[KeptTarget],
+    targets: &[Target],
 ) -> Result<(), AllocError>
     requires { records < 2 ^ 32 }
     ensures { OnOk result (named.new.items ≡ records_named records targets.now) }
@@ -48,7 +48,7 @@ fn push_detector<A: Allocator + Copy>(
     detectors: &mut FlatLists<u32, A>,
     records: u64,
     operation: Operation,
-    targets: &[KeptTarget],
+    targets: &[Target],
 ) -> Result<(), AllocError>
     requires { records < 2 ^ 32 }
     ensures { OnOk result

@@ -13,20 +13,20 @@ use pauli_word::Letter;
 use programs::EntryBuilder;
 use std::alloc::{AllocError, Allocator};
 use step_model::Term;
-use stim_parser::{Instruction, KeptTarget, Operation, Target, has_argument};
+use stim_parser::{Instruction, Operation, Target, has_argument};
 
 /// The letter of a target.
-pub(crate) fn pauli_letter(target: KeptTarget) -> Letter
+pub(crate) fn pauli_letter(target: Target) -> Letter
     ensures { result ≡ pauli_letter target }
 {
-    match target.get() {
+    match target {
         Target::Pauli(_, letter, _) => letter,
         _ => Letter::I,
     }
 }
 
 /// A letter at the qubit of a target.
-pub(crate) fn term_at(letter: Letter, target: KeptTarget) -> Term
+pub(crate) fn term_at(letter: Letter, target: Target) -> Term
     requires { qubits_to target ≤ 4096 }
     ensures { result ≡ term_at letter target }
 {
@@ -39,7 +39,7 @@ pub(crate) fn term_at(letter: Letter, target: KeptTarget) -> Term
 /// Puts the letters of targets, at their qubits, into `terms`, in place of what it held.
 fn name_terms<A: Allocator + Copy>(
     terms: &mut Vec<Term, A>,
-    targets: &[KeptTarget],
+    targets: &[Target],
 ) -> Result<(), AllocError>
     requires { All IsSmall targets.now }
     ensures { OnOk result (terms.new.items ≡ map term_of targets.now) }
@@ -56,7 +56,7 @@ fn push_entries<A: Allocator + Copy>(
     entries: &mut EntryBuilder<'_, A>,
     number: usize,
     letter: Letter,
-    targets: &[KeptTarget],
+    targets: &[Target],
 ) -> Result<(), AllocError>
     requires small { All IsSmall targets.now }
     requires there { number < length entries.old.chances }

@@ -15,7 +15,7 @@ use arrayvec::ArrayVec;
 use flat_lists::ListRooms;
 use std::alloc::{AllocError, Allocator};
 use stim_lexer::{LEVELS, OpenBlock};
-use stim_parser::{Circuit, Instruction, Item, KeptTarget, Operation, first_number};
+use stim_parser::{Circuit, Instruction, Item, Operation, Target, first_number};
 
 /// An observable to which an instruction of the text adds, and how many records it had before that.
 #[derive(Clone, Copy)]
@@ -29,7 +29,7 @@ fn include_records<A: Allocator + Copy>(
     lists: &mut ListRooms<u32, A>,
     observable: usize,
     records: u64,
-    targets: &[KeptTarget],
+    targets: &[Target],
 ) -> Result<(), AllocError>
     requires there { observable < length lists.old }
     requires few { records < 2 ^ 32 }

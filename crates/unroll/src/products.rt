@@ -9,13 +9,13 @@ use crate::targets::end_of_factor;
 use flat_lists::FlatLists;
 use std::alloc::{AllocError, Allocator};
 use step_model::Term;
-use stim_parser::{KeptTarget, Operation};
+use stim_parser::{Operation, Target};
 
 /// Appends the products of targets. The letters of each are gathered in `terms`.
 fn push_each_product<A: Allocator + Copy>(
     products: &mut FlatLists<Term, A>,
     terms: &mut Vec<Term, A>,
-    targets: &[KeptTarget],
+    targets: &[Target],
 ) -> Result<(), AllocError>
     requires { All IsSmall targets.now }
     ensures { OnOk result
@@ -41,7 +41,7 @@ pub(crate) fn push_kept_products<A: Allocator + Copy>(
     products: &mut FlatLists<Term, A>,
     terms: &mut Vec<Term, A>,
     operation: Operation,
-    targets: &[KeptTarget],
+    targets: &[Target],
 ) -> Result<(), AllocError>
     requires small { All IsSmall targets.now }
     ensures { OnOk result

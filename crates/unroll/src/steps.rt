@@ -12,7 +12,7 @@ use gate_table::Gate;
 use pauli_word::Letter;
 use programs::{CircuitBuilder, Recording, TextStep};
 use std::alloc::{AllocError, Allocator};
-use stim_parser::{KeptTarget, Operation, Target};
+use stim_parser::{Operation, Target};
 
 /// What an operation does to each of its targets by itself.
 #[derive(Clone, Copy)]
@@ -27,10 +27,10 @@ enum Single {
 }
 
 /// Whether a target has a `!`.
-fn is_inverted(target: KeptTarget) -> bool
+fn is_inverted(target: Target) -> bool
     ensures { result ≡ is_inverted target }
 {
-    match target.get() {
+    match target {
         Target::Inverted(_) => true,
         Target::Pauli(inverted, _, _) => inverted,
         _ => false,
@@ -56,20 +56,20 @@ fn fed_letter(gate: Gate) -> Letter
 }
 
 /// The qubit that a target names, and whether it has a `!`.
-fn qubit_and_sign(target: KeptTarget) -> (u32, bool)
+fn qubit_and_sign(target: Target) -> (u32, bool)
     requires { qubits_to target ≤ 4096 }
     ensures qubit { result.0 ≡ qubit_of target }
     ensures sign { result.1 ≡ is_inverted target }
 {
-    match target.get() {
-        Target::Plain(q) => (q as u32, false),
-        Target::Inverted(q) => (q as u32, true),
-        Target::Pauli(inverted, _, q) => (q as u32, inverted),
+    match target {
+        Target::Plain(q) => (q.value() as u32, false),
+        Target::Inverted(q) => (q.value() as u32, true),
+        Target::Pauli(inverted, _, q) => (q.value() as u32, inverted),
         Target::Back(_) | Target::Star => (0, false),
     }
 }
 
-fn single_step(single: Single, target: KeptTarget) -> TextStep
+fn single_step(single: Single, target: Target) -> TextStep
     requires { qubits_to target ≤ 4096 }
     ensures { result ≡ single_step single target }
 {
@@ -96,20 +96,22 @@ fn single_step(single: Single, target: KeptTarget) -> TextStep
 }
 
 /// How many records back a target is, where it is a record, and the qubit that it names.
-fn back_and_qubit(target: KeptTarget) -> (Option<u64>, u32)
+fn back_and_qubit(target: Target) -> (Option<u64>, u32)
     requires { qubits_to target ≤ 4096 }
     ensures back { result.0 ≡ record_back target }
     ensures qubit { result.1 ≡ qubit_of target }
 {
-    match target.get() {
-        Target::Plain(q) | Target::Inverted(q) | Target::Pauli(_, _, q) => { (None, q as u32) }
-        Target::Back(k) => (Some(k), 0),
+    match target {
+        Target::Plain(q) | Target::Inverted(q) | Target::Pauli(_, _, q) => {
+            (None, q.value() as u32)
+        }
+        Target::Back(k) => (Some(k.value()), 0),
         Target::Star => (None, 0),
     }
 }
 
 /// The step of a pair: a gate, or feedback where one of the two is a record.
-fn pair_step(gate: Gate, a: KeptTarget, b: KeptTarget) -> TextStep
+fn pair_step(gate: Gate, a: Target, b: Target) -> TextStep
     requires first { IsSmall a }
     requires second { IsSmall b }
     ensures { result ≡ pair_step gate a b }
@@ -138,7 +140,7 @@ fn pair_step(gate: Gate, a: KeptTarget, b: KeptTarget) -> TextStep
 fn push_singles<A: Allocator + Copy>(
     builder: &mut CircuitBuilder<A>,
     single: Single,
-    targets: &[KeptTarget],
+    targets: &[Target],
 ) -> Result<(), AllocError>
     requires { All IsSmall targets.now }
     ensures { OnOk result (Adds (map (single_step single) targets.now) builder.old builder.new) }
@@ -152,7 +154,7 @@ fn push_singles<A: Allocator + Copy>(
 fn push_pairs<A: Allocator + Copy>(
     builder: &mut CircuitBuilder<A>,
     gate: Gate,
-    targets: &[KeptTarget],
+    targets: &[Target],
 ) -> Result<(), AllocError>
     requires { All IsSmall targets.now }
     ensures { OnOk result (Adds (pair_steps gate targets.now) builder.old builder.new) }
@@ -172,7 +174,7 @@ fn push_pairs<A: Allocator + Copy>(
 fn push_faults<A: Allocator + Copy>(
     builder: &mut CircuitBuilder<A>,
     first: u32,
-    targets: &[KeptTarget],
+    targets: &[Target],
 ) -> Result<(), AllocError>
     requires { first + length targets.now < 2 ^ 32 }
     ensures { OnOk result (Adds (fault_steps first targets.now) builder.old builder.new) }
@@ -191,7 +193,7 @@ fn push_products<A: Allocator + Copy>(
     builder: &mut CircuitBuilder<A>,
     flip: Option<u32>,
     first: u32,
-    targets: &[KeptTarget],
+    targets: &[Target],
 ) -> Result<(), AllocError>
     requires { first + length (products_of targets.now) < 2 ^ 32 }
     ensures { OnOk result
@@ -224,7 +226,7 @@ pub(crate) fn push_steps<A: Allocator + Copy>(
     entries: u32,
     products: u32,
     flip: Option<u32>,
-    targets: &[KeptTarget],
+    targets: &[Target],
 ) -> Result<(), AllocError>
     requires small { All IsSmall targets.now }
     requires entries { entries + target_count operation targets.now < 2 ^ 32 }

@@ -6,39 +6,39 @@ ghost use Rattle.unroll.specs.Refusals.{is_before_start, reaches_far};
 ghost use Rattle.unroll.specs.Totals.{qubits_to, target_count};
 ghost use Rattle.unroll.specs.private.MadeTotals.{qubits_named};
 
-use stim_parser::{KeptTarget, Operation, Target};
+use stim_parser::{Operation, Target};
 
 /// One more than the qubit that a target names, and 0 where it names none.
 #[inline(always)]
-fn qubits_to(target: KeptTarget) -> u32
+fn qubits_to(target: Target) -> u32
     requires { qubits_to target ≤ 4096 }
     ensures { result ≡ qubits_to target }
 {
-    match target.get() {
-        Target::Plain(q) | Target::Inverted(q) | Target::Pauli(_, _, q) => q as u32 + 1,
+    match target {
+        Target::Plain(q) | Target::Inverted(q) | Target::Pauli(_, _, q) => q.value() as u32 + 1,
         Target::Back(_) | Target::Star => 0,
     }
 }
 
 /// The qubit that a target names.
 #[inline(always)]
-pub(crate) fn qubit_of(target: KeptTarget) -> u32
+pub(crate) fn qubit_of(target: Target) -> u32
     requires { qubits_to target ≤ 4096 }
     ensures { result ≡ qubit_of target }
 {
-    match target.get() {
-        Target::Plain(q) | Target::Inverted(q) | Target::Pauli(_, _, q) => q as u32,
+    match target {
+        Target::Plain(q) | Target::Inverted(q) | Target::Pauli(_, _, q) => q.value() as u32,
         Target::Back(_) | Target::Star => 0,
     }
 }
 
 /// Whether a target is a record that reaches back further than this many records.
 #[inline(always)]
-fn is_far(records: u64, target: KeptTarget) -> bool
+fn is_far(records: u64, target: Target) -> bool
     ensures { result ≡ is_before_start records target }
 {
-    match target.get() {
-        Target::Back(k) => records < k,
+    match target {
+        Target::Back(k) => records < k.value(),
         _ => false,
     }
 }
@@ -52,7 +52,7 @@ pub(crate) struct Reach {
 }
 
 /// How far targets reach after this many records.
-pub(crate) fn reach_of(records: u64, targets: &[KeptTarget]) -> Reach
+pub(crate) fn reach_of(records: u64, targets: &[Target]) -> Reach
     requires { All (λ target. qubits_to target ≤ 4096) targets.now }
     ensures qubits { result.qubits ≡ qubits_named targets.now }
     ensures far { result.is_far ≡ reaches_far records targets.now }
@@ -69,17 +69,17 @@ pub(crate) fn reach_of(records: u64, targets: &[KeptTarget]) -> Reach
     }
 }
 
-fn is_star(target: KeptTarget) -> bool
+fn is_star(target: Target) -> bool
     ensures { result ≡ is_joining target }
 {
-    match target.get() {
+    match target {
         Target::Star => true,
         _ => false,
     }
 }
 
 /// Whether a star joins a factor to the next one, and what follows the factor and the star.
-pub(crate) fn end_of_factor(after: &[KeptTarget]) -> (bool, &[KeptTarget])
+pub(crate) fn end_of_factor(after: &[Target]) -> (bool, &[Target])
     ensures { FollowsFactor after.now result.0 result.1.now }
 {
     match after {
@@ -95,7 +95,7 @@ pub(crate) fn end_of_factor(after: &[KeptTarget]) -> (bool, &[KeptTarget])
 }
 
 /// How many products targets make.
-fn product_count(targets: &[KeptTarget]) -> usize
+fn product_count(targets: &[Target]) -> usize
     ensures value { result ≡ length (products_of targets.now) }
     ensures few { result ≤ length targets.now }
 {
@@ -114,7 +114,7 @@ fn product_count(targets: &[KeptTarget]) -> usize
 
 /// How many targets an operation has in these, a product being one.
 #[inline(always)]
-pub(crate) fn target_count(operation: Operation, targets: &[KeptTarget]) -> usize
+pub(crate) fn target_count(operation: Operation, targets: &[Target]) -> usize
     ensures value { result ≡ target_count operation targets.now }
     ensures few { result ≤ length targets.now }
 {

@@ -5,17 +5,16 @@ use std::alloc::Global;
 use std::test::Fail;
 use step_model::Fault;
 use stim_parser::{
-    Circuit, Instruction, Item, KeptTarget, Target, first_argument, first_number, laws, parse,
-    read_coordinates,
+    Circuit, Instruction, Item, Target, first_argument, first_number, laws, parse, read_coordinates,
 };
-use written::{WRITTEN, Wanted, Written};
+use written::{Named, WRITTEN, Wanted, Written, name_of};
 
-fn are(targets: &[KeptTarget], wanted: &[Target]) -> bool {
+fn are_named(targets: &[Target], wanted: &[Named]) -> bool {
     targets.len() == wanted.len()
         && targets
             .iter()
             .zip(wanted)
-            .all(|(target, named)| target.get() == *named)
+            .all(|(target, name)| name_of(*target) == *name)
 }
 
 fn says(item: Item, wanted: Wanted) -> bool {
@@ -24,7 +23,7 @@ fn says(item: Item, wanted: Wanted) -> bool {
             found.line == line
                 && found.operation == operation
                 && found.arguments == arguments
-                && are(found.targets, targets)
+                && are_named(found.targets, targets)
         }
         (Item::BlockStart { line, turns }, Wanted::BlockStart(at, times)) => line == at
             && turns == times,

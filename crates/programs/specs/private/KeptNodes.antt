@@ -1,23 +1,17 @@
--- The node that a kept node stands for: the turns and the length of a block stand apart, under the block's number, and so
--- does a step that doesn't fit in a kept node.
+-- The node that a kept node stands for: the turns and the length of a block stand apart, under the block's number.
 -- (Stim's circuit format, github.com/quantumlib/Stim, doc/file_format_stim_circuit.md; how it is kept is this project's own.)
-use Rattle.std.specs.Prelude.{⊤, ◌<◌, ℕ, Bool, true, false, List, length, map, slice_index_or, Option, None, Some, All}
+use Rattle.std.specs.Prelude.{⊤, ◌<◌, ℕ, Bool, List, map, slice_index_or, Option, None, Some}
 use Rattle.programs.specs.declared.kept_node.BlockSize.{BlockSize}
 use Rattle.programs.specs.declared.kept_node.KeptNode.{KeptNode}
 use Rattle.programs.specs.declared.kept_node.KeptNode.TheVariants as kept
 use Rattle.programs.specs.declared.node.Node.{Node}
 use Rattle.programs.specs.declared.node.Node.TheVariants.{Do, Open, Close}
 use Rattle.programs.specs.declared.step.Recording.{Recording}
-use Rattle.programs.specs.declared.step.TextStep.{TextStep}
 use Rattle.programs.specs.declared.step.TextStep.TheVariants.{One, Two, Collapse, CollapseWord, Fault, Feedback}
 
 -- the size of a block by its number
 abbrev pub size_at : List BlockSize → ℕ → BlockSize
 size_at sizes b = slice_index_or sizes b (record { turns = 0; length = 0 })
-
--- the step that stands apart under a number
-abbrev pub step_at : List TextStep → ℕ → TextStep
-step_at apart k = slice_index_or apart k (Fault 0)
 
 -- a recording whose record no fault flips, and one whose record a fault of this entry flips
 abbrev pub recorded : Bool → Option Recording
@@ -26,41 +20,28 @@ recorded inverted = Some (record { inverted = inverted; flip = None })
 abbrev pub flipped : Bool → ℕ → Option Recording
 flipped inverted entry = Some (record { inverted = inverted; flip = Some entry })
 
--- the node that is kept so, where blocks have these sizes and these steps stand apart
-abbrev pub node_of : List BlockSize → List TextStep → KeptNode → Node
-node_of sizes apart (kept.One gate q) = Do (One gate q)
-node_of sizes apart (kept.Two gate a b) = Do (Two gate a b)
-node_of sizes apart (kept.Collapse letter reset q) = Do (Collapse letter q reset None)
-node_of sizes apart (kept.CollapseRecorded letter reset inverted q) = Do (Collapse letter q reset (recorded inverted))
-node_of sizes apart (kept.CollapseFlipped letter q entry) = Do (Collapse letter q false (flipped false entry))
-node_of sizes apart (kept.CollapseInvertedFlipped letter q entry) = Do (Collapse letter q false (flipped true entry))
-node_of sizes apart (kept.ResetFlipped letter q entry) = Do (Collapse letter q true (flipped false entry))
-node_of sizes apart (kept.ResetInvertedFlipped letter q entry) = Do (Collapse letter q true (flipped true entry))
-node_of sizes apart (kept.CollapseWord p) = Do (CollapseWord p None)
-node_of sizes apart (kept.CollapseWordRecorded inverted p) = Do (CollapseWord p (recorded inverted))
-node_of sizes apart (kept.Fault entry) = Do (Fault entry)
-node_of sizes apart (kept.Feedback letter q back) = Do (Feedback letter q back)
-node_of sizes apart kept.Unclosed = Open 0 0
-node_of sizes apart (kept.Open b) = Open (size_at sizes b).turns (size_at sizes b).length
-node_of sizes apart (kept.Close b) = Close (size_at sizes b).turns (size_at sizes b).length
-node_of sizes apart (kept.Apart k) = Do (step_at apart k)
+-- the node that is kept so, where blocks have these sizes
+abbrev pub node_of : List BlockSize → KeptNode → Node
+node_of sizes (kept.One gate q) = Do (One gate q)
+node_of sizes (kept.Two gate a b) = Do (Two gate a b)
+node_of sizes (kept.Collapse letter reset q) = Do (Collapse letter q reset None)
+node_of sizes (kept.CollapseRecorded letter reset inverted q) = Do (Collapse letter q reset (recorded inverted))
+node_of sizes (kept.CollapseFlipped letter reset inverted q entry) = Do (Collapse letter q reset (flipped inverted entry))
+node_of sizes (kept.CollapseWord p) = Do (CollapseWord p None)
+node_of sizes (kept.CollapseWordRecorded inverted p) = Do (CollapseWord p (recorded inverted))
+node_of sizes (kept.CollapseWordFlipped inverted p entry) = Do (CollapseWord p (flipped inverted entry))
+node_of sizes (kept.Fault entry) = Do (Fault entry)
+node_of sizes (kept.Feedback letter q back) = Do (Feedback letter q back)
+node_of sizes kept.Unclosed = Open 0 0
+node_of sizes (kept.Open b) = Open (size_at sizes b).turns (size_at sizes b).length
+node_of sizes (kept.Close b) = Close (size_at sizes b).turns (size_at sizes b).length
 
 -- all of them
-abbrev pub nodes_in : List BlockSize → List TextStep → List KeptNode → List Node
-nodes_in sizes apart nodes = map (node_of sizes apart) nodes
+abbrev pub nodes_in : List BlockSize → List KeptNode → List Node
+nodes_in sizes nodes = map (node_of sizes) nodes
 
 -- the block that a node names, where it names one, is among so many
 abbrev pub NamesBlockBelow : ℕ → KeptNode → Type 0
 NamesBlockBelow n (kept.Open b) = b < n
 NamesBlockBelow n (kept.Close b) = b < n
 NamesBlockBelow n other = ⊤
-
--- the step that it names, where it names one, is among so many
-abbrev pub NamesStepBelow : ℕ → KeptNode → Type 0
-NamesStepBelow n (kept.Apart k) = k < n
-NamesStepBelow n other = ⊤
-
--- what nodes name is there
-pub record NameWhatIsThere (sizes : List BlockSize) (apart : List TextStep) (nodes : List KeptNode) : Type 0 where
-  pub blocks : All (NamesBlockBelow (length sizes)) nodes
-  pub steps : All (NamesStepBelow (length apart)) nodes

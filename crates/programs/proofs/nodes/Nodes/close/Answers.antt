@@ -1,5 +1,4 @@
 use Rattle.std.proofs.Common.{◌≡◌, List, [], ◌∷◌, ◌++◌, set, ap, ap₂, ◌∙◌, arith}
-use Rattle.programs.specs.declared.kept_node.BlockSize.{BlockSize}
 use Rattle.programs.specs.declared.kept_node.KeptNode.{KeptNode}
 use Rattle.programs.specs.declared.kept_node.KeptNode.TheVariants as kept
 use Rattle.programs.specs.declared.node.Node.{Node}
@@ -11,7 +10,6 @@ use Rattle.programs.proofs.nodes.Nodes.close.Goals as goal
 pub returns-clause-ok : goal.returns-clause-ok
 returns-clause-ok g c =
     let sizes = c.self.inside.sizes.items in
-    let apart = c.self.inside.apart.items in
     let nodes = c.self.inside.kept.items in
     let start = c.args.start in
     let size = c.args.size in
@@ -20,6 +18,6 @@ returns-clause-ok g c =
     let kept_are : c.push_reserved-2.new.self.items ≡ set nodes start (kept.Open b) ++ kept.Close b ∷ [] =
     c.push_reserved-2.ensures.items
     ∙ ap (λ (ns : List KeptNode). set ns start (kept.Open b) ++ kept.Close b ∷ []) c.reserve-2.ensures.items in
-    ap₂ (λ (ss : List BlockSize) (ns : List KeptNode). nodes_in ss apart ns) sizes_are kept_are
-    ∙ nodes_closed sizes apart nodes start b size (omega (arith, c.in_ok-block.ensures, c.len.ensures)) c.self.invariant
+    ap₂ nodes_in sizes_are kept_are
+    ∙ nodes_closed sizes nodes start b size (omega (arith, c.in_ok-block.ensures, c.len.ensures)) c.self.invariant
     ∙ ap (λ (ns : List Node). set ns start (Open size.turns size.length) ++ Close size.turns size.length ∷ []) c.self.view_is

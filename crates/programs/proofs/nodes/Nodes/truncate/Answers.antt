@@ -6,7 +6,6 @@ use Rattle.programs.proofs.nodes.Nodes.truncate.Goals as goal
 pub returns : goal.returns
 returns g c =
     let sizes = c.self.inside.sizes.items in
-    let apart = c.self.inside.apart.items in
-    ap (nodes_in sizes apart) c.truncate.ensures.items
-    ∙ sym (take-map (node_of sizes apart) c.args.count c.self.inside.kept.items)
+    ap (nodes_in sizes) c.truncate.ensures.items
+    ∙ sym (take-map (node_of sizes) c.args.count c.self.inside.kept.items)
     ∙ ap (take c.args.count) c.self.view_is

@@ -1,0 +1,50 @@
+ghost use Rattle.std.specs.Prelude.{◌≡◌};
+
+use std::marker::Model;
+
+/// One more than the greatest half.
+const HALF: u64 = 0x1_0000_0000;
+
+/// A number of 64 bits in two halves. It needs only the alignment of a half, so types that have one need less padding.
+#[derive(Clone, Copy, Debug, PartialEq, Eq)]
+pub struct Number {
+    high: u32,
+    low: u32,
+}
+
+impl Model for Number {
+    ghost use Rattle.std.specs.Prelude.{ℕ};
+
+    ghost Value = { ℕ };
+
+    ghost use Rattle.stim_parser.specs.private.Halves.{HasHalves, halves_of, halves_of-joined, joined};
+
+    ghost view = { joined };
+
+    ghost invariant = { HasHalves };
+
+    ghost inverse = { halves_of };
+
+    ghost inverse_ok = { halves_of-joined };
+}
+
+impl Number {
+    /// The number in its halves.
+    #[inline(always)]
+    pub fn new(number: u64) -> Self
+        ensures { result ≡ number }
+    {
+        Number {
+            high: (number / HALF) as u32,
+            low: (number % HALF) as u32,
+        }
+    }
+
+    /// The number as one.
+    #[inline(always)]
+    pub fn value(self) -> u64
+        ensures { result ≡ self }
+    {
+        self.high as u64 * HALF + self.low as u64
+    }
+}
