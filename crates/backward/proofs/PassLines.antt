@@ -19,9 +19,9 @@ use Rattle.step_model.proofs.HitSteps.{NamesFew, Nothing, One_fault, earlier, fi
 use Rattle.error_models.specs.ModelText.{line_text}
 use Rattle.backward.specs.private.Passes.{sensitivity_before, tracked_before, listing_set, listing_at}
 use Rattle.backward.specs.private.Stretches.{line_for, hit_at, line_at, first_lines, lines_at, lines_between, text_between}
-use Rattle.backward.specs.Tracked.{anticommuting}
+use Rattle.trackers.specs.Tracked.{anticommuting}
 use Rattle.backward.proofs.PassWords.{words_count, words_at}
-use Rattle.backward.proofs.RangeLemmas.{filter_range_agree}
+use Rattle.trackers.proofs.RangeLemmas.{filter_range_agree}
 
 abbrev target_count : Listing → ℕ
 target_count program = length (targets_of program)

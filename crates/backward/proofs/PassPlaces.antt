@@ -18,12 +18,12 @@ use Rattle.step_model.specs.Targets.{targets_of, target_at}
 use Rattle.step_model.specs.WellFormed.{step_fits}
 use Rattle.backward.specs.private.Collapses.{or_where, noted}
 use Rattle.backward.specs.private.Passes.{sensitivity_before, tracked_before, latest_before, lowest_below, opened}
-use Rattle.backward.specs.Tracked.{Tracked, is_among, anticommuting}
+use Rattle.trackers.specs.Tracked.{Tracked, is_among, anticommuting}
 use Rattle.backward.proofs.PassLines.{anticommuting-before}
 use Rattle.step_model.proofs.RangeLemmas.{among_range}
-use Rattle.backward.proofs.RangeLemmas.{All-range}
+use Rattle.trackers.proofs.RangeLemmas.{All-range}
 use Rattle.backward.proofs.Sensitivities.{length-sensitivity}
-use Rattle.backward.proofs.WordLemmas.{one_term}
+use Rattle.trackers.proofs.WordLemmas.{one_term}
 
 abbrev target_count : Listing → ℕ
 target_count program = length (targets_of program)

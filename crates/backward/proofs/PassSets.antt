@@ -11,10 +11,11 @@ use Rattle.pauli_word.specs.Words.{anticommute}
 use Rattle.pauli_word.proofs.Parities.{exclusive_or-false, exclusive_or_assoc, exclusive_or_left_comm}
 use Rattle.step_model.specs.Listing.{Listing, ListedStep, Feedback}
 use Rattle.step_model.specs.Targets.{targets_of, target_at, is_listed}
-use Rattle.backward.specs.private.Collapses.{toggled, toggled_each}
+use Rattle.backward.specs.private.Collapses.{toggled_each}
+use Rattle.trackers.specs.TargetSets.{toggled}
 use Rattle.backward.specs.private.Passes.{sensitivity_before, listing_set, listing_sets}
 use Rattle.backward.specs.private.RecordSets.{toggled_in, toggled_in_each}
-use Rattle.backward.proofs.RangeLemmas.{listed_in_range, map_agree, map_range_below}
+use Rattle.trackers.proofs.RangeLemmas.{listed_in_range, map_agree, map_range_below}
 
 and_same : (a b : Bool) → b ≡ true → a ≡ (a && b)
 and_same false b h = refl
@@ -226,13 +227,6 @@ listing_below-all program =
     (λ r. map_range_below (listed_below program (target_count program) r) (λ d. is_listed (target_at program d) r) 0 (target_count program)
     (λ d lt. ap (λ b. b && is_listed (target_at program d) r) (lt-ltb d (target_count program) (omega (arith, lt)))))
     (range_with_len 0 program.records)
-
--- ---- what a loop over the targets needs
-pub records_within : (program : Listing) (t : ℕ) (named places : List ℕ) → All (All (λ r. r < program.records)) (targets_of program) → t < length (targets_of program) → named ≡ target_at program t → length places ≡ program.records → All (λ r. r < length places) named
-records_within program t named places all h is e k d lt =
-    let fits : All (λ r. r < program.records) named = subst (All (λ r. r < program.records)) (sym is) (all t [] h) in
-    let low = fits k d lt in
-    omega (arith, low, e)
 
 -- ---- sizes
 pub length-listing_set : (program : Listing) (steps : List ListedStep) (r : ℕ) → length (listing_set program steps r) ≡ length (targets_of program)

@@ -25,13 +25,13 @@ use Rattle.backward.specs.declared.found.Found.{Found}
 use Rattle.backward.specs.private.Collapses.{undone_collapse, members_at, noted, toggled_each}
 use Rattle.backward.specs.private.Passes.{HoldsLists, IsCollapseAt, IsFeedbackAt, IsJudged, IsMeasured, IsPassed, IsStepAt, latest_before, listing_at, opened, records_before, sensitivity_before, tracked_before}
 use Rattle.backward.specs.private.Stretches.{Gives, first_lines, flip_line, line_at, line_for, lines_at}
-use Rattle.backward.specs.Tracked.{Tracked, each_word, undone_one, undone_two, anticommuting}
+use Rattle.trackers.specs.Tracked.{Tracked, each_word, undone_one, undone_two, anticommuting}
 use Rattle.backward.proofs.PassLines.{anticommuting-before, hit_at-collapse, hit_at-fault}
 use Rattle.backward.proofs.PassPlaces.{latest_before-collapse, length-latest_before}
 use Rattle.backward.proofs.PassRecords.{holds-fed, holds-over, listed_there, record_there, records_before-back, settled-at}
 use Rattle.backward.proofs.PassWords.{recorded_number, words_count, tracked_before-one, tracked_before-two, tracked_before-collapse}
-use Rattle.backward.proofs.RangeLemmas.{map_agree}
-use Rattle.backward.proofs.WordLemmas.{word_of_one_term}
+use Rattle.trackers.proofs.RangeLemmas.{map_agree}
+use Rattle.trackers.proofs.WordLemmas.{word_of_one_term}
 
 -- ---- a step of a walk
 stepped : (steps : List ListedStep) (place : ℕ) (step : ListedStep) → Some step ≡ (if place == 0 then None else slice_get steps (place - 1)) → drop (place - 1) steps ≡ step ∷ drop (place - 1 + 1) steps

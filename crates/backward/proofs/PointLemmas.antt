@@ -9,7 +9,7 @@ use Rattle.programs.specs.Kept.{KeptProgram}
 use Rattle.backward.specs.declared.found.Found.{Found}
 use Rattle.backward.specs.declared.point.KeptPoint.{KeptPoint}
 use Rattle.backward.specs.declared.point.Point.{Point}
-use Rattle.backward.specs.Tracked.{Tracked}
+use Rattle.trackers.specs.Tracked.{Tracked}
 use Rattle.backward.specs.private.Passes.{IsPassed, Stays, tracked_before}
 use Rattle.backward.specs.private.Points.{ArePoints, IsLeft, IsPointOf, Keeps, first_place}
 

@@ -18,11 +18,11 @@ use Rattle.streams.proofs.Pushing.{Pushes-trans}
 use Rattle.backward.specs.declared.found.Found.{Found}
 use Rattle.backward.specs.declared.point.KeptPoint.{KeptPoint}
 use Rattle.backward.specs.declared.point.Point.{Point}
-use Rattle.backward.specs.Tracked.{Tracked, Fit, restored}
+use Rattle.trackers.specs.Tracked.{Tracked, Fit, restored}
 use Rattle.backward.specs.private.Passes.{HoldsLists, IsJudged, IsPassed, records_before, sensitivity_before, tracked_before}
 use Rattle.backward.specs.private.Points.{IsFor, IsPointOf, IsReady, PushesSome, first_place}
 use Rattle.backward.specs.private.Stretches.{text_between}
-use Rattle.backward.proofs.KeptLemmas.{fit_alike, restored_alike}
+use Rattle.trackers.proofs.KeptLemmas.{fit_alike, restored_alike}
 use Rattle.backward.proofs.PassLines.{lines_between-all, lines_between-none, text_between-parts}
 use Rattle.backward.proofs.PassRecords.{records_before-earlier, settled-at, settled-first}
 use Rattle.backward.proofs.PassSteps.{holds_same}

@@ -5,7 +5,4 @@ pub mod Numbered
 pub mod Passes
 pub mod Points
 pub mod RecordSets
-pub mod Sets
 pub mod Stretches
-pub mod TargetSets
-pub mod Transposed

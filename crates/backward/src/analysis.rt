@@ -4,7 +4,7 @@ ghost use Rattle.step_model.specs.Faults.{memory_fault};
 ghost use Rattle.step_model.specs.HitModels.{model_of};
 ghost use Rattle.step_model.specs.Targets.{targets_of};
 ghost use Rattle.backward.specs.Places.{IsAnalysed};
-ghost use Rattle.backward.specs.Tracked.{fresh};
+ghost use Rattle.trackers.specs.Tracked.{fresh};
 ghost use Rattle.backward.specs.private.Passes.{IsPassed};
 
 use crate::found::Found;
@@ -12,12 +12,12 @@ use crate::line_store::ModelStore;
 use crate::pass::step_back;
 use crate::places::random_target;
 use crate::point::Point;
-use crate::tracker::Tracker;
 use error_models::Model;
 use flat_lists::FlatLists;
 use programs::{Program, Walk};
 use std::alloc::{AllocError, Allocator};
 use step_model::{Fault, Place};
+use trackers::Tracker;
 
 /// What an analysis answers.
 #[derive(Drop)]

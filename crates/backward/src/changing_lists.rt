@@ -3,7 +3,7 @@ ghost use Rattle.std.specs.Prelude.{◌≡◌, ◌<◌, ◌≤◌, ◌^◌, ℕ,
 ghost use Rattle.backward.specs.private.Apart.{with_apart, AreToggled, IsApart};
 ghost use Rattle.backward.specs.private.Collapses.{toggled_each};
 ghost use Rattle.backward.specs.private.Passes.{listing_sets};
-ghost use Rattle.backward.specs.private.TargetSets.{members};
+ghost use Rattle.trackers.specs.TargetSets.{members};
 
 use crate::record_lists::RecordLists;
 use programs::Program;

@@ -3,9 +3,9 @@ ghost use Rattle.std.specs.Prelude.{◌≡◌, ◌<◌, length, All, OnOk, IfSom
 ghost use Rattle.std.specs.List.Sorted.{IsStrictlyIncreasing};
 ghost use Rattle.backward.specs.private.Collapses.{times_terms, reset_at, undone_collapse};
 
-use crate::tracker::Tracker;
 use std::alloc::AllocError;
 use step_model::Term;
+use trackers::Tracker;
 
 /// Puts I at the qubit that is reset, where one is, and then multiplies the words of the targets that list the record
 /// by the product that is measured.

@@ -2,16 +2,16 @@
 ghost use Rattle.std.specs.Prelude.{◌≡◌, ◌==◌, ◌-◌, ◌<◌, ◌≤◌, ◌^◌, ℕ, false, true, not, length, All, IfOk, IfSome, OnOk};
 ghost use Rattle.step_model.specs.Listing.{Listing};
 ghost use Rattle.step_model.specs.Targets.{targets_of};
-ghost use Rattle.backward.specs.Tracked.{anticommuting, fresh};
+ghost use Rattle.trackers.specs.Tracked.{anticommuting, fresh};
 ghost use Rattle.backward.specs.private.Collapses.{members_at, noted};
 ghost use Rattle.backward.specs.private.Passes.{HoldsLists, IsPassed, opened, records_before};
 
 use crate::changing_lists::ChangingLists;
 use crate::places::note;
-use crate::tracker::Tracker;
 use programs::Program;
 use std::alloc::{AllocError, Allocator};
 use step_model::Term;
+use trackers::Tracker;
 
 /// The targets that list each record, and where targets are random. A collapse is the projective measurement inside a
 /// measurement or a reset.

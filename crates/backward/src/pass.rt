@@ -14,10 +14,10 @@ use crate::found::Found;
 use crate::line_store::LineStore;
 use crate::point::Point;
 use crate::targets::target_count;
-use crate::tracker::Tracker;
 use programs::{FaultName, Program, Step};
 use std::alloc::{AllocError, Allocator};
 use step_model::Term;
+use trackers::Tracker;
 
 /// Goes back over the step before a point, which there is.
 pub(crate) fn step_back<'s, 'p, 'a, A: Allocator + Copy, T: Tracker, L: LineStore>(

@@ -7,11 +7,11 @@ ghost use Rattle.backward.specs.Places.{IsLowestRandom, NoneIsRandom, place_from
 
 use crate::found::Found;
 use crate::targets::target_count;
-use crate::tracker::Tracker;
 use pauli_word::Letter;
 use programs::Program;
 use std::alloc::{AllocError, Allocator};
 use step_model::{Place, Term};
+use trackers::Tracker;
 
 /// Notes this number for those of these targets, of `targets`, that have none yet. The list is empty until one has.
 pub(crate) fn note<A: Allocator + Copy>(

@@ -1,12 +1,12 @@
 //! A place between two steps of a program, with the words there.
 ghost use Rattle.std.specs.Prelude.{◌≡◌, IfOk, OnOk};
-ghost use Rattle.backward.specs.Tracked.{Fit, restored};
+ghost use Rattle.trackers.specs.Tracked.{Fit, restored};
 ghost use Rattle.backward.specs.private.Points.{Keeps};
 
-use crate::tracker::Tracker;
 use flat_lists::FlatLists;
 use programs::Walk;
 use std::alloc::{AllocError, Allocator};
+use trackers::Tracker;
 
 /// A walk, and a tracker whose words are taken back to its place.
 #[derive(Drop)]

@@ -7,9 +7,9 @@ use crate::found::Found;
 use crate::line_store::NoLines;
 use crate::pass::step_back;
 use crate::point::{KeptPoint, Point};
-use crate::tracker::Tracker;
 use programs::Program;
 use std::alloc::{AllocError, Allocator};
+use trackers::Tracker;
 
 /// Goes back to `from`, finds no lines, and leaves points on the way: one where it begins, and further ones `distance`
 /// steps apart.

@@ -1,18 +1,17 @@
 //! For each record the targets that list it, as linked lists: most records have none or few.
-ghost use Rattle.std.specs.Prelude.{◌≡◌, ◌<◌, ◌≤◌, ◌+◌, ◌-◌, ◌∷◌, ◌^◌, ℕ, [], true, false, length, replicate, sum_by, slice_index_or, slice_set, All, IfOk, IsPermutation, OnOk};
+ghost use Rattle.std.specs.Prelude.{◌≡◌, ◌<◌, ◌≤◌, ◌+◌, ◌-◌, ◌∷◌, ◌^◌, ℕ, [], true, false, length, replicate, sum_by, slice_index_or, slice_set, All, IfOk, OnOk};
 ghost use Rattle.step_model.specs.Targets.{targets_of};
 ghost use Rattle.backward.specs.private.Collapses.{toggled_each};
 ghost use Rattle.backward.specs.private.Links.{list_at, rows_at, LeadBack, AreLists, Falls, IsGrown, IsPutAt};
 ghost use Rattle.backward.specs.private.Passes.{listing_sets};
 ghost use Rattle.backward.specs.private.RecordSets.{toggled_in_each};
-ghost use Rattle.backward.specs.private.TargetSets.{members};
+ghost use Rattle.trackers.specs.TargetSets.{members};
 
-use crate::sparse_set::SparseSet;
-use crate::target_set::{TargetSet, toggle_each};
-use crate::targets::{target, target_count};
+use crate::targets::target_count;
 use programs::Program;
 use std::alloc::{AllocError, Allocator};
 use std::marker::Model;
+use trackers::{SparseSet, TargetSet, make_set};
 
 /// A target in a list, and the place of the rest of the list.
 #[derive(Clone, Copy, Drop)]
@@ -75,7 +74,7 @@ impl<'s, A: Allocator + Copy> RecordLists<'s, A> {
         let mut places = Vec::from_elem(*alloc, 0, program.record_count() as usize)?;
         // From the least up, so that lists descend.
         for t in 0..targets {
-            put_in_each(&mut links, &mut places, target(program, t), t as u32)?;
+            put_in_each(&mut links, &mut places, program.target(t), t as u32)?;
         }
         let many = many_links(links.len(), places.len());
         Ok(RecordLists {
@@ -124,9 +123,10 @@ impl<'s, A: Allocator + Copy> RecordLists<'s, A> {
             into.reverse();
             return Ok(());
         }
-        put_falling(into);
+        // Sorted, since a set is made fast of targets that ascend.
+        into.sort_unstable();
         let mut set = SparseSet::none(self.alloc, self.targets);
-        toggle_each(&mut set, into.as_slice())?;
+        make_set(&mut set, into.as_slice())?;
         set.list(into)
     }
 
@@ -229,7 +229,7 @@ fn listed_count<'a, A: Allocator + Copy>(program: &Program<'a, A>) -> usize
 {
     let mut count: usize = 0;
     for t in 0..target_count(program) {
-        count = count.saturating_add(target(program, t).len());
+        count = count.saturating_add(program.target(t).len());
     }
     count
 }
@@ -311,15 +311,6 @@ fn falls(targets: &[u32]) -> bool
         }
     }
     true
-}
-
-// Puts these in descending order: a set that is given them so puts each behind all others, or takes the last out, and
-// moves none.
-fn put_falling<B: Allocator + Copy>(targets: &mut Vec<u32, B>)
-    ensures { IsPermutation targets.old.items targets.new.items }
-{
-    targets.sort_unstable();
-    targets.reverse();
 }
 
 // Puts the targets of a list into `into`, in place of what it held.

@@ -12,12 +12,12 @@ use crate::pass::step_back;
 use crate::point::{KeptPoint, Point};
 use crate::points::leave_points;
 use crate::text_store::TextStore;
-use crate::tracker::Tracker;
 use error_models::HeldText;
 use programs::Program;
 use std::alloc::{AllocError, Allocator};
 use step_model::Sink;
 use streams::Pieces;
+use trackers::Tracker;
 
 /// How many points are left on the way to the start of a stretch, at most.
 const POINTS: usize = 60;

@@ -7,7 +7,7 @@ ghost use Rattle.step_model.specs.Faults.{memory_fault, write_fault};
 ghost use Rattle.step_model.specs.HitModels.{model_of};
 ghost use Rattle.step_model.specs.Targets.{targets_of};
 ghost use Rattle.backward.specs.Places.{IsLowestRandom, NoneIsRandom};
-ghost use Rattle.backward.specs.Tracked.{fresh};
+ghost use Rattle.trackers.specs.Tracked.{fresh};
 ghost use Rattle.backward.specs.private.Points.{PushesSome};
 
 use crate::found::Found;
@@ -15,12 +15,12 @@ use crate::places::random_target;
 use crate::point::Point;
 use crate::stretch::{cut, write_parts};
 use crate::text_store::TextStore;
-use crate::tracker::Tracker;
 use error_models::{push_detector, push_observable};
 use programs::{Program, Walk};
 use std::alloc::{AllocError, Allocator};
 use step_model::{Fault, Place, Sink};
 use streams::Pieces;
+use trackers::Tracker;
 
 /// How much text of error lines is held at once. A longer text is found in parts, in a second pass.
 const ROOM: usize = 2 << 20;

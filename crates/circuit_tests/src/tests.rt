@@ -1,2 +1,3 @@
 mod circuits;
 mod sweeps;
+mod words;

@@ -4,7 +4,7 @@ ghost use Rattle.step_model.specs.Ends.{Takes, TakesSome, write_failures};
 ghost use Rattle.step_model.specs.Faults.{memory_fault, write_fault};
 ghost use Rattle.step_model.specs.Targets.{targets_of};
 ghost use Rattle.backward.specs.Places.{IsLowestRandom};
-ghost use Rattle.backward.specs.Tracked.{fresh};
+ghost use Rattle.trackers.specs.Tracked.{fresh};
 ghost use Rattle.engine.specs.declared.order.Status.TheVariants.{Done, Random};
 ghost use Rattle.engine.specs.Headline.{IsExactFor, IsExactIn, IsRandomFor, IsRandomIn};
 ghost use Rattle.engine.specs.Output.{analysis_output, found_in, refused_or};
@@ -109,7 +109,8 @@ fn fresh_words<'s, A: Allocator + Copy>(
         ≡ fresh program.now.listing.qubits (length (targets_of program.now.listing))) }
     ensures err { IfErr result (λ e. e ≡ memory_fault) }
 {
-    Ok(QubitSets::of_program(alloc, program)?)
+    program.well_formed();
+    Ok(QubitSets::new(alloc, program.qubits() as usize, program.target_count())?)
 }
 
 /// The lines of a random target with its place.

@@ -2,7 +2,7 @@
 use Rattle.pauli_word.specs.Parity.{exclusive_or}
 use Rattle.step_model.specs.Targets.{is_listed}
 use Rattle.std.specs.Prelude.{◌≡◌, ◌<◌, ℕ, Bool, List, Option, None, Some, All, IfSome, length, slice_set}
-use Rattle.backward.specs.private.Sets.{row_of_set}
+use Rattle.trackers.specs.TargetSets.{row_of_set}
 
 -- the rows, with that of the record whose set is apart
 abbrev pub with_apart : ℕ → List (List Bool) → Option ℕ → List ℕ → List (List Bool)

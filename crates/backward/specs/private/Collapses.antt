@@ -2,12 +2,12 @@
 -- the places noted, however the words are kept. A collapse is the projective measurement inside a measurement or a
 -- reset. (Sensitivities taken back over a circuit: Gidney, Quantum 5, 497 (2021). How they are kept here is this
 -- project's own.)
-use Rattle.std.specs.Prelude.{◌≡◌, ℕ, Bool, true, false, not, All, length, List, [], ◌∷◌, Option, None, Some, slice_index_or, slice_set}
+use Rattle.std.specs.Prelude.{◌≡◌, ℕ, Bool, true, false, All, length, List, [], ◌∷◌, Option, None, Some, slice_index_or, slice_set}
 use Rattle.step_model.specs.declared.step.Term.{Term}
 use Rattle.step_model.specs.Listing.{Listing}
 use Rattle.step_model.specs.Targets.{targets_of}
-use Rattle.backward.specs.private.TargetSets.{members}
-use Rattle.backward.specs.Tracked.{Tracked, each_word, with_I_at, added}
+use Rattle.trackers.specs.TargetSets.{members, toggled}
+use Rattle.trackers.specs.Tracked.{Tracked, each_word, with_I_at, added}
 
 -- the words of some targets, multiplied by each letter at a qubit
 abbrev pub times_terms : List ℕ → List Term → Tracked → Tracked
@@ -28,10 +28,7 @@ abbrev pub members_at : List (List Bool) → Option ℕ → List ℕ
 members_at sets None = []
 members_at sets (Some r) = members (slice_index_or sets r [])
 
--- a set with a target toggled, and with each of some
-abbrev pub toggled : ℕ → List Bool → List Bool
-toggled t set = slice_set set t (not (slice_index_or set t false))
-
+-- a set with each of some targets toggled
 abbrev pub toggled_each : List ℕ → List Bool → List Bool
 toggled_each [] set = set
 toggled_each (t ∷ ts) set = toggled_each ts (toggled t set)

@@ -11,7 +11,7 @@ use Rattle.backward.specs.declared.found.Found.{Found}
 use Rattle.backward.specs.declared.point.KeptPoint.{KeptPoint}
 use Rattle.backward.specs.declared.point.Point.{Point}
 use Rattle.backward.specs.declared.stretch.Parts.{Parts}
-use Rattle.backward.specs.Tracked.{Tracked, Fit, restored}
+use Rattle.trackers.specs.Tracked.{Tracked, Fit, restored}
 use Rattle.backward.specs.private.Passes.{HoldsLists, records_before, tracked_before}
 use Rattle.backward.specs.private.Stretches.{text_between}
 

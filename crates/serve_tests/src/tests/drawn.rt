@@ -13,6 +13,7 @@ mod randoms;
 mod runs;
 mod served;
 mod shots;
+mod words;
 
 use analyses::finding_of;
 use circuits::draw;

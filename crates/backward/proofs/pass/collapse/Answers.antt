@@ -6,9 +6,9 @@ use Rattle.programs.specs.Listed.{recorded}
 use Rattle.backward.specs.private.Collapses.{members_at, noted, undone_collapse}
 use Rattle.backward.specs.private.Passes.{IsJudged, opened}
 use Rattle.backward.specs.private.Stretches.{Gives}
-use Rattle.backward.specs.Tracked.{anticommuting}
+use Rattle.trackers.specs.Tracked.{anticommuting}
 use Rattle.backward.proofs.PassSteps.{collapse_is_left, collapse_judged, collapse_keeps, collapse_line, collapse_lists, collapse_words, holds_same, latest_of_size, words_of_size}
-use Rattle.backward.proofs.RangeLemmas.{members_at-ascend, members_at-within, record_has_set, record_named}
+use Rattle.backward.proofs.RecordMembers.{members_at-ascend, members_at-within, record_has_set, record_named}
 use Rattle.backward.proofs.pass.collapse.Goals as goal
 
 pub judge-requires-clause-words : goal.judge-requires-clause-words

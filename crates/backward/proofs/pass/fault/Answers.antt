@@ -4,7 +4,7 @@ use Rattle.std.proofs.lemmas.Result.{on_ok_weaker}
 use Rattle.programs.specs.Kept.{kept_at}
 use Rattle.step_model.specs.Targets.{targets_of}
 use Rattle.backward.specs.private.Stretches.{Gives, line_for}
-use Rattle.backward.specs.Tracked.{anticommuting}
+use Rattle.trackers.specs.Tracked.{anticommuting}
 use Rattle.backward.proofs.PassPlaces.{hit_in_range}
 use Rattle.backward.proofs.PassSteps.{fault_line, passed-fault, words_of_size}
 use Rattle.backward.proofs.pass.fault.Goals as goal

@@ -5,7 +5,7 @@ use Rattle.step_model.specs.declared.step.Term.{Term}
 use Rattle.step_model.specs.Targets.{targets_of}
 use Rattle.backward.specs.private.Collapses.{noted}
 use Rattle.backward.specs.private.Passes.{lowest_below, opened, tracked_before}
-use Rattle.backward.specs.Tracked.{anticommuting}
+use Rattle.trackers.specs.Tracked.{anticommuting}
 use Rattle.backward.proofs.PassPlaces.{lowest_below-none, lowest_below-more, length-lowest_below, hit_in_range}
 use Rattle.backward.proofs.PassWords.{words_count}
 use Rattle.backward.proofs.places.lowest_at_start.Goals as goal

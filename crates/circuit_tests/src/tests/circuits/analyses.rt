@@ -3,7 +3,8 @@
 use super::are_digits;
 use super::runs::differences;
 use super::table::text_of;
-use backward::{Analysed, DenseWords, QubitSets, analyse};
+use crate::tests::words::{dense_words, sparse_words};
+use backward::{Analysed, analyse};
 use frames::coin_pair;
 use plain_runs::place_of;
 use programs::Program;
@@ -38,7 +39,7 @@ pub(super) fn by_dense<'p>(
     alloc: Global,
     program: &Program<'p, Global>,
 ) -> Result<Analysed<'p, Global>, Fail> {
-    Ok(analyse(alloc, program, DenseWords::of_program(alloc, program)?)?)
+    Ok(analyse(alloc, program, dense_words(alloc, program)?)?)
 }
 
 /// The analysis by lists of targets.
@@ -46,7 +47,7 @@ pub(super) fn by_sparse<'p>(
     alloc: &Global,
     program: &Program<'p, Global>,
 ) -> Result<Analysed<'p, Global>, Fail> {
-    Ok(analyse(*alloc, program, QubitSets::of_program(alloc, program)?)?)
+    Ok(analyse(*alloc, program, sparse_words(alloc, program)?)?)
 }
 
 fn answer_holds(

@@ -1,5 +1,6 @@
 //! The text of an error model, written in parts to a device that fails at one of its calls.
-use backward::{QubitSets, write_in_parts};
+use crate::tests::words::sparse_words;
+use backward::write_in_parts;
 use programs::Program;
 use std::alloc::{AllocError, Global};
 use std::io::{Error, ErrorKind, Write};
@@ -60,7 +61,7 @@ fn write_to(
     room: usize,
     sink: &mut WriterSink<Device>,
 ) -> Answer {
-    match QubitSets::of_program(&alloc, program) {
+    match sparse_words(&alloc, program) {
         Ok(words) => write_in_parts(alloc, program, words, room, sink),
         Err(_) => Err(Fault::MEMORY),
     }

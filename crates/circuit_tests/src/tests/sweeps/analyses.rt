@@ -1,7 +1,8 @@
 //! Analyses of a program, and frames.
 use super::growths::{Call, Memory, Ration, sweep};
 use super::lent::{Lent, are_false, identity_of};
-use backward::{Analysed, DenseWords, QubitSets, analyse, write_analysis, write_in_parts};
+use crate::tests::words::{dense_words, sparse_words};
+use backward::{Analysed, analyse, write_analysis, write_in_parts};
 use frames::{coin_pair, flips};
 use programs::Program;
 use std::test::Fail;
@@ -57,7 +58,7 @@ fn sparse_is_right<'m>(
     ration: Ration<'m>,
     program: &Program<'_, Memory<'m>>,
 ) -> Result<bool, Fault> {
-    match QubitSets::of_program(&ration.memory, program) {
+    match sparse_words(&ration.memory, program) {
         Ok(words) => Ok(is_model(&analyse(ration.begin(), program, words)?)),
         Err(_) => Err(Fault::MEMORY),
     }
@@ -67,7 +68,7 @@ fn dense_is_right<'m>(
     ration: Ration<'m>,
     program: &Program<'_, Memory<'m>>,
 ) -> Result<bool, Fault> {
-    match DenseWords::of_program(ration.memory, program) {
+    match dense_words(ration.memory, program) {
         Ok(words) => Ok(is_model(&analyse(ration.begin(), program, words)?)),
         Err(_) => Err(Fault::MEMORY),
     }
@@ -100,7 +101,7 @@ fn is_text(answer: Result<Option<(u32, Place)>, Fault>, bytes: &[u8]) -> Result<
 }
 
 fn text_is_right<'m>(ration: Ration<'m>, program: &Program<'_, Memory<'m>>) -> Result<bool, Fault> {
-    let Ok(words) = QubitSets::of_program(&ration.memory, program) else {
+    let Ok(words) = sparse_words(&ration.memory, program) else {
         return Err(Fault::MEMORY);
     };
     let mut sink = MemorySink::new(ration.alloc);
@@ -113,7 +114,7 @@ fn parts_are_right<'m>(
     ration: Ration<'m>,
     program: &Program<'_, Memory<'m>>,
 ) -> Result<bool, Fault> {
-    let Ok(words) = QubitSets::of_program(&ration.memory, program) else {
+    let Ok(words) = sparse_words(&ration.memory, program) else {
         return Err(Fault::MEMORY);
     };
     let mut sink = MemorySink::new(ration.alloc);

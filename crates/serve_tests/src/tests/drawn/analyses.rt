@@ -4,8 +4,9 @@ use super::drawing::Drawing;
 use super::models::model_holds;
 use super::parts::parts_hold;
 use super::randoms::random_holds;
+use super::words::{dense_words, sparse_words};
 use super::{Finding, Tally};
-use backward::{Analysed, DenseWords, QubitSets, analyse};
+use backward::{Analysed, analyse};
 use programs::Program;
 use std::alloc::Global;
 use step_model::{Fault, Place};
@@ -48,7 +49,7 @@ fn analyse_dense<'a>(
     alloc: Global,
     program: &Program<'a, Global>,
 ) -> Result<Analysed<'a, Global>, Fault> {
-    match DenseWords::of_program(alloc, program) {
+    match dense_words(alloc, program) {
         Ok(words) => analyse(alloc, program, words),
         Err(_) => Err(Fault::MEMORY),
     }
@@ -67,7 +68,7 @@ fn analyse_sparse<'a>(
     alloc: &Global,
     program: &Program<'a, Global>,
 ) -> Result<Analysed<'a, Global>, Fault> {
-    match QubitSets::of_program(alloc, program) {
+    match sparse_words(alloc, program) {
         Ok(words) => analyse(*alloc, program, words),
         Err(_) => Err(Fault::MEMORY),
     }

@@ -1,6 +1,7 @@
 //! The analysis of a drawn text's program that is written in parts, by both trackers.
 
-use backward::{Analysed, DenseWords, QubitSets, write_in_parts};
+use super::words::{dense_words, sparse_words};
+use backward::{Analysed, write_in_parts};
 use error_models::Model;
 use programs::Program;
 use std::alloc::Global;
@@ -56,7 +57,7 @@ fn writes_by_sparse(
     random: Option<(u32, Place)>,
     text: &[u8],
 ) -> Result<bool, Fault> {
-    let Ok(words) = QubitSets::of_program(&alloc, program) else {
+    let Ok(words) = sparse_words(&alloc, program) else {
         return Err(Fault::MEMORY);
     };
     let mut sink = MemorySink::new(alloc);
@@ -71,7 +72,7 @@ fn writes_by_dense(
     random: Option<(u32, Place)>,
     text: &[u8],
 ) -> Result<bool, Fault> {
-    let Ok(words) = DenseWords::of_program(alloc, program) else {
+    let Ok(words) = dense_words(alloc, program) else {
         return Err(Fault::MEMORY);
     };
     let mut sink = MemorySink::new(alloc);

@@ -3,9 +3,9 @@ use Rattle.std.specs.Prelude.{All, replicate}
 use Rattle.std.proofs.lemmas.Bool.{cases_eq}
 use Rattle.std.proofs.lemmas.List.{ext_get_or, get_or-replicate, get_or-set_other, get_or-set_same, length-map, length-replicate}
 use Rattle.backward.specs.private.Links.{list_at}
-use Rattle.backward.specs.private.Sets.{row_of_set}
+use Rattle.trackers.specs.TargetSets.{row_of_set}
 use Rattle.backward.proofs.LinkLemmas.{rows_of_length, put_members}
-use Rattle.backward.proofs.RangeLemmas.{members_within}
+use Rattle.trackers.proofs.RangeLemmas.{members_within}
 use Rattle.backward.proofs.record_lists.RecordLists.anew.Goals as goal
 
 pub loop-rec-init : goal.loop-rec-init

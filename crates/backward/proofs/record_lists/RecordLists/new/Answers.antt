@@ -1,13 +1,13 @@
-use Rattle.std.proofs.Common.{◌≡◌, [], ℕ, List, length, false, ap, ap₂, subst, sym, ◌∙◌, arith}
-use Rattle.std.specs.Prelude.{replicate}
+use Rattle.std.proofs.Common.{◌≡◌, ◌<◌, [], ℕ, List, length, false, ap, ap₂, subst, sym, ◌∙◌, length-append, arith}
+use Rattle.std.specs.Prelude.{replicate, All}
 use Rattle.std.proofs.lemmas.List.{length-map}
 use Rattle.backward.specs.declared.record_lists.Link.{Link}
 use Rattle.backward.specs.private.Links.{list_at, rows_at, AreLists}
 use Rattle.step_model.specs.Targets.{targets_of}
 use Rattle.backward.specs.private.RecordSets.{toggled_in_each}
-use Rattle.backward.specs.private.Sets.{row_of_set}
+use Rattle.trackers.specs.TargetSets.{row_of_set}
 use Rattle.backward.proofs.LinkLemmas.{no_lists, no_rows}
-use Rattle.backward.proofs.PassSets.{listing_below, length-listing_below, listing_below-none, listing_below-more, listing_below-all, records_within}
+use Rattle.backward.proofs.PassSets.{listing_below, length-listing_below, listing_below-none, listing_below-more, listing_below-all}
 use Rattle.backward.proofs.record_lists.RecordLists.new.Goals as goal
 
 pub loop-t-init : goal.loop-t-init
@@ -26,6 +26,11 @@ loop-t-init g c =
           ∙ (ap (λ (n : ℕ). replicate records (replicate n false)) c.target_count-targets.ensures.count ∙ listing_below-none program));
     }
 
+pub target-requires : goal.target-requires
+target-requires g c =
+    let program = c.args.program.now.listing in
+    omega (arith, c.loop-t-test.true, c.target_count-targets.ensures.count, length-append program.detectors program.observables)
+
 pub put_in_each-requires-clause-named : goal.put_in_each-requires-clause-named
 put_in_each-requires-clause-named g c =
     let program = c.args.program.now.listing in
@@ -34,7 +39,7 @@ put_in_each-requires-clause-named g c =
     let t = c.loop-t.t in
     let long : length places ≡ program.records =
     sym (length-map places (λ k. row_of_set c.target_count-targets.result (list_at links k))) ∙ (ap length c.loop-t.invariant.rows ∙ length-listing_below program t) in
-    records_within program t c.target.result.now places c.target_count-targets.ensures.records (omega (arith, c.loop-t-test.true, c.target_count-targets.ensures.count)) c.target.ensures long
+    subst (λ n. All (λ r. r < n) c.target.result.now) (sym long) c.target.ensures.within
 
 pub loop-t-preserved : goal.loop-t-preserved
 loop-t-preserved g c =
@@ -45,7 +50,7 @@ loop-t-preserved g c =
       lists = c.in_ok-put_in_each.ensures.lists;
       rows =
           c.in_ok-put_in_each.ensures.rows c.target_count-targets.result below
-          ∙ (ap₂ (toggled_in_each t) c.target.ensures c.loop-t.invariant.rows
+          ∙ (ap₂ (toggled_in_each t) c.target.ensures.value c.loop-t.invariant.rows
           ∙ listing_below-more program t (omega (arith, below, c.target_count-targets.ensures.count)));
     }
 

@@ -3,9 +3,9 @@ use Rattle.std.specs.Prelude.{All}
 use Rattle.std.proofs.lemmas.List.{length-map, length-set}
 use Rattle.backward.specs.private.Collapses.{toggled_each}
 use Rattle.backward.specs.private.Links.{list_at}
-use Rattle.backward.specs.private.Sets.{row_of_set}
+use Rattle.trackers.specs.TargetSets.{row_of_set}
 use Rattle.backward.proofs.LinkLemmas.{lists_put, rows_put, row_at, rows_stay_long}
-use Rattle.backward.proofs.SetLemmas.{length-row_of_set}
+use Rattle.trackers.proofs.SetLemmas.{length-row_of_set}
 use Rattle.backward.proofs.record_lists.RecordLists.put.Goals as goal
 
 pub invariant_of-self-2 : goal.invariant_of-self-2

@@ -1,0 +1,65 @@
+-- Gates that put at each of two qubits an image of the letters at the other.
+use Rattle.std.proofs.Common.{◌≡◌, ◌≢◌, ℕ, ◌<◌, List, [], map, length, get_or, set, refl, ap, ap₂, sym, ◌∙◌, arith}
+use Rattle.std.proofs.lemmas.List.{get_or-map, set-set, set_comm}
+use Rattle.gate_table.specs.declared.gate.Gate.{Gate}
+use Rattle.gate_table.specs.Images.{image2, inverse_of}
+use Rattle.pauli_word.specs.declared.letter.Letter.{Letter}
+use Rattle.pauli_word.specs.declared.letter.Letter.TheVariants.{I, X, Y, Z}
+use Rattle.pauli_word.specs.Letters.{letter_product}
+use Rattle.pauli_word.specs.Words.{letter_at}
+use Rattle.pauli_word.proofs.LetterLaws.{letter_product-I, letter_product_comm}
+use Rattle.trackers.specs.Tracked.{each_word, undone_two}
+use Rattle.trackers.specs.private.Transposed.{combined, exchanged_at, exchanged_columns, tracked_of}
+use Rattle.trackers.proofs.TransposedLemmas.{image2_combined, tracked_set_two}
+
+-- ---- lists
+
+-- two elements written twice
+pub written_over : {A : Type 0} (l : List A) (a b : ℕ) (u v x y : A) → a ≢ b → set (set (set (set l a u) b v) a x) b y ≡ set (set l a x) b y
+written_over l a b u v x y different =
+    ap (λ m. set m b y)
+    (ap (λ m. set m a x) (set_comm l a b u v different)
+    ∙ (set-set (set l b v) a u x ∙ sym (set_comm l a b x v different)))
+    ∙ set-set (set l a x) b v y
+
+-- ---- words
+pub tracked_exchanged : (m : ℕ) (columns : List (List Letter)) (a b : ℕ) (to_first to_second : Letter × Letter) → a < length columns → b < length columns → length (get_or columns a []) ≡ m → length (get_or columns b []) ≡ m
+    → tracked_of m (exchanged_columns a b to_first to_second columns) ≡ each_word (exchanged_at a b to_first to_second) (tracked_of m columns)
+tracked_exchanged m columns a b to_first to_second ha hb la lb =
+    tracked_set_two m columns a b (map (combined to_first.0 to_first.1) (get_or columns b [])) (map (combined to_second.0 to_second.1) (get_or columns a []))
+    (λ x y. combined to_first.0 to_first.1 y)
+    (λ x y. combined to_second.0 to_second.1 x)
+    ha hb
+    (λ t lt. get_or-map (combined to_first.0 to_first.1) (get_or columns b []) t I I (omega (arith, lt, lb)))
+    (λ t lt. get_or-map (combined to_second.0 to_second.1) (get_or columns a []) t I I (omega (arith, lt, la)))
+
+-- ---- gates
+left-letter : (a : Letter) → combined I I a ≡ I
+left-letter I = refl
+left-letter X = refl
+left-letter Y = refl
+left-letter Z = refl
+
+first_image : (g : Gate) (a b : Letter) → (image2 g X I).0 ≡ I → (image2 g Z I).0 ≡ I → (image2 g a b).0 ≡ combined (image2 g I X).0 (image2 g I Z).0 b
+first_image g a b x z =
+    (image2_combined g a b).0
+    ∙ (ap (λ c. letter_product c (combined (image2 g I X).0 (image2 g I Z).0 b)) (ap₂ (λ p q. combined p q a) x z ∙ left-letter a)
+    ∙ (letter_product_comm I (combined (image2 g I X).0 (image2 g I Z).0 b) ∙ letter_product-I (combined (image2 g I X).0 (image2 g I Z).0 b)))
+
+second_image : (g : Gate) (a b : Letter) → (image2 g I X).1 ≡ I → (image2 g I Z).1 ≡ I → (image2 g a b).1 ≡ combined (image2 g X I).1 (image2 g Z I).1 a
+second_image g a b x z =
+    (image2_combined g a b).1
+    ∙ (ap (letter_product (combined (image2 g X I).1 (image2 g Z I).1 a)) (ap₂ (λ p q. combined p q b) x z ∙ left-letter b)
+    ∙ letter_product-I (combined (image2 g X I).1 (image2 g Z I).1 a))
+
+-- a gate that leaves nothing of X and Z at their own qubit
+pub undone-exchanged : (g : Gate) (a b : ℕ) (to_first to_second : Letter × Letter) (w : List Letter)
+    → (image2 (inverse_of g) X I).0 ≡ I → (image2 (inverse_of g) Z I).0 ≡ I → (image2 (inverse_of g) I X).1 ≡ I → (image2 (inverse_of g) I Z).1 ≡ I
+    → to_first ≡ ((image2 (inverse_of g) I X).0, (image2 (inverse_of g) I Z).0) → to_second ≡ ((image2 (inverse_of g) X I).1, (image2 (inverse_of g) Z I).1)
+    → exchanged_at a b to_first to_second w ≡ undone_two g a b w
+undone-exchanged g a b to_first to_second w xa za xb zb e f =
+    let h = inverse_of g in
+    let u = letter_at w a in
+    let v = letter_at w b in
+    ap₂ (λ (p q : Letter × Letter). exchanged_at a b p q w) e f
+    ∙ ap₂ (λ c d. set (set w a c) b d) (sym (first_image h u v xa za)) (sym (second_image h u v xb zb))

@@ -1,0 +1,12 @@
+pub mod ColumnLemmas
+pub mod ExchangeLemmas
+pub mod KeptLemmas
+pub mod LoneTerms
+pub mod MultiplyLemmas
+mod PairLemmas
+pub mod RangeLemmas
+pub mod SetLemmas
+mod TimesAll
+mod TimesEach
+pub mod TransposedLemmas
+pub mod WordLemmas

@@ -1,0 +1,47 @@
+-- Two columns of a list that is written through its two parts.
+use Rattle.std.proofs.Common.{◌≡◌, ℕ, ◌+◌, ◌-◌, ◌<◌, List, [], ◌++◌, Result, Ok, Err, OnOk, length, map, take, drop, set, get_or, ap, ap₂, sym, ◌∙◌, arith, length-set}
+use Rattle.std.specs.Prelude.{All}
+use Rattle.std.proofs.lemmas.List.{get_or-take, get_or-drop, get_or_default, set-append_left, set-append_right, take-append-drop, length-take-le}
+use Rattle.std.proofs.lemmas.List.Elements.{All-set}
+use Rattle.pauli_word.specs.declared.letter.Letter.{Letter}
+use Rattle.pauli_word.specs.Words.{letters_product}
+use Rattle.trackers.specs.private.Transposed.{combined, multiplied_columns}
+
+-- two places of a list, of which the first stands in the front and the second starts the back
+pub parts_set : {X : Type 0} (l : List X) (a b : ℕ) (x y : X) → a < b → b < length l → set (take b l) a x ++ set (drop b l) 0 y ≡ set (set l a x) b y
+parts_set l a b x y before within =
+    let front = take b l in
+    let back = drop b l in
+    let long : length front ≡ b = length-take-le b l (omega (arith, within)) in
+    let none : b - b ≡ 0 = omega arith in
+    sym (ap (λ m. set (set m a x) b y) (sym (take-append-drop b l))
+    ∙ (ap (λ m. set m b y) (set-append_left front back a x (omega (arith, before, long)))
+    ∙ (set-append_right (set front a x) back b b y (length-set front a x ∙ long) (omega arith)
+    ∙ ap (λ n. set front a x ++ set back n y) none)))
+
+pub in_front : {X : Type 0} (l : List X) (a b : ℕ) (d e : X) → a < b → b < length l → get_or (take b l) a d ≡ get_or l a e
+in_front l a b d e before within = get_or-take b l a d before ∙ get_or_default l a d e (omega (arith, before, within))
+
+pub at_back : {X : Type 0} (l : List X) (b : ℕ) (d e : X) → b < length l → get_or (drop b l) 0 d ≡ get_or l b e
+at_back l b d e within =
+    let same : b + 0 ≡ b = omega arith in
+    get_or-drop b l 0 d ∙ (ap (λ n. get_or l n d) same ∙ get_or_default l b d e within)
+
+-- what follows from two facts where a call answers
+pub both_ok : {T E P Q R : Type 0} (r : Result T E) → (P → Q → R) → OnOk r P → OnOk r Q → OnOk r R
+both_ok (Ok x) f p q = f p q
+both_ok (Err e) f p q = tt
+
+-- the columns at two places, read and written; u and v are those that stood there
+pub made : (columns : List (List Letter)) (a b : ℕ) (to_first to_second : Letter × Letter) (u v x y : List Letter) → u ≡ get_or columns a [] → v ≡ get_or columns b []
+    → x ≡ letters_product u (map (combined to_first.0 to_first.1) v) → y ≡ letters_product v (map (combined to_second.0 to_second.1) u)
+    → set (set columns a x) b y ≡ multiplied_columns a b to_first to_second columns
+made columns a b to_first to_second u v x y u_is v_is x_is y_is =
+    ap₂ (λ s t. set (set columns a s) b t)
+    (x_is ∙ ap₂ (λ p q. letters_product p (map (combined to_first.0 to_first.1) q)) u_is v_is)
+    (y_is ∙ ap₂ (λ p q. letters_product q (map (combined to_second.0 to_second.1) p)) u_is v_is)
+
+-- all columns stay as long
+pub both_long : (m a b : ℕ) (columns : List (List Letter)) (x y : List Letter) → length x ≡ m → length y ≡ m → All (λ column. length column ≡ m) columns → All (λ column. length column ≡ m) (set (set columns a x) b y)
+both_long m a b columns x y x_long y_long long =
+    All-set (λ column. length column ≡ m) (set columns a x) b y y_long (All-set (λ column. length column ≡ m) columns a x x_long long)

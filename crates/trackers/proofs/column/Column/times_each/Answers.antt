@@ -1,0 +1,75 @@
+use Rattle.std.proofs.Common.{◌<◌, length, refl, ap, ap₂, subst, sym, ◌∙◌}
+use Rattle.std.specs.Prelude.{All}
+use Rattle.std.proofs.lemmas.Result.{on_ok_weaker}
+use Rattle.pauli_word.specs.Bits.{letters_of}
+use Rattle.pauli_word.proofs.BitWords.{length-letters_of}
+use Rattle.trackers.specs.TargetSets.{row_of_set}
+use Rattle.trackers.specs.private.Transposed.{xor_where, times_each}
+use Rattle.trackers.proofs.ColumnLemmas.{rows_long}
+use Rattle.trackers.proofs.TimesAll.{times_by_set}
+use Rattle.trackers.proofs.column.Column.times_each.Goals as goal
+
+pub toggle_where-requires-clause-targets : goal.toggle_where-requires-clause-targets
+toggle_where-requires-clause-targets g c =
+    let bits = g.S.TargetSet.bits in
+    let here = rows_long (bits c.self.inside.x) (bits c.self.inside.z) c.args.self.now c.self.invariant c.self.view_is in
+    subst (λ n. All (λ t. t < n) c.args.targets.now) here c.requires.targets
+
+pub toggle_where-requires-clause-made : goal.toggle_where-requires-clause-made
+toggle_where-requires-clause-made g c =
+    let bits = g.S.TargetSet.bits in
+    c.requires.set ∙ rows_long (bits c.self.inside.x) (bits c.self.inside.z) c.args.self.now c.self.invariant c.self.view_is
+
+pub toggle_where-requires-clause-spare : goal.toggle_where-requires-clause-spare
+toggle_where-requires-clause-spare g c =
+    let bits = g.S.TargetSet.bits in
+    c.requires.spare ∙ rows_long (bits c.self.inside.x) (bits c.self.inside.z) c.args.self.now c.self.invariant c.self.view_is
+
+pub returns-in_err-toggle_where-clause-len : goal.returns-in_err-toggle_where-clause-len
+returns-in_err-toggle_where-clause-len g c =
+    let bits = g.S.TargetSet.bits in
+    let here = rows_long (bits c.self.inside.x) (bits c.self.inside.z) c.args.self.now c.self.invariant c.self.view_is in
+    length-letters_of (bits c.toggle_where.new.set) (bits c.self.inside.z) (c.toggle_where.ensures.len ∙ c.self.invariant) ∙ (c.toggle_where.ensures.len ∙ sym here)
+
+pub toggle_where-requires-2-clause-targets : goal.toggle_where-requires-2-clause-targets
+toggle_where-requires-2-clause-targets g c =
+    let bits = g.S.TargetSet.bits in
+    let here = rows_long (bits c.self.inside.x) (bits c.self.inside.z) c.args.self.now c.self.invariant c.self.view_is in
+    subst (λ n. All (λ t. t < n) c.args.targets.now) (here ∙ c.self.invariant) c.requires.targets
+
+pub toggle_where-requires-2-clause-made : goal.toggle_where-requires-2-clause-made
+toggle_where-requires-2-clause-made g c =
+    let bits = g.S.TargetSet.bits in
+    let here = rows_long (bits c.self.inside.x) (bits c.self.inside.z) c.args.self.now c.self.invariant c.self.view_is in
+    c.toggle_where.ensures.made ∙ (c.requires.set ∙ (here ∙ c.self.invariant))
+
+pub toggle_where-requires-2-clause-spare : goal.toggle_where-requires-2-clause-spare
+toggle_where-requires-2-clause-spare g c =
+    let bits = g.S.TargetSet.bits in
+    let here = rows_long (bits c.self.inside.x) (bits c.self.inside.z) c.args.self.now c.self.invariant c.self.view_is in
+    c.toggle_where.ensures.spare ∙ (c.requires.spare ∙ (here ∙ c.self.invariant))
+
+pub returns-clause-len : goal.returns-clause-len
+returns-clause-len g c =
+    let bits = g.S.TargetSet.bits in
+    let here = rows_long (bits c.self.inside.x) (bits c.self.inside.z) c.args.self.now c.self.invariant c.self.view_is in
+    length-letters_of (bits c.toggle_where.new.set) (bits c.toggle_where-2.new.set) (c.toggle_where.ensures.len ∙ (c.self.invariant ∙ sym c.toggle_where-2.ensures.len)) ∙ (c.toggle_where.ensures.len ∙ sym here)
+
+pub returns-clause-ok : goal.returns-clause-ok
+returns-clause-ok g c =
+    let bits = g.S.TargetSet.bits in
+    let x = bits c.self.inside.x in
+    let z = bits c.self.inside.z in
+    let m = length x in
+    let letter = c.args.letter in
+    let targets = c.args.targets.now in
+    let row = row_of_set m targets in
+    let here = rows_long x z c.args.self.now c.self.invariant c.self.view_is in
+    let fits = subst (λ n. All (λ t. t < n) targets) here c.requires.targets in
+    on_ok_weaker c.toggle_where-2.result
+    (λ last. ap₂ letters_of
+    (c.in_ok-toggle_where.ensures.ok ∙ ap (λ b. xor_where b x row) c.has_x.ensures)
+    (last ∙ ap₂ (λ b n. xor_where b z (row_of_set n targets)) c.has_z.ensures (sym c.self.invariant))
+    ∙ (times_by_set letter targets m x z fits refl (sym c.self.invariant)
+    ∙ ap (times_each letter targets) c.self.view_is))
+    c.toggle_where-2.ensures.ok

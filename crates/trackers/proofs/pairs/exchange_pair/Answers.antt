@@ -1,0 +1,64 @@
+use Rattle.std.proofs.Common.{◌≡◌, ◌<◌, List, [], map, length, set, get_or, get_or-set_other, ap, ap₂, subst, sym, ◌∙◌, arith}
+use Rattle.std.specs.Prelude.{All}
+use Rattle.std.proofs.lemmas.List.{get_or_default}
+use Rattle.std.proofs.lemmas.List.Elements.{All-set}
+use Rattle.std.proofs.lemmas.Result.{on_ok_weaker}
+use Rattle.pauli_word.specs.declared.letter.Letter.{Letter}
+use Rattle.trackers.specs.private.Transposed.{combined}
+use Rattle.trackers.proofs.ExchangeLemmas.{written_over}
+use Rattle.trackers.proofs.pairs.exchange_pair.Goals as goal
+
+pub returns-in_err-become_image-clause-long : goal.returns-in_err-become_image-clause-long
+returns-in_err-become_image-clause-long g c =
+    let m = length (g.S.TargetSet.bits c.args.spare.now) in
+    let columns = c.args.columns.now in
+    let a = c.args.a in
+    let b = c.args.b in
+    let whole = c.swap.ensures.by_index.3 [] in
+    let swapped : All (λ column. length column ≡ m) c.swap.new.self =
+    subst (All (λ column. length column ≡ m)) (sym whole)
+    (All-set (λ column. length column ≡ m) (set columns a (get_or columns b [])) b (get_or columns a []) (c.requires.long a [] c.requires.first)
+    (All-set (λ column. length column ≡ m) columns a (get_or columns b []) (c.requires.long b [] c.requires.second) c.requires.long)) in
+    let within : a < length c.swap.new.self = omega (arith, c.swap.ensures.len, c.requires.first) in
+    All-set (λ column. length column ≡ m) c.swap.new.self a c.become_image.new.self
+    (c.become_image.ensures.len ∙ swapped a _ within) swapped
+
+pub returns-clause-long : goal.returns-clause-long
+returns-clause-long g c =
+    let m = length (g.S.TargetSet.bits c.args.spare.now) in
+    let columns = c.args.columns.now in
+    let a = c.args.a in
+    let b = c.args.b in
+    let whole = c.swap.ensures.by_index.3 [] in
+    let swapped : All (λ column. length column ≡ m) c.swap.new.self =
+    subst (All (λ column. length column ≡ m)) (sym whole)
+    (All-set (λ column. length column ≡ m) (set columns a (get_or columns b [])) b (get_or columns a []) (c.requires.long a [] c.requires.first)
+    (All-set (λ column. length column ≡ m) columns a (get_or columns b []) (c.requires.long b [] c.requires.second) c.requires.long)) in
+    let within : a < length c.swap.new.self = omega (arith, c.swap.ensures.len, c.requires.first) in
+    let inside : b < length c.swap.new.self = omega (arith, c.swap.ensures.len, c.requires.second) in
+    let here : get_or (set c.swap.new.self a c.become_image.new.self) b c.index-columns-b.result ≡ get_or c.swap.new.self b c.index-columns-b.result =
+    get_or-set_other c.swap.new.self a b c.become_image.new.self _ (λ e. c.requires.different (sym e)) in
+    All-set (λ column. length column ≡ m) (set c.swap.new.self a c.become_image.new.self) b c.become_image-2.new.self
+    (c.become_image-2.ensures.len ∙ (ap length here ∙ swapped b _ inside))
+    (All-set (λ column. length column ≡ m) c.swap.new.self a c.become_image.new.self
+    (c.become_image.ensures.len ∙ swapped a _ within) swapped)
+
+pub returns-clause-columns : goal.returns-clause-columns
+returns-clause-columns g c =
+    let columns = c.args.columns.now in
+    let a = c.args.a in
+    let b = c.args.b in
+    let x = c.become_image.new.self in
+    let y = c.become_image-2.new.self in
+    let by = c.swap.ensures.by_index in
+    let whole = by.3 [] in
+    let first : get_or c.swap.new.self a c.index-columns-a.result ≡ get_or columns b [] = by.0 _ ∙ get_or_default columns b _ [] c.requires.second in
+    let second : get_or (set c.swap.new.self a x) b c.index-columns-b.result ≡ get_or columns a [] =
+    get_or-set_other c.swap.new.self a b x _ (λ e. c.requires.different (sym e)) ∙ (by.1 _ ∙ get_or_default columns a _ [] c.requires.first) in
+    let made = c.in_ok-become_image.ensures.ok ∙ ap (map (combined c.args.to_first.0 c.args.to_first.1)) first in
+    on_ok_weaker c.become_image-2.result
+    (λ h.
+    ap (λ (l : List (List Letter)). set (set l a x) b y) whole
+    ∙ (written_over columns a b (get_or columns b []) (get_or columns a []) x y c.requires.different
+    ∙ ap₂ (λ p q. set (set columns a p) b q) made (h ∙ ap (map (combined c.args.to_second.0 c.args.to_second.1)) second)))
+    c.become_image-2.ensures.ok

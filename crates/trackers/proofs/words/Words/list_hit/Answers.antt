@@ -1,0 +1,47 @@
+use Rattle.std.proofs.Common.{◌≡◌, ◌<◌, ◌∷◌, [], length, get_or, ap, ap₂, sym, ◌∙◌, arith}
+use Rattle.std.specs.Prelude.{map}
+use Rattle.std.specs.List.{range_with_len}
+use Rattle.std.proofs.lemmas.Result.{on_ok_weaker}
+use Rattle.std.proofs.lemmas.List.{get_or_default}
+use Rattle.std.proofs.lemmas.List.Elements.{All-get_or}
+use Rattle.pauli_word.specs.declared.letter.Letter.TheVariants.{I}
+use Rattle.pauli_word.specs.Letters.{letters_clash}
+use Rattle.pauli_word.specs.Words.{anticommute}
+use Rattle.step_model.specs.declared.step.Term.{Term}
+use Rattle.step_model.specs.Listing.{word_of_terms}
+use Rattle.trackers.specs.Tracked.{anticommuting}
+use Rattle.trackers.specs.private.Transposed.{word_at}
+use Rattle.trackers.proofs.LoneTerms.{lone_clash, lone_term}
+use Rattle.trackers.proofs.TransposedLemmas.{ones_are_hit}
+use Rattle.trackers.proofs.words.Words.list_hit.Goals as goal
+
+pub returns-in-Some-clause-hit : goal.returns-in-Some-clause-hit
+returns-in-Some-clause-hit g c =
+    let m = c.self.inside.targets in
+    let columns = c.self.inside.columns.items in
+    let terms = c.args.terms.now in
+    let row = g.S.TargetSet.bits c.in-Some.set.now in
+    let d : Term = record { qubit = 0; letter = I } in
+    let term = get_or terms 0 d in
+    let one : terms ≡ term ∷ [] = lone_term terms d (omega (arith, c.in-len1.len_at_least, c.in-len1.len_below)) in
+    let below = All-get_or (λ term. term.qubit < c.args.self.now.qubits) terms 0 d (omega (arith, c.in-len1.len_at_least)) c.requires in
+    let fits : term.qubit < length columns = omega (arith, below, ap (λ t. t.qubits) c.self.view_is) in
+    let column : c.index.result.now ≡ get_or columns term.qubit [] = c.index.ensures ∙ get_or_default columns term.qubit _ [] fits in
+    let set =
+    lone_clash m columns term row (c.self.invariant.columns_long term.qubit [] fits) fits (c.in-Some.ensures ∙ ap (map (letters_clash term.letter)) column)
+    ∙ ap (λ ts. map (λ t. anticommute (word_at columns t) (word_of_terms (length columns) ts)) (range_with_len 0 m)) (sym one) in
+    on_ok_weaker c.list.result
+    (λ h. h ∙ (ones_are_hit m columns terms row set ∙ ap (anticommuting terms) c.self.view_is))
+    c.list.ensures
+
+pub returns-clause-hit : goal.returns-clause-hit
+returns-clause-hit g c =
+    let m = c.self.inside.targets in
+    let columns = c.self.inside.columns.items in
+    let terms = c.args.terms.now in
+    let set =
+    c.in_ok-clashing.ensures.ok
+    ∙ ap₂ (λ columns n. map (λ t. anticommute (word_at columns t) (word_of_terms (length columns) terms)) (range_with_len 0 n)) c.as_slice.ensures.value c.self.invariant.set_long in
+    on_ok_weaker c.list-2.result
+    (λ h. h ∙ (ones_are_hit m columns terms (g.S.TargetSet.bits c.clashing.new.set) set ∙ ap (anticommuting terms) c.self.view_is))
+    c.list-2.ensures

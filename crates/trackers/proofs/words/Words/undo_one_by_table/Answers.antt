@@ -1,0 +1,25 @@
+use Rattle.std.proofs.Common.{◌≡◌, ◌<◌, [], length, map, set, get_or, ap, ap₂, ◌∙◌, arith}
+use Rattle.std.proofs.lemmas.List.{get_or_default}
+use Rattle.std.proofs.lemmas.Result.{on_ok_weaker}
+use Rattle.gate_table.specs.Images.{image1, inverse_of}
+use Rattle.pauli_word.specs.declared.letter.Letter.TheVariants.{X, Z}
+use Rattle.trackers.specs.Tracked.{Tracked, each_word, undone_one}
+use Rattle.trackers.specs.private.Transposed.{tracked_of, combined}
+use Rattle.trackers.proofs.TransposedLemmas.{tracked_one}
+use Rattle.trackers.proofs.words.Words.undo_one_by_table.Goals as goal
+
+pub returns : goal.returns
+returns g c =
+    let m = c.self.inside.targets in
+    let columns = c.self.inside.columns.items in
+    let q = c.args.q in
+    let count = ap (λ (t : Tracked). t.qubits) c.self.view_is in
+    let within : q < length columns = omega (arith, count, c.requires.in_range) in
+    let column : c.index_mut.result.now ≡ get_or columns q [] = c.index_mut.ensures.value ∙ get_or_default columns q _ [] within in
+    let x = ap (λ r. r.0) (c.image1-x.ensures ∙ ap (λ h. image1 h X) c.inverse-inverse.ensures) in
+    let z = ap (λ r. r.0) (c.image1-z.ensures ∙ ap (λ h. image1 h Z) c.inverse-inverse.ensures) in
+    on_ok_weaker c.become_image.result
+    (λ h. ap (λ column. tracked_of m (set columns q column))
+    (h ∙ (ap₂ (λ x z. map (combined x z) c.index_mut.result.now) x z ∙ ap (map (combined (image1 (inverse_of c.args.gate) X).0 (image1 (inverse_of c.args.gate) Z).0)) column))
+    ∙ (tracked_one m columns q c.args.gate within (c.self.invariant.columns_long q [] within) ∙ ap (each_word (undone_one c.args.gate q)) c.self.view_is))
+    c.become_image.ensures.ok

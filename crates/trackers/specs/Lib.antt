@@ -1,0 +1,3 @@
+pub mod TargetSets
+pub mod Tracked
+pub mod private

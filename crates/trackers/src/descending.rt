@@ -1,0 +1,302 @@
+//! Descending lists: changed where they stand, merged, and listed in ascending order.
+ghost use Rattle.std.specs.Prelude.{◌≡◌, ◌<◌, ◌≤◌, ◌+◌, ◌-◌, ◌∷◌, ◌++◌, [], ℕ, take, true, insert, length, remove, reverse, slice_index, IfOk, OnOk, OnErr};
+ghost use Rattle.trackers.specs.private.Sets.{xor_sets, DescendsBelow};
+
+use smallvec::SmallVec;
+use std::alloc::{AllocError, Allocator};
+
+/// A list of at most this many is short.
+pub(crate) const FEW: usize = 8;
+
+// The same for each of four lists that are added up.
+const FOURTH: usize = 4;
+
+/// Puts the exclusive or of two short descending lists in place of the first, which is emptied by an error.
+pub(crate) fn add_few<A: Allocator + Copy>(
+    items: &mut SmallVec<u32, 4, A>,
+    more: &[u32],
+) -> Result<(), AllocError>
+    requires few { length items.old.items ≤ 8 }
+    requires few_more { length more.now ≤ 8 }
+    ensures ok { OnOk result (items.new.items ≡ xor_sets items.old.items more.now) }
+    ensures err { OnErr result (items.new.items ≡ []) }
+{
+    let mut sum = [0; 2 * FEW];
+    let len = merge_few(items.as_slice(), more, &mut sum);
+    let put = put_few(items, &sum, len);
+    if put.is_err() {
+        empty(items);
+    }
+    put
+}
+
+// Puts the first `len` of these in place of what a list holds. They are written over what is there, since each removal
+// or push would wait for the length that the one before it left.
+#[inline]
+fn put_few<A: Allocator + Copy>(
+    items: &mut SmallVec<u32, 4, A>,
+    sum: &[u32; 16],
+    len: usize,
+) -> Result<(), AllocError>
+    requires { len ≤ 16 }
+    ensures { OnOk result (items.new.items ≡ take len sum.now) }
+{
+    let kept = write_over(items.as_mut_slice(), sum, len);
+    shorten(items, kept);
+    push_few(items, &sum[kept..len])
+}
+
+// Writes the first `len` of these, as far as there are places, and answers how many. A remainder taken at each keeps
+// the loop from being made a call that copies.
+#[inline(always)]
+fn write_over(places: &mut [u32], sum: &[u32; 16], len: usize) -> usize
+    requires { len ≤ 16 }
+    ensures within { result ≤ len }
+    ensures fits { result ≤ length places.old }
+    ensures len { length places.new ≡ length places.old }
+    ensures written { take result places.new ≡ take result sum.now }
+{
+    let mut kept = 0;
+    while kept < places.len() && kept < len {
+        places[kept] = sum[kept % 16];
+        kept += 1;
+    }
+    kept
+}
+
+// Takes out all behind the first `kept`.
+#[inline(always)]
+fn shorten<A: Allocator + Copy>(items: &mut SmallVec<u32, 4, A>, kept: usize)
+    ensures { items.new.items ≡ take kept items.old.items }
+{
+    if items.len() > kept {
+        items.truncate(kept);
+    }
+}
+
+/// Takes all targets out, one by one: they are few, and each takes less than a call.
+#[inline]
+pub(crate) fn empty<A: Allocator + Copy>(items: &mut SmallVec<u32, 4, A>)
+    ensures { items.new.items ≡ [] }
+{
+    while items.pop().is_some() {}
+}
+
+// Appends these, one by one.
+#[inline]
+fn push_few<A: Allocator + Copy>(
+    items: &mut SmallVec<u32, 4, A>,
+    targets: &[u32],
+) -> Result<(), AllocError>
+    ensures { OnOk result (items.new.items ≡ items.old.items ++ targets.now) }
+{
+    for target in targets {
+        items.push(*target)?;
+    }
+    Ok(())
+}
+
+/// Takes a target out of a descending list, or puts it in at its place. Most come behind all that are there.
+#[inline]
+pub(crate) fn toggle_in<A: Allocator + Copy>(
+    items: &mut SmallVec<u32, 4, A>,
+    target: u32,
+) -> Result<(), AllocError>
+    ensures ok { OnOk result
+        ((m : ℕ)
+        → DescendsBelow m items.old.items
+        → items.new.items ≡ xor_sets (target ∷ []) items.old.items) }
+    ensures err { OnErr result (items.new.items ≡ items.old.items) }
+{
+    if comes_last(items.as_slice(), target) {
+        items.push(target)?;
+        Ok(())
+    } else {
+        toggle_among(items, target)
+    }
+}
+
+// Whether a target is less than the last of a list, or the list is empty.
+#[inline(always)]
+fn comes_last(items: &[u32], target: u32) -> bool
+    ensures { result ≡ true
+        → 0 < length items.now
+        → target < slice_index items.now (length items.now - 1) }
+{
+    items.is_empty() || target < items[items.len() - 1]
+}
+
+// The same, for a target that may stand anywhere.
+#[inline(never)]
+fn toggle_among<A: Allocator + Copy>(
+    items: &mut SmallVec<u32, 4, A>,
+    target: u32,
+) -> Result<(), AllocError>
+    ensures ok { OnOk result
+        ((m : ℕ)
+        → DescendsBelow m items.old.items
+        → items.new.items ≡ xor_sets (target ∷ []) items.old.items) }
+    ensures err { OnErr result (items.new.items ≡ items.old.items) }
+{
+    let place = place_among(items.as_slice(), target);
+    if place > 0 && items.as_slice()[place - 1] == target {
+        let _ = items.remove(place - 1);
+    } else {
+        items.insert(place, target)?;
+    }
+    Ok(())
+}
+
+// The place from which on all are less than the target, searched for from the end.
+fn place_among(items: &[u32], target: u32) -> usize
+    ensures within { result ≤ length items.now }
+    ensures below { (k : ℕ) → result ≤ k → k < length items.now → slice_index items.now k < target }
+    ensures above { 0 < result → target ≤ slice_index items.now (result - 1) }
+{
+    let mut place = items.len();
+    while place > 0 && items[place - 1] < target {
+        place -= 1;
+    }
+    place
+}
+
+/// Appends the exclusive or of two descending lists.
+pub(crate) fn merge<A: Allocator + Copy>(
+    first: &[u32],
+    second: &[u32],
+    into: &mut SmallVec<u32, 4, A>,
+) -> Result<(), AllocError>
+    requires { into.old.items ≡ [] }
+    ensures { OnOk result (into.new.items ≡ xor_sets first.now second.now) }
+{
+    let mut i = 0;
+    let mut j = 0;
+    while i < first.len() && j < second.len() {
+        let x = first[i];
+        let y = second[j];
+        if y < x {
+            into.push(x)?;
+            i += 1;
+        } else if x < y {
+            into.push(y)?;
+            j += 1;
+        } else {
+            i += 1;
+            j += 1;
+        }
+    }
+    // One of them is used up.
+    if i < first.len() {
+        into.extend_from_slice(&first[i..])
+    } else {
+        into.extend_from_slice(&second[j..])
+    }
+}
+
+// Puts the exclusive or of two short descending lists at the start of `sum`, and answers how long it is. Which of two
+// is the greater is hard to predict, so no branch is taken on it.
+fn merge_few(first: &[u32], second: &[u32], sum: &mut [u32; 16]) -> usize
+    requires first { length first.now ≤ 8 }
+    requires second { length second.now ≤ 8 }
+    ensures within { result ≤ 16 }
+    ensures sum { take result sum.new ≡ xor_sets first.now second.now }
+{
+    let mut i = 0;
+    let mut j = 0;
+    let mut len = 0;
+    while i < first.len() && j < second.len() {
+        let x = first[i];
+        let y = second[j];
+        sum[len] = if x < y { y } else { x };
+        len += (x != y) as usize;
+        i += (y <= x) as usize;
+        j += (x <= y) as usize;
+    }
+    // One of them is used up.
+    let len = append_few(sum, len, &first[i..]);
+    append_few(sum, len, &second[j..])
+}
+
+// Puts these behind the first `len`, and answers how many there are then. A remainder taken at each keeps the loop from
+// being made a call that copies, which takes longer for few.
+#[inline(always)]
+fn append_few(sum: &mut [u32; 16], len: usize, rest: &[u32]) -> usize
+    requires { len + length rest.now ≤ 16 }
+    ensures len { result ≡ len + length rest.now }
+    ensures sum { take result sum.new ≡ take len sum.old ++ rest.now }
+{
+    let mut end = len;
+    for target in rest {
+        sum[end % 16] = *target;
+        end += 1;
+    }
+    end
+}
+
+/// Lists the exclusive or of two descending lists in ascending order, and answers whether it did: it does where one is
+/// empty, or both are short.
+pub(crate) fn list_sum<B: Allocator + Copy>(
+    first: &[u32],
+    second: &[u32],
+    into: &mut Vec<u32, B>,
+) -> Result<bool, AllocError>
+    ensures { IfOk result (λ done. done ≡ true
+        → into.new.items ≡ reverse (xor_sets first.now second.now)) }
+{
+    if first.is_empty() {
+        list_ascending(second, into)?;
+        return Ok(true);
+    }
+    if second.is_empty() {
+        list_ascending(first, into)?;
+        return Ok(true);
+    }
+    if first.len() > FEW || second.len() > FEW {
+        return Ok(false);
+    }
+    let mut sum = [0; 2 * FEW];
+    let len = merge_few(first, second, &mut sum);
+    list_ascending(&sum[..len], into)?;
+    Ok(true)
+}
+
+/// The same for four descending lists, each still shorter.
+pub(crate) fn list_sum_of_four<B: Allocator + Copy>(
+    first: &[u32],
+    second: &[u32],
+    third: &[u32],
+    fourth: &[u32],
+    into: &mut Vec<u32, B>,
+) -> Result<bool, AllocError>
+    ensures { IfOk result (λ done. done ≡ true
+        → into.new.items
+        ≡ reverse (xor_sets (xor_sets first.now second.now) (xor_sets third.now fourth.now))) }
+{
+    if first.len() > FOURTH || second.len() > FOURTH {
+        return Ok(false);
+    }
+    if third.len() > FOURTH || fourth.len() > FOURTH {
+        return Ok(false);
+    }
+    let mut front = [0; 2 * FEW];
+    let front_len = merge_few(first, second, &mut front);
+    let mut back = [0; 2 * FEW];
+    let back_len = merge_few(third, fourth, &mut back);
+    list_sum(&front[..front_len], &back[..back_len], into)
+}
+
+pub(crate) fn list_ascending<B: Allocator + Copy>(
+    items: &[u32],
+    into: &mut Vec<u32, B>,
+) -> Result<(), AllocError>
+    ensures { OnOk result (into.new.items ≡ reverse items.now) }
+{
+    into.clear();
+    into.reserve(items.len())?;
+    let mut left = items.len();
+    while left > 0 {
+        left -= 1;
+        into.push_reserved(items[left]);
+    }
+    Ok(())
+}

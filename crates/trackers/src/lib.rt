@@ -1,0 +1,19 @@
+//! Unsigned Pauli words of targets, taken back over the steps of a program: what a tracker is asked (`Tracker`), and two
+//! trackers, whose words are kept by qubit, as rows of bits (`DenseWords`) or as lists of targets (`QubitSets`).
+//! (Sensitivities taken back over a circuit: Gidney, Quantum 5, 497 (2021).)
+#![tactic(auto)]
+
+mod column;
+mod columns;
+mod descending;
+mod images;
+mod pairs;
+mod sparse_set;
+mod target_set;
+mod tracker;
+mod words;
+
+pub use sparse_set::SparseSet;
+pub use target_set::{TargetSet, make_set};
+pub use tracker::Tracker;
+pub use words::{DenseWords, QubitSets, Words};

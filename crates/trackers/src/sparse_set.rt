@@ -1,0 +1,129 @@
+//! A set of targets as the list of those in it.
+ghost use Rattle.std.specs.Prelude.{◌≡◌, false, length, replicate, OnOk};
+ghost use Rattle.bit_rows.specs.Rows.{xor_rows};
+
+use crate::descending::{
+    FEW, add_few, empty, list_ascending, list_sum, list_sum_of_four, merge, toggle_in,
+};
+use crate::target_set::TargetSet;
+use smallvec::SmallVec;
+use std::alloc::{AllocError, Allocator};
+use std::marker::Model;
+
+/// A set of targets as the list of those in it, the greatest first: where targets come from the greatest down, each is
+/// appended.
+#[derive(Drop)]
+pub struct SparseSet<'a, A: Allocator + Copy> {
+    targets: usize,
+    // On a borrowed allocator, since the size of a SmallVec has to be known.
+    items: SmallVec<u32, 4, &'a A>,
+}
+
+impl<'a, A: Allocator + Copy> Model for SparseSet<'a, A> {
+    ghost use Rattle.std.specs.Prelude.{List, Bool};
+    ghost use Rattle.trackers.specs.private.Sets.{DescendsBelow};
+    ghost use Rattle.trackers.specs.TargetSets.{row_of_set};
+
+    ghost Value = { List Bool };
+
+    ghost view = { λ s. row_of_set s.targets s.items.items };
+
+    ghost invariant = { λ s. DescendsBelow s.targets s.items.items };
+}
+
+impl<'a, A: Allocator + Copy> SparseSet<'a, A> {
+    /// The empty set of this many targets. Takes no memory.
+    pub fn none(alloc: &'a A, targets: usize) -> Self
+        ensures { result ≡ replicate targets false }
+    {
+        SparseSet {
+            targets,
+            items: SmallVec::new(alloc),
+        }
+    }
+
+    // Toggles each target of another set, which has some.
+    #[inline(never)]
+    fn add_some(&mut self, other: &Self, spare: &mut Self) -> Result<(), AllocError>
+        requires other { length self.old ≡ length other.now }
+        requires spare { length spare.old ≡ length self.old }
+        ensures ok { OnOk result (self.new ≡ xor_rows self.old other.now) }
+        ensures len { length self.new ≡ length self.old }
+        ensures spare { length spare.new ≡ length spare.old }
+    {
+        let more = other.items.as_slice();
+        if self.items.len() <= FEW && more.len() <= FEW {
+            return add_few(&mut self.items, more);
+        }
+        if self.items.as_slice().is_empty() {
+            return self.items.extend_from_slice(more);
+        }
+        spare.items.clear();
+        match merge(self.items.as_slice(), more, &mut spare.items) {
+            Ok(()) => {
+                std::mem::swap(&mut self.items, &mut spare.items);
+                Ok(())
+            }
+            Err(error) => {
+                spare.items.clear();
+                Err(error)
+            }
+        }
+    }
+}
+
+impl<'a, A: Allocator + Copy> TargetSet for SparseSet<'a, A> {
+    ghost bits = { λ set. set };
+
+    fn copy(&self) -> Result<Self, AllocError> {
+        Ok(SparseSet {
+            targets: self.targets,
+            items: SmallVec::from_slice(*self.items.allocator(), self.items.as_slice())?,
+        })
+    }
+
+    fn clear(&mut self) {
+        empty(&mut self.items);
+    }
+
+    fn toggle(&mut self, target: u32) -> Result<(), AllocError> {
+        toggle_in(&mut self.items, target)
+    }
+
+    #[inline(always)]
+    fn add(&mut self, other: &Self, spare: &mut Self) -> Result<(), AllocError> {
+        if other.items.as_slice().is_empty() {
+            Ok(())
+        } else {
+            self.add_some(other, spare)
+        }
+    }
+
+    fn list<B: Allocator + Copy>(&self, into: &mut Vec<u32, B>) -> Result<(), AllocError> {
+        list_ascending(self.items.as_slice(), into)
+    }
+
+    fn list_sum<B: Allocator + Copy>(
+        &self,
+        other: &Self,
+        into: &mut Vec<u32, B>,
+    ) -> Result<bool, AllocError> {
+        list_sum(self.items.as_slice(), other.items.as_slice(), into)
+    }
+
+    fn list_sum_of_four<B: Allocator + Copy>(
+        &self,
+        second: &Self,
+        third: &Self,
+        fourth: &Self,
+        into: &mut Vec<u32, B>,
+    ) -> Result<bool, AllocError> {
+        list_sum_of_four(
+            self.items.as_slice(),
+            second.items.as_slice(),
+            third.items.as_slice(),
+            fourth.items.as_slice(),
+            into,
+        )
+    }
+}

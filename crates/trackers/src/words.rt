@@ -1,0 +1,356 @@
+ghost use Rattle.std.specs.Prelude.{◌≡◌, ◌<◌, ◌≤◌, ◌≢◌, ◌^◌, ◌∷◌, [], ℕ, false, true, All, IfOk, OnOk, replicate};
+ghost use Rattle.gate_table.specs.Images.{arity_of};
+ghost use Rattle.gate_table.specs.declared.gate.Gate.TheVariants.{CX, H};
+ghost use Rattle.pauli_word.specs.declared.letter.Letter.TheVariants.{I, Y};
+ghost use Rattle.trackers.specs.Tracked.{anticommuting, each_word, fresh, undone_one, undone_two};
+ghost use Rattle.trackers.specs.TargetSets.{members};
+ghost use Rattle.trackers.specs.private.Transposed.{combined, exchanged_at, multiplied_at};
+
+use crate::column::{Column, is_y};
+use crate::columns::{clashing, keep_columns, restore_columns};
+use crate::images::{is_kept, is_left, is_lost};
+use crate::pairs::{exchange_pair, image_pair, multiply_pair};
+use crate::sparse_set::SparseSet;
+use crate::target_set::TargetSet;
+use crate::tracker::Tracker;
+use bit_rows::BitRow;
+use flat_lists::FlatLists;
+use gate_table::Gate;
+use pauli_word::Letter;
+use std::alloc::{AllocError, Allocator};
+use std::marker::Model;
+use step_model::Term;
+
+/// Words kept by qubit: for each qubit two sets of targets, those whose word has an X in its letter there and those
+/// whose word has a Z.
+#[derive(Drop)]
+pub struct Words<S: TargetSet, A: Allocator + Copy> {
+    targets: usize,
+    columns: Vec<Column<S>, A>,
+    first: Column<S>,
+    second: Column<S>,
+    set: S,
+    spare: S,
+}
+
+/// Words kept by qubit, whose sets are rows of bits.
+pub type DenseWords<A> = Words<BitRow<A>, A>;
+
+/// Words kept by qubit, whose sets are lists of the targets in them, so that sets of few among many targets take little
+/// memory.
+pub type QubitSets<'a, A> = Words<SparseSet<'a, A>, A>;
+
+impl<S: TargetSet, A: Allocator + Copy> Model for Words<S, A> {
+    ghost use Rattle.trackers.specs.Tracked.{Tracked};
+    ghost use Rattle.trackers.specs.private.Transposed.{tracked_of, IsTransposed};
+
+    ghost Value = { Tracked };
+
+    ghost view = { λ w. tracked_of w.targets w.columns.items };
+
+    ghost invariant = { λ w. IsTransposed w.targets w.columns.items w.first w.second (S.bits w.set) (S.bits w.spare) };
+}
+
+impl<A: Allocator + Copy> Words<BitRow<A>, A> {
+    /// An identity word for each of this many targets, on this many qubits. It fails only where memory runs out.
+    pub fn new(alloc: A, qubits: usize, targets: usize) -> Result<Self, AllocError>
+        requires { targets ≤ 2 ^ 32 }
+        ensures { IfOk result (λ w. w ≡ fresh qubits targets) }
+    {
+        Words::of_sets(alloc, qubits, targets, BitRow::zeros(alloc, targets)?)
+    }
+}
+
+impl<'a, A: Allocator + Copy> Words<SparseSet<'a, A>, A> {
+    /// An identity word for each of this many targets, on this many qubits. It fails only where memory runs out.
+    pub fn new(alloc: &'a A, qubits: usize, targets: usize) -> Result<Self, AllocError>
+        requires { targets ≤ 2 ^ 32 }
+        ensures { IfOk result (λ w. w ≡ fresh qubits targets) }
+    {
+        Words::of_sets(*alloc, qubits, targets, SparseSet::none(alloc, targets))
+    }
+}
+
+impl<S: TargetSet, A: Allocator + Copy> Words<S, A> {
+    // An identity word for each target, from an empty set.
+    fn of_sets(alloc: A, qubits: usize, targets: usize, none: S) -> Result<Self, AllocError>
+        requires few { targets ≤ 2 ^ 32 }
+        requires none { S.bits none ≡ replicate targets false }
+        ensures { IfOk result (λ w. w ≡ fresh qubits targets) }
+    {
+        let mut columns = Vec::with_capacity(alloc, qubits)?;
+        for _made in 0..qubits {
+            columns.push(Column::of_copies(&none)?)?;
+        }
+        let first = Column::of_copies(&none)?;
+        let second = Column::of_copies(&none)?;
+        let set = none.copy()?;
+        Ok(Words {
+            targets,
+            columns,
+            first,
+            second,
+            set,
+            spare: none,
+        })
+    }
+
+    // Multiplies the letters at each of two qubits by an image of those at the other.
+    #[inline(always)]
+    fn multiply(
+        &mut self,
+        a: usize,
+        b: usize,
+        to_first: (Letter, Letter),
+        to_second: (Letter, Letter),
+    ) -> Result<(), AllocError>
+        requires first_in_range { a < self.old.qubits }
+        requires second_in_range { b < self.old.qubits }
+        requires different { a ≢ b }
+        requires x_is_lost { combined to_second.0 to_second.1 to_first.0 ≡ I }
+        requires z_is_lost { combined to_second.0 to_second.1 to_first.1 ≡ I }
+        ensures { OnOk result
+            (self.new ≡ each_word (multiplied_at a b to_first to_second) self.old) }
+    {
+        multiply_pair(
+            self.columns.as_mut_slice(),
+            a,
+            b,
+            to_first,
+            to_second,
+            &mut self.spare,
+        )
+    }
+
+    // Puts at each of two qubits an image of the letters at the other.
+    fn exchange(
+        &mut self,
+        a: usize,
+        b: usize,
+        to_first: (Letter, Letter),
+        to_second: (Letter, Letter),
+    ) -> Result<(), AllocError>
+        requires first_in_range { a < self.old.qubits }
+        requires second_in_range { b < self.old.qubits }
+        requires different { a ≢ b }
+        ensures { OnOk result
+            (self.new ≡ each_word (exchanged_at a b to_first to_second) self.old) }
+    {
+        exchange_pair(
+            self.columns.as_mut_slice(),
+            a,
+            b,
+            to_first,
+            to_second,
+            &mut self.first,
+            &mut self.spare,
+        )
+    }
+
+    // Lists the targets whose words anticommute with the product of these letters. After an error the list may hold
+    // some of them, or what it held.
+    #[inline(always)]
+    fn list_hit<B: Allocator + Copy>(
+        &mut self,
+        terms: &[Term],
+        hit: &mut Vec<u32, B>,
+    ) -> Result<(), AllocError>
+        requires { All (λ term. term.qubit < self.old.qubits) terms.now }
+        ensures hit { OnOk result (hit.new.items ≡ anticommuting terms.now self.old) }
+        ensures same { self.new ≡ self.old }
+    {
+        if let [term] = terms {
+            if let Some(set) = self.columns[term.qubit as usize].kept_clashing(term.letter) {
+                return set.list(hit);
+            }
+        }
+        if let [first, second] = terms {
+            if self.list_both(first, second, hit)? {
+                return Ok(());
+            }
+        }
+        clashing(
+            self.columns.as_slice(),
+            terms,
+            &mut self.set,
+            &mut self.spare,
+        )?;
+        self.set.list(hit)
+    }
+
+    // Lists the targets whose words anticommute with the product of two letters, and answers whether it did: it need
+    // not.
+    #[inline(never)]
+    fn list_both<B: Allocator + Copy>(
+        &self,
+        first: &Term,
+        second: &Term,
+        hit: &mut Vec<u32, B>,
+    ) -> Result<bool, AllocError>
+        requires first_in_range { first.now.qubit < self.now.qubits }
+        requires second_in_range { second.now.qubit < self.now.qubits }
+        ensures { IfOk result (λ done. done ≡ true
+            → hit.new.items ≡ anticommuting (first.now ∷ second.now ∷ []) self.now) }
+    {
+        if is_y(first.letter) && is_y(second.letter) {
+            return self.list_both_y(first, second, hit);
+        }
+        let one = self.columns[first.qubit as usize].kept_clashing(first.letter);
+        let other = self.columns[second.qubit as usize].kept_clashing(second.letter);
+        match (one, other) {
+            (Some(one), Some(other)) => one.list_sum(other, hit),
+            _ => Ok(false),
+        }
+    }
+
+    // The same for two letters Y.
+    #[inline(never)]
+    fn list_both_y<B: Allocator + Copy>(
+        &self,
+        first: &Term,
+        second: &Term,
+        hit: &mut Vec<u32, B>,
+    ) -> Result<bool, AllocError>
+        requires first_in_range { first.now.qubit < self.now.qubits }
+        requires second_in_range { second.now.qubit < self.now.qubits }
+        requires first_is_y { first.now.letter ≡ Y }
+        requires second_is_y { second.now.letter ≡ Y }
+        ensures { IfOk result (λ done. done ≡ true
+            → hit.new.items ≡ anticommuting (first.now ∷ second.now ∷ []) self.now) }
+    {
+        let other = &self.columns[second.qubit as usize];
+        self.columns[first.qubit as usize].list_clashing_y(other, hit)
+    }
+
+    // The commonest gate of one qubit, which exchanges X and Z.
+    #[inline(always)]
+    fn undo_h(&mut self, q: usize)
+        requires { q < self.old.qubits }
+        ensures { self.new ≡ each_word (undone_one H q) self.old }
+    {
+        self.columns[q].exchange();
+    }
+
+    // Any gate of one qubit, by the images of X and Z. It isn't inlined, so that the commonest gate is called fast.
+    #[inline(never)]
+    fn undo_one_by_table(&mut self, gate: Gate, q: usize) -> Result<(), AllocError>
+        requires arity { arity_of gate ≡ 1 }
+        requires in_range { q < self.old.qubits }
+        ensures { OnOk result (self.new ≡ each_word (undone_one gate q) self.old) }
+    {
+        let inverse = gate.inverse();
+        let (x, _) = inverse.image1(Letter::X);
+        let (z, _) = inverse.image1(Letter::Z);
+        self.columns[q].become_image(x, z, &mut self.first, &mut self.spare)
+    }
+
+    // The commonest gate of two qubits, whose images the compiler then knows.
+    #[inline(always)]
+    fn undo_cx(&mut self, a: usize, b: usize) -> Result<(), AllocError>
+        requires first_in_range { a < self.old.qubits }
+        requires second_in_range { b < self.old.qubits }
+        requires different { a ≢ b }
+        ensures { OnOk result (self.new ≡ each_word (undone_two CX a b) self.old) }
+    {
+        self.multiply(a, b, (Letter::I, Letter::Z), (Letter::X, Letter::I))
+    }
+
+    // Any gate of two qubits, by what its images show.
+    #[inline(never)]
+    fn undo_by_table(&mut self, gate: Gate, a: usize, b: usize) -> Result<(), AllocError>
+        requires arity { arity_of gate ≡ 2 }
+        requires first_in_range { a < self.old.qubits }
+        requires second_in_range { b < self.old.qubits }
+        requires different { a ≢ b }
+        ensures { OnOk result (self.new ≡ each_word (undone_two gate a b) self.old) }
+    {
+        let inverse = gate.inverse();
+        let xa = inverse.image2(Letter::X, Letter::I);
+        let za = inverse.image2(Letter::Z, Letter::I);
+        let xb = inverse.image2(Letter::I, Letter::X);
+        let zb = inverse.image2(Letter::I, Letter::Z);
+        let kept = is_kept(xa.0, za.0) && is_kept(xb.1, zb.1);
+        if kept && is_lost(xa.1, za.1, xb.0) && is_lost(xa.1, za.1, zb.0) {
+            self.multiply(a, b, (xb.0, zb.0), (xa.1, za.1))
+        } else if is_left(xa.0, za.0) && is_left(xb.1, zb.1) {
+            self.exchange(a, b, (xb.0, zb.0), (xa.1, za.1))
+        } else {
+            self.undo_by_images(gate, a, b)
+        }
+    }
+
+    // Any gate of two qubits, by the images of the letters at both.
+    fn undo_by_images(&mut self, gate: Gate, a: usize, b: usize) -> Result<(), AllocError>
+        requires arity { arity_of gate ≡ 2 }
+        requires first_in_range { a < self.old.qubits }
+        requires second_in_range { b < self.old.qubits }
+        requires different { a ≢ b }
+        ensures { OnOk result (self.new ≡ each_word (undone_two gate a b) self.old) }
+    {
+        image_pair(
+            self.columns.as_slice(),
+            gate,
+            a,
+            b,
+            &mut self.first,
+            &mut self.second,
+            &mut self.spare,
+        )?;
+        self.columns[a].swap(&mut self.first);
+        self.columns[b].swap(&mut self.second);
+        Ok(())
+    }
+}
+
+impl<S: TargetSet, A: Allocator + Copy> Tracker for Words<S, A> {
+    ghost tracked = { λ w. w };
+
+    fn keep<B: Allocator + Copy>(&self, alloc: B) -> Result<FlatLists<u32, B>, AllocError> {
+        keep_columns(&self.columns, alloc)
+    }
+
+    fn restore<B: Allocator + Copy>(
+        &mut self,
+        lists: &FlatLists<u32, B>,
+    ) -> Result<(), AllocError> {
+        restore_columns(self.columns.as_mut_slice(), lists)
+    }
+
+    fn undo1(&mut self, gate: Gate, q: usize) -> Result<(), AllocError> {
+        match gate {
+            Gate::H => {
+                self.undo_h(q);
+                Ok(())
+            }
+            _ => self.undo_one_by_table(gate, q),
+        }
+    }
+
+    fn undo2(&mut self, gate: Gate, a: usize, b: usize) -> Result<(), AllocError> {
+        match gate {
+            Gate::CX => self.undo_cx(a, b),
+            _ => self.undo_by_table(gate, a, b),
+        }
+    }
+
+    fn add(&mut self, targets: &[u32], letter: Letter, q: usize) -> Result<(), AllocError> {
+        self.columns[q].times_each(targets, letter, &mut self.set, &mut self.spare)
+    }
+
+    fn clear(&mut self, q: usize) {
+        self.columns[q].clear();
+    }
+
+    #[inline(always)]
+    fn hit<B: Allocator + Copy>(
+        &mut self,
+        terms: &[Term],
+        hit: &mut Vec<u32, B>,
+    ) -> Result<(), AllocError> {
+        let listed = self.list_hit(terms, hit);
+        if listed.is_err() {
+            hit.clear();
+        }
+        listed
+    }
+}
