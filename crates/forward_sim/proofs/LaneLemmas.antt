@@ -19,6 +19,17 @@ draws_nothing j start hits words =
       others = λ i k h. refl;
     }
 
+-- no word of a span where nothing is true
+pub draws_missed : (j start end : ℕ) (hits : ℕ → Bool) (words : List ℕ) → ((k : ℕ) → hits k ≡ false) → DrawsInto j start end hits words words
+draws_missed j start end hits words none =
+    record {
+      size = refl;
+      below = λ k h. refl;
+      inside = λ k h l. sym (ap (λ b. b || lane_bit j (get_or words k 0)) (none k));
+      above = λ k h. refl;
+      others = λ i k h. refl;
+    }
+
 pub draws_joined : (j start at end : ℕ) (hits : ℕ → Bool) (old middle new : List ℕ) → start ≤ at → at ≤ end
     → DrawsInto j start at hits old middle → DrawsInto j at end hits middle new → DrawsInto j start end hits old new
 draws_joined j start at end hits old middle new p q before after =
@@ -73,23 +84,13 @@ draws_one j at truth words word within put =
           (cases_eq k at);
     }
 
--- a word whose lane is set, and one that is left
+-- a word whose lane is set
 pub draws_hit : (j at : ℕ) (truth : Bool) (words : List ℕ) (word : ℕ) → at < length words → truth ≡ true
     → ((i : ℕ) → lane_bit i word ≡ cond (eqb i j) true (lane_bit i (get_or words at 0)))
     → DrawsInto j at (at + 1) (λ k. truth) words (set words at word)
 draws_hit j at truth words word within is put =
     draws_one j at truth words word within
     (λ i. put i ∙ ap (λ b. cond (eqb i j) (b || lane_bit i (get_or words at 0)) (lane_bit i (get_or words at 0))) (sym is))
-
-pub draws_miss : (j at : ℕ) (truth : Bool) (words : List ℕ) → truth ≡ false → DrawsInto j at (at + 1) (λ k. truth) words words
-draws_miss j at truth words is =
-    record {
-      size = refl;
-      below = λ k h. refl;
-      inside = λ k h l. sym (ap (λ b. b || lane_bit j (get_or words k 0)) is);
-      above = λ k h. refl;
-      others = λ i k h. refl;
-    }
 
 -- a lane that was blank holds the truth values that its words became
 pub lane_filled : (j n : ℕ) (hits : ℕ → Bool) (old new : List ℕ) → length old ≡ n → length new ≡ length old → lane j old ≡ replicate n false

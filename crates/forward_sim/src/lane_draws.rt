@@ -1,5 +1,5 @@
 // A shot drawn into one lane of words.
-ghost use Rattle.std.specs.Prelude.{◌≡◌, ◌==◌, ◌||◌, ℕ, ◌+◌, ◌-◌, ◌<◌, ◌≤◌, nat_lt, if◌then◌else◌, length};
+ghost use Rattle.std.specs.Prelude.{◌≡◌, ◌==◌, ◌||◌, true, ℕ, ◌+◌, ◌-◌, ◌<◌, ◌≤◌, nat_lt, if◌then◌else◌, length};
 ghost use Rattle.bit_rows.specs.Lanes.{lane_bit};
 ghost use Rattle.forward_sim.specs.private.BoundRuns.{bounds_in};
 ghost use Rattle.forward_sim.specs.Drawn.{after_words, word_at};
@@ -53,10 +53,25 @@ pub(crate) fn strike(faults: &mut [u64], f: usize, lane: u32, hit: bool)
     }
 }
 
-// A coin is its word's lowest bit.
-pub(crate) fn draw_coins(coins: &mut [u64], lane: u32, rng: &mut Pcg64)
+/// The coins. Where none is tossed, the generator passes over their words.
+pub(crate) fn draw_coins(coins: &mut [u64], tosses: bool, lane: u32, rng: &mut Pcg64)
     requires { lane < 64 }
-    ensures drawn { DrawsInto lane 0 (length coins.old) (coin_hits rng.old) coins.old coins.new }
+    ensures drawn { DrawsInto lane 0 (length coins.old) (coin_hits tosses rng.old)
+        coins.old coins.new }
+    ensures taken { rng.new ≡ after_words (length coins.old) rng.old }
+{
+    if tosses {
+        toss_coins(coins, lane, rng);
+    } else {
+        rng.advance(coins.len() as u128);
+    }
+}
+
+// A coin is its word's lowest bit.
+fn toss_coins(coins: &mut [u64], lane: u32, rng: &mut Pcg64)
+    requires { lane < 64 }
+    ensures drawn { DrawsInto lane 0 (length coins.old) (coin_hits true rng.old)
+        coins.old coins.new }
     ensures taken { rng.new ≡ after_words (length coins.old) rng.old }
 {
     for c in 0..coins.len() {

@@ -1,5 +1,5 @@
 // Shots drawn into two lanes at once, each by a generator of its own.
-ghost use Rattle.std.specs.Prelude.{◌≡◌, ◌≢◌, ℕ, ◌+◌, ◌-◌, ◌^◌, ◌<◌, ◌≤◌, nat_le, nat_lt, length};
+ghost use Rattle.std.specs.Prelude.{◌≡◌, ◌≢◌, ℕ, ◌+◌, ◌-◌, ◌^◌, ◌<◌, ◌≤◌, nat_le, nat_lt, true, length};
 ghost use Rattle.forward_sim.specs.private.BoundRuns.{bounds_in};
 ghost use Rattle.forward_sim.specs.Drawn.{after_words, word_at};
 ghost use Rattle.forward_sim.specs.private.LaneDraws.{coin_hits, fault_hits};
@@ -21,10 +21,11 @@ pub(crate) struct LanePair {
     ghost second_below: { second < 64 },
 }
 
-/// Faults, and then coins.
+/// Faults, and then coins, where these are tossed: else the generators pass over their words.
 pub(crate) fn draw_pair(
     faults: &mut [u64],
     coins: &mut [u64],
+    tosses: bool,
     runs: &[BoundRun],
     lanes: LanePair,
     first: &mut Pcg64,
@@ -35,14 +36,14 @@ pub(crate) fn draw_pair(
         (fault_hits (bounds_in runs.now) first.old) (fault_hits (bounds_in runs.now) second.old)
         faults.old faults.new }
     ensures coins { let n = length (bounds_in runs.now) in
-        DrawsIntoBoth lanes.first lanes.second 0 (length coins.old) (coin_hits (after_words n first.old)) (coin_hits (after_words n second.old)) coins.old coins.new }
+        DrawsIntoBoth lanes.first lanes.second 0 (length coins.old) (coin_hits tosses (after_words n first.old)) (coin_hits tosses (after_words n second.old)) coins.old coins.new }
     ensures first { first.new
         ≡ after_words (length coins.old) (after_words (length (bounds_in runs.now)) first.old) }
     ensures second { second.new
         ≡ after_words (length coins.old) (after_words (length (bounds_in runs.now)) second.old) }
 {
     draw_faults(faults, runs, lanes, first, second);
-    draw_coins(coins, lanes, first, second);
+    draw_coins(coins, tosses, lanes, first, second);
 }
 
 // A fault happens where its word is below its bound.
@@ -117,10 +118,30 @@ fn word_below(bound: u128) -> u64
     }
 }
 
-// A coin is its word's lowest bit.
-fn draw_coins(coins: &mut [u64], lanes: LanePair, first: &mut Pcg64, second: &mut Pcg64)
+fn draw_coins(
+    coins: &mut [u64],
+    tosses: bool,
+    lanes: LanePair,
+    first: &mut Pcg64,
+    second: &mut Pcg64,
+)
     ensures drawn { DrawsIntoBoth lanes.first lanes.second 0 (length coins.old)
-        (coin_hits first.old) (coin_hits second.old) coins.old coins.new }
+        (coin_hits tosses first.old) (coin_hits tosses second.old) coins.old coins.new }
+    ensures first { first.new ≡ after_words (length coins.old) first.old }
+    ensures second { second.new ≡ after_words (length coins.old) second.old }
+{
+    if tosses {
+        toss_coins(coins, lanes, first, second);
+    } else {
+        first.advance(coins.len() as u128);
+        second.advance(coins.len() as u128);
+    }
+}
+
+// A coin is its word's lowest bit.
+fn toss_coins(coins: &mut [u64], lanes: LanePair, first: &mut Pcg64, second: &mut Pcg64)
+    ensures drawn { DrawsIntoBoth lanes.first lanes.second 0 (length coins.old)
+        (coin_hits true first.old) (coin_hits true second.old) coins.old coins.new }
     ensures first { first.new ≡ after_words (length coins.old) first.old }
     ensures second { second.new ≡ after_words (length coins.old) second.old }
 {

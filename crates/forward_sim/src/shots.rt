@@ -16,6 +16,7 @@ use step_model::Fault;
 #[derive(Drop)]
 pub struct Shots<A: Allocator + Copy> {
     runs: Vec<BoundRun, A>,
+    tosses: bool,
     faults: Vec<u64, A>,
     coins: Vec<u64, A>,
 }
@@ -27,15 +28,17 @@ impl<A: Allocator + Copy> Model for Shots<A> {
 
     ghost Value = { ShotWords };
 
-    ghost view = { λ s. record { bounds = bounds_in s.runs.items; faults = s.faults.items; coins = s.coins.items } };
+    ghost view = { λ s. record { bounds = bounds_in s.runs.items; tosses = s.tosses; faults = s.faults.items; coins = s.coins.items } };
 
     ghost invariant = { λ s. length s.faults.items ≡ length (bounds_in s.runs.items) };
 }
 
 impl<A: Allocator + Copy> Shots<A> {
-    /// Shots in which no fault happens and all coins are 0. All memory is taken here.
-    pub fn new(alloc: A, program: &Program<'_, A>) -> Result<Self, Fault>
+    /// Shots in which no fault happens and all coins are 0. They stay 0, and the generator passes over their words, where `tosses`
+    /// is false: that is faster. All memory is taken here.
+    pub fn new(alloc: A, program: &Program<'_, A>, tosses: bool) -> Result<Self, Fault>
         ensures bounds { IfOk result (λ shots. shots.bounds ≡ bounds_of program.now.listing) }
+        ensures tosses { IfOk result (λ shots. shots.tosses ≡ tosses) }
         ensures faults { IfOk result (λ shots. shots.faults
             ≡ replicate (length program.now.listing.faults) 0) }
         ensures coins { IfOk result (λ shots. shots.coins
@@ -47,6 +50,7 @@ impl<A: Allocator + Copy> Shots<A> {
         let coins = vec![in alloc; 0u64; program.collapse_count() as usize]?;
         Ok(Shots {
             runs,
+            tosses,
             faults,
             coins,
         })
@@ -57,14 +61,16 @@ impl<A: Allocator + Copy> Shots<A> {
     pub fn draw(&mut self, count: u32, rng: &mut Pcg64)
         requires { count ≤ 64 }
         ensures bounds { self.new.bounds ≡ self.old.bounds }
-        ensures drawn { AreDrawn self.old.bounds (length self.old.coins) count rng.old
-            self.new.faults self.new.coins }
+        ensures drawn { AreDrawn self.old.tosses self.old.bounds (length self.old.coins) count
+            rng.old self.new.faults self.new.coins }
+        ensures tosses { self.new.tosses ≡ self.old.tosses }
         ensures taken { rng.new
             ≡ after_shots (length self.old.bounds) (length self.old.coins) count rng.old }
     {
         draw_lanes(
             &mut self.faults,
             &mut self.coins,
+            self.tosses,
             self.runs.as_slice(),
             count,
             rng,

@@ -1,5 +1,5 @@
 -- The lines of shots, batch after batch.
-use Rattle.std.proofs.Common.{◌≡◌, ℕ, zero, suc, ◌+◌, ◌*◌, ◌<◌, ◌≤◌, List, [], ◌++◌, length, refl, sym, ap, ap₂, ◌∙◌, arith}
+use Rattle.std.proofs.Common.{◌≡◌, ℕ, zero, suc, ◌+◌, ◌*◌, ◌<◌, ◌≤◌, Bool, true, false, List, [], ◌++◌, length, refl, sym, ap, ap₂, ◌∙◌, arith}
 use Rattle.std.specs.List.{flat_map, range_with_len}
 use Rattle.std.proofs.Math.Nat.{add-mul}
 use Rattle.std.proofs.lemmas.Grind.{flat_map-append}
@@ -8,15 +8,15 @@ use Rattle.rand_pcg.specs.Lcg.{Lcg}
 use Rattle.step_model.specs.Listing.{Listing, ListedFault}
 use Rattle.step_model.proofs.RangeLemmas.{range-append}
 use Rattle.bit_rows.specs.Lanes.{lane}
-use Rattle.forward_sim.specs.Drawn.{after_words, bounds_of, drawn_coins, drawn_faults, after_shots}
-use Rattle.forward_sim.specs.Shots.{AreDrawn}
+use Rattle.forward_sim.specs.Drawn.{after_words, bounds_of, drawn_faults, after_shots}
+use Rattle.forward_sim.specs.Shots.{AreDrawn, tossed_coins}
 use Rattle.forward_sim.proofs.WordLemmas.{after_words-add}
 use Rattle.sampling.specs.private.LaneLines.{lane_line, lane_lines}
 use Rattle.sampling.specs.Lines.{line_of}
-use Rattle.sampling.specs.Sampled.{lines_from, shot_generator}
+use Rattle.sampling.specs.Sampled.{lines_from, shot_coins, shot_faults, shot_generator}
 use Rattle.sampling.specs.declared.side_runs.Shown.{Shown}
 use Rattle.sampling.specs.Shown.{shown_line}
-use Rattle.sampling.specs.private.ShownRuns.{shown_of}
+use Rattle.sampling.specs.private.ShownRuns.{CoinsDontCount, shown_of}
 use Rattle.sampling.proofs.ShownLemmas.{shown_line-is}
 
 -- texts by numbers from elsewhere on
@@ -64,16 +64,25 @@ batch_lines line program count g words same =
     let here : 0 + j ≡ j = omega arith in
     ap (λ k. line program (shot_generator program g k)) here ∙ same j (omega (arith, high))))
 
--- the line of a shot that was drawn into a lane and run
-pub drawn_line : (shown : Shown) (program : Listing) (count j : ℕ) (g : Lcg) (faults coins words : List ℕ) → count ≤ 64 → j < count
-    → AreDrawn (bounds_of program) program.collapses count g faults coins
+-- the line of a shot that was drawn into a lane and run; its coins count only where they are tossed
+pub drawn_line : (tosses : Bool) (shown : Shown) (program : Listing) (count j : ℕ) (g : Lcg) (faults coins words : List ℕ) → count ≤ 64 → j < count
+    → AreDrawn tosses (bounds_of program) program.collapses count g faults coins
+    → (tosses ≡ false → CoinsDontCount shown program)
     → ((i : ℕ) → i < 64 → lane i words ≡ shown_of shown program (lane i faults) (lane i coins))
     → shown_line shown program (shot_generator program g j) ≡ lane_line words j
-drawn_line shown program count j g faults coins words few below drawn runs =
+drawn_line tosses shown program count j g faults coins words few below drawn quiet runs =
+    let at = shot_generator program g j in
     let n : length (bounds_of program) ≡ length program.faults = length-map program.faults (λ (fault : ListedFault). fault.bound) in
-    shown_line-is shown program (shot_generator program g j)
-    ∙ ap line_of
-    (ap₂ (shown_of shown program)
-    (ap (λ m. drawn_faults (bounds_of program) (after_shots m program.collapses j g)) (sym n) ∙ sym (drawn.faults j below))
-    (ap (λ m. drawn_coins program.collapses (after_words m (after_shots m program.collapses j g))) (sym n) ∙ sym (drawn.coins j below))
-    ∙ sym (runs j (omega (arith, few, below))))
+    let same_faults : shot_faults program at ≡ lane j faults =
+    ap (λ m. drawn_faults (bounds_of program) (after_shots m program.collapses j g)) (sym n) ∙ sym (drawn.faults j below) in
+    let same_coins : tossed_coins tosses program.collapses (after_words (length program.faults) at) ≡ lane j coins =
+    ap (λ m. tossed_coins tosses program.collapses (after_words m (after_shots m program.collapses j g))) (sym n) ∙ sym (drawn.coins j below) in
+    shown_line-is shown program at
+    ∙ (ap line_of (like_tossed tosses quiet ∙ ap₂ (shown_of shown program) same_faults same_coins)
+    ∙ ap line_of (sym (runs j (omega (arith, few, below)))))
+  where
+    like_tossed : (t : Bool) → (t ≡ false → CoinsDontCount shown program)
+        → shown_of shown program (shot_faults program (shot_generator program g j)) (shot_coins program (shot_generator program g j))
+        ≡ shown_of shown program (shot_faults program (shot_generator program g j)) (tossed_coins t program.collapses (after_words (length program.faults) (shot_generator program g j)))
+    like_tossed true so = refl
+    like_tossed false so = so refl _ _ _
