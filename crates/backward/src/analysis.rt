@@ -1,14 +1,14 @@
 //! The error model of a program, or a random target.
-ghost use Rattle.std.specs.Prelude.{◌≡◌, [], false, length, reverse, IfOk, IfErr, IfNone, IfSome, OnOk};
+ghost use Rattle.std.specs.Prelude.{◌≡◌, [], false, length, reverse, IfOk, IfErr, OnOk};
 ghost use Rattle.step_model.specs.Faults.{memory_fault};
 ghost use Rattle.step_model.specs.HitModels.{model_of};
 ghost use Rattle.step_model.specs.Targets.{targets_of};
-ghost use Rattle.backward.specs.Places.{IsAnalysed, IsLowestRandom, NoneIsRandom};
+ghost use Rattle.backward.specs.Places.{IsAnalysed};
 ghost use Rattle.backward.specs.Tracked.{fresh};
 ghost use Rattle.backward.specs.private.Passes.{IsPassed};
 
 use crate::found::Found;
-use crate::line_store::{LineStore, ModelStore, NoLines};
+use crate::line_store::ModelStore;
 use crate::pass::step_back;
 use crate::places::random_target;
 use crate::point::Point;
@@ -68,40 +68,17 @@ fn find_model<'a, A: Allocator + Copy, T: Tracker + Drop>(
     }
 }
 
-/// The lowest target that is random, and its place, without the error model. It fails only where memory runs out.
-pub fn find_random<'a, A: Allocator + Copy, T: Tracker + Drop>(
-    alloc: A,
-    program: &Program<'a, A>,
-    tracker: T,
-) -> Result<Option<(u32, Place)>, Fault>
-    requires { T.tracked tracker
-        ≡ fresh program.now.listing.qubits (length (targets_of program.now.listing)) }
-    ensures none { IfOk result (λ random. IfNone random (NoneIsRandom program.now.listing)) }
-    ensures lowest { IfOk result (λ random. IfSome random (λ random. IsLowestRandom
-        program.now.listing random.0 random.1)) }
-    ensures err { IfErr result (λ e. e ≡ memory_fault) }
-{
-    program.well_formed();
-    let mut found = Found::new(&alloc, program)?;
-    let mut at = Point {
-        walk: Walk::end(program),
-        tracker,
-    };
-    go_back(program, &mut at, &mut found, &mut NoLines { program })?;
-    Ok(random_target(program, &mut at.tracker, &mut found)?)
-}
-
 // Goes back over all steps.
-fn go_back<'s, 'p, 'a, A: Allocator + Copy, T: Tracker, L: LineStore>(
+fn go_back<'s, 'p, 'a, A: Allocator + Copy, T: Tracker>(
     program: &Program<'a, A>,
     at: &mut Point<'p, 'a, A, T>,
     found: &mut Found<'s, A>,
-    lines: &mut L,
+    lines: &mut ModelStore<'_, 'a, A>,
 ) -> Result<(), AllocError>
     requires program { at.old.walk.program ≡ program.now }
     requires place { at.old.walk.place ≡ length program.now.listing.steps }
-    requires store { L.program lines.old ≡ program.now }
-    requires none { L.holds lines.old [] }
+    requires store { lines.old.program.now ≡ program.now }
+    requires none { lines.old.model.lines ≡ [] }
     requires first { found.old.settled ≡ false }
     requires passed { IsPassed program.now.listing at.old.walk.place (T.tracked at.old.tracker)
         found.old }
@@ -109,7 +86,7 @@ fn go_back<'s, 'p, 'a, A: Allocator + Copy, T: Tracker, L: LineStore>(
     ensures passed { OnOk result
         (IsPassed program.now.listing 0 (T.tracked at.new.tracker) found.new) }
     ensures lines { OnOk result
-        (L.holds lines.new (reverse (model_of program.now.listing).lines)) }
+        (lines.new.model.lines ≡ reverse (model_of program.now.listing).lines) }
 {
     program.well_formed();
     while at.walk.place() > 0 {

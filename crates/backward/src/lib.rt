@@ -24,7 +24,7 @@ mod tracker;
 mod words;
 mod writing;
 
-pub use analysis::{Analysed, analyse, find_random};
+pub use analysis::{Analysed, analyse};
 pub use tracker::Tracker;
 pub use words::{DenseWords, QubitSets, Words};
 pub use writing::{write_analysis, write_in_parts};

@@ -101,7 +101,7 @@ fn write_random<W: Sink, A: Allocator + Copy>(
 }
 
 /// Words for the targets of a program, each the identity.
-pub(crate) fn fresh_words<'s, A: Allocator + Copy>(
+fn fresh_words<'s, A: Allocator + Copy>(
     alloc: &'s A,
     program: &Program<'_, A>,
 ) -> Result<QubitSets<'s, A>, Fault>

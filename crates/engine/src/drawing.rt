@@ -1,27 +1,20 @@
 //! Shots of a circuit.
-ghost use Rattle.std.specs.Prelude.{◌≡◌, ◌⊎◌, Err, false, true, IfOk, IfErr, IfNone, OnOk, OnErr};
+ghost use Rattle.std.specs.Prelude.{◌≡◌, ◌⊎◌, Err, IfOk, IfErr, OnOk, OnErr};
 ghost use Rattle.step_model.specs.Ends.{Takes, TakesSome, write_failures};
 ghost use Rattle.step_model.specs.Faults.{memory_fault, write_fault};
 ghost use Rattle.engine.specs.Output.{program_shots, refused_or, shots_output};
-ghost use Rattle.backward.specs.Places.{NoneIsRandom};
 ghost use Rattle.sampling.specs.Shown.{shown_line};
-ghost use Rattle.sampling.specs.declared.side_runs.Shown.TheVariants.{Detections};
 
-use crate::analysis::fresh_words;
 use crate::order::Status;
 use crate::refusing::refuse;
-use backward::find_random;
 use programs::Program;
 use sampling::Shown;
 use std::alloc::Allocator;
-use step_model::{Cause, Fault, Place, Sink};
+use step_model::{Cause, Fault, Sink};
 use unroll::read_program;
 
 /// How many shots an order may ask for.
 const MOST_SHOTS: u64 = 1_000_000;
-
-/// How many shots make it worth while to find out first whether coins count.
-const MANY_SHOTS: u64 = 64;
 
 const TOO_MANY: Fault = Fault {
     cause: Cause::Shots,
@@ -73,45 +66,6 @@ fn write_shots<W: Sink, A: Allocator + Copy>(
     if shots > MOST_SHOTS {
         return refuse(alloc, TOO_MANY, sink);
     }
-    let tosses = coins_may_count(alloc, program, shown, shots);
-    sampling::write_shots(alloc, program, shown, tosses, shots, seed, sink)?;
+    sampling::write_shots(alloc, program, shown, shots, seed, sink)?;
     Ok(Status::Done)
-}
-
-/// Whether coins may count in what is shown of this many shots. They don't in detections where no target is random: to find
-/// that out is worth it where shots are many.
-fn coins_may_count<A: Allocator + Copy>(
-    alloc: A,
-    program: &Program<'_, A>,
-    shown: Shown,
-    shots: u64,
-) -> bool
-    ensures detections { result ≡ false → shown ≡ Detections }
-    ensures none_random { result ≡ false → NoneIsRandom program.now.listing }
-{
-    match shown {
-        Shown::Detections if shots >= MANY_SHOTS => !none_is_random(alloc, program),
-        _ => true,
-    }
-}
-
-/// Whether no target is random; it is also false where memory runs out before that is known.
-fn none_is_random<A: Allocator + Copy>(alloc: A, program: &Program<'_, A>) -> bool
-    ensures { result ≡ true → NoneIsRandom program.now.listing }
-{
-    match judge(alloc, program) {
-        Ok(None) => true,
-        _ => false,
-    }
-}
-
-fn judge<A: Allocator + Copy>(
-    alloc: A,
-    program: &Program<'_, A>,
-) -> Result<Option<(u32, Place)>, Fault>
-    ensures { IfOk result (λ random. IfNone random (NoneIsRandom program.now.listing)) }
-{
-    program.well_formed();
-    let words = fresh_words(&alloc, program)?;
-    find_random(alloc, program, words)
 }

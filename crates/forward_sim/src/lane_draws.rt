@@ -1,9 +1,9 @@
 // A shot drawn into one lane of words.
-ghost use Rattle.std.specs.Prelude.{◌≡◌, ◌==◌, ◌||◌, true, ℕ, ◌+◌, ◌-◌, ◌<◌, ◌≤◌, nat_lt, if◌then◌else◌, length};
+ghost use Rattle.std.specs.Prelude.{◌≡◌, ◌==◌, ◌||◌, ℕ, ◌+◌, ◌-◌, ◌<◌, ◌≤◌, nat_lt, if◌then◌else◌, length};
 ghost use Rattle.bit_rows.specs.Lanes.{lane_bit};
 ghost use Rattle.forward_sim.specs.private.BoundRuns.{bounds_in};
 ghost use Rattle.forward_sim.specs.Drawn.{after_words, word_at};
-ghost use Rattle.forward_sim.specs.private.LaneDraws.{DrawsInto, coin_hits, fault_hits};
+ghost use Rattle.forward_sim.specs.private.LaneDraws.{DrawsInto, coin_hits, fault_hits, toss_hits};
 
 use crate::runs::BoundRun;
 use bit_rows::lanes::with_bit;
@@ -53,28 +53,26 @@ pub(crate) fn strike(faults: &mut [u64], f: usize, lane: u32, hit: bool)
     }
 }
 
-/// The coins. Where none is tossed, the generator passes over their words.
-pub(crate) fn draw_coins(coins: &mut [u64], tosses: bool, lane: u32, rng: &mut Pcg64)
-    requires { lane < 64 }
-    ensures drawn { DrawsInto lane 0 (length coins.old) (coin_hits tosses rng.old)
+/// The coins, of which the first ones are tossed. The generator passes over the words of the others.
+pub(crate) fn draw_coins(coins: &mut [u64], tossed: usize, lane: u32, rng: &mut Pcg64)
+    requires lane { lane < 64 }
+    requires tossed { tossed ≤ length coins.old }
+    ensures drawn { DrawsInto lane 0 (length coins.old) (coin_hits tossed rng.old)
         coins.old coins.new }
     ensures taken { rng.new ≡ after_words (length coins.old) rng.old }
 {
-    if tosses {
-        toss_coins(coins, lane, rng);
-    } else {
-        rng.advance(coins.len() as u128);
-    }
+    toss_coins(coins, tossed, lane, rng);
+    rng.advance((coins.len() - tossed) as u128);
 }
 
 // A coin is its word's lowest bit.
-fn toss_coins(coins: &mut [u64], lane: u32, rng: &mut Pcg64)
-    requires { lane < 64 }
-    ensures drawn { DrawsInto lane 0 (length coins.old) (coin_hits true rng.old)
-        coins.old coins.new }
-    ensures taken { rng.new ≡ after_words (length coins.old) rng.old }
+fn toss_coins(coins: &mut [u64], tossed: usize, lane: u32, rng: &mut Pcg64)
+    requires lane { lane < 64 }
+    requires tossed { tossed ≤ length coins.old }
+    ensures drawn { DrawsInto lane 0 tossed (toss_hits rng.old) coins.old coins.new }
+    ensures taken { rng.new ≡ after_words tossed rng.old }
 {
-    for c in 0..coins.len() {
+    for c in 0..tossed {
         let coin = rng.next_word() % 2 == 1;
         toss(coins, c, lane, coin);
     }

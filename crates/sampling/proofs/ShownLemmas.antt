@@ -8,16 +8,15 @@ use Rattle.forward_sim.proofs.RunRecords.{length-records_of}
 use Rattle.step_model.specs.Frames.{zero_coins}
 use Rattle.step_model.specs.Listing.{Listing}
 use Rattle.step_model.specs.Runs.{records_of}
-use Rattle.step_model.specs.Targets.{difference, differences, parities, parity, target_at, targets_of}
+use Rattle.step_model.specs.Targets.{difference, parity, targets_of}
 use Rattle.step_model.specs.WellFormed.{IsWellFormed}
 use Rattle.bit_rows.specs.Lanes.{lane, lane_bit}
-use Rattle.run_laws.specs.Constants.{IsConstant}
 use Rattle.sampling.specs.declared.side_runs.Shown.{Shown}
 use Rattle.sampling.specs.declared.side_runs.Shown.TheVariants.{Records, Detections}
 use Rattle.sampling.specs.Lines.{line_of}
 use Rattle.sampling.specs.Sampled.{shot_coins, shot_faults}
 use Rattle.sampling.specs.Shown.{shown_line}
-use Rattle.sampling.specs.private.ShownRuns.{CoinsDontCount, shown_count, shown_of}
+use Rattle.sampling.specs.private.ShownRuns.{shown_count, shown_of}
 
 -- one word more
 pub filled_more : (Is : ℕ → ℕ → Type 0) (words : List ℕ) (at word : ℕ) → at < length words
@@ -60,24 +59,3 @@ pub shown_line-is : (shown : Shown) (program : Listing) (g : Lcg)
     → shown_line shown program g ≡ line_of (shown_of shown program (shot_faults program g) (shot_coins program g))
 shown_line-is Records program g = refl
 shown_line-is Detections program g = refl
-
--- targets whose parities are the same in two runs
-parities_same : (program : Listing) (first second : List Bool)
-    → ((d : ℕ) → d < length (targets_of program) → parity (target_at program d) first ≡ parity (target_at program d) second)
-    → parities program first ≡ parities program second
-parities_same program first second same =
-    let targets = targets_of program in
-    ext_get_or false (parities program first) (parities program second)
-    (length-map targets (λ t. parity t first) ∙ sym (length-map targets (λ t. parity t second)))
-    (λ d below.
-    let within : d < length targets = omega (arith, below, length-map targets (λ t. parity t first)) in
-    get_or-map (λ t. parity t first) targets d [] false within
-    ∙ (same d within ∙ sym (get_or-map (λ t. parity t second) targets d [] false within)))
-
--- no coin counts where detections are shown and each target is constant
-pub coins_dont_count : (shown : Shown) (program : Listing) → shown ≡ Detections
-    → ((d : ℕ) → d < length (targets_of program) → IsConstant program d) → CoinsDontCount shown program
-coins_dont_count shown program is constant faults first second =
-    subst (λ s. shown_of s program faults first ≡ shown_of s program faults second) (sym is)
-    (ap (λ ps. differences ps (parities program (records_of program [] (zero_coins program))))
-    (parities_same program (records_of program faults first) (records_of program faults second) (λ d below. constant d below faults first second)))

@@ -1,43 +1,29 @@
 //! Drawn shots of a program, a line each.
-ghost use Rattle.std.specs.Prelude.{◌≡◌, ◌⊎◌, ◌+◌, ◌<◌, ℕ, false, None, length, replicate, IfOk, IfErr, OnOk, OnErr};
+ghost use Rattle.std.specs.Prelude.{◌≡◌, ◌⊎◌, ◌+◌, length, replicate, IfOk, IfErr, OnOk, OnErr};
 ghost use Rattle.step_model.specs.Ends.{Takes, TakesSome, write_failures};
 ghost use Rattle.step_model.specs.Faults.{memory_fault, write_fault};
-ghost use Rattle.step_model.specs.Sensitivities.{place_of};
-ghost use Rattle.step_model.specs.Targets.{targets_of};
 ghost use Rattle.sampling.specs.Sampled.{shots_text};
-ghost use Rattle.sampling.specs.declared.side_runs.Shown.TheVariants.{Detections};
 ghost use Rattle.sampling.specs.Shown.{shown_line};
-ghost use Rattle.sampling.specs.private.ShownRuns.{CoinsDontCount};
 
 use crate::batches::write_batches;
 use crate::side_runs::{Shown, SideRuns, count};
 use forward_sim::Shots;
 use frames::Batch;
 use programs::Program;
-use run_laws::constancy::parity_is_constant;
 use std::alloc::{AllocError, Allocator};
 use step_model::{Fault, Sink};
 
 /// Writes a line for each of the first `shots` shots of a seed: a digit for each truth value that is shown of it. All memory is
 /// taken before the first line goes out, and it doesn't grow with the number of shots. It fails where memory runs out or the
 /// sink fails.
-///
-/// `tosses` may be false where detections are shown and no detector and no observable is random: the lines are the same, and
-/// are written faster.
 pub fn write_shots<W: Sink, A: Allocator + Copy>(
     alloc: A,
     program: &Program<'_, A>,
     shown: Shown,
-    tosses: bool,
     shots: u64,
     seed: u64,
     sink: &mut W,
 ) -> Result<(), Fault>
-    requires detections { tosses ≡ false → shown ≡ Detections }
-    requires none_random { tosses ≡ false
-        → (d : ℕ)
-        → d < length (targets_of program.now.listing)
-        → place_of program.now.listing d ≡ None }
     ensures written { OnOk result
         (Takes (W.taken sink.old) (W.taken sink.new)
         (shots_text (shown_line shown) shots seed program.now.listing)) }
@@ -47,26 +33,12 @@ pub fn write_shots<W: Sink, A: Allocator + Copy>(
         (TakesSome (W.taken sink.old) (W.taken sink.new)
         (shots_text (shown_line shown) shots seed program.now.listing)) }
 {
-    no_coin_counts(program, shown, tosses);
     let mut words = vec![in alloc; 0u64; count(program, shown)]?;
     let mut line = room_for(alloc, &words)?;
-    let mut drawn = Shots::new(alloc, program, tosses)?;
     let mut batch = Batch::new(alloc, program)?;
+    let mut drawn = Shots::new(alloc, program, batch.coins_that_count(program))?;
     let mut runs = SideRuns::new(program, &mut batch, shown, &mut words);
     write_batches(&mut drawn, &mut runs, &mut line, shots, seed, sink)
-}
-
-// Does nothing: detections of targets that aren't random are the same for all coins.
-fn no_coin_counts<A: Allocator + Copy>(program: &Program<'_, A>, shown: Shown, tosses: bool)
-    requires detections { tosses ≡ false → shown ≡ Detections }
-    requires none_random { tosses ≡ false
-        → (d : ℕ)
-        → d < length (targets_of program.now.listing)
-        → place_of program.now.listing d ≡ None }
-    ensures { tosses ≡ false → CoinsDontCount shown program.now.listing }
-{
-    program.well_formed();
-    parity_is_constant();
 }
 
 // A line with a digit for each of these words, and its line feed.

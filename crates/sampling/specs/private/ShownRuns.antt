@@ -1,6 +1,6 @@
 -- 64 runs of a program side by side, and what is shown of them.
 -- (This project's own.)
-use Rattle.std.specs.Prelude.{◌≡◌, ℕ, ◌+◌, Bool, List, [], length}
+use Rattle.std.specs.Prelude.{ℕ, ◌+◌, Bool, List, [], length}
 use Rattle.step_model.specs.Frames.{zero_coins}
 use Rattle.step_model.specs.Listing.{Listing}
 use Rattle.step_model.specs.Runs.{records_of}
@@ -28,8 +28,3 @@ shown_beside Detections program records reference = difference program records r
 abbrev pub shown_of : Shown → Listing → List Bool → List Bool → List Bool
 shown_of shown program faults coins =
     shown_beside shown program (records_of program faults coins) (records_of program [] (zero_coins program))
-
--- whatever faults happen, all coins show the same
-abbrev pub CoinsDontCount : Shown → Listing → Type 0
-CoinsDontCount shown program =
-    (faults first second : List Bool) → shown_of shown program faults first ≡ shown_of shown program faults second

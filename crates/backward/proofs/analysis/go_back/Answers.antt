@@ -1,4 +1,4 @@
-use Rattle.std.proofs.Common.{◌≡◌, ◌<◌, ◌+◌, ap, sym, subst, ◌∙◌, arith}
+use Rattle.std.proofs.Common.{◌≡◌, ◌<◌, ◌+◌, refl, ap, sym, ◌∙◌, arith}
 use Rattle.std.specs.Prelude.{List, length, reverse, ◌++◌}
 use Rattle.step_model.specs.ErrorModels.{ErrorLine}
 use Rattle.backward.specs.private.Stretches.{lines_at, lines_between}
@@ -13,10 +13,7 @@ loop-at-init g c =
       store = c.requires.store;
       first = c.requires.first;
       passed = c.requires.passed;
-      lines =
-          subst (g.L.LineStore.holds c.args.lines.now)
-          (ap (reverse {A = ErrorLine}) (sym (lines_between-none program (length program.steps)) ∙ ap (λ k. lines_between program k (length program.steps)) (sym c.requires.place)))
-          c.requires.none;
+      lines = c.requires.none ∙ ap (reverse {A = ErrorLine}) (sym (lines_between-none program (length program.steps)) ∙ ap (λ k. lines_between program k (length program.steps)) (sym c.requires.place));
     }
 
 pub loop-at-preserved : goal.loop-at-preserved
@@ -34,15 +31,13 @@ loop-at-preserved g c =
       first = e.stays.settled ∙ l.invariant.first;
       passed = c.in_ok-step_back.ensures.passed;
       lines =
-          subst (g.L.LineStore.holds c.step_back.new.lines)
-          (ap (λ j. reverse (lines_between program j to) ++ lines_at program k) next ∙ lines_back-more program k to within)
-          (c.in_ok-step_back.ensures.lines (reverse (lines_between program l.at.walk.place to)) l.invariant.lines);
+          c.in_ok-step_back.ensures.lines l.lines.model.lines refl
+          ∙ (ap (λ (lines : List ErrorLine). lines ++ lines_at program k) (l.invariant.lines ∙ ap (λ j. reverse (lines_between program j to)) next)
+          ∙ lines_back-more program k to within);
     }
 
 pub returns-clause-lines : goal.returns-clause-lines
 returns-clause-lines g c =
     let program = c.args.program.now.listing in
     let none : c.loop-at.at.walk.place ≡ 0 = omega (arith, c.loop-at-test.false, c.place.ensures) in
-    subst (g.L.LineStore.holds c.loop-at.lines)
-    (ap (reverse {A = ErrorLine}) (ap (λ k. lines_between program k (length program.steps)) none ∙ lines_between-all program c.well_formed-2.ensures.listing))
-    c.loop-at.invariant.lines
+    c.loop-at.invariant.lines ∙ ap (reverse {A = ErrorLine}) (ap (λ k. lines_between program k (length program.steps)) none ∙ lines_between-all program c.well_formed-2.ensures.listing)

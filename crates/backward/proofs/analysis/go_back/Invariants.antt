@@ -9,10 +9,10 @@ abbrev pub invariant-loop-at : goal.invariant-loop-at
 invariant-loop-at g l =
     record {
       program_is : l.at.walk.program ≡ l.program;
-      store : g.L.LineStore.program l.lines ≡ l.program;
+      store : l.lines.program.now ≡ l.program;
       first : l.found.settled ≡ false;
       passed : IsPassed l.program.listing l.at.walk.place (g.T.Tracker.tracked l.at.tracker) l.found;
-      lines : g.L.LineStore.holds l.lines (reverse (lines_between l.program.listing l.at.walk.place (length l.program.listing.steps)));
+      lines : l.lines.model.lines ≡ reverse (lines_between l.program.listing l.at.walk.place (length l.program.listing.steps));
     }
 
 abbrev pub decreases-loop-at : goal.decreases-loop-at

@@ -132,7 +132,7 @@ fn shots_are_right<'m>(
     memory: Memory<'m>,
     program: &Program<'_, Memory<'m>>,
 ) -> Result<bool, Fault> {
-    let shots = Shots::new(memory, program, true)?;
+    let shots = Shots::new(memory, program, program.collapse_count() as usize)?;
     Ok(shots.faults() == [0; 10].as_slice() && shots.coins() == [0; 11].as_slice())
 }
 
@@ -144,7 +144,7 @@ fn lines_are_right<'m>(
     length: usize,
 ) -> Result<bool, Fault> {
     let mut sink = MemorySink::new(ration.alloc);
-    match write_shots(ration.begin(), program, shown, true, 3, 7, &mut sink) {
+    match write_shots(ration.begin(), program, shown, 3, 7, &mut sink) {
         Ok(()) => Ok(sink.bytes().len() == length),
         Err(fault) if sink.bytes().is_empty() => Err(fault),
         Err(_) => Ok(false),

@@ -1,17 +1,16 @@
--- The coins are tossed, or none is.
-use Rattle.std.proofs.Common.{◌%◌, ◌==◌, length, sym, ap, subst}
-use Rattle.std.specs.Prelude.{◌&&◌}
-use Rattle.forward_sim.specs.Drawn.{word_at}
-use Rattle.forward_sim.specs.private.LaneDraws.{DrawsInto, coin_hits}
-use Rattle.forward_sim.proofs.LaneLemmas.{draws_missed}
+-- The first coins are tossed, and the words of the others are passed over.
+use Rattle.std.proofs.Common.{◌-◌, length, ap, ap₂, ◌∙◌}
+use Rattle.forward_sim.specs.Drawn.{after_words}
+use Rattle.forward_sim.proofs.LaneLemmas.{coins_drawn}
+use Rattle.forward_sim.proofs.SideLemmas.{taken_and_passed}
 use Rattle.forward_sim.proofs.lane_draws.draw_coins.Goals as goal
 
-pub returns-then-tosses-clause-drawn : goal.returns-then-tosses-clause-drawn
-returns-then-tosses-clause-drawn c =
-    subst (λ t. DrawsInto c.args.lane 0 (length c.args.coins.now) (coin_hits t c.args.rng.now) c.args.coins.now c.toss_coins.new.coins) (sym c.if-tosses.true)
-    c.toss_coins.ensures.drawn
-
-pub returns-else-tosses-clause-drawn : goal.returns-else-tosses-clause-drawn
-returns-else-tosses-clause-drawn c =
-    draws_missed c.args.lane 0 (length c.args.coins.now) (coin_hits c.args.tosses c.args.rng.now) c.args.coins.now
-    (λ k. ap (λ t. t && word_at c.args.rng.now k % 2 == 1) c.if-tosses.false)
+pub returns : goal.returns
+returns c =
+    record {
+      drawn = coins_drawn c.args.lane c.args.tossed c.args.rng.now c.args.coins.now c.toss_coins.new.coins c.requires.tossed c.toss_coins.ensures.drawn;
+      taken =
+          c.advance.ensures
+          ∙ (ap₂ after_words (ap (λ n. n - c.args.tossed) c.toss_coins.ensures.drawn.size) c.toss_coins.ensures.taken
+          ∙ taken_and_passed c.args.tossed (length c.args.coins.now) c.args.rng.now c.requires.tossed);
+    }

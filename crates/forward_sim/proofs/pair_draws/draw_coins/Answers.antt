@@ -1,22 +1,17 @@
--- The coins are tossed, or none is.
-use Rattle.std.proofs.Common.{◌%◌, ◌==◌, length, sym, ap, subst}
-use Rattle.std.specs.Prelude.{◌&&◌}
-use Rattle.forward_sim.specs.Drawn.{word_at}
-use Rattle.forward_sim.specs.private.LaneDraws.{coin_hits}
-use Rattle.forward_sim.specs.private.PairDraws.{DrawsIntoBoth}
-use Rattle.forward_sim.proofs.PairLemmas.{both_missed}
+-- The first coins are tossed, and the words of the others are passed over.
+use Rattle.std.proofs.Common.{◌-◌, length, ap, ap₂, ◌∙◌}
+use Rattle.forward_sim.specs.Drawn.{after_words}
+use Rattle.forward_sim.proofs.PairLemmas.{both_coins}
+use Rattle.forward_sim.proofs.SideLemmas.{taken_and_passed}
 use Rattle.forward_sim.proofs.pair_draws.draw_coins.Goals as goal
 
-pub returns-then-tosses-clause-drawn : goal.returns-then-tosses-clause-drawn
-returns-then-tosses-clause-drawn c =
-    let i = c.args.lanes.first in
-    let j = c.args.lanes.second in
-    subst (λ t. DrawsIntoBoth i j 0 (length c.args.coins.now) (coin_hits t c.args.first.now) (coin_hits t c.args.second.now) c.args.coins.now c.toss_coins.new.coins) (sym c.if-tosses.true)
-    c.toss_coins.ensures.drawn
-
-pub returns-else-tosses-clause-drawn : goal.returns-else-tosses-clause-drawn
-returns-else-tosses-clause-drawn c =
-    let tosses = c.args.tosses in
-    both_missed c.args.lanes.first c.args.lanes.second 0 (length c.args.coins.now) (coin_hits tosses c.args.first.now) (coin_hits tosses c.args.second.now) c.args.coins.now
-    (λ k. ap (λ t. t && word_at c.args.first.now k % 2 == 1) c.if-tosses.false)
-    (λ k. ap (λ t. t && word_at c.args.second.now k % 2 == 1) c.if-tosses.false)
+pub returns : goal.returns
+returns c =
+    let tossed = c.args.tossed in
+    let all = length c.args.coins.now in
+    let toss = c.toss_coins.ensures in
+    record {
+      drawn = both_coins c.args.lanes.first c.args.lanes.second tossed c.args.first.now c.args.second.now c.args.coins.now c.toss_coins.new.coins c.requires toss.drawn;
+      first = c.advance.ensures ∙ (ap₂ after_words (ap (λ n. n - tossed) toss.drawn.size) toss.first ∙ taken_and_passed tossed all c.args.first.now c.requires);
+      second = c.advance-2.ensures ∙ (ap₂ after_words (ap (λ n. n - tossed) toss.drawn.size) toss.second ∙ taken_and_passed tossed all c.args.second.now c.requires);
+    }

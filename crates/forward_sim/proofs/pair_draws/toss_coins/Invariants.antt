@@ -1,6 +1,6 @@
-use Rattle.std.proofs.Common.{◌≡◌, true}
+use Rattle.std.proofs.Common.{◌≡◌}
 use Rattle.forward_sim.specs.Drawn.{after_words}
-use Rattle.forward_sim.specs.private.LaneDraws.{coin_hits}
+use Rattle.forward_sim.specs.private.LaneDraws.{toss_hits}
 use Rattle.forward_sim.specs.private.PairDraws.{DrawsIntoBoth}
 use Rattle.forward_sim.proofs.pair_draws.toss_coins.Given as goal
 
@@ -8,7 +8,7 @@ use Rattle.forward_sim.proofs.pair_draws.toss_coins.Given as goal
 abbrev pub invariant-loop-c : goal.invariant-loop-c
 invariant-loop-c l =
     record {
-      drawn : DrawsIntoBoth l.lanes.first l.lanes.second 0 l.c (coin_hits true l.fn.first) (coin_hits true l.fn.second) l.fn.coins l.coins;
+      drawn : DrawsIntoBoth l.lanes.first l.lanes.second 0 l.c (toss_hits l.fn.first) (toss_hits l.fn.second) l.fn.coins l.coins;
       first : l.one ≡ after_words l.c l.fn.first;
       second : l.two ≡ after_words l.c l.fn.second;
     }
