@@ -1,13 +1,14 @@
 -- Drawing into one lane: into no word, into one, and into spans that meet; and what the lanes then are.
 use Rattle.std.proofs.Common.{◌≡◌, ℕ, zero, suc, ◌+◌, ◌<◌, ◌≤◌, Bool, true, false, cond, eqb, List, length, get_or, set, map, replicate, length-set, refl, sym, ap, ap₂, ◌∙◌, arith, ⊎_elim, get_or-set_same, get_or-set_other}
-use Rattle.std.specs.Prelude.{◌≢◌, ◌||◌, ◌∷◌}
+use Rattle.std.specs.Prelude.{◌≢◌, ◌&&◌, ◌||◌, ◌∷◌}
 use Rattle.std.specs.List.{range_with_len}
-use Rattle.std.proofs.lemmas.Bool.{cases_lt, cases_eq, eq-eqb, ne_eqb}
+use Rattle.std.proofs.lemmas.Bool.{cases_lt, cases_eq, le-ltb, lt-ltb, eq-eqb, ne_eqb}
 use Rattle.std.proofs.lemmas.List.{ext_get_or, get_or-map, length-map, get_or-replicate}
 use Rattle.std.proofs.lemmas.List.FromFn.{get_or-map-range_with_len, length-map-range_with_len}
+use Rattle.rand_pcg.specs.Lcg.{Lcg}
 use Rattle.bit_rows.specs.Lanes.{lane, lane_bit}
 use Rattle.bit_rows.proofs.LaneLaws.{lane_bit-zero}
-use Rattle.forward_sim.specs.private.LaneDraws.{DrawsInto}
+use Rattle.forward_sim.specs.private.LaneDraws.{DrawsInto, coin_hits, toss_hits}
 
 pub draws_nothing : (j start : ℕ) (hits : ℕ → Bool) (words : List ℕ) → DrawsInto j start start hits words words
 draws_nothing j start hits words =
@@ -15,6 +16,17 @@ draws_nothing j start hits words =
       size = refl;
       below = λ k h. refl;
       inside = λ k h l. absurd (omega arith);
+      above = λ k h. refl;
+      others = λ i k h. refl;
+    }
+
+-- no word of a span where nothing is true
+pub draws_missed : (j start end : ℕ) (hits : ℕ → Bool) (words : List ℕ) → ((k : ℕ) → start ≤ k → hits k ≡ false) → DrawsInto j start end hits words words
+draws_missed j start end hits words none =
+    record {
+      size = refl;
+      below = λ k h. refl;
+      inside = λ k h l. sym (ap (λ b. b || lane_bit j (get_or words k 0)) (none k h));
       above = λ k h. refl;
       others = λ i k h. refl;
     }
@@ -73,23 +85,21 @@ draws_one j at truth words word within put =
           (cases_eq k at);
     }
 
--- a word whose lane is set, and one that is left
+-- the first coins, and then those that stay 0
+pub coins_drawn : (j tossed : ℕ) (g : Lcg) (old new : List ℕ) → tossed ≤ length old → DrawsInto j 0 tossed (toss_hits g) old new
+    → DrawsInto j 0 (length old) (coin_hits tossed g) old new
+coins_drawn j tossed g old new within draws =
+    draws_joined j 0 tossed (length old) (coin_hits tossed g) old new new (omega arith) within
+    (draws_like j 0 tossed (toss_hits g) (coin_hits tossed g) old new (λ k low high. sym (ap (λ b. b && toss_hits g k) (lt-ltb k tossed high))) draws)
+    (draws_missed j tossed (length old) (coin_hits tossed g) new (λ k low. ap (λ b. b && toss_hits g k) (le-ltb k tossed low)))
+
+-- a word whose lane is set
 pub draws_hit : (j at : ℕ) (truth : Bool) (words : List ℕ) (word : ℕ) → at < length words → truth ≡ true
     → ((i : ℕ) → lane_bit i word ≡ cond (eqb i j) true (lane_bit i (get_or words at 0)))
     → DrawsInto j at (at + 1) (λ k. truth) words (set words at word)
 draws_hit j at truth words word within is put =
     draws_one j at truth words word within
     (λ i. put i ∙ ap (λ b. cond (eqb i j) (b || lane_bit i (get_or words at 0)) (lane_bit i (get_or words at 0))) (sym is))
-
-pub draws_miss : (j at : ℕ) (truth : Bool) (words : List ℕ) → truth ≡ false → DrawsInto j at (at + 1) (λ k. truth) words words
-draws_miss j at truth words is =
-    record {
-      size = refl;
-      below = λ k h. refl;
-      inside = λ k h l. sym (ap (λ b. b || lane_bit j (get_or words k 0)) is);
-      above = λ k h. refl;
-      others = λ i k h. refl;
-    }
 
 -- a lane that was blank holds the truth values that its words became
 pub lane_filled : (j n : ℕ) (hits : ℕ → Bool) (old new : List ℕ) → length old ≡ n → length new ≡ length old → lane j old ≡ replicate n false

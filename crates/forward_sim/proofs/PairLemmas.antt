@@ -1,10 +1,11 @@
 -- Drawing into two lanes at once: into no word, into one, and into spans that meet; and what the lanes then are.
 use Rattle.std.proofs.Common.{◌≡◌, ℕ, ◌<◌, ◌≤◌, Bool, false, List, length, get_or, map, replicate, refl, sym, ap, ◌∙◌, arith, ⊎_elim}
-use Rattle.std.specs.Prelude.{◌≢◌, ◌||◌}
+use Rattle.std.specs.Prelude.{◌≢◌, ◌&&◌, ◌||◌}
 use Rattle.std.specs.List.{range_with_len}
-use Rattle.std.proofs.lemmas.Bool.{cases_lt}
+use Rattle.std.proofs.lemmas.Bool.{cases_lt, le-ltb, lt-ltb}
+use Rattle.rand_pcg.specs.Lcg.{Lcg}
 use Rattle.bit_rows.specs.Lanes.{lane, lane_bit}
-use Rattle.forward_sim.specs.private.LaneDraws.{DrawsInto}
+use Rattle.forward_sim.specs.private.LaneDraws.{DrawsInto, coin_hits, toss_hits}
 use Rattle.forward_sim.specs.private.PairDraws.{DrawsIntoBoth}
 use Rattle.forward_sim.proofs.LaneLemmas.{lane_filled, lane_same}
 
@@ -20,14 +21,14 @@ both_nothing i j start hits other_hits words =
     }
 
 -- no word of a span where nothing is true
-pub both_missed : (i j start end : ℕ) (hits other_hits : ℕ → Bool) (words : List ℕ) → ((k : ℕ) → hits k ≡ false) → ((k : ℕ) → other_hits k ≡ false)
+pub both_missed : (i j start end : ℕ) (hits other_hits : ℕ → Bool) (words : List ℕ) → ((k : ℕ) → start ≤ k → hits k ≡ false) → ((k : ℕ) → start ≤ k → other_hits k ≡ false)
     → DrawsIntoBoth i j start end hits other_hits words words
 both_missed i j start end hits other_hits words none none_other =
     record {
       size = refl;
       below = λ k h. refl;
-      first = λ k h l. sym (ap (λ b. b || lane_bit i (get_or words k 0)) (none k));
-      second = λ k h l. sym (ap (λ b. b || lane_bit j (get_or words k 0)) (none_other k));
+      first = λ k h l. sym (ap (λ b. b || lane_bit i (get_or words k 0)) (none k h));
+      second = λ k h l. sym (ap (λ b. b || lane_bit j (get_or words k 0)) (none_other k h));
       above = λ k h. refl;
       others = λ l k h m. refl;
     }
@@ -81,6 +82,17 @@ both_like i j start end hits other_hits truths other_truths old new same same_ot
       above = draws.above;
       others = draws.others;
     }
+
+-- the first coins, and then those that stay 0
+pub both_coins : (i j tossed : ℕ) (g h : Lcg) (old new : List ℕ) → tossed ≤ length old → DrawsIntoBoth i j 0 tossed (toss_hits g) (toss_hits h) old new
+    → DrawsIntoBoth i j 0 (length old) (coin_hits tossed g) (coin_hits tossed h) old new
+both_coins i j tossed g h old new within draws =
+    let are_tossed : (g : Lcg) (k : ℕ) → 0 ≤ k → k < tossed → toss_hits g k ≡ coin_hits tossed g k =
+    λ g k low high. sym (ap (λ b. b && toss_hits g k) (lt-ltb k tossed high)) in
+    let are_passed : (g : Lcg) (k : ℕ) → tossed ≤ k → coin_hits tossed g k ≡ false = λ g k low. ap (λ b. b && toss_hits g k) (le-ltb k tossed low) in
+    both_joined i j 0 tossed (length old) (coin_hits tossed g) (coin_hits tossed h) old new new (omega arith) within
+    (both_like i j 0 tossed (toss_hits g) (toss_hits h) (coin_hits tossed g) (coin_hits tossed h) old new (are_tossed g) (are_tossed h) draws)
+    (both_missed i j tossed (length old) (coin_hits tossed g) (coin_hits tossed h) new (are_passed g) (are_passed h))
 
 -- lanes that were blank hold what was drawn into them, and the other lanes are as they were
 pub first_drawn : (i j n : ℕ) (hits other_hits : ℕ → Bool) (old new : List ℕ) → length old ≡ n → lane i old ≡ replicate n false

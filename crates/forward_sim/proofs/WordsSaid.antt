@@ -10,7 +10,7 @@ use Rattle.step_model.specs.declared.step.Term.{Term}
 use Rattle.step_model.specs.Frames.{zero_coins}
 use Rattle.step_model.specs.Listing.{Listing, ListedStep, One, Two, Collapse, Fault, Feedback, Measured, Recorded, measured_word, step_records}
 use Rattle.step_model.specs.Runs.{RunState, start, next, next_coin, corrected, correction}
-use Rattle.step_model.specs.WellFormed.{IsWellFormed, records_made, step_fits}
+use Rattle.step_model.specs.WellFormed.{IsWellFormed, collapse_count, records_made, step_fits}
 use Rattle.step_model.proofs.StateIsGroup.{length-measured}
 use Rattle.forward_sim.specs.References.{Walking, Kept, Walked, walking_qubits, walking_run, entry_of, AreEntries, GoesAlong, GoneOver, IsEntry, IsStepEntry}
 use Rattle.forward_sim.specs.private.SameRuns.{HoldSame, IsSameRun}
@@ -18,7 +18,19 @@ use Rattle.forward_sim.proofs.ReferenceSteps.{same-entry}
 use Rattle.forward_sim.proofs.RunRecords.{all_fit, length-next}
 use Rattle.forward_sim.proofs.SameStates.{same-next}
 
--- the list says something of each collapse that comes next
+-- the list says something of each collapse
+pub length-entries : (program : Listing) (steps : List ListedStep) (m : RunState) (replaced : List (Option (List Term))) → AreEntries program steps m replaced → length replaced ≡ collapse_count steps
+length-entries program [] m replaced entries = ap length entries
+length-entries program (One g q ∷ steps) m replaced entries = let rest = length-entries program steps _ replaced entries in omega (arith, rest)
+length-entries program (Two g a b ∷ steps) m replaced entries = let rest = length-entries program steps _ replaced entries in omega (arith, rest)
+length-entries program (Collapse c r ∷ steps) m [] entries = absurd entries
+length-entries program (Collapse c r ∷ steps) m (entry ∷ replaced) entries =
+    let rest = length-entries program steps _ replaced entries.1 in
+    omega (arith, rest)
+length-entries program (Fault f ∷ steps) m replaced entries = let rest = length-entries program steps _ replaced entries in omega (arith, rest)
+length-entries program (Feedback w r ∷ steps) m replaced entries = let rest = length-entries program steps _ replaced entries in omega (arith, rest)
+
+-- so it says something of the one that comes next
 some-left : (program : Listing) (m : RunState) (c : Measured) (r : Option Recorded) (rest : List ListedStep) (left : List (Option (List Term))) → AreEntries program (Collapse c r ∷ rest) m left → 0 < length left
 some-left program m c r rest [] entries = absurd entries
 some-left program m c r rest (entry ∷ left) entries = omega arith

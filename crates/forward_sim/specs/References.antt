@@ -141,6 +141,11 @@ AreWordsOf program (Kept replaced) = AreEntries program program.steps (start (ze
 AreWordsOf program (Walked walk) =
     (walking_qubits walk ≡ program.qubits) × (walk.room ≡ program.records) × (walk.coins ≡ [])
 
+-- behind this many collapses of the program none is random. A run that goes along says so of no collapse
+abbrev pub IsDecidedFrom : Listing → ℕ → Words → Type 0
+IsDecidedFrom program first (Kept replaced) = (k : ℕ) → first ≤ k → slice_index_or replaced k None ≡ None
+IsDecidedFrom program first (Walked walk) = program.collapses ≤ first
+
 -- a program's reference run
 pub record IsReferenceOf (program : Listing) (reference : ReferenceRun) : Type 0 where
   pub records : reference.records ≡ records_of program [] (zero_coins program)

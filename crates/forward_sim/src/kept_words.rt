@@ -1,4 +1,4 @@
-ghost use Rattle.std.specs.Prelude.{◌≡◌, ◌<◌, [], ◌∷◌, ◌++◌, true, false, None, length, option_map, slice_index_or, IfOk, OnOk};
+ghost use Rattle.std.specs.Prelude.{◌≡◌, ◌<◌, ◌≤◌, ℕ, [], ◌∷◌, ◌++◌, true, false, None, length, option_map, slice_index_or, IfOk, OnOk};
 ghost use Rattle.forward_sim.specs.References.{entry_of, terms_in};
 ghost use Rattle.forward_sim.specs.private.Kept.{terms_listed};
 
@@ -80,6 +80,18 @@ impl<A: Allocator + Copy> KeptWords<A> {
         self.numbers = Vec::new(self.alloc);
         self.words = WordTable::new(self.alloc)?;
         Ok(())
+    }
+
+    /// How many collapses there are up to the last one that replaced a word.
+    pub(crate) fn random_end(&self) -> usize
+        ensures within { result ≤ length self.now.replaced }
+        ensures none { (k : ℕ) → result ≤ k → slice_index_or self.now.replaced k None ≡ None }
+    {
+        let mut end = self.numbers.len();
+        while end > 0 && self.get(end - 1).is_none() {
+            end -= 1;
+        }
+        end
     }
 
     /// The word that a collapse replaced.

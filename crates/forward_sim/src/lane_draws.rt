@@ -3,7 +3,7 @@ ghost use Rattle.std.specs.Prelude.{◌≡◌, ◌==◌, ◌||◌, ℕ, ◌+◌,
 ghost use Rattle.bit_rows.specs.Lanes.{lane_bit};
 ghost use Rattle.forward_sim.specs.private.BoundRuns.{bounds_in};
 ghost use Rattle.forward_sim.specs.Drawn.{after_words, word_at};
-ghost use Rattle.forward_sim.specs.private.LaneDraws.{DrawsInto, coin_hits, fault_hits};
+ghost use Rattle.forward_sim.specs.private.LaneDraws.{DrawsInto, coin_hits, fault_hits, toss_hits};
 
 use crate::runs::BoundRun;
 use bit_rows::lanes::with_bit;
@@ -53,13 +53,26 @@ pub(crate) fn strike(faults: &mut [u64], f: usize, lane: u32, hit: bool)
     }
 }
 
-// A coin is its word's lowest bit.
-pub(crate) fn draw_coins(coins: &mut [u64], lane: u32, rng: &mut Pcg64)
-    requires { lane < 64 }
-    ensures drawn { DrawsInto lane 0 (length coins.old) (coin_hits rng.old) coins.old coins.new }
+/// The coins, of which the first ones are tossed. The generator passes over the words of the others.
+pub(crate) fn draw_coins(coins: &mut [u64], tossed: usize, lane: u32, rng: &mut Pcg64)
+    requires lane { lane < 64 }
+    requires tossed { tossed ≤ length coins.old }
+    ensures drawn { DrawsInto lane 0 (length coins.old) (coin_hits tossed rng.old)
+        coins.old coins.new }
     ensures taken { rng.new ≡ after_words (length coins.old) rng.old }
 {
-    for c in 0..coins.len() {
+    toss_coins(coins, tossed, lane, rng);
+    rng.advance((coins.len() - tossed) as u128);
+}
+
+// A coin is its word's lowest bit.
+fn toss_coins(coins: &mut [u64], tossed: usize, lane: u32, rng: &mut Pcg64)
+    requires lane { lane < 64 }
+    requires tossed { tossed ≤ length coins.old }
+    ensures drawn { DrawsInto lane 0 tossed (toss_hits rng.old) coins.old coins.new }
+    ensures taken { rng.new ≡ after_words tossed rng.old }
+{
+    for c in 0..tossed {
         let coin = rng.next_word() % 2 == 1;
         toss(coins, c, lane, coin);
     }

@@ -2,7 +2,7 @@
 ghost use Rattle.std.specs.Prelude.{◌≡◌, ◌≢◌, ℕ, ◌+◌, ◌-◌, ◌^◌, ◌<◌, ◌≤◌, nat_le, nat_lt, length};
 ghost use Rattle.forward_sim.specs.private.BoundRuns.{bounds_in};
 ghost use Rattle.forward_sim.specs.Drawn.{after_words, word_at};
-ghost use Rattle.forward_sim.specs.private.LaneDraws.{coin_hits, fault_hits};
+ghost use Rattle.forward_sim.specs.private.LaneDraws.{coin_hits, fault_hits, toss_hits};
 ghost use Rattle.forward_sim.specs.private.PairDraws.{DrawsIntoBoth};
 
 use crate::copies::copy_of;
@@ -21,28 +21,30 @@ pub(crate) struct LanePair {
     ghost second_below: { second < 64 },
 }
 
-/// Faults, and then coins.
+/// Faults, and then coins, of which the first ones are tossed.
 pub(crate) fn draw_pair(
     faults: &mut [u64],
     coins: &mut [u64],
+    tossed: usize,
     runs: &[BoundRun],
     lanes: LanePair,
     first: &mut Pcg64,
     second: &mut Pcg64,
 )
-    requires { length faults.old ≡ length (bounds_in runs.now) }
+    requires faults { length faults.old ≡ length (bounds_in runs.now) }
+    requires tossed { tossed ≤ length coins.old }
     ensures faults { DrawsIntoBoth lanes.first lanes.second 0 (length (bounds_in runs.now))
         (fault_hits (bounds_in runs.now) first.old) (fault_hits (bounds_in runs.now) second.old)
         faults.old faults.new }
     ensures coins { let n = length (bounds_in runs.now) in
-        DrawsIntoBoth lanes.first lanes.second 0 (length coins.old) (coin_hits (after_words n first.old)) (coin_hits (after_words n second.old)) coins.old coins.new }
+        DrawsIntoBoth lanes.first lanes.second 0 (length coins.old) (coin_hits tossed (after_words n first.old)) (coin_hits tossed (after_words n second.old)) coins.old coins.new }
     ensures first { first.new
         ≡ after_words (length coins.old) (after_words (length (bounds_in runs.now)) first.old) }
     ensures second { second.new
         ≡ after_words (length coins.old) (after_words (length (bounds_in runs.now)) second.old) }
 {
     draw_faults(faults, runs, lanes, first, second);
-    draw_coins(coins, lanes, first, second);
+    draw_coins(coins, tossed, lanes, first, second);
 }
 
 // A fault happens where its word is below its bound.
@@ -117,16 +119,43 @@ fn word_below(bound: u128) -> u64
     }
 }
 
-// A coin is its word's lowest bit.
-fn draw_coins(coins: &mut [u64], lanes: LanePair, first: &mut Pcg64, second: &mut Pcg64)
+// The first coins are tossed. The generators pass over the words of the others.
+fn draw_coins(
+    coins: &mut [u64],
+    tossed: usize,
+    lanes: LanePair,
+    first: &mut Pcg64,
+    second: &mut Pcg64,
+)
+    requires { tossed ≤ length coins.old }
     ensures drawn { DrawsIntoBoth lanes.first lanes.second 0 (length coins.old)
-        (coin_hits first.old) (coin_hits second.old) coins.old coins.new }
+        (coin_hits tossed first.old) (coin_hits tossed second.old) coins.old coins.new }
     ensures first { first.new ≡ after_words (length coins.old) first.old }
     ensures second { second.new ≡ after_words (length coins.old) second.old }
 {
+    toss_coins(coins, tossed, lanes, first, second);
+    let passed = (coins.len() - tossed) as u128;
+    first.advance(passed);
+    second.advance(passed);
+}
+
+// A coin is its word's lowest bit.
+fn toss_coins(
+    coins: &mut [u64],
+    tossed: usize,
+    lanes: LanePair,
+    first: &mut Pcg64,
+    second: &mut Pcg64,
+)
+    requires { tossed ≤ length coins.old }
+    ensures drawn { DrawsIntoBoth lanes.first lanes.second 0 tossed (toss_hits first.old)
+        (toss_hits second.old) coins.old coins.new }
+    ensures first { first.new ≡ after_words tossed first.old }
+    ensures second { second.new ≡ after_words tossed second.old }
+{
     let mut one = copy_of(first);
     let mut two = copy_of(second);
-    for c in 0..coins.len() {
+    for c in 0..tossed {
         let coin = one.next_word() % 2 == 1;
         let other = two.next_word() % 2 == 1;
         toss(coins, c, lanes.first, coin);

@@ -1,11 +1,11 @@
-ghost use Rattle.std.specs.Prelude.{◌≡◌, ◌∷◌, ℕ, List, length, option_map, IfOk, IfErr};
+ghost use Rattle.std.specs.Prelude.{◌≡◌, ◌≤◌, ◌∷◌, ℕ, List, length, option_map, IfOk, IfErr};
 ghost use Rattle.programs.specs.Listed.{listed};
 ghost use Rattle.programs.specs.Named.{IsStepOf};
 ghost use Rattle.step_model.specs.Faults.{memory_fault};
 ghost use Rattle.step_model.specs.Frames.{zero_coins};
 ghost use Rattle.step_model.specs.Listing.{ListedStep};
 ghost use Rattle.step_model.specs.Runs.{RunState, start};
-ghost use Rattle.forward_sim.specs.References.{GoneOver, IsNext, IsReferenceOf, IsSaid, StandBefore, said_of, terms_in};
+ghost use Rattle.forward_sim.specs.References.{GoneOver, IsDecidedFrom, IsNext, IsReferenceOf, IsSaid, StandBefore, said_of, terms_in};
 
 use crate::keeping::follow;
 use crate::records::Records;
@@ -102,6 +102,16 @@ impl<A: Allocator + Copy> Reference<A> {
         ensures records { self.new.records ≡ self.old.records }
     {
         self.words.go_over(program, step);
+    }
+
+    /// A number of the program's first collapses: no outcome is random behind them. It is the least one where the words are kept,
+    /// and else counts all collapses.
+    pub fn random_end(&self, program: &Program<'_, A>) -> usize
+        requires { IsReferenceOf program.now.listing self.now }
+        ensures within { result ≤ program.now.listing.collapses }
+        ensures decided { IsDecidedFrom program.now.listing result self.now.words }
+    {
+        self.words.random_end(program)
     }
 
     /// For the collapse with this number, the last that was gone over: a word that was in the state, up to its sign, and

@@ -16,26 +16,30 @@ use step_model::Fault;
 #[derive(Drop)]
 pub struct Shots<A: Allocator + Copy> {
     runs: Vec<BoundRun, A>,
+    tossed: usize,
     faults: Vec<u64, A>,
     coins: Vec<u64, A>,
 }
 
 impl<A: Allocator + Copy> Model for Shots<A> {
-    ghost use Rattle.std.specs.Prelude.{◌≡◌, length};
+    ghost use Rattle.std.specs.Prelude.{◌≡◌, ◌≤◌, length};
     ghost use Rattle.forward_sim.specs.private.BoundRuns.{bounds_in};
     ghost use Rattle.forward_sim.specs.Shots.{ShotWords};
 
     ghost Value = { ShotWords };
 
-    ghost view = { λ s. record { bounds = bounds_in s.runs.items; faults = s.faults.items; coins = s.coins.items } };
+    ghost view = { λ s. record { bounds = bounds_in s.runs.items; tossed = s.tossed; faults = s.faults.items; coins = s.coins.items } };
 
-    ghost invariant = { λ s. length s.faults.items ≡ length (bounds_in s.runs.items) };
+    ghost invariant = { λ s. (length s.faults.items ≡ length (bounds_in s.runs.items)) × (s.tossed ≤ length s.coins.items) };
 }
 
 impl<A: Allocator + Copy> Shots<A> {
-    /// Shots in which no fault happens and all coins are 0. All memory is taken here.
-    pub fn new(alloc: A, program: &Program<'_, A>) -> Result<Self, Fault>
+    /// Shots in which no fault happens and all coins are 0. Only the first coins will be tossed: the others stay 0, which is faster
+    /// where they don't count. All memory is taken here.
+    pub fn new(alloc: A, program: &Program<'_, A>, tossed: usize) -> Result<Self, Fault>
+        requires { tossed ≤ program.now.listing.collapses }
         ensures bounds { IfOk result (λ shots. shots.bounds ≡ bounds_of program.now.listing) }
+        ensures tossed { IfOk result (λ shots. shots.tossed ≡ tossed) }
         ensures faults { IfOk result (λ shots. shots.faults
             ≡ replicate (length program.now.listing.faults) 0) }
         ensures coins { IfOk result (λ shots. shots.coins
@@ -47,24 +51,27 @@ impl<A: Allocator + Copy> Shots<A> {
         let coins = vec![in alloc; 0u64; program.collapse_count() as usize]?;
         Ok(Shots {
             runs,
+            tossed,
             faults,
             coins,
         })
     }
 
     /// Draws the next `count` shots by the generator's next words: for each shot one word for each fault, and then one
-    /// for each collapse. Takes no memory.
+    /// for each collapse, which is passed over where its coin isn't tossed. Takes no memory.
     pub fn draw(&mut self, count: u32, rng: &mut Pcg64)
         requires { count ≤ 64 }
         ensures bounds { self.new.bounds ≡ self.old.bounds }
-        ensures drawn { AreDrawn self.old.bounds (length self.old.coins) count rng.old
-            self.new.faults self.new.coins }
+        ensures drawn { AreDrawn self.old.tossed self.old.bounds (length self.old.coins) count
+            rng.old self.new.faults self.new.coins }
+        ensures tossed { self.new.tossed ≡ self.old.tossed }
         ensures taken { rng.new
             ≡ after_shots (length self.old.bounds) (length self.old.coins) count rng.old }
     {
         draw_lanes(
             &mut self.faults,
             &mut self.coins,
+            self.tossed,
             self.runs.as_slice(),
             count,
             rng,

@@ -10,34 +10,45 @@ use crate::pair_draws::{LanePair, draw_pair};
 use crate::runs::BoundRun;
 use rand_pcg::Pcg64;
 
+/// Draws shots into the first lanes. Of the coins the first ones are tossed, and the words of the others are passed over.
 pub(crate) fn draw_lanes(
     faults: &mut [u64],
     coins: &mut [u64],
+    tossed: usize,
     runs: &[BoundRun],
     count: u32,
     rng: &mut Pcg64,
 )
     requires faults { length faults.old ≡ length (bounds_in runs.now) }
+    requires tossed { tossed ≤ length coins.old }
     requires count { count ≤ 64 }
-    ensures drawn { AreDrawn (bounds_in runs.now) (length coins.old) count rng.old faults.new
+    ensures drawn { AreDrawn tossed (bounds_in runs.now) (length coins.old) count rng.old faults.new
         coins.new }
     ensures taken { rng.new
         ≡ after_shots (length (bounds_in runs.now)) (length coins.old) count rng.old }
 {
-    draw_halves(faults, coins, runs, count / 2, rng);
+    draw_halves(faults, coins, tossed, runs, count / 2, rng);
     if count % 2 == 1 {
         draw_faults(faults, runs, count - 1, rng);
-        draw_coins(coins, count - 1, rng);
+        draw_coins(coins, tossed, count - 1, rng);
     }
 }
 
 // Draws twice as many shots as `half`. A second generator draws those of the second half in step with those of the
 // first, so that neither waits for the other's words.
-fn draw_halves(faults: &mut [u64], coins: &mut [u64], runs: &[BoundRun], half: u32, rng: &mut Pcg64)
+fn draw_halves(
+    faults: &mut [u64],
+    coins: &mut [u64],
+    tossed: usize,
+    runs: &[BoundRun],
+    half: u32,
+    rng: &mut Pcg64,
+)
     requires faults { length faults.old ≡ length (bounds_in runs.now) }
+    requires tossed { tossed ≤ length coins.old }
     requires half { half ≤ 32 }
-    ensures drawn { AreDrawn (bounds_in runs.now) (length coins.old) (2 * half) rng.old faults.new
-        coins.new }
+    ensures drawn { AreDrawn tossed (bounds_in runs.now) (length coins.old) (2 * half) rng.old
+        faults.new coins.new }
     ensures taken { rng.new
         ≡ after_shots (length (bounds_in runs.now)) (length coins.old) (2 * half) rng.old }
 {
@@ -51,7 +62,7 @@ fn draw_halves(faults: &mut [u64], coins: &mut [u64], runs: &[BoundRun], half: u
             first: lane,
             second: half + lane,
         };
-        draw_pair(faults, coins, runs, lanes, rng, &mut second);
+        draw_pair(faults, coins, tossed, runs, lanes, rng, &mut second);
     }
     *rng = second;
 }

@@ -1,10 +1,10 @@
-ghost use Rattle.std.specs.Prelude.{◌≡◌, ◌∷◌, ℕ, List, option_map};
+ghost use Rattle.std.specs.Prelude.{◌≡◌, ◌≤◌, ◌∷◌, ℕ, List, option_map};
 ghost use Rattle.programs.specs.Listed.{listed};
 ghost use Rattle.programs.specs.Named.{IsStepOf};
 ghost use Rattle.step_model.specs.Frames.{zero_coins};
 ghost use Rattle.step_model.specs.Listing.{ListedStep};
 ghost use Rattle.step_model.specs.Runs.{RunState, start};
-ghost use Rattle.forward_sim.specs.References.{AreWordsOf, GoneOver, IsNext, IsSaid, StandBefore, said_of, terms_in};
+ghost use Rattle.forward_sim.specs.References.{AreWordsOf, GoneOver, IsDecidedFrom, IsNext, IsSaid, StandBefore, said_of, terms_in};
 ghost use Rattle.forward_sim.specs.private.Said.{words_of};
 
 use crate::kept_words::KeptWords;
@@ -58,6 +58,19 @@ impl<A: Allocator + Copy> ReplacedWords<A> {
         match self {
             ReplacedWords::Kept(_) => {}
             ReplacedWords::Walked(walk) => walk.go_over(program, *step),
+        }
+    }
+
+    /// A number of the program's first collapses, behind which no word is replaced.
+    pub(crate) fn random_end(&self, program: &Program<'_, A>) -> usize
+        requires { AreWordsOf program.now.listing (words_of self.now) }
+        ensures within { result ≤ program.now.listing.collapses }
+        ensures decided { IsDecidedFrom program.now.listing result (words_of self.now) }
+    {
+        program.well_formed();
+        match self {
+            ReplacedWords::Kept(kept) => kept.random_end(),
+            ReplacedWords::Walked(_) => program.collapse_count() as usize,
         }
     }
 

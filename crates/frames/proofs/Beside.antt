@@ -135,7 +135,7 @@ entry-turns n s (Fault f) entry is = tt
 entry-turns n s (Feedback w r) entry is = tt
 
 -- a collapse of which this is kept
-collapse-differ : (program : Listing) (faults : List Bool) (c : Measured) (r : Option Recorded) (entry : Option (List Term)) (v : Frame) (m m' : RunState)
+pub collapse-differ : (program : Listing) (faults : List Bool) (c : Measured) (r : Option Recorded) (entry : Option (List Term)) (v : Frame) (m m' : RunState)
     → step_fits program (Collapse c r) ≡ true → next_coin m.coins ≡ false → Differ program.qubits v m m' → IsEntry program.qubits m.state (measured_word program.qubits c) entry
     → Differ program.qubits (followed program faults entry (next_coin m'.coins) (Collapse c r) v) (next program [] (Collapse c r) m) (next program faults (Collapse c r) m')
 collapse-differ program faults c r None v m m' fits coin d is = collapse-decided program faults c r v m m' fits coin d is

@@ -77,7 +77,7 @@ decided-outcome : (s : State) (w : List Letter) (coin coin' : Bool) → is_decid
 decided-outcome s w coin coin' decided = decided-chosen (s (signed w false)) (s (signed w true)) coin coin' decided
 
 -- the run after it is the same then, whatever its coins were
-decided-states : (program : Listing) (faults : List Bool) (c : Measured) (r : Option Recorded) (m : RunState) (coins : List Bool) → is_decided m.state (measured_word program.qubits c) ≡ true
+pub decided-states : (program : Listing) (faults : List Bool) (c : Measured) (r : Option Recorded) (m : RunState) (coins : List Bool) → is_decided m.state (measured_word program.qubits c) ≡ true
     → (p : Signed) → (next program faults (Collapse c r) (with_coins m coins)).state p ≡ (next program faults (Collapse c r) m).state p
 decided-states program faults (Word w) r m coins decided p = decided-collapsed m.state w (next_coin coins) (next_coin m.coins) p decided
 decided-states program faults (Reset letter q) r m coins decided p =
@@ -88,7 +88,7 @@ decided-states program faults (Reset letter q) r m coins decided p =
     ∙ decided-collapsed m.state w coin (next_coin m.coins)
     (with_sign_changed (outcome m.state w (next_coin m.coins) && anticommute p.letters (lone_letter n q (correcting letter))) p) decided
 
-decided-records : (program : Listing) (faults : List Bool) (c : Measured) (r : Option Recorded) (m : RunState) (coins : List Bool) → is_decided m.state (measured_word program.qubits c) ≡ true
+pub decided-records : (program : Listing) (faults : List Bool) (c : Measured) (r : Option Recorded) (m : RunState) (coins : List Bool) → is_decided m.state (measured_word program.qubits c) ≡ true
     → (next program faults (Collapse c r) (with_coins m coins)).records ≡ (next program faults (Collapse c r) m).records
 decided-records program faults c None m coins decided = refl
 decided-records program faults c (Some r) m coins decided =

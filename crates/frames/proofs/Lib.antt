@@ -9,3 +9,4 @@ pub mod FollowLaw
 pub mod FollowLoop
 pub mod LaneFrameLaws
 pub mod LaneLaws
+pub mod DecidedCoins

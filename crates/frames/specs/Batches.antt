@@ -1,6 +1,6 @@
 -- 64 runs of a program, followed beside its reference run, in which no fault happens and all coins are 0. For each record
 -- a word says in which runs it differs from the reference run's. (Stim's frame simulator: Gidney, Quantum 5, 497 (2021).)
-use Rattle.std.specs.Prelude.{◌≡◌, ℕ, Bool, List, [], length}
+use Rattle.std.specs.Prelude.{◌≡◌, ◌<◌, ℕ, Bool, false, List, [], length, slice_index_or}
 use Rattle.forward_sim.specs.References.{IsReferenceOf, ReferenceRun}
 use Rattle.bit_rows.specs.Lanes.{lane}
 use Rattle.pauli_word.specs.Words.{no_letters}
@@ -32,6 +32,15 @@ pub record IsBatchOf (program : Listing) (batch : Followed) : Type 0 where
 abbrev pub AreRuns : Listing → List ℕ → List ℕ → Followed → Type 0
 AreRuns program faults coins batch =
     (shot : ℕ) → shot_records shot batch ≡ records_of program (lane shot faults) (lane shot coins)
+
+-- of the coins of a program's collapses at most this many, the first ones, count: whatever faults happen, the others change
+-- no record
+abbrev pub CoinsCountBelow : Listing → ℕ → Type 0
+CoinsCountBelow program count =
+    (faults first second : List Bool)
+    → length first ≡ program.collapses → length second ≡ program.collapses
+    → ((k : ℕ) → k < count → slice_index_or first k false ≡ slice_index_or second k false)
+    → records_of program faults first ≡ records_of program faults second
 
 -- the frame of a run at its start
 abbrev pub start_frame : ℕ → Frame

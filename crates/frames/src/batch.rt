@@ -1,9 +1,9 @@
-ghost use Rattle.std.specs.Prelude.{◌≡◌, ◌<◌, ◌+◌, ℕ, false, length, slice_index_or, IfOk, IfErr};
+ghost use Rattle.std.specs.Prelude.{◌≡◌, ◌<◌, ◌≤◌, ◌+◌, ℕ, false, length, slice_index_or, IfOk, IfErr};
 ghost use Rattle.forward_sim.specs.References.{IsReferenceOf};
 ghost use Rattle.bit_rows.specs.Lanes.{lane_bit};
 ghost use Rattle.step_model.specs.Faults.{memory_fault};
 ghost use Rattle.step_model.specs.Targets.{difference};
-ghost use Rattle.frames.specs.Batches.{AreRuns, IsBatchOf, shot_records};
+ghost use Rattle.frames.specs.Batches.{AreRuns, CoinsCountBelow, IsBatchOf, shot_records};
 
 use crate::follow::follow_steps;
 use crate::frames::Frames;
@@ -85,6 +85,17 @@ impl<A: Allocator + Copy> Batch<A> {
             faults,
             coins,
         );
+    }
+
+    /// How many coins may count, those of the first collapses: behind them no outcome is random in the reference run, so no coin
+    /// changes a record.
+    pub fn coins_that_count(&self, program: &Program<'_, A>) -> usize
+        requires { IsBatchOf program.now.listing self.now }
+        ensures within { result ≤ program.now.listing.collapses }
+        ensures count { CoinsCountBelow program.now.listing result }
+    {
+        program.well_formed();
+        self.reference.random_end(program)
     }
 
     /// The reference run's records: in it no fault happens and all coins are 0.

@@ -1,22 +1,28 @@
 -- The lines of shots, batch after batch.
-use Rattle.std.proofs.Common.{◌≡◌, ℕ, zero, suc, ◌+◌, ◌*◌, ◌<◌, ◌≤◌, List, [], ◌++◌, length, refl, sym, ap, ap₂, ◌∙◌, arith}
+use Rattle.std.proofs.Common.{◌≡◌, ℕ, zero, suc, ◌+◌, ◌*◌, ◌%◌, ◌==◌, ◌<◌, ◌≤◌, ◌&&◌, Bool, false, List, [], ◌++◌, length, get_or, refl, sym, ap, ap₂, ◌∙◌, arith, ⊎_elim}
+use Rattle.std.specs.Prelude.{nat_lt}
 use Rattle.std.specs.List.{flat_map, range_with_len}
 use Rattle.std.proofs.Math.Nat.{add-mul}
 use Rattle.std.proofs.lemmas.Grind.{flat_map-append}
-use Rattle.std.proofs.lemmas.List.{length-map}
+use Rattle.std.proofs.lemmas.Bool.{cases_lt, lt-ltb}
+use Rattle.std.proofs.lemmas.List.{get_or_past, length-map}
+use Rattle.std.proofs.lemmas.List.FromFn.{get_or-map-range_with_len, length-map-range_with_len}
 use Rattle.rand_pcg.specs.Lcg.{Lcg}
 use Rattle.step_model.specs.Listing.{Listing, ListedFault}
 use Rattle.step_model.proofs.RangeLemmas.{range-append}
+use Rattle.step_model.specs.Frames.{zero_coins}
+use Rattle.step_model.specs.Runs.{records_of}
 use Rattle.bit_rows.specs.Lanes.{lane}
-use Rattle.forward_sim.specs.Drawn.{after_words, bounds_of, drawn_coins, drawn_faults, after_shots}
-use Rattle.forward_sim.specs.Shots.{AreDrawn}
+use Rattle.frames.specs.Batches.{CoinsCountBelow}
+use Rattle.forward_sim.specs.Drawn.{after_words, bounds_of, drawn_coins, drawn_faults, after_shots, word_at}
+use Rattle.forward_sim.specs.Shots.{AreDrawn, tossed_coins}
 use Rattle.forward_sim.proofs.WordLemmas.{after_words-add}
 use Rattle.sampling.specs.private.LaneLines.{lane_line, lane_lines}
 use Rattle.sampling.specs.Lines.{line_of}
-use Rattle.sampling.specs.Sampled.{lines_from, shot_generator}
+use Rattle.sampling.specs.Sampled.{lines_from, shot_faults, shot_generator}
 use Rattle.sampling.specs.declared.side_runs.Shown.{Shown}
 use Rattle.sampling.specs.Shown.{shown_line}
-use Rattle.sampling.specs.private.ShownRuns.{shown_of}
+use Rattle.sampling.specs.private.ShownRuns.{shown_beside, shown_of}
 use Rattle.sampling.proofs.ShownLemmas.{shown_line-is}
 
 -- texts by numbers from elsewhere on
@@ -64,16 +70,45 @@ batch_lines line program count g words same =
     let here : 0 + j ≡ j = omega arith in
     ap (λ k. line program (shot_generator program g k)) here ∙ same j (omega (arith, high))))
 
+-- coins of which the first ones are tossed are a shot's up to there
+tossed_alike : (tossed collapses : ℕ) (g : Lcg) (k : ℕ) → k < tossed
+    → get_or (drawn_coins collapses g) k false ≡ get_or (tossed_coins tossed collapses g) k false
+tossed_alike tossed collapses g k below =
+    let tosses : ℕ → Bool = λ c. word_at g c % 2 == 1 in
+    let hits : ℕ → Bool = λ c. nat_lt c tossed && tosses c in
+    ⊎_elim
+    (λ (there : k < collapses).
+    get_or-map-range_with_len tosses 0 collapses k k false there (omega arith)
+    ∙ (ap (λ b. b && tosses k) (sym (lt-ltb k tossed below))
+    ∙ sym (get_or-map-range_with_len hits 0 collapses k k false there (omega arith))))
+    (λ (past : collapses ≤ k).
+    get_or_past (drawn_coins collapses g) k false (omega (arith, past, length-map-range_with_len tosses 0 collapses))
+    ∙ sym (get_or_past (tossed_coins tossed collapses g) k false (omega (arith, past, length-map-range_with_len hits 0 collapses))))
+    (cases_lt k collapses)
+
+-- so where no others count, they make the records of the shot
+records_alike : (tossed : ℕ) (program : Listing) (faults : List Bool) (g : Lcg) → CoinsCountBelow program tossed
+    → records_of program faults (drawn_coins program.collapses g) ≡ records_of program faults (tossed_coins tossed program.collapses g)
+records_alike tossed program faults g count =
+    count faults (drawn_coins program.collapses g) (tossed_coins tossed program.collapses g)
+    (length-map-range_with_len _ 0 program.collapses)
+    (length-map-range_with_len _ 0 program.collapses)
+    (tossed_alike tossed program.collapses g)
+
 -- the line of a shot that was drawn into a lane and run
-pub drawn_line : (shown : Shown) (program : Listing) (count j : ℕ) (g : Lcg) (faults coins words : List ℕ) → count ≤ 64 → j < count
-    → AreDrawn (bounds_of program) program.collapses count g faults coins
+pub drawn_line : (tossed : ℕ) (shown : Shown) (program : Listing) (count j : ℕ) (g : Lcg) (faults coins words : List ℕ) → count ≤ 64 → j < count
+    → AreDrawn tossed (bounds_of program) program.collapses count g faults coins → CoinsCountBelow program tossed
     → ((i : ℕ) → i < 64 → lane i words ≡ shown_of shown program (lane i faults) (lane i coins))
     → shown_line shown program (shot_generator program g j) ≡ lane_line words j
-drawn_line shown program count j g faults coins words few below drawn runs =
+drawn_line tossed shown program count j g faults coins words few below drawn alike runs =
+    let at = shot_generator program g j in
     let n : length (bounds_of program) ≡ length program.faults = length-map program.faults (λ (fault : ListedFault). fault.bound) in
-    shown_line-is shown program (shot_generator program g j)
+    let same_faults : shot_faults program at ≡ lane j faults =
+    ap (λ m. drawn_faults (bounds_of program) (after_shots m program.collapses j g)) (sym n) ∙ sym (drawn.faults j below) in
+    let same_coins : tossed_coins tossed program.collapses (after_words (length program.faults) at) ≡ lane j coins =
+    ap (λ m. tossed_coins tossed program.collapses (after_words m (after_shots m program.collapses j g))) (sym n) ∙ sym (drawn.coins j below) in
+    shown_line-is shown program at
     ∙ ap line_of
-    (ap₂ (shown_of shown program)
-    (ap (λ m. drawn_faults (bounds_of program) (after_shots m program.collapses j g)) (sym n) ∙ sym (drawn.faults j below))
-    (ap (λ m. drawn_coins program.collapses (after_words m (after_shots m program.collapses j g))) (sym n) ∙ sym (drawn.coins j below))
-    ∙ sym (runs j (omega (arith, few, below))))
+    (ap (λ records. shown_beside shown program records (records_of program [] (zero_coins program))) (records_alike tossed program (shot_faults program at) (after_words (length program.faults) at) alike)
+    ∙ (ap₂ (shown_of shown program) same_faults same_coins
+    ∙ sym (runs j (omega (arith, few, below)))))

@@ -1,6 +1,6 @@
 -- Drawing into one lane of a list of words: within a span of the words the lane becomes 1 where a truth value is true,
 -- and everything else stays. (This project's own.)
-use Rattle.std.specs.Prelude.{◌≡◌, ◌≢◌, ◌<◌, ◌≤◌, ℕ, ◌%◌, ◌==◌, nat_lt, Bool, ◌||◌, List, length, slice_index, slice_index_or}
+use Rattle.std.specs.Prelude.{◌≡◌, ◌≢◌, ◌<◌, ◌≤◌, ℕ, ◌%◌, ◌==◌, nat_lt, Bool, ◌&&◌, ◌||◌, List, length, slice_index, slice_index_or}
 use Rattle.rand_pcg.specs.Lcg.{Lcg}
 use Rattle.bit_rows.specs.Lanes.{lane_bit}
 use Rattle.forward_sim.specs.Drawn.{word_at}
@@ -12,9 +12,13 @@ pub record DrawsInto (j start end : ℕ) (hits : ℕ → Bool) (old new : List �
   pub above : (k : ℕ) → end ≤ k → slice_index new k ≡ slice_index old k
   pub others : (i k : ℕ) → i ≢ j → lane_bit i (slice_index new k) ≡ lane_bit i (slice_index old k)
 
--- whether each fault happens, and the coin of each collapse, by the next words
+-- whether each fault happens, by the next words; the coin of each collapse; and the same where only the first ones are
+-- tossed, and the others are 0
 abbrev pub fault_hits : List ℕ → Lcg → ℕ → Bool
 fault_hits bounds generator f = nat_lt (word_at generator f) (slice_index_or bounds f 0)
 
-abbrev pub coin_hits : Lcg → ℕ → Bool
-coin_hits generator c = word_at generator c % 2 == 1
+abbrev pub toss_hits : Lcg → ℕ → Bool
+toss_hits generator c = word_at generator c % 2 == 1
+
+abbrev pub coin_hits : ℕ → Lcg → ℕ → Bool
+coin_hits tossed generator c = nat_lt c tossed && toss_hits generator c

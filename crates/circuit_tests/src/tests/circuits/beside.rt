@@ -60,7 +60,7 @@ fn all_agree(
 ) -> Result<bool, Fail>
     requires { IsBatchOf program.now.listing batch.old }
 {
-    let mut shots = Shots::new(alloc, program)?;
+    let mut shots = Shots::new(alloc, program, program.collapse_count() as usize)?;
     let mut rng = Pcg64::seed_from_u64(1);
     if !next_agree(alloc, program, batch, &mut shots, &mut rng)? {
         return Ok(false);

@@ -48,7 +48,7 @@ fn draws_are_right<'m>(
     ration: Ration<'m>,
     program: &Program<'_, Memory<'m>>,
 ) -> Result<bool, Fault> {
-    let mut shots = Shots::new(ration.memory, program)?;
+    let mut shots = Shots::new(ration.memory, program, program.collapse_count() as usize)?;
     let mut rng = Pcg64::seed_from_u64(1);
     let _memory = ration.begin();
     shots.draw(64, &mut rng);

@@ -132,7 +132,7 @@ fn shots_are_right<'m>(
     memory: Memory<'m>,
     program: &Program<'_, Memory<'m>>,
 ) -> Result<bool, Fault> {
-    let shots = Shots::new(memory, program)?;
+    let shots = Shots::new(memory, program, program.collapse_count() as usize)?;
     Ok(shots.faults() == [0; 10].as_slice() && shots.coins() == [0; 11].as_slice())
 }
 

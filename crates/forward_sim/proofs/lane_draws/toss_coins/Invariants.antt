@@ -1,12 +1,12 @@
 use Rattle.std.proofs.Common.{◌≡◌}
 use Rattle.forward_sim.specs.Drawn.{after_words}
-use Rattle.forward_sim.specs.private.LaneDraws.{DrawsInto, coin_hits}
-use Rattle.forward_sim.proofs.lane_draws.draw_coins.Given as goal
+use Rattle.forward_sim.specs.private.LaneDraws.{DrawsInto, toss_hits}
+use Rattle.forward_sim.proofs.lane_draws.toss_coins.Given as goal
 
 -- a word was taken for each coin so far
 abbrev pub invariant-loop-c : goal.invariant-loop-c
 invariant-loop-c l =
     record {
-      drawn : DrawsInto l.lane 0 l.c (coin_hits l.fn.rng) l.fn.coins l.coins;
+      drawn : DrawsInto l.lane 0 l.c (toss_hits l.fn.rng) l.fn.coins l.coins;
       taken : l.rng ≡ after_words l.c l.fn.rng;
     }

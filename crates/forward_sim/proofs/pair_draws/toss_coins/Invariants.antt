@@ -1,14 +1,14 @@
 use Rattle.std.proofs.Common.{◌≡◌}
 use Rattle.forward_sim.specs.Drawn.{after_words}
-use Rattle.forward_sim.specs.private.LaneDraws.{coin_hits}
+use Rattle.forward_sim.specs.private.LaneDraws.{toss_hits}
 use Rattle.forward_sim.specs.private.PairDraws.{DrawsIntoBoth}
-use Rattle.forward_sim.proofs.pair_draws.draw_coins.Given as goal
+use Rattle.forward_sim.proofs.pair_draws.toss_coins.Given as goal
 
 -- each generator gave a word for each coin so far
 abbrev pub invariant-loop-c : goal.invariant-loop-c
 invariant-loop-c l =
     record {
-      drawn : DrawsIntoBoth l.lanes.first l.lanes.second 0 l.c (coin_hits l.fn.first) (coin_hits l.fn.second) l.fn.coins l.coins;
+      drawn : DrawsIntoBoth l.lanes.first l.lanes.second 0 l.c (toss_hits l.fn.first) (toss_hits l.fn.second) l.fn.coins l.coins;
       first : l.one ≡ after_words l.c l.fn.first;
       second : l.two ≡ after_words l.c l.fn.second;
     }
