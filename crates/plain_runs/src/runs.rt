@@ -1,22 +1,21 @@
 //! Records of runs, and whether words are in their states.
-ghost use Rattle.std.specs.Prelude.{◌≡◌, ◌<◌, ◌≤◌, ◌&&◌, ◌||◌, not, length, take, false, Bool, List, Some, None, IfOk, is_some, unwrap_or, slice_index_or, option_map};
+ghost use Rattle.std.specs.Prelude.{◌≡◌, ◌≤◌, ◌&&◌, ◌||◌, not, length, false, Bool, Some, None, IfOk, is_some, unwrap_or, slice_index_or, option_map};
 ghost use Rattle.pauli_word.specs.States.{is_I_or_Z, start_state, applied, is_decided, outcome, collapsed};
 ghost use Rattle.pauli_word.specs.Parity.{exclusive_or};
 ghost use Rattle.pauli_word.specs.Words.{anticommute, product, signed};
-ghost use Rattle.step_model.specs.Runs.{correction, corrected, next_coin, flip_happens, record_changes, run_state_after, next, records_of};
+ghost use Rattle.step_model.specs.Runs.{correction, corrected, next_coin, record_changes, run_state_after, next, records_of};
 ghost use Rattle.step_model.specs.Listing as listing;
-ghost use Rattle.step_model.specs.WellFormed.{collapse_count};
-ghost use Rattle.step_model.specs.Listing.{is_collapse};
 ghost use Rattle.plain_runs.specs.declared.plain_step.Recording.{Recording};
-ghost use Rattle.plain_runs.specs.private.PlainSteps.{ResetFits, WordsFit, listed_step, measured, recorded, step_at};
+ghost use Rattle.plain_runs.specs.private.PlainSteps.{ResetFits, WordsFit, listed_step, measured, recorded};
 
+use crate::given::{coin_after, flip_happens, truth_at};
 use crate::plain_step::{PlainStep, Recording, plain_step};
 use crate::unrolled::Unrolled;
 use crate::words::{
     anticommutes, preimage, preimage_of_two, product, uncorrected, with_sign_changed,
 };
 use pauli_word::{Letter, Word};
-use programs::{Program, Step};
+use programs::Program;
 use std::alloc::{AllocError, Allocator};
 use step_model::Term;
 
@@ -346,65 +345,4 @@ fn is_i_or_z(letter: Letter) -> bool
     ensures { result ≡ is_I_or_Z letter }
 {
     letter == Letter::I || letter == Letter::Z
-}
-
-// The coin of the first collapse after these steps.
-fn coin_after<A: Allocator + Copy>(
-    program: &Unrolled<'_, '_, A>,
-    coins: &[bool],
-    steps: usize,
-) -> bool
-    requires { steps ≤ length program.now.listing.steps }
-    ensures { (faults : List Bool)
-        → result ≡ next_coin (run_state_after program.now.listing faults coins.now steps).coins }
-{
-    truth_at(coins, collapses_before(program, steps))
-}
-
-// How many of the first steps are collapses.
-pub(crate) fn collapses_before<A: Allocator + Copy>(
-    program: &Unrolled<'_, '_, A>,
-    steps: usize,
-) -> usize
-    requires { steps ≤ length program.now.listing.steps }
-    ensures count { result ≡ collapse_count (take steps program.now.listing.steps) }
-    ensures few { result ≤ steps }
-{
-    let mut count = 0;
-    for step in 0..steps {
-        if is_collapse(program, step) {
-            count += 1;
-        }
-    }
-    count
-}
-
-pub(crate) fn is_collapse<A: Allocator + Copy>(program: &Unrolled<'_, '_, A>, step: usize) -> bool
-    requires { step < length program.now.listing.steps }
-    ensures { result ≡ is_collapse (step_at program.now.listing step) }
-{
-    matches!(
-        program.step(step),
-        Step::Collapse { .. } | Step::CollapseWord { .. }
-    )
-}
-
-fn flip_happens(faults: &[bool], flip: Option<u32>) -> bool
-    ensures { result ≡ flip_happens faults.now flip }
-{
-    match flip {
-        Some(fault) => truth_at(faults, fault as usize),
-        None => false,
-    }
-}
-
-// An entry of a list of truth values, false past its end.
-pub(crate) fn truth_at(list: &[bool], index: usize) -> bool
-    ensures { result ≡ slice_index_or list.now index false }
-{
-    if index < list.len() {
-        list[index]
-    } else {
-        false
-    }
 }

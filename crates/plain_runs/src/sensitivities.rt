@@ -6,8 +6,8 @@ ghost use Rattle.step_model.specs.WellFormed.{collapse_count};
 ghost use Rattle.step_model.specs.Targets.{is_listed, targets_of};
 ghost use Rattle.plain_runs.specs.private.PlainSteps.{ResetFits, WordsFit, listed_step, measured, recorded, step_at};
 
+use crate::given::collapses_before;
 use crate::plain_step::{PlainStep, Recording, plain_step};
-use crate::runs::collapses_before;
 use crate::unrolled::Unrolled;
 use crate::words::{anticommutes, cleared, multiplied, preimage, preimage_of_two};
 use pauli_word::{Letter, Word};

@@ -1,6 +1,6 @@
 use Rattle.std.proofs.Common.{get_or, false, ap, ◌∙◌, sym}
 use Rattle.plain_runs.proofs.RunFacts.{next_coin-after}
-use Rattle.plain_runs.proofs.runs.coin_after.Goals as goal
+use Rattle.plain_runs.proofs.given.coin_after.Goals as goal
 
 pub returns : goal.returns
 returns g c faults =
