@@ -27,7 +27,7 @@ impl<A: Allocator + Copy> Model for LastWord<A> {
 
     ghost view = { λ w. record { room = w.qubits; terms = terms_listed (take w.len w.numbers.items) } };
 
-    ghost invariant = { λ w. (length w.numbers.items ≡ 2 * w.qubits + 1) × (w.qubits < 65536) × (w.len ≤ length w.numbers.items) };
+    ghost invariant = { λ w. (length w.numbers.items ≡ 2 * w.qubits + 1) × (w.qubits ≤ u16.MAX) × (w.len ≤ length w.numbers.items) };
 }
 
 impl<A: Allocator + Copy> LastWord<A> {
@@ -87,7 +87,7 @@ fn list_clashing<A: Allocator + Copy>(
     letter: Letter,
 ) -> usize
     requires row { row < row_count tableau.now }
-    requires few { row_count tableau.now < 65536 }
+    requires few { row_count tableau.now ≤ u16.MAX }
     requires room { start + row_count tableau.now ≤ length numbers.old }
     ensures length { length numbers.new ≡ length numbers.old }
     ensures start { start ≤ result }

@@ -26,7 +26,7 @@ impl<A: Allocator + Copy> Model for WordTable<A> {
 
     ghost view = { λ table. table.words };
 
-    ghost invariant = { λ table. length table.latest.items ≡ 16384 };
+    ghost invariant = { λ table. length table.latest.items ≡ SLOTS };
 }
 
 impl<A: Allocator + Copy> WordTable<A> {
@@ -109,7 +109,7 @@ fn number_after(words: usize) -> Result<u32, AllocError>
 
 // The slot of a word.
 fn slot_of(word: &[u16]) -> usize
-    ensures { result < 16384 }
+    ensures { result < SLOTS }
 {
     let mut mixed = word.len() as u64;
     for number in &word[..word.len().min(TELLING)] {

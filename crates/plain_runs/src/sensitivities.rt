@@ -253,8 +253,10 @@ fn clashes_after<A: Allocator + Copy>(
     step: usize,
 ) -> Result<bool, AllocError>
     requires { step < length program.now.listing.steps }
-    ensures { IfOk result (λ clashes. clashes ≡ anticommute (collapse_word program.now.listing.qubits (step_at program.now.listing step))
-        (sensitivity program.now.listing.qubits named.now (drop (step + 1) program.now.listing.steps)).word) }
+    ensures { IfOk result (λ clashes. clashes
+        ≡ anticommute (collapse_word program.now.listing.qubits (step_at program.now.listing step))
+        (sensitivity program.now.listing.qubits named.now
+        (drop (step + 1) program.now.listing.steps)).word) }
 {
     match plain_step(alloc, program, step)? {
         PlainStep::Collapse { word, .. } => {
