@@ -7,7 +7,7 @@ pub mod NumberedWords
 pub mod ReferenceSteps
 pub mod SameStates
 pub mod RunRecords
-pub mod Walking
+pub mod WalkedSteps
 pub mod TermWords
 pub mod WordsSaid
 pub mod RunLemmas

@@ -21,6 +21,7 @@ pub(crate) struct WordTable<A: Allocator + Copy> {
 
 impl<A: Allocator + Copy> Model for WordTable<A> {
     ghost use Rattle.std.specs.Prelude.{◌≡◌, ℕ, List, length};
+    ghost use Rattle.forward_sim.specs.declared.word_table.TheConstants.{SLOTS};
 
     ghost Value = { List (List ℕ) };
 

@@ -6,7 +6,7 @@ use Rattle.step_model.specs.Runs.{next, records_of, start}
 use Rattle.forward_sim.specs.private.Machines.{run_of}
 use Rattle.forward_sim.specs.private.SameRuns.{IsSameRun}
 use Rattle.forward_sim.proofs.RunRecords.{MakesRest, rest_at_start, step_is_next, rest_after_step, records_at_end, length-records_of}
-use Rattle.forward_sim.proofs.Walking.{GoesOver, goes_over, nothing_left}
+use Rattle.forward_sim.proofs.WalkedSteps.{GoesOver, goes_over, nothing_left}
 use Rattle.forward_sim.proofs.forward.take_steps.Given.{Over}
 use Rattle.forward_sim.proofs.forward.take_steps.Goals as goal
 use Rattle.forward_sim.proofs.forward.take_steps.Goals.{In-Some, In_default}

@@ -8,7 +8,7 @@ use Rattle.forward_sim.specs.References.{walking_run}
 use Rattle.forward_sim.specs.private.SameRuns.{IsSameRun}
 use Rattle.forward_sim.proofs.ReferenceSteps.{KeepsRest, entries_at_end, keeps_at_start, keeps_after_step, reference_records}
 use Rattle.forward_sim.proofs.RunRecords.{MakesRest, rest_at_start, step_is_next, rest_after_step, length-records_of}
-use Rattle.forward_sim.proofs.Walking.{GoesOver, goes_over, nothing_left}
+use Rattle.forward_sim.proofs.WalkedSteps.{GoesOver, goes_over, nothing_left}
 use Rattle.forward_sim.proofs.keeping.follow_steps.Given.{Over}
 use Rattle.forward_sim.proofs.keeping.follow_steps.Goals as goal
 use Rattle.forward_sim.proofs.keeping.follow_steps.Goals.{In-Some, In_default}

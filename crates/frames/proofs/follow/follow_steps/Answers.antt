@@ -2,7 +2,7 @@
 use Rattle.std.proofs.Common.{ℕ, Bool, List, [], ◌∷◌, ◌≡◌, true, false, length, drop, refl, sym, ap, subst, ◌∙◌, arith}
 use Rattle.forward_sim.specs.References.{GoneOver, ReferenceRun, StandBefore}
 use Rattle.forward_sim.proofs.RunRecords.{length-records_of}
-use Rattle.forward_sim.proofs.Walking.{GoesOver, goes_over, nothing_left}
+use Rattle.forward_sim.proofs.WalkedSteps.{GoesOver, goes_over, nothing_left}
 use Rattle.bit_rows.specs.Lanes.{lane, lane_bit}
 use Rattle.programs.specs.Listed.{listed}
 use Rattle.step_model.specs.Frames.{zero_coins}

@@ -1,5 +1,5 @@
 -- The pairs are read and written through the two parts into which the rows are split.
-use Rattle.std.proofs.Common.{◌≤◌, ◌<◌, ◌++◌, set, slice_index_or, ap₂, sym, ◌∙◌, arith}
+use Rattle.std.proofs.Common.{◌++◌, set, slice_index_or, ap₂, sym, ◌∙◌}
 use Rattle.tableau.proofs.ControlledRows.{AreRead, comes_after, parts_set, set_swapped, read_ahead, read_behind, first_there, second_there, commute_there, made_there}
 use Rattle.tableau.proofs.controlled.apply_controlled.Given.{Over}
 use Rattle.tableau.proofs.controlled.apply_controlled.Goals as goal
