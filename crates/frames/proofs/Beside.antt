@@ -83,8 +83,8 @@ beside-other program reference after faults coins step rest k runs old new fits 
     record {
       m = next program [] step before.m;
       stand = left.0;
-      counted = left.1.0;
-      zeros = left.1.1.0;
+      counted = left.1;
+      zeros = left.2;
       whole = before.whole ∙ sym same;
       shots = λ j.
           let shot = before.shots j in
@@ -94,7 +94,7 @@ beside-other program reference after faults coins step rest k runs old new fits 
             differ =
                 subst (λ v. Differ program.qubits v (next program [] step before.m) run) (sym (goes.frames j))
                 (other-step program (lane j faults) None (lane_bit j runs) step (frame_in j old) before.m shot.run fits other shot.differ);
-            coins_are = left.1.1.1 j;
+            coins_are = left.3 j;
             whole = shot.whole;
           };
     }
@@ -104,11 +104,11 @@ beside-other program reference after faults coins step rest k runs old new fits 
         × (k + collapse_count rest ≡ program.collapses)
         × ((i : ℕ) → get_or (next program [] s before.m).coins i false ≡ false)
         × ((j : ℕ) → (next program (lane j faults) s (before.shots j).run).coins ≡ drop k (lane j coins))
-    by_step (One gate q) other over counted = (over.stand, (omega (arith, counted), (before.zeros, λ j. (before.shots j).coins_are)))
-    by_step (Two gate a b) other over counted = (over.stand, (omega (arith, counted), (before.zeros, λ j. (before.shots j).coins_are)))
+    by_step (One gate q) other over counted = (over.stand, omega (arith, counted), before.zeros, λ j. (before.shots j).coins_are)
+    by_step (Two gate a b) other over counted = (over.stand, omega (arith, counted), before.zeros, λ j. (before.shots j).coins_are)
     by_step (Collapse c r) other over counted = cc
-    by_step (Fault f) other over counted = (over.stand, (omega (arith, counted), (before.zeros, λ j. (before.shots j).coins_are)))
-    by_step (Feedback w r) other over counted = (over.stand, (omega (arith, counted), (before.zeros, λ j. (before.shots j).coins_are)))
+    by_step (Fault f) other over counted = (over.stand, omega (arith, counted), before.zeros, λ j. (before.shots j).coins_are)
+    by_step (Feedback w r) other over counted = (over.stand, omega (arith, counted), before.zeros, λ j. (before.shots j).coins_are)
 
 -- what is said of a collapse turns the frames
 pub entry-turns : (n : ℕ) (s : State) (step : ListedStep) (entry : Option (List Term)) → IsStepEntry n s step entry → TurnsAt n entry step

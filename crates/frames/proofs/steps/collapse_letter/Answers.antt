@@ -4,8 +4,8 @@ use Rattle.bit_rows.specs.Lanes.{lane_bit}
 use Rattle.pauli_word.specs.Letters.{letters_clash}
 use Rattle.pauli_word.specs.Words.{anticommute, lone_letter}
 use Rattle.run_laws.proofs.ShiftWords.{anticommute-lone}
-use Rattle.frames.specs.private.Followed.{flips_in, terms_of, turned, turned_in}
-use Rattle.frames.specs.LaneFrames.{GoesTo, frame_in}
+use Rattle.frames.specs.private.Followed.{flips_in, terms_of, turned_in}
+use Rattle.frames.specs.LaneFrames.{GoesTo}
 use Rattle.frames.specs.LaneLetters.{word_in}
 use Rattle.frames.proofs.FollowedSteps.{flips_turned, goes_cleared, goes_left, goes_turned}
 use Rattle.frames.proofs.LaneFrameLaws.{length-word_in}

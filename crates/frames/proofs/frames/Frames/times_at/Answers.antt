@@ -2,11 +2,9 @@
 use Rattle.std.proofs.Common.{◌≡◌, ℕ, ◌<◌, ◌-◌, ◌+◌, List, length, drop, get_or, refl, sym, subst, arith}
 use Rattle.std.proofs.lemmas.List.{get_or-map, length-map}
 use Rattle.std.proofs.lemmas.List.Elements.{All-get_or}
-use Rattle.bit_rows.specs.Lanes.{lane_bit}
 use Rattle.pauli_word.specs.declared.letter.Letter.{Letter}
 use Rattle.pauli_word.specs.Words.{lone_letter}
 use Rattle.step_model.specs.Listing.{word_of_terms}
-use Rattle.step_model.specs.Sensitivities.{multiplied}
 use Rattle.step_model.specs.declared.step.Term.{Term}
 use Rattle.forward_sim.specs.References.{terms_at}
 use Rattle.frames.specs.private.Followed.{multiplied_in}

@@ -1,7 +1,5 @@
 use Rattle.std.proofs.Common.{◌≤◌, length, drop}
-use Rattle.bit_rows.specs.Lanes.{lane_bit}
 use Rattle.step_model.specs.Listing.{word_of_terms}
-use Rattle.step_model.specs.Sensitivities.{multiplied}
 use Rattle.frames.specs.private.Followed.{multiplied_in}
 use Rattle.frames.specs.LaneFrames.{GoesTo}
 use Rattle.frames.proofs.frames.Frames.times_terms.Given as goal
