@@ -3,7 +3,7 @@ ghost use Rattle.std.specs.Prelude.{◌≡◌, ◌≤◌, length, false, Bool, S
 ghost use Rattle.pauli_word.specs.States.{is_I_or_Z, start_state, applied, is_decided, outcome};
 ghost use Rattle.pauli_word.specs.Parity.{exclusive_or};
 ghost use Rattle.step_model.specs.Runs.{after_collapse, correction, next_coin, record_changes, run_state_after, records_of};
-ghost use Rattle.step_model.specs.Listing.{Collapse, Word};
+ghost use Rattle.step_model.specs.Listing as listing;
 ghost use Rattle.plain_runs.specs.declared.plain_step.Recording.{Recording};
 ghost use Rattle.plain_runs.specs.private.GivenRuns.{collapsed_at_random, state_after, state_behind};
 ghost use Rattle.plain_runs.specs.private.PlainSteps.{ResetFits, WordsFit, listed_step, measured, recorded};
@@ -288,7 +288,7 @@ fn record_after<A: Allocator + Copy>(
     ensures { IfOk result (λ made. made
         ≡ slice_index_or
         (state_behind run.now steps
-        (Collapse (Word word.now.letters) (option_map recorded recording))).records
+        (listing.Collapse (listing.Word word.now.letters) (option_map recorded recording))).records
         number false) }
 {
     let Some(recording) = recording else {
