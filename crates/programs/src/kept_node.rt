@@ -213,10 +213,6 @@ pub(crate) fn step_of(kept: KeptNode) -> TextStep
     requires { (sizes : List BlockSize) × (is_step (Some (node_of sizes kept)) ≡ true) }
     ensures { (sizes : List BlockSize) → node_of sizes kept ≡ Do result }
 {
-    // Most steps of a circuit are faults: they are told apart before the other steps are taken to pieces.
-    if let KeptNode::Fault(entry) = kept {
-        return TextStep::Fault(entry);
-    }
     match kept {
         KeptNode::One { gate, q } => TextStep::One { gate, q },
         KeptNode::Two { gate, a, b } => TextStep::Two { gate, a, b },

@@ -166,9 +166,6 @@ pub fn number(counts: Counts, step: TextStep) -> Step
     requires { feeds_back counts step }
     ensures { result ≡ numbered_step counts step }
 {
-    if let TextStep::Fault(entry) = step {
-        return Step::Fault(fault_name(counts, entry));
-    }
     match step {
         TextStep::One { gate, q } => Step::One { gate, q },
         TextStep::Two { gate, a, b } => Step::Two { gate, a, b },
@@ -269,12 +266,6 @@ pub fn before(counts: Counts, step: TextStep) -> Counts
     requires faults { (made_by step).faults ≤ counts.faults }
     ensures { result ≡ counts_before counts step }
 {
-    if let TextStep::Fault(_) = step {
-        return Counts {
-            faults: counts.faults - 1,
-            ..counts
-        };
-    }
     let fewer = made(step);
     Counts {
         records: counts.records - fewer.records,
