@@ -7,6 +7,7 @@ pub mod NumberedWords
 pub mod ReferenceSteps
 pub mod SameStates
 pub mod RunRecords
+pub mod WalkedSteps
 pub mod TermWords
 pub mod WordsSaid
 pub mod RunLemmas

@@ -1,6 +1,6 @@
 -- Collapses and the steps of a reference run: how they end, and what of them is kept.
-use Rattle.std.proofs.Common.{◌≡◌, ℕ, zero, suc, ◌+◌, ◌||◌, Bool, true, false, List, [], ◌∷◌, ◌++◌, length, drop, replicate, Option, Some, None, refl, sym, ap, ap₂, subst, ◌∙◌, append-nil, append_assoc}
-use Rattle.std.specs.Prelude.{is_some, slice_get, if◌then◌else◌}
+use Rattle.std.proofs.Common.{◌≡◌, ℕ, zero, suc, ◌||◌, Bool, true, false, List, [], ◌∷◌, ◌++◌, length, drop, replicate, Option, Some, None, refl, sym, ap, ap₂, subst, ◌∙◌, append-nil, append_assoc}
+use Rattle.std.specs.Prelude.{is_some, if◌then◌else◌}
 use Rattle.std.specs.List.{list_all}
 use Rattle.std.proofs.lemmas.Bool.{and_parts}
 use Rattle.pauli_word.specs.declared.letter.Letter.{Letter}
@@ -22,7 +22,7 @@ use Rattle.forward_sim.specs.private.Kept.{StepKeeps}
 use Rattle.forward_sim.specs.private.Machines.{Running, qubit_count, run_of, ended, ComesTo}
 use Rattle.forward_sim.specs.References.{IsEntry, AreEntries}
 use Rattle.forward_sim.specs.private.SameRuns.{HoldSame, IsSameRun}
-use Rattle.forward_sim.proofs.RunRecords.{MakesRest, all_fit, left, past, records_at_end, step_is_next}
+use Rattle.forward_sim.proofs.RunRecords.{MakesRest, all_fit, records_at_end, step_is_next}
 use Rattle.forward_sim.proofs.SameStates.{same-corrected, same-next}
 
 -- a collapse that has ended
@@ -163,21 +163,21 @@ behind program (Collapse c r) steps m old new rest keeps h =
 behind program (Fault f) steps m old new rest keeps h = record { all = rest; kept = h; joined = ap (λ o. o ++ rest) (sym keeps) }
 behind program (Feedback w r) steps m old new rest keeps h = record { all = rest; kept = h; joined = ap (λ o. o ++ rest) (sym keeps) }
 
-pub keeps_after_step : (program : Listing) (place : ℕ) (step : ListedStep) (m after : RunState) (old new : List (Option (List Term))) → IsWellFormed program → Some step ≡ slice_get program.steps place → MakesRest program [] [] place m → IsSameRun program.qubits after (next program [] step m) → StepKeeps program.qubits m.state step old new → KeepsRest program place m old → KeepsRest program (place + 1) after new
-keeps_after_step program place step m after old new well_formed at makes same keeps so_far rest h =
-    let steps = drop (place + 1) program.steps in
-    let fits = (step_is_next program [] [] place step m well_formed at makes).rest_fit in
+pub keeps_after_step : (program : Listing) (place further : ℕ) (step : ListedStep) (m after : RunState) (old new : List (Option (List Term))) → IsWellFormed program → drop place program.steps ≡ step ∷ drop further program.steps → MakesRest program [] [] place m → IsSameRun program.qubits after (next program [] step m) → StepKeeps program.qubits m.state step old new → KeepsRest program place m old → KeepsRest program further after new
+keeps_after_step program place further step m after old new well_formed left makes same keeps so_far rest h =
+    let steps = drop further program.steps in
+    let fits = (step_is_next program [] [] place further step m well_formed left makes).rest_fit in
     let with = behind program step steps m old new rest keeps (same-entries program steps after (next program [] step m) rest fits same h) in
     subst (AreEntries program program.steps (start [])) with.joined
-    (so_far with.all (subst (λ l. AreEntries program l m with.all) (sym (left program place step at)) with.kept))
+    (so_far with.all (subst (λ l. AreEntries program l m with.all) (sym left) with.kept))
 
 -- behind the last step the records are the reference run's, and what is kept is its entries
-pub reference_records : (program : Listing) (place : ℕ) (m : RunState) → None ≡ slice_get program.steps place → MakesRest program [] [] place m → m.records ≡ records_of program [] (zero_coins program)
+pub reference_records : (program : Listing) (place : ℕ) (m : RunState) → drop place program.steps ≡ [] → MakesRest program [] [] place m → m.records ≡ records_of program [] (zero_coins program)
 reference_records program place m none makes =
     records_at_end program [] [] place m none makes ∙ zero_records program program.steps program.collapses (start [])
 
-pub entries_at_end : (program : Listing) (place : ℕ) (m : RunState) (kept : List (Option (List Term))) → None ≡ slice_get program.steps place → KeepsRest program place m kept → AreEntries program program.steps (start (zero_coins program)) kept
+pub entries_at_end : (program : Listing) (place : ℕ) (m : RunState) (kept : List (Option (List Term))) → drop place program.steps ≡ [] → KeepsRest program place m kept → AreEntries program program.steps (start (zero_coins program)) kept
 entries_at_end program place m kept none keeps =
-    let nothing : AreEntries program (drop place program.steps) m [] = subst (λ l. AreEntries program l m []) (sym (past program.steps place none)) refl in
+    let nothing : AreEntries program (drop place program.steps) m [] = subst (λ l. AreEntries program l m []) (sym none) refl in
     zero_entries program program.steps program.collapses (start []) kept
     (subst (AreEntries program program.steps (start [])) (append-nil kept) (keeps [] nothing))

@@ -1,11 +1,9 @@
 -- How many records a run has made, and the loop over the steps of a run.
-use Rattle.std.proofs.Common.{◌≡◌, ℕ, zero, suc, inl, inr, ◌+◌, ◌<◌, ◌≤◌, Bool, true, List, [], ◌∷◌, length, drop, sym, ap, ◌∙◌, arith, length-append}
-use Rattle.std.specs.Prelude.{Some, None, slice_get, nat_lt, if◌then◌else◌}
+use Rattle.std.proofs.Common.{◌≡◌, ℕ, zero, suc, ◌+◌, ◌≤◌, Bool, true, List, [], ◌∷◌, length, drop, sym, ap, ◌∙◌, arith, length-append}
+use Rattle.std.specs.Prelude.{Some, None}
 use Rattle.std.specs.List.{list_all}
-use Rattle.std.proofs.lemmas.Bool.{and_parts, lt-ltb}
-use Rattle.std.proofs.lemmas.List.{drop_more, drop_all}
+use Rattle.std.proofs.lemmas.Bool.{and_parts}
 use Rattle.std.proofs.lemmas.List.FromFn.{length-range_with_len}
-use Rattle.std.proofs.lemmas.Option.{slice_get_cases, slice_get_within, get_or_from_slice_get}
 use Rattle.step_model.specs.Listing.{Listing, ListedStep, One, Two, Collapse, Fault, Feedback, step_records}
 use Rattle.step_model.specs.Runs.{RunState, start, next, run_from, records_of}
 use Rattle.step_model.specs.WellFormed.{IsWellFormed, records_made, step_fits}
@@ -38,12 +36,6 @@ abbrev pub MakesRest : Listing → List Bool → List Bool → ℕ → RunState 
 MakesRest program faults coins place m =
     (run_from program faults (drop place program.steps) m).records ≡ records_of program faults coins
 
--- the step at a place stands first in what is left
-pub left : (program : Listing) (place : ℕ) (step : ListedStep) → Some step ≡ slice_get program.steps place → drop place program.steps ≡ step ∷ drop (place + 1) program.steps
-left program place step at =
-    drop_more program.steps place step (slice_get_within program.steps place step (sym at))
-    ∙ ap (λ s. s ∷ drop (place + 1) program.steps) (get_or_from_slice_get program.steps place step step (sym at))
-
 pub all_fit : (program : Listing) → IsWellFormed program → list_all (step_fits program) program.steps ≡ true
 all_fit program well_formed = list_all-pass (step_fits program) program.steps well_formed.steps_fit
 
@@ -57,50 +49,34 @@ pub rest_at_start : (program : Listing) (faults coins : List Bool) (m : RunState
 rest_at_start program faults coins m well_formed same =
     same-run_from program faults program.steps m (start coins) (all_fit program well_formed) same
 
--- the step at a place fits, and there is room for its record
-pub record StepIsNext (program : Listing) (place : ℕ) (step : ListedStep) (m : RunState) : Type 0 where
-  pub below : place < length program.steps
-  pub fits : step_fits program step ≡ true
-  pub rest_fit : list_all (step_fits program) (drop (place + 1) program.steps) ≡ true
+-- the steps behind the first that is left fit, and there is room for its record
+pub record StepIsNext (program : Listing) (behind : ℕ) (step : ListedStep) (m : RunState) : Type 0 where
+  pub rest_fit : list_all (step_fits program) (drop behind program.steps) ≡ true
   pub room : length m.records + length (step_records step) ≤ program.records
 
-pub step_is_next : (program : Listing) (faults coins : List Bool) (place : ℕ) (step : ListedStep) (m : RunState) → IsWellFormed program → Some step ≡ slice_get program.steps place → MakesRest program faults coins place m → StepIsNext program place step m
-step_is_next program faults coins place step m well_formed at rest =
-    let after = drop (place + 1) program.steps in
+pub step_is_next : (program : Listing) (faults coins : List Bool) (place behind : ℕ) (step : ListedStep) (m : RunState) → IsWellFormed program → drop place program.steps ≡ step ∷ drop behind program.steps → MakesRest program faults coins place m → StepIsNext program behind step m
+step_is_next program faults coins place behind step m well_formed left rest =
+    let after = drop behind program.steps in
     let made : length (records_made (drop place program.steps)) ≡ length (step_records step) + length (records_made after) =
-    ap (λ steps. length (records_made steps)) (left program place step at)
-    ∙ length-append (step_records step) (records_made after) in
+    ap (λ steps. length (records_made steps)) left ∙ length-append (step_records step) (records_made after) in
     let whole : length (run_from program faults (drop place program.steps) m).records ≡ program.records =
     ap length rest ∙ length-records_of program faults coins well_formed in
     let all : list_all (step_fits program) (step ∷ after) ≡ true =
-    ap (list_all (step_fits program)) (sym (left program place step at))
+    ap (list_all (step_fits program)) (sym left)
     ∙ list_all-drop (step_fits program) place program.steps (all_fit program well_formed) in
-    let parts = and_parts (step_fits program step) (list_all (step_fits program) after) all in
     record {
-      below = slice_get_within program.steps place step (sym at);
-      fits = parts.0;
-      rest_fit = parts.1;
+      rest_fit = (and_parts (step_fits program step) (list_all (step_fits program) after) all).1;
       room = omega (arith, made, whole, length-run_from program faults (drop place program.steps) m);
     }
 
--- a run that has taken the step at a place is one between the next two
-pub rest_after_step : (program : Listing) (faults coins : List Bool) (place : ℕ) (step : ListedStep) (m after : RunState) → IsWellFormed program → Some step ≡ slice_get program.steps place → MakesRest program faults coins place m → IsSameRun program.qubits after (next program faults step m) → MakesRest program faults coins (place + 1) after
-rest_after_step program faults coins place step m after well_formed at rest same =
-    same-run_from program faults (drop (place + 1) program.steps) after (next program faults step m) (step_is_next program faults coins place step m well_formed at rest).rest_fit same
-    ∙ ap (λ steps. (run_from program faults steps m).records) (sym (left program place step at))
+-- a run that has taken this step is one between the next two
+pub rest_after_step : (program : Listing) (faults coins : List Bool) (place behind : ℕ) (step : ListedStep) (m after : RunState) → IsWellFormed program → drop place program.steps ≡ step ∷ drop behind program.steps → MakesRest program faults coins place m → IsSameRun program.qubits after (next program faults step m) → MakesRest program faults coins behind after
+rest_after_step program faults coins place behind step m after well_formed left rest same =
+    same-run_from program faults (drop behind program.steps) after (next program faults step m) (step_is_next program faults coins place behind step m well_formed left rest).rest_fit same
+    ∙ ap (λ steps. (run_from program faults steps m).records) (sym left)
     ∙ rest
 
-pub past : {X : Type 0} (xs : List X) (i : ℕ) → None ≡ slice_get xs i → drop i xs ≡ []
-past xs i none = elim (slice_get_cases xs i).1 [
-  | inl within ↦ cc
-  | inr over ↦ drop_all i xs over.0
-]
-
 -- behind the last step the records are all
-pub records_at_end : (program : Listing) (faults coins : List Bool) (place : ℕ) (m : RunState) → None ≡ slice_get program.steps place → MakesRest program faults coins place m → m.records ≡ records_of program faults coins
+pub records_at_end : (program : Listing) (faults coins : List Bool) (place : ℕ) (m : RunState) → drop place program.steps ≡ [] → MakesRest program faults coins place m → m.records ≡ records_of program faults coins
 records_at_end program faults coins place m none rest =
-    ap (λ steps. (run_from program faults steps m).records) (sym (past program.steps place none)) ∙ rest
-
--- a walk that has gone over a step is behind it
-pub place_after : (place steps new : ℕ) → place < steps → new ≡ (if nat_lt place steps then place + 1 else place) → new ≡ place + 1
-place_after place steps new below moved = moved ∙ ap (λ b. if b then place + 1 else place) (lt-ltb place steps below)
+    ap (λ steps. (run_from program faults steps m).records) (sym none) ∙ rest

@@ -6,7 +6,7 @@ ghost use Rattle.step_model.specs.Frames.{zero_coins};
 ghost use Rattle.step_model.specs.Listing.{step_records};
 ghost use Rattle.step_model.specs.Runs.{next, records_of, start};
 ghost use Rattle.forward_sim.specs.References.{walking_qubits, walking_run, AreEntries, AreWordsOf};
-ghost use Rattle.forward_sim.specs.private.Kept.{StepIsKept};
+ghost use Rattle.forward_sim.specs.private.Kept.{StepIsKept, WalksTo};
 ghost use Rattle.forward_sim.specs.private.Said.{words_of};
 ghost use Rattle.forward_sim.specs.private.SameRuns.{IsSameRun};
 
@@ -80,10 +80,8 @@ fn keep_step<A: Allocator + Copy>(
     requires room { length walk.old.records + length
         (step_records (listed program.now.listing.qubits program.now.products step))
         ≤ walk.old.room }
-    ensures qubits { OnOk result (walking_qubits walk.new ≡ walking_qubits walk.old) }
-    ensures room { OnOk result (walk.new.room ≡ walk.old.room) }
-    ensures run { OnOk result
-        (IsSameRun (walking_qubits walk.old) (walking_run walk.new)
+    ensures walked { OnOk result
+        (WalksTo walk.old walk.new
         (next program.now.listing []
         (listed program.now.listing.qubits program.now.products step)
         (walking_run walk.old))) }

@@ -21,13 +21,14 @@ pub(crate) struct LastWord<A: Allocator + Copy> {
 
 impl<A: Allocator + Copy> Model for LastWord<A> {
     ghost use Rattle.std.specs.Prelude.{◌≡◌, ◌<◌, ◌≤◌, ◌+◌, ◌*◌, length, take};
+    ghost use Rattle.std.below.core.specs.declared.int.u16.TheConstants.{MAX};
     ghost use Rattle.forward_sim.specs.private.Kept.{WordRead, terms_listed};
 
     ghost Value = { WordRead };
 
     ghost view = { λ w. record { room = w.qubits; terms = terms_listed (take w.len w.numbers.items) } };
 
-    ghost invariant = { λ w. (length w.numbers.items ≡ 2 * w.qubits + 1) × (w.qubits < 65536) × (w.len ≤ length w.numbers.items) };
+    ghost invariant = { λ w. (length w.numbers.items ≡ 2 * w.qubits + 1) × (w.qubits ≤ MAX) × (w.len ≤ length w.numbers.items) };
 }
 
 impl<A: Allocator + Copy> LastWord<A> {
@@ -87,7 +88,7 @@ fn list_clashing<A: Allocator + Copy>(
     letter: Letter,
 ) -> usize
     requires row { row < row_count tableau.now }
-    requires few { row_count tableau.now < 65536 }
+    requires few { row_count tableau.now ≤ u16.MAX }
     requires room { start + row_count tableau.now ≤ length numbers.old }
     ensures length { length numbers.new ≡ length numbers.old }
     ensures start { start ≤ result }

@@ -1,13 +1,12 @@
-ghost use Rattle.std.specs.Prelude.{◌≡◌, ◌≢◌, ◌+◌, ◌<◌, ◌≤◌, ◌++◌, ◌∷◌, [], true, false, length, drop, IfOk, is_some, if◌then◌else◌, slice_index_or};
+ghost use Rattle.std.specs.Prelude.{◌≡◌, ◌≢◌, ◌+◌, ◌<◌, ◌≤◌, [], true, false, length, drop, IfOk, is_some, if◌then◌else◌, slice_index_or};
 ghost use Rattle.gate_table.specs.Images.{arity_of};
 ghost use Rattle.gate_table.specs.WordImages.{preimage_at, preimage_at_two};
 ghost use Rattle.pauli_word.specs.States.{applied, correcting};
 ghost use Rattle.pauli_word.specs.Words.{lone_letter};
 ghost use Rattle.step_model.specs.Listing.{word_of_terms};
-ghost use Rattle.programs.specs.Listed.{measured};
-ghost use Rattle.step_model.specs.Runs.{start, next_coin, corrected, correction};
+ghost use Rattle.step_model.specs.Runs.{start, next_coin, corrected};
 ghost use Rattle.step_model.specs.WellFormed.{TermsFit};
-ghost use Rattle.forward_sim.specs.private.Machines.{ComesTo, qubit_count, run_of};
+ghost use Rattle.forward_sim.specs.private.Machines.{ComesTo, correction_of, in_state, qubit_count, run_of, with_record};
 ghost use Rattle.forward_sim.specs.private.SameRuns.{IsSameRun};
 
 use crate::records::Records;
@@ -99,8 +98,8 @@ impl<'c, A: Allocator + Copy> Machine<'c, A> {
     pub(crate) fn correct(&mut self, letter: Letter, qubit: u32, reset: bool, seen: bool)
         requires { qubit < qubit_count self.old }
         ensures { ComesTo self.old self.new
-            (record (run_of self.old)
-            { state = corrected (correction (qubit_count self.old) (measured (qubit_count self.old) reset letter qubit)) seen (run_of self.old).state }) }
+            (in_state (run_of self.old)
+            (corrected (correction_of self.old reset letter qubit) seen (run_of self.old).state)) }
     {
         if reset {
             self.reset_after(letter, qubit, seen);
@@ -110,8 +109,9 @@ impl<'c, A: Allocator + Copy> Machine<'c, A> {
     fn reset_after(&mut self, letter: Letter, qubit: u32, seen: bool)
         requires { qubit < qubit_count self.old }
         ensures { ComesTo self.old self.new
-            (record (run_of self.old)
-            { state = applied seen (lone_letter (qubit_count self.old) qubit (correcting letter)) (run_of self.old).state }) }
+            (in_state (run_of self.old)
+            (applied seen (lone_letter (qubit_count self.old) qubit (correcting letter))
+            (run_of self.old).state)) }
     {
         self.tableau.reset_after(letter, qubit as usize, seen);
     }
@@ -119,9 +119,7 @@ impl<'c, A: Allocator + Copy> Machine<'c, A> {
     /// Records a value, where there is a number for it.
     pub(crate) fn keep(&mut self, number: Option<u32>, value: bool)
         requires { length self.old.records + (if is_some number then 1 else 0) ≤ self.old.room }
-        ensures { self.new
-            ≡ record self.old
-            { records = if is_some number then self.old.records ++ value ∷ [] else self.old.records } }
+        ensures { self.new ≡ with_record number value self.old }
     {
         if number.is_some() {
             self.records.push_reserved(value);
@@ -140,8 +138,8 @@ impl<'c, A: Allocator + Copy> Machine<'c, A> {
         requires arity { arity_of gate ≡ 1 }
         requires inside { qubit < qubit_count self.old }
         ensures { ComesTo self.old self.new
-            (record (run_of self.old)
-            { state = λ p. (run_of self.old).state (preimage_at gate qubit p) }) }
+            (in_state (run_of self.old)
+            (λ p. (run_of self.old).state (preimage_at gate qubit p))) }
     {
         self.tableau.apply(gate, qubit as usize, 0);
     }
@@ -153,8 +151,8 @@ impl<'c, A: Allocator + Copy> Machine<'c, A> {
         requires second_inside { b < qubit_count self.old }
         requires differ { a ≢ b }
         ensures { ComesTo self.old self.new
-            (record (run_of self.old)
-            { state = λ p. (run_of self.old).state (preimage_at_two gate a b p) }) }
+            (in_state (run_of self.old)
+            (λ p. (run_of self.old).state (preimage_at_two gate a b p))) }
     {
         self.tableau.apply(gate, a as usize, b as usize);
     }
@@ -163,8 +161,9 @@ impl<'c, A: Allocator + Copy> Machine<'c, A> {
     pub(crate) fn apply_letter(&mut self, letter: Letter, qubit: u32)
         requires { qubit < qubit_count self.old }
         ensures { ComesTo self.old self.new
-            (record (run_of self.old)
-            { state = applied true (lone_letter (qubit_count self.old) qubit letter) (run_of self.old).state }) }
+            (in_state (run_of self.old)
+            (applied true (lone_letter (qubit_count self.old) qubit letter)
+            (run_of self.old).state)) }
     {
         let gate = match letter {
             Letter::I => Gate::I,
@@ -179,8 +178,9 @@ impl<'c, A: Allocator + Copy> Machine<'c, A> {
     pub(crate) fn apply_terms(&mut self, terms: &[Term])
         requires { TermsFit (qubit_count self.old) terms.now }
         ensures { ComesTo self.old self.new
-            (record (run_of self.old)
-            { state = applied true (word_of_terms (qubit_count self.old) terms.now) (run_of self.old).state }) }
+            (in_state (run_of self.old)
+            (applied true (word_of_terms (qubit_count self.old) terms.now)
+            (run_of self.old).state)) }
     {
         for term in terms {
             self.apply_letter(term.letter, term.qubit);

@@ -36,8 +36,10 @@ pub(crate) fn draw_pair(
     ensures faults { DrawsIntoBoth lanes.first lanes.second 0 (length (bounds_in runs.now))
         (fault_hits (bounds_in runs.now) first.old) (fault_hits (bounds_in runs.now) second.old)
         faults.old faults.new }
-    ensures coins { let n = length (bounds_in runs.now) in
-        DrawsIntoBoth lanes.first lanes.second 0 (length coins.old) (coin_hits tossed (after_words n first.old)) (coin_hits tossed (after_words n second.old)) coins.old coins.new }
+    ensures coins { DrawsIntoBoth lanes.first lanes.second 0 (length coins.old)
+        (coin_hits tossed (after_words (length (bounds_in runs.now)) first.old))
+        (coin_hits tossed (after_words (length (bounds_in runs.now)) second.old))
+        coins.old coins.new }
     ensures first { first.new
         ≡ after_words (length coins.old) (after_words (length (bounds_in runs.now)) first.old) }
     ensures second { second.new

@@ -1,11 +1,11 @@
 ghost use Rattle.std.specs.Prelude.{◌≡◌, ◌+◌, ◌<◌, ◌≤◌, true, false, if◌then◌else◌, is_some, length, option_map, slice_index_or};
 ghost use Rattle.pauli_word.specs.States.{applied};
 ghost use Rattle.pauli_word.specs.Words.{lone_letter};
-ghost use Rattle.programs.specs.Listed.{listed, measured, number_of};
+ghost use Rattle.programs.specs.Listed.{listed, number_of};
 ghost use Rattle.programs.specs.Named.{IsNamed, IsStepOf};
 ghost use Rattle.step_model.specs.Listing.{Fault, step_records};
-ghost use Rattle.step_model.specs.Runs.{after_collapse, correction, flip_happens, next};
-ghost use Rattle.forward_sim.specs.private.Machines.{ComesTo, ended, qubit_count, run_of};
+ghost use Rattle.step_model.specs.Runs.{after_collapse, flip_happens, next};
+ghost use Rattle.forward_sim.specs.private.Machines.{ComesTo, correction_of, ended, in_state, qubit_count, run_of};
 
 use crate::letters::collapse_letter;
 use crate::machine::Machine;
@@ -73,8 +73,9 @@ fn collapse<A: Allocator + Copy>(
 )
     requires inside { qubit < qubit_count machine.old }
     requires room { length machine.old.records + (if is_some rec then 1 else 0) ≤ machine.old.room }
-    ensures { let n = qubit_count machine.old in
-        ComesTo machine.old machine.new (after_collapse (lone_letter n qubit letter) (correction n (measured n reset letter qubit)) (is_some rec) changes (run_of machine.old)) }
+    ensures { ComesTo machine.old machine.new
+        (after_collapse (lone_letter (qubit_count machine.old) qubit letter)
+        (correction_of machine.old reset letter qubit) (is_some rec) changes (run_of machine.old)) }
 {
     let (seen, _) = collapse_letter(machine, letter, qubit);
     end_collapse(machine, letter, qubit, reset, seen, rec, changes);
@@ -93,8 +94,9 @@ pub(crate) fn end_collapse<A: Allocator + Copy>(
 )
     requires inside { qubit < qubit_count machine.old }
     requires room { length machine.old.records + (if is_some rec then 1 else 0) ≤ machine.old.room }
-    ensures { let n = qubit_count machine.old in
-        ComesTo machine.old machine.new (ended (correction n (measured n reset letter qubit)) (is_some rec) seen changes (run_of machine.old)) }
+    ensures { ComesTo machine.old machine.new
+        (ended (correction_of machine.old reset letter qubit) (is_some rec) seen changes
+        (run_of machine.old)) }
 {
     machine.correct(letter, qubit, reset, seen);
     machine.keep(rec, seen ^ changes);
@@ -127,8 +129,9 @@ pub(crate) fn feed_back<A: Allocator + Copy>(
 )
     requires { qubit < qubit_count machine.old }
     ensures { ComesTo machine.old machine.new
-        (record (run_of machine.old)
-        { state = applied (slice_index_or machine.old.records rec false) (lone_letter (qubit_count machine.old) qubit letter) (run_of machine.old).state }) }
+        (in_state (run_of machine.old)
+        (applied (slice_index_or machine.old.records rec false)
+        (lone_letter (qubit_count machine.old) qubit letter) (run_of machine.old).state)) }
 {
     if machine.record(rec) {
         machine.apply_letter(letter, qubit);

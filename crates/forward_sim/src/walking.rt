@@ -4,7 +4,7 @@ ghost use Rattle.programs.specs.Named.{IsStepOf};
 ghost use Rattle.step_model.specs.Listing.{step_records};
 ghost use Rattle.step_model.specs.Runs.{next, start};
 ghost use Rattle.forward_sim.specs.References.{entry_of, walking_qubits, walking_run, IsStepEntry};
-ghost use Rattle.forward_sim.specs.private.Kept.{terms_listed};
+ghost use Rattle.forward_sim.specs.private.Kept.{terms_listed, WalksTo};
 ghost use Rattle.forward_sim.specs.private.SameRuns.{IsSameRun};
 
 use crate::following::follow_step;
@@ -68,9 +68,7 @@ impl<A: Allocator + Copy> WalkingRun<A> {
         requires room { length self.old.records + length
             (step_records (listed program.now.listing.qubits program.now.products step))
             ≤ self.old.room }
-        ensures qubits { walking_qubits self.new ≡ walking_qubits self.old }
-        ensures room { self.new.room ≡ self.old.room }
-        ensures run { IsSameRun (walking_qubits self.old) (walking_run self.new)
+        ensures walked { WalksTo self.old self.new
             (next program.now.listing []
             (listed program.now.listing.qubits program.now.products step)
             (walking_run self.old)) }
@@ -88,9 +86,7 @@ impl<A: Allocator + Copy> WalkingRun<A> {
         requires room { length self.old.records + length
             (step_records (listed program.now.listing.qubits program.now.products step))
             ≤ self.old.room }
-        ensures qubits { walking_qubits self.new ≡ walking_qubits self.old }
-        ensures room { self.new.room ≡ self.old.room }
-        ensures run { IsSameRun (walking_qubits self.old) (walking_run self.new)
+        ensures walked { WalksTo self.old self.new
             (next program.now.listing []
             (listed program.now.listing.qubits program.now.products step)
             (walking_run self.old)) }

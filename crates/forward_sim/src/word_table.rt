@@ -21,12 +21,13 @@ pub(crate) struct WordTable<A: Allocator + Copy> {
 
 impl<A: Allocator + Copy> Model for WordTable<A> {
     ghost use Rattle.std.specs.Prelude.{◌≡◌, ℕ, List, length};
+    ghost use Rattle.forward_sim.specs.declared.word_table.TheConstants.{SLOTS};
 
     ghost Value = { List (List ℕ) };
 
     ghost view = { λ table. table.words };
 
-    ghost invariant = { λ table. length table.latest.items ≡ 16384 };
+    ghost invariant = { λ table. length table.latest.items ≡ SLOTS };
 }
 
 impl<A: Allocator + Copy> WordTable<A> {
@@ -109,7 +110,7 @@ fn number_after(words: usize) -> Result<u32, AllocError>
 
 // The slot of a word.
 fn slot_of(word: &[u16]) -> usize
-    ensures { result < 16384 }
+    ensures { result < SLOTS }
 {
     let mut mixed = word.len() as u64;
     for number in &word[..word.len().min(TELLING)] {

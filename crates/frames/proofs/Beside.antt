@@ -1,10 +1,7 @@
 -- 64 runs and the reference run between two steps: each run differs from the reference run by its frame, and the steps that
 -- are left make the rest of the records of each.
 use Rattle.std.proofs.Common.{◌≡◌, ℕ, zero, suc, ◌+◌, ◌≤◌, Bool, true, false, List, [], ◌∷◌, length, get_or, drop, Option, None, Some, refl, sym, ap, subst, ◌∙◌, arith, length-append}
-use Rattle.std.specs.Prelude.{slice_get}
-use Rattle.std.proofs.lemmas.List.{drop_more}
 use Rattle.std.proofs.lemmas.List as lists
-use Rattle.std.proofs.lemmas.Option.{slice_get_within, get_or_from_slice_get}
 use Rattle.bit_rows.specs.Lanes.{lane, lane_bit}
 use Rattle.pauli_word.specs.States.{State, start_state}
 use Rattle.pauli_word.specs.Words.{no_letters, with_sign_changed}
@@ -82,48 +79,36 @@ pub beside-other : (program : Listing) (reference after : ReferenceRun) (faults 
     → GoesTo old new (λ j v. followed program (lane j faults) None (lane_bit j runs) step v)
     → Beside program after faults coins rest k new
 beside-other program reference after faults coins step rest k runs old new fits other before same over goes =
-    by_step step fits other over before.counted (before.whole ∙ sym same) (λ j. (before.shots j).whole) (λ j. other-step program (lane j faults) None (lane_bit j runs) step (frame_in j old) before.m (before.shots j).run fits other (before.shots j).differ) goes.frames
+    let left = by_step step other over before.counted in
+    record {
+      m = next program [] step before.m;
+      stand = left.0;
+      counted = left.1;
+      zeros = left.2;
+      whole = before.whole ∙ sym same;
+      shots = λ j.
+          let shot = before.shots j in
+          let run = next program (lane j faults) step shot.run in
+          record {
+            run = run;
+            differ =
+                subst (λ v. Differ program.qubits v (next program [] step before.m) run) (sym (goes.frames j))
+                (other-step program (lane j faults) None (lane_bit j runs) step (frame_in j old) before.m shot.run fits other shot.differ);
+            coins_are = left.3 j;
+            whole = shot.whole;
+          };
+    }
   where
-    by_step : (step : ListedStep) → step_fits program step ≡ true → is_collapse step ≡ false → GoneOver program step rest before.m k after.words
-        → k + collapse_count (step ∷ rest) ≡ program.collapses
-        → (run_from program [] (step ∷ rest) before.m).records ≡ after.records
-        → ((j : ℕ) → (run_from program (lane j faults) (step ∷ rest) (before.shots j).run).records ≡ records_of program (lane j faults) (lane j coins))
-        → ((j : ℕ) → Differ program.qubits (followed program (lane j faults) None (lane_bit j runs) step (frame_in j old)) (next program [] step before.m) (next program (lane j faults) step (before.shots j).run))
-        → ((j : ℕ) → frame_in j new ≡ followed program (lane j faults) None (lane_bit j runs) step (frame_in j old))
-        → Beside program after faults coins rest k new
-    by_step (One gate q) fits other over counted whole wholes differ frames = record {
-      m = next program [] (One gate q) before.m;
-      stand = over.stand;
-      counted = omega (arith, counted);
-      zeros = before.zeros;
-      whole = whole;
-      shots = λ j. record { run = next program (lane j faults) (One gate q) (before.shots j).run; differ = subst (λ v. Differ program.qubits v (next program [] (One gate q) before.m) (next program (lane j faults) (One gate q) (before.shots j).run)) (sym (frames j)) (differ j); coins_are = (before.shots j).coins_are; whole = wholes j };
-    }
-    by_step (Two gate a b) fits other over counted whole wholes differ frames = record {
-      m = next program [] (Two gate a b) before.m;
-      stand = over.stand;
-      counted = omega (arith, counted);
-      zeros = before.zeros;
-      whole = whole;
-      shots = λ j. record { run = next program (lane j faults) (Two gate a b) (before.shots j).run; differ = subst (λ v. Differ program.qubits v (next program [] (Two gate a b) before.m) (next program (lane j faults) (Two gate a b) (before.shots j).run)) (sym (frames j)) (differ j); coins_are = (before.shots j).coins_are; whole = wholes j };
-    }
-    by_step (Collapse c r) fits other over counted whole wholes differ frames = cc
-    by_step (Fault f) fits other over counted whole wholes differ frames = record {
-      m = next program [] (Fault f) before.m;
-      stand = over.stand;
-      counted = omega (arith, counted);
-      zeros = before.zeros;
-      whole = whole;
-      shots = λ j. record { run = next program (lane j faults) (Fault f) (before.shots j).run; differ = subst (λ v. Differ program.qubits v (next program [] (Fault f) before.m) (next program (lane j faults) (Fault f) (before.shots j).run)) (sym (frames j)) (differ j); coins_are = (before.shots j).coins_are; whole = wholes j };
-    }
-    by_step (Feedback w r) fits other over counted whole wholes differ frames = record {
-      m = next program [] (Feedback w r) before.m;
-      stand = over.stand;
-      counted = omega (arith, counted);
-      zeros = before.zeros;
-      whole = whole;
-      shots = λ j. record { run = next program (lane j faults) (Feedback w r) (before.shots j).run; differ = subst (λ v. Differ program.qubits v (next program [] (Feedback w r) before.m) (next program (lane j faults) (Feedback w r) (before.shots j).run)) (sym (frames j)) (differ j); coins_are = (before.shots j).coins_are; whole = wholes j };
-    }
+    by_step : (s : ListedStep) → is_collapse s ≡ false → GoneOver program s rest before.m k after.words → k + collapse_count (s ∷ rest) ≡ program.collapses
+        → StandBefore program rest (next program [] s before.m) k after.words
+        × (k + collapse_count rest ≡ program.collapses)
+        × ((i : ℕ) → get_or (next program [] s before.m).coins i false ≡ false)
+        × ((j : ℕ) → (next program (lane j faults) s (before.shots j).run).coins ≡ drop k (lane j coins))
+    by_step (One gate q) other over counted = (over.stand, omega (arith, counted), before.zeros, λ j. (before.shots j).coins_are)
+    by_step (Two gate a b) other over counted = (over.stand, omega (arith, counted), before.zeros, λ j. (before.shots j).coins_are)
+    by_step (Collapse c r) other over counted = cc
+    by_step (Fault f) other over counted = (over.stand, omega (arith, counted), before.zeros, λ j. (before.shots j).coins_are)
+    by_step (Feedback w r) other over counted = (over.stand, omega (arith, counted), before.zeros, λ j. (before.shots j).coins_are)
 
 -- what is said of a collapse turns the frames
 pub entry-turns : (n : ℕ) (s : State) (step : ListedStep) (entry : Option (List Term)) → IsStepEntry n s step entry → TurnsAt n entry step
@@ -204,9 +189,3 @@ pub beside-end : (program : Listing) (reference : ReferenceRun) (faults coins : 
     → (j : ℕ) → flipped_by (lane j f.flips) reference.records ≡ records_of program (lane j faults) (lane j coins)
 beside-end program reference faults coins k f before j =
     ap (flipped_by (lane j f.flips)) (sym before.whole) ∙ sym (before.shots j).differ.records ∙ (before.shots j).whole
-
--- the step at a place stands first in what is left
-pub steps-ahead : (steps : List ListedStep) (place : ℕ) (step : ListedStep) → Some step ≡ slice_get steps place → drop place steps ≡ step ∷ drop (place + 1) steps
-steps-ahead steps place step at =
-    drop_more steps place step (slice_get_within steps place step (sym at))
-    ∙ ap (λ s. s ∷ drop (place + 1) steps) (get_or_from_slice_get steps place step step (sym at))

@@ -14,7 +14,7 @@ use Rattle.step_model.specs.Frames.{Frame}
 use Rattle.step_model.specs.Listing.{Listing, Collapse, Measured, measured_word, step_records}
 use Rattle.step_model.specs.Runs.{flip_happens}
 use Rattle.step_model.specs.Sensitivities.{cleared}
-use Rattle.frames.specs.private.Followed.{Turns, followed, turned, turned_where}
+use Rattle.frames.specs.private.Followed.{Turns, flips_in, followed, reset_in, turned, turned_in, turned_where}
 use Rattle.frames.specs.LaneFrames.{LaneFrames, frame_in, GoesTo, with_record}
 use Rattle.frames.specs.LaneLetters.{word_in}
 use Rattle.frames.proofs.FollowLaw.{turned-flip}
@@ -75,25 +75,25 @@ module _ (n : ℕ) (replaced : Option (List Term)) (coins met flips q : ℕ) (le
     (meets : (j : ℕ) → lane_bit j met ≡ anticommute (word_in j old.letters) w)
     (moved : GoesTo old mid (λ j v. turned_where n replaced (exclusive_or (lane_bit j coins) (lane_bit j met)) v))
     (turned_to : (j : ℕ) → lane_bit j flips ≡ (if is_some replaced then lane_bit j coins else lane_bit j met)) where
-  pub goes_turned : GoesTo old mid (λ j v. turned n replaced (lane_bit j coins) w v)
-  goes_turned = goes_as old mid _ (λ j v. turned n replaced (lane_bit j coins) w v) moved
+  pub goes_turned : GoesTo old mid (turned_in n replaced coins w)
+  goes_turned = goes_as old mid _ (turned_in n replaced coins w) moved
       (λ j. ap (λ b. turned_where n replaced (exclusive_or (lane_bit j coins) b) (frame_in j old)) (meets j))
 
-  pub flips_turned : (j : ℕ) → lane_bit j flips ≡ anticommute (turned n replaced (lane_bit j coins) w (frame_in j old)).word w
+  pub flips_turned : (j : ℕ) → lane_bit j flips ≡ flips_in n replaced coins w old j
   flips_turned j =
       turned_to j
       ∙ ap (λ b. if is_some replaced then lane_bit j coins else b) (meets j)
       ∙ turned-flips n replaced (lane_bit j coins) w (frame_in j old) turns (length-word_in j old.letters ∙ size)
 
 pub goes_left : (n : ℕ) (replaced : Option (List Term)) (coins : ℕ) (letter : Letter) (q : ℕ) (old mid : LaneFrames)
-    → GoesTo old mid (λ j v. turned n replaced (lane_bit j coins) (lone_letter n q letter) v)
-    → GoesTo old mid (λ j v. record v { word = cleared (measured n false letter q) (turned n replaced (lane_bit j coins) (lone_letter n q letter) v).word })
+    → GoesTo old mid (turned_in n replaced coins (lone_letter n q letter))
+    → GoesTo old mid (reset_in n replaced coins false letter q)
 goes_left n replaced coins letter q old mid moved = goes_as old mid _ _ moved (λ j. turned-frame n replaced _ (frame_in j old))
 
 pub goes_cleared : (n : ℕ) (replaced : Option (List Term)) (coins : ℕ) (letter : Letter) (q : ℕ) (old mid new : LaneFrames)
-    → GoesTo old mid (λ j v. turned n replaced (lane_bit j coins) (lone_letter n q letter) v)
+    → GoesTo old mid (turned_in n replaced coins (lone_letter n q letter))
     → GoesTo mid new (λ j v. record v { word = set v.word q I })
-    → GoesTo old new (λ j v. record v { word = cleared (measured n true letter q) (turned n replaced (lane_bit j coins) (lone_letter n q letter) v).word })
+    → GoesTo old new (reset_in n replaced coins true letter q)
 goes_cleared n replaced coins letter q old mid new moved clears =
     goes_as old new _ _ (goes_then old mid new _ _ moved clears)
     (λ j. ap (frame_with (set (turned n replaced (lane_bit j coins) (lone_letter n q letter) (frame_in j old)).word q I)) (turned-records n replaced _ (frame_in j old)))

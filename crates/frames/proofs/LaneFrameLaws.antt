@@ -23,6 +23,7 @@ use Rattle.step_model.proofs.StepNumbers.{length-word_of_terms}
 use Rattle.forward_sim.proofs.KeptWords.{word_of_both}
 use Rattle.run_laws.proofs.ShiftSteps.{anticommute-multiplied}
 use Rattle.run_laws.proofs.ShiftWords.{anticommute-lone}
+use Rattle.frames.specs.private.Followed.{multiplied_in}
 use Rattle.frames.specs.declared.letters.Letters.{Letters}
 use Rattle.frames.specs.LaneFrames.{LaneFrames, frame_in, GoesTo}
 use Rattle.frames.specs.LaneLetters.{letter_in, none_at, word_in, times_where}
@@ -89,9 +90,9 @@ no_term = record { qubit = 0; letter = I }
 
 -- one letter more is multiplied in
 pub times-more : (n : ℕ) (terms : List Term) (i : ℕ) (runs : ℕ) (old mid new : LaneFrames) → length old.letters ≡ n → i < length terms
-    → GoesTo old mid (λ j v. record v { word = multiplied (lane_bit j runs) (word_of_terms n (drop (i + 1) terms)) v.word })
-    → GoesTo mid new (λ j v. record v { word = multiplied (lane_bit j runs) (lone_letter (length mid.letters) (get_or terms i no_term).qubit (get_or terms i no_term).letter) v.word })
-    → GoesTo old new (λ j v. record v { word = multiplied (lane_bit j runs) (word_of_terms n (drop i terms)) v.word })
+    → GoesTo old mid (multiplied_in runs (word_of_terms n (drop (i + 1) terms)))
+    → GoesTo mid new (multiplied_in runs (lone_letter (length mid.letters) (get_or terms i no_term).qubit (get_or terms i no_term).letter))
+    → GoesTo old new (multiplied_in runs (word_of_terms n (drop i terms)))
 times-more n terms i runs old mid new size within before one =
     let term = get_or terms i no_term in
     let rest = drop (i + 1) terms in
@@ -109,7 +110,7 @@ times-more n terms i runs old mid new size within before one =
     }
 
 -- no letter is multiplied in yet
-pub times-none : (terms : List Term) (runs : ℕ) (old : LaneFrames) → GoesTo old old (λ j v. record v { word = multiplied (lane_bit j runs) (word_of_terms (length old.letters) (drop (length terms) terms)) v.word })
+pub times-none : (terms : List Term) (runs : ℕ) (old : LaneFrames) → GoesTo old old (multiplied_in runs (word_of_terms (length old.letters) (drop (length terms) terms)))
 times-none terms runs old = record {
   qubits = refl;
   room = refl;
@@ -133,9 +134,9 @@ fit_back n us vs fit =
 
 -- two products of letters one after another
 pub times-both : (us vs : List Term) (runs : ℕ) (old mid new : LaneFrames)
-    → GoesTo old mid (λ j v. record v { word = multiplied (lane_bit j runs) (word_of_terms (length old.letters) vs) v.word })
-    → GoesTo mid new (λ j v. record v { word = multiplied (lane_bit j runs) (word_of_terms (length mid.letters) us) v.word })
-    → GoesTo old new (λ j v. record v { word = multiplied (lane_bit j runs) (word_of_terms (length old.letters) (us ++ vs)) v.word })
+    → GoesTo old mid (multiplied_in runs (word_of_terms (length old.letters) vs))
+    → GoesTo mid new (multiplied_in runs (word_of_terms (length mid.letters) us))
+    → GoesTo old new (multiplied_in runs (word_of_terms (length old.letters) (us ++ vs)))
 times-both us vs runs old mid new first second =
     let n = length old.letters in
     record {

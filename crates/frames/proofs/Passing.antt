@@ -1,10 +1,8 @@
 -- Going forward over the steps of a program until a collapse is passed.
-use Rattle.std.proofs.Common.{◌≡◌, ℕ, zero, suc, ◌+◌, ◌-◌, ◌<◌, ◌==◌, if◌then◌else◌, Bool, true, false, List, [], ◌∷◌, ◌++◌, length, get_or, take, drop, replicate, Option, None, Some, sym, ap, ◌∙◌, arith, length-append, append-nil, append_assoc, zero-add, add-one}
+use Rattle.std.proofs.Common.{◌≡◌, ℕ, zero, suc, ◌+◌, ◌-◌, ◌<◌, ◌==◌, if◌then◌else◌, Bool, true, false, List, [], ◌∷◌, ◌++◌, length, get_or, take, replicate, Option, None, Some, sym, ap, ◌∙◌, arith, length-append, append-nil, append_assoc, zero-add, add-one}
 use Rattle.std.specs.Prelude.{slice_get}
 use Rattle.std.proofs.Math.Nat.{sub-zero}
-use Rattle.std.proofs.Math.Seq.{drop-nil}
-use Rattle.std.proofs.lemmas.List.{drop_more, replicate_more, length-replicate}
-use Rattle.std.proofs.lemmas.Option.{slice_get_within, get_or_from_slice_get}
+use Rattle.std.proofs.lemmas.List.{replicate_more, length-replicate}
 use Rattle.pauli_word.specs.declared.letter.Letter.{Letter}
 use Rattle.pauli_word.specs.Words.{no_letters}
 use Rattle.programs.specs.declared.step.FaultName.{FaultName}
@@ -20,17 +18,6 @@ use Rattle.step_model.specs.WellFormed.{IsWellFormed, records_made}
 use Rattle.step_model.proofs.StepNumbers.{record_at}
 use Rattle.run_laws.proofs.PairPlaces.{after_first, length-flips_after}
 use Rattle.frames.specs.private.Passes.{made_with, made_after, IsNotThere}
-
--- the steps from a place on, by the step there
-pub drop-step : (steps : List ListedStep) (k : ℕ) (s : ListedStep) → slice_get steps k ≡ Some s → drop k steps ≡ s ∷ drop (k + 1) steps
-drop-step steps k s here =
-    drop_more steps k s (slice_get_within steps k s here)
-    ∙ ap (λ x. x ∷ drop (k + 1) steps) (get_or_from_slice_get steps k s s here)
-
-pub drop-no_step : (steps : List ListedStep) (k : ℕ) → slice_get steps k ≡ None → drop k steps ≡ []
-drop-no_step [] k none = drop-nil k
-drop-no_step (s ∷ steps) zero none = cc
-drop-no_step (s ∷ steps) (suc k) none = drop-no_step steps k none
 
 -- the records made by one step more
 records_made-suc : (steps : List ListedStep) (k : ℕ) (s : ListedStep) → slice_get steps k ≡ Some s → length (records_made (take (suc k) steps)) ≡ length (records_made (take k steps)) + length (step_records s)

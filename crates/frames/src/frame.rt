@@ -1,15 +1,14 @@
-ghost use Rattle.std.specs.Prelude.{◌≡◌, ◌<◌, [], ◌++◌, length, IfOk, OnOk, slice_index_or, false, if◌then◌else◌};
+ghost use Rattle.std.specs.Prelude.{◌≡◌, ◌<◌, [], ◌++◌, length, IfOk, OnOk, slice_index_or, false};
 ghost use Rattle.std.specs.Option.{option_to_list};
-ghost use Rattle.pauli_word.specs.Words.{anticommute, lone_letter, letters_product, signed};
+ghost use Rattle.pauli_word.specs.Words.{anticommute, signed};
 ghost use Rattle.gate_table.specs.Images.{arity_of};
 ghost use Rattle.gate_table.specs.WordImages.{image_at, image_at_two};
 ghost use Rattle.programs.specs.Listed.{listed};
 ghost use Rattle.programs.specs.Named.{IsStepOf};
 ghost use Rattle.step_model.specs.Frames.{begun, carried};
 ghost use Rattle.step_model.specs.Listing.{word_of_terms};
-ghost use Rattle.step_model.specs.Sensitivities.{multiplied};
 ghost use Rattle.step_model.specs.WellFormed.{TermsFit};
-ghost use Rattle.frames.specs.private.Flips.{flip_of, recorded_flips};
+ghost use Rattle.frames.specs.private.Flips.{fed_back, flip_of, recorded_flips};
 
 use crate::words::{anticommutes, multiply_at};
 use gate_table::Gate;
@@ -136,9 +135,7 @@ impl<A: Allocator + Copy> Frame<A> {
     // Feedback applies a letter where an earlier record is 1: the frame takes it in where it flips that record.
     fn feed_back(&mut self, rec: u32, q: usize, letter: Letter)
         requires { q < length self.old.word }
-        ensures { self.new
-            ≡ record self.old
-            { word = multiplied (slice_index_or self.old.records rec false) (lone_letter (length self.old.word) q letter) self.old.word } }
+        ensures { self.new ≡ fed_back rec q letter self.old }
     {
         let rec = rec as usize;
         if rec < self.records.len() && self.records[rec] {

@@ -6,12 +6,12 @@ ghost use Rattle.forward_sim.specs.References.{terms_at, terms_in};
 ghost use Rattle.pauli_word.specs.declared.letter.Letter.TheVariants.{I};
 ghost use Rattle.pauli_word.specs.Words.{anticommute, letter_at, lone_letter, signed};
 ghost use Rattle.step_model.specs.Listing.{word_of_terms};
-ghost use Rattle.step_model.specs.Sensitivities.{multiplied};
 ghost use Rattle.step_model.specs.Targets.{parity};
 ghost use Rattle.step_model.specs.WellFormed.{TermsFit};
 ghost use Rattle.frames.specs.Batches.{AreAtStart};
 ghost use Rattle.frames.specs.LaneFrames.{GoesTo, with_record};
 ghost use Rattle.frames.specs.LaneLetters.{letter_in, word_in};
+ghost use Rattle.frames.specs.private.Followed.{multiplied_in};
 
 use crate::letters::{Letters, clear_all};
 use crate::steps::word_at;
@@ -114,8 +114,7 @@ impl<A: Allocator + Copy> Frames<A> {
     pub(crate) fn times(&mut self, letter: Letter, qubit: usize, runs: u64)
         requires { qubit < length self.old.letters }
         ensures { GoesTo self.old self.new
-            (λ j v. record v
-            { word = multiplied (lane_bit j runs) (lone_letter (length self.old.letters) qubit letter) v.word }) }
+            (multiplied_in runs (lone_letter (length self.old.letters) qubit letter)) }
     {
         let letters = self.at(qubit).times(letter, runs);
         self.put(qubit, letters);
@@ -125,8 +124,7 @@ impl<A: Allocator + Copy> Frames<A> {
     pub(crate) fn times_terms(&mut self, terms: &[Term], runs: u64)
         requires { TermsFit (length self.old.letters) terms.now }
         ensures { GoesTo self.old self.new
-            (λ j v. record v
-            { word = multiplied (lane_bit j runs) (word_of_terms (length self.old.letters) terms.now) v.word }) }
+            (multiplied_in runs (word_of_terms (length self.old.letters) terms.now)) }
     {
         let mut left = terms.len();
         while left > 0 {
@@ -140,8 +138,7 @@ impl<A: Allocator + Copy> Frames<A> {
     pub(crate) fn times_word(&mut self, word: ReplacedWord<'_>, runs: u64)
         requires { TermsFit (length self.old.letters) (terms_in word) }
         ensures { GoesTo self.old self.new
-            (λ j v. record v
-            { word = multiplied (lane_bit j runs) (word_of_terms (length self.old.letters) (terms_in word.entry)) v.word }) }
+            (multiplied_in runs (word_of_terms (length self.old.letters) (terms_in word.entry))) }
     {
         self.times_at(Letter::Z, word.zs, runs);
         self.times_at(Letter::X, word.xs, runs);
@@ -152,8 +149,8 @@ impl<A: Allocator + Copy> Frames<A> {
     fn times_at(&mut self, letter: Letter, qubits: &[u16], runs: u64)
         requires { TermsFit (length self.old.letters) (terms_at letter qubits.now) }
         ensures { GoesTo self.old self.new
-            (λ j v. record v
-            { word = multiplied (lane_bit j runs) (word_of_terms (length self.old.letters) (terms_at letter qubits.now)) v.word }) }
+            (multiplied_in runs
+            (word_of_terms (length self.old.letters) (terms_at letter qubits.now))) }
     {
         let mut left = qubits.len();
         while left > 0 {

@@ -1,15 +1,14 @@
 ghost use Rattle.std.specs.Prelude.{◌≡◌, ◌<◌, ◌≤◌, ◌+◌, ℕ, false, is_some, if◌then◌else◌, length, option_map, slice_index_or};
 ghost use Rattle.bit_rows.specs.Lanes.{lane, lane_bit};
 ghost use Rattle.pauli_word.specs.Parity.{exclusive_or};
-ghost use Rattle.pauli_word.specs.Words.{anticommute, lone_letter};
-ghost use Rattle.programs.specs.Listed.{listed, measured, number_of};
+ghost use Rattle.pauli_word.specs.Words.{lone_letter};
+ghost use Rattle.programs.specs.Listed.{listed, number_of};
 ghost use Rattle.programs.specs.Named.{IsStepOf};
 ghost use Rattle.step_model.specs.Listing.{word_of_terms, step_records};
 ghost use Rattle.step_model.specs.Runs.{flip_happens};
-ghost use Rattle.step_model.specs.Sensitivities.{cleared};
 ghost use Rattle.step_model.specs.WellFormed.{TermsFit};
-ghost use Rattle.frames.specs.private.Followed.{TurnsAt, Turns, followed, terms_of, terms_or_none, turned, turned_where};
-ghost use Rattle.frames.specs.LaneFrames.{GoesTo, frame_in};
+ghost use Rattle.frames.specs.private.Followed.{TurnsAt, Turns, flips_in, followed, reset_in, terms_of, terms_or_none, turned_in, turned_where};
+ghost use Rattle.frames.specs.LaneFrames.{GoesTo};
 
 use crate::frames::Frames;
 use bit_rows::lanes::xor;
@@ -89,10 +88,12 @@ fn collapse_letter<A: Allocator + Copy>(
     requires inside { qubit < length frames.old.letters }
     requires turns { Turns (length frames.old.letters) (terms_of replaced)
         (lone_letter (length frames.old.letters) qubit letter) }
-    ensures moved { let n = length frames.old.letters in
-        GoesTo frames.old frames.new (λ j v. record v { word = cleared (measured n reset letter qubit) (turned n (terms_of replaced.entry) (lane_bit j coins) (lone_letter n qubit letter) v).word }) }
-    ensures flips { let n = length frames.old.letters in
-        (j : ℕ) → lane_bit j result ≡ anticommute (turned n (terms_of replaced.entry) (lane_bit j coins) (lone_letter n qubit letter) (frame_in j frames.old)).word (lone_letter n qubit letter) }
+    ensures moved { GoesTo frames.old frames.new
+        (reset_in (length frames.old.letters) (terms_of replaced.entry) coins reset letter qubit) }
+    ensures flips { (j : ℕ)
+        → lane_bit j result
+        ≡ flips_in (length frames.old.letters) (terms_of replaced.entry) coins
+        (lone_letter (length frames.old.letters) qubit letter) frames.old j }
 {
     let met = frames.at(qubit).clashes(letter);
     let flips = turn(frames, replaced, coins, met);
@@ -112,10 +113,13 @@ fn collapse_product<A: Allocator + Copy>(
     requires inside { TermsFit (length frames.old.letters) terms.now }
     requires turns { Turns (length frames.old.letters) (terms_of replaced)
         (word_of_terms (length frames.old.letters) terms.now) }
-    ensures moved { let n = length frames.old.letters in
-        GoesTo frames.old frames.new (λ j v. turned n (terms_of replaced.entry) (lane_bit j coins) (word_of_terms n terms.now) v) }
-    ensures flips { let n = length frames.old.letters in
-        (j : ℕ) → lane_bit j result ≡ anticommute (turned n (terms_of replaced.entry) (lane_bit j coins) (word_of_terms n terms.now) (frame_in j frames.old)).word (word_of_terms n terms.now) }
+    ensures moved { GoesTo frames.old frames.new
+        (turned_in (length frames.old.letters) (terms_of replaced.entry) coins
+        (word_of_terms (length frames.old.letters) terms.now)) }
+    ensures flips { (j : ℕ)
+        → lane_bit j result
+        ≡ flips_in (length frames.old.letters) (terms_of replaced.entry) coins
+        (word_of_terms (length frames.old.letters) terms.now) frames.old j }
 {
     let met = frames.meet(terms);
     turn(frames, replaced, coins, met)

@@ -1,6 +1,6 @@
 //! Unsigned words and products of letters at qubits.
 ghost use Rattle.std.specs.Prelude.{◌≡◌, ◌<◌, length, IfOk};
-ghost use Rattle.pauli_word.specs.Words.{anticommute, letters_product, lone_letter};
+ghost use Rattle.pauli_word.specs.Words.{anticommute, letters_product, lone_letter, signed};
 ghost use Rattle.step_model.specs.Listing.{word_of_terms};
 ghost use Rattle.step_model.specs.WellFormed.{TermsFit};
 
@@ -25,8 +25,9 @@ pub(crate) fn anticommutes<A: Allocator + Copy>(word: &Word<A>, terms: &[Term]) 
 pub(crate) fn multiply_at<A: Allocator + Copy>(word: &mut Word<A>, qubit: usize, letter: Letter)
     requires { qubit < length word.old.letters }
     ensures { word.new
-        ≡ record word.old
-        { letters = letters_product (lone_letter (length word.old.letters) qubit letter) word.old.letters } }
+        ≡ signed
+        (letters_product (lone_letter (length word.old.letters) qubit letter) word.old.letters)
+        word.old.negative }
 {
     word.set_letter(qubit, letter.times(word.letter(qubit)));
 }

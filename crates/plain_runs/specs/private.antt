@@ -1,2 +1,3 @@
+pub mod GivenRuns
 pub mod PlainSteps
 pub mod Unrolled

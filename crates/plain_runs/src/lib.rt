@@ -4,6 +4,7 @@
 //! projective measurement inside a measurement or a reset; its coin is the outcome where that is random.)
 #![tactic(auto)]
 
+mod given;
 mod plain_step;
 mod runs;
 mod sensitivities;

@@ -6,8 +6,8 @@ ghost use Rattle.step_model.specs.WellFormed.{collapse_count};
 ghost use Rattle.step_model.specs.Targets.{is_listed, targets_of};
 ghost use Rattle.plain_runs.specs.private.PlainSteps.{ResetFits, WordsFit, listed_step, measured, recorded, step_at};
 
+use crate::given::collapses_before;
 use crate::plain_step::{PlainStep, Recording, plain_step};
-use crate::runs::collapses_before;
 use crate::unrolled::Unrolled;
 use crate::words::{anticommutes, cleared, multiplied, preimage, preimage_of_two};
 use pauli_word::{Letter, Word};
@@ -253,8 +253,10 @@ fn clashes_after<A: Allocator + Copy>(
     step: usize,
 ) -> Result<bool, AllocError>
     requires { step < length program.now.listing.steps }
-    ensures { IfOk result (λ clashes. clashes ≡ anticommute (collapse_word program.now.listing.qubits (step_at program.now.listing step))
-        (sensitivity program.now.listing.qubits named.now (drop (step + 1) program.now.listing.steps)).word) }
+    ensures { IfOk result (λ clashes. clashes
+        ≡ anticommute (collapse_word program.now.listing.qubits (step_at program.now.listing step))
+        (sensitivity program.now.listing.qubits named.now
+        (drop (step + 1) program.now.listing.steps)).word) }
 {
     match plain_step(alloc, program, step)? {
         PlainStep::Collapse { word, .. } => {

@@ -56,7 +56,7 @@ pub fn number_of(text: &[u8]) -> Option<u64>
 #[inline(always)]
 fn short_number_of(text: &[u8]) -> Option<u64>
     requires some { 0 < length text.now }
-    requires short { length text.now ≤ 18 }
+    requires short { length text.now ≤ SHORT_DIGITS }
     ensures { result ≡ number_of text.now }
 {
     let mut value: u64 = 0;

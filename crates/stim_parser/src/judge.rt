@@ -1,4 +1,4 @@
-ghost use Rattle.std.specs.Prelude.{◌≡◌, ◌==◌, if◌then◌else◌, ℕ, List, None, Some, not, true, false, IfOk, MatchResult};
+ghost use Rattle.std.specs.Prelude.{◌≡◌, ◌==◌, if◌then◌else◌, ℕ, List, None, not, true, false, IfOk};
 ghost use Rattle.stim_lexer.specs.Lexing.{cut_in};
 ghost use Rattle.stim_lexer.specs.Said.{reading_in};
 ghost use Rattle.stim_lexer.specs.Texts.{Closes, Refuses};
@@ -7,8 +7,8 @@ ghost use Rattle.stim_parser.specs.Arguments.{arguments_in};
 ghost use Rattle.stim_parser.specs.Limits.{has_argument_beyond, takes_probability};
 ghost use Rattle.stim_parser.specs.Parentheses.{Parentheses};
 ghost use Rattle.stim_parser.specs.Probabilities.{Remembers, TakesNothing};
-ghost use Rattle.stim_parser.specs.Judging.{accepted, first_of, judged, misplaces_brace, opens_block, reading_of, read_targets, refusal_of};
-ghost use Rattle.stim_parser.specs.private.Questions.{has_wrong_target, refusals_of_amounts, refusals_of_arguments, refusals_of_block, refusals_of_keyword};
+ghost use Rattle.stim_parser.specs.Judging.{accepted, first_of, judged, misplaces_brace, opens_block, reading_of, read_targets};
+ghost use Rattle.stim_parser.specs.private.Questions.{ArgumentsOf, KeywordOf, has_wrong_target, refusals_of_amounts, refusals_of_block, refusals_of_keyword};
 
 use crate::argument_checks::{
     chance_of, has_argument_beyond, has_wrong_arguments, has_wrong_probability, takes_probability,
@@ -36,9 +36,7 @@ fn keyword_of<'a, O: Copy, T: Copy, F: Copy, J: Judge<O, T, F>>(
     last: &mut Last<'a>,
     line: Line<'a>,
 ) -> Result<Keyword<O>, Cause>
-    ensures { MatchResult result
-        (λ keyword. (J.table.keyword_named line.entry.name.now ≡ Some keyword) × (misplaces_brace (Some keyword) line.entry.braces ≡ false))
-        (λ refused. (depth : ℕ) → refusal_of J.table depth (cut_in line.entry) ≡ Some refused) }
+    ensures { KeywordOf J.table (cut_in line.entry) result }
 {
     let keyword = J::keyword_named(last, line.name);
     if misplaces_brace(keyword, line.braces) {
@@ -67,9 +65,7 @@ fn arguments_of<'a>(
     form: ArgumentForm,
     line: Line<'a>,
 ) -> Result<bool, Cause>
-    ensures refusal { MatchResult result
-        (λ beyond. (beyond ≡ has_argument_beyond greatest form (arguments_in line.entry.arguments.now)) × (first_of (refusals_of_arguments causes form (cut_in line.entry)) ≡ None))
-        (λ refused. first_of (refusals_of_arguments causes form (cut_in line.entry)) ≡ Some refused) }
+    ensures refusal { ArgumentsOf causes greatest form (cut_in line.entry) result }
     ensures last { IfOk result (λ beyond. takes_probability form ≡ true
         → last.new.parentheses.text ≡ line.entry.arguments.now) }
 {
@@ -95,9 +91,7 @@ fn closed_arguments_of<'a>(
     line: Line<'a>,
 ) -> Result<bool, Cause>
     requires { line.stays_open ≡ false }
-    ensures refusal { MatchResult result
-        (λ beyond. (beyond ≡ has_argument_beyond greatest form (arguments_in line.entry.arguments.now)) × (first_of (refusals_of_arguments causes form (cut_in line.entry)) ≡ None))
-        (λ refused. first_of (refusals_of_arguments causes form (cut_in line.entry)) ≡ Some refused) }
+    ensures refusal { ArgumentsOf causes greatest form (cut_in line.entry) result }
     ensures last { IfOk result (λ beyond. takes_probability form ≡ true
         → last.new.parentheses.text ≡ line.entry.arguments.now) }
 {

@@ -1,7 +1,7 @@
 ghost use Rattle.std.specs.Prelude.{◌≡◌, ◌≤◌, ◌&&◌, ◌||◌, ℕ, false, length, not, true, IfSome, MatchOption};
 ghost use Rattle.stim_parser.specs.declared.forms.TargetForm.TheVariants.{Products};
 ghost use Rattle.stim_parser.specs.Limits.{are_products, has_target_beyond, is_target_beyond};
-ghost use Rattle.stim_parser.specs.private.Products.{are_factors, begins_with_factor, goes_on_with, goes_on_within, has_product_of_one, is_factor, is_factor_at, is_factor_within, is_joining};
+ghost use Rattle.stim_parser.specs.private.Products.{are_factors, begins_with_factor, goes_on_with, has_product_of_one, is_factor, is_factor_at, is_factor_within, is_joining, repeats_within};
 ghost use Rattle.stim_parser.specs.private.QubitSets.{is_named};
 
 use crate::qubit_set::QubitSet;
@@ -104,8 +104,9 @@ fn take_out(named: &mut QubitSet, target: Target)
 fn go_over<'a>(named: &mut QubitSet, targets: &'a [Target]) -> Option<&'a [Target]>
     requires { has_target_beyond Products targets.now ≡ false }
     ensures again { MatchOption result
-        ((goes_on_within (is_named named.old.words) targets.now || has_product_of_one targets.now) ≡ true)
-        (λ after. (goes_on_within (is_named named.old.words) targets.now || has_product_of_one targets.now) ≡ has_product_of_one after.now) }
+        (repeats_within (is_named named.old.words) targets.now ≡ true)
+        (λ after. repeats_within (is_named named.old.words) targets.now
+        ≡ has_product_of_one after.now) }
     ensures named { IfSome result (λ after. (q : ℕ)
         → is_named named.new.words q ≡ (goes_on_with q targets.now || is_named named.old.words q)) }
     ensures within { IfSome result (λ after. has_target_beyond Products after.now ≡ false) }

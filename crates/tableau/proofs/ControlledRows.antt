@@ -118,16 +118,34 @@ written_back [] rest (suc n) e = cc
 written_back (t ∷ new) rest zero e = cc
 written_back (t ∷ new) rest (suc n) e = ap (λ l. t ∷ l) (written_back new rest n (suc_inj e))
 
+-- the pairs at two places, as they are read
+pub record AreRead (rows : List Pair) (a b : ℕ) (r s : Pair) : Type 0 where
+  pub first : r ≡ pair_at (length rows) rows a
+  pub second : s ≡ pair_at (length rows) rows b
+
+-- through the two parts of the rows, where the first place comes before the second, and where it comes after
+pub read_ahead : (rows front back : List Pair) (a b : ℕ) (d e : Pair) → front ≡ take b rows → back ≡ drop b rows → a < b → b < length rows → AreRead rows a b (get_or front a d) (get_or back 0 e)
+read_ahead rows front back a b d e front_is back_is order inside =
+    record {
+      first = ap (λ l. get_or l a d) front_is ∙ in_front rows a b _ _ order inside;
+      second = ap (λ l. get_or l 0 e) back_is ∙ at_back rows b _ _ inside;
+    }
+
+pub read_behind : (rows front back : List Pair) (a b : ℕ) (d e : Pair) → front ≡ take a rows → back ≡ drop a rows → b < a → a < length rows → AreRead rows a b (get_or back 0 e) (get_or front b d)
+read_behind rows front back a b d e front_is back_is order inside =
+    let read = read_ahead rows front back b a d e front_is back_is order inside in
+    record { first = read.second; second = read.first }
+
 -- the two pairs as they are read
-module _ (rows : List Pair) (is : IsTableau (length rows) rows) (a b : ℕ) (a_in : a < length rows) (b_in : b < length rows) (ne : a ≢ b) (r s : Pair) (r_is : r ≡ pair_at (length rows) rows a) (s_is : s ≡ pair_at (length rows) rows b) where
+module _ (rows : List Pair) (is : IsTableau (length rows) rows) (a b : ℕ) (a_in : a < length rows) (b_in : b < length rows) (ne : a ≢ b) (r s : Pair) (read : AreRead rows a b r s) where
   abbrev n : ℕ
   n = length rows
 
   r_size : HasLength n r
-  r_size = subst (HasLength n) (sym r_is) (record { x = is.x_size a a_in; z = is.z_size a a_in })
+  r_size = subst (HasLength n) (sym read.first) (record { x = is.x_size a a_in; z = is.z_size a a_in })
 
   s_size : HasLength n s
-  s_size = subst (HasLength n) (sym s_is) (record { x = is.x_size b b_in; z = is.z_size b b_in })
+  s_size = subst (HasLength n) (sym read.second) (record { x = is.x_size b b_in; z = is.z_size b b_in })
 
   pub first_there : HasLength (length r.0.letters) r
   first_there = subst (λ m. HasLength m r) (sym r_size.x) r_size
@@ -138,12 +156,12 @@ module _ (rows : List Pair) (is : IsTableau (length rows) rows) (a b : ℕ) (a_i
   pub commute_there : (x : Letter) → anticommute (word_of (length r.0.letters) r x).letters s.1.letters ≡ false
   commute_there =
       two_commute rows is gate.CX a b a_in b_in ne r s
-      (r_is ∙ get_or_default rows a (identity_word n, identity_word n) r a_in)
-      (s_is ∙ get_or_default rows b (identity_word n, identity_word n) s b_in)
+      (read.first ∙ get_or_default rows a (identity_word n, identity_word n) r a_in)
+      (read.second ∙ get_or_default rows b (identity_word n, identity_word n) s b_in)
       (length r.0.letters) r_size.x
 
   pub made_there : (A B : Letter) (first second : Pair) → first ≡ controlled_pair (length r.0.letters) A B r s → second ≡ controlled_pair (length r.0.letters) B A s r → set (set rows a first) b second ≡ after_controlled A B a b rows
   made_there A B first second first_is second_is =
       ap₂ (λ x y. set (set rows a x) b y)
-      (first_is ∙ (ap (λ m. controlled_pair m A B r s) r_size.x ∙ ap₂ (controlled_pair n A B) r_is s_is))
-      (second_is ∙ (ap (λ m. controlled_pair m B A s r) r_size.x ∙ ap₂ (controlled_pair n B A) s_is r_is))
+      (first_is ∙ (ap (λ m. controlled_pair m A B r s) r_size.x ∙ ap₂ (controlled_pair n A B) read.first read.second))
+      (second_is ∙ (ap (λ m. controlled_pair m B A s r) r_size.x ∙ ap₂ (controlled_pair n B A) read.second read.first))

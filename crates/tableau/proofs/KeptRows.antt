@@ -23,6 +23,21 @@ use Rattle.tableau.proofs.RowMaps.{row_encoded}
 use Rattle.tableau.proofs.RandomCollapse.{map_clifford, replaced}
 use Rattle.tableau.proofs.SeenRows.{seen_size, seen_state, seen_stabilizer, seen_destabilizer, same_decided, same_outcome, same_collapsed}
 
+-- what n rows, of which these were seen, owe when they became new rows with this state
+pub record Keeps (n : ℕ) (old : Rows) (new : List Pair) (state : State) : Type 0 where
+  pub tableau : IsTableau (length new) new
+  pub long : (r : Pair) → HasLength n r → HasLength (length new) r
+  pub len : row_count (rows_seen new) ≡ row_count old
+  pub state_is : HasState (rows_seen new) state
+
+-- and what they owe after a collapse of w that saw this outcome, and named this row
+pub record Collapses (n : ℕ) (old : Rows) (new : List Pair) (w : List Letter) (coin seen : Bool) (row : Option ℕ) : Type 0 where
+  pub keeps : Keeps n old new (collapsed w coin (state_of old))
+  pub outcome_is : seen ≡ outcome (state_of old) w coin
+  pub decided : IfNone row (is_decided (state_of old) w ≡ true)
+  pub random : IfSome row (λ k. is_decided (state_of old) w ≡ false)
+  pub replaced : IfSome row (IsReplaced old (rows_seen new) w)
+
 module _ (rows : List Pair) (old : Rows) (is : IsTableau (length rows) rows) (same : rows_seen rows ≡ old) where
   abbrev n : ℕ
   n = length rows
@@ -53,13 +68,13 @@ module _ (rows : List Pair) (old : Rows) (is : IsTableau (length rows) rows) (sa
 
   -- new rows kept
   module _ (new : List Pair) (new_is : IsTableau n new) where
-    pub new_tableau : IsTableau (length new) new
+    new_tableau : IsTableau (length new) new
     new_tableau = subst (λ m. IsTableau m new) (sym new_is.count) new_is
 
-    pub still_long : (r : Pair) → HasLength n r → HasLength (length new) r
+    still_long : (r : Pair) → HasLength n r → HasLength (length new) r
     still_long r h = subst (λ m. HasLength m r) (sym new_is.count) h
 
-    pub new_count : row_count (rows_seen new) ≡ row_count old
+    new_count : row_count (rows_seen new) ≡ row_count old
     new_count = seen_size new new_tableau ∙ (new_is.count ∙ kept_size)
 
     size_there : (p : Signed) → length p.letters ≡ row_count (rows_seen new) → length p.letters ≡ n
@@ -68,12 +83,12 @@ module _ (rows : List Pair) (old : Rows) (is : IsTableau (length rows) rows) (sa
     state_there : (p : Signed) → length p.letters ≡ row_count (rows_seen new) → state_of (rows_seen new) p ≡ code_state n new p
     state_there p h = seen_state new new_tableau p (h ∙ seen_size new new_tableau) ∙ ap (λ m. start_state (encoded m new p)) new_is.count
 
-    pub moved_state : (c : Signed → Signed) → ((p : Signed) → length p.letters ≡ n → length (c p).letters ≡ n) → ((p : Signed) → length p.letters ≡ n → encoded n new p ≡ encoded n rows (c p)) → HasState (rows_seen new) (λ p. state_of old (c p))
+    moved_state : (c : Signed → Signed) → ((p : Signed) → length p.letters ≡ n → length (c p).letters ≡ n) → ((p : Signed) → length p.letters ≡ n → encoded n new p ≡ encoded n rows (c p)) → HasState (rows_seen new) (λ p. state_of old (c p))
     moved_state c c_size encodes p h =
         let size = size_there p h in
         state_there p h ∙ (ap start_state (encodes p size) ∙ sym (agree (c p) (c_size p size)))
 
-    pub state_known : (s : State) → ((p : Signed) → length p.letters ≡ n → code_state n new p ≡ s p) → HasState (rows_seen new) s
+    state_known : (s : State) → ((p : Signed) → length p.letters ≡ n → code_state n new p ≡ s p) → HasState (rows_seen new) s
     state_known s known p h = state_there p h ∙ known p (size_there p h)
 
   -- a collapse of w
@@ -84,7 +99,7 @@ module _ (rows : List Pair) (old : Rows) (is : IsTableau (length rows) rows) (sa
     pub code_long : length code.letters ≡ n
     code_long = ap (λ c. length c.letters) code_is ∙ P_size n rows is w coin size
 
-    pub outcome_owed : (b : Bool) → b ≡ outcome_of code coin → b ≡ outcome (state_of old) w coin
+    outcome_owed : (b : Bool) → b ≡ outcome_of code coin → b ≡ outcome (state_of old) w coin
     outcome_owed b e =
         e
         ∙ (ap (λ c. outcome_of c coin) code_is
@@ -94,10 +109,10 @@ module _ (rows : List Pair) (old : Rows) (is : IsTableau (length rows) rows) (sa
       new_here : new ≡ after_collapse n P coin rows
       new_here = new_is ∙ ap (λ c. after_collapse n c coin rows) code_is
 
-      pub collapsed_tableau : IsTableau n new
+      collapsed_tableau : IsTableau n new
       collapsed_tableau = subst (IsTableau n) (sym new_here) (collapse_is n rows is w coin size).tableau
 
-      pub collapsed_state : HasState (rows_seen new) (collapsed w coin (state_of old))
+      collapsed_state : HasState (rows_seen new) (collapsed w coin (state_of old))
       collapsed_state =
           state_known new collapsed_tableau (collapsed w coin (state_of old))
           (λ p h.
@@ -108,11 +123,11 @@ module _ (rows : List Pair) (old : Rows) (is : IsTableau (length rows) rows) (sa
       here : (row : Option ℕ) → row ≡ lowest_X_or_Y code.letters → lowest_X_or_Y P.letters ≡ row
       here row e = sym (e ∙ ap (λ c. lowest_X_or_Y c.letters) code_is)
 
-      pub decided_owed : (row : Option ℕ) → row ≡ lowest_X_or_Y code.letters → IfNone row (is_decided (state_of old) w ≡ true)
+      decided_owed : (row : Option ℕ) → row ≡ lowest_X_or_Y code.letters → IfNone row (is_decided (state_of old) w ≡ true)
       decided_owed None e = same_decided n (state_of old) (code_state n rows) agree w size ∙ decided_here_by n rows is w coin size (here None e)
       decided_owed (Some k) e = tt
 
-      pub random_owed : (row : Option ℕ) → row ≡ lowest_X_or_Y code.letters → IfSome row (λ k. is_decided (state_of old) w ≡ false)
+      random_owed : (row : Option ℕ) → row ≡ lowest_X_or_Y code.letters → IfSome row (λ k. is_decided (state_of old) w ≡ false)
       random_owed None e = tt
       random_owed (Some k) e = same_decided n (state_of old) (code_state n rows) agree w size ∙ random_undecided n rows is w coin size k (here (Some k) e)
 
@@ -169,23 +184,27 @@ module _ (rows : List Pair) (old : Rows) (is : IsTableau (length rows) rows) (sa
               becomes_destabilizer = ap (λ u. u.letters) (new_row_is ∙ sym row_is);
             }
 
-      pub replaced_owed : (row : Option ℕ) → row ≡ lowest_X_or_Y code.letters → IfSome row (IsReplaced old (rows_seen new) w)
+      replaced_owed : (row : Option ℕ) → row ≡ lowest_X_or_Y code.letters → IfSome row (IsReplaced old (rows_seen new) w)
       replaced_owed None e = tt
       replaced_owed (Some k) e = replaced_row k (here (Some k) e)
 
--- gates and words, whose rows encode by the map before after the step's map
-module _ (rows : List Pair) (old : Rows) (is : IsTableau (length rows) rows) (same : rows_seen rows ≡ old) (new later : List Pair) (c : Signed → Signed) (c_size : (p : Signed) → length p.letters ≡ length rows → length (c p).letters ≡ length rows) (encodes : Encodes (length rows) later (λ p. encoded (length rows) rows (c p))) (new_is : new ≡ later) where
-  new_encodes : Encodes (length rows) new (λ p. encoded (length rows) rows (c p))
-  new_encodes = subst (λ l. Encodes (length rows) l (λ p. encoded (length rows) rows (c p))) (sym new_is) encodes
+      pub collapses : (seen : Bool) → seen ≡ outcome_of code coin → (row : Option ℕ) → row ≡ lowest_X_or_Y code.letters → Collapses n old new w coin seen row
+      collapses seen seen_is row row_is =
+          record {
+            keeps = record { tableau = new_tableau new collapsed_tableau; long = still_long new collapsed_tableau; len = new_count new collapsed_tableau; state_is = collapsed_state };
+            outcome_is = outcome_owed seen seen_is;
+            decided = decided_owed row row_is;
+            random = random_owed row row_is;
+            replaced = replaced_owed row row_is;
+          }
 
-  pub step_tableau : IsTableau (length new) new
-  step_tableau = new_tableau rows old is same new new_encodes.tableau
-
-  pub step_long : (r : Pair) → HasLength (length rows) r → HasLength (length new) r
-  step_long = still_long rows old is same new new_encodes.tableau
-
-  pub step_count : row_count (rows_seen new) ≡ row_count old
-  step_count = new_count rows old is same new new_encodes.tableau
-
-  pub step_state : HasState (rows_seen new) (λ p. state_of old (c p))
-  step_state = moved_state rows old is same new new_encodes.tableau c c_size new_encodes.map
+  -- gates and words, whose rows encode by the map before after the step's map
+  pub moves : (new later : List Pair) (c : Signed → Signed) → ((p : Signed) → length p.letters ≡ n → length (c p).letters ≡ n) → Encodes n later (λ p. encoded n rows (c p)) → new ≡ later → Keeps n old new (λ p. state_of old (c p))
+  moves new later c c_size encodes new_is =
+      let here : Encodes n new (λ p. encoded n rows (c p)) = subst (λ l. Encodes n l (λ p. encoded n rows (c p))) (sym new_is) encodes in
+      record {
+        tableau = new_tableau new here.tableau;
+        long = still_long new here.tableau;
+        len = new_count new here.tableau;
+        state_is = moved_state new here.tableau c c_size here.map;
+      }

@@ -1,16 +1,15 @@
 -- A letter whose code, a word of the rows kept, has only I and Z: its outcome is the sign, and the state stays.
-use Rattle.std.proofs.Common.{◌≡◌, ◌<◌, ℕ, Bool, true, false, List, length, Option, None, Some, get_or, refl, ap, sym, subst, ◌∙◌}
+use Rattle.std.proofs.Common.{◌≡◌, ◌<◌, ℕ, Bool, false, List, length, Option, None, Some, get_or, refl, ap, sym, subst, ◌∙◌}
 use Rattle.std.specs.Prelude.{IfSome}
 use Rattle.pauli_word.specs.declared.letter.Letter.{Letter}
 use Rattle.pauli_word.specs.declared.letter.Letter.TheVariants.{X, Z}
-use Rattle.pauli_word.specs.States.{is_decided, outcome, collapsed}
 use Rattle.pauli_word.specs.Words.{Signed, with_sign_changed, lone_letter}
 use Rattle.pauli_word.proofs.LoneLetters.{length-lone_letter}
 use Rattle.tableau.specs.private.Decoding.{rows_seen}
 use Rattle.tableau.specs.private.Encoding.{Pair, word_of, IsTableau}
 use Rattle.tableau.specs.private.EncodingSteps.{after_collapse, code_of, collapsed_at, outcome_at, IsDiagonal}
-use Rattle.tableau.specs.Rows.{Rows, row_count, state_of, HasState}
-use Rattle.tableau.proofs.KeptRows.{kept_size, lone_code, outcome_owed, collapsed_state, decided_owed}
+use Rattle.tableau.specs.Rows.{Rows, row_count}
+use Rattle.tableau.proofs.KeptRows.{Collapses, kept_size, lone_code, collapses}
 
 module _ (rows : List Pair) (old : Rows) (is : IsTableau (length rows) rows) (same : rows_seen rows ≡ old) (q : ℕ) (h : q < length rows) (r : Pair) (r_is : r ≡ get_or rows q r) (a : Letter) (coin minus : Bool) (diagonal : IsDiagonal (word_of (length rows) r a) minus) where
   abbrev w : List Letter
@@ -28,18 +27,11 @@ module _ (rows : List Pair) (old : Rows) (is : IsTableau (length rows) rows) (sa
   stays : rows ≡ after_collapse (length rows) code coin rows
   stays = sym (ap (λ o. collapsed_at (length rows) o (with_sign_changed coin code) rows) diagonal.lowest)
 
-  pub outcome_seen : minus ≡ outcome (state_of old) w coin
-  outcome_seen =
-      outcome_owed rows old is same w coin size code code_is minus
-      (diagonal.sign ∙ sym (ap (λ o. outcome_at o code coin) diagonal.lowest))
-
-  pub state_seen : HasState old (collapsed w coin (state_of old))
-  state_seen =
-      subst (λ s. HasState s (collapsed w coin (state_of old))) same
-      (collapsed_state rows old is same w coin size code code_is rows stays)
-
-  pub decided_seen : is_decided (state_of old) w ≡ true
-  decided_seen = decided_owed rows old is same w coin size code code_is rows stays None (sym diagonal.lowest)
+  -- what the collapse owes, whose rows stay
+  pub seen : Collapses (length rows) old rows w coin minus None
+  seen =
+      collapses rows old is same w coin size code code_is rows stays minus
+      (diagonal.sign ∙ sym (ap (λ o. outcome_at o code coin) diagonal.lowest)) None (sym diagonal.lowest)
 
 -- a pair's own words, as those of letters
 pub sign_of_X : (o : Option Bool) (r : Pair) (a : Letter) → a ≡ X → IfSome o (IsDiagonal r.0) → IfSome o (λ minus. (n : ℕ) → IsDiagonal (word_of n r a) minus)

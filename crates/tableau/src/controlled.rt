@@ -31,60 +31,26 @@ pub(crate) fn controlled_letters(gate: Gate) -> Option<(Letter, Letter)>
 
 /// Applies the controlled gate with these letters to two qubits.
 pub(crate) fn apply_controlled<A: Allocator + Copy>(
-    rows: &mut Vec<Pair<A>, A>,
+    rows: &mut [Pair<A>],
     own: Letter,
     other: Letter,
     a: usize,
     b: usize,
 )
     requires own { own ≢ Y }
-    requires first_inside { a < length rows.old.items }
-    requires second_inside { b < length rows.old.items }
+    requires first_inside { a < length rows.old }
+    requires second_inside { b < length rows.old }
     requires differ { a ≢ b }
-    requires tableau { IsTableau (length rows.old.items) rows.old.items }
-    ensures { rows.new.items ≡ after_controlled own other a b rows.old.items }
+    requires tableau { IsTableau (length rows.old) rows.old }
+    ensures { rows.new ≡ after_controlled own other a b rows.old }
 {
     if a < b {
-        multiply_ahead(rows.as_mut_slice(), own, other, a, b);
+        let (front, back) = rows.split_at_mut(b);
+        multiply_both(&mut front[a], &mut back[0], own, other);
     } else {
-        multiply_behind(rows.as_mut_slice(), own, other, a, b);
+        let (front, back) = rows.split_at_mut(a);
+        multiply_both(&mut back[0], &mut front[b], own, other);
     }
-}
-
-// The first qubit comes before the second.
-fn multiply_ahead<A: Allocator + Copy>(
-    rows: &mut [Pair<A>],
-    own: Letter,
-    other: Letter,
-    a: usize,
-    b: usize,
-)
-    requires own { own ≢ Y }
-    requires order { a < b }
-    requires inside { b < length rows.old }
-    requires tableau { IsTableau (length rows.old) rows.old }
-    ensures { rows.new ≡ after_controlled own other a b rows.old }
-{
-    let (front, back) = rows.split_at_mut(b);
-    multiply_both(&mut front[a], &mut back[0], own, other);
-}
-
-// The first qubit comes after the second.
-fn multiply_behind<A: Allocator + Copy>(
-    rows: &mut [Pair<A>],
-    own: Letter,
-    other: Letter,
-    a: usize,
-    b: usize,
-)
-    requires own { own ≢ Y }
-    requires order { b < a }
-    requires inside { a < length rows.old }
-    requires tableau { IsTableau (length rows.old) rows.old }
-    ensures { rows.new ≡ after_controlled own other a b rows.old }
-{
-    let (front, back) = rows.split_at_mut(a);
-    multiply_both(&mut back[0], &mut front[b], own, other);
 }
 
 // The word of `own`, by which the second pair is multiplied, is not changed before: `own` doesn't clash with itself.

@@ -93,7 +93,8 @@ fn set_preimages<A: Allocator + Copy>(new: &mut Pair<A>, pair: &Pair<A>, gate: G
     set_word(&mut new.1, pair, z, z_minus);
 }
 
-/// Applies a two-qubit gate. What it leaves in `first` and `second` is of no use.
+/// Applies a two-qubit gate. One that isn't controlled makes all four words anew, in `first` and `second`. What it leaves
+/// there is of no use.
 pub(crate) fn apply_two<A: Allocator + Copy>(
     rows: &mut Vec<Pair<A>, A>,
     first: &mut Pair<A>,
@@ -113,32 +114,10 @@ pub(crate) fn apply_two<A: Allocator + Copy>(
     ensures first { HasLength (length rows.old.items) first.new }
     ensures second { HasLength (length rows.old.items) second.new }
 {
-    match controlled_letters(gate) {
-        Some(letters) => apply_controlled(rows, letters.0, letters.1, a, b),
-        None => apply_by_images(rows, first, second, gate, a, b),
+    if let Some(letters) = controlled_letters(gate) {
+        apply_controlled(rows.as_mut_slice(), letters.0, letters.1, a, b);
+        return;
     }
-}
-
-// Makes all four words anew, in `first` and `second`.
-fn apply_by_images<A: Allocator + Copy>(
-    rows: &mut Vec<Pair<A>, A>,
-    first: &mut Pair<A>,
-    second: &mut Pair<A>,
-    gate: Gate,
-    a: usize,
-    b: usize,
-)
-    requires arity { arity_of gate ≡ 2 }
-    requires first_inside { a < length rows.old.items }
-    requires second_inside { b < length rows.old.items }
-    requires differ { a ≢ b }
-    requires tableau { IsTableau (length rows.old.items) rows.old.items }
-    requires first { HasLength (length rows.old.items) first.old }
-    requires second { HasLength (length rows.old.items) second.old }
-    ensures rows { rows.new.items ≡ after_two (length rows.old.items) gate a b rows.old.items }
-    ensures first { HasLength (length rows.old.items) first.new }
-    ensures second { HasLength (length rows.old.items) second.new }
-{
     set_products(
         first,
         &rows[a],

@@ -145,34 +145,9 @@ impl<A: Allocator + Copy> Tableau<A> {
         ensures replaced { IfSome result.1
             (IsReplaced self.old self.new (lone_letter (row_count self.old) qubit letter)) }
     {
-        match sign_seen(&self.rows[qubit], letter) {
-            Some(outcome) => (outcome, None),
-            None => self.collapse_by_code(letter, qubit, coin),
+        if let Some(outcome) = sign_seen(&self.rows[qubit], letter) {
+            return (outcome, None);
         }
-    }
-
-    // The same, with the letter's code made in a spare word.
-    fn collapse_by_code(
-        &mut self,
-        letter: Letter,
-        qubit: usize,
-        coin: bool,
-    ) -> (bool, Option<usize>)
-        requires { qubit < row_count self.old }
-        ensures len { row_count self.new ≡ row_count self.old }
-        ensures outcome { result.0
-            ≡ outcome (state_of self.old) (lone_letter (row_count self.old) qubit letter) coin }
-        ensures state { HasState self.new
-            (collapsed (lone_letter (row_count self.old) qubit letter) coin (state_of self.old)) }
-        ensures decided { IfNone result.1
-            (is_decided (state_of self.old) (lone_letter (row_count self.old) qubit letter)
-            ≡ true) }
-        ensures random { IfSome result.1 (λ row. is_decided (state_of self.old)
-            (lone_letter (row_count self.old) qubit letter)
-            ≡ false) }
-        ensures replaced { IfSome result.1
-            (IsReplaced self.old self.new (lone_letter (row_count self.old) qubit letter)) }
-    {
         self.second.0.clear();
         self.second.0.set_letter(qubit, letter);
         set_word(&mut self.first.0, &self.rows[qubit], letter, false);

@@ -9,7 +9,9 @@ use Rattle.pauli_word.specs.States.{State, is_decided}
 use Rattle.step_model.specs.declared.step.Term.{Term}
 use Rattle.step_model.specs.Listing.{ListedStep, One, Two, Collapse, Fault, Feedback, measured_word}
 use Rattle.tableau.specs.Rows.{Rows, row_count, state_of, destabilizer_at}
-use Rattle.forward_sim.specs.References.{entry_of, terms_with, IsEntry, IsReplacing}
+use Rattle.step_model.specs.Runs.{RunState}
+use Rattle.forward_sim.specs.References.{Walking, entry_of, terms_with, walking_qubits, walking_run, IsEntry, IsReplacing}
+use Rattle.forward_sim.specs.private.SameRuns.{IsSameRun}
 
 -- the qubits at which a word, the first of whose letters is at qubit q, clashes with the letter a
 abbrev pub clashing : Letter → ℕ → List Letter → List ℕ
@@ -69,3 +71,9 @@ pub record KeptSoFar : Type 0 where
 -- what is kept of a step is kept, unless there is no room for all
 abbrev pub StepIsKept : ℕ → State → ListedStep → KeptSoFar → KeptSoFar → Type 0
 StepIsKept n s step old new = new.whole ≡ true → (old.whole ≡ true) × StepKeeps n s step old.replaced new.replaced
+
+-- the run that goes along has come from `old` to one that is the same as m
+pub record WalksTo (old new : Walking) (m : RunState) : Type 0 where
+  pub qubits : walking_qubits new ≡ walking_qubits old
+  pub room : new.room ≡ old.room
+  pub run : IsSameRun (walking_qubits old) (walking_run new) m

@@ -1,9 +1,11 @@
 -- What a run holds between two steps, and what a part of a step does to it.
 -- (Runs of stabilizer circuits: Aaronson and Gottesman, Phys. Rev. A 70, 052328.)
-use Rattle.std.specs.Prelude.{◌≡◌, ℕ, Bool, if◌then◌else◌, List, [], ◌∷◌, ◌++◌, Option}
+use Rattle.std.specs.Prelude.{◌≡◌, ℕ, Bool, if◌then◌else◌, List, [], ◌∷◌, ◌++◌, Option, is_some}
 use Rattle.pauli_word.specs.declared.letter.Letter.{Letter}
 use Rattle.pauli_word.specs.Parity.{exclusive_or}
-use Rattle.step_model.specs.Runs.{RunState, corrected}
+use Rattle.pauli_word.specs.States.{State}
+use Rattle.programs.specs.Listed.{measured}
+use Rattle.step_model.specs.Runs.{RunState, corrected, correction}
 use Rattle.tableau.specs.Rows.{Rows, row_count, state_of}
 use Rattle.forward_sim.specs.private.SameRuns.{IsSameRun}
 
@@ -21,6 +23,18 @@ qubit_count r = row_count r.rows
 -- the run between the two steps
 abbrev pub run_of : Running → RunState
 run_of r = record { state = state_of r.rows; coins = r.coins; records = r.records }
+
+-- a run with another state
+abbrev pub in_state : RunState → State → RunState
+in_state m s = record m { state = s }
+
+-- by which word the reset of a qubit whose letter was measured is corrected, where it is reset
+abbrev pub correction_of : Running → Bool → Letter → ℕ → Option (List Letter)
+correction_of r reset letter qubit = correction (qubit_count r) (measured (qubit_count r) reset letter qubit)
+
+-- with one record more, where it has a number
+abbrev pub with_record : Option ℕ → Bool → Running → Running
+with_record number value r = record r { records = if is_some number then r.records ++ value ∷ [] else r.records }
 
 -- the run after the end of a collapse that saw this outcome: the outcome is corrected, where there is a correction, and
 -- recorded, inverted if `changes`, where it has a record

@@ -4,17 +4,20 @@
 -- that anticommutes with the word measured; that leaves the run's state the same. (Pauli frames: Knill, Nature 434, 39
 -- (2005); with a reference sample, as in Stim's frame simulator: Gidney, Quantum 5, 497 (2021).)
 use Rattle.std.specs.Prelude.{⊤, ◌≡◌, ℕ, Bool, true, List, [], Option, None, Some, option_map}
+use Rattle.bit_rows.specs.Lanes.{lane_bit}
 use Rattle.forward_sim.specs.References.{terms_in}
 use Rattle.forward_sim.specs.declared.replaced_word.ReplacedWord.{ReplacedWord}
 use Rattle.pauli_word.specs.declared.letter.Letter.{Letter}
 use Rattle.pauli_word.specs.Parity.{exclusive_or}
-use Rattle.pauli_word.specs.Words.{anticommute}
+use Rattle.pauli_word.specs.Words.{anticommute, lone_letter}
+use Rattle.programs.specs.Listed.{measured}
 use Rattle.step_model.specs.declared.step.Term.{Term}
 use Rattle.step_model.specs.Frames.{Frame}
 use Rattle.step_model.specs.Listing.{Listing, ListedStep, One, Two, Collapse, Fault, Feedback, word_of_terms, measured_word}
-use Rattle.step_model.specs.Sensitivities.{multiplied}
+use Rattle.step_model.specs.Sensitivities.{cleared, multiplied}
 use Rattle.step_model.specs.WellFormed.{TermsFit}
 use Rattle.run_laws.specs.Shifts.{carried_with}
+use Rattle.frames.specs.LaneFrames.{LaneFrames, frame_in}
 
 -- a frame, multiplied where b by the word that is kept of a collapse, if there is one
 abbrev pub turned_where : ℕ → Option (List Term) → Bool → Frame → Frame
@@ -59,3 +62,20 @@ TurnsAt n replaced (Two gate a b) = ⊤
 TurnsAt n replaced (Collapse c r) = Turns n replaced (measured_word n c)
 TurnsAt n replaced (Fault f) = ⊤
 TurnsAt n replaced (Feedback w r) = ⊤
+
+-- what is done to the frame of each run j: where the run is one of these, it is multiplied by w
+abbrev pub multiplied_in : ℕ → List Letter → ℕ → Frame → Frame
+multiplied_in runs w = λ j v. record v { word = multiplied (lane_bit j runs) w v.word }
+
+-- it comes to a collapse of w, with its coin
+abbrev pub turned_in : ℕ → Option (List Term) → ℕ → List Letter → ℕ → Frame → Frame
+turned_in n replaced coins w = λ j v. turned n replaced (lane_bit j coins) w v
+
+-- and then the qubit of a letter that was measured is reset, where it is
+abbrev pub reset_in : ℕ → Option (List Term) → ℕ → Bool → Letter → ℕ → ℕ → Frame → Frame
+reset_in n replaced coins reset letter qubit =
+    λ j v. record v { word = cleared (measured n reset letter qubit) (turned n replaced (lane_bit j coins) (lone_letter n qubit letter) v).word }
+
+-- whether the frame of run j, which comes to a collapse of w, flips its outcome
+abbrev pub flips_in : ℕ → Option (List Term) → ℕ → List Letter → LaneFrames → ℕ → Bool
+flips_in n replaced coins w f j = anticommute (turned n replaced (lane_bit j coins) w (frame_in j f)).word w

@@ -56,3 +56,7 @@ abbrev pub goes_on_within : (ℕ → Bool) → List Target → Bool
 goes_on_within has [] = false
 goes_on_within has (a ∷ []) = false
 goes_on_within has (a ∷ b ∷ rest) = is_joining a && (is_factor_within has b || goes_on_within has rest)
+
+-- so does it, or a product of these targets names one qubit twice
+abbrev pub repeats_within : (ℕ → Bool) → List Target → Bool
+repeats_within has targets = goes_on_within has targets || has_product_of_one targets

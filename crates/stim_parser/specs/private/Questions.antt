@@ -1,5 +1,5 @@
 -- Parts of the list of a line's questions, as the judge of lines asks them one after another. (This project's own.)
-use Rattle.std.specs.Prelude.{ℕ, ◌==◌, nat_le, Bool, not, ◌&&◌, ◌||◌, List, [], ◌∷◌, ◌++◌, Some, is_none}
+use Rattle.std.specs.Prelude.{◌≡◌, ℕ, ◌==◌, nat_le, Bool, false, not, ◌&&◌, ◌||◌, List, [], ◌∷◌, ◌++◌, None, Some, Result, MatchResult, is_none}
 use Rattle.step_model.specs.declared.fault.Cause.{Cause}
 use Rattle.stim_lexer.specs.Cut.{Cut}
 use Rattle.stim_lexer.specs.Trees.{deepest}
@@ -7,7 +7,7 @@ use Rattle.stim_parser.specs.declared.forms.ArgumentForm.{ArgumentForm}
 use Rattle.stim_parser.specs.declared.table.Causes.{Causes}
 use Rattle.stim_parser.specs.declared.table.Keyword.{Keyword}
 use Rattle.stim_parser.specs.Arguments.{arguments_in}
-use Rattle.stim_parser.specs.Judging.{Table, opens_block, read_targets, refusals_of_name}
+use Rattle.stim_parser.specs.Judging.{Table, first_of, misplaces_brace, opens_block, read_targets, refusal_of, refusals_of_name}
 use Rattle.stim_parser.specs.Limits.{has_wrong_arguments, has_wrong_probability, has_argument_beyond}
 
 -- the questions of a line with this keyword
@@ -20,6 +20,22 @@ refusals_of_arguments causes form cut =
     (cut.stays_open || has_wrong_arguments form (arguments_in cut.arguments), causes.arguments)
     ∷ (has_wrong_probability form (arguments_in cut.arguments), causes.probability)
     ∷ []
+
+-- of a line: its keyword, where its braces stand as that asks, or its refusal
+abbrev pub KeywordOf : {O T F : Type 0} → Table O T F → Cut → Result (Keyword O) Cause → Type 0
+KeywordOf table cut result =
+    MatchResult result
+    (λ keyword. (table.keyword_named cut.name ≡ Some keyword) × (misplaces_brace (Some keyword) cut.braces ≡ false))
+    (λ refused. (depth : ℕ) → refusal_of table depth cut ≡ Some refused)
+
+-- of a line's arguments: whether one is beyond its limit, where they are of their number and form, or their refusal
+abbrev pub ArgumentsOf : Causes → ℕ → ArgumentForm → Cut → Result Bool Cause → Type 0
+ArgumentsOf causes greatest form cut result =
+    MatchResult result
+    (λ beyond.
+    (beyond ≡ has_argument_beyond greatest form (arguments_in cut.arguments))
+    × (first_of (refusals_of_arguments causes form cut) ≡ None))
+    (λ refused. first_of (refusals_of_arguments causes form cut) ≡ Some refused)
 
 -- targets that can't be read, or of another form
 abbrev pub has_wrong_target : {O T F : Type 0} → Table O T F → F → List ℕ → Bool

@@ -6,9 +6,9 @@ use Rattle.step_model.specs.Frames.{Frame, carried, flips_from}
 use Rattle.step_model.specs.Listing.{ListedStep}
 use Rattle.step_model.proofs.StepNumbers.{fits_at}
 use Rattle.run_laws.proofs.PairParity.{length-carried}
+use Rattle.forward_sim.proofs.WalkedSteps.{GoesOver, goes_over, rests}
 use Rattle.frames.specs.private.Flips.{flip_of}
 use Rattle.frames.proofs.FrameSteps.{flips-on}
-use Rattle.frames.proofs.Walking.{GoesOver, goes_over, rests}
 use Rattle.frames.proofs.carry.push_flips.Given.{Over}
 use Rattle.frames.proofs.carry.push_flips.Goals as goal
 use Rattle.frames.proofs.carry.push_flips.Goals.{In_ok-flip}

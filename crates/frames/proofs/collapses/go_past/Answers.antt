@@ -3,8 +3,8 @@ use Rattle.std.proofs.Common.{◌≡◌, ◌+◌, ◌<◌, true, false, length, 
 use Rattle.programs.specs.Listed.{listed}
 use Rattle.step_model.specs.WellFormed.{records_made}
 use Rattle.step_model.specs.Listing.{ListedStep, step_records, is_collapse}
+use Rattle.forward_sim.proofs.WalkedSteps.{GoesOver, goes_over, rests}
 use Rattle.frames.proofs.Passing.{ahead-step, ahead-collapse, ahead-found, ahead-none, made_after-step, records_made-more}
-use Rattle.frames.proofs.Walking.{GoesOver, goes_over, rests}
 use Rattle.frames.proofs.collapses.go_past.Given.{Over}
 use Rattle.frames.proofs.collapses.go_past.Goals as goal
 use Rattle.frames.proofs.collapses.go_past.Goals.{After-records_after-made}

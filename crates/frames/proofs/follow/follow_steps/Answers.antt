@@ -2,33 +2,35 @@
 use Rattle.std.proofs.Common.{ℕ, Bool, List, [], ◌∷◌, ◌≡◌, true, false, length, drop, refl, sym, ap, subst, ◌∙◌, arith}
 use Rattle.forward_sim.specs.References.{GoneOver, ReferenceRun, StandBefore}
 use Rattle.forward_sim.proofs.RunRecords.{length-records_of}
+use Rattle.forward_sim.proofs.WalkedSteps.{GoesOver, goes_over, nothing_left}
 use Rattle.bit_rows.specs.Lanes.{lane, lane_bit}
 use Rattle.programs.specs.Listed.{listed}
 use Rattle.step_model.specs.Frames.{zero_coins}
 use Rattle.step_model.specs.Listing.{ListedStep, is_collapse}
 use Rattle.step_model.specs.Runs.{RunState}
+use Rattle.step_model.specs.WellFormed.{step_fits}
+use Rattle.step_model.proofs.StepNumbers.{fits_at}
 use Rattle.step_model.specs.declared.step.Term.{Term}
 use Rattle.frames.specs.Batches.{start_frame}
 use Rattle.frames.specs.private.Followed.{TurnsAt, followed}
 use Rattle.frames.specs.LaneFrames.{GoesTo}
 use Rattle.frames.proofs.Beside.{Beside, beside-start, beside-other, beside-collapse, beside-room, beside-end, entry-turns}
-use Rattle.frames.proofs.FollowLoop.{Over, over, at_end}
-use Rattle.frames.proofs.follow.follow_steps.Given as given
+use Rattle.frames.proofs.follow.follow_steps.Given.{Over}
 use Rattle.frames.proofs.follow.follow_steps.Goals as goal
 use Rattle.frames.proofs.follow.follow_steps.Goals.{In-Some}
 
 -- what the walk went over
-goes_over : (g : given.Over) (c : In-Some g) → Over c.args.program.now c.loop-step.walk c.next_step.new.self c.in-Some.step
-goes_over g c =
-    over c.args.program.now c.loop-step.walk c.next_step.new.self c.in-Some.step c.well_formed-2.ensures.listing c.loop-step.invariant.program c.in-Some.ensures.step c.in-Some.ensures.named c.in-Some.ensures.program c.in-Some.ensures.place
+over : (g : Over) (c : In-Some g) → GoesOver c.args.program.now c.loop-step.walk c.next_step.new.self c.in-Some.step
+over g c =
+    goes_over c.args.program.now c.loop-step.walk c.next_step.new.self c.in-Some.step c.loop-step.invariant.program c.in-Some.ensures.step c.in-Some.ensures.named c.in-Some.ensures.program c.in-Some.ensures.place
 
 -- the step, as it is listed
-abbrev step_of : (g : given.Over) → In-Some g → ListedStep
+abbrev step_of : (g : Over) → In-Some g → ListedStep
 step_of g c = listed c.args.program.now.listing.qubits c.args.program.now.products c.in-Some.step
 
-before : (g : given.Over) (c : In-Some g) → Beside c.args.program.now.listing c.loop-step.reference c.args.faults.now c.args.coins.now (step_of g c ∷ drop c.next_step.new.self.place c.args.program.now.listing.steps) c.loop-step.collapse c.loop-step.frames
+before : (g : Over) (c : In-Some g) → Beside c.args.program.now.listing c.loop-step.reference c.args.faults.now c.args.coins.now (step_of g c ∷ drop c.next_step.new.self.place c.args.program.now.listing.steps) c.loop-step.collapse c.loop-step.frames
 before g c =
-    subst (λ steps. Beside c.args.program.now.listing c.loop-step.reference c.args.faults.now c.args.coins.now steps c.loop-step.collapse c.loop-step.frames) (goes_over g c).ahead c.loop-step.invariant.beside
+    subst (λ steps. Beside c.args.program.now.listing c.loop-step.reference c.args.faults.now c.args.coins.now steps c.loop-step.collapse c.loop-step.frames) (over g c).left c.loop-step.invariant.beside
 
 pub loop-step-init : goal.loop-step-init
 loop-step-init g c =
@@ -57,12 +59,12 @@ go_over-requires-clause-next g c =
     )
 
 -- the reference run has gone over the step too
-gone : (g : given.Over) (c : In-Some g) (new : ReferenceRun)
+gone : (g : Over) (c : In-Some g) (new : ReferenceRun)
     → ((rest : List ListedStep) (m : RunState) (k : ℕ) → StandBefore c.args.program.now.listing (step_of g c ∷ rest) m k c.loop-step.reference.words → GoneOver c.args.program.now.listing (step_of g c) rest m k new.words)
     → GoneOver c.args.program.now.listing (step_of g c) (drop c.next_step.new.self.place c.args.program.now.listing.steps) (before g c).m c.loop-step.collapse new.words
 gone g c new goes = goes (drop c.next_step.new.self.place c.args.program.now.listing.steps) (before g c).m c.loop-step.collapse (before g c).stand
 
-collapses : (g : given.Over) (c : In-Some g) (is : Bool) → ((n : ℕ) (products : List (List Term)) → is ≡ is_collapse (listed n products c.in-Some.step)) → (value : Bool) → is ≡ value → is_collapse (step_of g c) ≡ value
+collapses : (g : Over) (c : In-Some g) (is : Bool) → ((n : ℕ) (products : List (List Term)) → is ≡ is_collapse (listed n products c.in-Some.step)) → (value : Bool) → is ≡ value → is_collapse (step_of g c) ≡ value
 collapses g c is says value is_value = sym (says c.args.program.now.listing.qubits c.args.program.now.products) ∙ is_value
 
 pub replaced-replaced-requires : goal.replaced-replaced-requires
@@ -70,7 +72,10 @@ replaced-replaced-requires g c =
     let here = (goal.at.replaced-replaced-requires g c).In-Some in
     (gone g here c.go_over.new.self c.go_over.ensures.over).said (collapses g here c.is_collapse.result c.is_collapse.ensures true c.if-is_collapse.true)
 
-count : (g : given.Over) (c : In-Some g) → length c.loop-step.reference.records ≡ c.args.program.now.listing.records
+fits : (g : Over) (c : In-Some g) → step_fits c.args.program.now.listing (step_of g c) ≡ true
+fits g c = fits_at c.args.program.now.listing c.loop-step.walk.place (step_of g c) c.well_formed-2.ensures.listing (over g c).here
+
+count : (g : Over) (c : In-Some g) → length c.loop-step.reference.records ≡ c.args.program.now.listing.records
 count g c =
     ap length c.loop-step.invariant.reference.records
     ∙ length-records_of c.args.program.now.listing [] (zero_coins c.args.program.now.listing) c.well_formed-2.ensures.listing
@@ -88,12 +93,12 @@ take_step-requires-clause-turns g c =
     (entry-turns program.qubits (before g here).m.state (step_of g here) _ (gone g here c.go_over.new.self c.go_over.ensures.over).entry)
 
 pub loop-step-smaller-then-is_collapse : goal.loop-step-smaller-then-is_collapse
-loop-step-smaller-then-is_collapse g c = (goes_over g (goal.at.loop-step-smaller-then-is_collapse g c).In-Some).smaller
+loop-step-smaller-then-is_collapse g c = (over g (goal.at.loop-step-smaller-then-is_collapse g c).In-Some).smaller
 
 pub loop-step-preserved-then-is_collapse : goal.loop-step-preserved-then-is_collapse
 loop-step-preserved-then-is_collapse g c =
     let here = (goal.at.loop-step-preserved-then-is_collapse g c).In-Some in
-    let walked = goes_over g here in
+    let walked = over g here in
     let program = c.args.program.now.listing in
     let after = c.go_over.new.self in
     record {
@@ -104,7 +109,7 @@ loop-step-preserved-then-is_collapse g c =
       records = c.go_over.ensures.records ∙ c.loop-step.invariant.records;
       beside =
           beside-collapse program c.loop-step.reference after c.args.faults.now c.args.coins.now (step_of g here) (drop c.next_step.new.self.place program.steps) c.loop-step.collapse c.word_at.result c.loop-step.frames c.take_step.new.frames
-          walked.fits (collapses g here c.is_collapse.result c.is_collapse.ensures true c.if-is_collapse.true) (before g here) c.go_over.ensures.records (gone g here after c.go_over.ensures.over) c.word_at.ensures
+          (fits g here) (collapses g here c.is_collapse.result c.is_collapse.ensures true c.if-is_collapse.true) (before g here) c.go_over.ensures.records (gone g here after c.go_over.ensures.over) c.word_at.ensures
           (subst (λ entry. GoesTo c.loop-step.frames c.take_step.new.frames (λ j v. followed program (lane j c.args.faults.now) entry (lane_bit j c.word_at.result) (step_of g here) v)) c.replaced-replaced.ensures c.take_step.ensures);
     }
 
@@ -114,12 +119,12 @@ take_step-requires-else-is_collapse-clause-room g c =
     omega (arith, c.requires.room, c.loop-step.invariant.room, beside-room c.args.program.now.listing c.loop-step.reference c.args.faults.now c.args.coins.now (step_of g here) (drop c.next_step.new.self.place c.args.program.now.listing.steps) c.loop-step.collapse c.loop-step.frames (count g here) (before g here))
 
 pub loop-step-smaller : goal.loop-step-smaller
-loop-step-smaller g c = (goes_over g (goal.at.loop-step-smaller g c).In-Some).smaller
+loop-step-smaller g c = (over g (goal.at.loop-step-smaller g c).In-Some).smaller
 
 pub loop-step-preserved : goal.loop-step-preserved
 loop-step-preserved g c =
     let here = (goal.at.loop-step-preserved g c).In-Some in
-    let walked = goes_over g here in
+    let walked = over g here in
     let program = c.args.program.now.listing in
     let after = c.go_over.new.self in
     record {
@@ -130,11 +135,11 @@ loop-step-preserved g c =
       records = c.go_over.ensures.records ∙ c.loop-step.invariant.records;
       beside =
           beside-other program c.loop-step.reference after c.args.faults.now c.args.coins.now (step_of g here) (drop c.next_step.new.self.place program.steps) c.loop-step.collapse 0 c.loop-step.frames c.take_step-else-is_collapse.new.frames
-          walked.fits (collapses g here c.is_collapse.result c.is_collapse.ensures false c.if-is_collapse.false) (before g here) c.go_over.ensures.records (gone g here after c.go_over.ensures.over) c.take_step-else-is_collapse.ensures;
+          (fits g here) (collapses g here c.is_collapse.result c.is_collapse.ensures false c.if-is_collapse.false) (before g here) c.go_over.ensures.records (gone g here after c.go_over.ensures.over) c.take_step-else-is_collapse.ensures;
     }
 
 pub returns-clause-runs : goal.returns-clause-runs
 returns-clause-runs g c =
     beside-end c.args.program.now.listing c.loop-step.reference c.args.faults.now c.args.coins.now c.loop-step.collapse c.loop-step.frames
     (subst (λ steps. Beside c.args.program.now.listing c.loop-step.reference c.args.faults.now c.args.coins.now steps c.loop-step.collapse c.loop-step.frames)
-    (at_end c.args.program.now c.loop-step.walk c.loop-step.invariant.program c.in_default.ensures.step) c.loop-step.invariant.beside)
+    (nothing_left c.args.program.now c.loop-step.walk c.loop-step.invariant.program c.in_default.ensures.step) c.loop-step.invariant.beside)

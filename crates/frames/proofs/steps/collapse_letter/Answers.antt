@@ -4,8 +4,8 @@ use Rattle.bit_rows.specs.Lanes.{lane_bit}
 use Rattle.pauli_word.specs.Letters.{letters_clash}
 use Rattle.pauli_word.specs.Words.{anticommute, lone_letter}
 use Rattle.run_laws.proofs.ShiftWords.{anticommute-lone}
-use Rattle.frames.specs.private.Followed.{terms_of, turned}
-use Rattle.frames.specs.LaneFrames.{GoesTo, frame_in}
+use Rattle.frames.specs.private.Followed.{flips_in, terms_of, turned_in}
+use Rattle.frames.specs.LaneFrames.{GoesTo}
 use Rattle.frames.specs.LaneLetters.{word_in}
 use Rattle.frames.proofs.FollowedSteps.{flips_turned, goes_cleared, goes_left, goes_turned}
 use Rattle.frames.proofs.LaneFrameLaws.{length-word_in}
@@ -21,13 +21,13 @@ meets g c j =
     ∙ ap (λ a. letters_clash a c.args.letter) (c.at.ensures j)
     ∙ sym (anticommute-lone (word_in j old.letters) (length old.letters) c.args.qubit c.args.letter (length-word_in j old.letters) c.requires.inside)
 
-turns : (g : Over) (c : After-turn-flips g) → GoesTo c.args.frames.now c.turn-flips.new.frames (λ j v. turned (length c.args.frames.now.letters) (terms_of c.args.replaced) (lane_bit j c.args.coins) (lone_letter (length c.args.frames.now.letters) c.args.qubit c.args.letter) v)
+turns : (g : Over) (c : After-turn-flips g) → GoesTo c.args.frames.now c.turn-flips.new.frames (turned_in (length c.args.frames.now.letters) (terms_of c.args.replaced) c.args.coins (lone_letter (length c.args.frames.now.letters) c.args.qubit c.args.letter))
 turns g c =
     let old = c.args.frames.now in
     let n = length old.letters in
     goes_turned n (terms_of c.args.replaced) c.args.coins c.clashes-met.result c.turn-flips.result c.args.qubit c.args.letter old c.turn-flips.new.frames refl (lone_letter n c.args.qubit c.args.letter) c.requires.turns (meets g c) c.turn-flips.ensures.moved c.turn-flips.ensures.flips
 
-flips : (g : Over) (c : After-turn-flips g) (j : ℕ) → lane_bit j c.turn-flips.result ≡ anticommute (turned (length c.args.frames.now.letters) (terms_of c.args.replaced) (lane_bit j c.args.coins) (lone_letter (length c.args.frames.now.letters) c.args.qubit c.args.letter) (frame_in j c.args.frames.now)).word (lone_letter (length c.args.frames.now.letters) c.args.qubit c.args.letter)
+flips : (g : Over) (c : After-turn-flips g) (j : ℕ) → lane_bit j c.turn-flips.result ≡ flips_in (length c.args.frames.now.letters) (terms_of c.args.replaced) c.args.coins (lone_letter (length c.args.frames.now.letters) c.args.qubit c.args.letter) c.args.frames.now j
 flips g c =
     let old = c.args.frames.now in
     let n = length old.letters in

@@ -1,26 +1,58 @@
-use Rattle.std.proofs.Common.{◌≤◌, length, drop, ap, sym, subst, ◌∙◌, arith}
-use Rattle.tableau.specs.private.Encoding.{IsTableau}
-use Rattle.tableau.specs.private.ControlledSteps.{after_controlled}
-use Rattle.tableau.proofs.ControlledRows.{comes_after, written_back}
+-- The pairs are read and written through the two parts into which the rows are split.
+use Rattle.std.proofs.Common.{◌++◌, set, slice_index_or, ap₂, sym, ◌∙◌}
+use Rattle.tableau.proofs.ControlledRows.{AreRead, comes_after, parts_set, set_swapped, read_ahead, read_behind, first_there, second_there, commute_there, made_there}
+use Rattle.tableau.proofs.controlled.apply_controlled.Given.{Over}
 use Rattle.tableau.proofs.controlled.apply_controlled.Goals as goal
+use Rattle.tableau.proofs.controlled.apply_controlled.Goals.{After-index-back-0, After-index-front-b}
 
-pub multiply_behind-requires-clause-order : goal.multiply_behind-requires-clause-order
-multiply_behind-requires-clause-order g c =
-    let h : c.args.b ≤ c.args.a = omega (arith, c.if-a-b.false) in
-    comes_after c.args.a c.args.b h c.requires.differ
+ahead : (g : Over) (c : After-index-back-0 g) → AreRead c.args.rows.now c.args.a c.args.b (slice_index_or c.split_at_mut-front.result.0.now c.args.a c.index-front-a.result) (slice_index_or c.split_at_mut-front.result.1.now 0 c.index-back-0.result)
+ahead g c = read_ahead _ _ _ _ _ _ _ c.split_at_mut-front.ensures.front c.split_at_mut-front.ensures.back c.if-a-b.true c.requires.second_inside
 
-pub multiply_ahead-requires-clause-tableau : goal.multiply_ahead-requires-clause-tableau
-multiply_ahead-requires-clause-tableau g c = subst (λ l. IsTableau (length l) l) (sym c.as_mut_slice.ensures.value) c.requires.tableau
+behind : (g : Over) (c : After-index-front-b g) → AreRead c.args.rows.now c.args.a c.args.b (slice_index_or c.split_at_mut-front-else-a-b.result.1.now 0 c.index-back-0-else-a-b.result) (slice_index_or c.split_at_mut-front-else-a-b.result.0.now c.args.b c.index-front-b.result)
+behind g c =
+    read_behind _ _ _ _ _ _ _ c.split_at_mut-front-else-a-b.ensures.front c.split_at_mut-front-else-a-b.ensures.back (comes_after c.args.a c.args.b c.if-a-b.false c.requires.differ) c.requires.first_inside
 
-pub multiply_behind-requires-clause-tableau : goal.multiply_behind-requires-clause-tableau
-multiply_behind-requires-clause-tableau g c = subst (λ l. IsTableau (length l) l) (sym c.as_mut_slice-else-a-b.ensures.value) c.requires.tableau
+pub multiply_both-requires-clause-first : goal.multiply_both-requires-clause-first
+multiply_both-requires-clause-first g c =
+    first_there _ c.requires.tableau _ _ c.requires.first_inside c.requires.second_inside c.requires.differ _ _ (ahead g (goal.at.multiply_both-requires-clause-first g c).After-index-back-0)
+
+pub multiply_both-requires-clause-second : goal.multiply_both-requires-clause-second
+multiply_both-requires-clause-second g c =
+    second_there _ c.requires.tableau _ _ c.requires.first_inside c.requires.second_inside c.requires.differ _ _ (ahead g (goal.at.multiply_both-requires-clause-second g c).After-index-back-0)
+
+pub multiply_both-requires-clause-commuting : goal.multiply_both-requires-clause-commuting
+multiply_both-requires-clause-commuting g c =
+    commute_there _ c.requires.tableau _ _ c.requires.first_inside c.requires.second_inside c.requires.differ _ _ (ahead g (goal.at.multiply_both-requires-clause-commuting g c).After-index-back-0)
 
 pub returns-then-a-b : goal.returns-then-a-b
 returns-then-a-b g c =
-    written_back c.multiply_ahead.new.rows (drop (length c.multiply_ahead.new.rows) c.args.rows.now.items) c.args.rows.now.len (c.multiply_ahead.auto.rows ∙ c.as_mut_slice.ensures.len)
-    ∙ (c.multiply_ahead.ensures ∙ ap (after_controlled c.args.own c.args.other c.args.a c.args.b) c.as_mut_slice.ensures.value)
+    let rows = c.args.rows.now in
+    let first = c.multiply_both.new.first in
+    let second = c.multiply_both.new.second in
+    ap₂ (λ front back. set front c.args.a first ++ set back 0 second) c.split_at_mut-front.ensures.front c.split_at_mut-front.ensures.back
+    ∙ (parts_set rows c.args.a c.args.b first second c.if-a-b.true c.requires.second_inside
+    ∙ made_there rows c.requires.tableau c.args.a c.args.b c.requires.first_inside c.requires.second_inside c.requires.differ _ _ (ahead g (goal.at.returns-then-a-b g c).After-index-back-0)
+    c.args.own c.args.other first second c.multiply_both.ensures.first c.multiply_both.ensures.second)
+
+pub multiply_both-requires-else-a-b-clause-first : goal.multiply_both-requires-else-a-b-clause-first
+multiply_both-requires-else-a-b-clause-first g c =
+    first_there _ c.requires.tableau _ _ c.requires.first_inside c.requires.second_inside c.requires.differ _ _ (behind g (goal.at.multiply_both-requires-else-a-b-clause-first g c).After-index-front-b)
+
+pub multiply_both-requires-else-a-b-clause-second : goal.multiply_both-requires-else-a-b-clause-second
+multiply_both-requires-else-a-b-clause-second g c =
+    second_there _ c.requires.tableau _ _ c.requires.first_inside c.requires.second_inside c.requires.differ _ _ (behind g (goal.at.multiply_both-requires-else-a-b-clause-second g c).After-index-front-b)
+
+pub multiply_both-requires-else-a-b-clause-commuting : goal.multiply_both-requires-else-a-b-clause-commuting
+multiply_both-requires-else-a-b-clause-commuting g c =
+    commute_there _ c.requires.tableau _ _ c.requires.first_inside c.requires.second_inside c.requires.differ _ _ (behind g (goal.at.multiply_both-requires-else-a-b-clause-commuting g c).After-index-front-b)
 
 pub returns-else-a-b : goal.returns-else-a-b
 returns-else-a-b g c =
-    written_back c.multiply_behind.new.rows (drop (length c.multiply_behind.new.rows) c.args.rows.now.items) c.args.rows.now.len (c.multiply_behind.auto.rows ∙ c.as_mut_slice-else-a-b.ensures.len)
-    ∙ (c.multiply_behind.ensures ∙ ap (after_controlled c.args.own c.args.other c.args.a c.args.b) c.as_mut_slice-else-a-b.ensures.value)
+    let rows = c.args.rows.now in
+    let first = c.multiply_both-else-a-b.new.first in
+    let second = c.multiply_both-else-a-b.new.second in
+    ap₂ (λ front back. set front c.args.b second ++ set back 0 first) c.split_at_mut-front-else-a-b.ensures.front c.split_at_mut-front-else-a-b.ensures.back
+    ∙ (parts_set rows c.args.b c.args.a second first (comes_after c.args.a c.args.b c.if-a-b.false c.requires.differ) c.requires.first_inside
+    ∙ (set_swapped rows c.args.b c.args.a second first (λ e. c.requires.differ (sym e))
+    ∙ made_there rows c.requires.tableau c.args.a c.args.b c.requires.first_inside c.requires.second_inside c.requires.differ _ _ (behind g (goal.at.returns-else-a-b g c).After-index-front-b)
+    c.args.own c.args.other first second c.multiply_both-else-a-b.ensures.first c.multiply_both-else-a-b.ensures.second))

@@ -13,5 +13,5 @@ pub returns-in-Walked-clause-over : goal.returns-in-Walked-clause-over
 returns-in-Walked-clause-over g c rest m k h =
     let program = c.args.program.now.listing in
     let step = listed program.qubits c.args.program.now.products c.args.step.now in
-    over_walked program step rest m k c.in-Walked.walk c.go_over.new.self c.go_over.ensures.qubits c.go_over.ensures.room c.go_over.ensures.run c.go_over.ensures.entry
+    over_walked program step rest m k c.in-Walked.walk c.go_over.new.self c.go_over.ensures.walked.qubits c.go_over.ensures.walked.room c.go_over.ensures.walked.run c.go_over.ensures.entry
     (rw c.in-Walked.is at h)

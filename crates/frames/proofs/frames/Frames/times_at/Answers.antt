@@ -2,13 +2,12 @@
 use Rattle.std.proofs.Common.{◌≡◌, ℕ, ◌<◌, ◌-◌, ◌+◌, List, length, drop, get_or, refl, sym, subst, arith}
 use Rattle.std.proofs.lemmas.List.{get_or-map, length-map}
 use Rattle.std.proofs.lemmas.List.Elements.{All-get_or}
-use Rattle.bit_rows.specs.Lanes.{lane_bit}
 use Rattle.pauli_word.specs.declared.letter.Letter.{Letter}
 use Rattle.pauli_word.specs.Words.{lone_letter}
 use Rattle.step_model.specs.Listing.{word_of_terms}
-use Rattle.step_model.specs.Sensitivities.{multiplied}
 use Rattle.step_model.specs.declared.step.Term.{Term}
 use Rattle.forward_sim.specs.References.{terms_at}
+use Rattle.frames.specs.private.Followed.{multiplied_in}
 use Rattle.frames.specs.LaneFrames.{GoesTo}
 use Rattle.frames.proofs.LaneFrameLaws.{no_term, times-more, times-none}
 use Rattle.frames.proofs.frames.Frames.times_at.Goals as goal
@@ -23,7 +22,7 @@ at a qubits i within = get_or-map (λ q. record { qubit = q; letter = a }) qubit
 pub loop-left-init : goal.loop-left-init
 loop-left-init g c = record {
   within = omega arith;
-  so_far = subst (λ k. GoesTo c.args.self.now c.args.self.now (λ j v. record v { word = multiplied (lane_bit j c.args.runs) (word_of_terms (length c.args.self.now.letters) (drop k (terms_at c.args.letter c.args.qubits.now))) v.word })) (count c.args.letter c.args.qubits.now)
+  so_far = subst (λ k. GoesTo c.args.self.now c.args.self.now (multiplied_in c.args.runs (word_of_terms (length c.args.self.now.letters) (drop k (terms_at c.args.letter c.args.qubits.now))))) (count c.args.letter c.args.qubits.now)
       (times-none (terms_at c.args.letter c.args.qubits.now) c.args.runs c.args.self.now);
 }
 
@@ -50,6 +49,6 @@ loop-left-preserved g c =
     record {
       within = omega (arith, c.loop-left.invariant.within);
       so_far = times-more n terms i c.args.runs c.args.self.now c.loop-left.self c.times.new.self refl (omega (arith, within, count a qubits))
-          (subst (λ k. GoesTo c.args.self.now c.loop-left.self (λ j v. record v { word = multiplied (lane_bit j c.args.runs) (word_of_terms n (drop k terms)) v.word })) here c.loop-left.invariant.so_far)
-          (subst (λ (term : Term). GoesTo c.loop-left.self c.times.new.self (λ j v. record v { word = multiplied (lane_bit j c.args.runs) (lone_letter (length c.loop-left.self.letters) term.qubit term.letter) v.word })) (sym (at a qubits i within)) c.times.ensures);
+          (subst (λ k. GoesTo c.args.self.now c.loop-left.self (multiplied_in c.args.runs (word_of_terms n (drop k terms)))) here c.loop-left.invariant.so_far)
+          (subst (λ (term : Term). GoesTo c.loop-left.self c.times.new.self (multiplied_in c.args.runs (lone_letter (length c.loop-left.self.letters) term.qubit term.letter))) (sym (at a qubits i within)) c.times.ensures);
     }

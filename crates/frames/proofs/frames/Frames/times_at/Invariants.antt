@@ -1,8 +1,7 @@
 use Rattle.std.proofs.Common.{◌≤◌, length, drop}
-use Rattle.bit_rows.specs.Lanes.{lane_bit}
 use Rattle.step_model.specs.Listing.{word_of_terms}
-use Rattle.step_model.specs.Sensitivities.{multiplied}
 use Rattle.forward_sim.specs.References.{terms_at}
+use Rattle.frames.specs.private.Followed.{multiplied_in}
 use Rattle.frames.specs.LaneFrames.{GoesTo}
 use Rattle.frames.proofs.frames.Frames.times_at.Given as goal
 
@@ -11,7 +10,7 @@ abbrev pub invariant-loop-left : goal.invariant-loop-left
 invariant-loop-left g l =
     record {
       within : l.left ≤ length l.qubits;
-      so_far : GoesTo l.fn.self l.self (λ j v. record v { word = multiplied (lane_bit j l.fn.runs) (word_of_terms (length l.fn.self.letters) (drop l.left (terms_at l.letter l.qubits))) v.word });
+      so_far : GoesTo l.fn.self l.self (multiplied_in l.fn.runs (word_of_terms (length l.fn.self.letters) (drop l.left (terms_at l.letter l.qubits))));
     }
 
 abbrev pub decreases-loop-left : goal.decreases-loop-left

@@ -1,8 +1,7 @@
 use Rattle.std.proofs.Common.{◌≡◌, ◌<◌, ◌-◌, ◌+◌, length, drop, get_or, refl, subst, arith}
-use Rattle.bit_rows.specs.Lanes.{lane_bit}
 use Rattle.step_model.specs.Listing.{word_of_terms}
-use Rattle.step_model.specs.Sensitivities.{multiplied}
 use Rattle.step_model.specs.declared.step.Term.{Term}
+use Rattle.frames.specs.private.Followed.{multiplied_in}
 use Rattle.frames.specs.LaneFrames.{GoesTo}
 use Rattle.frames.proofs.LaneFrameLaws.{no_term, times-more, times-none}
 use Rattle.std.proofs.lemmas.List.Elements.{All-get_or}
@@ -28,6 +27,6 @@ loop-left-preserved g c =
     record {
       within = omega (arith, c.loop-left.invariant.within);
       so_far = times-more n terms i c.args.runs c.args.self.now c.loop-left.self c.times.new.self refl (omega (arith, c.loop-left.invariant.within))
-          (subst (λ k. GoesTo c.args.self.now c.loop-left.self (λ j v. record v { word = multiplied (lane_bit j c.args.runs) (word_of_terms n (drop k terms)) v.word })) here c.loop-left.invariant.so_far)
+          (subst (λ k. GoesTo c.args.self.now c.loop-left.self (multiplied_in c.args.runs (word_of_terms n (drop k terms)))) here c.loop-left.invariant.so_far)
           c.times.ensures;
     }

@@ -2,10 +2,12 @@ use Rattle.std.proofs.Common.{length}
 use Rattle.gate_table.specs.Images.{inverse_of}
 use Rattle.gate_table.specs.WordImages.{preimage_at_two}
 use Rattle.gate_table.proofs.GateGroups.{image_at_two_keeps}
-use Rattle.tableau.specs.private.EncodingSteps.{after_two}
+use Rattle.tableau.specs.Rows.{state_of}
 use Rattle.tableau.proofs.EncodingGates.{two_encodes}
-use Rattle.tableau.proofs.KeptRows.{inside, step_tableau, step_long, step_count, step_state}
+use Rattle.tableau.proofs.KeptRows.{Keeps, inside, moves}
+use Rattle.tableau.proofs.tableau.Tableau.apply_two.Given.{Over}
 use Rattle.tableau.proofs.tableau.Tableau.apply_two.Goals as goal
+use Rattle.tableau.proofs.tableau.Tableau.apply_two.Goals.{After-apply_two}
 
 pub apply_two-requires-clause-first_inside : goal.apply_two-requires-clause-first_inside
 apply_two-requires-clause-first_inside g c = inside c.self.inside.rows.items c.args.self.now c.self.invariant.0 c.self.view_is c.args.a c.requires.first_inside
@@ -13,15 +15,24 @@ apply_two-requires-clause-first_inside g c = inside c.self.inside.rows.items c.a
 pub apply_two-requires-clause-second_inside : goal.apply_two-requires-clause-second_inside
 apply_two-requires-clause-second_inside g c = inside c.self.inside.rows.items c.args.self.now c.self.invariant.0 c.self.view_is c.args.b c.requires.second_inside
 
+-- what the new rows owe
+keeps : (g : Over) (c : After-apply_two g) → Keeps (length c.self.inside.rows.items) c.args.self.now c.apply_two.new.rows.items (λ p. state_of c.args.self.now (preimage_at_two c.args.gate c.args.a c.args.b p))
+keeps g c =
+    let rows = c.self.inside.rows.items in
+    let is = c.self.invariant.0 in
+    let first = inside rows c.args.self.now is c.self.view_is c.args.a c.requires.first_inside in
+    let second = inside rows c.args.self.now is c.self.view_is c.args.b c.requires.second_inside in
+    moves rows c.args.self.now is c.self.view_is c.apply_two.new.rows.items _ (preimage_at_two c.args.gate c.args.a c.args.b)
+    (image_at_two_keeps (length rows) (inverse_of c.args.gate) c.args.a c.args.b first second c.requires.differ).size
+    (two_encodes (length rows) rows is c.args.gate c.args.a c.args.b first second c.requires.differ) c.apply_two.ensures.rows
+
 pub invariant_of-self : goal.invariant_of-self
-invariant_of-self g c = (
-  step_tableau c.self.inside.rows.items c.args.self.now c.self.invariant.0 c.self.view_is c.apply_two.new.rows.items (after_two (length c.self.inside.rows.items) c.args.gate c.args.a c.args.b c.self.inside.rows.items) (preimage_at_two c.args.gate c.args.a c.args.b) (image_at_two_keeps (length c.self.inside.rows.items) (inverse_of c.args.gate) c.args.a c.args.b (inside c.self.inside.rows.items c.args.self.now c.self.invariant.0 c.self.view_is c.args.a c.requires.first_inside) (inside c.self.inside.rows.items c.args.self.now c.self.invariant.0 c.self.view_is c.args.b c.requires.second_inside) c.requires.differ).size (two_encodes (length c.self.inside.rows.items) c.self.inside.rows.items c.self.invariant.0 c.args.gate c.args.a c.args.b (inside c.self.inside.rows.items c.args.self.now c.self.invariant.0 c.self.view_is c.args.a c.requires.first_inside) (inside c.self.inside.rows.items c.args.self.now c.self.invariant.0 c.self.view_is c.args.b c.requires.second_inside) c.requires.differ) c.apply_two.ensures.rows,
-  step_long c.self.inside.rows.items c.args.self.now c.self.invariant.0 c.self.view_is c.apply_two.new.rows.items (after_two (length c.self.inside.rows.items) c.args.gate c.args.a c.args.b c.self.inside.rows.items) (preimage_at_two c.args.gate c.args.a c.args.b) (image_at_two_keeps (length c.self.inside.rows.items) (inverse_of c.args.gate) c.args.a c.args.b (inside c.self.inside.rows.items c.args.self.now c.self.invariant.0 c.self.view_is c.args.a c.requires.first_inside) (inside c.self.inside.rows.items c.args.self.now c.self.invariant.0 c.self.view_is c.args.b c.requires.second_inside) c.requires.differ).size (two_encodes (length c.self.inside.rows.items) c.self.inside.rows.items c.self.invariant.0 c.args.gate c.args.a c.args.b (inside c.self.inside.rows.items c.args.self.now c.self.invariant.0 c.self.view_is c.args.a c.requires.first_inside) (inside c.self.inside.rows.items c.args.self.now c.self.invariant.0 c.self.view_is c.args.b c.requires.second_inside) c.requires.differ) c.apply_two.ensures.rows c.apply_two.new.first c.apply_two.ensures.first,
-  step_long c.self.inside.rows.items c.args.self.now c.self.invariant.0 c.self.view_is c.apply_two.new.rows.items (after_two (length c.self.inside.rows.items) c.args.gate c.args.a c.args.b c.self.inside.rows.items) (preimage_at_two c.args.gate c.args.a c.args.b) (image_at_two_keeps (length c.self.inside.rows.items) (inverse_of c.args.gate) c.args.a c.args.b (inside c.self.inside.rows.items c.args.self.now c.self.invariant.0 c.self.view_is c.args.a c.requires.first_inside) (inside c.self.inside.rows.items c.args.self.now c.self.invariant.0 c.self.view_is c.args.b c.requires.second_inside) c.requires.differ).size (two_encodes (length c.self.inside.rows.items) c.self.inside.rows.items c.self.invariant.0 c.args.gate c.args.a c.args.b (inside c.self.inside.rows.items c.args.self.now c.self.invariant.0 c.self.view_is c.args.a c.requires.first_inside) (inside c.self.inside.rows.items c.args.self.now c.self.invariant.0 c.self.view_is c.args.b c.requires.second_inside) c.requires.differ) c.apply_two.ensures.rows c.apply_two.new.second c.apply_two.ensures.second,
-)
+invariant_of-self g c =
+    let kept = keeps g (goal.at.invariant_of-self g c).After-apply_two in
+    (kept.tableau, kept.long _ c.apply_two.ensures.first, kept.long _ c.apply_two.ensures.second)
 
 pub returns-clause-len : goal.returns-clause-len
-returns-clause-len g c = step_count c.self.inside.rows.items c.args.self.now c.self.invariant.0 c.self.view_is c.apply_two.new.rows.items (after_two (length c.self.inside.rows.items) c.args.gate c.args.a c.args.b c.self.inside.rows.items) (preimage_at_two c.args.gate c.args.a c.args.b) (image_at_two_keeps (length c.self.inside.rows.items) (inverse_of c.args.gate) c.args.a c.args.b (inside c.self.inside.rows.items c.args.self.now c.self.invariant.0 c.self.view_is c.args.a c.requires.first_inside) (inside c.self.inside.rows.items c.args.self.now c.self.invariant.0 c.self.view_is c.args.b c.requires.second_inside) c.requires.differ).size (two_encodes (length c.self.inside.rows.items) c.self.inside.rows.items c.self.invariant.0 c.args.gate c.args.a c.args.b (inside c.self.inside.rows.items c.args.self.now c.self.invariant.0 c.self.view_is c.args.a c.requires.first_inside) (inside c.self.inside.rows.items c.args.self.now c.self.invariant.0 c.self.view_is c.args.b c.requires.second_inside) c.requires.differ) c.apply_two.ensures.rows
+returns-clause-len g c = (keeps g (goal.at.returns-clause-len g c).After-apply_two).len
 
 pub returns-clause-state : goal.returns-clause-state
-returns-clause-state g c = step_state c.self.inside.rows.items c.args.self.now c.self.invariant.0 c.self.view_is c.apply_two.new.rows.items (after_two (length c.self.inside.rows.items) c.args.gate c.args.a c.args.b c.self.inside.rows.items) (preimage_at_two c.args.gate c.args.a c.args.b) (image_at_two_keeps (length c.self.inside.rows.items) (inverse_of c.args.gate) c.args.a c.args.b (inside c.self.inside.rows.items c.args.self.now c.self.invariant.0 c.self.view_is c.args.a c.requires.first_inside) (inside c.self.inside.rows.items c.args.self.now c.self.invariant.0 c.self.view_is c.args.b c.requires.second_inside) c.requires.differ).size (two_encodes (length c.self.inside.rows.items) c.self.inside.rows.items c.self.invariant.0 c.args.gate c.args.a c.args.b (inside c.self.inside.rows.items c.args.self.now c.self.invariant.0 c.self.view_is c.args.a c.requires.first_inside) (inside c.self.inside.rows.items c.args.self.now c.self.invariant.0 c.self.view_is c.args.b c.requires.second_inside) c.requires.differ) c.apply_two.ensures.rows
+returns-clause-state g c = (keeps g (goal.at.returns-clause-state g c).After-apply_two).state_is

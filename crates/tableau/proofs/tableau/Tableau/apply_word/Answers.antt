@@ -1,21 +1,31 @@
-use Rattle.std.proofs.Common.{length, sym, ◌∙◌}
-use Rattle.tableau.specs.private.EncodingSteps.{after_word}
+use Rattle.std.proofs.Common.{true, length, sym, ◌∙◌}
+use Rattle.pauli_word.specs.States.{applied}
+use Rattle.tableau.specs.Rows.{state_of}
 use Rattle.tableau.proofs.EncodingGates.{word_map, word_encodes}
-use Rattle.tableau.proofs.KeptRows.{kept_size, step_tableau, step_long, step_count, step_state}
+use Rattle.tableau.proofs.KeptRows.{Keeps, kept_size, moves}
+use Rattle.tableau.proofs.tableau.Tableau.apply_word.Given.{Over}
 use Rattle.tableau.proofs.tableau.Tableau.apply_word.Goals as goal
+use Rattle.tableau.proofs.tableau.Tableau.apply_word.Goals.{After-apply_letters}
 
 pub apply_letters-requires : goal.apply_letters-requires
 apply_letters-requires g c = c.requires ∙ sym (kept_size c.self.inside.rows.items c.args.self.now c.self.invariant.0 c.self.view_is)
 
+-- what the new rows owe
+keeps : (g : Over) (c : After-apply_letters g) → Keeps (length c.self.inside.rows.items) c.args.self.now c.apply_letters.new.rows.items (applied true c.args.word.now.letters (state_of c.args.self.now))
+keeps g c =
+    let rows = c.self.inside.rows.items in
+    let is = c.self.invariant.0 in
+    let w = c.args.word.now.letters in
+    moves rows c.args.self.now is c.self.view_is c.apply_letters.new.rows.items _ (word_map w) (λ p h. h)
+    (word_encodes (length rows) rows is w (c.requires ∙ sym (kept_size rows c.args.self.now is c.self.view_is))) c.apply_letters.ensures
+
 pub invariant_of-self : goal.invariant_of-self
-invariant_of-self g c = (
-  step_tableau c.self.inside.rows.items c.args.self.now c.self.invariant.0 c.self.view_is c.apply_letters.new.rows.items (after_word c.args.word.now.letters c.self.inside.rows.items) (word_map c.args.word.now.letters) (λ p h. h) (word_encodes (length c.self.inside.rows.items) c.self.inside.rows.items c.self.invariant.0 c.args.word.now.letters (c.requires ∙ sym (kept_size c.self.inside.rows.items c.args.self.now c.self.invariant.0 c.self.view_is))) c.apply_letters.ensures,
-  step_long c.self.inside.rows.items c.args.self.now c.self.invariant.0 c.self.view_is c.apply_letters.new.rows.items (after_word c.args.word.now.letters c.self.inside.rows.items) (word_map c.args.word.now.letters) (λ p h. h) (word_encodes (length c.self.inside.rows.items) c.self.inside.rows.items c.self.invariant.0 c.args.word.now.letters (c.requires ∙ sym (kept_size c.self.inside.rows.items c.args.self.now c.self.invariant.0 c.self.view_is))) c.apply_letters.ensures c.self.inside.first c.self.invariant.1,
-  step_long c.self.inside.rows.items c.args.self.now c.self.invariant.0 c.self.view_is c.apply_letters.new.rows.items (after_word c.args.word.now.letters c.self.inside.rows.items) (word_map c.args.word.now.letters) (λ p h. h) (word_encodes (length c.self.inside.rows.items) c.self.inside.rows.items c.self.invariant.0 c.args.word.now.letters (c.requires ∙ sym (kept_size c.self.inside.rows.items c.args.self.now c.self.invariant.0 c.self.view_is))) c.apply_letters.ensures c.self.inside.second c.self.invariant.2,
-)
+invariant_of-self g c =
+    let kept = keeps g (goal.at.invariant_of-self g c).After-apply_letters in
+    (kept.tableau, kept.long _ c.self.invariant.1, kept.long _ c.self.invariant.2)
 
 pub returns-clause-len : goal.returns-clause-len
-returns-clause-len g c = step_count c.self.inside.rows.items c.args.self.now c.self.invariant.0 c.self.view_is c.apply_letters.new.rows.items (after_word c.args.word.now.letters c.self.inside.rows.items) (word_map c.args.word.now.letters) (λ p h. h) (word_encodes (length c.self.inside.rows.items) c.self.inside.rows.items c.self.invariant.0 c.args.word.now.letters (c.requires ∙ sym (kept_size c.self.inside.rows.items c.args.self.now c.self.invariant.0 c.self.view_is))) c.apply_letters.ensures
+returns-clause-len g c = (keeps g (goal.at.returns-clause-len g c).After-apply_letters).len
 
 pub returns-clause-state : goal.returns-clause-state
-returns-clause-state g c = step_state c.self.inside.rows.items c.args.self.now c.self.invariant.0 c.self.view_is c.apply_letters.new.rows.items (after_word c.args.word.now.letters c.self.inside.rows.items) (word_map c.args.word.now.letters) (λ p h. h) (word_encodes (length c.self.inside.rows.items) c.self.inside.rows.items c.self.invariant.0 c.args.word.now.letters (c.requires ∙ sym (kept_size c.self.inside.rows.items c.args.self.now c.self.invariant.0 c.self.view_is))) c.apply_letters.ensures
+returns-clause-state g c = (keeps g (goal.at.returns-clause-state g c).After-apply_letters).state_is

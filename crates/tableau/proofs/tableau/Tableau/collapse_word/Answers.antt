@@ -1,37 +1,51 @@
-use Rattle.std.proofs.Common.{sym, ◌∙◌}
-use Rattle.tableau.proofs.KeptRows.{kept_size, new_tableau, still_long, new_count, code_long, outcome_owed, collapsed_tableau, collapsed_state, decided_owed, random_owed, replaced_owed}
+use Rattle.std.proofs.Common.{◌≡◌, length, sym, ◌∙◌}
+use Rattle.tableau.proofs.KeptRows.{Collapses, kept_size, code_long, collapses}
+use Rattle.tableau.proofs.tableau.Tableau.collapse_word.Given.{Over}
 use Rattle.tableau.proofs.tableau.Tableau.collapse_word.Goals as goal
+use Rattle.tableau.proofs.tableau.Tableau.collapse_word.Goals.{After-encode, After-collapse_code}
 
 pub encode-requires-clause-word : goal.encode-requires-clause-word
 encode-requires-clause-word g c = c.requires ∙ sym (kept_size c.self.inside.rows.items c.args.self.now c.self.invariant.0 c.self.view_is)
 
+size : (g : Over) (c : After-encode g) → length c.args.word.now.letters ≡ length c.self.inside.rows.items
+size g c = c.requires ∙ sym (kept_size c.self.inside.rows.items c.args.self.now c.self.invariant.0 c.self.view_is)
+
 pub collapse_code-requires-clause-word : goal.collapse_code-requires-clause-word
-collapse_code-requires-clause-word g c = c.requires ∙ sym (kept_size c.self.inside.rows.items c.args.self.now c.self.invariant.0 c.self.view_is)
+collapse_code-requires-clause-word g c = size g (goal.at.collapse_code-requires-clause-word g c).After-encode
 
 pub collapse_code-requires-clause-code : goal.collapse_code-requires-clause-code
-collapse_code-requires-clause-code g c = record { x = code_long c.self.inside.rows.items c.args.self.now c.self.invariant.0 c.self.view_is c.args.word.now.letters c.args.coin (c.requires ∙ sym (kept_size c.self.inside.rows.items c.args.self.now c.self.invariant.0 c.self.view_is)) c.encode.new.code c.encode.ensures; z = c.self.invariant.1.z }
+collapse_code-requires-clause-code g c =
+    let here = (goal.at.collapse_code-requires-clause-code g c).After-encode in
+    record {
+      x = code_long c.self.inside.rows.items c.args.self.now c.self.invariant.0 c.self.view_is c.args.word.now.letters c.args.coin (size g here) c.encode.new.code c.encode.ensures;
+      z = c.self.invariant.1.z;
+    }
+
+-- what the collapse owes
+owed : (g : Over) (c : After-collapse_code g) → Collapses (length c.self.inside.rows.items) c.args.self.now c.collapse_code.new.rows.items c.args.word.now.letters c.args.coin c.collapse_code.result.0 c.collapse_code.result.1
+owed g c =
+    collapses c.self.inside.rows.items c.args.self.now c.self.invariant.0 c.self.view_is c.args.word.now.letters c.args.coin (c.requires ∙ sym (kept_size c.self.inside.rows.items c.args.self.now c.self.invariant.0 c.self.view_is)) c.encode.new.code c.encode.ensures
+    c.collapse_code.new.rows.items c.collapse_code.ensures.rows c.collapse_code.result.0 c.collapse_code.ensures.outcome c.collapse_code.result.1 c.collapse_code.ensures.row
 
 pub invariant_of-self : goal.invariant_of-self
-invariant_of-self g c = (
-  new_tableau c.self.inside.rows.items c.args.self.now c.self.invariant.0 c.self.view_is c.collapse_code.new.rows.items (collapsed_tableau c.self.inside.rows.items c.args.self.now c.self.invariant.0 c.self.view_is c.args.word.now.letters c.args.coin (c.requires ∙ sym (kept_size c.self.inside.rows.items c.args.self.now c.self.invariant.0 c.self.view_is)) c.encode.new.code c.encode.ensures c.collapse_code.new.rows.items c.collapse_code.ensures.rows),
-  still_long c.self.inside.rows.items c.args.self.now c.self.invariant.0 c.self.view_is c.collapse_code.new.rows.items (collapsed_tableau c.self.inside.rows.items c.args.self.now c.self.invariant.0 c.self.view_is c.args.word.now.letters c.args.coin (c.requires ∙ sym (kept_size c.self.inside.rows.items c.args.self.now c.self.invariant.0 c.self.view_is)) c.encode.new.code c.encode.ensures c.collapse_code.new.rows.items c.collapse_code.ensures.rows) c.collapse_code.new.code c.collapse_code.ensures.code,
-  still_long c.self.inside.rows.items c.args.self.now c.self.invariant.0 c.self.view_is c.collapse_code.new.rows.items (collapsed_tableau c.self.inside.rows.items c.args.self.now c.self.invariant.0 c.self.view_is c.args.word.now.letters c.args.coin (c.requires ∙ sym (kept_size c.self.inside.rows.items c.args.self.now c.self.invariant.0 c.self.view_is)) c.encode.new.code c.encode.ensures c.collapse_code.new.rows.items c.collapse_code.ensures.rows) c.self.inside.second c.self.invariant.2,
-)
+invariant_of-self g c =
+    let kept = (owed g (goal.at.invariant_of-self g c).After-collapse_code).keeps in
+    (kept.tableau, kept.long _ c.collapse_code.ensures.code, kept.long _ c.self.invariant.2)
 
 pub returns-clause-len : goal.returns-clause-len
-returns-clause-len g c = new_count c.self.inside.rows.items c.args.self.now c.self.invariant.0 c.self.view_is c.collapse_code.new.rows.items (collapsed_tableau c.self.inside.rows.items c.args.self.now c.self.invariant.0 c.self.view_is c.args.word.now.letters c.args.coin (c.requires ∙ sym (kept_size c.self.inside.rows.items c.args.self.now c.self.invariant.0 c.self.view_is)) c.encode.new.code c.encode.ensures c.collapse_code.new.rows.items c.collapse_code.ensures.rows)
+returns-clause-len g c = (owed g (goal.at.returns-clause-len g c).After-collapse_code).keeps.len
 
 pub returns-clause-outcome : goal.returns-clause-outcome
-returns-clause-outcome g c = outcome_owed c.self.inside.rows.items c.args.self.now c.self.invariant.0 c.self.view_is c.args.word.now.letters c.args.coin (c.requires ∙ sym (kept_size c.self.inside.rows.items c.args.self.now c.self.invariant.0 c.self.view_is)) c.encode.new.code c.encode.ensures c.collapse_code.result.0 c.collapse_code.ensures.outcome
+returns-clause-outcome g c = (owed g (goal.at.returns-clause-outcome g c).After-collapse_code).outcome_is
 
 pub returns-clause-state : goal.returns-clause-state
-returns-clause-state g c = collapsed_state c.self.inside.rows.items c.args.self.now c.self.invariant.0 c.self.view_is c.args.word.now.letters c.args.coin (c.requires ∙ sym (kept_size c.self.inside.rows.items c.args.self.now c.self.invariant.0 c.self.view_is)) c.encode.new.code c.encode.ensures c.collapse_code.new.rows.items c.collapse_code.ensures.rows
+returns-clause-state g c = (owed g (goal.at.returns-clause-state g c).After-collapse_code).keeps.state_is
 
 pub returns-clause-decided : goal.returns-clause-decided
-returns-clause-decided g c = decided_owed c.self.inside.rows.items c.args.self.now c.self.invariant.0 c.self.view_is c.args.word.now.letters c.args.coin (c.requires ∙ sym (kept_size c.self.inside.rows.items c.args.self.now c.self.invariant.0 c.self.view_is)) c.encode.new.code c.encode.ensures c.collapse_code.new.rows.items c.collapse_code.ensures.rows c.collapse_code.result.1 c.collapse_code.ensures.row
+returns-clause-decided g c = (owed g (goal.at.returns-clause-decided g c).After-collapse_code).decided
 
 pub returns-clause-random : goal.returns-clause-random
-returns-clause-random g c = random_owed c.self.inside.rows.items c.args.self.now c.self.invariant.0 c.self.view_is c.args.word.now.letters c.args.coin (c.requires ∙ sym (kept_size c.self.inside.rows.items c.args.self.now c.self.invariant.0 c.self.view_is)) c.encode.new.code c.encode.ensures c.collapse_code.new.rows.items c.collapse_code.ensures.rows c.collapse_code.result.1 c.collapse_code.ensures.row
+returns-clause-random g c = (owed g (goal.at.returns-clause-random g c).After-collapse_code).random
 
 pub returns-clause-replaced : goal.returns-clause-replaced
-returns-clause-replaced g c = replaced_owed c.self.inside.rows.items c.args.self.now c.self.invariant.0 c.self.view_is c.args.word.now.letters c.args.coin (c.requires ∙ sym (kept_size c.self.inside.rows.items c.args.self.now c.self.invariant.0 c.self.view_is)) c.encode.new.code c.encode.ensures c.collapse_code.new.rows.items c.collapse_code.ensures.rows c.collapse_code.result.1 c.collapse_code.ensures.row
+returns-clause-replaced g c = (owed g (goal.at.returns-clause-replaced g c).After-collapse_code).replaced

@@ -1,7 +1,7 @@
 use Rattle.std.proofs.Common.{◌<◌, true, false, length, sym, ◌∙◌, arith}
 use Rattle.plain_runs.proofs.RunFacts.{collapses-more}
-use Rattle.plain_runs.proofs.runs.collapses_before.Goals as goal
-use Rattle.plain_runs.proofs.runs.collapses_before.Goals.{then-is_collapse, else-is_collapse}
+use Rattle.plain_runs.proofs.given.collapses_before.Goals as goal
+use Rattle.plain_runs.proofs.given.collapses_before.Goals.{then-is_collapse, else-is_collapse}
 
 pub loop-step-preserved : goal.loop-step-preserved
 loop-step-preserved g c =

@@ -1,6 +1,6 @@
 use Rattle.std.proofs.Common.{◌≡◌, ◌≤◌, take}
 use Rattle.step_model.specs.WellFormed.{collapse_count}
-use Rattle.plain_runs.proofs.runs.collapses_before.Given as goal
+use Rattle.plain_runs.proofs.given.collapses_before.Given as goal
 
 abbrev pub invariant-loop-step : goal.invariant-loop-step
 invariant-loop-step g l =

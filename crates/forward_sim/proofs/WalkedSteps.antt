@@ -1,15 +1,28 @@
--- What a walk says of the step that it went over.
-use Rattle.std.proofs.Common.{◌≡◌, ℕ, ◌+◌, ◌-◌, ◌<◌, nat_lt, true, false, inl, inr, List, [], ◌∷◌, length, drop, None, Some, sym, ◌∙◌, arith}
+-- What a walk says of the step that it went over, and at the end of the program.
+use Rattle.std.proofs.Common.{◌≡◌, ℕ, ◌+◌, ◌-◌, ◌<◌, nat_lt, true, false, inl, inr, List, [], ◌∷◌, length, drop, None, Some, sym, ap, ◌∙◌, arith}
 use Rattle.std.specs.Prelude.{slice_get, option_map, if◌then◌else◌}
 use Rattle.std.proofs.lemmas.Bool.{cases_Bool, lt-ltb, ltb-true}
-use Rattle.std.proofs.lemmas.Option.{none-some, slice_get_within, slice_get-get_or}
+use Rattle.std.proofs.lemmas.List.{drop_more, drop_all}
+use Rattle.std.proofs.lemmas.Option.{none-some, slice_get_cases, slice_get_within, slice_get-get_or, get_or_from_slice_get}
 use Rattle.programs.specs.declared.step.Step.{Step}
 use Rattle.programs.specs.Kept.{KeptProgram}
 use Rattle.programs.specs.Listed.{listed}
 use Rattle.programs.specs.Named.{IsStepOf}
 use Rattle.programs.specs.Walks.{Walked}
 use Rattle.step_model.specs.Listing.{ListedStep, Fault}
-use Rattle.frames.proofs.Passing.{drop-step, drop-no_step}
+
+-- the step at a place stands first in what is left
+drop-step : (steps : List ListedStep) (place : ℕ) (step : ListedStep) → slice_get steps place ≡ Some step → drop place steps ≡ step ∷ drop (place + 1) steps
+drop-step steps place step here =
+    drop_more steps place step (slice_get_within steps place step here)
+    ∙ ap (λ s. s ∷ drop (place + 1) steps) (get_or_from_slice_get steps place step step here)
+
+-- past the end nothing is left
+drop-no_step : (steps : List ListedStep) (place : ℕ) → None ≡ slice_get steps place → drop place steps ≡ []
+drop-no_step steps place none = elim (slice_get_cases steps place).1 [
+  | inl within ↦ cc
+  | inr over ↦ drop_all place steps over.0
+]
 
 -- a walk over a program went over a step
 pub record GoesOver (program : KeptProgram) (old new : Walked) (s : Step) : Type 0 where
@@ -39,6 +52,10 @@ goes_over program old new s is step named program_is place =
       smaller = omega arith;
     }
 
+-- a walk over a program found no step more
+pub nothing_left : (program : KeptProgram) (old : Walked) → old.program ≡ program → None ≡ slice_get old.program.listing.steps old.place → drop old.place program.listing.steps ≡ []
+nothing_left program old is none = drop-no_step program.listing.steps old.place (rw is at none)
+
 past_end : (steps : List ListedStep) (k : ℕ) → None ≡ slice_get steps k → nat_lt k (length steps) ≡ false
 past_end steps k none =
     elim (cases_Bool (nat_lt k (length steps))) [
@@ -46,7 +63,7 @@ past_end steps k none =
       | inr past ↦ past
     ]
 
--- a walk over a program found no step more
+-- and stays where it was
 pub record Rests (program : KeptProgram) (old new : Walked) : Type 0 where
   pub left : drop old.place program.listing.steps ≡ []
   pub place : new.place ≡ old.place
@@ -60,7 +77,7 @@ rests program old new is none program_is place =
     let here : None ≡ slice_get program.listing.steps old.place = rw is at none in
     let past : nat_lt old.place (length program.listing.steps) ≡ false = past_end program.listing.steps old.place here in
     record {
-      left = drop-no_step program.listing.steps old.place (sym here);
+      left = nothing_left program old is none;
       place = rw (is, past) at place;
       program_is = program_is ∙ is;
     }
