@@ -1,14 +1,19 @@
 -- Drawing into one lane: into no word, into one, and into spans that meet; and what the lanes then are.
 use Rattle.std.proofs.Common.{◌≡◌, ℕ, zero, suc, ◌+◌, ◌<◌, ◌≤◌, Bool, true, false, cond, eqb, List, length, get_or, set, map, replicate, length-set, refl, sym, ap, ap₂, ◌∙◌, arith, ⊎_elim, get_or-set_same, get_or-set_other}
-use Rattle.std.specs.Prelude.{◌≢◌, ◌&&◌, ◌||◌, ◌∷◌}
+use Rattle.std.specs.Prelude.{◌≢◌, ◌-◌, ◌%◌, ◌==◌, ◌&&◌, ◌||◌, ◌∷◌, nat_le, nat_lt}
+use Rattle.std.proofs.Math.Bool.{or-true}
 use Rattle.std.specs.List.{range_with_len}
-use Rattle.std.proofs.lemmas.Bool.{cases_lt, cases_eq, le-ltb, lt-ltb, eq-eqb, ne_eqb}
+use Rattle.std.proofs.lemmas.Bool.{cases_lt, cases_eq, le-leb, le-ltb, lt-leb, lt-ltb, eq-eqb, ne_eqb}
 use Rattle.std.proofs.lemmas.List.{ext_get_or, get_or-map, length-map, get_or-replicate}
 use Rattle.std.proofs.lemmas.List.FromFn.{get_or-map-range_with_len, length-map-range_with_len}
 use Rattle.rand_pcg.specs.Lcg.{Lcg}
 use Rattle.bit_rows.specs.Lanes.{lane, lane_bit}
 use Rattle.bit_rows.proofs.LaneLaws.{lane_bit-zero}
+use Rattle.forward_sim.specs.declared.span.Span.{Span}
+use Rattle.forward_sim.specs.Drawn.{after_words}
+use Rattle.forward_sim.specs.Shots.{is_tossed}
 use Rattle.forward_sim.specs.private.LaneDraws.{DrawsInto, coin_hits, toss_hits}
+use Rattle.forward_sim.proofs.RunLemmas.{word_behind}
 
 pub draws_nothing : (j start : ℕ) (hits : ℕ → Bool) (words : List ℕ) → DrawsInto j start start hits words words
 draws_nothing j start hits words =
@@ -21,12 +26,12 @@ draws_nothing j start hits words =
     }
 
 -- no word of a span where nothing is true
-pub draws_missed : (j start end : ℕ) (hits : ℕ → Bool) (words : List ℕ) → ((k : ℕ) → start ≤ k → hits k ≡ false) → DrawsInto j start end hits words words
+pub draws_missed : (j start end : ℕ) (hits : ℕ → Bool) (words : List ℕ) → ((k : ℕ) → start ≤ k → k < end → hits k ≡ false) → DrawsInto j start end hits words words
 draws_missed j start end hits words none =
     record {
       size = refl;
       below = λ k h. refl;
-      inside = λ k h l. sym (ap (λ b. b || lane_bit j (get_or words k 0)) (none k h));
+      inside = λ k h l. sym (ap (λ b. b || lane_bit j (get_or words k 0)) (none k h l));
       above = λ k h. refl;
       others = λ i k h. refl;
     }
@@ -85,13 +90,37 @@ draws_one j at truth words word within put =
           (cases_eq k at);
     }
 
--- the first coins, and then those that stay 0
-pub coins_drawn : (j tossed : ℕ) (g : Lcg) (old new : List ℕ) → tossed ≤ length old → DrawsInto j 0 tossed (toss_hits g) old new
-    → DrawsInto j 0 (length old) (coin_hits tossed g) old new
-coins_drawn j tossed g old new within draws =
-    draws_joined j 0 tossed (length old) (coin_hits tossed g) old new new (omega arith) within
-    (draws_like j 0 tossed (toss_hits g) (coin_hits tossed g) old new (λ k low high. sym (ap (λ b. b && toss_hits g k) (lt-ltb k tossed high))) draws)
-    (draws_missed j tossed (length old) (coin_hits tossed g) new (λ k low. ap (λ b. b && toss_hits g k) (le-ltb k tossed low)))
+-- coins that are tossed, and those that are passed over
+pub is_tossed-before : (passed : Span) (k : ℕ) → k < passed.start → is_tossed passed k ≡ true
+is_tossed-before passed k before = ap (λ b. b || nat_le passed.end k) (lt-ltb k passed.start before)
+
+pub is_tossed-behind : (passed : Span) (k : ℕ) → passed.end ≤ k → is_tossed passed k ≡ true
+is_tossed-behind passed k behind = ap (λ b. nat_lt k passed.start || b) (le-leb passed.end k behind) ∙ or-true (nat_lt k passed.start)
+
+pub tossed-first : (passed : Span) (g : Lcg) (k : ℕ) → k < passed.start → toss_hits g (k - 0) ≡ coin_hits passed g k
+tossed-first passed g k high =
+    let same : k - 0 ≡ k = omega arith in
+    ap (toss_hits g) same ∙ sym (ap (λ b. b && toss_hits g k) (is_tossed-before passed k high))
+
+pub tossed-last : (passed : Span) (g from : Lcg) (k : ℕ) → from ≡ after_words passed.end g → passed.end ≤ k → toss_hits from (k - passed.end) ≡ coin_hits passed g k
+tossed-last passed g from k at low =
+    ap (λ w. w % 2 == 1) (word_behind g from passed.end k low at)
+    ∙ sym (ap (λ b. b && toss_hits g k) (is_tossed-behind passed k low))
+
+pub passed-between : (passed : Span) (g : Lcg) (k : ℕ) → passed.start ≤ k → k < passed.end → coin_hits passed g k ≡ false
+passed-between passed g k low high = ap₂ (λ a b. (a || b) && toss_hits g k) (le-ltb k passed.start low) (lt-leb passed.end k high)
+
+pub coins_drawn : (j : ℕ) (passed : Span) (g from : Lcg) (old middle new : List ℕ) → passed.start ≤ passed.end → passed.end ≤ length old → from ≡ after_words passed.end g
+    → DrawsInto j 0 passed.start (λ c. toss_hits g (c - 0)) old middle
+    → DrawsInto j passed.end (length old) (λ c. toss_hits from (c - passed.end)) middle new
+    → DrawsInto j 0 (length old) (coin_hits passed g) old new
+coins_drawn j passed g from old middle new order within at first last =
+    let hits = coin_hits passed g in
+    draws_joined j 0 passed.end (length old) hits old middle new (omega arith) within
+    (draws_joined j 0 passed.start passed.end hits old middle middle (omega arith) order
+    (draws_like j 0 passed.start (λ c. toss_hits g (c - 0)) hits old middle (λ k low high. tossed-first passed g k high) first)
+    (draws_missed j passed.start passed.end hits middle (passed-between passed g)))
+    (draws_like j passed.end (length old) (λ c. toss_hits from (c - passed.end)) hits middle new (λ k low high. tossed-last passed g from k at low) last)
 
 -- a word whose lane is set
 pub draws_hit : (j at : ℕ) (truth : Bool) (words : List ℕ) (word : ℕ) → at < length words → truth ≡ true

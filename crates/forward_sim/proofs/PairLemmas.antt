@@ -1,13 +1,15 @@
 -- Drawing into two lanes at once: into no word, into one, and into spans that meet; and what the lanes then are.
 use Rattle.std.proofs.Common.{◌≡◌, ℕ, ◌<◌, ◌≤◌, Bool, false, List, length, get_or, map, replicate, refl, sym, ap, ◌∙◌, arith, ⊎_elim}
-use Rattle.std.specs.Prelude.{◌≢◌, ◌&&◌, ◌||◌}
+use Rattle.std.specs.Prelude.{◌≢◌, ◌-◌, ◌||◌}
 use Rattle.std.specs.List.{range_with_len}
-use Rattle.std.proofs.lemmas.Bool.{cases_lt, le-ltb, lt-ltb}
+use Rattle.std.proofs.lemmas.Bool.{cases_lt}
 use Rattle.rand_pcg.specs.Lcg.{Lcg}
 use Rattle.bit_rows.specs.Lanes.{lane, lane_bit}
+use Rattle.forward_sim.specs.declared.span.Span.{Span}
+use Rattle.forward_sim.specs.Drawn.{after_words}
 use Rattle.forward_sim.specs.private.LaneDraws.{DrawsInto, coin_hits, toss_hits}
 use Rattle.forward_sim.specs.private.PairDraws.{DrawsIntoBoth}
-use Rattle.forward_sim.proofs.LaneLemmas.{lane_filled, lane_same}
+use Rattle.forward_sim.proofs.LaneLemmas.{lane_filled, lane_same, passed-between, tossed-first, tossed-last}
 
 pub both_nothing : (i j start : ℕ) (hits other_hits : ℕ → Bool) (words : List ℕ) → DrawsIntoBoth i j start start hits other_hits words words
 both_nothing i j start hits other_hits words =
@@ -21,14 +23,14 @@ both_nothing i j start hits other_hits words =
     }
 
 -- no word of a span where nothing is true
-pub both_missed : (i j start end : ℕ) (hits other_hits : ℕ → Bool) (words : List ℕ) → ((k : ℕ) → start ≤ k → hits k ≡ false) → ((k : ℕ) → start ≤ k → other_hits k ≡ false)
+pub both_missed : (i j start end : ℕ) (hits other_hits : ℕ → Bool) (words : List ℕ) → ((k : ℕ) → start ≤ k → k < end → hits k ≡ false) → ((k : ℕ) → start ≤ k → k < end → other_hits k ≡ false)
     → DrawsIntoBoth i j start end hits other_hits words words
 both_missed i j start end hits other_hits words none none_other =
     record {
       size = refl;
       below = λ k h. refl;
-      first = λ k h l. sym (ap (λ b. b || lane_bit i (get_or words k 0)) (none k h));
-      second = λ k h l. sym (ap (λ b. b || lane_bit j (get_or words k 0)) (none_other k h));
+      first = λ k h l. sym (ap (λ b. b || lane_bit i (get_or words k 0)) (none k h l));
+      second = λ k h l. sym (ap (λ b. b || lane_bit j (get_or words k 0)) (none_other k h l));
       above = λ k h. refl;
       others = λ l k h m. refl;
     }
@@ -83,16 +85,22 @@ both_like i j start end hits other_hits truths other_truths old new same same_ot
       others = draws.others;
     }
 
--- the first coins, and then those that stay 0
-pub both_coins : (i j tossed : ℕ) (g h : Lcg) (old new : List ℕ) → tossed ≤ length old → DrawsIntoBoth i j 0 tossed (toss_hits g) (toss_hits h) old new
-    → DrawsIntoBoth i j 0 (length old) (coin_hits tossed g) (coin_hits tossed h) old new
-both_coins i j tossed g h old new within draws =
-    let are_tossed : (g : Lcg) (k : ℕ) → 0 ≤ k → k < tossed → toss_hits g k ≡ coin_hits tossed g k =
-    λ g k low high. sym (ap (λ b. b && toss_hits g k) (lt-ltb k tossed high)) in
-    let are_passed : (g : Lcg) (k : ℕ) → tossed ≤ k → coin_hits tossed g k ≡ false = λ g k low. ap (λ b. b && toss_hits g k) (le-ltb k tossed low) in
-    both_joined i j 0 tossed (length old) (coin_hits tossed g) (coin_hits tossed h) old new new (omega arith) within
-    (both_like i j 0 tossed (toss_hits g) (toss_hits h) (coin_hits tossed g) (coin_hits tossed h) old new (are_tossed g) (are_tossed h) draws)
-    (both_missed i j tossed (length old) (coin_hits tossed g) (coin_hits tossed h) new (are_passed g) (are_passed h))
+-- coins that are tossed, and those that are passed over
+pub both_coins : (i j : ℕ) (passed : Span) (g h from other_from : Lcg) (old middle new : List ℕ) → passed.start ≤ passed.end → passed.end ≤ length old
+    → from ≡ after_words passed.end g → other_from ≡ after_words passed.end h
+    → DrawsIntoBoth i j 0 passed.start (λ c. toss_hits g (c - 0)) (λ c. toss_hits h (c - 0)) old middle
+    → DrawsIntoBoth i j passed.end (length old) (λ c. toss_hits from (c - passed.end)) (λ c. toss_hits other_from (c - passed.end)) middle new
+    → DrawsIntoBoth i j 0 (length old) (coin_hits passed g) (coin_hits passed h) old new
+both_coins i j passed g h from other_from old middle new order within at other_at first last =
+    let hits = coin_hits passed g in
+    let other_hits = coin_hits passed h in
+    both_joined i j 0 passed.end (length old) hits other_hits old middle new (omega arith) within
+    (both_joined i j 0 passed.start passed.end hits other_hits old middle middle (omega arith) order
+    (both_like i j 0 passed.start (λ c. toss_hits g (c - 0)) (λ c. toss_hits h (c - 0)) hits other_hits old middle (λ k low high. tossed-first passed g k high) (λ k low high. tossed-first passed h k high) first)
+    (both_missed i j passed.start passed.end hits other_hits middle (passed-between passed g) (passed-between passed h)))
+    (both_like i j passed.end (length old) (λ c. toss_hits from (c - passed.end)) (λ c. toss_hits other_from (c - passed.end)) hits other_hits middle new
+    (λ k low high. tossed-last passed g from k at low)
+    (λ k low high. tossed-last passed h other_from k other_at low) last)
 
 -- lanes that were blank hold what was drawn into them, and the other lanes are as they were
 pub first_drawn : (i j n : ℕ) (hits other_hits : ℕ → Bool) (old new : List ℕ) → length old ≡ n → lane i old ≡ replicate n false

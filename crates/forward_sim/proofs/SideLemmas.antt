@@ -4,6 +4,7 @@ use Rattle.std.proofs.lemmas.Bool.{cases_eq}
 use Rattle.std.proofs.lemmas.List.{length-replicate}
 use Rattle.std.proofs.Math.Nat.{suc-mul}
 use Rattle.rand_pcg.specs.Lcg.{Lcg}
+use Rattle.forward_sim.specs.declared.span.Span.{Span}
 use Rattle.bit_rows.specs.Lanes.{lane}
 use Rattle.forward_sim.specs.Drawn.{after_words, drawn_faults, after_shots}
 use Rattle.forward_sim.specs.private.LaneDraws.{DrawsInto, coin_hits, fault_hits}
@@ -11,9 +12,9 @@ use Rattle.forward_sim.specs.Shots.{AreDrawn, tossed_coins}
 use Rattle.forward_sim.proofs.WordLemmas.{after_words-none, after_words-add}
 use Rattle.forward_sim.proofs.LaneLemmas.{lane_drawn, lane_kept, lane_blank}
 
-pub none_drawn : (tossed : ℕ) (bounds : List ℕ) (faults collapses : ℕ) (g : Lcg) → faults ≡ length bounds
-    → AreDrawn tossed bounds collapses 0 g (replicate faults 0) (replicate collapses 0)
-none_drawn tossed bounds faults collapses g same =
+pub none_drawn : (passed : Span) (bounds : List ℕ) (faults collapses : ℕ) (g : Lcg) → faults ≡ length bounds
+    → AreDrawn passed bounds collapses 0 g (replicate faults 0) (replicate collapses 0)
+none_drawn passed bounds faults collapses g same =
     record {
       fault_count = length-replicate faults 0 ∙ same;
       coin_count = length-replicate collapses 0;
@@ -23,15 +24,15 @@ none_drawn tossed bounds faults collapses g same =
       idle_coins = λ j h l. lane_blank j collapses;
     }
 
-pub one_more_drawn : (tossed : ℕ) (bounds : List ℕ) (collapses k : ℕ) (g : Lcg) (faults faults_then coins coins_then : List ℕ) → k < 64
-    → AreDrawn tossed bounds collapses k g faults coins
+pub one_more_drawn : (passed : Span) (bounds : List ℕ) (collapses k : ℕ) (g : Lcg) (faults faults_then coins coins_then : List ℕ) → k < 64
+    → AreDrawn passed bounds collapses k g faults coins
     → DrawsInto k 0 (length bounds) (fault_hits bounds (after_shots (length bounds) collapses k g)) faults faults_then
-    → DrawsInto k 0 collapses (coin_hits tossed (after_words (length bounds) (after_shots (length bounds) collapses k g))) coins coins_then
-    → AreDrawn tossed bounds collapses (k + 1) g faults_then coins_then
-one_more_drawn tossed bounds collapses k g faults faults_then coins coins_then below so_far f c =
+    → DrawsInto k 0 collapses (coin_hits passed (after_words (length bounds) (after_shots (length bounds) collapses k g))) coins coins_then
+    → AreDrawn passed bounds collapses (k + 1) g faults_then coins_then
+one_more_drawn passed bounds collapses k g faults faults_then coins coins_then below so_far f c =
     let n = length bounds in
     let fault_bits = fault_hits bounds (after_shots n collapses k g) in
-    let coin_bits = coin_hits tossed (after_words n (after_shots n collapses k g)) in
+    let coin_bits = coin_hits passed (after_words n (after_shots n collapses k g)) in
     record {
       fault_count = f.size ∙ so_far.fault_count;
       coin_count = c.size ∙ so_far.coin_count;
@@ -45,7 +46,7 @@ one_more_drawn tossed bounds collapses k g faults faults_then coins coins_then b
       coins = λ j h.
           ⊎_elim
           (λ (e : j ≡ k).
-          subst (λ i. lane i coins_then ≡ tossed_coins tossed collapses (after_words n (after_shots n collapses i g))) (sym e)
+          subst (λ i. lane i coins_then ≡ tossed_coins passed collapses (after_words n (after_shots n collapses i g))) (sym e)
           (lane_drawn k collapses coin_bits coins coins_then so_far.coin_count (so_far.idle_coins k (omega arith) below) c))
           (λ (ne : j ≡ k → ⊥). lane_kept j k 0 collapses coin_bits coins coins_then ne c ∙ so_far.coins j (omega (arith, h, ne)))
           (cases_eq j k);
@@ -68,9 +69,3 @@ one_more_taken faults collapses k g =
     sym (after_words-add faults collapses (after_shots faults collapses k g))
     ∙ (sym (after_words-add (k * (faults + collapses)) (faults + collapses) g)
     ∙ ap (λ n. after_words n g) (sym (ap (λ i. i * (faults + collapses)) next ∙ suc-mul k (faults + collapses))))
-
--- words that are taken, and then passed over
-pub taken_and_passed : (taken all : ℕ) (g : Lcg) → taken ≤ all → after_words (all - taken) (after_words taken g) ≡ after_words all g
-taken_and_passed taken all g within =
-    let whole : taken + (all - taken) ≡ all = omega (arith, within) in
-    sym (after_words-add taken (all - taken) g) ∙ ap (λ n. after_words n g) whole

@@ -17,6 +17,7 @@ use Rattle.step_model.specs.Runs.{RunState, start, next, records_of}
 use Rattle.step_model.specs.WellFormed.{TermsFit, records_made, step_fits}
 use Rattle.tableau.specs.Rows.{Rows, row_count, state_of}
 use Rattle.forward_sim.specs.declared.replaced_word.ReplacedWord.{ReplacedWord}
+use Rattle.forward_sim.specs.declared.span.Span.{Span}
 
 -- a run that goes along, between two steps: the rows of its tableau, the coins of the collapses to come, the records so
 -- far, for how many there is memory, and the letters at qubits of the word that the last collapse replaced, none of them
@@ -141,10 +142,10 @@ AreWordsOf program (Kept replaced) = AreEntries program program.steps (start (ze
 AreWordsOf program (Walked walk) =
     (walking_qubits walk ≡ program.qubits) × (walk.room ≡ program.records) × (walk.coins ≡ [])
 
--- behind this many collapses of the program none is random. A run that goes along says so of no collapse
-abbrev pub IsDecidedFrom : Listing → ℕ → Words → Type 0
-IsDecidedFrom program first (Kept replaced) = (k : ℕ) → first ≤ k → slice_index_or replaced k None ≡ None
-IsDecidedFrom program first (Walked walk) = program.collapses ≤ first
+-- it is said of the collapses of a span that they aren't random. A run that goes along says so of none
+abbrev pub AreDecided : Span → Words → Type 0
+AreDecided span (Kept replaced) = (k : ℕ) → span.start ≤ k → k < span.end → slice_index_or replaced k None ≡ None
+AreDecided span (Walked walk) = span.end ≤ span.start
 
 -- a program's reference run
 pub record IsReferenceOf (program : Listing) (reference : ReferenceRun) : Type 0 where

@@ -3,6 +3,7 @@ ghost use Rattle.forward_sim.specs.References.{entry_of, terms_in};
 ghost use Rattle.forward_sim.specs.private.Kept.{terms_listed};
 
 use crate::replaced_word::{ReplacedWord, word_listed};
+use crate::span::Span;
 use crate::word_table::WordTable;
 use std::alloc::{AllocError, Allocator};
 use std::marker::Model;
@@ -82,16 +83,28 @@ impl<A: Allocator + Copy> KeptWords<A> {
         Ok(())
     }
 
-    /// How many collapses there are up to the last one that replaced a word.
-    pub(crate) fn random_end(&self) -> usize
-        ensures within { result ≤ length self.now.replaced }
-        ensures none { (k : ℕ) → result ≤ k → slice_index_or self.now.replaced k None ≡ None }
+    /// The longest span of collapses that replaced no word.
+    pub(crate) fn longest_decided(&self) -> Span
+        ensures order { result.start ≤ result.end }
+        ensures within { result.end ≤ length self.now.replaced }
+        ensures none { (k : ℕ)
+            → result.start ≤ k
+            → k < result.end
+            → slice_index_or self.now.replaced k None ≡ None }
     {
-        let mut end = self.numbers.len();
-        while end > 0 && self.get(end - 1).is_none() {
-            end -= 1;
+        let mut longest = Span { start: 0, end: 0 };
+        let mut start = 0;
+        for collapse in 0..self.numbers.len() {
+            if self.get(collapse).is_some() {
+                start = collapse + 1;
+            } else if collapse - start >= longest.end - longest.start {
+                longest = Span {
+                    start,
+                    end: collapse + 1,
+                };
+            }
         }
-        end
+        longest
     }
 
     /// The word that a collapse replaced.

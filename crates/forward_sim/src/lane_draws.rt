@@ -6,6 +6,7 @@ ghost use Rattle.forward_sim.specs.Drawn.{after_words, word_at};
 ghost use Rattle.forward_sim.specs.private.LaneDraws.{DrawsInto, coin_hits, fault_hits, toss_hits};
 
 use crate::runs::BoundRun;
+use crate::span::Span;
 use bit_rows::lanes::with_bit;
 use rand_core::utils::NextWord;
 use rand_pcg::Pcg64;
@@ -53,26 +54,31 @@ pub(crate) fn strike(faults: &mut [u64], f: usize, lane: u32, hit: bool)
     }
 }
 
-/// The coins, of which the first ones are tossed. The generator passes over the words of the others.
-pub(crate) fn draw_coins(coins: &mut [u64], tossed: usize, lane: u32, rng: &mut Pcg64)
+/// The coins. The generator passes over the words of those of a span.
+pub(crate) fn draw_coins(coins: &mut [u64], passed: Span, lane: u32, rng: &mut Pcg64)
     requires lane { lane < 64 }
-    requires tossed { tossed ≤ length coins.old }
-    ensures drawn { DrawsInto lane 0 (length coins.old) (coin_hits tossed rng.old)
+    requires order { passed.start ≤ passed.end }
+    requires within { passed.end ≤ length coins.old }
+    ensures drawn { DrawsInto lane 0 (length coins.old) (coin_hits passed rng.old)
         coins.old coins.new }
     ensures taken { rng.new ≡ after_words (length coins.old) rng.old }
 {
-    toss_coins(coins, tossed, lane, rng);
-    rng.advance((coins.len() - tossed) as u128);
+    let end = coins.len();
+    toss_coins(coins, 0, passed.start, lane, rng);
+    rng.advance((passed.end - passed.start) as u128);
+    toss_coins(coins, passed.end, end, lane, rng);
 }
 
-// A coin is its word's lowest bit.
-fn toss_coins(coins: &mut [u64], tossed: usize, lane: u32, rng: &mut Pcg64)
+// Those of some collapses. A coin is its word's lowest bit.
+fn toss_coins(coins: &mut [u64], start: usize, end: usize, lane: u32, rng: &mut Pcg64)
     requires lane { lane < 64 }
-    requires tossed { tossed ≤ length coins.old }
-    ensures drawn { DrawsInto lane 0 tossed (toss_hits rng.old) coins.old coins.new }
-    ensures taken { rng.new ≡ after_words tossed rng.old }
+    requires order { start ≤ end }
+    requires within { end ≤ length coins.old }
+    ensures drawn { DrawsInto lane start end (λ c. toss_hits rng.old (c - start))
+        coins.old coins.new }
+    ensures taken { rng.new ≡ after_words (end - start) rng.old }
 {
-    for c in 0..tossed {
+    for c in start..end {
         let coin = rng.next_word() % 2 == 1;
         toss(coins, c, lane, coin);
     }

@@ -8,6 +8,7 @@ ghost use Rattle.forward_sim.specs.private.PairDraws.{DrawsIntoBoth};
 use crate::copies::copy_of;
 use crate::lane_draws::{strike, toss};
 use crate::runs::BoundRun;
+use crate::span::Span;
 use rand_core::utils::NextWord;
 use rand_pcg::Pcg64;
 
@@ -21,24 +22,25 @@ pub(crate) struct LanePair {
     ghost second_below: { second < 64 },
 }
 
-/// Faults, and then coins, of which the first ones are tossed.
+/// Faults, and then coins, of which those of a span are passed over.
 pub(crate) fn draw_pair(
     faults: &mut [u64],
     coins: &mut [u64],
-    tossed: usize,
+    passed: Span,
     runs: &[BoundRun],
     lanes: LanePair,
     first: &mut Pcg64,
     second: &mut Pcg64,
 )
     requires faults { length faults.old ≡ length (bounds_in runs.now) }
-    requires tossed { tossed ≤ length coins.old }
+    requires order { passed.start ≤ passed.end }
+    requires within { passed.end ≤ length coins.old }
     ensures faults { DrawsIntoBoth lanes.first lanes.second 0 (length (bounds_in runs.now))
         (fault_hits (bounds_in runs.now) first.old) (fault_hits (bounds_in runs.now) second.old)
         faults.old faults.new }
     ensures coins { DrawsIntoBoth lanes.first lanes.second 0 (length coins.old)
-        (coin_hits tossed (after_words (length (bounds_in runs.now)) first.old))
-        (coin_hits tossed (after_words (length (bounds_in runs.now)) second.old))
+        (coin_hits passed (after_words (length (bounds_in runs.now)) first.old))
+        (coin_hits passed (after_words (length (bounds_in runs.now)) second.old))
         coins.old coins.new }
     ensures first { first.new
         ≡ after_words (length coins.old) (after_words (length (bounds_in runs.now)) first.old) }
@@ -46,7 +48,7 @@ pub(crate) fn draw_pair(
         ≡ after_words (length coins.old) (after_words (length (bounds_in runs.now)) second.old) }
 {
     draw_faults(faults, runs, lanes, first, second);
-    draw_coins(coins, tossed, lanes, first, second);
+    draw_coins(coins, passed, lanes, first, second);
 }
 
 // A fault happens where its word is below its bound.
@@ -121,43 +123,49 @@ fn word_below(bound: u128) -> u64
     }
 }
 
-// The first coins are tossed. The generators pass over the words of the others.
+// The generators pass over the words of the coins of a span.
 fn draw_coins(
     coins: &mut [u64],
-    tossed: usize,
+    passed: Span,
     lanes: LanePair,
     first: &mut Pcg64,
     second: &mut Pcg64,
 )
-    requires { tossed ≤ length coins.old }
+    requires order { passed.start ≤ passed.end }
+    requires within { passed.end ≤ length coins.old }
     ensures drawn { DrawsIntoBoth lanes.first lanes.second 0 (length coins.old)
-        (coin_hits tossed first.old) (coin_hits tossed second.old) coins.old coins.new }
+        (coin_hits passed first.old) (coin_hits passed second.old) coins.old coins.new }
     ensures first { first.new ≡ after_words (length coins.old) first.old }
     ensures second { second.new ≡ after_words (length coins.old) second.old }
 {
-    toss_coins(coins, tossed, lanes, first, second);
-    let passed = (coins.len() - tossed) as u128;
-    first.advance(passed);
-    second.advance(passed);
+    let end = coins.len();
+    toss_coins(coins, 0, passed.start, lanes, first, second);
+    let words = (passed.end - passed.start) as u128;
+    first.advance(words);
+    second.advance(words);
+    toss_coins(coins, passed.end, end, lanes, first, second);
 }
 
-// A coin is its word's lowest bit.
+// Those of some collapses. A coin is its word's lowest bit.
 fn toss_coins(
     coins: &mut [u64],
-    tossed: usize,
+    start: usize,
+    end: usize,
     lanes: LanePair,
     first: &mut Pcg64,
     second: &mut Pcg64,
 )
-    requires { tossed ≤ length coins.old }
-    ensures drawn { DrawsIntoBoth lanes.first lanes.second 0 tossed (toss_hits first.old)
-        (toss_hits second.old) coins.old coins.new }
-    ensures first { first.new ≡ after_words tossed first.old }
-    ensures second { second.new ≡ after_words tossed second.old }
+    requires order { start ≤ end }
+    requires within { end ≤ length coins.old }
+    ensures drawn { DrawsIntoBoth lanes.first lanes.second start end
+        (λ c. toss_hits first.old (c - start)) (λ c. toss_hits second.old (c - start))
+        coins.old coins.new }
+    ensures first { first.new ≡ after_words (end - start) first.old }
+    ensures second { second.new ≡ after_words (end - start) second.old }
 {
     let mut one = copy_of(first);
     let mut two = copy_of(second);
-    for c in 0..tossed {
+    for c in start..end {
         let coin = one.next_word() % 2 == 1;
         let other = two.next_word() % 2 == 1;
         toss(coins, c, lanes.first, coin);

@@ -5,11 +5,12 @@ ghost use Rattle.step_model.specs.Faults.{memory_fault};
 ghost use Rattle.step_model.specs.Frames.{zero_coins};
 ghost use Rattle.step_model.specs.Listing.{ListedStep};
 ghost use Rattle.step_model.specs.Runs.{RunState, start};
-ghost use Rattle.forward_sim.specs.References.{GoneOver, IsDecidedFrom, IsNext, IsReferenceOf, IsSaid, StandBefore, said_of, terms_in};
+ghost use Rattle.forward_sim.specs.References.{AreDecided, GoneOver, IsNext, IsReferenceOf, IsSaid, StandBefore, said_of, terms_in};
 
 use crate::keeping::follow;
 use crate::records::Records;
 use crate::replaced_word::ReplacedWord;
+use crate::span::Span;
 use crate::words::ReplacedWords;
 use programs::{Program, Step};
 use std::alloc::Allocator;
@@ -104,14 +105,14 @@ impl<A: Allocator + Copy> Reference<A> {
         self.words.go_over(program, step);
     }
 
-    /// A number of the program's first collapses: no outcome is random behind them. It is the least one where the words are kept,
-    /// and else counts all collapses.
-    pub fn random_end(&self, program: &Program<'_, A>) -> usize
+    /// Collapses whose outcome isn't random: the longest span of them where the words are kept, and else none.
+    pub fn longest_decided(&self, program: &Program<'_, A>) -> Span
         requires { IsReferenceOf program.now.listing self.now }
-        ensures within { result ≤ program.now.listing.collapses }
-        ensures decided { IsDecidedFrom program.now.listing result self.now.words }
+        ensures order { result.start ≤ result.end }
+        ensures within { result.end ≤ program.now.listing.collapses }
+        ensures decided { AreDecided result self.now.words }
     {
-        self.words.random_end(program)
+        self.words.longest_decided(program)
     }
 
     /// For the collapse with this number, the last that was gone over: a word that was in the state, up to its sign, and

@@ -5,6 +5,7 @@ ghost use Rattle.forward_sim.specs.Shots.{AreDrawn};
 
 use crate::runs::{BoundRun, bound_runs};
 use crate::side_draws::draw_lanes;
+use crate::span::Span;
 use programs::Program;
 use rand_pcg::Pcg64;
 use std::alloc::Allocator;
@@ -16,7 +17,7 @@ use step_model::Fault;
 #[derive(Drop)]
 pub struct Shots<A: Allocator + Copy> {
     runs: Vec<BoundRun, A>,
-    tossed: usize,
+    passed: Span,
     faults: Vec<u64, A>,
     coins: Vec<u64, A>,
 }
@@ -28,18 +29,19 @@ impl<A: Allocator + Copy> Model for Shots<A> {
 
     ghost Value = { ShotWords };
 
-    ghost view = { λ s. record { bounds = bounds_in s.runs.items; tossed = s.tossed; faults = s.faults.items; coins = s.coins.items } };
+    ghost view = { λ s. record { bounds = bounds_in s.runs.items; passed = s.passed; faults = s.faults.items; coins = s.coins.items } };
 
-    ghost invariant = { λ s. (length s.faults.items ≡ length (bounds_in s.runs.items)) × (s.tossed ≤ length s.coins.items) };
+    ghost invariant = { λ s. (length s.faults.items ≡ length (bounds_in s.runs.items)) × (s.passed.start ≤ s.passed.end) × (s.passed.end ≤ length s.coins.items) };
 }
 
 impl<A: Allocator + Copy> Shots<A> {
-    /// Shots in which no fault happens and all coins are 0. Only the first coins will be tossed: the others stay 0, which is faster
-    /// where they don't count. All memory is taken here.
-    pub fn new(alloc: A, program: &Program<'_, A>, tossed: usize) -> Result<Self, Fault>
-        requires { tossed ≤ program.now.listing.collapses }
+    /// Shots in which no fault happens and all coins are 0. The coins of a span won't be tossed: they stay 0, which is faster where
+    /// they don't count. All memory is taken here.
+    pub fn new(alloc: A, program: &Program<'_, A>, passed: Span) -> Result<Self, Fault>
+        requires order { passed.start ≤ passed.end }
+        requires within { passed.end ≤ program.now.listing.collapses }
         ensures bounds { IfOk result (λ shots. shots.bounds ≡ bounds_of program.now.listing) }
-        ensures tossed { IfOk result (λ shots. shots.tossed ≡ tossed) }
+        ensures passed { IfOk result (λ shots. shots.passed ≡ passed) }
         ensures faults { IfOk result (λ shots. shots.faults
             ≡ replicate (length program.now.listing.faults) 0) }
         ensures coins { IfOk result (λ shots. shots.coins
@@ -51,7 +53,7 @@ impl<A: Allocator + Copy> Shots<A> {
         let coins = vec![in alloc; 0u64; program.collapse_count() as usize]?;
         Ok(Shots {
             runs,
-            tossed,
+            passed,
             faults,
             coins,
         })
@@ -62,16 +64,16 @@ impl<A: Allocator + Copy> Shots<A> {
     pub fn draw(&mut self, count: u32, rng: &mut Pcg64)
         requires { count ≤ 64 }
         ensures bounds { self.new.bounds ≡ self.old.bounds }
-        ensures drawn { AreDrawn self.old.tossed self.old.bounds (length self.old.coins) count
+        ensures drawn { AreDrawn self.old.passed self.old.bounds (length self.old.coins) count
             rng.old self.new.faults self.new.coins }
-        ensures tossed { self.new.tossed ≡ self.old.tossed }
+        ensures passed { self.new.passed ≡ self.old.passed }
         ensures taken { rng.new
             ≡ after_shots (length self.old.bounds) (length self.old.coins) count rng.old }
     {
         draw_lanes(
             &mut self.faults,
             &mut self.coins,
-            self.tossed,
+            self.passed,
             self.runs.as_slice(),
             count,
             rng,

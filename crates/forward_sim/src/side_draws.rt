@@ -8,29 +8,31 @@ use crate::copies::copy_of;
 use crate::lane_draws::{draw_coins, draw_faults};
 use crate::pair_draws::{LanePair, draw_pair};
 use crate::runs::BoundRun;
+use crate::span::Span;
 use rand_pcg::Pcg64;
 
-/// Draws shots into the first lanes. Of the coins the first ones are tossed, and the words of the others are passed over.
+/// Draws shots into the first lanes. The words of the coins of a span are passed over.
 pub(crate) fn draw_lanes(
     faults: &mut [u64],
     coins: &mut [u64],
-    tossed: usize,
+    passed: Span,
     runs: &[BoundRun],
     count: u32,
     rng: &mut Pcg64,
 )
     requires faults { length faults.old ≡ length (bounds_in runs.now) }
-    requires tossed { tossed ≤ length coins.old }
+    requires order { passed.start ≤ passed.end }
+    requires within { passed.end ≤ length coins.old }
     requires count { count ≤ 64 }
-    ensures drawn { AreDrawn tossed (bounds_in runs.now) (length coins.old) count rng.old faults.new
+    ensures drawn { AreDrawn passed (bounds_in runs.now) (length coins.old) count rng.old faults.new
         coins.new }
     ensures taken { rng.new
         ≡ after_shots (length (bounds_in runs.now)) (length coins.old) count rng.old }
 {
-    draw_halves(faults, coins, tossed, runs, count / 2, rng);
+    draw_halves(faults, coins, passed, runs, count / 2, rng);
     if count % 2 == 1 {
         draw_faults(faults, runs, count - 1, rng);
-        draw_coins(coins, tossed, count - 1, rng);
+        draw_coins(coins, passed, count - 1, rng);
     }
 }
 
@@ -39,15 +41,16 @@ pub(crate) fn draw_lanes(
 fn draw_halves(
     faults: &mut [u64],
     coins: &mut [u64],
-    tossed: usize,
+    passed: Span,
     runs: &[BoundRun],
     half: u32,
     rng: &mut Pcg64,
 )
     requires faults { length faults.old ≡ length (bounds_in runs.now) }
-    requires tossed { tossed ≤ length coins.old }
+    requires order { passed.start ≤ passed.end }
+    requires within { passed.end ≤ length coins.old }
     requires half { half ≤ 32 }
-    ensures drawn { AreDrawn tossed (bounds_in runs.now) (length coins.old) (2 * half) rng.old
+    ensures drawn { AreDrawn passed (bounds_in runs.now) (length coins.old) (2 * half) rng.old
         faults.new coins.new }
     ensures taken { rng.new
         ≡ after_shots (length (bounds_in runs.now)) (length coins.old) (2 * half) rng.old }
@@ -62,7 +65,7 @@ fn draw_halves(
             first: lane,
             second: half + lane,
         };
-        draw_pair(faults, coins, tossed, runs, lanes, rng, &mut second);
+        draw_pair(faults, coins, passed, runs, lanes, rng, &mut second);
     }
     *rng = second;
 }

@@ -4,11 +4,12 @@ ghost use Rattle.programs.specs.Named.{IsStepOf};
 ghost use Rattle.step_model.specs.Frames.{zero_coins};
 ghost use Rattle.step_model.specs.Listing.{ListedStep};
 ghost use Rattle.step_model.specs.Runs.{RunState, start};
-ghost use Rattle.forward_sim.specs.References.{AreWordsOf, GoneOver, IsDecidedFrom, IsNext, IsSaid, StandBefore, said_of, terms_in};
+ghost use Rattle.forward_sim.specs.References.{AreDecided, AreWordsOf, GoneOver, IsNext, IsSaid, StandBefore, said_of, terms_in};
 ghost use Rattle.forward_sim.specs.private.Said.{words_of};
 
 use crate::kept_words::KeptWords;
 use crate::replaced_word::{ReplacedWord, word_listed};
+use crate::span::Span;
 use crate::walking::WalkingRun;
 use programs::{Program, Step};
 use std::alloc::Allocator;
@@ -61,16 +62,17 @@ impl<A: Allocator + Copy> ReplacedWords<A> {
         }
     }
 
-    /// A number of the program's first collapses, behind which no word is replaced.
-    pub(crate) fn random_end(&self, program: &Program<'_, A>) -> usize
+    /// Collapses that replace no word: the longest span of them in a list, and else none.
+    pub(crate) fn longest_decided(&self, program: &Program<'_, A>) -> Span
         requires { AreWordsOf program.now.listing (words_of self.now) }
-        ensures within { result ≤ program.now.listing.collapses }
-        ensures decided { IsDecidedFrom program.now.listing result (words_of self.now) }
+        ensures order { result.start ≤ result.end }
+        ensures within { result.end ≤ program.now.listing.collapses }
+        ensures decided { AreDecided result (words_of self.now) }
     {
         program.well_formed();
         match self {
-            ReplacedWords::Kept(kept) => kept.random_end(),
-            ReplacedWords::Walked(_) => program.collapse_count() as usize,
+            ReplacedWords::Kept(kept) => kept.longest_decided(),
+            ReplacedWords::Walked(_) => Span { start: 0, end: 0 },
         }
     }
 

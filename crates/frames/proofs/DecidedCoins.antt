@@ -18,12 +18,14 @@ use Rattle.run_laws.proofs.PairRuns.{with_coins, same-collapse}
 use Rattle.run_laws.proofs.ShiftCollapse.{is_decided-shifted}
 use Rattle.run_laws.proofs.ShiftLists.{get_or-zeros}
 use Rattle.run_laws.proofs.ShiftWords.{anticommute-none}
-use Rattle.forward_sim.specs.References.{AreEntries, IsDecidedFrom, IsEntry, IsReferenceOf, Kept, ReferenceRun, Walked, Words, AreWordsOf}
+use Rattle.forward_sim.specs.References.{AreDecided, AreEntries, AreWordsOf, IsEntry, Kept, Walked, Words}
+use Rattle.forward_sim.specs.declared.span.Span.{Span}
+use Rattle.forward_sim.proofs.LaneLemmas.{is_tossed-before, is_tossed-behind}
 use Rattle.forward_sim.specs.private.SameRuns.{IsSameRun}
 use Rattle.forward_sim.proofs.RunRecords.{all_fit}
 use Rattle.forward_sim.proofs.SameStates.{same-next}
 use Rattle.forward_sim.proofs.WordsSaid.{zeros_after}
-use Rattle.frames.specs.Batches.{CoinsCountBelow}
+use Rattle.frames.specs.Batches.{DontCount}
 use Rattle.frames.proofs.Beside.{collapse-differ}
 use Rattle.frames.proofs.FollowLaw.{Differ, decided-records, decided-states, other-step}
 
@@ -119,10 +121,9 @@ records_agree program faults (Feedback w r ∷ steps) replaced v reference m k f
     (other-step program faults None false (Feedback w r) v reference m parts.0 refl differ)
     (same-next program faults (Feedback w r) (with_coins m []) (with_coins k []) parts.0 same) agree
 
--- coins count up to where the reference run says that no outcome is random any more
-pub coins_below : (program : Listing) (words : Words) (first : ℕ) → IsWellFormed program → AreWordsOf program words → IsDecidedFrom program first words
-    → CoinsCountBelow program first
-coins_below program (Kept replaced) first well_formed are decided faults coins others size size_of_others same =
+-- coins of a span don't count where the reference run says that the outcomes there aren't random
+pub decided_dont_count : (program : Listing) (words : Words) (span : Span) → IsWellFormed program → AreWordsOf program words → AreDecided span words → DontCount program span
+decided_dont_count program (Kept replaced) span well_formed are decided faults coins others size size_of_others same =
     let n = program.qubits in
     records_agree program faults program.steps replaced (record { word = no_letters n; records = [] }) (start (zero_coins program)) (start coins) (start others)
     (all_fit program well_formed) are (get_or-zeros program.collapses)
@@ -134,7 +135,21 @@ coins_below program (Kept replaced) first well_formed are decided faults coins o
       records = refl;
     })
     (record { state = λ p long. refl; coins = refl; records = refl })
-    (λ k. ⊎_elim (λ (below : k < first). inr (same k below)) (λ (above : first ≤ k). inl (decided k above)) (cases_lt k first))
-coins_below program (Walked walk) first well_formed are decided faults coins others size size_of_others same =
+    (λ k.
+    ⊎_elim
+    (λ (before : k < span.start). inr (same k (is_tossed-before span k before)))
+    (λ (from : span.start ≤ k).
+    ⊎_elim
+    (λ (inside : k < span.end). inl (decided k from inside))
+    (λ (behind : span.end ≤ k). inr (same k (is_tossed-behind span k behind)))
+    (cases_lt k span.end))
+    (cases_lt k span.start))
+decided_dont_count program (Walked walk) span well_formed are decided faults coins others size size_of_others same =
     ap (records_of program faults)
-    (ext_get_or false coins others (size ∙ sym size_of_others) (λ k below. same k (omega (arith, below, size, decided))))
+    (ext_get_or false coins others (size ∙ sym size_of_others)
+    (λ k below.
+    same k
+    (⊎_elim
+    (λ (before : k < span.start). is_tossed-before span k before)
+    (λ (from : span.start ≤ k). is_tossed-behind span k (omega (arith, from, decided)))
+    (cases_lt k span.start))))

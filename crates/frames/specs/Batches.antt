@@ -1,7 +1,9 @@
 -- 64 runs of a program, followed beside its reference run, in which no fault happens and all coins are 0. For each record
 -- a word says in which runs it differs from the reference run's. (Stim's frame simulator: Gidney, Quantum 5, 497 (2021).)
-use Rattle.std.specs.Prelude.{◌≡◌, ◌<◌, ℕ, Bool, false, List, [], length, slice_index_or}
+use Rattle.std.specs.Prelude.{◌≡◌, ℕ, Bool, true, false, List, [], length, slice_index_or}
 use Rattle.forward_sim.specs.References.{IsReferenceOf, ReferenceRun}
+use Rattle.forward_sim.specs.Shots.{is_tossed}
+use Rattle.forward_sim.specs.declared.span.Span.{Span}
 use Rattle.bit_rows.specs.Lanes.{lane}
 use Rattle.pauli_word.specs.Words.{no_letters}
 use Rattle.run_laws.specs.Shifts.{flipped_by}
@@ -33,13 +35,12 @@ abbrev pub AreRuns : Listing → List ℕ → List ℕ → Followed → Type 0
 AreRuns program faults coins batch =
     (shot : ℕ) → shot_records shot batch ≡ records_of program (lane shot faults) (lane shot coins)
 
--- of the coins of a program's collapses at most this many, the first ones, count: whatever faults happen, the others change
--- no record
-abbrev pub CoinsCountBelow : Listing → ℕ → Type 0
-CoinsCountBelow program count =
+-- the coins of these collapses don't count: whatever faults happen, they change no record
+abbrev pub DontCount : Listing → Span → Type 0
+DontCount program span =
     (faults first second : List Bool)
     → length first ≡ program.collapses → length second ≡ program.collapses
-    → ((k : ℕ) → k < count → slice_index_or first k false ≡ slice_index_or second k false)
+    → ((k : ℕ) → is_tossed span k ≡ true → slice_index_or first k false ≡ slice_index_or second k false)
     → records_of program faults first ≡ records_of program faults second
 
 -- the frame of a run at its start

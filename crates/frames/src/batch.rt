@@ -3,12 +3,12 @@ ghost use Rattle.forward_sim.specs.References.{IsReferenceOf};
 ghost use Rattle.bit_rows.specs.Lanes.{lane_bit};
 ghost use Rattle.step_model.specs.Faults.{memory_fault};
 ghost use Rattle.step_model.specs.Targets.{difference};
-ghost use Rattle.frames.specs.Batches.{AreRuns, CoinsCountBelow, IsBatchOf, shot_records};
+ghost use Rattle.frames.specs.Batches.{AreRuns, DontCount, IsBatchOf, shot_records};
 
 use crate::follow::follow_steps;
 use crate::frames::Frames;
 use bit_rows::lanes::{bit, spread, xor};
-use forward_sim::{Records, Reference};
+use forward_sim::{Records, Reference, Span};
 use programs::Program;
 use std::alloc::{AllocError, Allocator};
 use std::marker::Model;
@@ -87,15 +87,16 @@ impl<A: Allocator + Copy> Batch<A> {
         );
     }
 
-    /// How many coins may count, those of the first collapses: behind them no outcome is random in the reference run, so no coin
-    /// changes a record.
-    pub fn coins_that_count(&self, program: &Program<'_, A>) -> usize
+    /// Collapses whose coins don't count: the longest span of those whose outcome isn't random in the reference run, where that keeps
+    /// its words, and else none.
+    pub fn coins_that_dont_count(&self, program: &Program<'_, A>) -> Span
         requires { IsBatchOf program.now.listing self.now }
-        ensures within { result ≤ program.now.listing.collapses }
-        ensures count { CoinsCountBelow program.now.listing result }
+        ensures order { result.start ≤ result.end }
+        ensures within { result.end ≤ program.now.listing.collapses }
+        ensures coins { DontCount program.now.listing result }
     {
         program.well_formed();
-        self.reference.random_end(program)
+        self.reference.longest_decided(program)
     }
 
     /// The reference run's records: in it no fault happens and all coins are 0.

@@ -1,10 +1,9 @@
 -- The lines of shots, batch after batch.
-use Rattle.std.proofs.Common.{◌≡◌, ℕ, zero, suc, ◌+◌, ◌*◌, ◌%◌, ◌==◌, ◌<◌, ◌≤◌, ◌&&◌, Bool, false, List, [], ◌++◌, length, get_or, refl, sym, ap, ap₂, ◌∙◌, arith, ⊎_elim}
-use Rattle.std.specs.Prelude.{nat_lt}
+use Rattle.std.proofs.Common.{◌≡◌, ℕ, zero, suc, ◌+◌, ◌*◌, ◌%◌, ◌==◌, ◌<◌, ◌≤◌, ◌&&◌, Bool, true, false, List, [], ◌++◌, length, get_or, refl, sym, ap, ap₂, ◌∙◌, arith, ⊎_elim}
 use Rattle.std.specs.List.{flat_map, range_with_len}
 use Rattle.std.proofs.Math.Nat.{add-mul}
 use Rattle.std.proofs.lemmas.Grind.{flat_map-append}
-use Rattle.std.proofs.lemmas.Bool.{cases_lt, lt-ltb}
+use Rattle.std.proofs.lemmas.Bool.{cases_lt}
 use Rattle.std.proofs.lemmas.List.{get_or_past, length-map}
 use Rattle.std.proofs.lemmas.List.FromFn.{get_or-map-range_with_len, length-map-range_with_len}
 use Rattle.rand_pcg.specs.Lcg.{Lcg}
@@ -13,9 +12,10 @@ use Rattle.step_model.proofs.RangeLemmas.{range-append}
 use Rattle.step_model.specs.Frames.{zero_coins}
 use Rattle.step_model.specs.Runs.{records_of}
 use Rattle.bit_rows.specs.Lanes.{lane}
-use Rattle.frames.specs.Batches.{CoinsCountBelow}
+use Rattle.frames.specs.Batches.{DontCount}
 use Rattle.forward_sim.specs.Drawn.{after_words, bounds_of, drawn_coins, drawn_faults, after_shots, word_at}
-use Rattle.forward_sim.specs.Shots.{AreDrawn, tossed_coins}
+use Rattle.forward_sim.specs.Shots.{AreDrawn, is_tossed, tossed_coins}
+use Rattle.forward_sim.specs.declared.span.Span.{Span}
 use Rattle.forward_sim.proofs.WordLemmas.{after_words-add}
 use Rattle.sampling.specs.private.LaneLines.{lane_line, lane_lines}
 use Rattle.sampling.specs.Lines.{line_of}
@@ -70,45 +70,45 @@ batch_lines line program count g words same =
     let here : 0 + j ≡ j = omega arith in
     ap (λ k. line program (shot_generator program g k)) here ∙ same j (omega (arith, high))))
 
--- coins of which the first ones are tossed are a shot's up to there
-tossed_alike : (tossed collapses : ℕ) (g : Lcg) (k : ℕ) → k < tossed
-    → get_or (drawn_coins collapses g) k false ≡ get_or (tossed_coins tossed collapses g) k false
-tossed_alike tossed collapses g k below =
+-- coins that are tossed are a shot's
+tossed_alike : (passed : Span) (collapses : ℕ) (g : Lcg) (k : ℕ) → is_tossed passed k ≡ true
+    → get_or (drawn_coins collapses g) k false ≡ get_or (tossed_coins passed collapses g) k false
+tossed_alike passed collapses g k is =
     let tosses : ℕ → Bool = λ c. word_at g c % 2 == 1 in
-    let hits : ℕ → Bool = λ c. nat_lt c tossed && tosses c in
+    let hits : ℕ → Bool = λ c. is_tossed passed c && tosses c in
     ⊎_elim
     (λ (there : k < collapses).
     get_or-map-range_with_len tosses 0 collapses k k false there (omega arith)
-    ∙ (ap (λ b. b && tosses k) (sym (lt-ltb k tossed below))
+    ∙ (ap (λ b. b && tosses k) (sym is)
     ∙ sym (get_or-map-range_with_len hits 0 collapses k k false there (omega arith))))
     (λ (past : collapses ≤ k).
     get_or_past (drawn_coins collapses g) k false (omega (arith, past, length-map-range_with_len tosses 0 collapses))
-    ∙ sym (get_or_past (tossed_coins tossed collapses g) k false (omega (arith, past, length-map-range_with_len hits 0 collapses))))
+    ∙ sym (get_or_past (tossed_coins passed collapses g) k false (omega (arith, past, length-map-range_with_len hits 0 collapses))))
     (cases_lt k collapses)
 
--- so where no others count, they make the records of the shot
-records_alike : (tossed : ℕ) (program : Listing) (faults : List Bool) (g : Lcg) → CoinsCountBelow program tossed
-    → records_of program faults (drawn_coins program.collapses g) ≡ records_of program faults (tossed_coins tossed program.collapses g)
-records_alike tossed program faults g count =
-    count faults (drawn_coins program.collapses g) (tossed_coins tossed program.collapses g)
+-- so where the others don't count, they make the records of the shot
+records_alike : (passed : Span) (program : Listing) (faults : List Bool) (g : Lcg) → DontCount program passed
+    → records_of program faults (drawn_coins program.collapses g) ≡ records_of program faults (tossed_coins passed program.collapses g)
+records_alike passed program faults g dont =
+    dont faults (drawn_coins program.collapses g) (tossed_coins passed program.collapses g)
     (length-map-range_with_len _ 0 program.collapses)
     (length-map-range_with_len _ 0 program.collapses)
-    (tossed_alike tossed program.collapses g)
+    (tossed_alike passed program.collapses g)
 
 -- the line of a shot that was drawn into a lane and run
-pub drawn_line : (tossed : ℕ) (shown : Shown) (program : Listing) (count j : ℕ) (g : Lcg) (faults coins words : List ℕ) → count ≤ 64 → j < count
-    → AreDrawn tossed (bounds_of program) program.collapses count g faults coins → CoinsCountBelow program tossed
+pub drawn_line : (passed : Span) (shown : Shown) (program : Listing) (count j : ℕ) (g : Lcg) (faults coins words : List ℕ) → count ≤ 64 → j < count
+    → AreDrawn passed (bounds_of program) program.collapses count g faults coins → DontCount program passed
     → ((i : ℕ) → i < 64 → lane i words ≡ shown_of shown program (lane i faults) (lane i coins))
     → shown_line shown program (shot_generator program g j) ≡ lane_line words j
-drawn_line tossed shown program count j g faults coins words few below drawn alike runs =
+drawn_line passed shown program count j g faults coins words few below drawn dont runs =
     let at = shot_generator program g j in
     let n : length (bounds_of program) ≡ length program.faults = length-map program.faults (λ (fault : ListedFault). fault.bound) in
     let same_faults : shot_faults program at ≡ lane j faults =
     ap (λ m. drawn_faults (bounds_of program) (after_shots m program.collapses j g)) (sym n) ∙ sym (drawn.faults j below) in
-    let same_coins : tossed_coins tossed program.collapses (after_words (length program.faults) at) ≡ lane j coins =
-    ap (λ m. tossed_coins tossed program.collapses (after_words m (after_shots m program.collapses j g))) (sym n) ∙ sym (drawn.coins j below) in
+    let same_coins : tossed_coins passed program.collapses (after_words (length program.faults) at) ≡ lane j coins =
+    ap (λ m. tossed_coins passed program.collapses (after_words m (after_shots m program.collapses j g))) (sym n) ∙ sym (drawn.coins j below) in
     shown_line-is shown program at
     ∙ ap line_of
-    (ap (λ records. shown_beside shown program records (records_of program [] (zero_coins program))) (records_alike tossed program (shot_faults program at) (after_words (length program.faults) at) alike)
+    (ap (λ records. shown_beside shown program records (records_of program [] (zero_coins program))) (records_alike passed program (shot_faults program at) (after_words (length program.faults) at) dont)
     ∙ (ap₂ (shown_of shown program) same_faults same_coins
     ∙ sym (runs j (omega (arith, few, below)))))

@@ -4,7 +4,7 @@ ghost use Rattle.streams.specs.Pushed.{Pushes};
 ghost use Rattle.step_model.specs.Ends.{Takes, TakesBeginning, write_failures};
 ghost use Rattle.step_model.specs.Faults.{write_fault};
 ghost use Rattle.forward_sim.specs.Drawn.{bounds_of};
-ghost use Rattle.frames.specs.Batches.{CoinsCountBelow};
+ghost use Rattle.frames.specs.Batches.{DontCount};
 ghost use Rattle.sampling.specs.Sampled.{lines_from, shot_generator, shots_text};
 ghost use Rattle.sampling.specs.Shown.{shown_line};
 
@@ -29,7 +29,7 @@ pub(crate) fn write_batches<W: Sink, A: Allocator + Copy>(
 ) -> Result<(), Fault>
     requires bounds { drawn.old.bounds ≡ bounds_of runs.old.program }
     requires coins { length drawn.old.coins ≡ runs.old.program.collapses }
-    requires tossed { CoinsCountBelow runs.old.program drawn.old.tossed }
+    requires passed { DontCount runs.old.program drawn.old.passed }
     requires line { length line.old ≡ length runs.old.words + 1 }
     ensures all { OnOk result
         (Takes (W.taken sink.old) (W.taken sink.new)
@@ -57,7 +57,7 @@ fn push_shots<W: Sink, A: Allocator + Copy>(
 )
     requires bounds { drawn.old.bounds ≡ bounds_of runs.old.program }
     requires coins { length drawn.old.coins ≡ runs.old.program.collapses }
-    requires tossed { CoinsCountBelow runs.old.program drawn.old.tossed }
+    requires passed { DontCount runs.old.program drawn.old.passed }
     requires line { length line.old ≡ length runs.old.words + 1 }
     ensures { Pushes W.taken W.failures sink.old sink.new out.old out.new
         (lines_from (shown_line runs.old.shown) runs.old.program shots rng.old) }
@@ -96,7 +96,7 @@ fn push_batch<W: Sink, A: Allocator + Copy>(
 )
     requires bounds { drawn.old.bounds ≡ bounds_of runs.old.program }
     requires coins { length drawn.old.coins ≡ runs.old.program.collapses }
-    requires tossed { CoinsCountBelow runs.old.program drawn.old.tossed }
+    requires passed { DontCount runs.old.program drawn.old.passed }
     requires line { length line.old ≡ length runs.old.words + 1 }
     requires count { count ≤ 64 }
     ensures lines { Pushes W.taken W.failures sink.old sink.new out.old out.new
@@ -105,7 +105,7 @@ fn push_batch<W: Sink, A: Allocator + Copy>(
     ensures program { runs.new.program ≡ runs.old.program }
     ensures shown { runs.new.shown ≡ runs.old.shown }
     ensures bounds { drawn.new.bounds ≡ bounds_of runs.old.program }
-    ensures tossed { drawn.new.tossed ≡ drawn.old.tossed }
+    ensures passed { drawn.new.passed ≡ drawn.old.passed }
     ensures coins { length drawn.new.coins ≡ runs.old.program.collapses }
     ensures line { length line.new ≡ length runs.new.words + 1 }
 {

@@ -36,7 +36,7 @@ pub fn write_shots<W: Sink, A: Allocator + Copy>(
     let mut words = vec![in alloc; 0u64; count(program, shown)]?;
     let mut line = room_for(alloc, &words)?;
     let mut batch = Batch::new(alloc, program)?;
-    let mut drawn = Shots::new(alloc, program, batch.coins_that_count(program))?;
+    let mut drawn = Shots::new(alloc, program, batch.coins_that_dont_count(program))?;
     let mut runs = SideRuns::new(program, &mut batch, shown, &mut words);
     write_batches(&mut drawn, &mut runs, &mut line, shots, seed, sink)
 }

@@ -4,6 +4,8 @@ use Rattle.std.specs.Prelude.{◌≡◌, ◌≢◌, ◌<◌, ◌≤◌, ℕ, ◌
 use Rattle.rand_pcg.specs.Lcg.{Lcg}
 use Rattle.bit_rows.specs.Lanes.{lane_bit}
 use Rattle.forward_sim.specs.Drawn.{word_at}
+use Rattle.forward_sim.specs.Shots.{is_tossed}
+use Rattle.forward_sim.specs.declared.span.Span.{Span}
 
 pub record DrawsInto (j start end : ℕ) (hits : ℕ → Bool) (old new : List ℕ) : Type 0 where
   pub size : length new ≡ length old
@@ -12,13 +14,13 @@ pub record DrawsInto (j start end : ℕ) (hits : ℕ → Bool) (old new : List �
   pub above : (k : ℕ) → end ≤ k → slice_index new k ≡ slice_index old k
   pub others : (i k : ℕ) → i ≢ j → lane_bit i (slice_index new k) ≡ lane_bit i (slice_index old k)
 
--- whether each fault happens, by the next words; the coin of each collapse; and the same where only the first ones are
--- tossed, and the others are 0
+-- whether each fault happens, by the next words; the coin of each collapse; and the same where those of a span
+-- aren't tossed, and are 0
 abbrev pub fault_hits : List ℕ → Lcg → ℕ → Bool
 fault_hits bounds generator f = nat_lt (word_at generator f) (slice_index_or bounds f 0)
 
 abbrev pub toss_hits : Lcg → ℕ → Bool
 toss_hits generator c = word_at generator c % 2 == 1
 
-abbrev pub coin_hits : ℕ → Lcg → ℕ → Bool
-coin_hits tossed generator c = nat_lt c tossed && toss_hits generator c
+abbrev pub coin_hits : Span → Lcg → ℕ → Bool
+coin_hits passed generator c = is_tossed passed c && toss_hits generator c

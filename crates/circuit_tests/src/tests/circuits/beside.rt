@@ -3,7 +3,7 @@ ghost use Rattle.std.specs.Prelude.{◌<◌};
 ghost use Rattle.frames.specs.Batches.{IsBatchOf};
 
 use super::table::text_of;
-use forward_sim::{Records, Shots, run};
+use forward_sim::{Records, Shots, Span, run};
 use frames::Batch;
 use programs::Program;
 use rand_core::SeedableRng;
@@ -60,7 +60,7 @@ fn all_agree(
 ) -> Result<bool, Fail>
     requires { IsBatchOf program.now.listing batch.old }
 {
-    let mut shots = Shots::new(alloc, program, program.collapse_count() as usize)?;
+    let mut shots = Shots::new(alloc, program, Span { start: 0, end: 0 })?;
     let mut rng = Pcg64::seed_from_u64(1);
     if !next_agree(alloc, program, batch, &mut shots, &mut rng)? {
         return Ok(false);

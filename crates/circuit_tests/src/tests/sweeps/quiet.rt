@@ -1,7 +1,7 @@
 //! Calls that promise to take no memory.
 use super::growths::{Call, Memory, Ration, sweep};
 use super::lent::Lent;
-use forward_sim::Shots;
+use forward_sim::{Shots, Span};
 use frames::Batch;
 use programs::Program;
 use rand_core::SeedableRng;
@@ -48,7 +48,7 @@ fn draws_are_right<'m>(
     ration: Ration<'m>,
     program: &Program<'_, Memory<'m>>,
 ) -> Result<bool, Fault> {
-    let mut shots = Shots::new(ration.memory, program, program.collapse_count() as usize)?;
+    let mut shots = Shots::new(ration.memory, program, Span { start: 0, end: 0 })?;
     let mut rng = Pcg64::seed_from_u64(1);
     let _memory = ration.begin();
     shots.draw(64, &mut rng);

@@ -3,7 +3,7 @@ ghost use Rattle.std.specs.Prelude.{◌≡◌, length};
 
 use super::growths::{Call, Memory, Ration, sweep};
 use super::lent::{Lent, are_false};
-use forward_sim::{Records, Reference, Shots, detections, draw, run};
+use forward_sim::{Records, Reference, Shots, Span, detections, draw, run};
 use frames::Batch;
 use programs::Program;
 use rand_core::SeedableRng;
@@ -132,7 +132,7 @@ fn shots_are_right<'m>(
     memory: Memory<'m>,
     program: &Program<'_, Memory<'m>>,
 ) -> Result<bool, Fault> {
-    let shots = Shots::new(memory, program, program.collapse_count() as usize)?;
+    let shots = Shots::new(memory, program, Span { start: 0, end: 0 })?;
     Ok(shots.faults() == [0; 10].as_slice() && shots.coins() == [0; 11].as_slice())
 }
 

@@ -61,8 +61,8 @@ returns-then-run-eq0-clause-drawn c =
     let start = c.args.start in
     let bound = c.args.run.bound in
     both_missed c.args.lanes.first c.args.lanes.second start (start + c.args.run.count) (λ k. nat_lt (word_at c.args.first.now (k - start)) bound) (λ k. nat_lt (word_at c.args.second.now (k - start)) bound) c.args.faults.now
-    (λ k low. none_below (word_at c.args.first.now (k - start)) bound c.if-run-eq0.true)
-    (λ k low. none_below (word_at c.args.second.now (k - start)) bound c.if-run-eq0.true)
+    (λ k low high. none_below (word_at c.args.first.now (k - start)) bound c.if-run-eq0.true)
+    (λ k low high. none_below (word_at c.args.second.now (k - start)) bound c.if-run-eq0.true)
 
 pub returns : goal.returns
 returns c =

@@ -22,9 +22,9 @@ loop-lane-init c =
     let whole : half ≡ half + 0 = omega arith in
     record {
       drawn =
-          subst (λ words. HalvesDrawn c.args.tossed bounds collapses half 0 g c.fill.new.self words) (sym coins)
-          (subst (λ words. HalvesDrawn c.args.tossed bounds collapses half 0 g words (replicate collapses 0)) (sym faults)
-          (no_halves c.args.tossed bounds (length c.args.faults.now) collapses half g c.requires.faults));
+          subst (λ words. HalvesDrawn c.args.passed bounds collapses half 0 g c.fill.new.self words) (sym coins)
+          (subst (λ words. HalvesDrawn c.args.passed bounds collapses half 0 g words (replicate collapses 0)) (sym faults)
+          (no_halves c.args.passed bounds (length c.args.faults.now) collapses half g c.requires.faults));
       first = sym (none_taken n collapses g);
       second =
           c.advance.ensures
@@ -51,12 +51,12 @@ loop-lane-preserved c =
     subst (λ r. DrawsIntoBoth k j 0 n (fault_hits bounds (after_shots n collapses k g)) (fault_hits bounds r) c.loop-lane.faults c.draw_pair.new.faults) so_far.second
     (subst (λ r. DrawsIntoBoth k j 0 n (fault_hits bounds r) (fault_hits bounds c.loop-lane.second) c.loop-lane.faults c.draw_pair.new.faults) so_far.first shot.faults) in
     let coins =
-    subst (λ m. DrawsIntoBoth k j 0 m (coin_hits c.args.tossed (after_words n (after_shots n collapses k g))) (coin_hits c.args.tossed (after_words n (after_shots n collapses j g))) c.loop-lane.coins c.draw_pair.new.coins) count
-    (subst (λ r. DrawsIntoBoth k j 0 (length c.loop-lane.coins) (coin_hits c.args.tossed (after_words n (after_shots n collapses k g))) (coin_hits c.args.tossed r) c.loop-lane.coins c.draw_pair.new.coins) other_tossed
-    (subst (λ r. DrawsIntoBoth k j 0 (length c.loop-lane.coins) (coin_hits c.args.tossed r) (coin_hits c.args.tossed (after_words n c.loop-lane.second)) c.loop-lane.coins c.draw_pair.new.coins) tossed shot.coins)) in
+    subst (λ m. DrawsIntoBoth k j 0 m (coin_hits c.args.passed (after_words n (after_shots n collapses k g))) (coin_hits c.args.passed (after_words n (after_shots n collapses j g))) c.loop-lane.coins c.draw_pair.new.coins) count
+    (subst (λ r. DrawsIntoBoth k j 0 (length c.loop-lane.coins) (coin_hits c.args.passed (after_words n (after_shots n collapses k g))) (coin_hits c.args.passed r) c.loop-lane.coins c.draw_pair.new.coins) other_tossed
+    (subst (λ r. DrawsIntoBoth k j 0 (length c.loop-lane.coins) (coin_hits c.args.passed r) (coin_hits c.args.passed (after_words n c.loop-lane.second)) c.loop-lane.coins c.draw_pair.new.coins) tossed shot.coins)) in
     record {
       drawn =
-          one_more_each c.args.tossed bounds collapses half k g c.loop-lane.faults c.draw_pair.new.faults c.loop-lane.coins c.draw_pair.new.coins
+          one_more_each c.args.passed bounds collapses half k g c.loop-lane.faults c.draw_pair.new.faults c.loop-lane.coins c.draw_pair.new.coins
           (omega arith) c.requires.half so_far.drawn (record { faults = faults; coins = coins });
       first = shot.first ∙ (ap₂ after_words count tossed ∙ one_more_taken n collapses k g);
       second = shot.second ∙ (ap₂ after_words count other_tossed ∙ (one_more_taken n collapses j g ∙ ap (λ m. after_shots n collapses m g) next));

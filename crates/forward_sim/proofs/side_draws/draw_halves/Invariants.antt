@@ -8,7 +8,7 @@ use Rattle.forward_sim.proofs.side_draws.draw_halves.Given as goal
 abbrev pub invariant-loop-lane : goal.invariant-loop-lane
 invariant-loop-lane l =
     record {
-      drawn : HalvesDrawn l.tossed (bounds_in l.runs) (length l.fn.coins) l.half l.lane l.fn.rng l.faults l.coins;
+      drawn : HalvesDrawn l.passed (bounds_in l.runs) (length l.fn.coins) l.half l.lane l.fn.rng l.faults l.coins;
       first : l.rng ≡ after_shots (length (bounds_in l.runs)) (length l.fn.coins) l.lane l.fn.rng;
       second : l.second ≡ after_shots (length (bounds_in l.runs)) (length l.fn.coins) (l.half + l.lane) l.fn.rng;
     }

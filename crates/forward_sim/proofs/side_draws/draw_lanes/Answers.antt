@@ -23,19 +23,19 @@ returns-then-count-eq1 c =
     let k = c.args.count - 1 in
     let pairs : k ≡ 2 * (c.args.count / 2) = odd_is c.args.count c.if-count-eq1.true in
     let whole : k + 1 ≡ c.args.count = odd_more c.args.count c.if-count-eq1.true in
-    let so_far : AreDrawn c.args.tossed bounds collapses k g c.draw_halves.new.faults c.draw_halves.new.coins =
-    subst (λ m. AreDrawn c.args.tossed bounds collapses m g c.draw_halves.new.faults c.draw_halves.new.coins) (sym pairs) c.draw_halves.ensures.drawn in
+    let so_far : AreDrawn c.args.passed bounds collapses k g c.draw_halves.new.faults c.draw_halves.new.coins =
+    subst (λ m. AreDrawn c.args.passed bounds collapses m g c.draw_halves.new.faults c.draw_halves.new.coins) (sym pairs) c.draw_halves.ensures.drawn in
     let at = c.draw_halves.ensures.taken ∙ ap (λ m. after_shots n collapses m g) (sym pairs) in
     let tossed_from = c.draw_faults.ensures.taken ∙ ap (after_words n) at in
     let faults =
     subst (λ r. DrawsInto k 0 n (fault_hits bounds r) c.draw_halves.new.faults c.draw_faults.new.faults) at c.draw_faults.ensures.drawn in
     let coins =
-    subst (λ m. DrawsInto k 0 m (coin_hits c.args.tossed (after_words n (after_shots n collapses k g))) c.draw_halves.new.coins c.draw_coins.new.coins) so_far.coin_count
-    (subst (λ r. DrawsInto k 0 (length c.draw_halves.new.coins) (coin_hits c.args.tossed r) c.draw_halves.new.coins c.draw_coins.new.coins) tossed_from c.draw_coins.ensures.drawn) in
+    subst (λ m. DrawsInto k 0 m (coin_hits c.args.passed (after_words n (after_shots n collapses k g))) c.draw_halves.new.coins c.draw_coins.new.coins) so_far.coin_count
+    (subst (λ r. DrawsInto k 0 (length c.draw_halves.new.coins) (coin_hits c.args.passed r) c.draw_halves.new.coins c.draw_coins.new.coins) tossed_from c.draw_coins.ensures.drawn) in
     record {
       drawn =
-          subst (λ m. AreDrawn c.args.tossed bounds collapses m g c.draw_faults.new.faults c.draw_coins.new.coins) whole
-          (one_more_drawn c.args.tossed bounds collapses k g c.draw_halves.new.faults c.draw_faults.new.faults c.draw_halves.new.coins c.draw_coins.new.coins
+          subst (λ m. AreDrawn c.args.passed bounds collapses m g c.draw_faults.new.faults c.draw_coins.new.coins) whole
+          (one_more_drawn c.args.passed bounds collapses k g c.draw_halves.new.faults c.draw_faults.new.faults c.draw_halves.new.coins c.draw_coins.new.coins
           (omega (arith, c.requires.count)) so_far faults coins);
       taken =
           c.draw_coins.ensures.taken

@@ -43,15 +43,15 @@ returns g c =
     let coins = c.draw.new.self.coins in
     let bounds = c.args.drawn.now.bounds in
     let n : length bounds ≡ length program.faults = ap length c.requires.bounds ∙ length-map program.faults (λ (fault : ListedFault). fault.bound) in
-    let tossed = c.args.drawn.now.tossed in
-    let drawn : AreDrawn tossed (bounds_of program) program.collapses count rng faults coins =
-    subst (λ bs. AreDrawn tossed bs program.collapses count rng faults coins) c.requires.bounds
-    (subst (λ m. AreDrawn tossed bounds m count rng faults coins) c.requires.coins c.draw.ensures.drawn) in
+    let passed = c.args.drawn.now.passed in
+    let drawn : AreDrawn passed (bounds_of program) program.collapses count rng faults coins =
+    subst (λ bs. AreDrawn passed bs program.collapses count rng faults coins) c.requires.bounds
+    (subst (λ m. AreDrawn passed bounds m count rng faults coins) c.requires.coins c.draw.ensures.drawn) in
     let text : lane_lines c.words.result.now count ≡ lines_from (shown_line shown) program count rng =
     ap (λ ws. lane_lines ws count) c.words.ensures
     ∙ batch_lines (shown_line shown) program count rng words
     (λ j below.
-    drawn_line tossed shown program count j rng faults coins words c.requires.count below drawn c.requires.tossed
+    drawn_line passed shown program count j rng faults coins words c.requires.count below drawn c.requires.passed
     (λ i lane_below. c.run.ensures.lanes i lane_below ∙ ap₂ (λ fs cs. shown_of shown program (lane i fs) (lane i cs)) c.faults.ensures c.coins.ensures)) in
     record {
       lines = subst (λ bytes. Pushes g.W.Sink.taken g.W.Sink.failures c.args.sink.now c.push_lines.new.sink c.args.out.now c.push_lines.new.out bytes) text c.push_lines.ensures.lines;
@@ -59,7 +59,7 @@ returns g c =
       program = c.run.ensures.program;
       shown = c.run.ensures.shown;
       bounds = c.draw.ensures.bounds ∙ c.requires.bounds;
-      tossed = c.draw.ensures.tossed;
+      passed = c.draw.ensures.passed;
       coins = c.draw.ensures.drawn.coin_count ∙ c.requires.coins;
       line = c.push_lines.ensures.room ∙ (c.requires.line ∙ ap (λ n. n + 1) (sym c.run.ensures.size));
     }

@@ -4,7 +4,7 @@ use Rattle.step_model.specs.Listing.{Listing}
 use Rattle.streams.specs.Pushed.{Pushes}
 use Rattle.streams.proofs.Pushing.{Pushes-nil, Pushes-trans}
 use Rattle.forward_sim.specs.Drawn.{bounds_of}
-use Rattle.frames.specs.Batches.{CoinsCountBelow}
+use Rattle.frames.specs.Batches.{DontCount}
 use Rattle.forward_sim.proofs.SideLemmas.{none_taken}
 use Rattle.sampling.specs.Sampled.{lines_from, shot_generator}
 use Rattle.sampling.specs.Shown.{shown_line}
@@ -23,7 +23,7 @@ loop-left-init g c =
       shown = refl;
       bounds = c.requires.bounds;
       coins = c.requires.coins;
-      tossed = refl;
+      passed = refl;
       line = c.requires.line;
       lines =
           subst (λ n. Pushes g.W.Sink.taken g.W.Sink.failures c.args.sink.now c.args.sink.now c.args.out.now c.args.out.now (lines_from (shown_line c.args.runs.now.shown) program n rng))
@@ -40,7 +40,7 @@ push_batch-requires g c =
     record {
       bounds = at.bounds ∙ ap bounds_of (sym at.same);
       coins = at.coins ∙ ap (λ (p : Listing). p.collapses) (sym at.same);
-      tossed = subst₂ CoinsCountBelow (sym at.same) (sym at.tossed) c.requires.tossed;
+      passed = subst₂ DontCount (sym at.same) (sym at.passed) c.requires.passed;
       line = at.line;
       count = c.next_count-count.ensures.few;
     }
@@ -68,7 +68,7 @@ loop-left-preserved g c =
       shown = batch.shown ∙ at.shown;
       bounds = batch.bounds ∙ ap bounds_of at.same;
       coins = batch.coins ∙ ap (λ (p : Listing). p.collapses) at.same;
-      tossed = batch.tossed ∙ at.tossed;
+      passed = batch.passed ∙ at.passed;
       line = batch.line;
       lines =
           subst (λ bytes. Pushes g.W.Sink.taken g.W.Sink.failures c.args.sink.now c.push_batch.new.sink c.args.out.now c.push_batch.new.out bytes) text

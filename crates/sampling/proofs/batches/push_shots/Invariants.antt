@@ -15,7 +15,7 @@ invariant-loop-left g l =
       shown : l.runs.shown ≡ l.fn.runs.shown;
       bounds : l.drawn.bounds ≡ bounds_of program;
       coins : length l.drawn.coins ≡ program.collapses;
-      tossed : l.drawn.tossed ≡ l.fn.drawn.tossed;
+      passed : l.drawn.passed ≡ l.fn.drawn.passed;
       line : length l.line ≡ length l.runs.words + 1;
       lines : Pushes g.W.Sink.taken g.W.Sink.failures l.fn.sink l.sink l.fn.out l.out (lines_from (shown_line l.fn.runs.shown) program (l.shots - l.left) l.fn.rng);
       taken : l.rng ≡ shot_generator program l.fn.rng (l.shots - l.left);

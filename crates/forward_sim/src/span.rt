@@ -1,0 +1,7 @@
+/// Collapses one after another, from one with a number up to another. A collapse is the projective measurement inside a
+/// measurement or a reset.
+#[derive(Clone, Copy, Debug, PartialEq, Eq)]
+pub struct Span {
+    pub start: usize,
+    pub end: usize,
+}
