@@ -15,7 +15,8 @@ use gate_table::Gate;
 use pauli_word::{Letter, Word};
 use std::alloc::Allocator;
 
-/// Applies a one-qubit gate. What it leaves in `spare` is of no use.
+/// Applies a one-qubit gate. H exchanges the two words, S and its inverse multiply one by the other, and gates other than
+/// these and letters make both anew. What it leaves in `spare` is of no use.
 pub(crate) fn apply_one<A: Allocator + Copy>(
     rows: &mut Vec<Pair<A>, A>,
     spare: &mut Pair<A>,
@@ -29,27 +30,10 @@ pub(crate) fn apply_one<A: Allocator + Copy>(
     ensures rows { rows.new.items ≡ after_one (length rows.old.items) gate qubit rows.old.items }
     ensures spare { HasLength (length rows.old.items) spare.new }
 {
-    match letter_of(gate) {
-        Some(letter) => apply_letter(&mut rows[qubit], letter),
-        None => apply_turn(rows, spare, gate, qubit),
+    if let Some(letter) = letter_of(gate) {
+        apply_letter(&mut rows[qubit], letter);
+        return;
     }
-}
-
-// A gate other than a Pauli letter. H exchanges the two words, S and its inverse multiply one by the other, and the rest
-// make both anew.
-fn apply_turn<A: Allocator + Copy>(
-    rows: &mut Vec<Pair<A>, A>,
-    spare: &mut Pair<A>,
-    gate: Gate,
-    qubit: usize,
-)
-    requires arity { arity_of gate ≡ 1 }
-    requires inside { qubit < length rows.old.items }
-    requires tableau { IsTableau (length rows.old.items) rows.old.items }
-    requires spare { HasLength (length rows.old.items) spare.old }
-    ensures rows { rows.new.items ≡ after_one (length rows.old.items) gate qubit rows.old.items }
-    ensures spare { HasLength (length rows.old.items) spare.new }
-{
     match gate {
         Gate::H => exchange(&mut rows[qubit]),
         Gate::S => multiply_first(&mut rows[qubit], false),
