@@ -1,14 +1,17 @@
 -- What a builder of circuits keeps where a block closes, and what it answers at the end.
-use Rattle.std.proofs.Common.{◌≡◌, ℕ, zero, suc, ◌+◌, ◌-◌, ◌<◌, ◌≤◌, List, [], ◌∷◌, ◌++◌, length, take, get_or, set, refl, sym, ap, ap₂, ◌∙◌, subst, arith, length-append, append_assoc, append-nil}
+use Rattle.std.proofs.Common.{◌≡◌, ℕ, zero, suc, ◌+◌, ◌-◌, ◌<◌, ◌≤◌, List, [], ◌∷◌, ◌++◌, length, take, get_or, set, refl, sym, ap, ap₂, ◌∙◌, subst, arith, length-append, append_assoc, append-nil, ⊎_elim}
+use Rattle.std.specs.Prelude.{if◌then◌else◌}
+use Rattle.std.proofs.lemmas.Bool.{cases_eq, eq-eqb, ne_eqb}
 use Rattle.std.proofs.lemmas.List.{length-take, length-set, take_all, take_more}
 use Rattle.programs.specs.declared.builder.Outer.{Outer}
 use Rattle.programs.specs.declared.node.Node.{Node}
 use Rattle.programs.specs.declared.node.Node.TheVariants.{Open, Close}
 use Rattle.programs.specs.declared.step.TextStep.{TextStep}
 use Rattle.programs.specs.Builders.{OpenBlock, Building, building, Closes, Frame, flat, FramesFit, Builds}
+use Rattle.programs.specs.private.KeptNodes.{closed_at}
 use Rattle.programs.specs.Trees.{Tree, Nothing, Then, Block, repeated, unrolled, nodes_of, tree_of, depth, IsFull, IsCircuit}
 use Rattle.programs.proofs.Building.{beside, nodes_of-beside, unrolled-beside}
-use Rattle.programs.proofs.BuilderLaws.{seen, view_of, viewed, take-there, set-there, length-flat, flat-beside, fit-beside, flat-inside, seen-inside, FitsOutside, fit-outside, Last, last_of}
+use Rattle.programs.proofs.BuilderLaws.{depth-seen, seen, view_of, viewed, take-there, set-there, length-flat, flat-beside, fit-beside, flat-inside, seen-inside, FitsOutside, fit-outside, Last, last_of}
 use Rattle.programs.proofs.Reading.{tree_of-written}
 
 repeated-nil : (n : ℕ) → repeated n [] ≡ []
@@ -136,25 +139,42 @@ module _ (nodes : List Node) (outer : List Outer) (count : ℕ) (b : Builds node
         enough_left = omega (arith, ap length is, k_is);
       }
 
-  pub closed_empty : (new : List Node) → count ≡ 0 → new ≡ take (length nodes - count - 1) nodes → Closed new
+  closed_empty : (new : List Node) → count ≡ 0 → new ≡ take (length nodes - count - 1) nodes → Closed new
   closed_empty new none is =
       closed_with new _ o.length is
       (omega (arith, all-counted, length-take (length nodes - count - 1) nodes))
       (dropped none) (dropped-view none)
 
-  pub closed_full : (new : List Node) → 0 < count → new ≡ set nodes (length nodes - count - 1) (Open o.turns count) ++ Close o.turns count ∷ [] → Closed new
+  closed_full : (new : List Node) → 0 < count → new ≡ set nodes (length nodes - count - 1) (Open o.turns count) ++ Close o.turns count ∷ [] → Closed new
   closed_full new some is =
       let put = set nodes (length nodes - count - 1) (Open o.turns count) in
       closed_with new _ (count + (o.length + 2)) is
       (omega (arith, all-counted, length-append put (Close o.turns count ∷ []), length-set nodes (length nodes - count - 1) (Open o.turns count)))
       (written some) (written-view some)
 
+  pub closed : (new : List Node) (len : ℕ) → len ≡ length nodes → new ≡ closed_at (len - count - 1) (record { turns = o.turns; length = count }) nodes → Closed new
+  closed new len len_is closes =
+      let is : new ≡ closed_at (length nodes - count - 1) (record { turns = o.turns; length = count }) nodes =
+      closes ∙ ap (λ k. closed_at (k - count - 1) (record { turns = o.turns; length = count }) nodes) len_is in
+      let put : List Node = set nodes (length nodes - count - 1) (Open o.turns count) ++ Close o.turns count ∷ [] in
+      ⊎_elim
+      (λ (none : count ≡ 0). closed_empty new none (is ∙ ap (λ b. if b then take (length nodes - count - 1) nodes else put) (eq-eqb count 0 none)))
+      (λ (some : count ≡ 0 → ⊥). closed_full new (omega (arith, some)) (is ∙ ap (λ b. if b then take (length nodes - count - 1) nodes else put) (ne_eqb count 0 some)))
+      (cases_eq count 0)
+
 -- the last of the open blocks, and those before it
-pub last-open : (outer read : List Outer) (len : ℕ) (d : Outer) → read ≡ outer → len ≡ length outer → 0 < len → outer ≡ take (len - 1) outer ++ get_or read (len - 1) d ∷ []
+last-open : (outer read : List Outer) (len : ℕ) (d : Outer) → read ≡ outer → len ≡ length outer → 0 < len → outer ≡ take (len - 1) outer ++ get_or read (len - 1) d ∷ []
 last-open outer read len d read_is len_is some =
     sym (take_all (len - 1 + 1) outer (omega arith))
     ∙ take_more outer (len - 1) d (omega arith)
     ∙ ap (λ (os : List Outer). take (len - 1) outer ++ get_or os (len - 1) d ∷ []) (sym read_is)
+
+-- so it is of a builder in which a block is seen to be open
+pub innermost : (nodes : List Node) (outer read : List Outer) (count len : ℕ) (value : Building) → Builds nodes outer count → building nodes outer ≡ value
+    → 0 < length value.outer → read ≡ outer → len ≡ length outer → outer ≡ take (len - 1) outer ++ get_or read (len - 1) (record { length = 0; turns = 0 }) ∷ []
+innermost nodes outer read count len value b is some read_is len_is =
+    last-open outer read len _ read_is len_is
+    (omega (arith, depth-seen nodes outer count b, len_is, ap (λ (v : Building). length v.outer) is, some))
 
 -- where no block is open the nodes write a circuit
 no_frames : (fs : List Frame) → seen fs ≡ [] → fs ≡ []

@@ -1,6 +1,7 @@
 ghost use Rattle.std.specs.Prelude.{◌≡◌, ◌<◌, [], ◌∷◌, ◌++◌, length, OnOk, OnErr};
 ghost use Rattle.programs.specs.Builders.{Closes};
 ghost use Rattle.programs.specs.Trees.{IsCircuit, tree_of, unrolled};
+ghost use Rattle.programs.specs.private.KeptNodes.{closed_at};
 
 use crate::kept_node::BlockSize;
 use crate::nodes::Nodes;
@@ -95,15 +96,11 @@ impl<A: Allocator + Copy> CircuitBuilder<A> {
         let last = self.outer.len() - 1;
         let Outer { length, turns } = self.outer[last];
         let start = self.nodes.len() - self.count - 1;
-        if self.count == 0 {
-            self.nodes.truncate(start);
-        } else {
-            let size = BlockSize {
-                turns,
-                length: self.count,
-            };
-            self.nodes.close(start, size)?;
-        }
+        let size = BlockSize {
+            turns,
+            length: self.count,
+        };
+        close_block(&mut self.nodes, start, size)?;
         self.count = self.nodes.len() - (start - length);
         self.outer.truncate(last);
         Ok(())
@@ -117,4 +114,21 @@ impl<A: Allocator + Copy> CircuitBuilder<A> {
     {
         self.nodes
     }
+}
+
+// Closes the block that starts at a node and has all nodes behind it. One without nodes leaves nothing.
+fn close_block<A: Allocator + Copy>(
+    nodes: &mut Nodes<A>,
+    start: usize,
+    size: BlockSize,
+) -> Result<(), AllocError>
+    requires { start < length nodes.old }
+    ensures ok { OnOk result (nodes.new ≡ closed_at start size nodes.old) }
+    ensures err { OnErr result (nodes.new ≡ nodes.old) }
+{
+    if size.length == 0 {
+        nodes.truncate(start);
+        return Ok(());
+    }
+    nodes.close(start, size)
 }

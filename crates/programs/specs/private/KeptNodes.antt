@@ -1,6 +1,6 @@
 -- The node that a kept node stands for: the turns and the length of a block stand apart, under the block's number.
 -- (Stim's circuit format, github.com/quantumlib/Stim, doc/file_format_stim_circuit.md; how it is kept is this project's own.)
-use Rattle.std.specs.Prelude.{⊤, ◌<◌, ℕ, Bool, List, map, slice_index_or, Option, None, Some}
+use Rattle.std.specs.Prelude.{⊤, ◌<◌, ◌==◌, ℕ, Bool, if◌then◌else◌, List, [], ◌∷◌, ◌++◌, map, take, set, slice_index_or, Option, None, Some}
 use Rattle.programs.specs.declared.kept_node.BlockSize.{BlockSize}
 use Rattle.programs.specs.declared.kept_node.KeptNode.{KeptNode}
 use Rattle.programs.specs.declared.kept_node.KeptNode.TheVariants as kept
@@ -45,3 +45,9 @@ abbrev pub NamesBlockBelow : ℕ → KeptNode → Type 0
 NamesBlockBelow n (kept.Open b) = b < n
 NamesBlockBelow n (kept.Close b) = b < n
 NamesBlockBelow n other = ⊤
+
+-- the nodes where the block that starts at one of them is closed, with all behind that in it: one without nodes goes
+abbrev pub closed_at : ℕ → BlockSize → List Node → List Node
+closed_at start size nodes =
+    if size.length == 0 then take start nodes
+    else (set nodes start (Open size.turns size.length) ++ Close size.turns size.length ∷ [])
