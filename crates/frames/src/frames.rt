@@ -45,10 +45,9 @@ impl<A: Allocator + Copy> Frames<A> {
         ensures qubits { IfOk result (λ f. length f.letters ≡ qubits) }
         ensures room { IfOk result (λ f. f.room ≡ records) }
     {
-        Ok(Frames {
-            letters: Vec::from_elem(alloc, Letters::none(), qubits)?,
-            flips: Vec::with_capacity(alloc, records)?,
-        })
+        let flips = Vec::with_capacity(alloc, records)?;
+        let letters = Vec::from_elem(alloc, Letters::none(), qubits)?;
+        Ok(Frames { letters, flips })
     }
 
     /// Makes them frames of I alone again, before the first record.

@@ -23,10 +23,11 @@ use stim_lexer::{Builder, Lexer, Line, Said};
 fn mark_from(number: usize) -> u32
     ensures { number < 2 ^ 32 → result ≡ number }
 {
-    if number > u32::MAX as usize {
-        return u32::MAX;
+    if number < 1 << 32 {
+        number as u32
+    } else {
+        u32::MAX
     }
-    number as u32
 }
 
 /// The mark of what a line says: where it is an instruction with a probability, the number of that among the texts.
