@@ -120,12 +120,11 @@ impl<A: Allocator + Copy> NumberLists<A> {
         Ok(())
     }
 
-    /// Gives back the memory that the lists don't take.
+    /// Gives back the memory that the kept lists don't take.
     pub fn shrink_to_fit(&mut self)
         ensures { self.new ≡ self.old }
     {
         self.kept.shrink_to_fit();
-        self.repeats.shrink_to_fit();
     }
 
     /// The list at an index.
