@@ -192,12 +192,12 @@ moved-turns : (p : Offset) (n : ℕ) (s t : List ℕ) (xs : List ℤ) → length
 moved-turns p n s t xs high low wide =
     let steps = steps_of p (offset (raised_by p.up s) (raised_by p.down t)) in
     same_lists (moved_by n steps xs) (moved_to (scaled n s) (scaled n t) xs) (length-moved n steps xs ∙ sym (length-moved_to (scaled n s) (scaled n t) xs)) (λ j d inside.
-        let here : j < length xs = omega (arith, inside, length-moved n steps xs) in
-        moved-at n steps xs j d here
-        ∙ ap (λ (z : ℤ). get_or xs j d +ℤ (pos n *ℤ z)) (step-turned p s t j high low wide)
-        ∙ spread n (get_or s j 0) (get_or t j 0) (get_or xs j d)
-        ∙ ap₂ (λ (a b : ℕ). (get_or xs j d +ℤ pos a) +ℤ neg_ℤ (pos b)) (sym (scaled-at n s j)) (sym (scaled-at n t j))
-        ∙ sym (moved_to-at (scaled n s) (scaled n t) xs j d here))
+    let here : j < length xs = omega (arith, inside, length-moved n steps xs) in
+    moved-at n steps xs j d here
+    ∙ ap (λ (z : ℤ). get_or xs j d +ℤ (pos n *ℤ z)) (step-turned p s t j high low wide)
+    ∙ spread n (get_or s j 0) (get_or t j 0) (get_or xs j d)
+    ∙ ap₂ (λ (a b : ℕ). (get_or xs j d +ℤ pos a) +ℤ neg_ℤ (pos b)) (sym (scaled-at n s j)) (sym (scaled-at n t j))
+    ∙ sym (moved_to-at (scaled n s) (scaled n t) xs j d here))
 
 steady : (p : Offset) (is : List Instruction) → IsWide p → AreFew is → IsSteady placing p is
 steady p is wide few =
