@@ -1,3 +1,5 @@
 pub mod CutLemmas
 pub mod NumberLemmas
+pub mod RepeatLemmas
 pub mod RoomLemmas
+pub mod TurnLemmas

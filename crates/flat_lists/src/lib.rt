@@ -5,6 +5,7 @@
 ghost use Rattle.std.specs.Prelude.{◌≡◌, ◌+◌, ◌<◌, ◌==◌, [], ◌∷◌, ◌++◌, length, IfOk, OnOk, OnErr, Some, slice_get, slice_index, slice_index_or};
 
 mod number_lists;
+mod packed_lists;
 mod rooms;
 
 pub use number_lists::{MOST_NUMBERS, NumberLists};

@@ -1,7 +1,11 @@
-ghost use Rattle.std.specs.Prelude.{◌≡◌, ◌<◌, ◌≤◌, [], ◌∷◌, ◌++◌, length, IfOk, OnOk, OnErr, slice_index_or};
-ghost use Rattle.flat_lists.specs.private.Numbers.{folded, numbers_in, unfolded, with_group};
+ghost use Rattle.std.specs.Prelude.{◌≡◌, ℕ, ◌<◌, ◌≤◌, ◌^◌, ℤ, pos, ◌+ℤ◌, ◌*ℤ◌, List, [], ◌∷◌, ◌++◌, All, drop, length, nat_abs, reverse, slice_index_or, take, IfOk, OnOk, OnErr};
+ghost use Rattle.std.specs.List.{AllWithin};
+ghost use Rattle.std.specs.List.Sorted.{IsNonDecreasingBy};
+ghost use Rattle.flat_lists.specs.Turns.{later, moved_by};
+ghost use Rattle.flat_lists.specs.private.Repeats.{AreRepeats, unrolled};
 
-use crate::FlatLists;
+use crate::end_after;
+use crate::packed_lists::PackedLists;
 use arrayvec::ArrayVec;
 use std::alloc::{AllocError, Allocator};
 use std::marker::Model;
@@ -9,24 +13,36 @@ use std::marker::Model;
 /// How many numbers a list of numbers has at most.
 pub const MOST_NUMBERS: usize = 16;
 
-/// Lists of whole numbers, at most 16 in each, in the order in which they were pushed. A number takes a byte for each 7
-/// bits that it and its sign need, so that a small one takes one byte.
+/// Later turns of lists that stand before them.
+#[derive(Clone, Copy)]
+struct Repeat {
+    // The lists from `first` up to `start` are those of the first turn. The later turns follow.
+    first: u32,
+    start: u32,
+    turns: u32,
+    // At which number the steps of a turn are kept.
+    steps: u32,
+}
+
+/// Lists of whole numbers, at most 16 in each. Where lists are those of later turns of a block, only those of its first turn
+/// are kept.
 #[derive(Drop)]
 pub struct NumberLists<A: Allocator + Copy> {
-    // The numbers of a list stand from the last to the first.
-    lists: FlatLists<u8, A>,
-    room: Vec<u8, A>,
+    // The lists that were pushed, and where they were repeated the steps of a turn.
+    kept: PackedLists<A>,
+    repeats: Vec<Repeat, A>,
+    len: u32,
 }
 
 impl<A: Allocator + Copy> Model for NumberLists<A> {
-    ghost use Rattle.std.specs.Prelude.{◌≤◌, All, List, length, map, ℤ};
-    ghost use Rattle.flat_lists.specs.private.Numbers.{numbers_in};
+    ghost use Rattle.std.specs.Prelude.{List, reverse, ℤ};
+    ghost use Rattle.flat_lists.specs.private.Repeats.{HasRepeats, unrolled};
 
     ghost Value = { List (List ℤ) };
 
-    ghost view = { λ n. map numbers_in n.lists };
+    ghost view = { λ n. unrolled (reverse n.repeats.items) n.kept };
 
-    ghost invariant = { λ n. All (λ list. length list ≤ 16) (map numbers_in n.lists) };
+    ghost invariant = { λ n. HasRepeats n.repeats.items n.kept n.len };
 }
 
 impl<A: Allocator + Copy> NumberLists<A> {
@@ -35,8 +51,9 @@ impl<A: Allocator + Copy> NumberLists<A> {
         ensures { result ≡ [] }
     {
         NumberLists {
-            lists: FlatLists::new(alloc),
-            room: Vec::new(alloc),
+            kept: PackedLists::new(alloc),
+            repeats: Vec::new(alloc),
+            len: 0,
         }
     }
 
@@ -44,9 +61,11 @@ impl<A: Allocator + Copy> NumberLists<A> {
     pub fn with_room(alloc: A, lists: usize) -> Result<Self, AllocError>
         ensures { IfOk result (λ none. none ≡ []) }
     {
+        let kept = PackedLists::with_room(alloc, lists)?;
         Ok(NumberLists {
-            lists: FlatLists::with_room(alloc, lists)?,
-            room: Vec::new(alloc),
+            kept,
+            repeats: Vec::new(alloc),
+            len: 0,
         })
     }
 
@@ -54,24 +73,58 @@ impl<A: Allocator + Copy> NumberLists<A> {
     pub fn len(&self) -> usize
         ensures { result ≡ length self.now }
     {
-        self.lists.len()
+        self.len as usize
     }
 
-    /// Appends a copy of the list. It fails only where memory runs out, or where there would be 2^32 bytes or more.
+    /// Appends a copy of the list. It fails only where memory runs out, or where there would be 2^32 lists or bytes or more.
     pub fn push(&mut self, list: &[i64]) -> Result<(), AllocError>
         requires { length list.now ≤ MOST_NUMBERS }
         ensures ok { OnOk result (self.new ≡ self.old ++ list.now ∷ []) }
         ensures err { OnErr result (self.new ≡ self.old) }
     {
-        write_numbers(&mut self.room, list)?;
-        self.lists.push(self.room.as_slice())
+        let len = end_after(self.len as usize, 1)?;
+        self.kept.push(list)?;
+        self.len = len;
+        Ok(())
     }
 
-    /// Gives back the memory that the lists don't take.
+    /// Appends what this many later turns give. The lists from `first` on are those of the first turn, and each turn moves
+    /// their numbers on by these steps. It fails only where memory runs out, or where there would be 2^32 lists or bytes or
+    /// more.
+    pub fn repeat(&mut self, first: usize, turns: u64, steps: &[i64]) -> Result<(), AllocError>
+        requires few { length steps.now ≤ MOST_NUMBERS }
+        requires fits { All (All (λ z. nat_abs z < 2 ^ 63))
+            (later (λ n. moved_by n steps.now) turns (drop first self.old)) }
+        ensures ok { OnOk result
+            (self.new
+            ≡ self.old ++ later (λ n. moved_by n steps.now) turns (drop first self.old)) }
+        ensures err { OnErr result (self.new ≡ self.old) }
+    {
+        let start = self.len();
+        let more = turns.saturating_mul(start.saturating_sub(first) as u64);
+        if more == 0 {
+            return Ok(());
+        }
+        let end = end_after(start, more as usize)?;
+        let number = end_after(self.kept.len(), 0)?;
+        let moves = moving(steps);
+        self.repeats.reserve(1)?;
+        self.kept.push(&steps[..moves])?;
+        self.repeats.push_reserved(Repeat {
+            first: first as u32,
+            start: self.len,
+            turns: turns as u32,
+            steps: number,
+        });
+        self.len = end;
+        Ok(())
+    }
+
+    /// Gives back the memory that the kept lists don't take.
     pub fn shrink_to_fit(&mut self)
         ensures { self.new ≡ self.old }
     {
-        self.lists.shrink_to_fit();
+        self.kept.shrink_to_fit();
     }
 
     /// The list at an index.
@@ -79,83 +132,85 @@ impl<A: Allocator + Copy> NumberLists<A> {
         requires { index < length self.now }
         ensures { result.items ≡ slice_index_or self.now index [] }
     {
-        numbers_in(self.lists.get(index))
+        list_at(&self.kept, &self.repeats, index as u32)
     }
 }
 
-// A whole number as one that isn't negative: doubled, and one more where it was negative.
-fn folded(number: i64) -> u64
-    ensures { result ≡ folded number }
+// How many steps there are up to the last that isn't 0.
+fn moving(steps: &[i64]) -> usize
+    ensures within { result ≤ length steps.now }
+    ensures same { (n : ℕ) (xs : List ℤ) →
+        moved_by n (take result steps.now) xs ≡ moved_by n steps.now xs }
 {
-    if number < 0 {
-        2 * (number.unsigned_abs() - 1) + 1
-    } else {
-        2 * number.unsigned_abs()
+    let mut end = steps.len();
+    while end > 0 && steps[end - 1] == 0 {
+        end -= 1;
     }
+    end
 }
 
-fn unfolded(number: u64) -> i64
-    ensures { result ≡ unfolded number }
+// How many repeats begin at or before an index.
+fn begun(repeats: &[Repeat], index: u32) -> usize
+    requires { IsNonDecreasingBy (λ r. r.start) repeats.now }
+    ensures bound { result ≤ length repeats.now }
+    ensures begun { AllWithin (λ r. r.start ≤ index) repeats.now 0 result }
+    ensures others { AllWithin (λ r. index < r.start) repeats.now result (length repeats.now) }
 {
-    let half = (number / 2) as i64;
-    if number % 2 == 0 { half } else { -1 - half }
+    repeats.partition_point(|repeat| repeat.start <= index)
 }
 
-// A number with the 7 bits of a group behind it. It stays at the greatest of 64 bits where it would pass that.
-fn with_group(number: u64, byte: u8) -> u64
-    ensures { result ≡ with_group number byte }
+// The list at an index. A list of a later turn is that of the first turn, moved on. So this calls itself once for each
+// repeat in whose later turns the index is.
+fn list_at<A: Allocator + Copy>(
+    kept: &PackedLists<A>,
+    repeats: &[Repeat],
+    index: u32,
+) -> ArrayVec<i64, MOST_NUMBERS>
+    requires are { AreRepeats (reverse repeats.now) kept.now }
+    requires rise { IsNonDecreasingBy (λ r. r.start) repeats.now }
+    requires below { index < length (unrolled (reverse repeats.now) kept.now) }
+    ensures { result.items ≡ slice_index_or (unrolled (reverse repeats.now) kept.now) index [] }
 {
-    number
-        .saturating_mul(128)
-        .saturating_add((byte % 128) as u64)
-}
-
-// Appends a number, its lowest group of 7 bits first. The top bit is set in the other groups.
-fn write_number<A: Allocator + Copy>(bytes: &mut Vec<u8, A>, number: i64) -> Result<(), AllocError>
-    ensures { OnOk result (numbers_in bytes.new.items ≡ number ∷ numbers_in bytes.old.items) }
-{
-    let all = folded(number);
-    bytes.push((all % 128) as u8)?;
-    let mut left = all / 128;
-    while left > 0 {
-        bytes.push((128 + left % 128) as u8)?;
-        left /= 128;
+    let count = begun(repeats, index);
+    if count == 0 {
+        return kept.get(index as usize);
     }
-    Ok(())
+    let repeat = repeats[count - 1];
+    let past = index - repeat.start;
+    let size = repeat.start - repeat.first;
+    let turn = past / size;
+    if turn >= repeat.turns {
+        let behind = past - repeat.turns * size;
+        return kept.get(repeat.steps as usize + 1 + behind as usize);
+    }
+    let list = list_at(kept, &repeats[..count - 1], repeat.first + past % size);
+    let steps = kept.get(repeat.steps as usize);
+    moved_by(turn + 1, steps.as_slice(), list.as_slice())
 }
 
-// Writes numbers, in place of what was there.
-fn write_numbers<A: Allocator + Copy>(
-    bytes: &mut Vec<u8, A>,
-    numbers: &[i64],
-) -> Result<(), AllocError>
-    ensures { OnOk result (numbers_in bytes.new.items ≡ numbers.now) }
+// A list after so many turns with these steps.
+fn moved_by(turns: u32, steps: &[i64], list: &[i64]) -> ArrayVec<i64, MOST_NUMBERS>
+    requires few { length list.now ≤ MOST_NUMBERS }
+    requires fits { All (λ z. nat_abs z < 2 ^ 63) (moved_by turns steps.now list.now) }
+    ensures { result.items ≡ moved_by turns steps.now list.now }
 {
-    bytes.clear();
-    let mut left = numbers.len();
-    while left > 0 {
-        left -= 1;
-        write_number(bytes, numbers[left])?;
+    let mut moved = ArrayVec::new();
+    for j in 0..list.len() {
+        moved.push(number_after(turns, step_at(steps, j), list[j]));
     }
-    Ok(())
+    moved
 }
 
-// The numbers that bytes write.
-fn numbers_in(bytes: &[u8]) -> ArrayVec<i64, MOST_NUMBERS>
-    requires { length (numbers_in bytes.now) ≤ MOST_NUMBERS }
-    ensures { result.items ≡ numbers_in bytes.now }
+fn step_at(steps: &[i64], j: usize) -> i64
+    ensures { result ≡ slice_index_or steps.now j (pos 0) }
 {
-    let mut found = ArrayVec::new();
-    let mut number = 0;
-    let mut left = bytes.len();
-    while left > 0 {
-        left -= 1;
-        let byte = bytes[left];
-        number = with_group(number, byte);
-        if byte < 128 {
-            found.push(unfolded(number));
-            number = 0;
-        }
-    }
-    found
+    if j < steps.len() { steps[j] } else { 0 }
+}
+
+fn number_after(turns: u32, step: i64, number: i64) -> i64
+    requires { nat_abs (number +ℤ (pos turns *ℤ step)) < 2 ^ 63 }
+    ensures { result ≡ number +ℤ (pos turns *ℤ step) }
+{
+    let whole = number as i128 + turns as i128 * step as i128;
+    whole as i64
 }

@@ -12,7 +12,8 @@ use Rattle.stim_parser.specs.Verdicts.{Instruction}
 use Rattle.stim_lexer.specs.declared.blocks.OpenBlock.{OpenBlock}
 use Rattle.unroll.specs.declared.marks.Mark.{Mark}
 use Rattle.stim_lexer.specs.Reached.{reached}
-use Rattle.unroll.specs.private.Gathered.{Gathered, Gathering, gathering, given, later}
+use Rattle.flat_lists.specs.Turns.{later}
+use Rattle.unroll.specs.private.Gathered.{Gathered, Gathering, gathering, given}
 use Rattle.unroll.specs.private.Passes.{behind, opened}
 use Rattle.unroll.specs.private.Counted.{first_far_from}
 use Rattle.unroll.specs.private.MadeTotals.{record_count, record_total}

@@ -1,8 +1,9 @@
 -- Counts at each place, changed one place after another.
 use Rattle.std.proofs.Common.{◌≡◌, ℕ, zero, suc, ◌+◌, ◌-◌, ◌*◌, ◌<◌, ◌≤◌, ℤ, pos, neg_ℤ, ◌+ℤ◌, List, [], ◌∷◌, ◌++◌, length, get_or, set, take, drop, refl, sym, ap, ◌∙◌, arith}
-use Rattle.std.specs.Prelude.{◌^◌, All, min}
+use Rattle.std.specs.Prelude.{min}
+use Rattle.std.proofs.lemmas.Int.{ints}
 use Rattle.std.proofs.lemmas.List.{take_more}
-use Rattle.unroll.specs.private.Placing.{added_by, moved_to, moved_up, raised_by, turned_by}
+use Rattle.unroll.specs.private.Placing.{moved_to, moved_up, raised_by, turned_by}
 use Rattle.unroll.proofs.OffsetLemmas.{length-down, length-up, raised-none}
 
 -- ---- more added
@@ -75,37 +76,17 @@ length-turned m [] (q ∷ c) e = absurd (omega (arith, e))
 length-turned m (p ∷ b) [] e = refl
 length-turned m (p ∷ b) (q ∷ c) e = ap suc (length-turned m b c (omega (arith, e)))
 
--- ---- what turns add
-
-pub added-at : (m : ℕ) (b c : List ℕ) (j d : ℕ) → j < length c → length b ≡ length c → get_or (added_by m b c) j d ≡ m * (get_or c j 0 - get_or b j 0)
-added-at m [] [] j d h e = absurd (omega (arith, h))
-added-at m [] (q ∷ c) j d h e = absurd (omega (arith, e))
-added-at m (p ∷ b) [] j d h e = absurd (omega (arith, h))
-added-at m (p ∷ b) (q ∷ c) zero d h e = refl
-added-at m (p ∷ b) (q ∷ c) (suc j) d h e = added-at m b c j d (omega (arith, h)) (omega (arith, e))
-
-pub length-added : (m : ℕ) (b c : List ℕ) → length b ≡ length c → length (added_by m b c) ≡ length c
-length-added m [] [] e = refl
-length-added m [] (q ∷ c) e = absurd (omega (arith, e))
-length-added m (p ∷ b) [] e = refl
-length-added m (p ∷ b) (q ∷ c) e = ap suc (length-added m b c (omega (arith, e)))
-
--- what turns add at a place, by what one of them adds
-pub step-added : (m : ℕ) (b c : List ℕ) (j rise : ℕ) → j < length c → length b ≡ length c → All (λ n. n < 2 ^ 62) (added_by m b c) → rise ≡ get_or c j 0 - get_or b j 0
-    → (m * rise ≡ get_or (added_by m b c) j 0) × (m * rise < 2 ^ 62)
-step-added m b c j rise h e small is =
-    let here : m * rise ≡ get_or (added_by m b c) j 0 = ap (λ (n : ℕ). m * n) is ∙ sym (added-at m b c j 0 h e) in
-    let within = small j 0 (omega (arith, h, length-added m b c e)) in
-    (here, omega (arith, here, within))
-
 -- ---- coordinates moved
 
-pub moved-at : (u d : List ℕ) (xs : List ℤ) (j : ℕ) (z : ℤ) → j < length xs → length xs ≤ length u → length xs ≤ length d → get_or (moved_to u d xs) j z ≡ (get_or xs j z +ℤ pos (get_or u j 0)) +ℤ neg_ℤ (pos (get_or d j 0))
-moved-at u d [] j z h a b = absurd (omega (arith, h))
-moved-at [] d (x ∷ xs) j z h a b = absurd (omega (arith, a))
-moved-at (n ∷ u) [] (x ∷ xs) j z h a b = absurd (omega (arith, b))
-moved-at (n ∷ u) (m ∷ d) (x ∷ xs) zero z h a b = refl
-moved-at (n ∷ u) (m ∷ d) (x ∷ xs) (suc j) z h a b = moved-at u d xs j z (omega (arith, h)) (omega (arith, a)) (omega (arith, b))
+pub moved-at : (u d : List ℕ) (xs : List ℤ) (j : ℕ) (z : ℤ) → j < length xs → get_or (moved_to u d xs) j z ≡ (get_or xs j z +ℤ pos (get_or u j 0)) +ℤ neg_ℤ (pos (get_or d j 0))
+moved-at u d [] j z h = absurd (omega (arith, h))
+moved-at [] [] (x ∷ xs) j z h = omega (arith, ints)
+moved-at [] (m ∷ d) (x ∷ xs) zero z h = omega (arith, ints)
+moved-at [] (m ∷ d) (x ∷ xs) (suc j) z h = moved-at [] d xs j z (omega (arith, h))
+moved-at (n ∷ u) [] (x ∷ xs) zero z h = omega (arith, ints)
+moved-at (n ∷ u) [] (x ∷ xs) (suc j) z h = moved-at u [] xs j z (omega (arith, h))
+moved-at (n ∷ u) (m ∷ d) (x ∷ xs) zero z h = refl
+moved-at (n ∷ u) (m ∷ d) (x ∷ xs) (suc j) z h = moved-at u d xs j z (omega (arith, h))
 
 pub length-moved : (u d : List ℕ) (xs : List ℤ) → length (moved_to u d xs) ≡ length xs
 length-moved u d xs = length-down d (moved_up u xs) ∙ length-up u xs

@@ -12,7 +12,8 @@ use Rattle.stim_parser.specs.Verdicts.{Instruction}
 use Rattle.stim_lexer.specs.declared.blocks.OpenBlock.{OpenBlock}
 use Rattle.unroll.specs.declared.marks.Mark.{Mark}
 use Rattle.stim_lexer.specs.Reached.{copies, reached}
-use Rattle.unroll.specs.private.Gathered.{Gathered, Gathering, closed, gathering, given, later, mark_of, place_behind, stepped}
+use Rattle.flat_lists.specs.Turns.{later}
+use Rattle.unroll.specs.private.Gathered.{Gathered, Gathering, closed, gathering, given, mark_of, place_behind, stepped}
 use Rattle.unroll.specs.private.Passes.{behind, opened}
 use Rattle.unroll.proofs.PassLemmas.{AreWhole, can_stand, drop_got, whole-tree}
 

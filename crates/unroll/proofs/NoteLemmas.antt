@@ -6,7 +6,7 @@ use Rattle.std.proofs.lemmas.Bool.{cases_eq, cases_lt, eq-eqb, le-ltb, lt-ltb, n
 use Rattle.std.proofs.lemmas.List.{drop_all, get_or-set_other, get_or-set_same, length-set}
 use Rattle.std.proofs.lemmas.List.Elements.{All-get_or, All-set, All-weaker}
 use Rattle.unroll.specs.declared.inclusions.Note.{Note}
-use Rattle.unroll.specs.private.Gathered.{later}
+use Rattle.flat_lists.specs.Turns.{later}
 use Rattle.unroll.specs.private.Including.{HaveTurned, first_before, is_noted, record_moved, with_closed, with_later, with_more, with_noted}
 use Rattle.unroll.proofs.IncludingLemmas.{more-here, more-length, more-there}
 use Rattle.unroll.proofs.TurnLemmas.{later-nil}

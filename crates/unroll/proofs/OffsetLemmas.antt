@@ -1,7 +1,7 @@
 -- Counts at each place, and coordinates that they move.
 use Rattle.std.proofs.Common.{◌≡◌, ℕ, zero, suc, ◌+◌, ◌-◌, ◌*◌, ◌≤◌, ℤ, pos, neg_ℤ, ◌+ℤ◌, List, [], ◌∷◌, length, map, refl, sym, ap, ap₂, ◌∙◌, arith}
 use Rattle.std.proofs.lemmas.Int.{ints}
-use Rattle.unroll.specs.private.Placing.{added_by, moved_down, moved_to, moved_up, raised_by, turned_by}
+use Rattle.unroll.specs.private.Placing.{moved_down, moved_to, moved_up, raised_by, turned_by}
 
 abbrev pub scaled : ℕ → List ℕ → List ℕ
 scaled n s = map (λ x. n * x) s
@@ -74,42 +74,6 @@ turned-raised n (x ∷ p) (a ∷ s) =
     ap₂ (λ (m : ℕ) (ns : List ℕ). m ∷ ns) one (turned-raised n p s)
 
 -- ---- coordinates
-
-pub up-none : (n : ℕ) (p : List ℕ) (xs : List ℤ) → moved_up (added_by n p p) xs ≡ xs
-up-none n [] xs = refl
-up-none n (x ∷ p) [] = refl
-up-none n (x ∷ p) (z ∷ xs) =
-    let none : x - x ≡ 0 = omega arith in
-    let zeros : n * (x - x) ≡ 0 = rw none (omega arith) in
-    let one : z +ℤ pos (n * (x - x)) ≡ z = rw zeros (omega (arith, ints)) in
-    ap₂ (λ (y : ℤ) (ys : List ℤ). y ∷ ys) one (up-none n p xs)
-
-pub down-none : (n : ℕ) (p : List ℕ) (xs : List ℤ) → moved_down (added_by n p p) xs ≡ xs
-down-none n [] xs = refl
-down-none n (x ∷ p) [] = refl
-down-none n (x ∷ p) (z ∷ xs) =
-    let none : x - x ≡ 0 = omega arith in
-    let zeros : n * (x - x) ≡ 0 = rw none (omega arith) in
-    let one : z +ℤ neg_ℤ (pos (n * (x - x))) ≡ z = rw zeros (omega (arith, ints)) in
-    ap₂ (λ (y : ℤ) (ys : List ℤ). y ∷ ys) one (down-none n p xs)
-
-pub up-added : (n : ℕ) (p s : List ℕ) (xs : List ℤ) → length s ≤ length p → moved_up (added_by n p (raised_by p s)) xs ≡ moved_up (scaled n s) xs
-up-added n [] [] xs h = refl
-up-added n [] (a ∷ s) xs h = absurd (omega (arith, h))
-up-added n (x ∷ p) [] xs h = up-none n (x ∷ p) xs
-up-added n (x ∷ p) (a ∷ s) [] h = refl
-up-added n (x ∷ p) (a ∷ s) (z ∷ xs) h =
-    let turn : x + a - x ≡ a = omega arith in
-    ap₂ (λ (y : ℕ) (ys : List ℤ). (z +ℤ pos (n * y)) ∷ ys) turn (up-added n p s xs (omega (arith, h)))
-
-pub down-added : (n : ℕ) (p s : List ℕ) (xs : List ℤ) → length s ≤ length p → moved_down (added_by n p (raised_by p s)) xs ≡ moved_down (scaled n s) xs
-down-added n [] [] xs h = refl
-down-added n [] (a ∷ s) xs h = absurd (omega (arith, h))
-down-added n (x ∷ p) [] xs h = down-none n (x ∷ p) xs
-down-added n (x ∷ p) (a ∷ s) [] h = refl
-down-added n (x ∷ p) (a ∷ s) (z ∷ xs) h =
-    let turn : x + a - x ≡ a = omega arith in
-    ap₂ (λ (y : ℕ) (ys : List ℤ). (z +ℤ neg_ℤ (pos (n * y))) ∷ ys) turn (down-added n p s xs (omega (arith, h)))
 
 up-twice : (z : ℤ) (n m : ℕ) → z +ℤ pos (n + m) ≡ (z +ℤ pos n) +ℤ pos m
 up-twice z n m = omega (arith, ints)

@@ -1,8 +1,12 @@
 -- The coordinates that a pass gathers are those of the detectors that are reached.
-use Rattle.std.proofs.Common.{◌≡◌, ℕ, zero, suc, ◌-◌, ◌≤◌, ℤ, pos, negsuc, neg_ℤ, ◌+ℤ◌, List, [], ◌∷◌, ◌++◌, length, map, replicate, refl, sym, ap, ap₂, ◌∙◌, append-nil, arith}
+use Rattle.std.proofs.Common.{◌≡◌, ℕ, zero, suc, ◌+◌, ◌-◌, ◌*◌, ◌<◌, ◌≤◌, inl, inr, ℤ, pos, negsuc, neg_ℤ, ◌+ℤ◌, ◌*ℤ◌, List, [], ◌∷◌, ◌++◌, length, get_or, map, replicate, refl, sym, ap, ap₂, ◌∙◌, append-nil, arith}
 use Rattle.std.specs.Prelude.{⊤}
 use Rattle.std.proofs.lemmas.Int.{ints}
-use Rattle.std.proofs.lemmas.List.{length-map, map-append}
+use Rattle.std.proofs.lemmas.Bool.{cases_lt}
+use Rattle.std.proofs.lemmas.List.{get_or_past, length-map, map-append, same_lists}
+use Rattle.std.proofs.lemmas.List.FromFn.{get_or-map-range_with_len, length-map-range_with_len}
+use Rattle.flat_lists.specs.Turns.{moved_by}
+use Rattle.flat_lists.proofs.TurnLemmas.{length-moved, moved-at}
 use Rattle.stim_parser.specs.declared.operation.Operation.{Operation}
 use Rattle.stim_parser.specs.declared.operation.Operation.TheVariants.{DetectorDeclaration, CoordinateShift}
 use Rattle.stim_parser.specs.Circuits.{AllFit}
@@ -18,9 +22,10 @@ use Rattle.unroll.specs.TargetsMade.{offset_after, operation_coordinates}
 use Rattle.stim_lexer.specs.Reached.{copies, reached}
 use Rattle.unroll.specs.private.Gathered.{Gathered, gathering, given, place_behind}
 use Rattle.unroll.specs.private.Passes.{behind}
-use Rattle.unroll.specs.private.Placing.{added_by, down_of, downs, moved_down, moved_to, moved_up, numbers_of, operation_places, placing, raised_by, turned_by, unmoved, unplaced, up_of, ups}
+use Rattle.unroll.specs.private.Placing.{down_of, downs, moved_down, moved_to, moved_up, numbers_of, operation_places, placing, raised_by, step_at, steps_of, turned_by, unmoved, unplaced, up_of, ups}
 use Rattle.unroll.proofs.GatherLemmas.{AreSteady, IsSteady, copies-more, gathered, place_behind-append}
-use Rattle.unroll.proofs.OffsetLemmas.{down-added, joined, length-joined, length-raised, moved-raised, raised-joined, raised-more, raised-none, raised-once, raised-swap, scaled, turned-raised, up-added}
+use Rattle.unroll.proofs.CountLoops.{length-moved as length-moved_to, moved-at as moved_to-at}
+use Rattle.unroll.proofs.OffsetLemmas.{joined, length-joined, length-raised, moved-raised, raised-joined, raised-more, raised-none, raised-once, raised-swap, scaled, turned-raised}
 
 abbrev offset : List ℕ → List ℕ → Offset
 offset up down = record { up = up; down = down }
@@ -137,24 +142,76 @@ onward-turns p n s t =
     ap (λ (m : ℕ). offset (turned_by m p.up (raised_by p.up s)) (turned_by m p.down (raised_by p.down t))) one
     ∙ ap₂ offset (turned-raised n p.up s) (turned-raised n p.down t)
 
-moved-turns : (p : Offset) (n : ℕ) (s t : List ℕ) (xs : List ℤ) → length s ≤ length p.up → length t ≤ length p.down → placing.moved n p (offset (raised_by p.up s) (raised_by p.down t)) xs ≡ moved_to (scaled n s) (scaled n t) xs
-moved-turns p n s t xs h k =
-    ap (moved_down (added_by n p.down (raised_by p.down t))) (up-added n p.up s xs h)
-    ∙ down-added n p.down t (moved_up (scaled n s) xs) k
+-- what so many turns add at a place
+scaled-at : (n : ℕ) (s : List ℕ) (j : ℕ) → get_or (scaled n s) j 0 ≡ n * get_or s j 0
+scaled-at n [] j = omega arith
+scaled-at n (a ∷ s) zero = refl
+scaled-at n (a ∷ s) (suc j) = scaled-at n s j
+
+-- what a turn adds at a place
+gained-at : (p s : List ℕ) (j : ℕ) → length s ≤ length p → get_or (raised_by p s) j 0 - get_or p j 0 ≡ get_or s j 0
+gained-at [] [] j h = omega arith
+gained-at [] (a ∷ s) j h = absurd (omega (arith, h))
+gained-at (x ∷ p) [] j h = omega arith
+gained-at (x ∷ p) (a ∷ s) zero h = omega arith
+gained-at (x ∷ p) (a ∷ s) (suc j) h = gained-at p s j (omega (arith, h))
+
+step-turned : (p : Offset) (s t : List ℕ) (j : ℕ) → length s ≤ 16 → length t ≤ 16 → IsWide p → get_or (steps_of p (offset (raised_by p.up s) (raised_by p.down t))) j (pos 0) ≡ pos (get_or s j 0) +ℤ neg_ℤ (pos (get_or t j 0))
+step-turned p s t j high low wide =
+    let q = offset (raised_by p.up s) (raised_by p.down t) in
+    elim (cases_lt j 16) as (λ _. get_or (steps_of p q) j (pos 0) ≡ pos (get_or s j 0) +ℤ neg_ℤ (pos (get_or t j 0))) [
+      | inl near ↦
+          get_or-map-range_with_len (step_at p q) 0 16 j j (pos 0) near (omega arith)
+          ∙ ap₂ (λ (a b : ℕ). pos a +ℤ neg_ℤ (pos b)) (gained-at p.up s j (omega (arith, high, wide.up))) (gained-at p.down t j (omega (arith, low, wide.down)))
+      | inr far ↦
+          get_or_past (steps_of p q) j (pos 0) (omega (arith, far, length-map-range_with_len (step_at p q) 0 16))
+          ∙ sym (ap₂ (λ (a b : ℕ). pos a +ℤ neg_ℤ (pos b)) (get_or_past s j 0 (omega (arith, far, high))) (get_or_past t j 0 (omega (arith, far, low))))
+    ]
+
+times-down : (n d : ℕ) → pos n *ℤ neg_ℤ (pos d) ≡ neg_ℤ (pos (n * d))
+times-down n zero = omega (arith, ints)
+times-down n (suc d) = omega (arith, ints)
+
+-- a number moved by a step so often is moved up so often and down so often
+spread : (n a b : ℕ) (x : ℤ) → x +ℤ (pos n *ℤ (pos a +ℤ neg_ℤ (pos b))) ≡ (x +ℤ pos (n * a)) +ℤ neg_ℤ (pos (n * b))
+spread n a b x =
+    elim (cases_lt a b) as (λ _. x +ℤ (pos n *ℤ (pos a +ℤ neg_ℤ (pos b))) ≡ (x +ℤ pos (n * a)) +ℤ neg_ℤ (pos (n * b))) [
+      | inl less ↦
+          let d = b - a in
+          let down : pos a +ℤ neg_ℤ (pos b) ≡ neg_ℤ (pos d) = omega (arith, ints, less) in
+          let whole : n * (a + d) ≡ n * b = ap (λ (k : ℕ). n * k) (omega (arith, less)) in
+          ap (λ (z : ℤ). x +ℤ z) (ap (λ (z : ℤ). pos n *ℤ z) down ∙ times-down n d) ∙ omega (arith, ints, whole)
+      | inr more ↦
+          let d = a - b in
+          let up : pos a +ℤ neg_ℤ (pos b) ≡ pos d = omega (arith, ints, more) in
+          let whole : n * (b + d) ≡ n * a = ap (λ (k : ℕ). n * k) (omega (arith, more)) in
+          ap (λ (z : ℤ). x +ℤ (pos n *ℤ z)) up ∙ omega (arith, ints, whole)
+    ]
+
+moved-turns : (p : Offset) (n : ℕ) (s t : List ℕ) (xs : List ℤ) → length s ≤ 16 → length t ≤ 16 → IsWide p → placing.moved n p (offset (raised_by p.up s) (raised_by p.down t)) xs ≡ moved_to (scaled n s) (scaled n t) xs
+moved-turns p n s t xs high low wide =
+    let steps = steps_of p (offset (raised_by p.up s) (raised_by p.down t)) in
+    same_lists (moved_by n steps xs) (moved_to (scaled n s) (scaled n t) xs) (length-moved n steps xs ∙ sym (length-moved_to (scaled n s) (scaled n t) xs)) (λ j d inside.
+    let here : j < length xs = omega (arith, inside, length-moved n steps xs) in
+    moved-at n steps xs j d here
+    ∙ ap (λ (z : ℤ). get_or xs j d +ℤ (pos n *ℤ z)) (step-turned p s t j high low wide)
+    ∙ spread n (get_or s j 0) (get_or t j 0) (get_or xs j d)
+    ∙ ap₂ (λ (a b : ℕ). (get_or xs j d +ℤ pos a) +ℤ neg_ℤ (pos b)) (sym (scaled-at n s j)) (sym (scaled-at n t j))
+    ∙ sym (moved_to-at (scaled n s) (scaled n t) xs j d here))
 
 steady : (p : Offset) (is : List Instruction) → IsWide p → AreFew is → IsSteady placing p is
 steady p is wide few =
     let s = sum_up is in
     let t = sum_down is in
     let q = offset (raised_by p.up s) (raised_by p.down t) in
-    let high : length s ≤ length p.up = omega (arith, up-few is few, wide.up) in
-    let low : length t ≤ length p.down = omega (arith, down-few is few, wide.down) in
+    let high = up-few is few in
+    let low = down-few is few in
     record {
       place = λ n. place-turns p n is ∙ sym (ap (placing.onward (suc n) p) (place-summed p is) ∙ onward-turns p n s t);
       gives = λ n.
           ap (λ (r : Offset). given placing r is) (place-turns p n is)
           ∙ given-moved (scaled (suc n) s) (scaled (suc n) t) p is wide few
-          ∙ map-same (moved_to (scaled (suc n) s) (scaled (suc n) t)) (placing.moved (suc n) p q) (given placing p is) (λ xs. sym (moved-turns p (suc n) s t xs high low))
+          ∙ map-same (moved_to (scaled (suc n) s) (scaled (suc n) t)) (placing.moved (suc n) p q) (given placing p is) (λ xs. sym (moved-turns p (suc n) s t xs high low wide))
           ∙ ap (λ (r : Offset). map (placing.moved (suc n) p r) (given placing p is)) (sym (place-summed p is));
     }
 

@@ -3,8 +3,7 @@
 use Rattle.std.proofs.Common.{◌≡◌, ◌≤◌, ◌<◌, ◌+◌, ◌-◌, ◌*◌, ℕ, zero, suc, ℤ, pos, negsuc, List, [], ◌∷◌, ◌++◌, length, drop, get_or, map, reverse, Option, Some, refl, sym, ap, ◌∙◌, subst, arith, length-append}
 use Rattle.std.specs.Prelude.{⊤, All, nat_abs, slice_get, ◌^◌}
 use Rattle.std.specs.Option.{option_to_list}
-use Rattle.std.proofs.lemmas.Int.{ints}
-use Rattle.std.proofs.lemmas.List.{get_or_append_left, get_or_default, reverse-append}
+use Rattle.std.proofs.lemmas.List.{get_or-append-add, get_or_append_left, get_or_default, reverse-append}
 use Rattle.std.proofs.lemmas.List.Elements.{All-cons, All-head, All-map, All-nil, All-replicate, All-tail, All-weaker}
 use Rattle.step_model.specs.WellFormed.{CoordinatesFit}
 use Rattle.stim_parser.specs.declared.operation.Operation.{Operation}
@@ -20,9 +19,10 @@ use Rattle.unroll.specs.declared.marks.Mark.{Mark}
 use Rattle.unroll.specs.declared.offsets.Offset.{Offset}
 use Rattle.unroll.specs.private.Coordinates.{coordinates_of}
 use Rattle.stim_lexer.specs.Reached.{reached}
-use Rattle.unroll.specs.private.Gathered.{Gathered, closed, gathering, later, mark_of, place_behind, stepped}
+use Rattle.flat_lists.specs.Turns.{later}
+use Rattle.unroll.specs.private.Gathered.{Gathered, closed, gathering, mark_of, place_behind, stepped}
 use Rattle.unroll.specs.private.Passes.{behind, opened}
-use Rattle.unroll.specs.private.Placing.{IsSmall, IsStated, added_by, down_of, downs, numbers_of, placing, raised_by, turned_by, turned_on, unmoved, unplaced, up_of, ups}
+use Rattle.unroll.specs.private.Placing.{down_of, downs, numbers_of, placing, raised_by, turned_by, turned_on, unmoved, unplaced, up_of, ups}
 use Rattle.unroll.specs.Totals.{step_total}
 use Rattle.unroll.proofs.CoordinateFits.{HaveCoordinates, coordinates_fit, few-reached, have-coordinates}
 use Rattle.unroll.proofs.CountLoops.{length-turned}
@@ -308,44 +308,29 @@ placing-done t i p found blocks h le =
 
 -- ---- room for counts
 
-small-of : (zs : List ℤ) → CoordinatesFit zs → IsStated zs
-small-of zs h =
-    record {
-      few = h.few;
-      small = All-weaker (λ z. nat_abs z < 10 ^ 18) IsSmall (λ z k. record { low = omega (arith, ints, k); high = omega (arith, ints, k) }) zs h.within;
-    }
+abbrev pub AreFit : List (List ℤ) → Type 0
+AreFit lists = All (All (λ z. nat_abs z < 2 ^ 63)) lists
 
-pub placing-stated : (t : Tree) (i : ℕ) (p : Offset) (found : List (List ℤ)) (blocks : List (OpenBlock (Mark Offset))) → IsPlacing t i p found blocks → All IsStated found
-placing-stated t i p found blocks h =
+fit-of : (zs : List ℤ) → CoordinatesFit zs → All (λ z. nat_abs z < 2 ^ 63) zs
+fit-of zs h = All-weaker (λ z. nat_abs z < 10 ^ 18) (λ z. nat_abs z < 2 ^ 63) (λ z k. omega (arith, k)) zs h.within
+
+placing-fit : (t : Tree) (i : ℕ) (p : Offset) (found : List (List ℤ)) (blocks : List (OpenBlock (Mark Offset))) → IsPlacing t i p found blocks → AreFit found
+placing-fit t i p found blocks h =
     let s : Gathered Offset (List ℤ) = record { place = p; found = found } in
     let whole = ap (λ (g : Gathered Offset (List ℤ)). g.found) h.passing.left ∙ placed-tree t h.circuit.fit in
-    run-found IsStated (drop i (items_of t)) (reverse blocks) s
-    (subst (All IsStated) (sym whole)
-    (All-weaker CoordinatesFit IsStated small-of (coordinates_of t) (coordinates_fit t h.circuit h.few)))
+    run-found (All (λ z. nat_abs z < 2 ^ 63)) (drop i (items_of t)) (reverse blocks) s
+    (subst AreFit (sym whole)
+    (All-weaker CoordinatesFit (All (λ z. nat_abs z < 2 ^ 63)) fit-of (coordinates_of t) (coordinates_fit t h.circuit h.few)))
+
+all-right : {X : Type 0} (P : X → Type 0) (xs ys : List X) → All P (xs ++ ys) → All P ys
+all-right P xs ys h =
+    λ k d low. subst P (get_or-append-add xs ys k d) (h (length xs + k) d (omega (arith, low, length-append xs ys)))
+
+-- what a block's later turns give
+pub placing-ends_fit : (t : Tree) (i : ℕ) (p : Offset) (found : List (List ℤ)) (blocks rest : List (OpenBlock (Mark Offset))) (popped : Option (OpenBlock (Mark Offset))) (block : OpenBlock (Mark Offset)) (n : ℕ) → IsPlacing t i p found blocks → Some BlockEnd ≡ slice_get (items_of t) i → HasPopped blocks rest popped block n → AreFit (later (λ k. placing.moved k block.before.place p) n (drop block.before.found found))
+placing-ends_fit t i p found blocks rest popped block n h got was =
+    all-right (All (λ z. nat_abs z < 2 ^ 63)) found (later (λ k. placing.moved k block.before.place p) n (drop block.before.found found))
+    (placing-fit t (i + 1) (turned_on n block.before.place p) (with_turns n block p found) rest (placing-ends t i p found blocks rest popped block n h got was))
 
 pub small-counts : (xs : List ℕ) → CountsUpTo limit xs → All (λ n. n < 2 ^ 62) xs
 small-counts xs h = All-weaker (λ x. x ≤ limit) (λ n. n < 2 ^ 62) (λ x k. omega (arith, k)) xs h
-
--- what turns add is no more than where they end
-pub small-added : (m : ℕ) (b c : List ℕ) → All (λ n. n < 2 ^ 62) (turned_by m b c) → All (λ n. n < 2 ^ 62) (added_by m b c)
-small-added m [] c h = All-nil (λ n. n < 2 ^ 62)
-small-added m (p ∷ b) [] h = All-nil (λ n. n < 2 ^ 62)
-small-added m (p ∷ b) (q ∷ c) h =
-    All-cons (λ n. n < 2 ^ 62) (m * (q - p)) (added_by m b c)
-    (omega (arith, All-head (λ n. n < 2 ^ 62) (q + m * (q - p)) (turned_by m b c) h))
-    (small-added m b c (All-tail (λ n. n < 2 ^ 62) (q + m * (q - p)) (turned_by m b c) h))
-
-times-le : (m n d : ℕ) → m ≤ n → m * d ≤ n * d
-times-le zero n d h = omega arith
-times-le (suc m) zero d h = absurd (omega (arith, h))
-times-le (suc m) (suc n) d h =
-    let rest = times-le m n d (omega (arith, h)) in
-    omega (arith, rest)
-
-pub fewer-added : (m n : ℕ) (b c : List ℕ) → m ≤ n → All (λ x. x < 2 ^ 62) (added_by n b c) → All (λ x. x < 2 ^ 62) (added_by m b c)
-fewer-added m n [] c le h = All-nil (λ x. x < 2 ^ 62)
-fewer-added m n (p ∷ b) [] le h = All-nil (λ x. x < 2 ^ 62)
-fewer-added m n (p ∷ b) (q ∷ c) le h =
-    All-cons (λ x. x < 2 ^ 62) (m * (q - p)) (added_by m b c)
-    (omega (arith, times-le m n (q - p) le, All-head (λ x. x < 2 ^ 62) (n * (q - p)) (added_by n b c) h))
-    (fewer-added m n b c le (All-tail (λ x. x < 2 ^ 62) (n * (q - p)) (added_by n b c) h))

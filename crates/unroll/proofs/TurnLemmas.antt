@@ -2,7 +2,7 @@
 use Rattle.std.proofs.Common.{◌≡◌, ℕ, zero, suc, ◌+◌, ◌-◌, ◌<◌, ◌≤◌, List, [], ◌∷◌, ◌++◌, length, get_or, take, drop, map, refl, sym, ap, ap₂, ◌∙◌, subst, append_assoc, append-nil, add-one, arith, length-drop}
 use Rattle.std.specs.Prelude.{All, slice_range}
 use Rattle.std.proofs.lemmas.List.{drop-append-le, drop_all, get_or-drop, get_or-take, get_or_append_left, length-take-le, map_more, take-append-le, take_all}
-use Rattle.unroll.specs.private.Gathered.{later}
+use Rattle.flat_lists.specs.Turns.{later}
 
 -- an element of what is left behind the first ones
 get_or-left : {X : Type 0} (xs : List X) (first k : ℕ) (d : X) → first ≤ k → get_or (drop first xs) (k - first) d ≡ get_or xs k d

@@ -2,7 +2,7 @@ ghost use Rattle.std.specs.Prelude.{◌≡◌, ◌+◌, ◌-◌, ◌*◌, ◌<�
 ghost use Rattle.unroll.specs.private.Detecting.{records_moved};
 ghost use Rattle.unroll.specs.private.Detectors.{detectors_of};
 ghost use Rattle.unroll.specs.TargetsMade.{operation_detectors, record_named, records_named};
-ghost use Rattle.unroll.specs.private.Gathered.{later};
+ghost use Rattle.flat_lists.specs.Turns.{later};
 ghost use Rattle.unroll.specs.private.Counted.{first_far_from};
 ghost use Rattle.unroll.specs.private.MadeTotals.{detector_total, record_count, record_total};
 

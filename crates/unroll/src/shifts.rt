@@ -2,7 +2,7 @@ ghost use Rattle.std.specs.Prelude.{◌≡◌, ◌<◌, ◌^◌, [], All, unwrap
 ghost use Rattle.stim_parser.specs.Circuits.{Fits};
 ghost use Rattle.stim_parser.specs.Coordinates.{coordinates_in};
 ghost use Rattle.stim_lexer.specs.Kept.{instruction_in};
-ghost use Rattle.unroll.specs.private.Placing.{downs, placing, raised_by, turned_by, turned_on, ups};
+ghost use Rattle.unroll.specs.private.Placing.{downs, placing, raised_by, steps_of, turned_by, turned_on, ups};
 
 use crate::offsets::{AXES, Offset, downs, raise, turn, ups};
 use arrayvec::ArrayVec;
@@ -49,4 +49,19 @@ pub(crate) fn turn_on(offset: &mut Offset, before: &Offset, turns: u64)
 {
     turn(&mut offset.up, &before.up, turns);
     turn(&mut offset.down, &before.down, turns);
+}
+
+/// By how much a turn moves each coordinate, from the offsets before and after it.
+pub(crate) fn steps_of(before: &Offset, after: &Offset) -> ArrayVec<i64, AXES>
+    requires small_up { All (λ n. n < 2 ^ 62) after.now.up }
+    requires small_down { All (λ n. n < 2 ^ 62) after.now.down }
+    ensures { result.items ≡ steps_of before.now after.now }
+{
+    let mut steps = ArrayVec::new();
+    for j in 0..AXES {
+        let rise = after.up[j].saturating_sub(before.up[j]);
+        let fall = after.down[j].saturating_sub(before.down[j]);
+        steps.push(rise as i64 - fall as i64);
+    }
+    steps
 }

@@ -1,4 +1,4 @@
-use flat_lists::{FlatLists, ListRooms};
+use flat_lists::{FlatLists, ListRooms, NumberLists};
 use std::alloc::{AllocError, Global};
 use std::fmt::Debug;
 use std::process::Abort;
@@ -59,5 +59,35 @@ fn rooms_that_are_not_full_are_not_flat(rt: HostRuntime) -> Result<(), Fail> {
     let mut rooms = ListRooms::new(rt.alloc(), &[1, 1], 0u8)?;
     rooms.push(1, 7)?;
     assert!(&rt; rooms.flat().is_none());
+    Ok(())
+}
+
+/// A list, and one with two later turns that move its number by 10; a third; and all of that once more, with each second number
+/// moved by -1.
+const REPEATED: [&[i64]; 10] = [
+    &[1, 2],
+    &[3],
+    &[13],
+    &[23],
+    &[7, 7, 7],
+    &[1, 1],
+    &[3],
+    &[13],
+    &[23],
+    &[7, 6, 7],
+];
+
+#[test]
+fn lists_are_repeated(rt: HostRuntime) -> Result<(), Fail> {
+    let mut lists = NumberLists::new(rt.alloc());
+    lists.push(REPEATED[0])?;
+    lists.push(REPEATED[1])?;
+    lists.repeat(1, 2, &[10, 0])?;
+    lists.push(REPEATED[4])?;
+    lists.repeat(0, 1, &[0, -1])?;
+    assert!(&rt; lists.len() == REPEATED.len());
+    for (index, list) in REPEATED.iter().enumerate() {
+        assert!(&rt; lists.get(index).as_slice() == *list, "at {index}");
+    }
     Ok(())
 }

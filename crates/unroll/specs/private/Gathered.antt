@@ -2,7 +2,8 @@
 -- as the number of records so far; what an instruction gives depends on it. A block's later turns give what its first
 -- turn gave, moved on by the number of the turn and by the places before and after the first turn; so no turn is gone
 -- over again. (Stim's circuit format, github.com/quantumlib/Stim, doc/file_format_stim_circuit.md, "REPEAT blocks".)
-use Rattle.std.specs.Prelude.{ℕ, zero, suc, ◌-◌, List, [], ◌∷◌, ◌++◌, drop, length, map}
+use Rattle.std.specs.Prelude.{ℕ, ◌-◌, List, [], ◌∷◌, ◌++◌, drop, length}
+use Rattle.flat_lists.specs.Turns.{later}
 use Rattle.stim_parser.specs.Verdicts.{Instruction}
 use Rattle.unroll.specs.declared.marks.Mark.{Mark}
 use Rattle.unroll.specs.private.Passes.{Pass}
@@ -21,11 +22,6 @@ pub record Gathering (P X : Type 0) : Type 0 where
   pub onward : ℕ → P → P → P
   -- what a later turn gives in place of what the first turn gave
   pub moved : ℕ → P → P → X → X
-
--- what this many later turns give
-abbrev pub later : {X : Type 0} → (ℕ → X → X) → ℕ → List X → List X
-later move zero xs = []
-later move (suc n) xs = later move n xs ++ map (move (suc n)) xs
 
 abbrev pub mark_of : {P X : Type 0} → Gathered P X → Mark P
 mark_of s = record { place = s.place; found = length s.found }

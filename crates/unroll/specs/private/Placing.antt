@@ -2,7 +2,9 @@
 -- moved up, and apart from that how far down, so that neither count ever falls. In a later turn of a block each
 -- coordinate is moved on by what the turns before it shift its axis. (Stim's gate reference,
 -- github.com/quantumlib/Stim, doc/gates.md, "DETECTOR" and "SHIFT_COORDS".)
-use Rattle.std.specs.Prelude.{ℕ, suc, ◌+◌, ◌-◌, ◌*◌, ◌^◌, ◌≤ℤ◌, ℤ, pos, negsuc, neg_ℤ, ◌+ℤ◌, List, [], ◌∷◌, map, replicate, ◌≤◌, length, All}
+use Rattle.std.specs.Prelude.{ℕ, suc, ◌+◌, ◌-◌, ◌*◌, ◌^◌, ◌≤ℤ◌, ℤ, pos, negsuc, neg_ℤ, ◌+ℤ◌, List, [], ◌∷◌, get_or, map, replicate}
+use Rattle.std.specs.List.{range_with_len}
+use Rattle.flat_lists.specs.Turns.{moved_by}
 use Rattle.stim_parser.specs.declared.operation.Operation.{Operation}
 use Rattle.stim_parser.specs.declared.operation.Operation.TheVariants.{DetectorDeclaration, CoordinateShift}
 use Rattle.stim_parser.specs.Numbers.{whole_value}
@@ -33,12 +35,6 @@ turned_by turns [] after = []
 turned_by turns before [] = []
 turned_by turns (p ∷ before) (q ∷ after) = (q + turns * (q - p)) ∷ turned_by turns before after
 
--- how much this many turns add
-abbrev pub added_by : ℕ → List ℕ → List ℕ → List ℕ
-added_by turns [] after = []
-added_by turns before [] = []
-added_by turns (p ∷ before) (q ∷ after) = (turns * (q - p)) ∷ added_by turns before after
-
 -- coordinates moved up, and moved down, at the places that have a count
 abbrev pub moved_up : List ℕ → List ℤ → List ℤ
 moved_up [] xs = xs
@@ -54,11 +50,6 @@ moved_down (n ∷ counts) (x ∷ xs) = (x +ℤ neg_ℤ (pos n)) ∷ moved_down c
 pub record IsSmall (z : ℤ) : Type 0 where
   pub low : neg_ℤ (pos (2 ^ 62)) ≤ℤ z
   pub high : z ≤ℤ pos (2 ^ 62)
-
--- coordinates of one detector, with room for counts
-pub record IsStated (xs : List ℤ) : Type 0 where
-  pub few : length xs ≤ 16
-  pub small : All IsSmall xs
 
 -- ---- the pass
 
@@ -85,6 +76,14 @@ abbrev pub turned_on : ℕ → Offset → Offset → Offset
 turned_on turns before after =
     record { up = turned_by turns before.up after.up; down = turned_by turns before.down after.down }
 
+-- by how much a turn moves each coordinate, from the offsets before and after it
+abbrev pub step_at : Offset → Offset → ℕ → ℤ
+step_at before after j =
+    pos (get_or after.up j 0 - get_or before.up j 0) +ℤ neg_ℤ (pos (get_or after.down j 0 - get_or before.down j 0))
+
+abbrev pub steps_of : Offset → Offset → List ℤ
+steps_of before after = map (step_at before after) (range_with_len 0 16)
+
 -- what a pass gathers of coordinates
 abbrev pub placing : Gathering Offset (List ℤ)
 placing =
@@ -92,7 +91,7 @@ placing =
       next = λ p i. record { up = raised_by p.up (ups i); down = raised_by p.down (downs i) };
       gives = λ p i. operation_places p i.operation i.arguments;
       onward = λ turns. turned_on (turns - 1);
-      moved = λ n before after. moved_to (added_by n before.up after.up) (added_by n before.down after.down);
+      moved = λ n before after. moved_by n (steps_of before after);
     }
 
 abbrev pub unmoved : Offset

@@ -1,14 +1,15 @@
 -- Each count is at most where the whole pass leaves it, so it stays below its limit at each step of the pass.
-use Rattle.std.proofs.Common.{◌+◌, ◌++◌, [], ◌∷◌, ℕ, length, refl, sym, ap, ◌∙◌, arith}
+use Rattle.std.proofs.Common.{◌≡◌, ◌+◌, ◌++◌, [], ◌∷◌, ℕ, ℤ, List, drop, length, refl, sym, ap, ◌∙◌, subst, arith}
 use Rattle.std.proofs.lemmas.List.{nil_from_length}
+use Rattle.flat_lists.specs.Turns.{later, moved_by}
 use Rattle.stim_lexer.specs.Kept.{instruction_in}
 use Rattle.unroll.specs.private.Coordinates.{coordinates_of}
-use Rattle.unroll.specs.private.Placing.{downs, placing, raised_by, turned_by, turned_on, ups}
-use Rattle.unroll.proofs.PlacingLoops.{HasPopped, IsUpTo, limit, placing-begins, placing-does, placing-done, placing-ends, placing-first, placing-fits, placing-room, placing-same, placing-some, placing-stated, placing-up-to, small-added, small-counts, with_turns}
+use Rattle.unroll.specs.private.Placing.{downs, placing, raised_by, steps_of, turned_by, turned_on, ups}
+use Rattle.unroll.proofs.PlacingLoops.{AreFit, HasPopped, IsUpTo, limit, placing-begins, placing-does, placing-done, placing-ends, placing-ends_fit, placing-first, placing-fits, placing-room, placing-same, placing-some, placing-up-to, small-counts, with_turns}
 use Rattle.unroll.proofs.ReachedCounts.{coordinates_counted}
 use Rattle.unroll.proofs.coordinates.coordinates_of.Given.{Over}
 use Rattle.unroll.proofs.coordinates.coordinates_of.Goals as goal
-use Rattle.unroll.proofs.coordinates.coordinates_of.Goals.{After-saturating_sub-later, in-InstructionLine+in_ok-push_coordinates-in-InstructionLine, in-BlockStart, in-BlockEnd+in_ok-push_later_turns-in-BlockEnd}
+use Rattle.unroll.proofs.coordinates.coordinates_of.Goals.{After-saturating_sub-later, in-InstructionLine+in_ok-push_coordinates-in-InstructionLine, in-BlockStart, in-BlockEnd+in_ok-repeat-in-BlockEnd}
 
 pub returns-then-count-eq0 : goal.returns-then-count-eq0
 returns-then-count-eq0 g c =
@@ -72,16 +73,27 @@ behind_turns g c =
     let next = placing-ends t i p found blocks rest c.pop.result block n c.loop-i.invariant c.in-BlockEnd.ensures popped in
     placing-up-to t (i + 1) (turned_on n block.before.place p) (with_turns n block p found) rest next
 
-pub push_later_turns-requires : goal.push_later_turns-requires
-push_later_turns-requires g c =
+pub steps_of-steps-requires : goal.steps_of-steps-requires
+steps_of-steps-requires g c =
     let p = c.loop-i.offset in
+    let within = placing-up-to c.args.circuit.now c.loop-i.i p c.loop-i.coordinates c.loop-i.blocks.items c.loop-i.invariant in
+    record { small_up = small-counts p.up within.up; small_down = small-counts p.down within.down }
+
+pub repeat-requires : goal.repeat-requires
+repeat-requires g c =
+    let p = c.loop-i.offset in
+    let found = c.loop-i.coordinates in
+    let blocks = c.loop-i.blocks.items in
     let n = c.saturating_sub-later.result in
-    let before = c.unwrap-block.result.before.place in
-    let within = behind_turns g (goal.at.push_later_turns-requires g c).After-saturating_sub-later in
+    let block = c.unwrap-block.result in
+    let rest = c.pop.new.self.items in
+    let popped : HasPopped blocks rest c.pop.result block n = record { rest_is = c.pop.ensures.items; block_is = c.unwrap-block.ensures; turns_is = c.saturating_sub-later.ensures } in
+    let read : c.as_slice.result.now ≡ steps_of block.before.place p = c.as_slice.ensures.value ∙ c.steps_of-steps.ensures in
     record {
-      stated = placing-stated c.args.circuit.now c.loop-i.i p c.loop-i.coordinates c.loop-i.blocks.items c.loop-i.invariant;
-      small_up = small-added n before.up p.up (small-counts (turned_by n before.up p.up) within.up);
-      small_down = small-added n before.down p.down (small-counts (turned_by n before.down p.down) within.down);
+      few = c.as_slice.ensures.fits;
+      fits =
+          subst (λ (s : List ℤ). AreFit (later (λ k. moved_by k s) n (drop block.before.found found))) (sym read)
+          (placing-ends_fit c.args.circuit.now c.loop-i.i p found blocks rest c.pop.result block n c.loop-i.invariant c.in-BlockEnd.ensures popped);
     }
 
 pub turn_on-requires : goal.turn_on-requires
@@ -117,15 +129,17 @@ loop-i-preserved g c =
           w.coordinates-is
           (ap (λ v. v.items) w.blocks-is
           ∙ w.push.ensures.items
-          ∙ ap (λ (n : ℕ). blocks ++ record { turns = w.in-BlockStart.turns; before = record { place = p; found = n } } ∷ []) w.len.ensures)
-      | in-BlockEnd+in_ok-push_later_turns-in-BlockEnd w ↦
+          ∙ ap (λ (n : ℕ). blocks ++ record { turns = w.in-BlockStart.turns; before = record { place = p; found = n } } ∷ []) w.len-in-BlockStart.ensures)
+      | in-BlockEnd+in_ok-repeat-in-BlockEnd w ↦
           let n = w.saturating_sub-later.result in
           let block = w.unwrap-block.result in
           let popped : HasPopped blocks w.pop.new.self.items w.pop.result block n = record { rest_is = w.pop.ensures.items; block_is = w.unwrap-block.ensures; turns_is = w.saturating_sub-later.ensures } in
           placing-same t (i + 1) (turned_on n block.before.place p) c.match-item.offset (with_turns n block p found) c.match-item.coordinates w.pop.new.self.items c.match-item.blocks.items
           (placing-ends t i p found blocks w.pop.new.self.items w.pop.result block n c.loop-i.invariant w.in-BlockEnd.ensures popped)
           (w.offset-is ∙ w.turn_on.ensures)
-          (w.coordinates-is ∙ w.in_ok-push_later_turns-in-BlockEnd.ensures)
+          (w.coordinates-is
+          ∙ w.in_ok-repeat-in-BlockEnd.ensures.ok
+          ∙ ap (λ (s : List ℤ). found ++ later (λ k. moved_by k s) n (drop block.before.found found)) (w.as_slice.ensures.value ∙ w.steps_of-steps.ensures))
           (ap (λ v. v.items) w.blocks-is)
     ]
 

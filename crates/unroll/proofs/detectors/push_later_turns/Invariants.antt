@@ -1,6 +1,6 @@
 use Rattle.std.proofs.Common.{◌≡◌, ◌*◌, ◌++◌, drop}
 use Rattle.unroll.specs.private.Detecting.{records_moved}
-use Rattle.unroll.specs.private.Gathered.{later}
+use Rattle.flat_lists.specs.Turns.{later}
 use Rattle.unroll.proofs.detectors.push_later_turns.Given as goal
 
 abbrev pub invariant-loop-turn : goal.invariant-loop-turn

@@ -3,7 +3,7 @@ use Rattle.std.specs.Prelude.{All}
 use Rattle.std.proofs.lemmas.List.{set-get_or}
 use Rattle.std.proofs.lemmas.Nat.{mul-le}
 use Rattle.std.proofs.lemmas.List.Elements.{All-drop, All-weaker}
-use Rattle.unroll.specs.private.Gathered.{later}
+use Rattle.flat_lists.specs.Turns.{later}
 use Rattle.unroll.specs.private.Including.{record_moved, with_more}
 use Rattle.unroll.proofs.IncludingLemmas.{more-next, more-part}
 use Rattle.unroll.proofs.TurnLemmas.{later-more, turns-none}

@@ -1,5 +1,5 @@
 use Rattle.std.proofs.Common.{◌≡◌, ◌*◌, [], drop, get_or}
-use Rattle.unroll.specs.private.Gathered.{later}
+use Rattle.flat_lists.specs.Turns.{later}
 use Rattle.unroll.specs.private.Including.{record_moved, with_more}
 use Rattle.unroll.proofs.inclusions.include_later_turns.Given as goal
 

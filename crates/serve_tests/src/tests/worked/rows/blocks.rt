@@ -36,6 +36,10 @@ const MODELS: &[(&str, &str)] = &[
         "REPEAT 2 {\nREPEAT 2 {\nX_ERROR(0.1) 0\nMR 0\nDETECTOR rec[-1]\n}\n}\n",
         "error(0.1) D0\nerror(0.1) D1\nerror(0.1) D2\nerror(0.1) D3\ndetector D0\ndetector D1\ndetector D2\ndetector D3\n",
     ),
+    (
+        "REPEAT 2 {\nDETECTOR(1, 5)\nREPEAT 3 {\nDETECTOR(0)\nSHIFT_COORDS(10)\n}\nSHIFT_COORDS(0, -1)\nDETECTOR(7, 7, 7)\n}\nDETECTOR(2)\n",
+        "detector(1, 5) D0\ndetector(0) D1\ndetector(10) D2\ndetector(20) D3\ndetector(37, 6, 7) D4\ndetector(31, 4) D5\ndetector(30) D6\ndetector(40) D7\ndetector(50) D8\ndetector(67, 5, 7) D9\ndetector(62) D10\n",
+    ),
 ];
 
 #[test]

@@ -1,6 +1,6 @@
 use Rattle.std.proofs.Common.{◌≡◌, ◌<◌, ◌^◌, ◌∷◌, reverse}
 use Rattle.flat_lists.specs.private.Numbers.{numbers_from, numbers_in}
-use Rattle.flat_lists.proofs.number_lists.write_number.Given as goal
+use Rattle.flat_lists.proofs.packed_lists.write_number.Given as goal
 
 -- what is left of the number stands before the groups that are written
 abbrev pub invariant-loop-left : goal.invariant-loop-left

@@ -1,6 +1,6 @@
 use Rattle.std.proofs.Common.{◌∙◌, refl, arith}
 use Rattle.flat_lists.proofs.NumberLemmas.{begun, further}
-use Rattle.flat_lists.proofs.number_lists.write_number.Goals as goal
+use Rattle.flat_lists.proofs.packed_lists.write_number.Goals as goal
 
 pub loop-left-init : goal.loop-left-init
 loop-left-init g c =

@@ -1,6 +1,6 @@
 use Rattle.std.proofs.Common.{◌≡◌, ◌≤◌, drop, length}
 use Rattle.flat_lists.specs.private.Numbers.{numbers_in}
-use Rattle.flat_lists.proofs.number_lists.write_numbers.Given as goal
+use Rattle.flat_lists.proofs.packed_lists.write_numbers.Given as goal
 
 abbrev pub invariant-loop-left : goal.invariant-loop-left
 invariant-loop-left g l =

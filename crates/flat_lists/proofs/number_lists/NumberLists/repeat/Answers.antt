@@ -1,0 +1,51 @@
+use Rattle.std.proofs.Common.{◌≡◌, ◌+◌, ◌-◌, ◌*◌, [], ◌∷◌, ◌++◌, ◌^◌, ◌<◌, ◌≢◌, zero, suc, min, Fits, w32, ℕ, List, drop, length, refl, sym, ap, ◌∙◌, add-zero, append-nil, arith, rules, length-drop}
+use Rattle.std.proofs.lemmas.List.{nil_from_length}
+use Rattle.flat_lists.specs.declared.number_lists.Repeat.{Repeat}
+use Rattle.flat_lists.specs.Turns.{later, moved_by}
+use Rattle.flat_lists.proofs.RepeatLemmas.{HasTurns, has_turns}
+use Rattle.flat_lists.proofs.TurnLemmas.{length-later}
+use Rattle.flat_lists.proofs.number_lists.NumberLists.repeat.Given.{Over}
+use Rattle.flat_lists.proofs.number_lists.NumberLists.repeat.Goals as goal
+use Rattle.flat_lists.proofs.number_lists.NumberLists.repeat.Goals.{After-push_reserved}
+
+pub returns-then-more-eq0-clause-ok : goal.returns-then-more-eq0-clause-ok
+returns-then-more-eq0-clause-ok g c =
+    let lists = c.args.self.now in
+    let turns = later (λ n. moved_by n c.args.steps.now) c.args.turns (drop c.args.first lists) in
+    let size : c.saturating_sub.result ≡ length (drop c.args.first lists) = omega (arith, c.saturating_sub.ensures, c.len-start.ensures, length-drop c.args.first lists) in
+    let none : length turns ≡ 0 = omega (arith, length-later (λ n. moved_by n c.args.steps.now) c.args.turns (drop c.args.first lists), ap (λ n. c.args.turns * n) size, c.saturating_mul-more.ensures, c.if-more-eq0.true) in
+    sym (ap (λ xs. lists ++ xs) (nil_from_length turns none) ∙ append-nil lists)
+
+positive : (m n : ℕ) → 0 < m * n → 0 < n
+positive m zero h = absurd (omega (arith, h))
+positive m (suc n) h = omega arith
+
+turned : (g : Over) (c : After-push_reserved g) → HasTurns c.push_reserved.new.self.items c.args.self.now c.push.new.self c.in_ok-end.end c.args.first c.args.turns c.args.steps.now
+turned g c =
+    let lists = c.args.self.now in
+    let number : c.in_ok-number.number ≡ length c.self.inside.kept = c.in_ok-number.ensures ∙ ap (λ n. n + 0) c.len.ensures ∙ add-zero (length c.self.inside.kept) in
+    let size : c.saturating_sub.result ≡ c.self.inside.len - c.args.first = omega (arith, c.saturating_sub.ensures, c.len-start.ensures, c.self.invariant.count, ap length c.self.view_is) in
+    let more : c.saturating_mul-more.result ≡ min (c.args.turns * c.saturating_sub.result) (2 ^ 64 - 1) = c.saturating_mul-more.ensures in
+    let some : c.saturating_mul-more.result ≢ 0 = c.if-more-eq0.false in
+    let product : c.args.turns * c.saturating_sub.result ≡ c.args.turns * (c.self.inside.len - c.args.first) = ap (λ n. c.args.turns * n) size in
+    let end : c.in_ok-end.end ≡ c.self.inside.len + c.saturating_mul-more.result = c.in_ok-end.ensures ∙ ap (λ n. n + c.saturating_mul-more.result) (c.len-start.ensures ∙ sym (c.self.invariant.count ∙ ap length c.self.view_is)) in
+    let few : Fits w32 c.in_ok-end.end = search rules in
+    has_turns c.self.inside.repeats.items c.push_reserved.new.self.items c.self.inside.kept c.push.new.self lists c.self.inside.len c.in_ok-end.end c.moving-moves.result c.args.steps.now
+    (record { first = c.args.first; start = c.self.inside.len; turns = c.args.turns; steps = c.in_ok-number.number })
+    c.self.invariant
+    c.self.view_is
+    c.moving-moves.ensures.same
+    c.requires.fits
+    c.in_ok-push.ensures.ok
+    (c.push_reserved.ensures.items ∙ ap (λ (rs : List Repeat). rs ++ record { first = c.args.first; start = c.self.inside.len; turns = c.args.turns; steps = c.in_ok-number.number } ∷ []) c.in_ok-reserve.ensures.items)
+    refl
+    number
+    (omega (arith, positive c.args.turns (c.self.inside.len - c.args.first) (omega (arith, some, more, product))))
+    (omega (arith, end, more, product, few.fits))
+    few.fits
+
+pub invariant_of-self-2 : goal.invariant_of-self-2
+invariant_of-self-2 g c = (turned g (goal.at.invariant_of-self-2 g c).After-push_reserved).has
+
+pub returns-clause-ok : goal.returns-clause-ok
+returns-clause-ok g c = (turned g (goal.at.returns-clause-ok g c).After-push_reserved).whole

@@ -1,0 +1,158 @@
+ghost use Rattle.std.specs.Prelude.{◌≡◌, ◌<◌, ◌≤◌, [], ◌∷◌, ◌++◌, length, IfOk, OnOk, OnErr, slice_index_or};
+ghost use Rattle.flat_lists.specs.private.Numbers.{folded, numbers_in, unfolded, with_group};
+
+use crate::{FlatLists, MOST_NUMBERS};
+use arrayvec::ArrayVec;
+use std::alloc::{AllocError, Allocator};
+use std::marker::Model;
+
+/// Lists of whole numbers, at most 16 in each, in the order in which they were pushed. A number takes a byte for each 7
+/// bits that it and its sign need, so that a small one takes one byte.
+#[derive(Drop)]
+pub(crate) struct PackedLists<A: Allocator + Copy> {
+    // The numbers of a list stand from the last to the first.
+    lists: FlatLists<u8, A>,
+    room: Vec<u8, A>,
+}
+
+impl<A: Allocator + Copy> Model for PackedLists<A> {
+    ghost use Rattle.std.specs.Prelude.{◌≤◌, All, List, length, map, ℤ};
+    ghost use Rattle.flat_lists.specs.private.Numbers.{numbers_in};
+
+    ghost Value = { List (List ℤ) };
+
+    ghost view = { λ n. map numbers_in n.lists };
+
+    ghost invariant = { λ n. All (λ list. length list ≤ 16) (map numbers_in n.lists) };
+}
+
+impl<A: Allocator + Copy> PackedLists<A> {
+    /// No lists. Allocates nothing.
+    pub(crate) fn new(alloc: A) -> Self
+        ensures { result ≡ [] }
+    {
+        PackedLists {
+            lists: FlatLists::new(alloc),
+            room: Vec::new(alloc),
+        }
+    }
+
+    /// No lists, with room for the ends of this many.
+    pub(crate) fn with_room(alloc: A, lists: usize) -> Result<Self, AllocError>
+        ensures { IfOk result (λ none. none ≡ []) }
+    {
+        Ok(PackedLists {
+            lists: FlatLists::with_room(alloc, lists)?,
+            room: Vec::new(alloc),
+        })
+    }
+
+    /// How many lists there are.
+    pub(crate) fn len(&self) -> usize
+        ensures { result ≡ length self.now }
+    {
+        self.lists.len()
+    }
+
+    /// Appends a copy of the list. It fails only where memory runs out, or where there would be 2^32 bytes or more.
+    pub(crate) fn push(&mut self, list: &[i64]) -> Result<(), AllocError>
+        requires { length list.now ≤ MOST_NUMBERS }
+        ensures ok { OnOk result (self.new ≡ self.old ++ list.now ∷ []) }
+        ensures err { OnErr result (self.new ≡ self.old) }
+    {
+        write_numbers(&mut self.room, list)?;
+        self.lists.push(self.room.as_slice())
+    }
+
+    /// Gives back the memory that the lists don't take.
+    pub(crate) fn shrink_to_fit(&mut self)
+        ensures { self.new ≡ self.old }
+    {
+        self.lists.shrink_to_fit();
+    }
+
+    /// The list at an index.
+    pub(crate) fn get(&self, index: usize) -> ArrayVec<i64, MOST_NUMBERS>
+        requires { index < length self.now }
+        ensures { result.items ≡ slice_index_or self.now index [] }
+    {
+        numbers_in(self.lists.get(index))
+    }
+}
+
+// A whole number as one that isn't negative: doubled, and one more where it was negative.
+fn folded(number: i64) -> u64
+    ensures { result ≡ folded number }
+{
+    if number < 0 {
+        2 * (number.unsigned_abs() - 1) + 1
+    } else {
+        2 * number.unsigned_abs()
+    }
+}
+
+fn unfolded(number: u64) -> i64
+    ensures { result ≡ unfolded number }
+{
+    let half = (number / 2) as i64;
+    if number % 2 == 0 { half } else { -1 - half }
+}
+
+// A number with the 7 bits of a group behind it. It stays at the greatest of 64 bits where it would pass that.
+fn with_group(number: u64, byte: u8) -> u64
+    ensures { result ≡ with_group number byte }
+{
+    number
+        .saturating_mul(128)
+        .saturating_add((byte % 128) as u64)
+}
+
+// Appends a number, its lowest group of 7 bits first. The top bit is set in the other groups.
+fn write_number<A: Allocator + Copy>(bytes: &mut Vec<u8, A>, number: i64) -> Result<(), AllocError>
+    ensures { OnOk result (numbers_in bytes.new.items ≡ number ∷ numbers_in bytes.old.items) }
+{
+    let all = folded(number);
+    bytes.push((all % 128) as u8)?;
+    let mut left = all / 128;
+    while left > 0 {
+        bytes.push((128 + left % 128) as u8)?;
+        left /= 128;
+    }
+    Ok(())
+}
+
+// Writes numbers, in place of what was there.
+fn write_numbers<A: Allocator + Copy>(
+    bytes: &mut Vec<u8, A>,
+    numbers: &[i64],
+) -> Result<(), AllocError>
+    ensures { OnOk result (numbers_in bytes.new.items ≡ numbers.now) }
+{
+    bytes.clear();
+    let mut left = numbers.len();
+    while left > 0 {
+        left -= 1;
+        write_number(bytes, numbers[left])?;
+    }
+    Ok(())
+}
+
+// The numbers that bytes write.
+fn numbers_in(bytes: &[u8]) -> ArrayVec<i64, MOST_NUMBERS>
+    requires { length (numbers_in bytes.now) ≤ MOST_NUMBERS }
+    ensures { result.items ≡ numbers_in bytes.now }
+{
+    let mut found = ArrayVec::new();
+    let mut number = 0;
+    let mut left = bytes.len();
+    while left > 0 {
+        left -= 1;
+        let byte = bytes[left];
+        number = with_group(number, byte);
+        if byte < 128 {
+            found.push(unfolded(number));
+            number = 0;
+        }
+    }
+    found
+}
