@@ -20,6 +20,7 @@ mod LineLemmas
 mod AlikeLemmas
 mod CountedLemmas
 mod ReadingLemmas
+mod LeadingLemmas
 pub mod FitLemmas
 pub mod TreeLemmas
 pub mod PassLemmas

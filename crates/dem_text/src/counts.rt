@@ -1,6 +1,7 @@
 ghost use Rattle.std.specs.Prelude.{◌≡◌, ◌+◌, ◌<◌, ◌^◌, false, max};
 ghost use Rattle.dem_text.specs.Limits.{has_target_beyond, is_target_beyond};
 ghost use Rattle.dem_text.specs.private.Chains.{counted_with, is_shift};
+ghost use Rattle.dem_text.specs.private.Leading.{counted_both};
 ghost use Rattle.dem_text.specs.Meanings.{detectors_to, is_error, observables_to};
 ghost use Rattle.stim_lexer.specs.Reached.{greatest_by};
 
@@ -113,6 +114,18 @@ impl LineCounts {
             detectors: self.detectors.max(extent.detectors),
             observables: self.observables.max(extent.observables),
             errors,
+        }
+    }
+
+    /// These counts with those of more lines.
+    pub(crate) fn and(self, more: LineCounts) -> LineCounts
+        requires { self.errors + more.errors < 2 ^ 64 }
+        ensures { result ≡ counted_both self more }
+    {
+        LineCounts {
+            detectors: self.detectors.max(more.detectors),
+            observables: self.observables.max(more.observables),
+            errors: self.errors + more.errors,
         }
     }
 }
