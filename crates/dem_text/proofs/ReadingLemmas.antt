@@ -141,7 +141,7 @@ spoken-error line extent text at number kept kept' opened opened' h e n more sam
 
 -- ---- one line more
 
-passed : (opened : List ℕ) (read : ℕ) (line : List ℕ) (lines : List (List ℕ)) → says_nothing line ≡ true → items_from models opened read (line ∷ lines) ≡ items_from models opened (read + 1) lines
+pub passed : (opened : List ℕ) (read : ℕ) (line : List ℕ) (lines : List (List ℕ)) → says_nothing line ≡ true → items_from models opened read (line ∷ lines) ≡ items_from models opened (read + 1) lines
 unfolding items_from
 passed opened read line lines silent = rw silent refl
 

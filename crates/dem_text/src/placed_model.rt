@@ -15,8 +15,7 @@ use std::alloc::{AllocError, Allocator};
 use std::marker::Model;
 use step_model::Fault;
 
-/// An error model whose lines stay as they were read: the error lines that its text begins with, and behind them all
-/// others. What a line flips is worked out only where the line is named, and most are not.
+/// An error model whose lines stay as they were read: those that its text begins with, and behind them all others. What a line flips is worked out only where the line is named, and most are not.
 #[derive(Drop)]
 pub struct PlacedModel<'a, A: Allocator + Copy> {
     pub(crate) leading: Leading<'a>,
@@ -32,9 +31,9 @@ impl<'a, A: Allocator + Copy> Model for PlacedModel<'a, A> {
 
     ghost Value = { ErrorModel };
 
-    ghost view = { λ m. meaning_of (placed_lines (whole_tree m.leading.text.now m.leading.counts m.table)) };
+    ghost view = { λ m. meaning_of (placed_lines (whole_tree m.leading.text.now m.leading.lines m.table)) };
 
-    ghost invariant = { λ m. IsPlacedModel m.leading.text.now m.leading.rest.now m.leading.counts m.table m.counts };
+    ghost invariant = { λ m. IsPlacedModel m.leading.text.now m.leading.rest.now m.leading.lines m.leading.counts m.table m.counts };
 }
 
 /// One more than the number of the last line that is named, or 0 where none is.

@@ -7,7 +7,7 @@ ghost use Rattle.dem_text.specs.private.Summed.{IsJudged};
 use crate::build::model_of;
 use crate::counts::LineCounts;
 use crate::judging::counts_of;
-use crate::leading::{Leading, leading_errors, no_leading};
+use crate::leading::{Leading, leading_errors, no_leading, with_declarations};
 use crate::placed_model::PlacedModel;
 use crate::reading::read_lines;
 use crate::table::LineTable;
@@ -24,9 +24,6 @@ fn judged<A: Allocator + Copy>(alloc: A, table: &LineTable<'_, A>) -> Result<Lin
         ⊎ (model_of_tree table.now ≡ Err fault)) }
 {
     table.fits();
-    if let Some(counts) = table.chain_counts() {
-        return Ok(counts);
-    }
     if has_many_lines(table) {
         return Err(Fault {
             cause: Cause::DemSteps,
@@ -41,7 +38,7 @@ fn place_behind<'a, A: Allocator + Copy>(
     alloc: A,
     leading: Leading<'a>,
 ) -> Result<PlacedModel<'a, A>, Fault>
-    requires { IsLeading leading.text.now leading.rest.now leading.counts }
+    requires { IsLeading leading.text.now leading.rest.now leading.lines leading.counts }
     ensures ok { IfOk result (λ model. model_in leading.entry.text.now ≡ Ok model) }
     ensures err { IfErr result
         (λ fault. (fault ≡ memory_fault) ⊎ (model_in leading.entry.text.now ≡ Err fault)) }
@@ -68,7 +65,8 @@ pub fn place<'a, A: Allocator + Copy>(alloc: A, text: &'a [u8]) -> Result<Placed
     ensures ok { IfOk result (λ model. model_in text.now ≡ Ok model) }
     ensures err { IfErr result (λ fault. (fault ≡ memory_fault) ⊎ (model_in text.now ≡ Err fault)) }
 {
-    place_behind(alloc, leading_errors(text))
+    let leading = with_declarations(alloc, leading_errors(text))?;
+    place_behind(alloc, leading)
 }
 
 /// The same with its lines unrolled.

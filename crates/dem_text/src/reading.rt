@@ -16,16 +16,16 @@ pub(crate) fn read_lines<'a, A: Allocator + Copy>(
     alloc: A,
     leading: Leading<'a>,
 ) -> Result<LineTable<'a, A>, Fault>
-    requires { IsLeading leading.text.now leading.rest.now leading.counts }
-    ensures tree { IfOk result (λ lines. Writes leading.entry.text.now (whole_tree leading.entry.text.now leading.entry.counts lines)) }
-    ensures few { IfOk result (λ lines. leading.entry.counts.errors + length (items_of lines) < 2 ^ 63) }
+    requires { IsLeading leading.text.now leading.rest.now leading.lines leading.counts }
+    ensures tree { IfOk result (λ lines. Writes leading.entry.text.now (whole_tree leading.entry.text.now leading.entry.lines lines)) }
+    ensures few { IfOk result (λ lines. leading.entry.lines + length (items_of lines) < 2 ^ 63) }
     ensures refusal { IfErr result
         (λ fault. (fault ≡ memory_fault) ⊎ IsRefusedBy leading.entry.text.now fault) }
 {
     let text = leading.text;
     let mut reader = LineReader::new(alloc, text);
     let mut rest = leading.rest;
-    let mut number = leading.counts.errors as u64;
+    let mut number = leading.lines;
     while !rest.is_empty() {
         number += 1;
         let passed = reader.pass(text.len() - rest.len(), number, rest)?;

@@ -4,9 +4,9 @@ use Rattle.stim_lexer.proofs.ScanLemmas.{lines_of-none}
 use Rattle.dem_text.specs.Texts.{Item}
 use Rattle.dem_text.proofs.TreeLemmas.{items_are_written}
 use Rattle.step_model.specs.declared.fault.Cause.{Cause}
-use Rattle.dem_text.specs.private.Leading.{leading_of}
 use Rattle.dem_text.specs.private.LinesRead.{PassesFirst}
-use Rattle.dem_text.proofs.LeadingLemmas.{items-led, items_led, leading-reads, passes-few, passes-led, written-led}
+use Rattle.dem_text.proofs.ChainLemmas.{items-led}
+use Rattle.dem_text.proofs.LeadingLemmas.{items_led, leading-reads, led_by, passes-few, passes-led, written-led}
 use Rattle.dem_text.proofs.ReadingLemmas.{all-read, first-before, first-read, first-refused, left-open, none_open, same-text}
 use Rattle.dem_text.proofs.reading.read_lines.Goals as goal
 
@@ -15,7 +15,7 @@ loop-text-init g c =
     let leading = c.args.leading in
     let items = ap (λ k. length k.items) c.new-reader.ensures.lines in
     record {
-      reads = leading-reads leading.text.now leading.rest.now leading.counts _ _ c.requires c.new-reader.ensures.lines c.new-reader.ensures.opened;
+      reads = leading-reads leading.text.now leading.rest.now leading.lines leading.counts _ _ c.requires c.new-reader.ensures.lines c.new-reader.ensures.opened;
       before = c.requires.before;
       text_is = ap (λ k. k.text) c.new-reader.ensures.lines;
       short = omega (arith, items);
@@ -24,7 +24,7 @@ loop-text-init g c =
 
 pub loop-text-preserved : goal.loop-text-preserved
 loop-text-preserved g c =
-    let led = leading_of c.args.leading.text.now c.args.leading.counts.errors in
+    let led = led_by c.args.leading.text.now c.args.leading.lines in
     let passes = subst (λ (refused : Option Cause). PassesFirst c.loop-text.rest.now c.in_ok-passed.passed.after.now (c.loop-text.number + 1) refused c.loop-text.reader.lines c.loop-text.reader.opened.items c.pass.new.self.lines c.pass.new.self.opened.items) c.in-None.is c.in_ok-passed.ensures in
     let more = passes-few _ _ _ _ _ _ _ _ passes in
     record {
@@ -37,13 +37,13 @@ loop-text-preserved g c =
 
 pub returns-in-Some-pop-clause-refusal : goal.returns-in-Some-pop-clause-refusal
 returns-in-Some-pop-clause-refusal g c =
-    let led = leading_of c.args.leading.text.now c.args.leading.counts.errors in
+    let led = led_by c.args.leading.text.now c.args.leading.lines in
     let none : length c.loop-text.rest.now ≡ 0 = grind (arith, nat_tests) in
     inr (left-open c.args.leading.text.now c.loop-text.rest.now c.loop-text.number (items_led led c.loop-text.reader.lines) _ _ _ c.in-Some-pop.line c.loop-text.invariant.reads (lines_of-none c.loop-text.rest.now none) c.pop.ensures.items c.in-Some-pop.is)
 
 pub new-requires : goal.new-requires
 new-requires g c =
-    let led = leading_of c.args.leading.text.now c.args.leading.counts.errors in
+    let led = led_by c.args.leading.text.now c.args.leading.lines in
     let kept = items_led led c.loop-text.reader.lines in
     let none : length c.loop-text.rest.now ≡ 0 = grind (arith, nat_tests) in
     written-led led c.loop-text.reader.lines.items
@@ -52,7 +52,7 @@ new-requires g c =
 
 pub returns-clause-tree : goal.returns-clause-tree
 returns-clause-tree g c =
-    let led = leading_of c.args.leading.text.now c.args.leading.counts.errors in
+    let led = led_by c.args.leading.text.now c.args.leading.lines in
     let kept = items_led led c.loop-text.reader.lines in
     let none : length c.loop-text.rest.now ≡ 0 = grind (arith, nat_tests) in
     all-read c.args.leading.text.now c.loop-text.rest.now c.loop-text.number kept _ c.loop-text.invariant.reads (lines_of-none c.loop-text.rest.now none) (none_open _ _ _ c.pop.ensures.items c.pop.ensures.rest c.in-None-pop.is)
@@ -65,6 +65,6 @@ returns-clause-few g c =
 
 pub returns-in-Some-clause-refusal : goal.returns-in-Some-clause-refusal
 returns-in-Some-clause-refusal g c =
-    let led = leading_of c.args.leading.text.now c.args.leading.counts.errors in
+    let led = led_by c.args.leading.text.now c.args.leading.lines in
     let passes = subst (λ (refused : Option Cause). PassesFirst c.loop-text.rest.now c.in_ok-passed.passed.after.now (c.loop-text.number + 1) refused c.loop-text.reader.lines c.loop-text.reader.opened.items c.pass.new.self.lines c.pass.new.self.opened.items) c.in-Some.is c.in_ok-passed.ensures in
     inr (first-refused _ _ _ _ c.in-Some.cause _ _ _ _ c.loop-text.invariant.reads (passes-led led _ _ _ _ _ _ _ _ passes))

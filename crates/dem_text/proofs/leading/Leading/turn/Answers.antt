@@ -9,7 +9,7 @@ use Rattle.dem_text.proofs.LeadingLemmas.{turning-done, turning-first, turning-l
 use Rattle.dem_text.proofs.leading.Leading.turn.Goals as goal
 
 pub loop-passed-init : goal.loop-passed-init
-loop-passed-init g c = turning-first c.args.detectors c.args.named.now c.args.self.text.now c.args.self.rest.now c.args.self.counts c.args.bits.now c.requires.leading
+loop-passed-init g c = turning-first c.args.detectors c.args.named.now c.args.self.text.now c.args.self.rest.now c.args.self.lines c.args.self.counts c.args.bits.now c.requires.leading
 
 pub first_line-requires : goal.first_line-requires
 first_line-requires g c =

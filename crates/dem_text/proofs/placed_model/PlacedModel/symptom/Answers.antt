@@ -5,7 +5,7 @@ use Rattle.dem_text.specs.Shifts.{Placed}
 use Rattle.dem_text.specs.Sums.{symptom_of}
 use Rattle.dem_text.specs.private.Summed.{turned_over, turned_past}
 use Rattle.dem_text.specs.private.Chains.{placed}
-use Rattle.dem_text.specs.private.Leading.{leading_of, whole_tree}
+use Rattle.dem_text.specs.private.Leading.{errors_of, whole_tree}
 use Rattle.dem_text.proofs.LeadingLemmas.{leading-led, summing-led}
 use Rattle.dem_text.proofs.SummedLemmas.{length-past}
 use Rattle.dem_text.proofs.WalkLemmas.{IsSumming, summing-done, summing-first, summing-named, summing-next}
@@ -15,8 +15,8 @@ pub loop-passed-init : goal.loop-passed-init
 loop-passed-init g c =
     let leading = c.self.inside.leading in
     let counts = c.self.inside.counts in
-    let all = placed_lines (whole_tree leading.text.now leading.counts c.self.inside.table) in
-    let led = leading-led leading.text.now leading.rest.now leading.counts c.self.inside.table c.self.invariant.leading_is in
+    let all = placed_lines (whole_tree leading.text.now leading.lines c.self.inside.table) in
+    let led = leading-led leading.text.now leading.rest.now leading.lines leading.counts c.self.inside.table c.self.invariant.leading_is in
     let d = counts.detectors in
     let o = counts.observables in
     let named = c.args.named.now in
@@ -25,9 +25,9 @@ loop-passed-init g c =
     let whole = symptom_of c.args.self.now named in
     let first = summing-first c.args.self.now all named old counts c.self.view_is c.self.invariant.judged.counts c.in_ok-bits.ensures in
     let behind = placed_lines c.self.inside.table in
-    let lines = map placed (leading_of leading.text.now leading.counts.errors) in
+    let lines = map placed (errors_of leading.text.now leading.counts.errors) in
     let sum =
-    summing-led d o named old new leading.text.now leading.rest.now leading.counts behind whole c.self.invariant.leading_is
+    summing-led d o named old new leading.text.now leading.rest.now leading.lines leading.counts behind whole c.self.invariant.leading_is
     (subst (λ (ps : List Placed). IsSumming d o named old 0 ps whole) led.placed_are first)
     (c.in_ok-turn.ensures ∙ ap (turned_over d named 0 lines) c.deref_mut.ensures.value) in
     let same : length new ≡ c.in_ok-bits.bits.len = sum.long ∙ sym first.long ∙ sym c.in_ok-bits.bits.ok.0 in
