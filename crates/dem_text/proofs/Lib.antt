@@ -21,6 +21,8 @@ mod AlikeLemmas
 mod CountedLemmas
 mod ReadingLemmas
 mod LeadingLemmas
+mod LedLemmas
+mod TurningLemmas
 pub mod FitLemmas
 pub mod TreeLemmas
 pub mod PassLemmas

@@ -1,7 +1,7 @@
 use Rattle.std.proofs.Common.{refl, subst, sym}
 use Rattle.dem_text.specs.declared.counts.LineCounts.{LineCounts}
 use Rattle.dem_text.specs.private.Leading.{IsPlacedModel, whole_tree}
-use Rattle.dem_text.proofs.LeadingLemmas.{leading-led, led-errors, led-judged, led-refused}
+use Rattle.dem_text.proofs.LedLemmas.{leading-led, led-errors, led-judged, led-refused}
 use Rattle.dem_text.proofs.ReadLemmas.{read-model, refused-model, whole-model}
 use Rattle.dem_text.proofs.reader.place_behind.Goals as goal
 

@@ -6,7 +6,8 @@ use Rattle.dem_text.proofs.TreeLemmas.{items_are_written}
 use Rattle.step_model.specs.declared.fault.Cause.{Cause}
 use Rattle.dem_text.specs.private.LinesRead.{PassesFirst}
 use Rattle.dem_text.proofs.ChainLemmas.{items-led}
-use Rattle.dem_text.proofs.LeadingLemmas.{items_led, leading-reads, led_by, passes-few, passes-led, written-led}
+use Rattle.dem_text.proofs.LeadingLemmas.{led_by}
+use Rattle.dem_text.proofs.LedLemmas.{items_led, leading-reads, passes-few, passes-led, written-led}
 use Rattle.dem_text.proofs.ReadingLemmas.{all-read, first-before, first-read, first-refused, left-open, none_open, same-text}
 use Rattle.dem_text.proofs.reading.read_lines.Goals as goal
 

@@ -1,5 +1,6 @@
 use Rattle.std.proofs.Common.{◌≡◌, ◌+◌, ◌<◌, ◌≤◌, length}
-use Rattle.dem_text.proofs.LeadingLemmas.{items_led, led_by}
+use Rattle.dem_text.proofs.LeadingLemmas.{led_by}
+use Rattle.dem_text.proofs.LedLemmas.{items_led}
 use Rattle.dem_text.proofs.ReadingLemmas.{IsBefore, IsReadTo}
 use Rattle.dem_text.proofs.reading.read_lines.Given as goal
 

@@ -5,7 +5,7 @@ use Rattle.stim_lexer.specs.Cut.{cut_of}
 use Rattle.dem_text.specs.private.Numbered.{numbers_of}
 use Rattle.dem_text.specs.private.Standing.{Speaks, read_targets}
 use Rattle.dem_text.specs.private.Turned.{turned}
-use Rattle.dem_text.proofs.LeadingLemmas.{turning-done, turning-first, turning-line, turning-some}
+use Rattle.dem_text.proofs.TurningLemmas.{turning-done, turning-first, turning-line, turning-some}
 use Rattle.dem_text.proofs.leading.Leading.turn.Goals as goal
 
 pub loop-passed-init : goal.loop-passed-init

@@ -2,7 +2,7 @@ use Rattle.std.proofs.Common.{◌-◌, map}
 use Rattle.dem_text.specs.private.Chains.{placed}
 use Rattle.dem_text.specs.private.Leading.{errors_of}
 use Rattle.dem_text.specs.private.Summed.{turned_over}
-use Rattle.dem_text.proofs.LeadingLemmas.{IsTurning}
+use Rattle.dem_text.proofs.TurningLemmas.{IsTurning}
 use Rattle.dem_text.proofs.leading.Leading.turn.Given as goal
 
 abbrev pub invariant-loop-passed : goal.invariant-loop-passed

@@ -6,7 +6,8 @@ use Rattle.dem_text.specs.Sums.{symptom_of}
 use Rattle.dem_text.specs.private.Summed.{turned_over, turned_past}
 use Rattle.dem_text.specs.private.Chains.{placed}
 use Rattle.dem_text.specs.private.Leading.{errors_of, whole_tree}
-use Rattle.dem_text.proofs.LeadingLemmas.{leading-led, summing-led}
+use Rattle.dem_text.proofs.LedLemmas.{leading-led}
+use Rattle.dem_text.proofs.TurningLemmas.{summing-led}
 use Rattle.dem_text.proofs.SummedLemmas.{length-past}
 use Rattle.dem_text.proofs.WalkLemmas.{IsSumming, summing-done, summing-first, summing-named, summing-next}
 use Rattle.dem_text.proofs.placed_model.PlacedModel.symptom.Goals as goal
