@@ -20,6 +20,9 @@ mod LineLemmas
 mod AlikeLemmas
 mod CountedLemmas
 mod ReadingLemmas
+mod LeadingLemmas
+mod LedLemmas
+mod TurningLemmas
 pub mod FitLemmas
 pub mod TreeLemmas
 pub mod PassLemmas

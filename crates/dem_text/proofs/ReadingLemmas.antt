@@ -25,15 +25,10 @@ use Rattle.dem_text.specs.declared.counts.Extent.{Extent}
 use Rattle.dem_text.specs.private.Kept.{IsKept, Kept, with_item}
 use Rattle.dem_text.specs.private.LinesRead.{BeginsWithError, HasRead, HasSpoken, IsErrorLine, PassesFirst, PassesLine, unfinished}
 use Rattle.dem_text.proofs.KeptLemmas.{error-read}
+pub use Rattle.dem_text.specs.private.Standing.{IsBefore}
 use Rattle.dem_text.specs.private.Standing.{instruction_at, instruction_cut, line_at, line_number}
 
 -- ---- where a line stands
-
--- so many lines stand before the rest of a text
-pub record IsBefore (text rest : List ℕ) (read : ℕ) : Type 0 where
-  pub front : List ℕ
-  pub text_is : text ≡ front ++ rest
-  pub read_is : length (filter is_line_feed front) ≡ read
 
 pub before-first : (text : List ℕ) → IsBefore text text 0
 before-first text = record { front = []; text_is = refl; read_is = refl }
@@ -146,11 +141,11 @@ spoken-error line extent text at number kept kept' opened opened' h e n more sam
 
 -- ---- one line more
 
-passed : (opened : List ℕ) (read : ℕ) (line : List ℕ) (lines : List (List ℕ)) → says_nothing line ≡ true → items_from models opened read (line ∷ lines) ≡ items_from models opened (read + 1) lines
+pub passed : (opened : List ℕ) (read : ℕ) (line : List ℕ) (lines : List (List ℕ)) → says_nothing line ≡ true → items_from models opened read (line ∷ lines) ≡ items_from models opened (read + 1) lines
 unfolding items_from
 passed opened read line lines silent = rw silent refl
 
-spoken : (opened : List ℕ) (read : ℕ) (line : List ℕ) (lines : List (List ℕ)) → says_nothing line ≡ false → items_from models opened read (line ∷ lines)
+pub spoken : (opened : List ℕ) (read : ℕ) (line : List ℕ) (lines : List (List ℕ)) → says_nothing line ≡ false → items_from models opened read (line ∷ lines)
     ≡ followed (read + 1) (line_reading models opened (read + 1) line) (items_from models (open_after (read + 1) (line_reading models opened (read + 1) line) opened) (read + 1) lines)
 unfolding items_from
 spoken opened read line lines speaks = rw speaks refl

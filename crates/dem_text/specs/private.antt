@@ -1,6 +1,7 @@
 pub mod Chains
 pub mod ErrorTexts
 pub mod Kept
+pub mod Leading
 pub mod LinesRead
 pub mod Marked
 pub mod Numbered

@@ -1,14 +1,13 @@
 ghost use Rattle.std.specs.Prelude.{◌≡◌, ◌+◌, ◌^◌, ◌<◌, ◌≤◌, ◌++◌, length, [], ◌∷◌, IfOk};
 ghost use Rattle.stim_lexer.specs.Reached.{reached, greatest_by};
-ghost use Rattle.dem_text.specs.Meanings.{detectors_to, error_lines, observables_to};
+ghost use Rattle.dem_text.specs.Meanings.{detectors_to, error_lines, meaning_of, observables_to};
 ghost use Rattle.dem_text.specs.Models.{placed_lines};
-ghost use Rattle.dem_text.specs.private.Summed.{AreCounts};
+ghost use Rattle.dem_text.specs.private.Summed.{AreCounts, IsJudged};
 
 use crate::counts::LineCounts;
 use crate::flips::read_flipped;
 use crate::marks::coordinates_of;
 use crate::placed_line::PlacedLine;
-use crate::placed_model::PlacedModel;
 use crate::table::LineTable;
 use crate::target::Target;
 use crate::walk::Walk;
@@ -77,16 +76,17 @@ fn push_errors<'a, A: Allocator + Copy>(
     Ok(())
 }
 
-/// A model with its lines unrolled.
+/// The model of lines, unrolled.
 pub(crate) fn model_of<'a, A: Allocator + Copy>(
     alloc: A,
-    placed: &PlacedModel<'a, A>,
+    table: &LineTable<'a, A>,
+    counts: LineCounts,
 ) -> Result<Model<'a, A>, AllocError>
-    ensures { IfOk result (λ model. model ≡ placed.now) }
+    requires { IsJudged table.now counts.detectors counts.observables counts.errors }
+    ensures { IfOk result (λ model. model ≡ meaning_of (placed_lines table.now)) }
 {
-    let counts = placed.counts;
-    let coordinates = coordinates_of(alloc, &placed.table, counts.detectors as usize)?;
+    let coordinates = coordinates_of(alloc, table, counts.detectors as usize)?;
     let mut model = Model::new(alloc, coordinates, counts.observables as usize);
-    push_errors(alloc, &mut model, &placed.table, counts)?;
+    push_errors(alloc, &mut model, table, counts)?;
     Ok(model)
 }

@@ -1,6 +1,7 @@
 ghost use Rattle.std.specs.Prelude.{◌≡◌, ◌+◌, ◌<◌, ◌^◌, false, max};
 ghost use Rattle.dem_text.specs.Limits.{has_target_beyond, is_target_beyond};
-ghost use Rattle.dem_text.specs.private.Chains.{counted_with, is_shift};
+ghost use Rattle.dem_text.specs.private.Chains.{counted_with};
+ghost use Rattle.dem_text.specs.private.Leading.{counted_both};
 ghost use Rattle.dem_text.specs.Meanings.{detectors_to, is_error, observables_to};
 ghost use Rattle.stim_lexer.specs.Reached.{greatest_by};
 
@@ -83,19 +84,26 @@ pub(crate) fn extent_of(targets: &[Target]) -> Extent
     found
 }
 
+/// The counts of a line that has these targets and is no error line.
+pub(crate) fn counts_of_targets(targets: &[Target]) -> LineCounts
+    requires { has_target_beyond targets.now ≡ false }
+    ensures detectors { result.detectors ≡ greatest_by detectors_to targets.now }
+    ensures observables { result.observables ≡ greatest_by observables_to targets.now }
+    ensures errors { result.errors ≡ 0 }
+{
+    let extent = extent_of(targets);
+    LineCounts {
+        detectors: extent.detectors,
+        observables: extent.observables,
+        errors: 0,
+    }
+}
+
 /// Whether a line is an error line.
 pub(crate) fn is_error(operation: Operation) -> bool
     ensures { result ≡ is_error operation }
 {
     matches!(operation, Operation::PauliError)
-}
-
-/// Whether a line shifts those that follow.
-#[inline(always)]
-pub(crate) fn is_shift(operation: Operation) -> bool
-    ensures { result ≡ is_shift operation }
-{
-    matches!(operation, Operation::Shifts)
 }
 
 impl LineCounts {
@@ -113,6 +121,18 @@ impl LineCounts {
             detectors: self.detectors.max(extent.detectors),
             observables: self.observables.max(extent.observables),
             errors,
+        }
+    }
+
+    /// These counts with those of more lines.
+    pub(crate) fn and(self, more: LineCounts) -> LineCounts
+        requires { self.errors + more.errors < 2 ^ 64 }
+        ensures { result ≡ counted_both self more }
+    {
+        LineCounts {
+            detectors: self.detectors.max(more.detectors),
+            observables: self.observables.max(more.observables),
+            errors: self.errors + more.errors,
         }
     }
 }

@@ -76,7 +76,7 @@ fn head_in<'a>(last: &mut LastProbability<'a>, text: &'a [u8]) -> Option<Head<'a
 /// The extent of the targets of the error line that a text begins with, and what follows the line, where it begins as one
 /// before it. There is none where the line begins otherwise, is written in a rare way, or is refused.
 #[inline(always)]
-pub(crate) fn error_alike<'t>(head: Option<Head<'_>>, text: &'t [u8]) -> Option<(Extent, &'t [u8])>
+fn error_alike<'t>(head: Option<Head<'_>>, text: &'t [u8]) -> Option<(Extent, &'t [u8])>
     ensures { IfSome result (λ found. BeginsWithError text.now found.0 found.1.now) }
 {
     let head = head?;
@@ -86,7 +86,8 @@ pub(crate) fn error_alike<'t>(head: Option<Head<'_>>, text: &'t [u8]) -> Option<
 }
 
 /// The same for an error line whose beginning is read anew.
-pub(crate) fn error_anew<'a>(
+#[inline(never)]
+fn error_anew<'a>(
     head: &mut Option<Head<'a>>,
     last: &mut LastProbability<'a>,
     text: &'a [u8],
@@ -96,4 +97,19 @@ pub(crate) fn error_anew<'a>(
     let found = head_in(last, text)?;
     *head = Some(found);
     error_alike(Some(found), text)
+}
+
+/// The same for an error line that may begin as one before it, whose beginning is `head`.
+#[inline(always)]
+pub(crate) fn error_first<'a>(
+    head: &mut Option<Head<'a>>,
+    last: &mut LastProbability<'a>,
+    text: &'a [u8],
+) -> Option<(Extent, &'a [u8])>
+    ensures { IfSome result (λ found. BeginsWithError text.now found.0 found.1.now) }
+{
+    match error_alike(*head, text) {
+        Some(found) => Some(found),
+        None => error_anew(head, last, text),
+    }
 }

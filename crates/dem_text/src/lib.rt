@@ -14,6 +14,7 @@ mod forms;
 mod judging;
 mod kept_lines;
 pub mod laws;
+mod leading;
 mod line_reader;
 mod line_text;
 mod marks;
@@ -30,6 +31,7 @@ mod sums;
 mod table;
 mod table_line;
 mod target;
+mod turning;
 mod unrolled;
 mod walk;
 

@@ -14,7 +14,7 @@ ghost use Rattle.dem_text.specs.private.Standing.{Speaks, instruction_at, line_a
 
 use crate::counts::{extent_of, is_error};
 use crate::entries::Rare;
-use crate::error_head::{Head, error_alike, error_anew};
+use crate::error_head::{Head, error_first};
 use crate::kept_lines::KeptLines;
 use crate::line_text::line_in;
 use crate::model_judge::{number_in, read_line};
@@ -121,7 +121,9 @@ impl<'a, A: Allocator + Copy> LineReader<'a, A> {
         Ok(None)
     }
 
-    /// Reads the first line of a text, however it is written.
+    /// Reads the first line of a text, however it is written. It is never inlined, so that it takes no registers from the
+    /// reading of error lines.
+    #[inline(never)]
     fn pass_any(&mut self, at: usize, number: u64, text: &'a [u8]) -> Result<Passed<'a>, AllocError>
         requires some { 0 < length text.now }
         requires line { before_first is_line_feed text.now ≡ line_at self.old.lines.text at }
@@ -136,33 +138,6 @@ impl<'a, A: Allocator + Copy> LineReader<'a, A> {
             Err(fault) => Some(fault.cause),
         };
         Ok(Passed { after, refused })
-    }
-
-    /// Reads a line that may begin otherwise than those before it. It is never inlined, so that it takes no registers from
-    /// the reading of lines that begin as one before them.
-    #[inline(never)]
-    fn pass_anew(
-        &mut self,
-        at: usize,
-        number: u64,
-        text: &'a [u8],
-    ) -> Result<Passed<'a>, AllocError>
-        requires some { 0 < length text.now }
-        requires line { before_first is_line_feed text.now ≡ line_at self.old.lines.text at }
-        requires number { number ≡ line_number self.old.lines.text at }
-        ensures { IfOk result (λ passed. PassesFirst text.now passed.after.now number passed.refused
-            self.old.lines self.old.opened.items self.new.lines self.new.opened.items) }
-    {
-        match error_anew(&mut self.head, &mut self.last.probability, text) {
-            Some((extent, after)) => {
-                self.lines.push_error(at, extent)?;
-                Ok(Passed {
-                    after,
-                    refused: None,
-                })
-            }
-            None => self.pass_any(at, number, text),
-        }
     }
 
     /// Reads the first line of a text, which has this number, and begins at this place of the whole. It fails only where
@@ -180,13 +155,15 @@ impl<'a, A: Allocator + Copy> LineReader<'a, A> {
         ensures { IfOk result (λ passed. PassesFirst text.now passed.after.now number passed.refused
             self.old.lines self.old.opened.items self.new.lines self.new.opened.items) }
     {
-        if let Some((extent, after)) = error_alike(self.head, text) {
-            self.lines.push_error(at, extent)?;
-            return Ok(Passed {
-                after,
-                refused: None,
-            });
+        match error_first(&mut self.head, &mut self.last.probability, text) {
+            Some((extent, after)) => {
+                self.lines.push_error(at, extent)?;
+                Ok(Passed {
+                    after,
+                    refused: None,
+                })
+            }
+            None => self.pass_any(at, number, text),
         }
-        self.pass_anew(at, number, text)
     }
 }

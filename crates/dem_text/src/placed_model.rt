@@ -1,26 +1,24 @@
-ghost use Rattle.std.specs.Prelude.{◌≡◌, ◌≤◌, ◌+◌, ◌<◌, ◌^◌, ℕ, false, true, length, map, slice_index_or, IfOk, IfErr};
+ghost use Rattle.std.specs.Prelude.{◌≡◌, ◌≤◌, ◌+◌, ◌<◌, ◌^◌, ℕ, false, true, length, slice_index_or, IfOk, IfErr};
 ghost use Rattle.step_model.specs.Faults.{memory_fault};
-ghost use Rattle.dem_text.specs.Meanings.{numbered};
-ghost use Rattle.dem_text.specs.private.Numbered.{numbers_of};
-ghost use Rattle.dem_text.specs.Shifts.{shifted_target};
 ghost use Rattle.dem_text.specs.private.Summed.{passed_after, turned_past};
 ghost use Rattle.dem_text.specs.Sums.{symptom_of};
-ghost use Rattle.dem_text.specs.private.Turned.{turned};
 
 use crate::counts::LineCounts;
+use crate::leading::Leading;
 use crate::placed_line::PlacedLine;
-use crate::sums::{no_bits, turn_at};
+use crate::sums::no_bits;
 use crate::table::LineTable;
 use crate::target::Target;
+use crate::turning::turn_targets;
 use crate::walk::Walk;
 use std::alloc::{AllocError, Allocator};
 use std::marker::Model;
 use step_model::Fault;
 
-/// An error model whose lines stay as they were read. What a line flips is worked out only where the line is named, and
-/// most are not.
+/// An error model whose lines stay as they were read: those that its text begins with, and behind them all others. What a line flips is worked out only where the line is named, and most are not.
 #[derive(Drop)]
 pub struct PlacedModel<'a, A: Allocator + Copy> {
+    pub(crate) leading: Leading<'a>,
     pub(crate) table: LineTable<'a, A>,
     pub(crate) counts: LineCounts,
 }
@@ -29,13 +27,13 @@ impl<'a, A: Allocator + Copy> Model for PlacedModel<'a, A> {
     ghost use Rattle.step_model.specs.ErrorModels.{ErrorModel};
     ghost use Rattle.dem_text.specs.Meanings.{meaning_of};
     ghost use Rattle.dem_text.specs.Models.{placed_lines};
-    ghost use Rattle.dem_text.specs.private.Summed.{IsJudged};
+    ghost use Rattle.dem_text.specs.private.Leading.{IsPlacedModel, whole_tree};
 
     ghost Value = { ErrorModel };
 
-    ghost view = { λ m. meaning_of (placed_lines m.table) };
+    ghost view = { λ m. meaning_of (placed_lines (whole_tree m.leading.text.now m.leading.lines m.table)) };
 
-    ghost invariant = { λ m. IsJudged m.table m.counts.detectors m.counts.observables m.counts.errors };
+    ghost invariant = { λ m. IsPlacedModel m.leading.text.now m.leading.rest.now m.leading.lines m.leading.counts m.table m.counts };
 }
 
 /// One more than the number of the last line that is named, or 0 where none is.
@@ -56,32 +54,6 @@ fn is_named(named: &[bool], line: usize) -> bool
     ensures { result ≡ slice_index_or named.now line false }
 {
     line < named.len() && named[line]
-}
-
-/// Flips the truth value of a target, in a model with this many detectors, where these are shifted. A separator has none.
-fn turn_target(bits: &mut [bool], detectors: u32, shift: u128, target: Target)
-    ensures { bits.new ≡ turned bits.old (numbered detectors (shifted_target shift target)) }
-{
-    match target {
-        Target::Detector(detector) => {
-            // A number that doesn't fit is past the end.
-            if let Some(number) = shift.checked_add(detector as u128) {
-                turn_at(bits, number);
-            }
-        }
-        Target::Observable(observable) => turn_at(bits, detectors as u128 + observable as u128),
-        _ => {}
-    }
-}
-
-/// The same for targets, one after another.
-fn turn_targets(bits: &mut [bool], detectors: u32, shift: u128, targets: &[Target])
-    ensures { bits.new
-        ≡ turned bits.old (numbers_of detectors (map (shifted_target shift) targets.now)) }
-{
-    for target in targets {
-        turn_target(bits, detectors, shift, *target);
-    }
 }
 
 /// Goes past a line that comes after `passed` error lines, and answers how many there are after it. An error line that
@@ -129,7 +101,9 @@ impl<'a, A: Allocator + Copy> PlacedModel<'a, A> {
         let mut bits = no_bits(alloc, detectors as usize, observables as usize)?;
         let mut room = Vec::new(alloc);
         let end = named_end(named);
-        let mut passed = 0;
+        self.leading
+            .turn(&mut bits, &mut room, named, end, detectors)?;
+        let mut passed = self.leading.counts.errors;
         let mut walk = Walk::new(&self.table);
         while passed < end {
             let Some(line) = walk.line() else {

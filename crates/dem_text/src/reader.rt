@@ -1,11 +1,13 @@
 ghost use Rattle.std.specs.Prelude.{◌≡◌, ◌⊎◌, IfOk, IfErr, Ok, Err};
 ghost use Rattle.step_model.specs.Faults.{memory_fault};
 ghost use Rattle.dem_text.specs.Models.{model_in, model_of_tree};
+ghost use Rattle.dem_text.specs.private.Leading.{IsLeading};
 ghost use Rattle.dem_text.specs.private.Summed.{IsJudged};
 
 use crate::build::model_of;
 use crate::counts::LineCounts;
 use crate::judging::counts_of;
+use crate::leading::{Leading, leading_errors, no_leading, with_declarations};
 use crate::placed_model::PlacedModel;
 use crate::reading::read_lines;
 use crate::table::LineTable;
@@ -22,9 +24,6 @@ fn judged<A: Allocator + Copy>(alloc: A, table: &LineTable<'_, A>) -> Result<Lin
         ⊎ (model_of_tree table.now ≡ Err fault)) }
 {
     table.fits();
-    if let Some(counts) = table.chain_counts() {
-        return Ok(counts);
-    }
     if has_many_lines(table) {
         return Err(Fault {
             cause: Cause::DemSteps,
@@ -34,19 +33,40 @@ fn judged<A: Allocator + Copy>(alloc: A, table: &LineTable<'_, A>) -> Result<Lin
     counts_of(alloc, table)
 }
 
+/// The error model of a text whose leading lines these are, or its one refusal.
+fn place_behind<'a, A: Allocator + Copy>(
+    alloc: A,
+    leading: Leading<'a>,
+) -> Result<PlacedModel<'a, A>, Fault>
+    requires { IsLeading leading.text.now leading.rest.now leading.lines leading.counts }
+    ensures ok { IfOk result (λ model. model_in leading.entry.text.now ≡ Ok model) }
+    ensures err { IfErr result
+        (λ fault. (fault ≡ memory_fault) ⊎ (model_in leading.entry.text.now ≡ Err fault)) }
+{
+    match read_lines(alloc, leading) {
+        Ok(table) => match judged(alloc, &table) {
+            Ok(counts) => {
+                let counts = leading.counts.and(counts);
+                Ok(PlacedModel {
+                    leading,
+                    table,
+                    counts,
+                })
+            }
+            Err(fault) => Err(fault),
+        },
+        Err(fault) => Err(fault),
+    }
+}
+
 /// The error model that a text writes, or its one refusal. The model's lines stay in the text. The cause is `Memory` only
 /// where memory runs out.
 pub fn place<'a, A: Allocator + Copy>(alloc: A, text: &'a [u8]) -> Result<PlacedModel<'a, A>, Fault>
     ensures ok { IfOk result (λ model. model_in text.now ≡ Ok model) }
     ensures err { IfErr result (λ fault. (fault ≡ memory_fault) ⊎ (model_in text.now ≡ Err fault)) }
 {
-    match read_lines(alloc, text) {
-        Ok(table) => match judged(alloc, &table) {
-            Ok(counts) => Ok(PlacedModel { table, counts }),
-            Err(fault) => Err(fault),
-        },
-        Err(fault) => Err(fault),
-    }
+    let leading = with_declarations(alloc, leading_errors(text))?;
+    place_behind(alloc, leading)
 }
 
 /// The same with its lines unrolled.
@@ -54,6 +74,11 @@ pub fn read<'a, A: Allocator + Copy>(alloc: A, text: &'a [u8]) -> Result<Model<'
     ensures ok { IfOk result (λ model. model_in text.now ≡ Ok model) }
     ensures err { IfErr result (λ fault. (fault ≡ memory_fault) ⊎ (model_in text.now ≡ Err fault)) }
 {
-    let placed = place(alloc, text)?;
-    Ok(model_of(alloc, &placed)?)
+    match read_lines(alloc, no_leading(text)) {
+        Ok(table) => match judged(alloc, &table) {
+            Ok(counts) => Ok(model_of(alloc, &table, counts)?),
+            Err(fault) => Err(fault),
+        },
+        Err(fault) => Err(fault),
+    }
 }

@@ -2,10 +2,8 @@ ghost use Rattle.std.specs.Prelude.{◌≡◌, ◌<◌, ◌^◌, Some, length, o
 ghost use Rattle.stim_lexer.specs.Fitting.{IsWritten};
 ghost use Rattle.dem_text.specs.Fitting.{Fits, IsAccepted};
 ghost use Rattle.stim_lexer.specs.Trees.{InstructionLine, items_of};
-ghost use Rattle.dem_text.specs.private.Chains.{IsChain};
 ghost use Rattle.dem_text.specs.private.TableLines.{HasNoLine, IsTableLine, instruction_of, stand_of};
 
-use crate::counts::{LineCounts, NO_LINES, is_shift};
 use crate::kept_lines::KeptLines;
 use crate::table_line::{Stand, TableLine};
 use std::alloc::Allocator;
@@ -76,22 +74,5 @@ impl<'a, A: Allocator + Copy> LineTable<'a, A> {
             (λ line. (Some (InstructionLine (instruction_of line)) ≡ slice_get (items_of self.now) place) × IsTableLine line) }
     {
         self.lines.line_at(place)
-    }
-
-    /// The counts of all lines, where none of them shifts others or stands in a block: then they are reached as they stand.
-    pub(crate) fn chain_counts(&self) -> Option<LineCounts>
-        ensures { IfSome result (λ counts. IsChain (items_of self.now) counts) }
-    {
-        let mut counts = NO_LINES;
-        let mut place = self.len();
-        while place > 0 {
-            place -= 1;
-            let line = self.line_at(place)?;
-            if is_shift(line.operation) {
-                return None;
-            }
-            counts = counts.with(line.operation, line.extent);
-        }
-        Some(counts)
     }
 }

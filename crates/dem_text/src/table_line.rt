@@ -2,7 +2,7 @@ ghost use Rattle.std.specs.Prelude.{◌≡◌, [], drop, slice_index_or, IfOk, M
 ghost use Rattle.stim_lexer.specs.Cut.{cut_of};
 ghost use Rattle.stim_lexer.specs.Lexing.{cut_in};
 ghost use Rattle.stim_parser.specs.Arguments.{arguments_in};
-ghost use Rattle.dem_text.specs.private.Standing.{Speaks, line_at, line_number};
+ghost use Rattle.dem_text.specs.private.Standing.{Speaks, line_at, line_number, read_targets};
 ghost use Rattle.dem_text.specs.private.TableLines.{IsTableLine, instruction_of};
 
 use crate::counts::Extent;
@@ -76,6 +76,25 @@ fn cut_again(text: &[u8], at: usize) -> Option<Line<'_>>
     }
 }
 
+/// Puts the targets of the line that begins at a place of a text into `targets`, in place of what it held.
+pub(crate) fn read_targets_at<A: Allocator + Copy>(
+    text: &[u8],
+    at: usize,
+    targets: &mut Vec<Target, A>,
+) -> Result<(), AllocError>
+    requires { Speaks (line_at text.now at) }
+    ensures { IfOk result
+        (λ _. targets.new.items ≡ read_targets (cut_of (line_at text.now at)).targets) }
+{
+    targets.clear();
+    if let Some(line) = cut_again(text, at) {
+        if !read_targets(targets, line.targets)? {
+            targets.clear();
+        }
+    }
+    Ok(())
+}
+
 impl<'t, 'a> TableLine<'t, 'a> {
     /// The number of the line in the text, from 1.
     pub(crate) fn number(self) -> u64
@@ -103,12 +122,6 @@ impl<'t, 'a> TableLine<'t, 'a> {
         requires { IsTableLine self }
         ensures { IfOk result (λ _. targets.new.items ≡ (instruction_of self.entry).targets) }
     {
-        targets.clear();
-        if let Some(line) = cut_again(self.text, self.at) {
-            if !read_targets(targets, line.targets)? {
-                targets.clear();
-            }
-        }
-        Ok(())
+        read_targets_at(self.text, self.at, targets)
     }
 }

@@ -1,16 +1,13 @@
 -- Instructions in no block and with no shift among them: they are reached as they stand, one after another. (Stim's detector
 -- error model format, github.com/quantumlib/Stim, doc/file_format_dem_detector_error_model.md.)
-use Rattle.std.specs.Prelude.{◌≡◌, ⊤, ◌+◌, max, Bool, true, false, if◌then◌else◌, List, [], ◌∷◌, map}
+use Rattle.std.specs.Prelude.{◌≡◌, ⊤, ◌+◌, max, Bool, true, false, if◌then◌else◌, List, [], ◌∷◌}
 use Rattle.dem_text.specs.declared.operation.Operation.{Operation}
 use Rattle.dem_text.specs.declared.operation.Operation.TheVariants.{Shifts}
-use Rattle.dem_text.specs.Texts.{Item}
-use Rattle.stim_lexer.specs.Trees.{InstructionLine}
 use Rattle.dem_text.specs.Verdicts.{Instruction}
 use Rattle.dem_text.specs.declared.counts.Extent.{Extent}
 use Rattle.dem_text.specs.declared.counts.LineCounts.{LineCounts}
 use Rattle.dem_text.specs.Meanings.{is_error}
 use Rattle.dem_text.specs.Shifts.{Placed, no_shift, placed_at, shift_after}
-use Rattle.dem_text.specs.private.Summed.{AreCounts}
 
 abbrev pub is_shift : Operation → Bool
 is_shift Shifts = true
@@ -32,10 +29,3 @@ counted_with counts operation extent =
       observables = max counts.observables extent.observables;
       errors = if is_error operation then counts.errors + 1 else counts.errors;
     }
-
--- these items are such instructions, and have these counts
-pub record IsChain (items : List Item) (counts : LineCounts) : Type 0 where
-  pub instructions : List Instruction
-  pub items_are : items ≡ map InstructionLine instructions
-  pub stay : AllStay instructions
-  pub counts_are : AreCounts (map placed instructions) counts.detectors counts.observables counts.errors

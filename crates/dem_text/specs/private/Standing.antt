@@ -1,6 +1,6 @@
 -- Where a line stands in the text of an error model, and what it says there: so a line can be read again that was accepted.
 -- (Stim's detector error model format, github.com/quantumlib/Stim, doc/file_format_dem_detector_error_model.md.)
-use Rattle.std.specs.Prelude.{◌≡◌, ℕ, ◌+◌, false, List, [], drop, length, filter, take, unwrap_or}
+use Rattle.std.specs.Prelude.{◌≡◌, ℕ, ◌+◌, false, List, [], ◌++◌, drop, length, filter, take, unwrap_or}
 use Rattle.std.specs.List.{before_first}
 use Rattle.stim_lexer.specs.Bytes.{is_line_feed}
 use Rattle.stim_lexer.specs.Cut.{Cut, cut_of, has_bad_byte}
@@ -17,6 +17,12 @@ line_at text at = before_first is_line_feed (drop at text)
 
 abbrev pub line_number : List ℕ → ℕ → ℕ
 line_number text at = length (filter is_line_feed (take at text)) + 1
+
+-- so many lines stand before the rest of a text
+pub record IsBefore (text rest : List ℕ) (read : ℕ) : Type 0 where
+  pub front : List ℕ
+  pub text_is : text ≡ front ++ rest
+  pub read_is : length (filter is_line_feed front) ≡ read
 
 -- the targets of a text, where each can be read
 abbrev pub read_targets : List ℕ → List Target

@@ -1,6 +1,6 @@
 -- The symptom of error lines, from lines that stay as they were read: what each of them flips, and how many there are.
 -- (Stim's detector error model format, github.com/quantumlib/Stim, doc/file_format_dem_detector_error_model.md.)
-use Rattle.std.specs.Prelude.{◌≡◌, ℕ, ◌+◌, ◌<◌, ◌^◌, max, None, Bool, false, ◌&&◌, if◌then◌else◌, List, length, filter, slice_index_or}
+use Rattle.std.specs.Prelude.{◌≡◌, ℕ, ◌+◌, ◌<◌, ◌^◌, max, None, Bool, false, ◌&&◌, if◌then◌else◌, List, [], ◌∷◌, length, filter, slice_index_or}
 use Rattle.dem_text.specs.Reached.{has_many_lines}
 use Rattle.stim_lexer.specs.Reached.{reached, greatest_by}
 use Rattle.dem_text.specs.Trees.{Tree}
@@ -28,6 +28,12 @@ passed_after passed line = if is_error line.operation then passed + 1 else passe
 abbrev pub turned_past : ℕ → List Bool → ℕ → Placed → List Bool → List Bool
 turned_past detectors named passed line bits =
     if is_error line.operation && slice_index_or named passed false then turned bits (numbers_of detectors line.targets) else bits
+
+-- truth values after some lines, before which there are so many error lines
+abbrev pub turned_over : ℕ → List Bool → ℕ → List Placed → List Bool → List Bool
+turned_over detectors named passed [] bits = bits
+turned_over detectors named passed (line ∷ lines) bits =
+    turned_over detectors named (passed_after passed line) lines (turned_past detectors named passed line bits)
 
 -- the counts of some lines
 pub record AreCounts (lines : List Placed) (detectors observables errors : ℕ) : Type 0 where

@@ -3,18 +3,12 @@ use Rattle.dem_text.specs.Reached.{has_many_lines}
 use Rattle.dem_text.specs.declared.counts.LineCounts.{LineCounts}
 use Rattle.dem_text.specs.Models.{first_beyond, placed_lines}
 use Rattle.dem_text.specs.private.Summed.{AreCounts, IsJudged}
-use Rattle.dem_text.proofs.ChainLemmas.{chain-judged}
 use Rattle.dem_text.proofs.ReadLemmas.{both-ok}
 use Rattle.dem_text.proofs.WalkSteps.{few-lines}
 use Rattle.dem_text.proofs.reader.judged.Goals as goal
 
 pub counts_of-requires : goal.counts_of-requires
 counts_of-requires g c = few-lines c.args.table.now (sym c.has_many_lines.ensures ∙ c.if-has_many_lines.false) c.fits.ensures.few
-
-pub returns-in-Some-clause-ok : goal.returns-in-Some-clause-ok
-returns-in-Some-clause-ok g c =
-    let h = chain-judged c.args.table.now c.in-Some.counts c.fits.ensures.accepted c.in-Some.ensures in
-    record { short = h.few; counts = h.counts_are; within = h.within; few = few-lines c.args.table.now h.few c.fits.ensures.few }
 
 pub returns-clause-ok : goal.returns-clause-ok
 returns-clause-ok g c =

@@ -3,7 +3,7 @@ use Rattle.dem_text.specs.Meanings.{numbered}
 use Rattle.dem_text.specs.Shifts.{shifted_target}
 use Rattle.dem_text.specs.private.Turned.{turned}
 use Rattle.dem_text.proofs.SumLemmas.{turned_at-past}
-use Rattle.dem_text.proofs.placed_model.turn_target.Goals as goal
+use Rattle.dem_text.proofs.turning.turn_target.Goals as goal
 
 pub returns-in_default-checked_add : goal.returns-in_default-checked_add
 returns-in_default-checked_add c =
