@@ -1,7 +1,7 @@
 //! Signed words, changed letter by letter.
 ghost use Rattle.std.specs.Prelude.{◌≡◌, ◌<◌, length, false, not, All, IfOk, Bool, List};
 ghost use Rattle.gate_table.specs.Images.{arity_of};
-ghost use Rattle.gate_table.specs.WordImages.{preimage_at, preimage_at_two};
+ghost use Rattle.gate_table.specs.WordImages.{image_at, image_at_two, preimage_at, preimage_at_two};
 ghost use Rattle.pauli_word.specs.declared.letter.Letter.{Letter};
 ghost use Rattle.pauli_word.specs.States.{State, correcting};
 ghost use Rattle.pauli_word.specs.Words.{anticommute, lone_letter, product, signed, with_sign_changed};
@@ -25,11 +25,7 @@ pub(crate) fn preimage<A: Allocator + Copy>(
     requires qubit { qubit < length word.now.letters }
     ensures { IfOk result (λ w. w ≡ preimage_at gate qubit word.now) }
 {
-    let (letter, negative) = gate.inverse().image1(word.letter(qubit as usize));
-    let mut earlier = word.copy()?;
-    earlier.set_letter(qubit as usize, letter);
-    earlier.set_sign(word.sign() ^ negative);
-    Ok(earlier)
+    image(gate.inverse(), qubit, word)
 }
 
 pub(crate) fn preimage_of_two<A: Allocator + Copy>(
@@ -43,14 +39,46 @@ pub(crate) fn preimage_of_two<A: Allocator + Copy>(
     requires second { second < length word.now.letters }
     ensures { IfOk result (λ w. w ≡ preimage_at_two gate first second word.now) }
 {
-    let (at_first, at_second, negative) = gate
-        .inverse()
-        .image2(word.letter(first as usize), word.letter(second as usize));
-    let mut earlier = word.copy()?;
-    earlier.set_letter(first as usize, at_first);
-    earlier.set_letter(second as usize, at_second);
-    earlier.set_sign(word.sign() ^ negative);
-    Ok(earlier)
+    image_of_two(gate.inverse(), first, second, word)
+}
+
+/// The word that a gate turns this one into.
+pub(crate) fn image<A: Allocator + Copy>(
+    gate: Gate,
+    qubit: u32,
+    word: &Word<A>,
+) -> Result<Word<A>, AllocError>
+    requires arity { arity_of gate ≡ 1 }
+    requires qubit { qubit < length word.now.letters }
+    ensures { IfOk result (λ w. w ≡ image_at gate qubit word.now) }
+{
+    let (letter, negative) = gate.image1(word.letter(qubit as usize));
+    let mut later = word.copy()?;
+    later.set_letter(qubit as usize, letter);
+    later.set_sign(word.sign() ^ negative);
+    Ok(later)
+}
+
+pub(crate) fn image_of_two<A: Allocator + Copy>(
+    gate: Gate,
+    first: u32,
+    second: u32,
+    word: &Word<A>,
+) -> Result<Word<A>, AllocError>
+    requires arity { arity_of gate ≡ 2 }
+    requires first { first < length word.now.letters }
+    requires second { second < length word.now.letters }
+    ensures { IfOk result (λ w. w ≡ image_at_two gate first second word.now) }
+{
+    let (at_first, at_second, negative) = gate.image2(
+        word.letter(first as usize),
+        word.letter(second as usize),
+    );
+    let mut later = word.copy()?;
+    later.set_letter(first as usize, at_first);
+    later.set_letter(second as usize, at_second);
+    later.set_sign(word.sign() ^ negative);
+    Ok(later)
 }
 
 /// A copy of the word, with its sign changed where `changes`.
