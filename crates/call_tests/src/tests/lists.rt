@@ -62,7 +62,7 @@ fn rooms_that_are_not_full_are_not_flat(rt: HostRuntime) -> Result<(), Fail> {
     Ok(())
 }
 
-/// A list, and one with two later turns that move its number by 10; a third; and all of that once more, with each second number
+/// A list, and one with two later turns that move its number by 10; a third; and all of these once more, each second number
 /// moved by -1.
 const REPEATED: [&[i64]; 10] = [
     &[1, 2],
@@ -77,17 +77,23 @@ const REPEATED: [&[i64]; 10] = [
     &[7, 6, 7],
 ];
 
+fn repeated(alloc: Global) -> Result<NumberLists<Global>, AllocError> {
+    let mut lists = NumberLists::new(alloc);
+    lists.push(&[1, 2])?;
+    lists.push(&[3])?;
+    lists.repeat(1, 2, &[10, 0])?;
+    lists.push(&[7, 7, 7])?;
+    lists.repeat(0, 1, &[0, -1])?;
+    Ok(lists)
+}
+
 #[test]
 fn lists_are_repeated(rt: HostRuntime) -> Result<(), Fail> {
-    let mut lists = NumberLists::new(rt.alloc());
-    lists.push(REPEATED[0])?;
-    lists.push(REPEATED[1])?;
-    lists.repeat(1, 2, &[10, 0])?;
-    lists.push(REPEATED[4])?;
-    lists.repeat(0, 1, &[0, -1])?;
+    let lists = repeated(rt.alloc())?;
     assert!(&rt; lists.len() == REPEATED.len());
-    for (index, list) in REPEATED.iter().enumerate() {
-        assert!(&rt; lists.get(index).as_slice() == *list, "at {index}");
+    for index in 0..lists.len().min(REPEATED.len()) {
+        let list = lists.get(index);
+        assert!(&rt; list.as_slice() == REPEATED[index], "at {index}");
     }
     Ok(())
 }
