@@ -7,7 +7,7 @@ use Rattle.std.proofs.lemmas.Grind.{get_or_default_zero}
 use Rattle.std.proofs.Math.Seq.{get_or-append_seam}
 use Rattle.programs.specs.Kept.{KeptProgram, kept_at}
 use Rattle.programs.specs.declared.entries.ChanceTable.{ChanceTable}
-use Rattle.chances.specs.declared.table.ChanceText.{ChanceText}
+use Rattle.step_model.specs.declared.chances.ChanceText.{ChanceText}
 use Rattle.error_models.specs.ErrorLines.{text_at, KeepsTexts}
 use Rattle.error_models.specs.HeldText.{Held}
 use Rattle.backward.specs.private.Numbered.{AreNumbers, IsTextFor}

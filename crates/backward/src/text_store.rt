@@ -5,10 +5,10 @@ ghost use Rattle.error_models.specs.HeldText.{HoldsLines};
 
 use crate::line_store::LineStore;
 use crate::targets::target_count;
-use chances::ChanceText;
 use error_models::{HeldText, LinesText};
 use programs::{ChanceTable, Program};
 use std::alloc::{AllocError, Allocator};
+use step_model::ChanceText;
 
 /// How many times its room a whole text may take, so that it is found in one pass.
 const WHOLE: usize = 5;

@@ -1,8 +1,8 @@
 -- The text of an entry's probability, by the table that it is in.
 use Rattle.std.proofs.Common.{◌≡◌, ℕ, ◌<◌, List, [], ◌∷◌, length, get_or, ap, ◌∙◌, arith}
-use Rattle.chances.specs.declared.table.ChanceText.{ChanceText}
-use Rattle.chances.specs.Chances.{Chance, chance_at}
-use Rattle.chances.proofs.ChanceLaws.{chance_at-get_or}
+use Rattle.step_model.specs.declared.chances.ChanceText.{ChanceText}
+use Rattle.step_model.specs.Chances.{Chance, chance_at}
+use Rattle.step_model.proofs.ChanceLaws.{chance_at-get_or}
 use Rattle.programs.specs.declared.entries.ChanceTable.{ChanceTable}
 use Rattle.programs.specs.Entries.{TellsChances}
 use Rattle.programs.specs.Kept.{kept_at, KeptProgram}

@@ -1,6 +1,6 @@
 //! The text of a fault's probability, kept for the faults that follow: most have the same.
 ghost use Rattle.std.specs.Prelude.{◌≡◌, ◌<◌, ◌≤◌, ◌+◌, ◌++◌, IfSome, None, length, slice_index_or, take};
-ghost use Rattle.chances.specs.Chances.{chance_at};
+ghost use Rattle.step_model.specs.Chances.{chance_at};
 ghost use Rattle.fault_list.specs.private.KeptTexts.{HasProbability, probability_text};
 
 use crate::put::{put_byte, put_first, put_text};

@@ -11,8 +11,8 @@ use Rattle.step_model.specs.declared.step.Term.{Term}
 use Rattle.step_model.specs.Probabilities.{probability_bound}
 use Rattle.programs.specs.Kept.{Kept}
 use Rattle.step_model.specs.WellFormed.{ProductFits, CoordinatesFit}
-use Rattle.chances.specs.declared.table.ChanceText.{ChanceText}
-use Rattle.chances.specs.Chances.{Chance, chance_of, no_chance}
+use Rattle.step_model.specs.declared.chances.ChanceText.{ChanceText}
+use Rattle.step_model.specs.Chances.{Chance, chance_of, no_chance}
 use Rattle.programs.specs.declared.by_hand.Entry.{Entry}
 use Rattle.programs.specs.declared.by_hand.fit.Totals.{Totals}
 use Rattle.programs.specs.declared.place.Place.{Place}

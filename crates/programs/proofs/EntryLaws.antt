@@ -4,9 +4,9 @@ use Rattle.std.specs.Prelude.{All}
 use Rattle.std.proofs.Math.Nat.{suc_inj}
 use Rattle.step_model.specs.declared.step.Term.{Term}
 use Rattle.programs.specs.Kept.{Kept, none_kept}
-use Rattle.chances.specs.declared.table.ChanceText.{ChanceText}
-use Rattle.chances.specs.Chances.{Chance, chance_at}
-use Rattle.chances.proofs.ChanceLaws.{chance_at-get_or}
+use Rattle.step_model.specs.declared.chances.ChanceText.{ChanceText}
+use Rattle.step_model.specs.Chances.{Chance, chance_at}
+use Rattle.step_model.proofs.ChanceLaws.{chance_at-get_or}
 use Rattle.programs.specs.declared.entries.ChanceTable.{ChanceTable}
 use Rattle.programs.specs.Entries.{entries_of, entry_from, IsNumbered, TellsChances}
 

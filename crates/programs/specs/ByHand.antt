@@ -7,7 +7,7 @@ use Rattle.step_model.specs.declared.step.Term.{Term}
 use Rattle.step_model.specs.Listing.{is_I}
 use Rattle.programs.specs.Kept.{Kept, KeptProgram}
 use Rattle.step_model.specs.Probabilities.{probability_bound}
-use Rattle.chances.specs.Chances.{Chance}
+use Rattle.step_model.specs.Chances.{Chance}
 use Rattle.programs.specs.declared.by_hand.Entry.{Entry}
 use Rattle.programs.specs.declared.by_hand.Piece.{Piece}
 use Rattle.programs.specs.declared.by_hand.Piece.TheVariants.{Do, Open, Close}

@@ -3,8 +3,8 @@
 use Rattle.std.specs.Prelude.{◌≡◌, ◌<◌, ℕ, List, [], ◌∷◌, ◌++◌, length, slice_index_or, All}
 use Rattle.step_model.specs.declared.step.Term.{Term}
 use Rattle.programs.specs.Kept.{Kept, none_kept}
-use Rattle.chances.specs.declared.table.ChanceText.{ChanceText}
-use Rattle.chances.specs.Chances.{Chance, chance_at, no_chance}
+use Rattle.step_model.specs.declared.chances.ChanceText.{ChanceText}
+use Rattle.step_model.specs.Chances.{Chance, chance_at, no_chance}
 use Rattle.programs.specs.declared.entries.ChanceTable.{ChanceTable}
 
 -- an entry, from its text, its bound and its letters

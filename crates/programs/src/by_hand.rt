@@ -1,7 +1,7 @@
 //! Programs written by hand, for tests: all that `Program::new` requires is checked here, over the unrolled steps.
 ghost use Rattle.std.specs.Prelude.{◌≡◌, [], map, true, IfOk, IfSome, OnOk, Some};
 ghost use Rattle.step_model.specs.Probabilities.{probability_bound};
-ghost use Rattle.chances.specs.Chances.{chance_of};
+ghost use Rattle.step_model.specs.Chances.{chance_of};
 ghost use Rattle.programs.specs.ByHand.{written, chance_by_hand, kept_of, Puts};
 ghost use Rattle.programs.specs.private.KeptLists.{Keeps, KeepsNothing};
 ghost use Rattle.programs.specs.Listed.{listed_steps, made_faults};
@@ -17,11 +17,10 @@ use crate::nodes::Nodes;
 use crate::place::LEVELS;
 use crate::program::{Parts, Program};
 use crate::step::{Counts, TextStep};
-use chances::ChanceText;
 use fit::checked;
 use flat_lists::{FlatLists, MOST_NUMBERS, NumberLists};
 use std::alloc::{AllocError, Allocator};
-use step_model::Term;
+use step_model::{ChanceText, Term};
 
 /// A piece of a circuit: a step, the start of a block with its number of turns, or its end.
 #[derive(Clone, Copy, Debug, PartialEq, Eq)]

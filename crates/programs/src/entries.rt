@@ -3,11 +3,10 @@ ghost use Rattle.std.specs.Prelude.{◌≡◌, ◌<◌, length, slice_index_or};
 ghost use Rattle.programs.specs.Kept.{none_kept};
 ghost use Rattle.programs.specs.Entries.{entries_of, IsNumbered, TellsChances};
 
-use chances::ChanceText;
 use flat_lists::FlatLists;
 use std::alloc::Allocator;
 use std::marker::Model;
-use step_model::Term;
+use step_model::{ChanceText, Term};
 
 /// For each entry the number of its part; and the parts, texts with their bounds. The same part may stand there twice.
 #[derive(Clone, Copy, Drop)]

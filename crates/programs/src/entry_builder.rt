@@ -1,14 +1,13 @@
 //! Entries as they are gathered.
 ghost use Rattle.std.specs.Prelude.{◌≡◌, ◌<◌, [], length, map, OnErr, OnOk};
-ghost use Rattle.chances.specs.Chances.{chance_of};
+ghost use Rattle.step_model.specs.Chances.{chance_of};
 ghost use Rattle.programs.specs.Entries.{with_entry};
 
 use crate::entries::Entries;
-use chances::ChanceText;
 use flat_lists::FlatLists;
 use std::alloc::{AllocError, Allocator};
 use std::marker::Model;
-use step_model::Term;
+use step_model::{ChanceText, Term};
 
 /// Entries as they are gathered, whose probabilities are among texts that are given first.
 #[derive(Drop)]
@@ -20,7 +19,7 @@ pub struct EntryBuilder<'a, A: Allocator + Copy> {
 
 impl<'a, A: Allocator + Copy> Model for EntryBuilder<'a, A> {
     ghost use Rattle.std.specs.Prelude.{map};
-    ghost use Rattle.chances.specs.Chances.{chance_of};
+    ghost use Rattle.step_model.specs.Chances.{chance_of};
     ghost use Rattle.programs.specs.Entries.{Gathered, entries_of, IsNumbered};
 
     ghost Value = { Gathered };

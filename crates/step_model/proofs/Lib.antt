@@ -1,3 +1,4 @@
+pub mod ChanceLaws
 pub mod EndsLemmas
 pub mod MemoryLemmas
 pub mod RangeLemmas

@@ -1,3 +1,4 @@
+pub mod Chances
 pub mod Ends
 pub mod ErrorModels
 pub mod Faults

@@ -1,13 +1,16 @@
 //! What a circuit does, as definitions: programs of steps, their runs, and what a fault changes in them. Also the
-//! causes for which a text is refused, and the sources and sinks that texts are read from and written to.
+//! causes for which a text is refused, the texts of probabilities by their numbers, and the sources and sinks that texts
+//! are read from and written to.
 #![tactic(auto)]
 
+mod chances;
 mod ends;
 mod fault;
 pub mod laws;
 mod memory;
 mod step;
 
+pub use chances::{ChanceText, number_of};
 pub use ends::{Sink, Source, read_all, write_all};
 pub use fault::{Cause, Fault};
 pub use memory::{MemorySink, MemorySource};

@@ -1,7 +1,7 @@
 -- The marks of items stay numbers of probabilities where more texts are kept, and those of one line more are such numbers.
 use Rattle.std.proofs.Common.{◌≡◌, ◌≤◌, ◌+◌, ℕ, zero, suc, List, [], ◌∷◌, ◌++◌, length, get_or, Option, None, Some, Result, Ok, Err, IfOk, slice_get, sym, ap₂, subst, ◌∙◌, append-nil, arith}
-use Rattle.chances.specs.declared.table.ChanceText.{ChanceText}
-use Rattle.chances.specs.Chances.{Chance, KeepsChances}
+use Rattle.step_model.specs.declared.chances.ChanceText.{ChanceText}
+use Rattle.step_model.specs.Chances.{Chance, KeepsChances}
 use Rattle.stim_lexer.specs.declared.said.Said.{Said}
 use Rattle.stim_lexer.specs.declared.said.Said.TheVariants as said
 use Rattle.stim_lexer.specs.Arguments.{arguments_in}

@@ -2,8 +2,8 @@
 -- mark, which is the number of its probability where all numbers fit 32 bits.
 use Rattle.std.specs.Prelude.{◌≡◌, ◌<◌, ◌≤◌, ◌+◌, ◌^◌, ⊤, ℕ, true, if◌then◌else◌, List, [], ◌∷◌, length, Option, None, Some, option_map, false}
 use Rattle.step_model.specs.Probabilities.{probability_bound}
-use Rattle.chances.specs.declared.table.ChanceText.{ChanceText}
-use Rattle.chances.specs.Chances.{Chance, chance_at}
+use Rattle.step_model.specs.declared.chances.ChanceText.{ChanceText}
+use Rattle.step_model.specs.Chances.{Chance, chance_at}
 use Rattle.stim_lexer.specs.declared.said.Said.{Said}
 use Rattle.stim_lexer.specs.declared.said.Said.TheVariants as said
 use Rattle.stim_lexer.specs.Arguments.{arguments_in}

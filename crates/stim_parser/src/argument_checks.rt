@@ -1,6 +1,6 @@
 ghost use Rattle.std.specs.Prelude.{◌≡◌, length, nat_lt, option_map};
 ghost use Rattle.std.specs.List.{list_all, list_any};
-ghost use Rattle.chances.specs.Chances.{chance_of};
+ghost use Rattle.step_model.specs.Chances.{chance_of};
 ghost use Rattle.stim_parser.specs.Limits.{has_argument_beyond, has_wrong_arguments, has_wrong_probability, is_argument, is_probability, is_wrong_count, takes_probability};
 ghost use Rattle.stim_parser.specs.Rows.{texts_of};
 ghost use Rattle.stim_parser.specs.Numbers.{is_number_beyond, magnitude_of, value_of};
@@ -11,7 +11,7 @@ use crate::digits::{is_number, value_of};
 use crate::forms::ArgumentForm;
 use crate::last::LastProbability;
 use crate::numbers::{is_decimal, is_number_beyond, is_whole_number, magnitude_of};
-use chances::ChanceText;
+use step_model::ChanceText;
 
 /// Whether this is a number of arguments that the form doesn't take.
 fn is_wrong_count(form: ArgumentForm, count: usize) -> bool

@@ -5,9 +5,9 @@ ghost use Rattle.stim_lexer.specs.Trees.{items_of};
 ghost use Rattle.stim_parser.specs.Probabilities.{Keeps};
 
 use crate::table::Judge;
-use chances::ChanceText;
 use std::alloc::Allocator;
 use std::marker::{Model, PhantomData};
+use step_model::ChanceText;
 use stim_lexer::{Item, Items};
 
 /// The items of a text, and the texts of their probabilities. The mark of an instruction that has a probability is the

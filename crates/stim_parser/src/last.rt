@@ -1,7 +1,7 @@
 //! What was found last: lines that follow one another often have the same name, and the same in their parentheses.
 ghost use Rattle.std.specs.Prelude.{◌≡◌, ◌≢◌, [], true, option_map, MatchBool};
 ghost use Rattle.step_model.specs.Probabilities.{probability_bound};
-ghost use Rattle.chances.specs.Chances.{chance_of};
+ghost use Rattle.step_model.specs.Chances.{chance_of};
 ghost use Rattle.stim_parser.specs.declared.forms.ArgumentForm.TheVariants.{ProbabilityAtWill};
 ghost use Rattle.stim_parser.specs.Arguments.{arguments_in};
 ghost use Rattle.stim_parser.specs.Instructions.{keyword_named};
@@ -12,8 +12,8 @@ use crate::names::keyword_named;
 use crate::operation::Operation;
 use crate::probability::Probability;
 use crate::table::Keyword;
-use chances::ChanceText;
 use std::marker::Model;
+use step_model::ChanceText;
 
 /// The name that was looked up last, and what it names. Contracts see the name.
 #[derive(Drop)]
@@ -122,7 +122,7 @@ pub struct LastParentheses<'a> {
 
 impl<'a> Model for LastParentheses<'a> {
     ghost use Rattle.std.specs.Prelude.{◌≡◌, option_map};
-    ghost use Rattle.chances.specs.Chances.{chance_of};
+    ghost use Rattle.step_model.specs.Chances.{chance_of};
     ghost use Rattle.stim_parser.specs.Arguments.{arguments_in};
     ghost use Rattle.stim_parser.specs.Parentheses.{Parentheses};
     ghost use Rattle.stim_parser.specs.Probabilities.{chance_in, AreProbabilities};

@@ -5,7 +5,7 @@ ghost use Rattle.stim_lexer.specs.Fitting.{LinesFit};
 ghost use Rattle.stim_lexer.specs.Texts.{items_in};
 ghost use Rattle.stim_lexer.specs.Judged.{IsRefusedBy, Writes};
 ghost use Rattle.stim_lexer.specs.Unfinished.{after_line, cause_in, reading_at};
-ghost use Rattle.chances.specs.Chances.{KeepsChances};
+ghost use Rattle.step_model.specs.Chances.{KeepsChances};
 ghost use Rattle.stim_parser.specs.Judging.{format_of};
 ghost use Rattle.stim_parser.specs.Probabilities.{Keeps, Remembers, SaidMarked, marked_in, taken_count};
 
@@ -14,9 +14,8 @@ use crate::judge::read_line;
 use crate::judged_text::{JudgedText, Numbered};
 use crate::last::{Last, LastParentheses};
 use crate::table::{Judge, Keyword};
-use chances::{ChanceText, number_of};
 use std::alloc::{AllocError, Allocator};
-use step_model::{Cause, Fault};
+use step_model::{Cause, ChanceText, Fault, number_of};
 use stim_lexer::{Builder, Lexer, Line, Said};
 
 /// A number as a mark: what is beyond all marks has the greatest one.

@@ -1,5 +1,5 @@
 ghost use Rattle.std.specs.Prelude.{◌≡◌, ◌<◌, ◌≤◌, [], ◌∷◌, All, length, map, slice_index_or, OnOk};
-ghost use Rattle.chances.specs.Chances.{no_chance};
+ghost use Rattle.step_model.specs.Chances.{no_chance};
 ghost use Rattle.stim_lexer.specs.Kept.{instruction_in};
 ghost use Rattle.programs.specs.Entries.{entry_from};
 ghost use Rattle.unroll.specs.private.Kept.{entries_of as entries_made, flip_entries};

@@ -1,5 +1,5 @@
 ghost use Rattle.std.specs.Prelude.{◌≡◌, ◌<◌, ◌^◌, [], map, None, IfOk, OnOk};
-ghost use Rattle.chances.specs.Chances.{chance_of};
+ghost use Rattle.step_model.specs.Chances.{chance_of};
 ghost use Rattle.programs.specs.Trees.{IsCircuit, tree_of, unrolled};
 ghost use Rattle.stim_lexer.specs.Kept.{instruction_in, item_in, mark_in};
 ghost use Rattle.unroll.specs.private.Drafts.{CanWrite, HasRoom, Writes, draft_of, with_instruction};
@@ -14,11 +14,10 @@ ghost use Rattle.unroll.specs.private.MadeTotals.{record_total};
 use crate::entries::push_instruction;
 use crate::products::push_kept_products;
 use crate::steps::push_steps;
-use chances::ChanceText;
 use flat_lists::FlatLists;
 use programs::{CircuitBuilder, Entries, EntryBuilder, Nodes};
 use std::alloc::{AllocError, Allocator};
-use step_model::Term;
+use step_model::{ChanceText, Term};
 use stim_parser::{Circuit, Instruction, Item, Numbered, has_argument};
 
 /// A circuit's steps with its blocks, and what is kept beside them.

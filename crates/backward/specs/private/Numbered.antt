@@ -2,7 +2,7 @@
 -- error lines. (How they are kept is this project's own.)
 use Rattle.std.specs.Prelude.{◌≡◌, ◌<◌, ℕ, List, length, slice_index_or}
 use Rattle.programs.specs.declared.entries.ChanceTable.{ChanceTable}
-use Rattle.chances.specs.declared.table.ChanceText.{ChanceText}
+use Rattle.step_model.specs.declared.chances.ChanceText.{ChanceText}
 use Rattle.programs.specs.Entries.{TellsChances}
 use Rattle.programs.specs.Kept.{KeptProgram}
 use Rattle.step_model.specs.Targets.{targets_of}

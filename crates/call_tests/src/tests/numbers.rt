@@ -1,7 +1,7 @@
 //! The probabilities of a circuit by their numbers.
-use chances::ChanceText;
 use std::process::Abort;
 use std::test::Fail;
+use step_model::ChanceText;
 use stim_parser::{Item, parse};
 
 /// A circuit with three texts of probabilities, of which the first comes again with blanks.

@@ -1,7 +1,7 @@
 -- Texts that are kept at the start of a fixed number of bytes. (This project's own.)
 use Rattle.std.specs.Prelude.{◌≡◌, ◌<◌, ◌≤◌, ℕ, List, ◌++◌, codes, decimal, length, take}
-use Rattle.chances.specs.declared.table.ChanceText.{ChanceText}
-use Rattle.chances.specs.Chances.{chance_at}
+use Rattle.step_model.specs.declared.chances.ChanceText.{ChanceText}
+use Rattle.step_model.specs.Chances.{chance_at}
 
 -- the first bytes are the digits of a number
 pub record HasDigits (number len : ℕ) (bytes : List ℕ) : Type 0 where

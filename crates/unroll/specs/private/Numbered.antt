@@ -1,7 +1,7 @@
 -- The probabilities of instructions by their numbers, from which what is kept of faults is made.
 -- (How they are kept is this project's own.)
 use Rattle.std.specs.Prelude.{◌≡◌, ◌<◌, ⊤, ℕ, List, [], ◌∷◌, ◌++◌, length, slice_index_or, unwrap_or}
-use Rattle.chances.specs.Chances.{Chance, no_chance}
+use Rattle.step_model.specs.Chances.{Chance, no_chance}
 use Rattle.programs.specs.Entries.{Gathered}
 use Rattle.programs.specs.Kept.{Kept}
 use Rattle.step_model.specs.Probabilities.{probability_bound}

@@ -1,6 +1,6 @@
 use Rattle.std.proofs.Common.{◌∷◌, [], length, ap, subst, sym, ◌∙◌, arith, length-append}
 use Rattle.std.proofs.lemmas.List.{get_or_default}
-use Rattle.chances.specs.declared.table.ChanceText.{ChanceText}
+use Rattle.step_model.specs.declared.chances.ChanceText.{ChanceText}
 use Rattle.backward.specs.private.Numbered.{AreNumbers}
 use Rattle.backward.proofs.NumberedLemmas.{numbers_kept, numbers_more}
 use Rattle.backward.proofs.text_store.keep_each.Goals as goal

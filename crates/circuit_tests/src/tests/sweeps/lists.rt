@@ -4,7 +4,6 @@ ghost use Rattle.std.specs.Prelude.{◌≡◌, ◌<◌, ◌≤◌, [], length, I
 
 use super::growths::{Call, Memory, Ration, sweep, told};
 use super::lent::Lent;
-use chances::{ChanceText, number_of};
 use error_models::{LinesText, Model};
 use flat_lists::FlatLists;
 use gate_table::Gate;
@@ -12,7 +11,7 @@ use pauli_word::Letter;
 use programs::{CircuitBuilder, Entries, EntryBuilder, TextStep};
 use std::alloc::{AllocError, Global};
 use std::test::Fail;
-use step_model::{Fault, MemorySink, Term, read_all};
+use step_model::{ChanceText, Fault, MemorySink, Term, number_of, read_all};
 use streams::Pieces;
 use test_support::SlowSource;
 

@@ -1,5 +1,5 @@
 use Rattle.std.proofs.Common.{◌≡◌, map, take}
-use Rattle.chances.specs.Chances.{chance_of}
+use Rattle.step_model.specs.Chances.{chance_of}
 use Rattle.programs.specs.ByHand.{chance_by_hand}
 use Rattle.programs.proofs.by_hand.texts_of.Given as goal
 

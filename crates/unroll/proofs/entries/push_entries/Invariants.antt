@@ -1,5 +1,5 @@
 use Rattle.std.proofs.Common.{◌≡◌, ◌∷◌, [], map, take, get_or}
-use Rattle.chances.specs.Chances.{no_chance}
+use Rattle.step_model.specs.Chances.{no_chance}
 use Rattle.programs.specs.Entries.{entry_from}
 use Rattle.unroll.specs.Targets.{term_at}
 use Rattle.unroll.specs.private.Numbered.{with_entries}

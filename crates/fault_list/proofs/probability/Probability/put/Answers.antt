@@ -1,6 +1,6 @@
 -- The text that is kept is that of the entry.
 use Rattle.std.proofs.Common.{◌<◌, ◌++◌, length, get_or, take, sym, subst, ap, ◌∙◌}
-use Rattle.chances.specs.Chances.{chance_at}
+use Rattle.step_model.specs.Chances.{chance_at}
 use Rattle.programs.specs.declared.entries.ChanceTable.{ChanceTable}
 use Rattle.fault_list.specs.private.KeptTexts.{probability_text}
 use Rattle.fault_list.proofs.probability.Probability.put.Goals as goal

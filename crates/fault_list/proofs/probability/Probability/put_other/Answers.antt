@@ -1,7 +1,7 @@
 -- The text is put into its bytes between two spaces, and these go into the buffer.
 use Rattle.std.proofs.Common.{◌<◌, ◌++◌, length, take, sym, ap, ◌∙◌, arith}
-use Rattle.chances.specs.Chances.{Chance, chance_at}
-use Rattle.chances.proofs.ChanceLaws.{chance_at-get_or}
+use Rattle.step_model.specs.Chances.{Chance, chance_at}
+use Rattle.step_model.proofs.ChanceLaws.{chance_at-get_or}
 use Rattle.programs.specs.declared.entries.ChanceTable.{ChanceTable}
 use Rattle.fault_list.specs.private.KeptTexts.{probability_text}
 use Rattle.fault_list.proofs.PutLemmas.{between_spaces}

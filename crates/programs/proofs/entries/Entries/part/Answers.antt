@@ -1,5 +1,5 @@
 use Rattle.std.proofs.Common.{◌<◌, length, get_or, ap, subst, sym, ◌∙◌, arith}
-use Rattle.chances.specs.declared.table.ChanceText.{ChanceText}
+use Rattle.step_model.specs.declared.chances.ChanceText.{ChanceText}
 use Rattle.programs.proofs.EntryLaws.{is_entry}
 use Rattle.programs.proofs.entries.Entries.part.Goals as goal
 

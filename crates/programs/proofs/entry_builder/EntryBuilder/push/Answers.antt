@@ -3,8 +3,8 @@ use Rattle.std.specs.Prelude.{All}
 use Rattle.std.proofs.lemmas.List.{length-map}
 use Rattle.std.proofs.lemmas.List.Elements.{All-push}
 use Rattle.programs.specs.Kept.{Kept}
-use Rattle.chances.specs.Chances.{Chance, chance_of}
-use Rattle.chances.proofs.ChanceLaws.{chance_at-map}
+use Rattle.step_model.specs.Chances.{Chance, chance_of}
+use Rattle.step_model.proofs.ChanceLaws.{chance_at-map}
 use Rattle.programs.specs.Entries.{Gathered, entries_of, entry_from, with_entry}
 use Rattle.programs.proofs.EntryLaws.{entries_of-push, counted_pushed}
 use Rattle.programs.proofs.entry_builder.EntryBuilder.push.Goals as goal

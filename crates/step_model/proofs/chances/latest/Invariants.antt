@@ -1,5 +1,5 @@
 use Rattle.std.proofs.Common.{◌≤◌, length}
-use Rattle.chances.proofs.table.latest.Given as goal
+use Rattle.step_model.proofs.chances.latest.Given as goal
 
 abbrev pub invariant-loop-left : goal.invariant-loop-left
 invariant-loop-left l = l.left ≤ length l.texts

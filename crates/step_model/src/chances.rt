@@ -1,5 +1,5 @@
 ghost use Rattle.std.specs.Prelude.{◌≡◌, ◌<◌, ◌≤◌, ◌+◌, true, length, IfOk, IfSome, OnErr};
-ghost use Rattle.chances.specs.Chances.{chance_at, chance_of, KeepsChances};
+ghost use Rattle.step_model.specs.Chances.{chance_at, chance_of, KeepsChances};
 
 use std::alloc::{AllocError, Allocator};
 

@@ -1,6 +1,6 @@
 -- The texts of a circuit's probabilities with their bounds, by their numbers. (This project's own.)
 use Rattle.std.specs.Prelude.{◌≡◌, ◌<◌, ℕ, zero, suc, List, [], ◌∷◌, length}
-use Rattle.chances.specs.declared.table.ChanceText.{ChanceText}
+use Rattle.step_model.specs.declared.chances.ChanceText.{ChanceText}
 
 -- the text of a probability, and the floor of that probability times 2^64
 pub record Chance : Type 0 where

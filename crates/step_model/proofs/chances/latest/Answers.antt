@@ -1,6 +1,6 @@
 use Rattle.std.proofs.Common.{◌-◌, ◌∙◌, refl, arith}
-use Rattle.chances.proofs.ChanceLaws.{chance_at-get_or}
-use Rattle.chances.proofs.table.latest.Goals as goal
+use Rattle.step_model.proofs.ChanceLaws.{chance_at-get_or}
+use Rattle.step_model.proofs.chances.latest.Goals as goal
 
 pub returns-then-is_same-clause-named : goal.returns-then-is_same-clause-named
 returns-then-is_same-clause-named c =

@@ -1,8 +1,8 @@
 use Rattle.std.proofs.Common.{◌≡◌, ◌++◌, ◌∷◌, List, [], length, ap, ◌∙◌, arith}
-use Rattle.chances.specs.declared.table.ChanceText.{ChanceText}
-use Rattle.chances.specs.Chances.{chance_at}
-use Rattle.chances.proofs.ChanceLaws.{keeps_pushed, last_chance}
-use Rattle.chances.proofs.table.number_of.Goals as goal
+use Rattle.step_model.specs.declared.chances.ChanceText.{ChanceText}
+use Rattle.step_model.specs.Chances.{chance_at}
+use Rattle.step_model.proofs.ChanceLaws.{keeps_pushed, last_chance}
+use Rattle.step_model.proofs.chances.number_of.Goals as goal
 
 pub returns-clause-kept : goal.returns-clause-kept
 returns-clause-kept g c = keeps_pushed c.args.texts.now.items c.push.new.self.items _ c.in_ok-push.ensures.items

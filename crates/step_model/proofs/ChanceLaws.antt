@@ -1,7 +1,7 @@
 -- The texts of probabilities by their numbers, and one text more.
 use Rattle.std.proofs.Common.{◌≡◌, ℕ, zero, suc, ◌+◌, ◌<◌, List, [], ◌∷◌, ◌++◌, length, map, get_or, refl, ap, ◌∙◌, arith}
-use Rattle.chances.specs.declared.table.ChanceText.{ChanceText}
-use Rattle.chances.specs.Chances.{chance_at, chance_of, no_chance, KeepsChances}
+use Rattle.step_model.specs.declared.chances.ChanceText.{ChanceText}
+use Rattle.step_model.specs.Chances.{chance_at, chance_of, no_chance, KeepsChances}
 
 pub chance_at-get_or : (parts : List ChanceText) (n : ℕ) (d : ChanceText) → n < length parts → chance_at parts n ≡ chance_of (get_or parts n d)
 chance_at-get_or [] n d h = absurd (omega (arith, h))
