@@ -1,9 +1,9 @@
 //! The error model of a program, or a random target.
-ghost use Rattle.std.specs.Prelude.{◌≡◌, [], false, length, reverse, IfOk, IfErr, OnOk};
+ghost use Rattle.std.specs.Prelude.{◌≡◌, [], false, length, reverse, IfOk, IfErr, IfNone, IfSome, OnOk};
 ghost use Rattle.step_model.specs.Faults.{memory_fault};
 ghost use Rattle.step_model.specs.HitModels.{model_of};
 ghost use Rattle.step_model.specs.Targets.{targets_of};
-ghost use Rattle.backward.specs.Places.{IsAnalysed};
+ghost use Rattle.backward.specs.Places.{IsAnalysed, IsLowestRandom, NoneIsRandom};
 ghost use Rattle.trackers.specs.Tracked.{fresh};
 ghost use Rattle.backward.specs.private.Passes.{IsPassed};
 
@@ -61,20 +61,17 @@ fn find_model<'a, A: Allocator + Copy, T: Tracker + Drop>(
         walk: Walk::end(program),
         tracker,
     };
-    go_back(program, &mut at, &mut found, &mut lines)?;
-    match random_target(program, &mut at.tracker, &mut found)? {
-        Some((which, place)) => Ok(Analysed::Random { which, place }),
-        None => Ok(Analysed::Model(model_from(alloc, program, lines.model)?)),
-    }
+    let random = go_back(program, &mut at, &mut found, &mut lines)?;
+    answer(alloc, program, random, lines.model)
 }
 
-// Goes back over all steps.
+// Goes back over all steps, and answers the lowest random target.
 fn go_back<'s, 'p, 'a, A: Allocator + Copy, T: Tracker>(
     program: &Program<'a, A>,
     at: &mut Point<'p, 'a, A, T>,
     found: &mut Found<'s, A>,
     lines: &mut ModelStore<'_, 'a, A>,
-) -> Result<(), AllocError>
+) -> Result<Option<(u32, Place)>, AllocError>
     requires program { at.old.walk.program ≡ program.now }
     requires place { at.old.walk.place ≡ length program.now.listing.steps }
     requires store { lines.old.program.now ≡ program.now }
@@ -82,9 +79,9 @@ fn go_back<'s, 'p, 'a, A: Allocator + Copy, T: Tracker>(
     requires first { found.old.settled ≡ false }
     requires passed { IsPassed program.now.listing at.old.walk.place (T.tracked at.old.tracker)
         found.old }
-    ensures first { found.new.settled ≡ false }
-    ensures passed { OnOk result
-        (IsPassed program.now.listing 0 (T.tracked at.new.tracker) found.new) }
+    ensures none { IfOk result (λ random. IfNone random (NoneIsRandom program.now.listing)) }
+    ensures lowest { IfOk result (λ random. IfSome random (λ random. IsLowestRandom
+        program.now.listing random.0 random.1)) }
     ensures lines { OnOk result
         (lines.new.model.lines ≡ reverse (model_of program.now.listing).lines) }
 {
@@ -92,20 +89,31 @@ fn go_back<'s, 'p, 'a, A: Allocator + Copy, T: Tracker>(
     while at.walk.place() > 0 {
         step_back(program, at, found, lines)?;
     }
-    Ok(())
+    random_target(program, &mut at.tracker, found)
 }
 
-// The model whose lines are these, which are in descending fault order. They are taken over, and not copied.
-fn model_from<'a, A: Allocator + Copy>(
+// The random target; where there is none, the model whose lines are these, which are in descending fault order. They are
+// taken over, and not copied.
+fn answer<'a, A: Allocator + Copy>(
     alloc: A,
     program: &Program<'a, A>,
+    random: Option<(u32, Place)>,
     found: Model<'a, A>,
-) -> Result<Model<'a, A>, AllocError>
-    requires { found.lines ≡ reverse (model_of program.now.listing).lines }
-    ensures { IfOk result (λ model. model ≡ model_of program.now.listing) }
+) -> Result<Analysed<'a, A>, AllocError>
+    requires none { IfNone random (NoneIsRandom program.now.listing) }
+    requires lowest { IfSome random (λ random. IsLowestRandom program.now.listing random.0
+        random.1) }
+    requires lines { found.lines ≡ reverse (model_of program.now.listing).lines }
+    ensures { IfOk result (IsAnalysed program.now.listing) }
 {
-    let coordinates = coordinates_of(alloc, program)?;
-    Ok(Model::in_reverse(found, coordinates, program.observable_count()))
+    match random {
+        Some((which, place)) => Ok(Analysed::Random { which, place }),
+        None => {
+            let coordinates = coordinates_of(alloc, program)?;
+            let model = Model::in_reverse(found, coordinates, program.observable_count());
+            Ok(Analysed::Model(model))
+        }
+    }
 }
 
 fn coordinates_of<'a, A: Allocator + Copy>(

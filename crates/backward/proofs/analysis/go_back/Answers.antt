@@ -1,5 +1,6 @@
 use Rattle.std.proofs.Common.{◌≡◌, ◌<◌, ◌+◌, refl, ap, sym, ◌∙◌, arith}
 use Rattle.std.specs.Prelude.{List, length, reverse, ◌++◌}
+use Rattle.std.proofs.lemmas.Result.{on_ok_weaker}
 use Rattle.step_model.specs.ErrorModels.{ErrorLine}
 use Rattle.backward.specs.private.Stretches.{lines_at, lines_between}
 use Rattle.backward.proofs.PassLines.{lines_back-more, lines_between-all, lines_between-none}
@@ -40,4 +41,6 @@ pub returns-clause-lines : goal.returns-clause-lines
 returns-clause-lines g c =
     let program = c.args.program.now.listing in
     let none : c.loop-at.at.walk.place ≡ 0 = omega (arith, c.loop-at-test.false, c.place.ensures) in
-    c.loop-at.invariant.lines ∙ ap (reverse {A = ErrorLine}) (ap (λ k. lines_between program k (length program.steps)) none ∙ lines_between-all program c.well_formed-2.ensures.listing)
+    on_ok_weaker c.random_target.result
+    (λ _. c.loop-at.invariant.lines ∙ ap (reverse {A = ErrorLine}) (ap (λ k. lines_between program k (length program.steps)) none ∙ lines_between-all program c.well_formed-2.ensures.listing))
+    c.random_target.ensures.words
