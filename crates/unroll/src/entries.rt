@@ -13,7 +13,7 @@ use pauli_word::Letter;
 use programs::EntryBuilder;
 use std::alloc::{AllocError, Allocator};
 use step_model::Term;
-use stim_parser::{Instruction, Operation, Target, has_argument};
+use stim_parser::{Instruction, Operation, Target, Targets, has_argument};
 
 /// The letter of a target.
 pub(crate) fn pauli_letter(target: Target) -> Letter
@@ -39,14 +39,16 @@ pub(crate) fn term_at(letter: Letter, target: Target) -> Term
 /// Puts the letters of targets, at their qubits, into `terms`, in place of what it held.
 fn name_terms<A: Allocator + Copy>(
     terms: &mut Vec<Term, A>,
-    targets: &[Target],
+    targets: Targets<'_>,
 ) -> Result<(), AllocError>
-    requires { All IsSmall targets.now }
-    ensures { OnOk result (terms.new.items ≡ map term_of targets.now) }
+    requires { All IsSmall targets }
+    ensures { OnOk result (terms.new.items ≡ map term_of targets.entry) }
 {
     terms.clear();
-    for target in targets {
-        terms.push(term_at(pauli_letter(*target), *target))?;
+    let mut rest = targets;
+    while let Some((target, after)) = rest.split_first() {
+        terms.push(term_at(pauli_letter(target), target))?;
+        rest = after;
     }
     Ok(())
 }
@@ -56,9 +58,9 @@ fn push_entries<A: Allocator + Copy>(
     entries: &mut EntryBuilder<'_, A>,
     number: usize,
     letter: Letter,
-    targets: &[Target],
+    targets: Targets<'_>,
 ) -> Result<(), AllocError>
-    requires small { All IsSmall targets.now }
+    requires small { All IsSmall targets }
     requires there { number < length entries.old.chances }
     ensures { OnOk result
         (entries.new
@@ -66,11 +68,13 @@ fn push_entries<A: Allocator + Copy>(
         (map
         (λ target. entry_from (slice_index_or entries.old.chances number no_chance)
         (term_at letter target ∷ []))
-        targets.now)
+        targets.entry)
         entries.old) }
 {
-    for target in targets {
-        entries.push(number, &[term_at(letter, *target)])?;
+    let mut rest = targets;
+    while let Some((target, after)) = rest.split_first() {
+        entries.push(number, &[term_at(letter, target)])?;
+        rest = after;
     }
     Ok(())
 }
@@ -100,7 +104,7 @@ pub(crate) fn push_instruction<A: Allocator + Copy>(
     terms: &mut Vec<Term, A>,
     instruction: Instruction<'_, '_>,
 ) -> Result<(), AllocError>
-    requires small { All IsSmall instruction.targets.now }
+    requires small { All IsSmall instruction.targets }
     requires number { IsInstructionNumber entries.old.chances (instruction_in instruction)
         instruction.mark }
     ensures { OnOk result

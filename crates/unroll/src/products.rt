@@ -9,23 +9,23 @@ use crate::targets::end_of_factor;
 use flat_lists::FlatLists;
 use std::alloc::{AllocError, Allocator};
 use step_model::Term;
-use stim_parser::{Operation, Target};
+use stim_parser::{Operation, Targets};
 
 /// Appends the products of targets. The letters of each are gathered in `terms`.
 fn push_each_product<A: Allocator + Copy>(
     products: &mut FlatLists<Term, A>,
     terms: &mut Vec<Term, A>,
-    targets: &[Target],
+    targets: Targets<'_>,
 ) -> Result<(), AllocError>
-    requires { All IsSmall targets.now }
+    requires { All IsSmall targets }
     ensures { OnOk result
-        (products.new ≡ products.old ++ map (map term_of) (products_of targets.now)) }
+        (products.new ≡ products.old ++ map (map term_of) (products_of targets.entry)) }
 {
     terms.clear();
     let mut rest = targets;
-    while let Some(parts) = rest.split_first() {
-        terms.push(term_at(pauli_letter(*parts.0), *parts.0))?;
-        let (joined, behind) = end_of_factor(parts.1);
+    while let Some((factor, after)) = rest.split_first() {
+        terms.push(term_at(pauli_letter(factor), factor))?;
+        let (joined, behind) = end_of_factor(after);
         rest = behind;
         if joined {
             continue;
@@ -41,11 +41,11 @@ pub(crate) fn push_kept_products<A: Allocator + Copy>(
     products: &mut FlatLists<Term, A>,
     terms: &mut Vec<Term, A>,
     operation: Operation,
-    targets: &[Target],
+    targets: Targets<'_>,
 ) -> Result<(), AllocError>
-    requires small { All IsSmall targets.now }
+    requires small { All IsSmall targets }
     ensures { OnOk result
-        (products.new ≡ products.old ++ operation_products operation targets.now) }
+        (products.new ≡ products.old ++ operation_products operation targets.entry) }
 {
     match operation {
         Operation::ProductMeasurement => push_each_product(products, terms, targets),
