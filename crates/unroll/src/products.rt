@@ -1,4 +1,5 @@
 ghost use Rattle.std.specs.Prelude.{◌≡◌, ◌++◌, All, map, OnOk};
+ghost use Rattle.stim_parser.specs.Handed.{list_of};
 ghost use Rattle.unroll.specs.private.Kept.{operation_products};
 ghost use Rattle.stim_parser.specs.Limits.{products_of};
 ghost use Rattle.unroll.specs.Targets.{term_of};
@@ -17,9 +18,9 @@ fn push_each_product<A: Allocator + Copy>(
     terms: &mut Vec<Term, A>,
     targets: Targets<'_>,
 ) -> Result<(), AllocError>
-    requires { All IsSmall targets }
+    requires { All IsSmall (list_of targets) }
     ensures { OnOk result
-        (products.new ≡ products.old ++ map (map term_of) (products_of targets.entry)) }
+        (products.new ≡ products.old ++ map (map term_of) (products_of (list_of targets.entry))) }
 {
     terms.clear();
     let mut rest = targets;
@@ -43,9 +44,9 @@ pub(crate) fn push_kept_products<A: Allocator + Copy>(
     operation: Operation,
     targets: Targets<'_>,
 ) -> Result<(), AllocError>
-    requires small { All IsSmall targets }
+    requires small { All IsSmall (list_of targets) }
     ensures { OnOk result
-        (products.new ≡ products.old ++ operation_products operation targets.entry) }
+        (products.new ≡ products.old ++ operation_products operation (list_of targets.entry)) }
 {
     match operation {
         Operation::ProductMeasurement => push_each_product(products, terms, targets),
