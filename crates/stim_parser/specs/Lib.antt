@@ -9,7 +9,6 @@ pub mod Judging
 pub mod Probabilities
 pub mod Verdicts
 pub mod Texts
-pub mod Handed
 pub mod Trees
 pub mod Circuits
 pub mod Written

@@ -1,5 +1,5 @@
 ghost use Rattle.std.specs.Prelude.{◌≡◌, ◌+◌, ◌-◌, ◌*◌, ◌<◌, ◌≤◌, ◌^◌, ◌++◌, All, None, drop, length, map, slice_range, IfOk, OnOk};
-ghost use Rattle.stim_parser.specs.Handed.{list_of};
+ghost use Rattle.stim_parser.specs.Kept.{list_in};
 ghost use Rattle.unroll.specs.private.Detecting.{records_moved};
 ghost use Rattle.unroll.specs.private.Detectors.{detectors_of};
 ghost use Rattle.unroll.specs.TargetsMade.{operation_detectors, record_named, records_named};
@@ -34,7 +34,7 @@ fn name_records<A: Allocator + Copy>(
     targets: Targets<'_>,
 ) -> Result<(), AllocError>
     requires { records < 2 ^ 32 }
-    ensures { OnOk result (named.new.items ≡ records_named records (list_of targets.entry)) }
+    ensures { OnOk result (named.new.items ≡ records_named records (list_in targets.entry)) }
 {
     named.clear();
     let mut rest = targets;
@@ -55,7 +55,7 @@ fn push_detector<A: Allocator + Copy>(
 ) -> Result<(), AllocError>
     requires { records < 2 ^ 32 }
     ensures { OnOk result
-        (detectors.new ≡ detectors.old ++ operation_detectors records operation (list_of targets.entry)) }
+        (detectors.new ≡ detectors.old ++ operation_detectors records operation (list_in targets.entry)) }
 {
     match operation {
         Operation::DetectorDeclaration => {

@@ -1,6 +1,6 @@
 ghost use Rattle.std.specs.Prelude.{◌≡◌, ◌<◌, ◌≤◌, [], ◌∷◌, All, length, map, slice_index_or, OnOk};
 ghost use Rattle.step_model.specs.Chances.{no_chance};
-ghost use Rattle.stim_parser.specs.Handed.{instruction_in, list_of};
+ghost use Rattle.stim_parser.specs.Kept.{instruction_in, list_in};
 ghost use Rattle.programs.specs.Entries.{entry_from};
 ghost use Rattle.unroll.specs.private.Kept.{entries_of as entries_made, flip_entries};
 ghost use Rattle.unroll.specs.Targets.{pauli_letter, term_at, term_of};
@@ -41,8 +41,8 @@ fn name_terms<A: Allocator + Copy>(
     terms: &mut Vec<Term, A>,
     targets: Targets<'_>,
 ) -> Result<(), AllocError>
-    requires { All IsSmall (list_of targets) }
-    ensures { OnOk result (terms.new.items ≡ map term_of (list_of targets.entry)) }
+    requires { All IsSmall (list_in targets) }
+    ensures { OnOk result (terms.new.items ≡ map term_of (list_in targets.entry)) }
 {
     terms.clear();
     let mut rest = targets;
@@ -60,7 +60,7 @@ fn push_entries<A: Allocator + Copy>(
     letter: Letter,
     targets: Targets<'_>,
 ) -> Result<(), AllocError>
-    requires small { All IsSmall (list_of targets) }
+    requires small { All IsSmall (list_in targets) }
     requires there { number < length entries.old.chances }
     ensures { OnOk result
         (entries.new
@@ -68,7 +68,7 @@ fn push_entries<A: Allocator + Copy>(
         (map
         (λ target. entry_from (slice_index_or entries.old.chances number no_chance)
         (term_at letter target ∷ []))
-        (list_of targets.entry))
+        (list_in targets.entry))
         entries.old) }
 {
     let mut rest = targets;
@@ -104,7 +104,7 @@ pub(crate) fn push_instruction<A: Allocator + Copy>(
     terms: &mut Vec<Term, A>,
     instruction: Instruction<'_, '_>,
 ) -> Result<(), AllocError>
-    requires small { All IsSmall (list_of instruction.targets) }
+    requires small { All IsSmall (list_in instruction.targets) }
     requires number { IsInstructionNumber entries.old.chances (instruction_in instruction)
         instruction.mark }
     ensures { OnOk result

@@ -1,5 +1,5 @@
 ghost use Rattle.std.specs.Prelude.{◌≡◌, ◌*◌, ◌<◌, ◌≤◌, ◌^◌, ◌++◌, [], All, None, length, replicate, slice_range, IfOk, OnOk};
-ghost use Rattle.stim_parser.specs.Handed.{instruction_in, list_of};
+ghost use Rattle.stim_parser.specs.Kept.{instruction_in, list_in};
 ghost use Rattle.unroll.specs.TargetsMade.{record_named, records_named};
 ghost use Rattle.unroll.specs.Totals.{observable_total};
 ghost use Rattle.unroll.specs.private.Including.{CanMove, HaveTurned, IsOpen, notes_of, records_in, with_closed, with_included, with_more, with_moved, with_noted, with_turned};
@@ -34,7 +34,7 @@ fn include_records<A: Allocator + Copy>(
     requires there { observable < length lists.old }
     requires few { records < 2 ^ 32 }
     ensures { OnOk result
-        (lists.new ≡ with_more observable (records_named records (list_of targets.entry)) lists.old) }
+        (lists.new ≡ with_more observable (records_named records (list_in targets.entry)) lists.old) }
 {
     let mut rest = targets;
     while let Some((target, after)) = rest.split_first() {

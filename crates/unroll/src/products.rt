@@ -1,5 +1,5 @@
 ghost use Rattle.std.specs.Prelude.{◌≡◌, ◌++◌, All, map, OnOk};
-ghost use Rattle.stim_parser.specs.Handed.{list_of};
+ghost use Rattle.stim_parser.specs.Kept.{list_in};
 ghost use Rattle.unroll.specs.private.Kept.{operation_products};
 ghost use Rattle.stim_parser.specs.Limits.{products_of};
 ghost use Rattle.unroll.specs.Targets.{term_of};
@@ -18,9 +18,9 @@ fn push_each_product<A: Allocator + Copy>(
     terms: &mut Vec<Term, A>,
     targets: Targets<'_>,
 ) -> Result<(), AllocError>
-    requires { All IsSmall (list_of targets) }
+    requires { All IsSmall (list_in targets) }
     ensures { OnOk result
-        (products.new ≡ products.old ++ map (map term_of) (products_of (list_of targets.entry))) }
+        (products.new ≡ products.old ++ map (map term_of) (products_of (list_in targets.entry))) }
 {
     terms.clear();
     let mut rest = targets;
@@ -44,9 +44,9 @@ pub(crate) fn push_kept_products<A: Allocator + Copy>(
     operation: Operation,
     targets: Targets<'_>,
 ) -> Result<(), AllocError>
-    requires small { All IsSmall (list_of targets) }
+    requires small { All IsSmall (list_in targets) }
     ensures { OnOk result
-        (products.new ≡ products.old ++ operation_products operation (list_of targets.entry)) }
+        (products.new ≡ products.old ++ operation_products operation (list_in targets.entry)) }
 {
     match operation {
         Operation::ProductMeasurement => push_each_product(products, terms, targets),

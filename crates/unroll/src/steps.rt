@@ -1,5 +1,5 @@
 ghost use Rattle.std.specs.Prelude.{◌≡◌, ◌+◌, ◌<◌, ◌^◌, ◌≤◌, All, length, map, OnOk};
-ghost use Rattle.stim_parser.specs.Handed.{list_of};
+ghost use Rattle.stim_parser.specs.Kept.{list_in};
 ghost use Rattle.pauli_word.specs.Parity.{exclusive_or};
 ghost use Rattle.unroll.specs.private.Made.{fault_steps, operation_steps, pair_step, pair_steps, product_steps, record_back};
 ghost use Rattle.unroll.specs.StepsMade.{fed_letter};
@@ -143,8 +143,8 @@ fn push_singles<A: Allocator + Copy>(
     single: Single,
     targets: Targets<'_>,
 ) -> Result<(), AllocError>
-    requires { All IsSmall (list_of targets) }
-    ensures { OnOk result (Adds (map (single_step single) (list_of targets.entry)) builder.old builder.new) }
+    requires { All IsSmall (list_in targets) }
+    ensures { OnOk result (Adds (map (single_step single) (list_in targets.entry)) builder.old builder.new) }
 {
     let mut rest = targets;
     while let Some((target, after)) = rest.split_first() {
@@ -159,8 +159,8 @@ fn push_pairs<A: Allocator + Copy>(
     gate: Gate,
     targets: Targets<'_>,
 ) -> Result<(), AllocError>
-    requires { All IsSmall (list_of targets) }
-    ensures { OnOk result (Adds (pair_steps gate (list_of targets.entry)) builder.old builder.new) }
+    requires { All IsSmall (list_in targets) }
+    ensures { OnOk result (Adds (pair_steps gate (list_in targets.entry)) builder.old builder.new) }
 {
     let mut rest = targets;
     while let Some((first, others)) = rest.split_first() {
@@ -179,8 +179,8 @@ fn push_faults<A: Allocator + Copy>(
     first: u32,
     targets: Targets<'_>,
 ) -> Result<(), AllocError>
-    requires { first + length (list_of targets) < 2 ^ 32 }
-    ensures { OnOk result (Adds (fault_steps first (list_of targets.entry)) builder.old builder.new) }
+    requires { first + length (list_in targets) < 2 ^ 32 }
+    ensures { OnOk result (Adds (fault_steps first (list_in targets.entry)) builder.old builder.new) }
 {
     let mut entry = first;
     for _ in 0..targets.len() {
@@ -198,9 +198,9 @@ fn push_products<A: Allocator + Copy>(
     first: u32,
     targets: Targets<'_>,
 ) -> Result<(), AllocError>
-    requires { first + length (products_of (list_of targets)) < 2 ^ 32 }
+    requires { first + length (products_of (list_in targets)) < 2 ^ 32 }
     ensures { OnOk result
-        (Adds (product_steps flip first (products_of (list_of targets.entry))) builder.old builder.new) }
+        (Adds (product_steps flip first (products_of (list_in targets.entry))) builder.old builder.new) }
 {
     let mut product = first;
     let mut inverted = false;
@@ -231,11 +231,11 @@ pub(crate) fn push_steps<A: Allocator + Copy>(
     flip: Option<u32>,
     targets: Targets<'_>,
 ) -> Result<(), AllocError>
-    requires small { All IsSmall (list_of targets) }
-    requires entries { entries + target_count operation (list_of targets) < 2 ^ 32 }
-    requires products { products + target_count operation (list_of targets) < 2 ^ 32 }
+    requires small { All IsSmall (list_in targets) }
+    requires entries { entries + target_count operation (list_in targets) < 2 ^ 32 }
+    requires products { products + target_count operation (list_in targets) < 2 ^ 32 }
     ensures { OnOk result
-        (Adds (operation_steps operation entries products flip (list_of targets.entry)) builder.old
+        (Adds (operation_steps operation entries products flip (list_in targets.entry)) builder.old
         builder.new) }
 {
     match operation {

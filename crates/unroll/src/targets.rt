@@ -1,5 +1,5 @@
 ghost use Rattle.std.specs.Prelude.{◌≡◌, ◌≤◌, All, length};
-ghost use Rattle.stim_parser.specs.Handed.{list_of};
+ghost use Rattle.stim_parser.specs.Kept.{list_in};
 ghost use Rattle.stim_parser.specs.private.Products.{is_joining};
 ghost use Rattle.stim_parser.specs.Limits.{products_of, qubit_of};
 ghost use Rattle.unroll.specs.private.Pushed.{FollowsFactor};
@@ -54,9 +54,9 @@ pub(crate) struct Reach {
 
 /// How far targets reach after this many records.
 pub(crate) fn reach_of(records: u64, targets: Targets<'_>) -> Reach
-    requires { All (λ target. qubits_to target ≤ 4096) (list_of targets) }
-    ensures qubits { result.qubits ≡ qubits_named (list_of targets.entry) }
-    ensures far { result.is_far ≡ reaches_far records (list_of targets.entry) }
+    requires { All (λ target. qubits_to target ≤ 4096) (list_in targets) }
+    ensures qubits { result.qubits ≡ qubits_named (list_in targets.entry) }
+    ensures far { result.is_far ≡ reaches_far records (list_in targets.entry) }
 {
     let mut qubits: u32 = 0;
     let mut far = false;
@@ -85,7 +85,7 @@ fn is_star(target: Target) -> bool
 /// Whether a star joins a factor to the next one, and what follows the factor and the star.
 #[inline(always)]
 pub(crate) fn end_of_factor(after: Targets<'_>) -> (bool, Targets<'_>)
-    ensures { FollowsFactor (list_of after.entry) result.0 (list_of result.1) }
+    ensures { FollowsFactor (list_in after.entry) result.0 (list_in result.1) }
 {
     match after.split_first() {
         Some((star, behind)) => {
@@ -101,8 +101,8 @@ pub(crate) fn end_of_factor(after: Targets<'_>) -> (bool, Targets<'_>)
 
 /// How many products targets make.
 fn product_count(targets: Targets<'_>) -> usize
-    ensures value { result ≡ length (products_of (list_of targets.entry)) }
-    ensures few { result ≤ length (list_of targets.entry) }
+    ensures value { result ≡ length (products_of (list_in targets.entry)) }
+    ensures few { result ≤ length (list_in targets.entry) }
 {
     let mut count = 0;
     let mut rest = targets;
@@ -120,8 +120,8 @@ fn product_count(targets: Targets<'_>) -> usize
 /// How many targets an operation has in these, a product being one.
 #[inline(always)]
 pub(crate) fn target_count(operation: Operation, targets: Targets<'_>) -> usize
-    ensures value { result ≡ target_count operation (list_of targets.entry) }
-    ensures few { result ≤ length (list_of targets.entry) }
+    ensures value { result ≡ target_count operation (list_in targets.entry) }
+    ensures few { result ≤ length (list_in targets.entry) }
 {
     match operation {
         Operation::ProductMeasurement => product_count(targets),
