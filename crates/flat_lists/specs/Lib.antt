@@ -1,2 +1,3 @@
+pub mod Short
 pub mod Turns
 pub mod private

@@ -1,4 +1,5 @@
 pub mod Cuts
+pub mod Joined
 pub mod Numbers
 pub mod Repeats
 pub mod Rooms

@@ -2,14 +2,16 @@
 //! take two blocks of memory in all, instead of one each. Lists of whole numbers are kept in bytes.
 #![tactic(auto)]
 
-ghost use Rattle.std.specs.Prelude.{◌≡◌, ◌+◌, ◌<◌, ◌==◌, [], ◌∷◌, ◌++◌, length, IfOk, OnOk, OnErr, Some, slice_get, slice_index, slice_index_or};
+ghost use Rattle.std.specs.Prelude.{◌≡◌, ◌+◌, ◌-◌, ◌<◌, ◌==◌, [], ◌∷◌, ◌++◌, length, take, IfOk, OnOk, OnErr, Some, slice_get, slice_index, slice_index_or};
 
 mod number_lists;
 mod packed_lists;
 mod rooms;
+mod short_lists;
 
 pub use number_lists::{MOST_NUMBERS, NumberLists};
 pub use rooms::ListRooms;
+pub use short_lists::{Short, ShortList, ShortLists};
 use std::alloc::{AllocError, Allocator};
 use std::marker::Model;
 
@@ -91,6 +93,17 @@ impl<T: Copy, A: Allocator + Copy> FlatLists<T, A> {
         self.items.extend_from_slice(list)?;
         self.ends.push_reserved(end);
         Ok(())
+    }
+
+    // Takes the last list away.
+    fn pop(&mut self)
+        requires { 0 < length self.old }
+        ensures { self.new ≡ take (length self.old - 1) self.old }
+    {
+        let last = self.ends.len() - 1;
+        let start = start_of(&self.ends, last);
+        self.ends.truncate(last);
+        self.items.truncate(start);
     }
 
     /// Gives back the memory that the lists don't take.

@@ -5,22 +5,23 @@ ghost use Rattle.stim_lexer.specs.Judged.{left_open};
 ghost use Rattle.stim_lexer.specs.Unfinished.{after_line, cause_in};
 
 use crate::blocks::LEVELS;
-use crate::items::{Instruction, Items};
+use crate::items::{Items, Node};
 use crate::said::Said;
 use arrayvec::ArrayVec;
+use flat_lists::Short;
 use std::alloc::{AllocError, Allocator};
 use std::marker::Model;
 use step_model::{Cause, Fault};
 
 /// A text that is read line by line.
 #[derive(Drop)]
-pub struct Builder<'a, O: Copy, T: Copy, A: Allocator + Copy> {
-    items: Items<'a, O, T, A>,
+pub struct Builder<'a, O: Copy, T: Copy, S: Short<T>, A: Allocator + Copy> {
+    items: Items<'a, O, T, S, A>,
     // The lines of the open blocks, the outermost first.
     blocks: ArrayVec<u64, LEVELS>,
 }
 
-impl<'a, O: Copy, T: Copy, A: Allocator + Copy> Model for Builder<'a, O, T, A> {
+impl<'a, O: Copy, T: Copy, S: Short<T>, A: Allocator + Copy> Model for Builder<'a, O, T, S, A> {
     ghost use Rattle.std.specs.Prelude.{reverse};
     ghost use Rattle.stim_lexer.specs.Instructions.{Instruction};
     ghost use Rattle.stim_lexer.specs.Marked.{Begun};
@@ -30,7 +31,7 @@ impl<'a, O: Copy, T: Copy, A: Allocator + Copy> Model for Builder<'a, O, T, A> {
     ghost view = { λ b. record { text = record { items = b.items.items; opened = reverse b.blocks.items }; marks = b.items.marks } };
 }
 
-impl<'a, O: Copy, T: Copy, A: Allocator + Copy> Builder<'a, O, T, A> {
+impl<'a, O: Copy, T: Copy, S: Short<T>, A: Allocator + Copy> Builder<'a, O, T, S, A> {
     /// A text of which no line was read. Takes no memory.
     pub fn new(alloc: A) -> Self
         ensures { result ≡ record { text = record { items = []; opened = [] }; marks = [] } }
@@ -70,13 +71,15 @@ impl<'a, O: Copy, T: Copy, A: Allocator + Copy> Builder<'a, O, T, A> {
             Said::Accepts {
                 operation,
                 arguments,
-            } => self.items.push(Instruction {
-                line,
-                operation,
-                arguments,
-                targets,
-                mark,
-            })?,
+            } => {
+                let node = Node::InstructionLine {
+                    operation,
+                    mark,
+                    line,
+                    arguments,
+                };
+                self.items.push(node, targets)?
+            }
             Said::Opens(turns) => {
                 self.items.begin(line, turns)?;
                 self.blocks.push(line);
@@ -91,7 +94,7 @@ impl<'a, O: Copy, T: Copy, A: Allocator + Copy> Builder<'a, O, T, A> {
     }
 
     /// The items that were read. Where a block is left open, the refusal for this cause, with the line of the innermost.
-    pub fn finish(mut self, cause: Cause) -> Result<Items<'a, O, T, A>, Fault>
+    pub fn finish(mut self, cause: Cause) -> Result<Items<'a, O, T, S, A>, Fault>
         ensures opened { IfOk result (λ items. self.entry.text.opened ≡ []) }
         ensures items { IfOk result (λ items. items
             ≡ record { items = self.entry.text.items; marks = self.entry.marks }) }

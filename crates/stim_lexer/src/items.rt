@@ -1,20 +1,20 @@
 ghost use Rattle.std.specs.Prelude.{◌≡◌, ◌<◌, [], Some, length, slice_get, slice_index_or, OnOk, OnErr};
-ghost use Rattle.stim_lexer.specs.Kept.{instruction_in, item_in, item_kept, mark_in, mark_kept};
+ghost use Rattle.stim_lexer.specs.Kept.{item_in, item_kept, mark_in, mark_kept};
 ghost use Rattle.stim_lexer.specs.Marked.{with_item};
-ghost use Rattle.stim_lexer.specs.Trees.{InstructionLine, BlockStart, BlockEnd};
+ghost use Rattle.stim_lexer.specs.Trees.{BlockStart, BlockEnd};
 
-use flat_lists::FlatLists;
+use flat_lists::{Short, ShortList, ShortLists};
 use std::alloc::{AllocError, Allocator};
 use std::marker::Model;
 
 /// An instruction of a text: the line that it stands on, what it does, the text between its parentheses, and its targets.
 #[derive(Clone, Copy)]
-pub struct Instruction<'c, 'a, O, T> {
+pub struct Instruction<'c, 'a, O: Copy, T: Copy, S: Short<T>> {
     pub line: u64,
     pub operation: O,
     /// Empty also where there are no parentheses.
     pub arguments: &'a [u8],
-    pub targets: &'c [T],
+    pub targets: ShortList<'c, T, S>,
     /// What the reader of a format knows of the instruction by this number.
     pub mark: u32,
 }
@@ -22,8 +22,8 @@ pub struct Instruction<'c, 'a, O, T> {
 /// What stands at a place of a text: an instruction, the start of a block with its line and turns, or the end of the
 /// innermost block.
 #[derive(Clone, Copy)]
-pub enum Item<'c, 'a, O, T> {
-    InstructionLine(Instruction<'c, 'a, O, T>),
+pub enum Item<'c, 'a, O: Copy, T: Copy, S: Short<T>> {
+    InstructionLine(Instruction<'c, 'a, O, T, S>),
     BlockStart { line: u64, turns: u64 },
     BlockEnd,
 }
@@ -47,13 +47,13 @@ pub(crate) enum Node<'a, O> {
 
 /// Items in the order of the text. Blocks are kept flat, so no recursion is needed to go over them.
 #[derive(Drop)]
-pub struct Items<'a, O: Copy, T: Copy, A: Allocator + Copy> {
+pub struct Items<'a, O: Copy, T: Copy, S: Short<T>, A: Allocator + Copy> {
     nodes: Vec<Node<'a, O>, A>,
     // A list for each node, empty where it isn't an instruction.
-    targets: FlatLists<T, A>,
+    targets: ShortLists<T, S, A>,
 }
 
-impl<'a, O: Copy, T: Copy, A: Allocator + Copy> Model for Items<'a, O, T, A> {
+impl<'a, O: Copy, T: Copy, S: Short<T>, A: Allocator + Copy> Model for Items<'a, O, T, S, A> {
     ghost use Rattle.std.specs.Prelude.{◌≡◌, length, map};
     ghost use Rattle.stim_lexer.specs.Instructions.{Instruction};
     ghost use Rattle.stim_lexer.specs.Kept.{items_kept, mark_kept};
@@ -66,14 +66,14 @@ impl<'a, O: Copy, T: Copy, A: Allocator + Copy> Model for Items<'a, O, T, A> {
     ghost invariant = { λ i. length i.nodes.items ≡ length i.targets };
 }
 
-impl<'a, O: Copy, T: Copy, A: Allocator + Copy> Items<'a, O, T, A> {
+impl<'a, O: Copy, T: Copy, S: Short<T>, A: Allocator + Copy> Items<'a, O, T, S, A> {
     /// No items. Takes no memory.
     pub(crate) fn new(alloc: A) -> Self
         ensures { result ≡ record { items = []; marks = [] } }
     {
         Items {
             nodes: Vec::new(alloc),
-            targets: FlatLists::new(alloc),
+            targets: ShortLists::new(alloc),
         }
     }
 
@@ -86,9 +86,9 @@ impl<'a, O: Copy, T: Copy, A: Allocator + Copy> Items<'a, O, T, A> {
         self.nodes.len()
     }
 
-    // Appends an item with a copy of its targets.
+    /// Appends an item with a copy of its targets. It fails only where memory runs out.
     #[tactic(auto, using(crate::proofs::FlatLemmas::pushes))]
-    fn keep(&mut self, node: Node<'a, O>, targets: &[T]) -> Result<(), AllocError>
+    pub(crate) fn push(&mut self, node: Node<'a, O>, targets: &[T]) -> Result<(), AllocError>
         ensures ok { OnOk result
             (self.new
             ≡ with_item (item_kept targets.now node.entry) (mark_kept node.entry) self.old) }
@@ -101,29 +101,12 @@ impl<'a, O: Copy, T: Copy, A: Allocator + Copy> Items<'a, O, T, A> {
         Ok(())
     }
 
-    /// Appends an instruction with a copy of its targets. It fails only where memory runs out.
-    pub(crate) fn push(&mut self, instruction: Instruction<'_, 'a, O, T>) -> Result<(), AllocError>
-        ensures ok { OnOk result
-            (self.new
-            ≡ with_item (InstructionLine (instruction_in instruction.entry))
-            instruction.entry.mark self.old) }
-        ensures err { OnErr result (self.new ≡ self.old) }
-    {
-        let node = Node::InstructionLine {
-            operation: instruction.operation,
-            mark: instruction.mark,
-            line: instruction.line,
-            arguments: instruction.arguments,
-        };
-        self.keep(node, instruction.targets)
-    }
-
     /// Appends the start of a block. It fails only where memory runs out.
     pub(crate) fn begin(&mut self, line: u64, turns: u64) -> Result<(), AllocError>
         ensures ok { OnOk result (self.new ≡ with_item (BlockStart line turns) 0 self.old) }
         ensures err { OnErr result (self.new ≡ self.old) }
     {
-        self.keep(Node::BlockStart { line, turns }, &[])
+        self.push(Node::BlockStart { line, turns }, &[])
     }
 
     /// Appends the end of a block. It fails only where memory runs out.
@@ -131,15 +114,15 @@ impl<'a, O: Copy, T: Copy, A: Allocator + Copy> Items<'a, O, T, A> {
         ensures ok { OnOk result (self.new ≡ with_item BlockEnd 0 self.old) }
         ensures err { OnErr result (self.new ≡ self.old) }
     {
-        self.keep(Node::BlockEnd, &[])
+        self.push(Node::BlockEnd, &[])
     }
 
     /// The item at a place.
     #[inline(always)]
     #[tactic(auto, using(crate::proofs::FlatLemmas::counts))]
-    pub fn get(&self, i: usize) -> Item<'_, 'a, O, T>
+    pub fn get(&self, i: usize) -> Item<'_, 'a, O, T, S>
         requires { i < length self.now.items }
-        ensures item { Some (item_in result) ≡ slice_get self.now.items i }
+        ensures item { Some (item_in S.long result) ≡ slice_get self.now.items i }
         ensures mark { mark_in result ≡ slice_index_or self.now.marks i 0 }
     {
         match self.nodes[i] {

@@ -3,6 +3,7 @@ pub mod Pieces
 pub mod Targets
 pub mod Arguments
 pub mod Instructions
+pub mod Kept
 pub mod Limits
 pub mod Parentheses
 pub mod Judging
@@ -16,4 +17,5 @@ pub mod Coordinates
 pub mod Offsets
 pub mod Judged
 pub mod Rows
+pub mod ShortTargets
 pub mod private

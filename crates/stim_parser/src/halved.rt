@@ -1,4 +1,4 @@
-ghost use Rattle.std.specs.Prelude.{◌≡◌};
+ghost use Rattle.std.specs.Prelude.{◌≡◌, IfSome};
 
 use std::marker::Model;
 
@@ -46,5 +46,17 @@ impl Number {
         ensures { result ≡ self }
     {
         self.high as u64 * HALF + self.low as u64
+    }
+
+    /// The number in 16 bits, where it is less than 2^16.
+    #[inline(always)]
+    pub(crate) fn short(self) -> Option<u16>
+        ensures { IfSome result (λ short. short ≡ self) }
+    {
+        let number = self.value();
+        if number > u16::MAX as u64 {
+            return None;
+        }
+        Some(number as u16)
     }
 }
