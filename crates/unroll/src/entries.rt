@@ -46,9 +46,9 @@ fn name_terms<A: Allocator + Copy>(
 {
     terms.clear();
     let mut rest = targets;
-    while let Some((target, after)) = rest.split_first() {
-        terms.push(term_at(pauli_letter(target), target))?;
-        rest = after;
+    while let Some(parts) = rest.split_first() {
+        terms.push(term_at(pauli_letter(parts.0), parts.0))?;
+        rest = parts.1;
     }
     Ok(())
 }

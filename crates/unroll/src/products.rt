@@ -24,9 +24,9 @@ fn push_each_product<A: Allocator + Copy>(
 {
     terms.clear();
     let mut rest = targets;
-    while let Some((factor, after)) = rest.split_first() {
-        terms.push(term_at(pauli_letter(factor), factor))?;
-        let (joined, behind) = end_of_factor(after);
+    while let Some(parts) = rest.split_first() {
+        terms.push(term_at(pauli_letter(parts.0), parts.0))?;
+        let (joined, behind) = end_of_factor(parts.1);
         rest = behind;
         if joined {
             continue;

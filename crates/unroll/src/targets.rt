@@ -61,10 +61,10 @@ pub(crate) fn reach_of(records: u64, targets: Targets<'_>) -> Reach
     let mut qubits: u32 = 0;
     let mut far = false;
     let mut rest = targets;
-    while let Some((target, after)) = rest.split_first() {
-        qubits = qubits.max(qubits_to(target));
-        far = far || is_far(records, target);
-        rest = after;
+    while let Some(parts) = rest.split_first() {
+        qubits = qubits.max(qubits_to(parts.0));
+        far = far || is_far(records, parts.0);
+        rest = parts.1;
     }
     Reach {
         qubits,
