@@ -5,7 +5,8 @@ use std::alloc::Global;
 use std::test::Fail;
 use step_model::Fault;
 use stim_parser::{
-    Circuit, Instruction, Item, Targets, first_argument, first_number, laws, parse, read_coordinates,
+    Circuit, Instruction, Item, Targets, first_argument, first_number, laws, parse,
+    read_coordinates,
 };
 use written::{Named, WRITTEN, Wanted, Written, name_of};
 
