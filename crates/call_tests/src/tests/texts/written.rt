@@ -206,7 +206,7 @@ pub(crate) const WRITTEN: &[Written] = &[
             ),
         ],
     ),
-    // Where a number is 2^16 or more, its target and those behind it are kept otherwise than those before it.
+    // Where a number is 2^16 or more, all targets of its instruction are kept otherwise than those of the others.
     (
         b"DETECTOR rec[-65535] rec[-65536]\nCX rec[-70000] 1\nDETECTOR rec[-1]",
         &[
