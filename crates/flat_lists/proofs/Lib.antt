@@ -1,4 +1,5 @@
 pub mod CutLemmas
+pub mod JoinedLemmas
 pub mod NumberLemmas
 pub mod RepeatLemmas
 pub mod RoomLemmas

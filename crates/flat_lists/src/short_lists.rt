@@ -1,10 +1,11 @@
-ghost use Rattle.std.specs.Prelude.{◌≡◌, ◌+◌, ◌<◌, ◌≤◌, ◌==◌, [], ◌∷◌, ◌++◌, length, IfOk, IfSome, MatchOption, OnOk, OnErr, slice_index_or};
+ghost use Rattle.std.specs.Prelude.{◌≡◌, ◌+◌, ◌<◌, ◌≤◌, ◌==◌, [], ◌∷◌, ◌++◌, length, vec_len, IfOk, IfSome, MatchOption, OnOk, OnErr, slice_index_or};
+ghost use Rattle.std.specs.Vec.{vec_capacity};
 ghost use Rattle.flat_lists.specs.Short.{list_in};
-ghost use Rattle.flat_lists.specs.private.Joined.{AreShortened, IsShortened};
+ghost use Rattle.flat_lists.specs.private.Joined.{HasShortened, IsShortened};
 
 use crate::{FlatLists, end_after};
 use std::alloc::{AllocError, Allocator};
-use std::marker::{Model, PhantomData};
+use std::marker::Model;
 
 /// A form of an item that takes less memory, which some items have.
 pub trait Short<T: Copy>: Copy {
@@ -19,26 +20,29 @@ pub trait Short<T: Copy>: Copy {
         ensures { result ≡ long self };
 }
 
-/// A list whose first items are in their short form, and the others aren't. Contracts see it by `list_in`.
+/// A list of items: all in their short form, or all as they are. Contracts see it by `list_in`.
 #[derive(Clone, Copy, Drop)]
-pub struct ShortList<'c, T: Copy, S: Short<T>> {
-    short: &'c [S],
-    others: &'c [T],
+pub enum ShortList<'c, T: Copy, S: Short<T>> {
+    Short(&'c [S]),
+    Long(&'c [T]),
 }
 
 impl<'c, T: Copy, S: Short<T>> ShortList<'c, T, S> {
     /// How many items there are.
     #[inline(always)]
     pub fn len(self) -> usize
-        ensures { result ≡ length (list_in S.long self) }
+        ensures { result ≡ length (list_in S.long self.entry) }
     {
-        self.short.len() + self.others.len()
+        match self {
+            ShortList::Short(items) => items.len(),
+            ShortList::Long(items) => items.len(),
+        }
     }
 
     /// Whether there is no item.
     #[inline(always)]
     pub fn is_empty(self) -> bool
-        ensures { result ≡ (length (list_in S.long self) == 0) }
+        ensures { result ≡ (length (list_in S.long self.entry) == 0) }
     {
         self.len() == 0
     }
@@ -46,24 +50,29 @@ impl<'c, T: Copy, S: Short<T>> ShortList<'c, T, S> {
     /// The first item, and those behind it.
     #[inline(always)]
     pub fn split_first(self) -> Option<(T, Self)>
-        ensures { MatchOption result (list_in S.long self ≡ [])
-            (λ first. list_in S.long self ≡ first.0 ∷ list_in S.long first.1) }
+        ensures { MatchOption result (list_in S.long self.entry ≡ [])
+            (λ first. list_in S.long self.entry ≡ first.0 ∷ list_in S.long first.1) }
     {
-        if let Some((first, short)) = self.short.split_first() {
-            let others = self.others;
-            return Some((first.lengthen(), ShortList { short, others }));
+        match self {
+            ShortList::Short(items) => {
+                let (first, rest) = items.split_first()?;
+                Some((first.lengthen(), ShortList::Short(rest)))
+            }
+            ShortList::Long(items) => {
+                let (first, rest) = items.split_first()?;
+                Some((*first, ShortList::Long(rest)))
+            }
         }
-        let (first, others) = self.others.split_first()?;
-        let short = self.short;
-        Some((*first, ShortList { short, others }))
     }
 }
 
-/// Lists of items, in the order in which they were pushed. The first items of a list that have a short form are kept in
-/// it, and from the first that has none all are kept as they are. There are less than 2^32 items of either kind.
+/// Lists of items, in the order in which they were pushed. A list whose items all have a short form is kept so. There are
+/// less than 2^32 items of either kind.
 #[derive(Drop)]
 pub struct ShortLists<T: Copy, S: Short<T>, A: Allocator + Copy> {
+    // For each list its short form, which is empty where it has none.
     short: FlatLists<S, A>,
+    // For each list its items, where it has no short form, and else none.
     others: FlatLists<T, A>,
 }
 
@@ -102,8 +111,9 @@ impl<T: Copy, S: Short<T>, A: Allocator + Copy> ShortLists<T, S, A> {
         ensures ok { OnOk result (self.new ≡ self.old ++ list.now ∷ []) }
         ensures err { OnErr result (self.new ≡ self.old) }
     {
-        let count = push_short(&mut self.short, list)?;
-        if let Err(error) = self.others.push(&list[count..]) {
+        let is_short = push_short(&mut self.short, list)?;
+        let others = if is_short { &list[..0] } else { list };
+        if let Err(error) = self.others.push(others) {
             self.short.pop();
             return Err(error);
         }
@@ -116,47 +126,49 @@ impl<T: Copy, S: Short<T>, A: Allocator + Copy> ShortLists<T, S, A> {
         requires { index < length self.now }
         ensures { list_in S.long result ≡ slice_index_or self.now index [] }
     {
-        ShortList {
-            short: self.short.get(index),
-            others: self.others.get(index),
+        let others = self.others.get(index);
+        if others.is_empty() {
+            ShortList::Short(self.short.get(index))
+        } else {
+            ShortList::Long(others)
         }
     }
 }
 
-// Appends the short forms of the first items of a list, up to the first that has none, and says how many these are.
+// Appends the short forms of the items of a list, where all have one. Answers whether they have.
 fn shorten_into<T: Copy, S: Short<T>, A: Allocator + Copy>(
     items: &mut Vec<S, A>,
     list: &[T],
-) -> usize
+) -> bool
     requires { vec_len items.old + length list.now ≤ vec_capacity items.old }
     ensures { IsShortened S.long items.old.items items.new.items list.now result }
 {
-    let mut count = 0;
-    while count < list.len() {
-        let Some(short) = S::shorten(list[count]) else {
-            return count;
+    let start = items.len();
+    for item in list {
+        let Some(short) = S::shorten(*item) else {
+            items.truncate(start);
+            return false;
         };
         items.push_reserved(short);
-        count += 1;
     }
-    count
+    true
 }
 
-// Appends a list of the short forms of the first items of a list, up to the first that has none. Says how many these are.
+// Appends the list of the short forms of the items of a list where all have one, and else an empty list. Answers whether
+// they have.
 fn push_short<T: Copy, S: Short<T>, A: Allocator + Copy>(
     lists: &mut FlatLists<S, A>,
     list: &[T],
-) -> Result<usize, AllocError>
-    ensures ok { IfOk result (AreShortened S.long lists.old lists.new list.now) }
+) -> Result<bool, AllocError>
+    ensures ok { IfOk result (HasShortened S.long lists.old lists.new list.now) }
     ensures err { OnErr result (lists.new ≡ lists.old) }
 {
-    let start = lists.items.len();
-    end_after(start, list.len())?;
+    let end = end_after(lists.items.len(), list.len())?;
 
     // Room for all first, so that nothing changes where memory runs out.
     lists.ends.reserve(1)?;
     lists.items.reserve(list.len())?;
-    let count = shorten_into(&mut lists.items, list);
-    lists.ends.push_reserved((start + count) as u32);
-    Ok(count)
+    let is_short = shorten_into(&mut lists.items, list);
+    lists.ends.push_reserved(lists.items.len() as u32);
+    Ok(is_short)
 }

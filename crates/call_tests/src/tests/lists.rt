@@ -1,4 +1,4 @@
-use flat_lists::{FlatLists, ListRooms, NumberLists};
+use flat_lists::{FlatLists, ListRooms, NumberLists, Short, ShortList, ShortLists};
 use std::alloc::{AllocError, Global};
 use std::fmt::Debug;
 use std::process::Abort;
@@ -94,6 +94,65 @@ fn lists_are_repeated(rt: HostRuntime) -> Result<(), Fail> {
     for index in 0..lists.len().min(REPEATED.len()) {
         let list = lists.get(index);
         assert!(&rt; list.as_slice() == REPEATED[index], "at {index}");
+    }
+    Ok(())
+}
+
+/// Numbers, of which those less than 256 have a short form.
+const NUMBERS: [&[u32]; 5] = [
+    &[0, 255, 256, 1, 70_000],
+    &[],
+    &[3],
+    &[u32::MAX],
+    &[1, 2, 256],
+];
+
+/// A number in a byte.
+#[derive(Clone, Copy)]
+struct Byte(u8);
+
+impl Short<u32> for Byte {
+    ghost long = { λ byte. byte.0 };
+
+    fn shorten(item: u32) -> Option<Byte> {
+        if item < 256 {
+            Some(Byte(item as u8))
+        } else {
+            None
+        }
+    }
+
+    fn lengthen(self) -> u32 {
+        self.0 as u32
+    }
+}
+
+/// Whether a list has these items, in this order.
+fn is_list(list: ShortList<'_, u32, Byte>, wanted: &[u32]) -> bool {
+    let mut rest = list;
+    for item in wanted {
+        let Some((first, others)) = rest.split_first() else {
+            return false;
+        };
+        if first != *item {
+            return false;
+        }
+        rest = others;
+    }
+    rest.is_empty() & (list.len() == wanted.len()) & (list.is_empty() == wanted.is_empty())
+}
+
+#[test]
+fn numbers_in_bytes_come_back(rt: HostRuntime) -> Result<(), Fail> {
+    let mut lists: ShortLists<u32, Byte, Global> = ShortLists::new(rt.alloc());
+    for list in NUMBERS {
+        lists.push(list)?;
+    }
+    assert!(&rt; lists.len() == NUMBERS.len());
+    for (index, list) in NUMBERS.iter().enumerate() {
+        if index < lists.len() {
+            assert!(&rt; is_list(lists.get(index), *list), "at {index}");
+        }
     }
     Ok(())
 }

@@ -5,16 +5,26 @@ use std::alloc::Global;
 use std::test::Fail;
 use step_model::Fault;
 use stim_parser::{
-    Circuit, Instruction, Item, Target, first_argument, first_number, laws, parse, read_coordinates,
+    Circuit, Instruction, Item, Targets, first_argument, first_number, laws, parse,
+    read_coordinates,
 };
 use written::{Named, WRITTEN, Wanted, Written, name_of};
 
-fn are_named(targets: &[Target], wanted: &[Named]) -> bool {
-    targets.len() == wanted.len()
-        && targets
-            .iter()
-            .zip(wanted)
-            .all(|(target, name)| name_of(*target) == *name)
+fn are_named(targets: Targets<'_>, wanted: &[Named]) -> bool {
+    if targets.len() != wanted.len() || targets.is_empty() != wanted.is_empty() {
+        return false;
+    }
+    let mut rest = targets;
+    for name in wanted {
+        let Some((target, after)) = rest.split_first() else {
+            return false;
+        };
+        if name_of(target) != *name {
+            return false;
+        }
+        rest = after;
+    }
+    rest.is_empty()
 }
 
 fn says(item: Item, wanted: Wanted) -> bool {

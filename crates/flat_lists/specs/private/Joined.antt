@@ -1,22 +1,30 @@
--- Lists that are kept in two parts: first items in a short form, and then items as they are.
+-- Lists that are kept in a short form, or as they are.
 -- (This project's own.)
-use Rattle.std.specs.Prelude.{◌≡◌, ℕ, ◌≤◌, List, [], ◌∷◌, ◌++◌, length, map, take}
+use Rattle.std.specs.Prelude.{◌≡◌, ◌<◌, Bool, true, false, List, [], ◌∷◌, ◌++◌, length, map}
 
--- each list of short forms, made long again, with the list behind it
+-- a list, from its short form and from what is kept of it where it has none
+abbrev pub either : {S T : Type 0} → (S → T) → List S → List T → List T
+either long short [] = map long short
+either long short (item ∷ items) = item ∷ items
+
+-- so of each list
 abbrev pub joined : {S T : Type 0} → (S → T) → List (List S) → List (List T) → List (List T)
-joined long (short ∷ more) (others ∷ rest) = (map long short ++ others) ∷ joined long more rest
+joined long (short ∷ more) (others ∷ rest) = either long short others ∷ joined long more rest
 joined long more rest = []
 
--- so many items more are the short forms of the first of a list
-pub record IsShortened {S T : Type 0} (long : S → T) (old new : List S) (list : List T) (count : ℕ) : Type 0 where
-  pub short : List S
-  pub within : count ≤ length list
-  pub more : new ≡ old ++ short
-  pub same : map long short ≡ take count list
+-- these are the short forms of the items of a list, or none, where some item has none
+abbrev pub AreShort : {S T : Type 0} → (S → T) → List S → List T → Bool → Type 0
+AreShort long short list true = map long short ≡ list
+AreShort long short list false = 0 < length list
 
--- so many items, as one list more
-pub record AreShortened {S T : Type 0} (long : S → T) (old new : List (List S)) (list : List T) (count : ℕ) : Type 0 where
+-- they were appended
+pub record IsShortened {S T : Type 0} (long : S → T) (old new : List S) (list : List T) (answer : Bool) : Type 0 where
   pub short : List S
-  pub within : count ≤ length list
+  pub more : new ≡ old ++ short
+  pub are : AreShort long short list answer
+
+-- they were appended as one list
+pub record HasShortened {S T : Type 0} (long : S → T) (old new : List (List S)) (list : List T) (answer : Bool) : Type 0 where
+  pub short : List S
   pub more : new ≡ old ++ short ∷ []
-  pub same : map long short ≡ take count list
+  pub are : AreShort long short list answer

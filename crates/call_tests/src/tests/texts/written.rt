@@ -39,6 +39,10 @@ const H: Operation = Operation::Applies(Gate::H);
 
 const M: Operation = Operation::Measurement(Letter::Z);
 
+const MPP: Operation = Operation::ProductMeasurement;
+
+const DETECTOR: Operation = Operation::DetectorDeclaration;
+
 pub(crate) const WRITTEN: &[Written] = &[
     (b"", &[]),
     (b"# nothing\n\n \t\r\n#", &[]),
@@ -162,6 +166,99 @@ pub(crate) const WRITTEN: &[Written] = &[
             ),
             Wanted::Does(4, Operation::QubitCoordinates, b"1.5", &[Named::Plain(0)]),
             Wanted::Does(5, Operation::CoordinateShift, b"1", &[]),
+        ],
+    ),
+    (
+        b"M 0 !1 4095 !4095\nE(0.1) X4095 y0\nMPP !Z4095*X1 !Y2*Z3",
+        &[
+            Wanted::Does(
+                1,
+                M,
+                b"",
+                &[
+                    Named::Plain(0),
+                    Named::Inverted(1),
+                    Named::Plain(4095),
+                    Named::Inverted(4095),
+                ],
+            ),
+            Wanted::Does(
+                2,
+                Operation::CorrelatedError,
+                b"0.1",
+                &[
+                    Named::Pauli(false, Letter::X, 4095),
+                    Named::Pauli(false, Letter::Y, 0),
+                ],
+            ),
+            Wanted::Does(
+                3,
+                MPP,
+                b"",
+                &[
+                    Named::Pauli(true, Letter::Z, 4095),
+                    Named::Star,
+                    Named::Pauli(false, Letter::X, 1),
+                    Named::Pauli(true, Letter::Y, 2),
+                    Named::Star,
+                    Named::Pauli(false, Letter::Z, 3),
+                ],
+            ),
+        ],
+    ),
+    // Where a number is 2^16 or more, all targets of its instruction are kept otherwise than those of the others.
+    (
+        b"DETECTOR rec[-65535] rec[-65536]\nCX rec[-70000] 1\nDETECTOR rec[-1]",
+        &[
+            Wanted::Does(
+                1,
+                DETECTOR,
+                b"",
+                &[Named::Back(65_535), Named::Back(65_536)],
+            ),
+            Wanted::Does(
+                2,
+                Operation::Applies(Gate::CX),
+                b"",
+                &[Named::Back(70_000), Named::Plain(1)],
+            ),
+            Wanted::Does(3, DETECTOR, b"", &[Named::Back(1)]),
+        ],
+    ),
+    (
+        b"CX 5 6 rec[-65536] 7 rec[-2] 8\nCZ 9 rec[-4294967296]\n\
+            DETECTOR rec[-3] rec[-999999999999999999] rec[-65536] rec[-4]",
+        &[
+            Wanted::Does(
+                1,
+                Operation::Applies(Gate::CX),
+                b"",
+                &[
+                    Named::Plain(5),
+                    Named::Plain(6),
+                    Named::Back(65_536),
+                    Named::Plain(7),
+                    Named::Back(2),
+                    Named::Plain(8),
+                ],
+            ),
+            Wanted::Does(
+                2,
+                Operation::Applies(Gate::CZ),
+                b"",
+                &[Named::Plain(9), Named::Back(4_294_967_296)],
+            ),
+            Wanted::Does(
+                3,
+                DETECTOR,
+                b"",
+                &[
+                    Named::Back(3),
+                    Named::Back(999_999_999_999_999_999),
+                    Named::Back(65_536),
+                    Named::Back(4),
+                ],
+            ),
         ],
     ),
 ];
