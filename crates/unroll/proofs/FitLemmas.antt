@@ -30,6 +30,12 @@ qubits_within i fits = λ k d lt. qubit_within _ (targets_within i fits k d lt)
 pub backs_within : (i : Instruction) → Fits i → All (λ t. back_of t ≤ 999_999_999_999_999_999) i.targets
 backs_within i fits = λ k d lt. back_within _ (targets_within i fits k d lt)
 
+-- the first target that is cut off, and those that follow
+pub first_small : (ts : List Target) (a : Target) (rest : List Target) → All IsSmall ts → ts ≡ a ∷ rest → IsSmall a × All IsSmall rest
+first_small ts a rest h e =
+    let all : All IsSmall (a ∷ rest) = subst (All IsSmall) e h in
+    (All-head IsSmall a rest all, All-tail IsSmall a rest all)
+
 -- the two targets of a pair that is cut off, and those that follow
 pub pair_small : (ts : List Target) (a : Target) (others : List Target) (b : Target) (rest : List Target) → All IsSmall ts → ts ≡ a ∷ others → others ≡ b ∷ rest → IsSmall a × IsSmall b × All IsSmall rest
 pair_small ts a others b rest h e f =

@@ -1,16 +1,52 @@
 -- The products of targets, one factor at a time.
-use Rattle.std.proofs.Common.{◌≡◌, ℕ, ◌+◌, ◌<◌, Bool, true, false, List, [], ◌∷◌, ◌++◌, length, map, Option, Some, refl, sym, ap, ◌∙◌, append_assoc, arith}
+use Rattle.std.proofs.Common.{◌≡◌, ℕ, ◌+◌, ◌<◌, Bool, true, false, List, [], ◌∷◌, ◌++◌, length, map, Option, Some, refl, sym, ap, ◌∙◌, subst, append_assoc, arith}
+use Rattle.std.specs.Prelude.{◌==◌, not}
+use Rattle.std.proofs.Math.Dec.{eqb-suc-zero}
+use Rattle.std.proofs.lemmas.List.Elements.{All-tail}
 use Rattle.std.specs.List.{onto_first}
 use Rattle.pauli_word.specs.Parity.{exclusive_or}
 use Rattle.programs.specs.declared.step.TextStep.{TextStep}
 use Rattle.programs.specs.declared.step.TextStep.TheVariants as step
 use Rattle.stim_parser.specs.declared.target.Target.{Target}
-use Rattle.stim_parser.specs.declared.target.Target.TheVariants.{Star}
+use Rattle.stim_parser.specs.declared.target.Target.TheVariants.{Plain, Inverted, Back, Pauli, Star}
 use Rattle.step_model.specs.declared.step.Term.{Term}
 use Rattle.unroll.specs.private.Made.{product_steps, recording}
 use Rattle.stim_parser.specs.Limits.{products_of}
+use Rattle.stim_parser.specs.private.Products.{is_joining}
 use Rattle.unroll.specs.Targets.{is_inverted, is_product_inverted, term_of}
-use Rattle.unroll.specs.private.Pushed.{FollowsFactor, carried_steps}
+use Rattle.unroll.specs.private.Pushed.{FollowsFactor, IsSmall, carried_steps}
+
+-- ---- what follows a factor, where that is a star
+
+star_ends : FollowsFactor (Star ∷ []) false []
+star_ends =
+    record {
+      products = λ factor. refl;
+      some = λ h. absurd cc;
+      fewer = omega arith;
+      small = λ h k d lt. absurd (omega (arith, lt));
+    }
+
+star_joins : (t : Target) (ts : List Target) → FollowsFactor (Star ∷ t ∷ ts) true (t ∷ ts)
+star_joins t ts =
+    record {
+      products = λ factor. refl;
+      some = λ h. omega arith;
+      fewer = omega arith;
+      small = λ h. All-tail IsSmall Star (t ∷ ts) h;
+    }
+
+pub star-follows : (star : Target) (behind after : List Target) (empty : Bool) → after ≡ star ∷ behind → is_joining star ≡ true → empty ≡ (length behind == 0) → FollowsFactor after (not empty) behind
+star-follows Star [] after empty cut joins none =
+    subst (λ (b : Bool). FollowsFactor after (not b) []) (sym none)
+    (subst (λ (ts : List Target). FollowsFactor ts false []) (sym cut) star_ends)
+star-follows Star (t ∷ ts) after empty cut joins none =
+    subst (λ (b : Bool). FollowsFactor after (not b) (t ∷ ts)) (sym (none ∙ eqb-suc-zero (length ts)))
+    (subst (λ (us : List Target). FollowsFactor us true (t ∷ ts)) (sym cut) (star_joins t ts))
+star-follows (Plain q) behind after empty cut joins none = absurd cc
+star-follows (Inverted q) behind after empty cut joins none = absurd cc
+star-follows (Back k) behind after empty cut joins none = absurd cc
+star-follows (Pauli inverted l q) behind after empty cut joins none = absurd cc
 
 -- ---- where there is a factor there is a product
 

@@ -1,6 +1,6 @@
 ghost use Rattle.std.specs.Prelude.{◌≡◌, ◌<◌, ◌≤◌, ◌^◌, ◌++◌, All, IfOk, OnOk};
 ghost use Rattle.stim_parser.specs.Circuits.{Fits};
-ghost use Rattle.stim_lexer.specs.Kept.{instruction_in};
+ghost use Rattle.stim_parser.specs.Kept.{instruction_in};
 ghost use Rattle.unroll.specs.private.Coordinates.{coordinates_of};
 ghost use Rattle.unroll.specs.private.Placing.{placing};
 ghost use Rattle.unroll.specs.Totals.{step_total};

@@ -1,4 +1,5 @@
 ghost use Rattle.std.specs.Prelude.{◌≡◌, ◌+◌, ◌-◌, ◌*◌, ◌<◌, ◌≤◌, ◌^◌, ◌++◌, All, None, drop, length, map, slice_range, IfOk, OnOk};
+ghost use Rattle.stim_parser.specs.Kept.{list_in};
 ghost use Rattle.unroll.specs.private.Detecting.{records_moved};
 ghost use Rattle.unroll.specs.private.Detectors.{detectors_of};
 ghost use Rattle.unroll.specs.TargetsMade.{operation_detectors, record_named, records_named};
@@ -13,7 +14,7 @@ use arrayvec::ArrayVec;
 use flat_lists::FlatLists;
 use std::alloc::{AllocError, Allocator};
 use stim_lexer::{LEVELS, OpenBlock};
-use stim_parser::{Circuit, Item, Operation, Target};
+use stim_parser::{Circuit, Item, Operation, Target, Targets};
 
 /// The record that a target names after this many records; the first record where it reaches back before that.
 pub(crate) fn record_named(records: u64, target: Target) -> u32
@@ -30,14 +31,16 @@ pub(crate) fn record_named(records: u64, target: Target) -> u32
 fn name_records<A: Allocator + Copy>(
     named: &mut Vec<u32, A>,
     records: u64,
-    targets: &[Target],
+    targets: Targets<'_>,
 ) -> Result<(), AllocError>
     requires { records < 2 ^ 32 }
-    ensures { OnOk result (named.new.items ≡ records_named records targets.now) }
+    ensures { OnOk result (named.new.items ≡ records_named records (list_in targets.entry)) }
 {
     named.clear();
-    for target in targets {
-        named.push(record_named(records, *target))?;
+    let mut rest = targets;
+    while let Some((target, after)) = rest.split_first() {
+        named.push(record_named(records, target))?;
+        rest = after;
     }
     Ok(())
 }
@@ -48,11 +51,11 @@ fn push_detector<A: Allocator + Copy>(
     detectors: &mut FlatLists<u32, A>,
     records: u64,
     operation: Operation,
-    targets: &[Target],
+    targets: Targets<'_>,
 ) -> Result<(), AllocError>
     requires { records < 2 ^ 32 }
     ensures { OnOk result
-        (detectors.new ≡ detectors.old ++ operation_detectors records operation targets.now) }
+        (detectors.new ≡ detectors.old ++ operation_detectors records operation (list_in targets.entry)) }
 {
     match operation {
         Operation::DetectorDeclaration => {

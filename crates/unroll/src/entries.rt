@@ -1,6 +1,6 @@
 ghost use Rattle.std.specs.Prelude.{◌≡◌, ◌<◌, ◌≤◌, [], ◌∷◌, All, length, map, slice_index_or, OnOk};
 ghost use Rattle.step_model.specs.Chances.{no_chance};
-ghost use Rattle.stim_lexer.specs.Kept.{instruction_in};
+ghost use Rattle.stim_parser.specs.Kept.{instruction_in, list_in};
 ghost use Rattle.programs.specs.Entries.{entry_from};
 ghost use Rattle.unroll.specs.private.Kept.{entries_of as entries_made, flip_entries};
 ghost use Rattle.unroll.specs.Targets.{pauli_letter, term_at, term_of};
@@ -13,7 +13,7 @@ use pauli_word::Letter;
 use programs::EntryBuilder;
 use std::alloc::{AllocError, Allocator};
 use step_model::Term;
-use stim_parser::{Instruction, Operation, Target, has_argument};
+use stim_parser::{Instruction, Operation, Target, Targets, has_argument};
 
 /// The letter of a target.
 pub(crate) fn pauli_letter(target: Target) -> Letter
@@ -39,14 +39,16 @@ pub(crate) fn term_at(letter: Letter, target: Target) -> Term
 /// Puts the letters of targets, at their qubits, into `terms`, in place of what it held.
 fn name_terms<A: Allocator + Copy>(
     terms: &mut Vec<Term, A>,
-    targets: &[Target],
+    targets: Targets<'_>,
 ) -> Result<(), AllocError>
-    requires { All IsSmall targets.now }
-    ensures { OnOk result (terms.new.items ≡ map term_of targets.now) }
+    requires { All IsSmall (list_in targets) }
+    ensures { OnOk result (terms.new.items ≡ map term_of (list_in targets.entry)) }
 {
     terms.clear();
-    for target in targets {
-        terms.push(term_at(pauli_letter(*target), *target))?;
+    let mut rest = targets;
+    while let Some(parts) = rest.split_first() {
+        terms.push(term_at(pauli_letter(parts.0), parts.0))?;
+        rest = parts.1;
     }
     Ok(())
 }
@@ -56,9 +58,9 @@ fn push_entries<A: Allocator + Copy>(
     entries: &mut EntryBuilder<'_, A>,
     number: usize,
     letter: Letter,
-    targets: &[Target],
+    targets: Targets<'_>,
 ) -> Result<(), AllocError>
-    requires small { All IsSmall targets.now }
+    requires small { All IsSmall (list_in targets) }
     requires there { number < length entries.old.chances }
     ensures { OnOk result
         (entries.new
@@ -66,11 +68,13 @@ fn push_entries<A: Allocator + Copy>(
         (map
         (λ target. entry_from (slice_index_or entries.old.chances number no_chance)
         (term_at letter target ∷ []))
-        targets.now)
+        (list_in targets.entry))
         entries.old) }
 {
-    for target in targets {
-        entries.push(number, &[term_at(letter, *target)])?;
+    let mut rest = targets;
+    while let Some((target, after)) = rest.split_first() {
+        entries.push(number, &[term_at(letter, target)])?;
+        rest = after;
     }
     Ok(())
 }
@@ -100,7 +104,7 @@ pub(crate) fn push_instruction<A: Allocator + Copy>(
     terms: &mut Vec<Term, A>,
     instruction: Instruction<'_, '_>,
 ) -> Result<(), AllocError>
-    requires small { All IsSmall instruction.targets.now }
+    requires small { All IsSmall (list_in instruction.targets) }
     requires number { IsInstructionNumber entries.old.chances (instruction_in instruction)
         instruction.mark }
     ensures { OnOk result

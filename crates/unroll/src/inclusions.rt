@@ -1,5 +1,5 @@
 ghost use Rattle.std.specs.Prelude.{◌≡◌, ◌*◌, ◌<◌, ◌≤◌, ◌^◌, ◌++◌, [], All, None, length, replicate, slice_range, IfOk, OnOk};
-ghost use Rattle.stim_lexer.specs.Kept.{instruction_in};
+ghost use Rattle.stim_parser.specs.Kept.{instruction_in, list_in};
 ghost use Rattle.unroll.specs.TargetsMade.{record_named, records_named};
 ghost use Rattle.unroll.specs.Totals.{observable_total};
 ghost use Rattle.unroll.specs.private.Including.{CanMove, HaveTurned, IsOpen, notes_of, records_in, with_closed, with_included, with_more, with_moved, with_noted, with_turned};
@@ -15,7 +15,7 @@ use arrayvec::ArrayVec;
 use flat_lists::ListRooms;
 use std::alloc::{AllocError, Allocator};
 use stim_lexer::{LEVELS, OpenBlock};
-use stim_parser::{Circuit, Instruction, Item, Operation, Target, first_number};
+use stim_parser::{Circuit, Instruction, Item, Operation, Targets, first_number};
 
 /// An observable to which an instruction of the text adds, and how many records it had before that.
 #[derive(Clone, Copy)]
@@ -29,15 +29,17 @@ fn include_records<A: Allocator + Copy>(
     lists: &mut ListRooms<u32, A>,
     observable: usize,
     records: u64,
-    targets: &[Target],
+    targets: Targets<'_>,
 ) -> Result<(), AllocError>
     requires there { observable < length lists.old }
     requires few { records < 2 ^ 32 }
     ensures { OnOk result
-        (lists.new ≡ with_more observable (records_named records targets.now) lists.old) }
+        (lists.new ≡ with_more observable (records_named records (list_in targets.entry)) lists.old) }
 {
-    for target in targets {
-        lists.push(observable, record_named(records, *target))?;
+    let mut rest = targets;
+    while let Some((target, after)) = rest.split_first() {
+        lists.push(observable, record_named(records, target))?;
+        rest = after;
     }
     Ok(())
 }

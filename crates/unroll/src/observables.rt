@@ -1,5 +1,5 @@
 ghost use Rattle.std.specs.Prelude.{◌≡◌, ◌<◌, ◌^◌, None, nat_lt, IfOk};
-ghost use Rattle.stim_lexer.specs.Kept.{instruction_in};
+ghost use Rattle.stim_parser.specs.Kept.{instruction_in};
 ghost use Rattle.unroll.specs.private.Including.{named_to};
 ghost use Rattle.unroll.specs.private.Observables.{observables_of};
 ghost use Rattle.unroll.specs.private.Counted.{first_far_from};

@@ -1,4 +1,5 @@
 ghost use Rattle.std.specs.Prelude.{◌≡◌, ◌++◌, All, map, OnOk};
+ghost use Rattle.stim_parser.specs.Kept.{list_in};
 ghost use Rattle.unroll.specs.private.Kept.{operation_products};
 ghost use Rattle.stim_parser.specs.Limits.{products_of};
 ghost use Rattle.unroll.specs.Targets.{term_of};
@@ -9,22 +10,22 @@ use crate::targets::end_of_factor;
 use flat_lists::FlatLists;
 use std::alloc::{AllocError, Allocator};
 use step_model::Term;
-use stim_parser::{Operation, Target};
+use stim_parser::{Operation, Targets};
 
 /// Appends the products of targets. The letters of each are gathered in `terms`.
 fn push_each_product<A: Allocator + Copy>(
     products: &mut FlatLists<Term, A>,
     terms: &mut Vec<Term, A>,
-    targets: &[Target],
+    targets: Targets<'_>,
 ) -> Result<(), AllocError>
-    requires { All IsSmall targets.now }
+    requires { All IsSmall (list_in targets) }
     ensures { OnOk result
-        (products.new ≡ products.old ++ map (map term_of) (products_of targets.now)) }
+        (products.new ≡ products.old ++ map (map term_of) (products_of (list_in targets.entry))) }
 {
     terms.clear();
     let mut rest = targets;
     while let Some(parts) = rest.split_first() {
-        terms.push(term_at(pauli_letter(*parts.0), *parts.0))?;
+        terms.push(term_at(pauli_letter(parts.0), parts.0))?;
         let (joined, behind) = end_of_factor(parts.1);
         rest = behind;
         if joined {
@@ -41,11 +42,11 @@ pub(crate) fn push_kept_products<A: Allocator + Copy>(
     products: &mut FlatLists<Term, A>,
     terms: &mut Vec<Term, A>,
     operation: Operation,
-    targets: &[Target],
+    targets: Targets<'_>,
 ) -> Result<(), AllocError>
-    requires small { All IsSmall targets.now }
+    requires small { All IsSmall (list_in targets) }
     ensures { OnOk result
-        (products.new ≡ products.old ++ operation_products operation targets.now) }
+        (products.new ≡ products.old ++ operation_products operation (list_in targets.entry)) }
 {
     match operation {
         Operation::ProductMeasurement => push_each_product(products, terms, targets),

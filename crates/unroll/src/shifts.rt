@@ -1,7 +1,7 @@
 ghost use Rattle.std.specs.Prelude.{◌≡◌, ◌<◌, ◌^◌, [], All, unwrap_or};
 ghost use Rattle.stim_parser.specs.Circuits.{Fits};
 ghost use Rattle.stim_parser.specs.Coordinates.{coordinates_in};
-ghost use Rattle.stim_lexer.specs.Kept.{instruction_in};
+ghost use Rattle.stim_parser.specs.Kept.{instruction_in};
 ghost use Rattle.unroll.specs.private.Placing.{downs, placing, raised_by, steps_of, turned_by, turned_on, ups};
 
 use crate::offsets::{AXES, Offset, downs, raise, turn, ups};

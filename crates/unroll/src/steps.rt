@@ -1,4 +1,5 @@
 ghost use Rattle.std.specs.Prelude.{◌≡◌, ◌+◌, ◌<◌, ◌^◌, ◌≤◌, All, length, map, OnOk};
+ghost use Rattle.stim_parser.specs.Kept.{list_in};
 ghost use Rattle.pauli_word.specs.Parity.{exclusive_or};
 ghost use Rattle.unroll.specs.private.Made.{fault_steps, operation_steps, pair_step, pair_steps, product_steps, record_back};
 ghost use Rattle.unroll.specs.StepsMade.{fed_letter};
@@ -12,7 +13,7 @@ use gate_table::Gate;
 use pauli_word::Letter;
 use programs::{CircuitBuilder, Recording, TextStep};
 use std::alloc::{AllocError, Allocator};
-use stim_parser::{Operation, Target};
+use stim_parser::{Operation, Target, Targets};
 
 /// What an operation does to each of its targets by itself.
 #[derive(Clone, Copy)]
@@ -140,13 +141,15 @@ fn pair_step(gate: Gate, a: Target, b: Target) -> TextStep
 fn push_singles<A: Allocator + Copy>(
     builder: &mut CircuitBuilder<A>,
     single: Single,
-    targets: &[Target],
+    targets: Targets<'_>,
 ) -> Result<(), AllocError>
-    requires { All IsSmall targets.now }
-    ensures { OnOk result (Adds (map (single_step single) targets.now) builder.old builder.new) }
+    requires { All IsSmall (list_in targets) }
+    ensures { OnOk result (Adds (map (single_step single) (list_in targets.entry)) builder.old builder.new) }
 {
-    for target in targets {
-        builder.push(single_step(single, *target))?;
+    let mut rest = targets;
+    while let Some((target, after)) = rest.split_first() {
+        builder.push(single_step(single, target))?;
+        rest = after;
     }
     Ok(())
 }
@@ -154,18 +157,18 @@ fn push_singles<A: Allocator + Copy>(
 fn push_pairs<A: Allocator + Copy>(
     builder: &mut CircuitBuilder<A>,
     gate: Gate,
-    targets: &[Target],
+    targets: Targets<'_>,
 ) -> Result<(), AllocError>
-    requires { All IsSmall targets.now }
-    ensures { OnOk result (Adds (pair_steps gate targets.now) builder.old builder.new) }
+    requires { All IsSmall (list_in targets) }
+    ensures { OnOk result (Adds (pair_steps gate (list_in targets.entry)) builder.old builder.new) }
 {
     let mut rest = targets;
-    while let Some(first) = rest.split_first() {
-        let Some(second) = first.1.split_first() else {
+    while let Some((first, others)) = rest.split_first() {
+        let Some((second, after)) = others.split_first() else {
             return Ok(());
         };
-        builder.push(pair_step(gate, *first.0, *second.0))?;
-        rest = second.1;
+        builder.push(pair_step(gate, first, second))?;
+        rest = after;
     }
     Ok(())
 }
@@ -174,13 +177,13 @@ fn push_pairs<A: Allocator + Copy>(
 fn push_faults<A: Allocator + Copy>(
     builder: &mut CircuitBuilder<A>,
     first: u32,
-    targets: &[Target],
+    targets: Targets<'_>,
 ) -> Result<(), AllocError>
-    requires { first + length targets.now < 2 ^ 32 }
-    ensures { OnOk result (Adds (fault_steps first targets.now) builder.old builder.new) }
+    requires { first + length (list_in targets) < 2 ^ 32 }
+    ensures { OnOk result (Adds (fault_steps first (list_in targets.entry)) builder.old builder.new) }
 {
     let mut entry = first;
-    for _ in targets {
+    for _ in 0..targets.len() {
         builder.push(TextStep::Fault(entry))?;
         entry += 1;
     }
@@ -193,18 +196,18 @@ fn push_products<A: Allocator + Copy>(
     builder: &mut CircuitBuilder<A>,
     flip: Option<u32>,
     first: u32,
-    targets: &[Target],
+    targets: Targets<'_>,
 ) -> Result<(), AllocError>
-    requires { first + length (products_of targets.now) < 2 ^ 32 }
+    requires { first + length (products_of (list_in targets)) < 2 ^ 32 }
     ensures { OnOk result
-        (Adds (product_steps flip first (products_of targets.now)) builder.old builder.new) }
+        (Adds (product_steps flip first (products_of (list_in targets.entry))) builder.old builder.new) }
 {
     let mut product = first;
     let mut inverted = false;
     let mut rest = targets;
-    while let Some(parts) = rest.split_first() {
-        inverted = exclusive_or(inverted, is_inverted(*parts.0));
-        let (joined, behind) = end_of_factor(parts.1);
+    while let Some((factor, after)) = rest.split_first() {
+        inverted = exclusive_or(inverted, is_inverted(factor));
+        let (joined, behind) = end_of_factor(after);
         rest = behind;
         if joined {
             continue;
@@ -226,13 +229,13 @@ pub(crate) fn push_steps<A: Allocator + Copy>(
     entries: u32,
     products: u32,
     flip: Option<u32>,
-    targets: &[Target],
+    targets: Targets<'_>,
 ) -> Result<(), AllocError>
-    requires small { All IsSmall targets.now }
-    requires entries { entries + target_count operation targets.now < 2 ^ 32 }
-    requires products { products + target_count operation targets.now < 2 ^ 32 }
+    requires small { All IsSmall (list_in targets) }
+    requires entries { entries + target_count operation (list_in targets) < 2 ^ 32 }
+    requires products { products + target_count operation (list_in targets) < 2 ^ 32 }
     ensures { OnOk result
-        (Adds (operation_steps operation entries products flip targets.now) builder.old
+        (Adds (operation_steps operation entries products flip (list_in targets.entry)) builder.old
         builder.new) }
 {
     match operation {

@@ -1,4 +1,5 @@
 ghost use Rattle.std.specs.Prelude.{◌≡◌, ◌≤◌, All, length};
+ghost use Rattle.stim_parser.specs.Kept.{list_in};
 ghost use Rattle.stim_parser.specs.private.Products.{is_joining};
 ghost use Rattle.stim_parser.specs.Limits.{products_of, qubit_of};
 ghost use Rattle.unroll.specs.private.Pushed.{FollowsFactor};
@@ -6,7 +7,7 @@ ghost use Rattle.unroll.specs.Refusals.{is_before_start, reaches_far};
 ghost use Rattle.unroll.specs.Totals.{qubits_to, target_count};
 ghost use Rattle.unroll.specs.private.MadeTotals.{qubits_named};
 
-use stim_parser::{Operation, Target};
+use stim_parser::{Operation, Target, Targets};
 
 /// One more than the qubit that a target names, and 0 where it names none.
 #[inline(always)]
@@ -52,16 +53,18 @@ pub(crate) struct Reach {
 }
 
 /// How far targets reach after this many records.
-pub(crate) fn reach_of(records: u64, targets: &[Target]) -> Reach
-    requires { All (λ target. qubits_to target ≤ 4096) targets.now }
-    ensures qubits { result.qubits ≡ qubits_named targets.now }
-    ensures far { result.is_far ≡ reaches_far records targets.now }
+pub(crate) fn reach_of(records: u64, targets: Targets<'_>) -> Reach
+    requires { All (λ target. qubits_to target ≤ 4096) (list_in targets) }
+    ensures qubits { result.qubits ≡ qubits_named (list_in targets.entry) }
+    ensures far { result.is_far ≡ reaches_far records (list_in targets.entry) }
 {
     let mut qubits: u32 = 0;
     let mut far = false;
-    for target in targets {
-        qubits = qubits.max(qubits_to(*target));
-        far = far || is_far(records, *target);
+    let mut rest = targets;
+    while let Some(parts) = rest.split_first() {
+        qubits = qubits.max(qubits_to(parts.0));
+        far = far || is_far(records, parts.0);
+        rest = parts.1;
     }
     Reach {
         qubits,
@@ -69,6 +72,7 @@ pub(crate) fn reach_of(records: u64, targets: &[Target]) -> Reach
     }
 }
 
+#[inline(always)]
 fn is_star(target: Target) -> bool
     ensures { result ≡ is_joining target }
 {
@@ -79,30 +83,31 @@ fn is_star(target: Target) -> bool
 }
 
 /// Whether a star joins a factor to the next one, and what follows the factor and the star.
-pub(crate) fn end_of_factor(after: &[Target]) -> (bool, &[Target])
-    ensures { FollowsFactor after.now result.0 result.1.now }
+#[inline(always)]
+pub(crate) fn end_of_factor(after: Targets<'_>) -> (bool, Targets<'_>)
+    ensures { FollowsFactor (list_in after.entry) result.0 (list_in result.1) }
 {
-    match after {
-        [star, behind @ ..] => {
-            if is_star(*star) {
+    match after.split_first() {
+        Some((star, behind)) => {
+            if is_star(star) {
                 (!behind.is_empty(), behind)
             } else {
                 (false, after)
             }
         }
-        [] => (false, after),
+        None => (false, after),
     }
 }
 
 /// How many products targets make.
-fn product_count(targets: &[Target]) -> usize
-    ensures value { result ≡ length (products_of targets.now) }
-    ensures few { result ≤ length targets.now }
+fn product_count(targets: Targets<'_>) -> usize
+    ensures value { result ≡ length (products_of (list_in targets.entry)) }
+    ensures few { result ≤ length (list_in targets.entry) }
 {
     let mut count = 0;
     let mut rest = targets;
-    while let Some(parts) = rest.split_first() {
-        let (joined, behind) = end_of_factor(parts.1);
+    while let Some((_, after)) = rest.split_first() {
+        let (joined, behind) = end_of_factor(after);
         rest = behind;
         if joined {
             continue;
@@ -114,9 +119,9 @@ fn product_count(targets: &[Target]) -> usize
 
 /// How many targets an operation has in these, a product being one.
 #[inline(always)]
-pub(crate) fn target_count(operation: Operation, targets: &[Target]) -> usize
-    ensures value { result ≡ target_count operation targets.now }
-    ensures few { result ≤ length targets.now }
+pub(crate) fn target_count(operation: Operation, targets: Targets<'_>) -> usize
+    ensures value { result ≡ target_count operation (list_in targets.entry) }
+    ensures few { result ≤ length (list_in targets.entry) }
 {
     match operation {
         Operation::ProductMeasurement => product_count(targets),

@@ -1,7 +1,8 @@
 ghost use Rattle.std.specs.Prelude.{◌≡◌, ◌<◌, ◌^◌, [], map, None, IfOk, OnOk};
 ghost use Rattle.step_model.specs.Chances.{chance_of};
 ghost use Rattle.programs.specs.Trees.{IsCircuit, tree_of, unrolled};
-ghost use Rattle.stim_lexer.specs.Kept.{instruction_in, item_in, mark_in};
+ghost use Rattle.stim_lexer.specs.Kept.{mark_in};
+ghost use Rattle.stim_parser.specs.Kept.{instruction_in, item_in};
 ghost use Rattle.unroll.specs.private.Drafts.{CanWrite, HasRoom, Writes, draft_of, with_instruction};
 ghost use Rattle.unroll.specs.private.Kept.{kept_entries, kept_products};
 ghost use Rattle.unroll.specs.StepsMade.{flip_of};

@@ -2,7 +2,7 @@
 use Rattle.std.proofs.Common.{◌≡◌, ◌+◌, ◌++◌, [], ◌∷◌, ℕ, ℤ, List, drop, length, refl, sym, ap, ◌∙◌, subst, arith}
 use Rattle.std.proofs.lemmas.List.{nil_from_length}
 use Rattle.flat_lists.specs.Turns.{later, moved_by}
-use Rattle.stim_lexer.specs.Kept.{instruction_in}
+use Rattle.stim_parser.specs.Kept.{instruction_in}
 use Rattle.unroll.specs.private.Coordinates.{coordinates_of}
 use Rattle.unroll.specs.private.Placing.{downs, placing, raised_by, steps_of, turned_by, turned_on, ups}
 use Rattle.unroll.proofs.PlacingLoops.{AreFit, HasPopped, IsUpTo, limit, placing-begins, placing-does, placing-done, placing-ends, placing-ends_fit, placing-first, placing-fits, placing-room, placing-same, placing-some, placing-up-to, small-counts, with_turns}

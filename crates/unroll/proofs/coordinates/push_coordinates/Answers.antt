@@ -1,7 +1,7 @@
 use Rattle.std.proofs.Common.{◌≡◌, List, ℤ, ◌++◌, ◌∷◌, [], sym, ap, ◌∙◌, subst}
 use Rattle.std.specs.Prelude.{OnOk}
 use Rattle.stim_parser.specs.declared.operation.Operation.{Operation}
-use Rattle.stim_lexer.specs.Kept.{instruction_in}
+use Rattle.stim_parser.specs.Kept.{instruction_in}
 use Rattle.unroll.specs.private.Placing.{moved_to, operation_places}
 use Rattle.unroll.proofs.StatedLemmas.{detector-read, detector-small}
 use Rattle.unroll.proofs.coordinates.push_coordinates.Goals as goal

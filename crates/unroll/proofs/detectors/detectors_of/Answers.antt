@@ -2,7 +2,7 @@
 use Rattle.std.proofs.Common.{◌+◌, ◌*◌, ◌<◌, ◌++◌, [], ◌∷◌, ℕ, length, refl, sym, ap, ◌∙◌, arith}
 use Rattle.std.specs.Prelude.{◌^◌}
 use Rattle.std.proofs.lemmas.List.{nil_from_length}
-use Rattle.stim_lexer.specs.Kept.{instruction_in}
+use Rattle.stim_parser.specs.Kept.{instruction_in}
 use Rattle.unroll.specs.private.Detecting.{detecting, records_moved}
 use Rattle.unroll.specs.private.Detectors.{detectors_of}
 use Rattle.unroll.specs.TargetsMade.{operation_detectors}

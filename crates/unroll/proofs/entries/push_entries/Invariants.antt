@@ -1,10 +1,20 @@
-use Rattle.std.proofs.Common.{◌≡◌, ◌∷◌, [], map, take, get_or}
+use Rattle.std.proofs.Common.{◌≡◌, ◌++◌, ◌∷◌, [], get_or, length, map}
+use Rattle.std.specs.Prelude.{All}
 use Rattle.step_model.specs.Chances.{no_chance}
 use Rattle.programs.specs.Entries.{entry_from}
+use Rattle.stim_parser.specs.Kept.{list_in}
 use Rattle.unroll.specs.Targets.{term_at}
-use Rattle.unroll.specs.private.Numbered.{with_entries}
+use Rattle.unroll.specs.private.Pushed.{IsSmall}
 use Rattle.unroll.proofs.entries.push_entries.Given as goal
 
 abbrev pub invariant-loop-target : goal.invariant-loop-target
-invariant-loop-target g l =
-    l.entries ≡ with_entries (map (λ target. entry_from (get_or l.fn.entries.chances l.number no_chance) (term_at l.letter target ∷ [])) (take l.target-index l.targets)) l.fn.entries
+invariant-loop-target g l = record {
+  chances : l.entries.chances ≡ l.fn.entries.chances;
+  kept :
+    l.entries.kept ++ map (λ target. entry_from (get_or l.fn.entries.chances l.number no_chance) (term_at l.letter target ∷ [])) (list_in l.rest)
+    ≡ l.fn.entries.kept ++ map (λ target. entry_from (get_or l.fn.entries.chances l.number no_chance) (term_at l.letter target ∷ [])) (list_in l.targets);
+  small : All IsSmall (list_in l.rest);
+}
+
+abbrev pub decreases-loop-target : goal.decreases-loop-target
+decreases-loop-target g l = length (list_in l.rest)

@@ -2,7 +2,7 @@
 use Rattle.std.proofs.Common.{◌≡◌, ◌+◌, ◌-◌, ◌*◌, ◌<◌, ◌≤◌, ◌++◌, [], ◌∷◌, ℕ, List, length, take, drop, replicate, refl, ap, ◌∙◌, subst, sym, arith}
 use Rattle.std.specs.Prelude.{◌^◌, All}
 use Rattle.std.proofs.lemmas.List.{length-map, length-replicate}
-use Rattle.stim_lexer.specs.Kept.{instruction_in}
+use Rattle.stim_parser.specs.Kept.{instruction_in}
 use Rattle.unroll.specs.declared.inclusions.Note.{Note}
 use Rattle.unroll.specs.Totals.{observable_total}
 use Rattle.unroll.specs.private.Including.{notes_of, with_included}

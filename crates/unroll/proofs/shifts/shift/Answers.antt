@@ -1,6 +1,6 @@
 use Rattle.std.proofs.Common.{◌<◌, ℕ, List, sym, ap, ap₂, ◌∙◌, subst}
 use Rattle.std.specs.Prelude.{All}
-use Rattle.stim_lexer.specs.Kept.{instruction_in}
+use Rattle.stim_parser.specs.Kept.{instruction_in}
 use Rattle.unroll.specs.private.Placing.{raised_by}
 use Rattle.unroll.proofs.StatedLemmas.{shift-downs, shift-ups, unshifted}
 use Rattle.unroll.proofs.shifts.shift.Goals as goal

@@ -2,7 +2,7 @@ use Rattle.std.proofs.Common.{◌≡◌, ◌+◌, ◌++◌, ◌∷◌, [], ℕ, 
 use Rattle.std.specs.Option.{option_to_list}
 use Rattle.stim_parser.specs.Judged.{items_of}
 use Rattle.stim_lexer.specs.Trees.{BlockEnd}
-use Rattle.stim_lexer.specs.Kept.{instruction_in}
+use Rattle.stim_parser.specs.Kept.{instruction_in}
 use Rattle.unroll.specs.private.Including.{with_counted}
 use Rattle.unroll.proofs.PassLemmas.{can_stand, whole-at}
 use Rattle.unroll.proofs.SizeLemmas.{sizing-begins, sizing-does, sizing-done, sizing-ends, sizing-first, sizing-room, sizing-same}

@@ -1,12 +1,13 @@
 use Rattle.std.proofs.Common.{◌≡◌, ◌+◌, ◌≤◌, length}
+use Rattle.stim_parser.specs.Kept.{list_in}
 use Rattle.stim_parser.specs.Limits.{products_of}
 use Rattle.unroll.proofs.targets.product_count.Given as goal
 
-abbrev pub invariant-loop-parts : goal.invariant-loop-parts
-invariant-loop-parts l = record {
-  value : l.count + length (products_of l.rest) ≡ length (products_of l.targets);
-  few : l.count + length l.rest ≤ length l.targets;
+abbrev pub invariant-loop-after : goal.invariant-loop-after
+invariant-loop-after l = record {
+  value : l.count + length (products_of (list_in l.rest)) ≡ length (products_of (list_in l.targets));
+  few : l.count + length (list_in l.rest) ≤ length (list_in l.targets);
 }
 
-abbrev pub decreases-loop-parts : goal.decreases-loop-parts
-decreases-loop-parts l = length l.rest
+abbrev pub decreases-loop-after : goal.decreases-loop-after
+decreases-loop-after l = length (list_in l.rest)

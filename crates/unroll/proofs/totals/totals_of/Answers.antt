@@ -1,5 +1,5 @@
 use Rattle.std.proofs.Common.{refl, subst, sym, arith}
-use Rattle.stim_lexer.specs.Kept.{item_in}
+use Rattle.stim_parser.specs.Kept.{item_in}
 use Rattle.unroll.specs.private.Summed.{AreTotals, nothing_summed, summing}
 use Rattle.unroll.proofs.PassLemmas.{passing-first, passing-can, passing-next, passing-done}
 use Rattle.unroll.proofs.SumLemmas.{summed}

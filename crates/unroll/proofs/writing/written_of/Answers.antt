@@ -1,7 +1,8 @@
 use Rattle.std.proofs.Common.{List, map, length, ap, subst, refl, sym, ◌∙◌, arith}
 use Rattle.std.specs.Prelude.{slice_get}
 use Rattle.step_model.specs.Chances.{Chance, chance_of}
-use Rattle.stim_lexer.specs.Kept.{item_in, mark_in}
+use Rattle.stim_lexer.specs.Kept.{mark_in}
+use Rattle.stim_parser.specs.Kept.{item_in}
 use Rattle.stim_parser.specs.Texts.{Item}
 use Rattle.unroll.specs.private.Drafts.{Draft, draft_of}
 use Rattle.unroll.specs.private.Numbered.{IsItemNumber}

@@ -1,7 +1,7 @@
 use Rattle.std.proofs.Common.{subst}
 use Rattle.arrayvec.specs.ArrayVec.{array_vec_len}
 use Rattle.stim_lexer.specs.declared.items.Item.{Item}
-use Rattle.stim_lexer.specs.Kept.{item_in}
+use Rattle.stim_parser.specs.Kept.{item_in}
 use Rattle.stim_parser.specs.declared.operation.Operation.{Operation}
 use Rattle.stim_parser.specs.declared.target.Target.{Target}
 use Rattle.unroll.specs.private.Passes.{CanStand}

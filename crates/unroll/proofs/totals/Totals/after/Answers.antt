@@ -1,5 +1,5 @@
 use Rattle.std.proofs.Common.{◌≡◌, ◌∙◌}
-use Rattle.stim_lexer.specs.Kept.{instruction_in}
+use Rattle.stim_parser.specs.Kept.{instruction_in}
 use Rattle.stim_parser.proofs.NumberArguments.{names_number}
 use Rattle.unroll.specs.Totals.{observables_to}
 use Rattle.unroll.proofs.FitLemmas.{qubits_within}
