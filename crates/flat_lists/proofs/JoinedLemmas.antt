@@ -1,5 +1,5 @@
 -- Lists in a short form or as they are: how many there are, which is at an index, and one more at the end.
-use Rattle.std.proofs.Common.{◌≡◌, ℕ, ◌<◌, zero, suc, List, [], ◌∷◌, ◌++◌, length, get_or, refl, ap, arith}
+use Rattle.std.proofs.Common.{◌≡◌, ℕ, ◌<◌, ◌==◌, false, zero, suc, List, [], ◌∷◌, ◌++◌, length, get_or, refl, ap, arith}
 use Rattle.std.proofs.Math.Nat.{suc_inj}
 use Rattle.flat_lists.specs.private.Joined.{either, joined}
 
@@ -22,3 +22,12 @@ joined-push long [] [] s t h = refl
 joined-push long [] (other ∷ ts) s t h = cc
 joined-push long (other ∷ ss) [] s t h = cc
 joined-push long (other ∷ ss) (more ∷ ts) s t h = ap (λ rest. either long other more ∷ rest) (joined-push long ss ts s t (suc_inj h))
+
+-- a list that is empty, or isn't
+pub none-of : {T : Type 0} (items : List T) → length items ≡ 0 → items ≡ []
+none-of [] h = refl
+none-of (t ∷ items) h = cc
+
+pub either-items : {S T : Type 0} (long : S → T) (short : List S) (items : List T) → (length items == 0) ≡ false → either long short items ≡ items
+either-items long short [] h = cc
+either-items long short (t ∷ items) h = refl
