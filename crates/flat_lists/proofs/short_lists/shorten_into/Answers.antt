@@ -15,14 +15,14 @@ loop-item-preserved g c =
     let there : k < length list = omega (arith, c.loop-item-test.true, c.loop-item.auto.item-index-end) in
     let next_is : suc k ≡ k + 1 = omega arith in
     let more : c.push_reserved.new.self.items ≡ c.args.items.now.items ++ (short ++ next ∷ []) =
-      c.push_reserved.ensures.items
-      ∙ ap (λ (xs : List g.row.S.Denot). xs ++ next ∷ []) before.so_far.more
-      ∙ append_assoc c.args.items.now.items short (next ∷ []) in
+    c.push_reserved.ensures.items
+    ∙ ap (λ (xs : List g.row.S.Denot). xs ++ next ∷ []) before.so_far.more
+    ∙ append_assoc c.args.items.now.items short (next ∷ []) in
     let same : map long (short ++ next ∷ []) ≡ take (k + 1) list =
-      map-append long short (next ∷ [])
-      ∙ ap₂ (λ (xs : List g.row.T.Denot) (x : g.row.T.Denot). xs ++ x ∷ []) before.so_far.same (c.in-Some.ensures ∙ c.item-item.is)
-      ∙ sym (take-suc list k c.item-item.result there)
-      ∙ ap (λ n. take n list) next_is in
+    map-append long short (next ∷ [])
+    ∙ ap₂ (λ (xs : List g.row.T.Denot) (x : g.row.T.Denot). xs ++ x ∷ []) before.so_far.same (c.in-Some.ensures ∙ c.item-item.is)
+    ∙ sym (take-suc list k c.item-item.result there)
+    ∙ ap (λ n. take n list) next_is in
     record {
       so_far = record { short = short ++ next ∷ []; more = more; same = same };
       start = before.start;

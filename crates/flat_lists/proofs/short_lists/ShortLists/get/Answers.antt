@@ -1,5 +1,4 @@
-use Rattle.std.proofs.Common.{◌≡◌, ◌<◌, eqb-true, length, true, false, get_or, List, [], ◌∷◌, refl, sym, ap, ap₂, ◌∙◌, arith}
-
+use Rattle.std.proofs.Common.{◌≡◌, ◌<◌, eqb-true, length, get_or, [], refl, sym, ap, ◌∙◌, arith}
 use Rattle.flat_lists.proofs.JoinedLemmas.{either-items, get_or-joined, length-joined, none-of}
 use Rattle.flat_lists.proofs.short_lists.ShortLists.get.Goals as goal
 
