@@ -84,8 +84,8 @@ cut-pop {X} start (end ∷ ends) items (suc last) h below =
     let range = piece_in_range end ends (length items) last h.1 there in
     let kept : end ≤ length (take n items) = simp length-take (omega (arith, first_starts end ends (length items) last h.1 there, range.0, range.1)) in
     let same : slice_range items start end ≡ slice_range (take n items) start end =
-      ap (λ (xs : List X). slice_range xs start end) (sym (take-append-drop n items))
-      ∙ slice_range-append_left (take n items) (drop n items) start end h.0 kept in
+    ap (λ (xs : List X). slice_range xs start end) (sym (take-append-drop n items))
+    ∙ slice_range-append_left (take n items) (drop n items) start end h.0 kept in
     rw (← same) (ap (λ rest. slice_range items start end ∷ rest) (cut-pop end ends items last h.1 there))
 
 -- what is known of the piece at an index, once its start and its end are read

@@ -163,7 +163,7 @@ fn push_short<T: Copy, S: Short<T>, A: Allocator + Copy>(
     ensures ok { IfOk result (HasShortened S.long lists.old lists.new list.now) }
     ensures err { OnErr result (lists.new ≡ lists.old) }
 {
-    let end = end_after(lists.items.len(), list.len())?;
+    end_after(lists.items.len(), list.len())?;
 
     // Room for all first, so that nothing changes where memory runs out.
     lists.ends.reserve(1)?;

@@ -5,5 +5,6 @@ mod lists;
 mod plain;
 mod quiet;
 mod runs;
+mod short_lists;
 mod texts;
 mod values;

@@ -1,6 +1,6 @@
 -- Lists that are kept in a short form, or as they are.
 -- (This project's own.)
-use Rattle.std.specs.Prelude.{◌≡◌, ◌<◌, Bool, true, false, List, [], ◌∷◌, ◌++◌, length, map}
+use Rattle.std.specs.Prelude.{◌≡◌, ◌<◌, ◌≤◌, Bool, true, false, List, [], ◌∷◌, ◌++◌, length, map}
 
 -- a list, from its short form and from what is kept of it where it has none
 abbrev pub either : {S T : Type 0} → (S → T) → List S → List T → List T
@@ -21,6 +21,7 @@ AreShort long short list false = 0 < length list
 pub record IsShortened {S T : Type 0} (long : S → T) (old new : List S) (list : List T) (answer : Bool) : Type 0 where
   pub short : List S
   pub more : new ≡ old ++ short
+  pub few : length short ≤ length list
   pub are : AreShort long short list answer
 
 -- they were appended as one list

@@ -4,6 +4,7 @@ ghost use Rattle.std.specs.Prelude.{◌≡◌, ◌<◌, ◌≤◌, [], length, I
 
 use super::growths::{Call, Memory, Ration, sweep, told};
 use super::lent::Lent;
+use super::short_lists::short_lists_are_right;
 use error_models::{LinesText, Model};
 use flat_lists::FlatLists;
 use gate_table::Gate;
@@ -18,6 +19,7 @@ use test_support::SlowSource;
 #[derive(Clone, Copy)]
 enum Growing {
     Lists,
+    ShortLists,
     Texts,
     Entries,
     ModelLines,
@@ -30,8 +32,9 @@ enum Growing {
     Source,
 }
 
-const GROWING: [Growing; 11] = [
+const GROWING: [Growing; 12] = [
     Growing::Lists,
+    Growing::ShortLists,
     Growing::Texts,
     Growing::Entries,
     Growing::ModelLines,
@@ -53,6 +56,7 @@ impl Call for Growing {
     fn is_right<'m>(self, ration: Ration<'m>, _lent: &Lent<'_, 'm>) -> Result<bool, Fault> {
         match self {
             Growing::Lists => lists_are_right(ration.begin()),
+            Growing::ShortLists => short_lists_are_right(ration.begin()),
             Growing::Texts => texts_are_right(ration.begin()),
             Growing::Entries => entries_are_right(ration.begin()),
             Growing::ModelLines => model_is_right(ration.begin()),
@@ -68,7 +72,7 @@ impl Call for Growing {
 }
 
 /// Want of memory where what was lent is as it was, and else a wrong answer.
-fn refused(kept: bool) -> Result<bool, Fault> {
+pub(super) fn refused(kept: bool) -> Result<bool, Fault> {
     if kept { Err(Fault::MEMORY) } else { Ok(false) }
 }
 

@@ -1,4 +1,4 @@
-use Rattle.std.proofs.Common.{◌≡◌, length, sym, ap, ◌∙◌}
+use Rattle.std.proofs.Common.{length, sym, ap, ◌∙◌}
 use Rattle.flat_lists.proofs.JoinedLemmas.{length-joined}
 use Rattle.flat_lists.proofs.short_lists.ShortLists.len.Goals as goal
 
