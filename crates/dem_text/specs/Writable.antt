@@ -5,7 +5,7 @@
 use Rattle.std.specs.Prelude.{◌≡◌, ◌<◌, ◌≤◌, ◌+◌, ℕ, true, length, All}
 use Rattle.std.specs.List.Sorted.{IsStrictlyIncreasing}
 use Rattle.step_model.specs.ErrorModels.{ErrorLine, ErrorModel}
-use Rattle.step_model.specs.WellFormed.{CoordinatesFit}
+use Rattle.step_model.specs.WellFormed.{CoordinatesFit, most_detectors, most_observables}
 use Rattle.stim_parser.specs.Limits.{is_probability}
 
 -- a line, in a model with this many detectors and observables together
@@ -18,5 +18,5 @@ pub record IsWritable (model : ErrorModel) : Type 0 where
   pub lines : All (IsWritableLine (model.detectors + model.observables)) model.lines
   pub coordinates_given : length model.coordinates ≡ model.detectors
   pub coordinates_fit : All CoordinatesFit model.coordinates
-  pub few_detectors : model.detectors ≤ 1000000
-  pub few_observables : model.observables ≤ 1024
+  pub few_detectors : model.detectors ≤ most_detectors
+  pub few_observables : model.observables ≤ most_observables

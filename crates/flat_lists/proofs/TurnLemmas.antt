@@ -1,5 +1,7 @@
 -- What later turns give: how many lists, and which stands at an index.
-use Rattle.std.proofs.Common.{◌≡◌, ℕ, zero, suc, ◌+◌, ◌-◌, ◌*◌, ◌/◌, ◌%◌, ◌<◌, inl, inr, ℤ, pos, ◌+ℤ◌, ◌*ℤ◌, List, [], ◌∷◌, ◌++◌, length, get_or, map, take, refl, sym, ap, ap₂, ◌∙◌, arith, length-append}
+use Rattle.std.proofs.Common.{◌≡◌, ℕ, zero, suc, ◌+◌, ◌-◌, ◌*◌, ◌/◌, ◌%◌, ◌<◌, inl, inr, ℤ, pos, ◌+ℤ◌, ◌*ℤ◌, List, [], ◌∷◌, ◌++◌, length, get_or, map, take, drop, set, min, refl, sym, ap, ap₂, ◌∙◌, arith, length-append}
+use Rattle.std.specs.List.{refill}
+use Rattle.std.proofs.Math.Seq.{take-append_seam}
 use Rattle.std.proofs.lemmas.Bool.{cases_lt}
 use Rattle.std.proofs.lemmas.Int.{ints}
 use Rattle.std.proofs.lemmas.List.{get_or-append_right, get_or-map, get_or_append_left, length-map}
@@ -67,3 +69,45 @@ moved-less n zero (s ∷ steps) (x ∷ xs) h =
 moved-less n (suc k) [] xs h = refl
 moved-less n (suc k) (s ∷ steps) [] h = refl
 moved-less n (suc k) (s ∷ steps) (x ∷ xs) h = ap (λ (ys : List ℤ). (x +ℤ (pos n *ℤ s)) ∷ ys) (moved-less n k steps xs h)
+
+-- ---- numbers that are moved where they stand, of which the first j are done
+
+abbrev pub moved_to : ℕ → List ℤ → List ℤ → ℕ → List ℤ
+moved_to n steps xs j = take j (moved_by n steps xs) ++ drop j xs
+
+pub length-moved_to : (n : ℕ) (steps xs : List ℤ) (j : ℕ) → length (moved_to n steps xs j) ≡ length xs
+length-moved_to n steps xs zero = refl
+length-moved_to n [] [] (suc j) = refl
+length-moved_to n [] (x ∷ xs) (suc j) = ap suc (length-moved_to n [] xs j)
+length-moved_to n (s ∷ steps) [] (suc j) = refl
+length-moved_to n (s ∷ steps) (x ∷ xs) (suc j) = ap suc (length-moved_to n steps xs j)
+
+-- the next one isn't moved yet
+pub moved_to-at : (n : ℕ) (steps xs : List ℤ) (j : ℕ) (d : ℤ) → j < length steps → get_or (moved_to n steps xs j) j d ≡ get_or xs j d
+moved_to-at n steps xs zero d h = refl
+moved_to-at n [] xs (suc j) d h = absurd (omega (arith, h))
+moved_to-at n (s ∷ steps) [] (suc j) d h = refl
+moved_to-at n (s ∷ steps) (x ∷ xs) (suc j) d h = moved_to-at n steps xs j d (omega (arith, h))
+
+-- and is moved so
+pub moved_to-next : (n : ℕ) (steps xs : List ℤ) (j : ℕ) → j < length steps → j < length xs → set (moved_to n steps xs j) j (get_or xs j (pos 0) +ℤ (pos n *ℤ get_or steps j (pos 0))) ≡ moved_to n steps xs (suc j)
+moved_to-next n [] xs j h k = absurd (omega (arith, h))
+moved_to-next n (s ∷ steps) [] j h k = absurd (omega (arith, k))
+moved_to-next n (s ∷ steps) (x ∷ xs) zero h k = refl
+moved_to-next n (s ∷ steps) (x ∷ xs) (suc j) h k =
+    ap (λ (ys : List ℤ). (x +ℤ (pos n *ℤ s)) ∷ ys) (moved_to-next n steps xs j (omega (arith, h)) (omega (arith, k)))
+
+-- where there is a step for each, or a number for each, all are
+pub moved_to-all : (n : ℕ) (steps xs : List ℤ) (k : ℕ) → k ≡ min (length steps) (length xs) → moved_to n steps xs k ≡ moved_by n steps xs
+moved_to-all n [] xs zero h = refl
+moved_to-all n [] xs (suc k) h = absurd (omega (arith, h))
+moved_to-all n (s ∷ steps) [] zero h = refl
+moved_to-all n (s ∷ steps) [] (suc k) h = absurd (omega (arith, h))
+moved_to-all n (s ∷ steps) (x ∷ xs) zero h = absurd (omega (arith, h))
+moved_to-all n (s ∷ steps) (x ∷ xs) (suc k) h =
+    ap (λ (ys : List ℤ). (x +ℤ (pos n *ℤ s)) ∷ ys) (moved_to-all n steps xs k (omega (arith, h)))
+
+-- all of a list is written over
+pub refill-whole : (xs ws : List ℤ) → length ws ≡ length xs → refill (length xs) xs ws ≡ ws
+refill-whole xs ws h =
+    ap (λ n. take n (ws ++ drop (length ws) xs)) (sym h) ∙ take-append_seam ws (drop (length ws) xs)

@@ -132,7 +132,9 @@ impl<A: Allocator + Copy> NumberLists<A> {
         requires { index < length self.now }
         ensures { result.items ≡ slice_index_or self.now index [] }
     {
-        list_at(&self.kept, &self.repeats, index as u32)
+        let mut list = ArrayVec::new();
+        put_list(&self.kept, &self.repeats, index as u32, &mut list);
+        list
     }
 }
 
@@ -159,21 +161,24 @@ fn begun(repeats: &[Repeat], index: u32) -> usize
     repeats.partition_point(|repeat| repeat.start <= index)
 }
 
-// The list at an index. A list of a later turn is that of the first turn, moved on. So this calls itself once for each
-// repeat in whose later turns the index is.
-fn list_at<A: Allocator + Copy>(
+// Puts the list at an index in place of what was there. A list of a later turn is that of the first turn, moved on. So this
+// calls itself once for each repeat in whose later turns the index is.
+fn put_list<A: Allocator + Copy>(
     kept: &PackedLists<A>,
     repeats: &[Repeat],
     index: u32,
-) -> ArrayVec<i64, MOST_NUMBERS>
+    list: &mut ArrayVec<i64, MOST_NUMBERS>,
+)
     requires are { AreRepeats (reverse repeats.now) kept.now }
     requires rise { IsNonDecreasingBy (λ r. r.start) repeats.now }
     requires below { index < length (unrolled (reverse repeats.now) kept.now) }
-    ensures { result.items ≡ slice_index_or (unrolled (reverse repeats.now) kept.now) index [] }
+    ensures { list.new.items
+        ≡ slice_index_or (unrolled (reverse repeats.now) kept.now) index [] }
 {
     let count = begun(repeats, index);
     if count == 0 {
-        return kept.get(index as usize);
+        kept.put(index as usize, list);
+        return;
     }
     let repeat = repeats[count - 1];
     let past = index - repeat.start;
@@ -181,30 +186,28 @@ fn list_at<A: Allocator + Copy>(
     let turn = past / size;
     if turn >= repeat.turns {
         let behind = past - repeat.turns * size;
-        return kept.get(repeat.steps as usize + 1 + behind as usize);
+        kept.put(repeat.steps as usize + 1 + behind as usize, list);
+        return;
     }
-    let list = list_at(kept, &repeats[..count - 1], repeat.first + past % size);
+    put_list(
+        kept,
+        &repeats[..count - 1],
+        repeat.first + past % size,
+        list,
+    );
     let steps = kept.get(repeat.steps as usize);
-    moved_by(turn + 1, steps.as_slice(), list.as_slice())
+    move_on(turn + 1, steps.as_slice(), list.as_mut_slice());
 }
 
-// A list after so many turns with these steps.
-fn moved_by(turns: u32, steps: &[i64], list: &[i64]) -> ArrayVec<i64, MOST_NUMBERS>
-    requires few { length list.now ≤ MOST_NUMBERS }
-    requires fits { All (λ z. nat_abs z < 2 ^ 63) (moved_by turns steps.now list.now) }
-    ensures { result.items ≡ moved_by turns steps.now list.now }
+// Moves numbers on by so many turns with these steps.
+fn move_on(turns: u32, steps: &[i64], numbers: &mut [i64])
+    requires fits { All (λ z. nat_abs z < 2 ^ 63) (moved_by turns steps.now numbers.old) }
+    ensures { numbers.new ≡ moved_by turns steps.now numbers.old }
 {
-    let mut moved = ArrayVec::new();
-    for j in 0..list.len() {
-        moved.push(number_after(turns, step_at(steps, j), list[j]));
+    let count = steps.len().min(numbers.len());
+    for j in 0..count {
+        numbers[j] = number_after(turns, steps[j], numbers[j]);
     }
-    moved
-}
-
-fn step_at(steps: &[i64], j: usize) -> i64
-    ensures { result ≡ slice_index_or steps.now j (pos 0) }
-{
-    if j < steps.len() { steps[j] } else { 0 }
 }
 
 fn number_after(turns: u32, step: i64, number: i64) -> i64

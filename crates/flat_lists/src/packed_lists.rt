@@ -76,7 +76,17 @@ impl<A: Allocator + Copy> PackedLists<A> {
         requires { index < length self.now }
         ensures { result.items ≡ slice_index_or self.now index [] }
     {
-        numbers_in(self.lists.get(index))
+        let mut list = ArrayVec::new();
+        self.put(index, &mut list);
+        list
+    }
+
+    /// Puts the list at an index in place of what was there.
+    pub(crate) fn put(&self, index: usize, list: &mut ArrayVec<i64, MOST_NUMBERS>)
+        requires { index < length self.now }
+        ensures { list.new.items ≡ slice_index_or self.now index [] }
+    {
+        put_numbers(self.lists.get(index), list);
     }
 }
 
@@ -137,12 +147,12 @@ fn write_numbers<A: Allocator + Copy>(
     Ok(())
 }
 
-// The numbers that bytes write.
-fn numbers_in(bytes: &[u8]) -> ArrayVec<i64, MOST_NUMBERS>
+// Puts the numbers that bytes write in place of what was there.
+fn put_numbers(bytes: &[u8], found: &mut ArrayVec<i64, MOST_NUMBERS>)
     requires { length (numbers_in bytes.now) ≤ MOST_NUMBERS }
-    ensures { result.items ≡ numbers_in bytes.now }
+    ensures { found.new.items ≡ numbers_in bytes.now }
 {
-    let mut found = ArrayVec::new();
+    found.clear();
     let mut number = 0;
     let mut left = bytes.len();
     while left > 0 {
@@ -154,5 +164,4 @@ fn numbers_in(bytes: &[u8]) -> ArrayVec<i64, MOST_NUMBERS>
             number = 0;
         }
     }
-    found
 }

@@ -63,11 +63,15 @@ pub record FitsUpTo {A : Type 0} (parts : Parts A) (place : Place) (count : ℕ)
   pub at_place : IsAt parts.nodes place count
   pub fit : StepsFit parts (take count (text_steps parts)) made
 
--- all of them do, and they are at most a million
+-- how many steps are gone over at most
+abbrev pub most_counted : ℕ
+most_counted = 1_000_000
+
+-- all of them do, and they are at most so many
 pub record AllFit {A : Type 0} (parts : Parts A) (totals : Totals) : Type 0 where
   pub fit : StepsFit parts (text_steps parts) totals.counts
   pub counted : totals.steps ≡ length (text_steps parts)
-  pub few : totals.steps ≤ 1000000
+  pub few : totals.steps ≤ most_counted
 
 -- the first of these letters is not I, and no other is at its qubit
 pub record StandsApart (first : Term) (others : List Term) : Type 0 where

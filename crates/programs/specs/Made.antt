@@ -7,7 +7,7 @@ use Rattle.std.specs.List.{list_all}
 use Rattle.step_model.specs.Listing.{Listing}
 use Rattle.programs.specs.Kept.{Kept, KeptProgram}
 use Rattle.step_model.specs.Probabilities.{probability_bound}
-use Rattle.step_model.specs.WellFormed.{TermsFit, ProductFits, CoordinatesFit}
+use Rattle.step_model.specs.WellFormed.{TermsFit, ProductFits, CoordinatesFit, most_detectors, most_observables}
 use Rattle.programs.specs.declared.program.Parts.{Parts}
 use Rattle.programs.specs.declared.step.TextStep.{TextStep}
 use Rattle.programs.specs.Fits.{text_fits, is_kept}
@@ -57,5 +57,5 @@ pub record PartsFit {A : Type 0} (parts : Parts A) : Type 0 where
   pub observables_fit : All (All (λ r. r < parts.counts.records)) parts.observables
   pub coordinates_given : length parts.coordinates ≡ length parts.detectors
   pub coordinates_fit : All CoordinatesFit parts.coordinates
-  pub few_detectors : length parts.detectors ≤ 1000000
-  pub few_observables : length parts.observables ≤ 1024
+  pub few_detectors : length parts.detectors ≤ most_detectors
+  pub few_observables : length parts.observables ≤ most_observables

@@ -109,6 +109,14 @@ pub record ProductFits (qubits : ℕ) (terms : List Term) : Type 0 where
   pub terms_fit : TermsFit qubits terms
   pub word : word_fits qubits (word_of_terms qubits terms) ≡ true
 
+-- how many detectors a program has at most
+abbrev pub most_detectors : ℕ
+most_detectors = 1_000_000
+
+-- and how many observables
+abbrev pub most_observables : ℕ
+most_observables = 1024
+
 -- all of this holds of a program
 pub record IsWellFormed (program : Listing) : Type 0 where
   pub steps_fit : AllPass (step_fits program) program.steps
@@ -121,5 +129,5 @@ pub record IsWellFormed (program : Listing) : Type 0 where
   pub observables_fit : All (All (λ r. r < program.records)) program.observables
   pub coordinates_given : length program.coordinates ≡ length program.detectors
   pub coordinates_fit : All CoordinatesFit program.coordinates
-  pub few_detectors : length program.detectors ≤ 1000000
-  pub few_observables : length program.observables ≤ 1024
+  pub few_detectors : length program.detectors ≤ most_detectors
+  pub few_observables : length program.observables ≤ most_observables

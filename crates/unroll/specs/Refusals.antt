@@ -10,6 +10,7 @@ use Rattle.step_model.specs.declared.fault.Fault.{Fault}
 use Rattle.step_model.specs.declared.fault.Cause.{Cause}
 use Rattle.step_model.specs.declared.fault.Cause.TheVariants as cause
 use Rattle.step_model.specs.Listing.{Listing}
+pub use Rattle.step_model.specs.WellFormed.{most_detectors, most_observables}
 use Rattle.step_model.specs.Faults.{without_line}
 use Rattle.stim_parser.specs.declared.target.Target.{Target}
 use Rattle.stim_parser.specs.declared.target.Target.TheVariants.{Back}
@@ -20,7 +21,7 @@ use Rattle.stim_lexer.specs.Reached.{instructions_of}
 use Rattle.unroll.specs.Meaning.{listing_of, made_in}
 use Rattle.unroll.specs.Totals.{observables_to, step_total}
 
--- ---- the limits
+-- ---- the limits, beside those of detectors and of observables
 
 -- the most records
 abbrev pub most_records : ℕ
@@ -29,14 +30,6 @@ most_records = 8_000_000
 -- the most collapses
 abbrev pub most_collapses : ℕ
 most_collapses = 8_000_000
-
--- the most detectors
-abbrev pub most_detectors : ℕ
-most_detectors = 1_000_000
-
--- the most observables
-abbrev pub most_observables : ℕ
-most_observables = 1024
 
 -- the most steps
 abbrev pub most_steps : ℕ

@@ -3,6 +3,7 @@
 -- where detectors are shifted. (Stim's detector error model format, github.com/quantumlib/Stim,
 -- doc/file_format_dem_detector_error_model.md.)
 use Rattle.std.specs.Prelude.{◌≡◌, ℕ, zero, suc, ◌+◌, false, ◌≤◌, ℤ, List, [], length, map}
+pub use Rattle.step_model.specs.WellFormed.{most_detectors}
 use Rattle.stim_parser.specs.Numbers.{whole_value}
 use Rattle.dem_text.specs.declared.operation.Operation.{Operation}
 use Rattle.dem_text.specs.declared.operation.Operation.TheVariants.{DetectorDeclaration, Shifts}
@@ -43,10 +44,6 @@ pub record IsKnown (i : Instruction) (extent : Extent) (numbers : List ℤ) : Ty
 abbrev pub count_at : ℕ → ℕ → ℕ
 count_at shift zero = 0
 count_at shift (suc n) = suc n + shift
-
--- how many detectors there may be
-abbrev pub most_detectors : ℕ
-most_detectors = 1_000_000
 
 -- the coordinates that a line of this kind gives, which states these
 abbrev pub coordinates_from : Operation → List ℤ → List ℤ → List ℤ

@@ -19,6 +19,11 @@ use pauli_word::Letter;
 use std::alloc::Allocator;
 use step_model::Term;
 
+const MOST_DETECTORS: usize = 1_000_000;
+const MOST_OBSERVABLES: usize = 1024;
+// How many steps are gone over at most.
+const MOST_STEPS: usize = 1_000_000;
+
 // How many steps an unrolled circuit has, and how many records, collapses and faults they make.
 #[derive(Clone, Copy)]
 struct Totals {
@@ -41,10 +46,10 @@ pub(crate) fn checked<'a, A: Allocator + Copy>(parts: Parts<'a, A>) -> Option<Pr
     if !products_fit(&parts) {
         return None;
     }
-    if !lists_fit(&parts.detectors, records) || parts.detectors.len() > 1000000 {
+    if !lists_fit(&parts.detectors, records) || parts.detectors.len() > MOST_DETECTORS {
         return None;
     }
-    if !lists_fit(&parts.observables, records) || parts.observables.len() > 1024 {
+    if !lists_fit(&parts.observables, records) || parts.observables.len() > MOST_OBSERVABLES {
         return None;
     }
     if !coordinates_fit(&parts.coordinates) || parts.coordinates.len() != parts.detectors.len() {
@@ -57,7 +62,7 @@ pub(crate) fn checked<'a, A: Allocator + Copy>(parts: Parts<'a, A>) -> Option<Pr
     }))
 }
 
-// Goes over the unrolled steps. None where one doesn't fit, or where there are more than a million.
+// Goes over the unrolled steps. None where one doesn't fit, or where there are too many.
 fn total_of<A: Allocator + Copy>(parts: &Parts<'_, A>) -> Option<Totals>
     requires { IsCircuit parts.now.nodes }
     ensures { IfSome result (AllFit parts.now) }
@@ -71,7 +76,7 @@ fn total_of<A: Allocator + Copy>(parts: &Parts<'_, A>) -> Option<Totals>
         collapses: 0,
         faults: 0,
     };
-    for steps in 0..1000001 {
+    for steps in 0..MOST_STEPS + 1 {
         let Some(step) = next(&parts.nodes, &mut place) else {
             return Some(Totals { steps, counts });
         };

@@ -1,6 +1,6 @@
 use Rattle.std.proofs.Common.{◌≡◌, ◌≤◌, ◌++◌, length, reverse, take}
 use Rattle.flat_lists.specs.private.Numbers.{numbers_from, numbers_in}
-use Rattle.flat_lists.proofs.packed_lists.numbers_in.Given as goal
+use Rattle.flat_lists.proofs.packed_lists.put_numbers.Given as goal
 
 -- what is found, and then what the bytes that are left write behind the number that is begun
 abbrev pub invariant-loop-left : goal.invariant-loop-left

@@ -2,10 +2,10 @@ use Rattle.std.proofs.Common.{◌≡◌, ◌<◌, ◌≤◌, ℤ, List, [], leng
 use Rattle.std.proofs.lemmas.List.{get_or-map, length-map}
 use Rattle.std.proofs.lemmas.List.Elements.{All-get_or}
 use Rattle.flat_lists.specs.private.Numbers.{numbers_in}
-use Rattle.flat_lists.proofs.packed_lists.PackedLists.get.Goals as goal
+use Rattle.flat_lists.proofs.packed_lists.PackedLists.put.Goals as goal
 
-pub numbers_in-requires : goal.numbers_in-requires
-numbers_in-requires g c =
+pub put_numbers-requires : goal.put_numbers-requires
+put_numbers-requires g c =
     let lists = c.self.inside.lists in
     let within : c.args.index < length (map numbers_in lists) = omega (arith, ap length c.self.view_is, c.requires) in
     let inside : c.args.index < length lists = omega (arith, length-map lists numbers_in) in

@@ -1,13 +1,14 @@
-use Rattle.std.proofs.Common.{◌≡◌, ◌<◌, ◌+◌, ◌-◌, ◌/◌, ◌%◌, ℤ, List, [], get_or, ap₂, subst, sym, ◌∙◌, arith, rules}
+use Rattle.std.proofs.Common.{◌≡◌, ◌<◌, ◌+◌, ◌-◌, ◌/◌, ◌%◌, ℤ, List, [], length, get_or, ap, ap₂, subst, sym, ◌∙◌, arith, rules}
 use Rattle.std.specs.Prelude.{All, nat_abs, ◌^◌}
 use Rattle.std.proofs.lemmas.List.{length-take}
 use Rattle.std.proofs.lemmas.List.Sorted.{IsNonDecreasingBy-take}
 use Rattle.std.proofs.lemmas.Nat.{mod_below}
 use Rattle.flat_lists.specs.Turns.{moved_by}
+use Rattle.flat_lists.proofs.TurnLemmas.{length-moved, refill-whole}
 use Rattle.flat_lists.proofs.RepeatLemmas.{IsLast, IsMadeBy, before_last, is_last, is_pushed, last_of, made-by, of_turn}
-use Rattle.flat_lists.proofs.number_lists.+list_at.Given.{Over}
-use Rattle.flat_lists.proofs.number_lists.+list_at.Goals as goal
-use Rattle.flat_lists.proofs.number_lists.+list_at.Goals.{After-begun-count}
+use Rattle.flat_lists.proofs.number_lists.+put_list.Given.{Over}
+use Rattle.flat_lists.proofs.number_lists.+put_list.Goals as goal
+use Rattle.flat_lists.proofs.number_lists.+put_list.Goals.{After-begun-count}
 
 -- no repeat begins so early
 made-first : (g : Over) (t : _) (c : After-begun-count g t) → c.begun-count.result ≡ 0 → IsMadeBy c.args.repeats.now c.args.kept.now c.args.index 0
@@ -19,12 +20,12 @@ last : (g : Over) (t : _) (c : After-begun-count g t) → 0 < c.begun-count.resu
 last g t c some =
     is_last c.args.repeats.now c.args.kept.now c.args.index c.begun-count.result c.requires.are c.requires.below c.begun-count.ensures.bound c.begun-count.ensures.begun c.begun-count.ensures.others some
 
-pub get-requires : goal.get-requires
-get-requires g t c = (made-first g t (goal.at.get-requires g t c).After-begun-count c.if-count-eq0.true).below
+pub put-requires : goal.put-requires
+put-requires g t c = (made-first g t (goal.at.put-requires g t c).After-begun-count c.if-count-eq0.true).below
 
 pub returns-then-count-eq0 : goal.returns-then-count-eq0
 returns-then-count-eq0 g t c =
-    c.get.ensures ∙ sym (made-first g t (goal.at.returns-then-count-eq0 g t c).After-begun-count c.if-count-eq0.true).same
+    c.put.ensures ∙ sym (made-first g t (goal.at.returns-then-count-eq0 g t c).After-begun-count c.if-count-eq0.true).same
 
 pub overflow_sub-past : goal.overflow_sub-past
 overflow_sub-past g t c = (last g t (goal.at.overflow_sub-past g t c).After-begun-count (omega arith)).start
@@ -39,15 +40,15 @@ nonzero_div-turn g t c =
     let here = last g t (goal.at.nonzero_div-turn g t c).After-begun-count (omega arith) in
     omega (arith, here.is.first)
 
-pub get-requires-then-turn-repeat : goal.get-requires-then-turn-repeat
-get-requires-then-turn-repeat g t c =
-    let here = last g t (goal.at.get-requires-then-turn-repeat g t c).After-begun-count (omega arith) in
+pub put-requires-then-turn-repeat : goal.put-requires-then-turn-repeat
+put-requires-then-turn-repeat g t c =
+    let here = last g t (goal.at.put-requires-then-turn-repeat g t c).After-begun-count (omega arith) in
     (is_pushed (last_of c.args.repeats.now c.begun-count.result) (before_last c.args.repeats.now c.begun-count.result c.args.kept.now) c.args.kept.now c.args.index here.is here.start c.if-turn-repeat.true here.below).within
 
 pub returns-then-turn-repeat : goal.returns-then-turn-repeat
 returns-then-turn-repeat g t c =
     let here = last g t (goal.at.returns-then-turn-repeat g t c).After-begun-count (omega arith) in
-    c.get-then-turn-repeat.ensures
+    c.put-then-turn-repeat.ensures
     ∙ sym (is_pushed (last_of c.args.repeats.now c.begun-count.result) (before_last c.args.repeats.now c.begun-count.result c.args.kept.now) c.args.kept.now c.args.index here.is here.start c.if-turn-repeat.true here.below).whole
     ∙ sym here.same
 
@@ -62,30 +63,39 @@ overflow_add-repeat-2 g t c =
     let r = last_of c.args.repeats.now c.begun-count.result in
     omega (arith, here.is.first, here.start, mod_below (c.args.index - r.start) (r.start - r.first) (omega (arith, here.is.first)), c.ranges.index)
 
-pub list_at-list-requires : goal.list_at-list-requires
-list_at-list-requires g t c κs within =
-    let here = last g t (goal.at.list_at-list-requires g t c).After-begun-count (omega arith) in
+pub put_list-requires : goal.put_list-requires
+put_list-requires g t c κs within =
+    let here = last g t (goal.at.put_list-requires g t c).After-begun-count (omega arith) in
     let turn = of_turn (last_of c.args.repeats.now c.begun-count.result) (before_last c.args.repeats.now c.begun-count.result c.args.kept.now) c.args.kept.now c.args.index here.is here.start c.if-turn-repeat.false in
     (omega (arith, c.begun-count.ensures.bound, length-take (c.begun-count.result - 1) c.args.repeats.now), (search rules, (here.are, (IsNonDecreasingBy-take (λ r. r.start) (c.begun-count.result - 1) c.args.repeats.now c.requires.rise, turn.within))))
 
 pub get-steps-requires : goal.get-steps-requires
 get-steps-requires g t c = (last g t (goal.at.get-steps-requires g t c).After-begun-count (omega arith)).is.steps
 
-pub moved_by-requires-clause-fits : goal.moved_by-requires-clause-fits
-moved_by-requires-clause-fits g t c =
-    let here = last g t (goal.at.moved_by-requires-clause-fits g t c).After-begun-count (omega arith) in
+pub move_on-requires : goal.move_on-requires
+move_on-requires g t c =
+    let here = last g t (goal.at.move_on-requires g t c).After-begun-count (omega arith) in
     let r = last_of c.args.repeats.now c.begun-count.result in
     let turn = (c.args.index - r.start) / (r.start - r.first) in
     let read = of_turn r (before_last c.args.repeats.now c.begun-count.result c.args.kept.now) c.args.kept.now c.args.index here.is here.start c.if-turn-repeat.false in
-    subst (λ (xs : List ℤ). All (λ z. nat_abs z < 2 ^ 63) (moved_by (turn + 1) c.as_slice.result.now xs)) (sym (c.as_slice-2.ensures.value ∙ c.list_at-list.ensures))
-    (subst (λ (steps : List ℤ). All (λ z. nat_abs z < 2 ^ 63) (moved_by (turn + 1) steps (get_or (before_last c.args.repeats.now c.begun-count.result c.args.kept.now) (r.first + (c.args.index - r.start) % (r.start - r.first)) []))) (sym (c.as_slice.ensures.value ∙ c.get-steps.ensures)) read.fits)
+    record {
+      fits =
+          subst (λ (xs : List ℤ). All (λ z. nat_abs z < 2 ^ 63) (moved_by (turn + 1) c.as_slice.result.now xs)) (sym (c.as_mut_slice.ensures.value ∙ c.put_list.ensures))
+          (subst (λ (steps : List ℤ). All (λ z. nat_abs z < 2 ^ 63) (moved_by (turn + 1) steps (get_or (before_last c.args.repeats.now c.begun-count.result c.args.kept.now) (r.first + (c.args.index - r.start) % (r.start - r.first)) []))) (sym (c.as_slice.ensures.value ∙ c.get-steps.ensures)) read.fits);
+    }
 
 pub returns : goal.returns
 returns g t c =
     let here = last g t (goal.at.returns g t c).After-begun-count (omega arith) in
     let r = last_of c.args.repeats.now c.begun-count.result in
+    let turns = (c.args.index - r.start) / (r.start - r.first) + 1 in
     let read = of_turn r (before_last c.args.repeats.now c.begun-count.result c.args.kept.now) c.args.kept.now c.args.index here.is here.start c.if-turn-repeat.false in
-    c.moved_by.ensures
-    ∙ ap₂ (λ (steps xs : List ℤ). moved_by ((c.args.index - r.start) / (r.start - r.first) + 1) steps xs) (c.as_slice.ensures.value ∙ c.get-steps.ensures) (c.as_slice-2.ensures.value ∙ c.list_at-list.ensures)
+    let long : length c.move_on.new.numbers ≡ length c.put_list.new.list.items =
+    ap length c.move_on.ensures
+    ∙ length-moved turns c.as_slice.result.now c.as_mut_slice.result.now
+    ∙ ap length c.as_mut_slice.ensures.value in
+    refill-whole c.put_list.new.list.items c.move_on.new.numbers long
+    ∙ c.move_on.ensures
+    ∙ ap₂ (λ (steps xs : List ℤ). moved_by turns steps xs) (c.as_slice.ensures.value ∙ c.get-steps.ensures) (c.as_mut_slice.ensures.value ∙ c.put_list.ensures)
     ∙ sym read.whole
     ∙ sym here.same
