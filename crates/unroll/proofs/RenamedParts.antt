@@ -10,10 +10,10 @@ use Rattle.programs.specs.declared.step.TextStep.{TextStep}
 use Rattle.programs.specs.declared.step.TextStep.TheVariants.{One, Two, Collapse, CollapseWord, Fault, Feedback}
 use Rattle.programs.specs.Fits.{flip_is_kept, is_kept, recording_is_kept, text_fits}
 use Rattle.programs.specs.Kept.{Kept}
-use Rattle.programs.specs.Listed.{entry_at, fault_of, flip_fault, listed, listed_steps, made_faults, number_of, recorded, recorded_faults, step_made_faults}
+use Rattle.programs.specs.Listed.{entry_at, fault_of, flip_fault, listed, listed_steps, made_faults, measured, product_at, recorded, recorded_faults, step_made_faults}
 use Rattle.programs.specs.Numbering.{FeedBack, counts_after, counts_over, faults_in_collapse, feeds_back, flip_name, is_inverted, made_by, made_in_collapse, named, numbered_step, record_number}
 use Rattle.step_model.specs.declared.step.Term.{Term}
-use Rattle.step_model.specs.Listing.{Applies, Collapse as Collapsed, Flips, ListedFault, Recorded}
+use Rattle.step_model.specs.Listing.{Applies, Collapse as Collapsed, Flips, ListedFault, Recorded, Word, word_of_terms}
 use Rattle.unroll.specs.private.Named.{KeepsAs, name_at, renamed, renamed_recording}
 use Rattle.unroll.proofs.KeptNames.{keeps-at, keeps-there}
 
@@ -60,8 +60,8 @@ module _ (names : List ℕ) where
   step-listed : (n : ℕ) (ps : List (List Term)) (c : Counts) (s : TextStep) → listed n ps (numbered_step c (renamed names s)) ≡ listed n ps (numbered_step c s)
   step-listed n ps c (One g q) = refl
   step-listed n ps c (Two g a b) = refl
-  step-listed n ps c (Collapse l q reset r) = ap (λ (o : Option Recorded). Collapsed _ o) (recording-listed c r)
-  step-listed n ps c (CollapseWord p r) = ap (λ (o : Option Recorded). Collapsed _ o) (recording-listed c r)
+  step-listed n ps c (Collapse l q reset r) = ap (λ (o : Option Recorded). Collapsed (measured n reset l q) o) (recording-listed c r)
+  step-listed n ps c (CollapseWord p r) = ap (λ (o : Option Recorded). Collapsed (Word (word_of_terms n (product_at ps p))) o) (recording-listed c r)
   step-listed n ps c (Fault e) = refl
   step-listed n ps c (Feedback l q back) = refl
 
