@@ -1,12 +1,12 @@
 -- Entries, by their number, and one entry more.
-use Rattle.std.proofs.Common.{◌≡◌, ℕ, zero, suc, ◌<◌, List, [], ◌∷◌, ◌++◌, length, get_or, refl, subst, sym, ap, ap₂, ◌∙◌, arith}
+use Rattle.std.proofs.Common.{◌≡◌, ℕ, zero, suc, ◌<◌, List, [], ◌∷◌, ◌++◌, length, get_or, map, refl, subst, sym, ap, ap₂, ◌∙◌, arith}
 use Rattle.std.specs.Prelude.{All}
 use Rattle.std.proofs.Math.Nat.{suc_inj}
 use Rattle.step_model.specs.declared.step.Term.{Term}
 use Rattle.programs.specs.Kept.{Kept, none_kept}
 use Rattle.step_model.specs.declared.chances.ChanceText.{ChanceText}
-use Rattle.step_model.specs.Chances.{Chance, chance_at}
-use Rattle.step_model.proofs.ChanceLaws.{chance_at-get_or}
+use Rattle.step_model.specs.Chances.{Chance, chance_at, chance_of, no_chance}
+use Rattle.step_model.proofs.ChanceLaws.{chance_at-get_or, chance_at-map}
 use Rattle.programs.specs.declared.entries.ChanceTable.{ChanceTable}
 use Rattle.programs.specs.Entries.{entries_of, entry_from, IsNumbered, TellsChances}
 
@@ -21,6 +21,13 @@ get_or-entries_of parts [] lists e d h k = absurd (omega (arith, k))
 get_or-entries_of parts (n ∷ numbers) [] e d h k = cc
 get_or-entries_of parts (n ∷ numbers) (ts ∷ lists) zero d h k = refl
 get_or-entries_of parts (n ∷ numbers) (ts ∷ lists) (suc e) d h k = get_or-entries_of parts numbers lists e d (suc_inj h) (omega (arith, k))
+
+-- the entry at e, from the number of its part and its letters
+pub entry_there : (parts : List ChanceText) (numbers : List ℕ) (lists : List (List Term)) (e d n : ℕ) (ts : List Term) → length numbers ≡ length lists → e < length numbers → get_or numbers e d ≡ n → get_or lists e [] ≡ ts → get_or (entries_of parts numbers lists) e none_kept ≡ entry_from (get_or (map chance_of parts) n no_chance) ts
+entry_there parts numbers lists e d n ts h k number letters =
+    get_or-entries_of parts numbers lists e d h k
+    ∙ ap₂ (λ (m : ℕ) (us : List Term). entry_from (chance_at parts m) us) number letters
+    ∙ ap (λ (chance : Chance). entry_from chance ts) (chance_at-map parts n)
 
 pub entries_of-push : (parts : List ChanceText) (numbers : List ℕ) (lists : List (List Term)) (n : ℕ) (ts : List Term) → length numbers ≡ length lists → entries_of parts (numbers ++ n ∷ []) (lists ++ ts ∷ []) ≡ entries_of parts numbers lists ++ entry_from (chance_at parts n) ts ∷ []
 entries_of-push parts [] [] n ts h = refl

@@ -1,6 +1,6 @@
 -- What is kept of faults, as it is kept: parts, each the text of a probability with its bound; and for each entry the
 -- number of its part, and letters at qubits. (This project's own.)
-use Rattle.std.specs.Prelude.{◌≡◌, ◌<◌, ℕ, List, [], ◌∷◌, ◌++◌, length, slice_index_or, All}
+use Rattle.std.specs.Prelude.{◌≡◌, ◌⊎◌, ◌<◌, ℕ, List, [], ◌∷◌, ◌++◌, length, slice_index_or, All}
 use Rattle.step_model.specs.declared.step.Term.{Term}
 use Rattle.programs.specs.Kept.{Kept, none_kept}
 use Rattle.step_model.specs.declared.chances.ChanceText.{ChanceText}
@@ -25,6 +25,12 @@ pub record Gathered : Type 0 where
 abbrev pub with_entry : ℕ → List Term → Gathered → Gathered
 with_entry number terms g =
     record { chances = g.chances; kept = g.kept ++ entry_from (slice_index_or g.chances number no_chance) terms ∷ [] }
+
+-- e is the number of an entry of this probability and with these letters, which was there or is one more
+pub record Names (number : ℕ) (terms : List Term) (old new : Gathered) (e : ℕ) : Type 0 where
+  pub grown : (new ≡ old) ⊎ (new ≡ with_entry number terms old)
+  pub there : e < length new.kept
+  pub entry : slice_index_or new.kept e none_kept ≡ entry_from (slice_index_or old.chances number no_chance) terms
 
 -- each entry has its letters, and a part that exists
 pub record IsNumbered (parts : List ChanceText) (numbers : List ℕ) (lists : List (List Term)) : Type 0 where

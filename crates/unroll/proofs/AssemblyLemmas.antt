@@ -1,8 +1,9 @@
 -- The parts of a circuit's program fit, and make that program.
-use Rattle.std.proofs.Common.{◌≡◌, ℕ, ℤ, ◌<◌, ◌≤◌, ◌^◌, List, length, None, Some, Ok, Err, refl, sym, ap, ap₂, subst, ◌∙◌, arith}
+use Rattle.std.proofs.Common.{◌≡◌, ℕ, ℤ, ◌<◌, ◌≤◌, ◌^◌, List, length, map, None, Some, Ok, Err, refl, sym, ap, ap₂, subst, ◌∙◌, arith}
 use Rattle.std.specs.Prelude.{All, min}
 use Rattle.std.specs.List.{list_all}
 use Rattle.std.proofs.Math.Nat.{min-eq_left}
+use Rattle.std.proofs.lemmas.List.{length-map}
 use Rattle.programs.specs.declared.program.Parts.{Parts}
 use Rattle.programs.specs.declared.step.Counts.{Counts}
 use Rattle.programs.specs.declared.step.TextStep.{TextStep}
@@ -22,6 +23,7 @@ use Rattle.unroll.specs.declared.totals.Totals.{Totals}
 use Rattle.unroll.specs.private.Assembled.{ArePartsOf, counts_in}
 use Rattle.unroll.specs.private.Detectors.{detectors_of}
 use Rattle.unroll.specs.private.Kept.{kept_entries, kept_products}
+use Rattle.unroll.specs.private.Named.{renamed}
 use Rattle.unroll.specs.private.Observables.{observables_of}
 use Rattle.unroll.specs.private.Counted.{refusal_counted}
 use Rattle.unroll.specs.Refusals.{circuit_refusal}
@@ -40,7 +42,9 @@ use Rattle.unroll.proofs.StepsKept.{all_kept}
 use Rattle.unroll.proofs.ReachedCounts.{coordinates_counted, detectors_counted, observables_few}
 use Rattle.unroll.proofs.RecordsThere.{detectors_fit, observables_fit}
 use Rattle.unroll.proofs.FeedbackLemmas.{fed_back}
+use Rattle.unroll.proofs.KeptNames.{keeps-all}
 use Rattle.unroll.proofs.MeaningLemmas.{kept_listing, stands_for}
+use Rattle.unroll.proofs.RenamedParts.{all-kept, counts-same, faults-same, feeds-same, fits-same, listed-same}
 use Rattle.unroll.proofs.TextFits.{texts_fit}
 
 -- ---- the program that they make
@@ -49,7 +53,11 @@ pub listing_is : {A : Type 0} (t : Tree) (parts : Parts A) → ArePartsOf t part
 listing_is t parts p = kept_is ∙ stands_for t
   where
     kept_is : (made.kept_program parts).listing ≡ kept_listing t
-    kept_is = rw (p.qubits, p.counts, p.kept, p.products, p.detectors, p.observables, p.coordinates, p.unrolled) refl
+    kept_is =
+        rw (p.qubits, p.counts, p.products, p.detectors, p.observables, p.coordinates, p.unrolled)
+        (rw
+        (listed-same p.names (qubit_total t) (kept_products t) no_counts (steps_of t), faults-same (kept_entries t) p.names parts.entries p.kept (kept_products t) no_counts (steps_of t) (all_kept t))
+        refl)
 
 pub program_made : {A : Type 0} (t : Tree) (parts : Parts A) → circuit_refusal t ≡ None → ArePartsOf t parts → program_of t ≡ Ok (made.kept_program parts).listing
 program_made t parts h p =
@@ -64,21 +72,25 @@ pub parts_fit : {A : Type 0} (t : Tree) (parts : Parts A) → IsCircuit t → re
 parts_fit t parts circuit accepted p =
     let within = within_limits t accepted in
     let n = qubit_total t in
-    let steps = steps_of t in
+    let length_is = ap length p.unrolled ∙ length-map (steps_of t) (renamed p.names) in
     let records : record_total t ≡ parts.counts.records = sym (ap (λ (c : Counts). c.records) p.counts) in
     record {
       circuit = p.circuit;
-      texts_fit = ap₂ (λ (m : ℕ) (ss : List TextStep). list_all (text_fits m) ss) p.qubits p.unrolled ∙ texts_fit t circuit;
+      texts_fit = ap₂ (λ (m : ℕ) (ss : List TextStep). list_all (text_fits m) ss) p.qubits p.unrolled ∙ fits-same p.names n (steps_of t) ∙ texts_fit t circuit;
       all_kept =
-          ap₂ (λ (ks : List Kept) (ps : List (List Term)). list_all (is_kept ks ps) (text_steps parts)) p.kept p.products
-          ∙ (ap (λ (ss : List TextStep). list_all (is_kept (kept_entries t) (kept_products t)) ss) p.unrolled ∙ all_kept t);
-      feedback = subst (λ (ss : List TextStep). FeedBack no_counts ss) (sym p.unrolled) (fed_back t circuit within.near);
-      counted = p.counts ∙ (sym (counted t) ∙ ap (λ (ss : List TextStep). counts_over no_counts ss) (sym p.unrolled));
-      steps_counted = p.steps ∙ (sym (steps_counted t) ∙ ap length (sym p.unrolled));
-      few_steps = subst (λ (ss : List TextStep). length ss < 2 ^ 32) (sym p.unrolled) (steps_few t within.steps);
+          ap₂ (λ (ps : List (List Term)) (ss : List TextStep). list_all (is_kept parts.entries ps) ss) p.products p.unrolled
+          ∙ all-kept (kept_entries t) p.names parts.entries p.kept (kept_products t) (steps_of t) (all_kept t);
+      feedback =
+          subst (λ (ss : List TextStep). FeedBack no_counts ss) (sym p.unrolled)
+          (feeds-same p.names no_counts (steps_of t) (fed_back t circuit within.near));
+      counted =
+          p.counts
+          ∙ sym (ap (λ (ss : List TextStep). counts_over no_counts ss) p.unrolled ∙ counts-same p.names no_counts (steps_of t) ∙ counted t);
+      steps_counted = p.steps ∙ sym (length_is ∙ steps_counted t);
+      few_steps = omega (arith, length_is, steps_few t within.steps);
       entries_fit =
           subst (λ (m : ℕ). All (EntryFits m) parts.entries) (sym p.qubits)
-          (subst (λ (ks : List Kept). All (EntryFits n) ks) (sym p.kept) (entries_fit t circuit));
+          (keeps-all (EntryFits n) (kept_entries t) p.names parts.entries p.kept (entries_fit t circuit));
       products_fit =
           subst (λ (m : ℕ). All (ProductFits m) parts.products) (sym p.qubits)
           (subst (λ (ps : List (List Term)). All (ProductFits n) ps) (sym p.products) (products_fit t circuit));

@@ -1,4 +1,5 @@
--- A circuit's steps, entries and products, written down one item after another.
+-- A circuit's steps, entries and products, written down one item after another, where a step names an entry by its place
+-- in the text.
 use Rattle.std.proofs.Common.{◌≡◌, ℕ, zero, suc, ◌+◌, ◌<◌, ◌≤◌, ◌^◌, List, [], ◌∷◌, ◌++◌, length, drop, reverse, Some, None, refl, sym, ap, ◌∙◌, subst, arith, length-append}
 use Rattle.std.specs.Prelude.{All, slice_get}
 use Rattle.std.proofs.lemmas.List.{drop_all, reverse-append}
@@ -13,22 +14,38 @@ use Rattle.stim_lexer.specs.Trees.{InstructionLine, BlockStart, BlockEnd}
 use Rattle.stim_parser.specs.Trees.{Tree}
 use Rattle.stim_parser.specs.Judged.{items_of}
 use Rattle.stim_parser.specs.Verdicts.{Instruction}
-use Rattle.unroll.specs.private.Drafts.{CanWrite, Draft, Writes}
+use Rattle.unroll.specs.private.Drafts.{CanWrite, Draft, HasEnded, with_block}
 use Rattle.unroll.specs.private.Kept.{entries_of, kept_entries, kept_products, products_in}
 use Rattle.unroll.specs.private.Pushed.{IsSmall}
 use Rattle.unroll.specs.private.Counted.{first_far_from}
-use Rattle.unroll.specs.private.Steps.{steps_of}
+use Rattle.unroll.specs.private.Steps.{instruction_steps, steps_of}
 use Rattle.unroll.specs.Totals.{step_total}
 use Rattle.unroll.specs.private.MadeTotals.{record_total}
 use Rattle.unroll.proofs.FarLemmas.{AreNear, EachDoes, each-tree, near_tree}
 use Rattle.unroll.proofs.FitLemmas.{qubits_within}
 use Rattle.unroll.proofs.ItemLemmas.{drop_next, each-next, each_sound}
 use Rattle.unroll.proofs.PassLemmas.{AreWhole, whole-tree}
-use Rattle.unroll.proofs.RoomLemmas.{counted_once, counted_once-tree, few_entries, few_products}
+use Rattle.unroll.proofs.RoomLemmas.{counted_once, counted_once-tree, few_products}
 use Rattle.unroll.proofs.WritingLemmas.{Written, written-tree, written_from}
 
 abbrev pub nothing_drafted : Draft
 nothing_drafted = record { outer = []; here = []; entries = []; products = [] }
+
+-- a draft with one more instruction
+abbrev pub with_instruction : Instruction → Draft → Draft
+with_instruction i d =
+    record {
+      outer = d.outer;
+      here = d.here ++ instruction_steps (length d.entries) (length d.products) i;
+      entries = d.entries ++ entries_of i;
+      products = d.products ++ products_in i;
+    }
+
+-- what an item makes of a draft
+abbrev pub Makes : Item → Draft → Draft → Type 0
+Makes (InstructionLine i) old new = new ≡ with_instruction i old
+Makes (BlockStart line turns) old new = new ≡ with_block turns old
+Makes BlockEnd old new = HasEnded old new
 
 -- ---- what all items make
 
@@ -40,7 +57,7 @@ finished-ends : (items : List Item) (outer : List OpenBlock) (b : OpenBlock) (he
 finished-ends items outer b here ks ps = rw (reverse-append outer (b ∷ [])) refl
 
 -- the items left make the same of a draft with an item more as with the item itself
-finished-next : (item : Item) (items : List Item) (d d' : Draft) → Writes item d d' → finished (item ∷ items) d ≡ finished items d'
+finished-next : (item : Item) (items : List Item) (d d' : Draft) → Makes item d d' → finished (item ∷ items) d ≡ finished items d'
 finished-next (InstructionLine i) items d d' h = sym (ap (finished items) h)
 finished-next (BlockStart line turns) items d d' h =
     let b : OpenBlock = record { before = d.here; turns = turns } in
@@ -55,7 +72,7 @@ finished-next BlockEnd items d d' h =
 
 -- ---- blocks
 
-whole-next : (item : Item) (items : List Item) (d d' : Draft) → Writes item d d' → AreWhole (item ∷ items) (length d.outer) → AreWhole items (length d'.outer)
+whole-next : (item : Item) (items : List Item) (d d' : Draft) → Makes item d d' → AreWhole (item ∷ items) (length d.outer) → AreWhole items (length d'.outer)
 whole-next (InstructionLine i) items d d' h whole = subst (λ (x : Draft). AreWhole items (length x.outer)) (sym h) whole.1
 whole-next (BlockStart line turns) items d d' h whole =
     subst (AreWhole items)
@@ -87,37 +104,19 @@ small_tree t circuit near few =
 
 -- ---- room
 
--- what is kept, and what can be kept of items, are no more than so many
-pub record AreFew (n : ℕ) (items : List Item) (d : Draft) : Type 0 where
-  pub entries : length d.entries + counted_once items ≤ n
-  pub products : length d.products + counted_once items ≤ n
+-- the products that are kept, and what can be kept of items, are no more than so many
+abbrev pub AreFew : ℕ → List Item → Draft → Type 0
+AreFew n items d = length d.products + counted_once items ≤ n
 
-few-next : (n : ℕ) (item : Item) (items : List Item) (d d' : Draft) → Writes item d d' → AreFew n (item ∷ items) d → AreFew n items d'
+few-next : (n : ℕ) (item : Item) (items : List Item) (d d' : Draft) → Makes item d d' → AreFew n (item ∷ items) d → AreFew n items d'
 few-next n (InstructionLine i) items d d' h few =
-    record {
-      entries =
-          omega (arith, ap (λ (x : Draft). length x.entries) h, length-append d.entries (entries_of i), few_entries i, few.entries);
-      products =
-          omega (arith, ap (λ (x : Draft). length x.products) h, length-append d.products (products_in i), few_products i, few.products);
-    }
-few-next n (BlockStart line turns) items d d' h few =
-    record {
-      entries = omega (arith, ap (λ (x : Draft). length x.entries) h, few.entries);
-      products = omega (arith, ap (λ (x : Draft). length x.products) h, few.products);
-    }
-few-next n BlockEnd items d d' h few =
-    record {
-      entries = omega (arith, ap length h.entries, few.entries);
-      products = omega (arith, ap length h.products, few.products);
-    }
+    omega (arith, ap (λ (x : Draft). length x.products) h, length-append d.products (products_in i), few_products i, few)
+few-next n (BlockStart line turns) items d d' h few = omega (arith, ap (λ (x : Draft). length x.products) h, few)
+few-next n BlockEnd items d d' h few = omega (arith, ap length h.products, few)
 
 can_write : (n : ℕ) (item : Item) (items : List Item) (d : Draft) → n < 2 ^ 32 → AreWhole (item ∷ items) (length d.outer) → EachDoes AreSmall (item ∷ items) → AreFew n (item ∷ items) d → CanWrite item d
 can_write n (InstructionLine i) items d room whole small few =
-    record {
-      small = small.0;
-      entries = omega (arith, few.entries, room);
-      products = omega (arith, few.products, room);
-    }
+    record { small = small.0; products = omega (arith, few, room) }
 can_write n (BlockStart line turns) items d room whole small few = (whole.0, whole.1)
 can_write n BlockEnd items d room whole small few = some_open (length d.outer) whole
   where
@@ -141,7 +140,7 @@ drafting-first t circuit near few =
       left = refl;
       whole = whole-tree t circuit;
       small = small_tree t circuit near few;
-      few = record { entries = omega (arith, once); products = omega (arith, once) };
+      few = omega (arith, once);
     }
 
 pub drafting-can : (t : Tree) (i : ℕ) (d : Draft) (item : Item) → step_total t < 2 ^ 32 → IsDrafting t i d → Some item ≡ slice_get (items_of t) i → CanWrite item d
@@ -153,7 +152,7 @@ drafting-can t i d item room p got =
     (subst (EachDoes AreSmall) at p.small)
     (subst (λ (items : List Item). AreFew (step_total t) items d) at p.few)
 
-pub drafting-next : (t : Tree) (i : ℕ) (d d' : Draft) (item : Item) → IsDrafting t i d → Some item ≡ slice_get (items_of t) i → Writes item d d' → IsDrafting t (i + 1) d'
+pub drafting-next : (t : Tree) (i : ℕ) (d d' : Draft) (item : Item) → IsDrafting t i d → Some item ≡ slice_get (items_of t) i → Makes item d d' → IsDrafting t (i + 1) d'
 drafting-next t i d d' item p got h =
     let at = drop_next t i item got in
     let rest = drop (i + 1) (items_of t) in

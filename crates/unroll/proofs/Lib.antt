@@ -4,6 +4,7 @@ pub mod SumLemmas
 pub mod ProductLemmas
 pub mod PushLemmas
 pub mod FarLemmas
+pub mod FaultLemmas
 pub mod ItemLemmas
 pub mod WritingLemmas
 pub mod GatherLemmas
@@ -21,6 +22,9 @@ pub mod CountLoops
 pub mod TextLemmas
 pub mod AssemblyLemmas
 pub mod DraftLemmas
+pub mod RenamedDrafts
+pub mod RenamedParts
+pub mod RenamedSteps
 pub mod RoomLemmas
 pub mod RefusalLemmas
 pub mod StepSums
@@ -31,6 +35,7 @@ pub mod ReachedCounts
 pub mod SizeLemmas
 pub mod RecordsThere
 pub mod EntriesFit
+pub mod KeptNames
 pub mod KeptParts
 pub mod PairSteps
 pub mod PartPlaces

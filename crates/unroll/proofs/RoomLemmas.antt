@@ -2,7 +2,7 @@
 use Rattle.std.proofs.Common.{ℕ, zero, suc, ◌+◌, ◌*◌, ◌<◌, ◌≤◌, List, [], ◌∷◌, ◌++◌, length, map, ap, append_assoc, append-nil, arith}
 use Rattle.std.proofs.lemmas.List.{length-map}
 use Rattle.stim_parser.specs.declared.operation.Operation.{Operation}
-use Rattle.stim_parser.specs.declared.operation.Operation.TheVariants.{Measurement, MeasurementReset, ProductMeasurement, PauliError, CorrelatedError}
+use Rattle.stim_parser.specs.declared.operation.Operation.TheVariants.{ProductMeasurement}
 use Rattle.stim_parser.specs.declared.target.Target.{Target}
 use Rattle.stim_parser.specs.Circuits.{AllFit}
 use Rattle.stim_parser.specs.Texts.{Item}
@@ -10,29 +10,14 @@ use Rattle.stim_parser.specs.Trees.{Tree}
 use Rattle.stim_lexer.specs.Trees.{Nothing, Then, Block, InstructionLine, BlockStart, BlockEnd}
 use Rattle.stim_parser.specs.Judged.{items_of}
 use Rattle.stim_parser.specs.Verdicts.{Instruction}
-use Rattle.unroll.specs.private.Kept.{entries_of, entry_at, flip_entries, operation_entries, operation_products, products_in}
+use Rattle.unroll.specs.private.Kept.{operation_products, products_in}
 use Rattle.unroll.specs.Targets.{term_of}
 use Rattle.stim_parser.specs.Limits.{products_of}
-use Rattle.unroll.specs.Totals.{step_total, target_count, first_argument}
+use Rattle.unroll.specs.Totals.{step_total, target_count}
 use Rattle.unroll.specs.private.MadeTotals.{step_count}
 use Rattle.stim_lexer.specs.Reached.{total}
 
 -- ---- one instruction
-
-few_flips : (arguments : List (List ℕ)) → length (flip_entries arguments) ≤ 1
-few_flips [] = omega arith
-few_flips (p ∷ arguments) = omega arith
-
-few_operation_entries : (o : Operation) (arguments : List (List ℕ)) (targets : List Target) → length (operation_entries o arguments targets) ≤ 1 + target_count o targets
-few_operation_entries (Measurement l) arguments targets = omega (arith, few_flips arguments)
-few_operation_entries (MeasurementReset l) arguments targets = omega (arith, few_flips arguments)
-few_operation_entries ProductMeasurement arguments targets = omega (arith, few_flips arguments)
-few_operation_entries (PauliError l) arguments targets = omega (arith, length-map targets (entry_at l (first_argument arguments)))
-few_operation_entries CorrelatedError arguments targets = omega arith
-few_operation_entries o arguments targets = omega arith
-
-pub few_entries : (i : Instruction) → length (entries_of i) ≤ step_count i
-few_entries i = few_operation_entries i.operation i.arguments i.targets
 
 few_operation_products : (o : Operation) (targets : List Target) → length (operation_products o targets) ≤ 1 + target_count o targets
 few_operation_products ProductMeasurement targets = omega (arith, length-map (products_of targets) (map term_of))

@@ -10,6 +10,7 @@ pub mod Items
 pub mod Kept
 pub mod Made
 pub mod MadeTotals
+pub mod Named
 pub mod Numbered
 pub mod Observables
 pub mod Passes

@@ -1,16 +1,16 @@
-ghost use Rattle.std.specs.Prelude.{◌≡◌, ◌<◌, ◌≤◌, [], ◌∷◌, All, length, map, slice_index_or, OnOk};
+ghost use Rattle.std.specs.Prelude.{◌≡◌, ◌<◌, ◌≤◌, [], ◌∷◌, All, length, map, slice_index_or, IfOk, OnOk};
 ghost use Rattle.step_model.specs.Chances.{no_chance};
 ghost use Rattle.stim_parser.specs.Kept.{instruction_in, list_in};
 ghost use Rattle.programs.specs.Entries.{entry_from};
-ghost use Rattle.unroll.specs.private.Kept.{entries_of as entries_made, flip_entries};
+ghost use Rattle.unroll.specs.private.Kept.{error_entries, flip_entries, record_entries};
 ghost use Rattle.unroll.specs.Targets.{pauli_letter, term_at, term_of};
-ghost use Rattle.unroll.specs.private.Numbered.{IsFlipNumber, IsInstructionNumber, with_entries};
-ghost use Rattle.unroll.specs.private.Pushed.{IsSmall};
+ghost use Rattle.unroll.specs.private.Numbered.{IsFlipNumber, IsInstructionNumber};
+ghost use Rattle.unroll.specs.private.Pushed.{AddsFaults, IsSmall, NamesFlip};
 ghost use Rattle.unroll.specs.Totals.{qubits_to};
 
 use crate::targets::qubit_of;
 use pauli_word::Letter;
-use programs::EntryBuilder;
+use programs::{CircuitBuilder, EntryBuilder, TextStep};
 use std::alloc::{AllocError, Allocator};
 use step_model::Term;
 use stim_parser::{Instruction, Operation, Target, Targets, has_argument};
@@ -53,8 +53,9 @@ fn name_terms<A: Allocator + Copy>(
     Ok(())
 }
 
-/// Appends an entry of one letter for each target, of the probability with a number.
-fn push_entries<A: Allocator + Copy>(
+/// Appends a fault of this letter for each target, of the probability with a number.
+fn push_letters<A: Allocator + Copy>(
+    builder: &mut CircuitBuilder<A>,
     entries: &mut EntryBuilder<'_, A>,
     number: usize,
     letter: Letter,
@@ -63,43 +64,25 @@ fn push_entries<A: Allocator + Copy>(
     requires small { All IsSmall (list_in targets) }
     requires there { number < length entries.old.chances }
     ensures { OnOk result
-        (entries.new
-        ≡ with_entries
+        (AddsFaults
         (map
         (λ target. entry_from (slice_index_or entries.old.chances number no_chance)
         (term_at letter target ∷ []))
         (list_in targets.entry))
-        entries.old) }
+        builder.old builder.new entries.old entries.new) }
 {
     let mut rest = targets;
     while let Some((target, after)) = rest.split_first() {
-        entries.push(number, &[term_at(letter, target)])?;
+        let entry = entries.name_letter(number, term_at(letter, target))?;
+        builder.push(TextStep::Fault(entry))?;
         rest = after;
     }
     Ok(())
 }
 
-/// Appends the entry of a measurement, where it has a probability.
-fn push_flip<A: Allocator + Copy>(
-    entries: &mut EntryBuilder<'_, A>,
-    instruction: Instruction<'_, '_>,
-) -> Result<(), AllocError>
-    requires { IsFlipNumber entries.old.chances (instruction_in instruction).arguments
-        instruction.mark }
-    ensures { OnOk result
-        (entries.new
-        ≡ with_entries (flip_entries (instruction_in instruction.entry).arguments)
-        entries.old) }
-{
-    if has_argument(instruction.arguments) {
-        entries.push(instruction.mark as usize, &[])
-    } else {
-        Ok(())
-    }
-}
-
-/// Appends the entries of an instruction, whose mark is the number of its probability.
-pub(crate) fn push_instruction<A: Allocator + Copy>(
+/// Appends the faults of an instruction's errors. The mark of the instruction is the number of its probability.
+pub(crate) fn push_errors<A: Allocator + Copy>(
+    builder: &mut CircuitBuilder<A>,
     entries: &mut EntryBuilder<'_, A>,
     terms: &mut Vec<Term, A>,
     instruction: Instruction<'_, '_>,
@@ -108,18 +91,62 @@ pub(crate) fn push_instruction<A: Allocator + Copy>(
     requires number { IsInstructionNumber entries.old.chances (instruction_in instruction)
         instruction.mark }
     ensures { OnOk result
-        (entries.new ≡ with_entries (entries_made (instruction_in instruction.entry)) entries.old) }
+        (AddsFaults
+        (error_entries (instruction_in instruction.entry).operation
+        (instruction_in instruction.entry).arguments (instruction_in instruction.entry).targets)
+        builder.old builder.new entries.old entries.new) }
 {
     let number = instruction.mark as usize;
     match instruction.operation {
-        Operation::Measurement(_)
-        | Operation::MeasurementReset(_)
-        | Operation::ProductMeasurement => { push_flip(entries, instruction) }
-        Operation::PauliError(letter) => push_entries(entries, number, letter, instruction.targets),
+        Operation::PauliError(letter) => {
+            push_letters(builder, entries, number, letter, instruction.targets)
+        }
         Operation::CorrelatedError => {
             name_terms(terms, instruction.targets)?;
-            entries.push(number, terms)
+            let entry = entries.append(number, terms)?;
+            builder.push(TextStep::Fault(entry))?;
+            Ok(())
         }
         _ => Ok(()),
+    }
+}
+
+/// Names the entry of a measurement's faults, where it has a probability.
+fn name_flip<A: Allocator + Copy>(
+    entries: &mut EntryBuilder<'_, A>,
+    instruction: Instruction<'_, '_>,
+) -> Result<Option<u32>, AllocError>
+    requires { IsFlipNumber entries.old.chances (instruction_in instruction).arguments
+        instruction.mark }
+    ensures { IfOk result
+        (NamesFlip (flip_entries (instruction_in instruction.entry).arguments) entries.old
+        entries.new) }
+{
+    if has_argument(instruction.arguments) {
+        let entry = entries.name_flip(instruction.mark as usize)?;
+        Ok(Some(entry))
+    } else {
+        Ok(None)
+    }
+}
+
+/// Names the entry of the faults that flip an instruction's records, where it makes any.
+pub(crate) fn flip_of<A: Allocator + Copy>(
+    entries: &mut EntryBuilder<'_, A>,
+    instruction: Instruction<'_, '_>,
+) -> Result<Option<u32>, AllocError>
+    requires { IsInstructionNumber entries.old.chances (instruction_in instruction)
+        instruction.mark }
+    ensures { IfOk result
+        (NamesFlip
+        (record_entries (instruction_in instruction.entry).operation
+        (instruction_in instruction.entry).arguments)
+        entries.old entries.new) }
+{
+    match instruction.operation {
+        Operation::Measurement(_)
+        | Operation::MeasurementReset(_)
+        | Operation::ProductMeasurement => name_flip(entries, instruction),
+        _ => Ok(None),
     }
 }

@@ -1,7 +1,7 @@
 ghost use Rattle.std.specs.Prelude.{◌≡◌, ◌+◌, ◌<◌, ◌^◌, ◌≤◌, All, length, map, OnOk};
 ghost use Rattle.stim_parser.specs.Kept.{list_in};
 ghost use Rattle.pauli_word.specs.Parity.{exclusive_or};
-ghost use Rattle.unroll.specs.private.Made.{fault_steps, operation_steps, pair_step, pair_steps, product_steps, record_back};
+ghost use Rattle.unroll.specs.private.Made.{pair_step, pair_steps, plain_steps, product_steps, record_back};
 ghost use Rattle.unroll.specs.StepsMade.{fed_letter};
 ghost use Rattle.stim_parser.specs.Limits.{products_of, qubit_of};
 ghost use Rattle.unroll.specs.Targets.{is_inverted};
@@ -173,23 +173,6 @@ fn push_pairs<A: Allocator + Copy>(
     Ok(())
 }
 
-/// Appends a fault of each target; the entry of the first has this number.
-fn push_faults<A: Allocator + Copy>(
-    builder: &mut CircuitBuilder<A>,
-    first: u32,
-    targets: Targets<'_>,
-) -> Result<(), AllocError>
-    requires { first + length (list_in targets) < 2 ^ 32 }
-    ensures { OnOk result (Adds (fault_steps first (list_in targets.entry)) builder.old builder.new) }
-{
-    let mut entry = first;
-    for _ in 0..targets.len() {
-        builder.push(TextStep::Fault(entry))?;
-        entry += 1;
-    }
-    Ok(())
-}
-
 /// Appends a collapse of each product; the first product has this number. A collapse is the projective measurement
 /// inside a measurement or a reset.
 fn push_products<A: Allocator + Copy>(
@@ -222,21 +205,19 @@ fn push_products<A: Allocator + Copy>(
     Ok(())
 }
 
-/// Appends the steps of an operation with these targets, where this many entries and products are kept before it.
+/// Appends the steps of an operation with these targets, without its errors. This many products are kept before it, and
+/// `flip` is the entry of the faults that flip its records.
 pub(crate) fn push_steps<A: Allocator + Copy>(
     builder: &mut CircuitBuilder<A>,
     operation: Operation,
-    entries: u32,
     products: u32,
     flip: Option<u32>,
     targets: Targets<'_>,
 ) -> Result<(), AllocError>
     requires small { All IsSmall (list_in targets) }
-    requires entries { entries + target_count operation (list_in targets) < 2 ^ 32 }
     requires products { products + target_count operation (list_in targets) < 2 ^ 32 }
     ensures { OnOk result
-        (Adds (operation_steps operation entries products flip (list_in targets.entry)) builder.old
-        builder.new) }
+        (Adds (plain_steps operation products flip (list_in targets.entry)) builder.old builder.new) }
 {
     match operation {
         Operation::Applies(gate) => {
@@ -266,8 +247,6 @@ pub(crate) fn push_steps<A: Allocator + Copy>(
         ),
         Operation::QubitReset(letter) => push_singles(builder, Single::QubitReset(letter), targets),
         Operation::ProductMeasurement => push_products(builder, flip, products, targets),
-        Operation::PauliError(_) => push_faults(builder, entries, targets),
-        Operation::CorrelatedError => builder.push(TextStep::Fault(entries)),
         _ => Ok(()),
     }
 }

@@ -3,23 +3,21 @@ ghost use Rattle.step_model.specs.Chances.{chance_of};
 ghost use Rattle.programs.specs.Trees.{IsCircuit, tree_of, unrolled};
 ghost use Rattle.stim_lexer.specs.Kept.{mark_in};
 ghost use Rattle.stim_parser.specs.Kept.{instruction_in, item_in};
-ghost use Rattle.unroll.specs.private.Drafts.{CanWrite, HasRoom, Writes, draft_of, with_instruction};
-ghost use Rattle.unroll.specs.private.Kept.{kept_entries, kept_products};
-ghost use Rattle.unroll.specs.StepsMade.{flip_of};
+ghost use Rattle.unroll.specs.private.Drafts.{CanWrite, HasRoom, HasWritten, Writes, draft_of};
+ghost use Rattle.unroll.specs.private.Assembled.{IsWritten};
 ghost use Rattle.unroll.specs.private.Numbered.{IsInstructionNumber, IsItemNumber};
 ghost use Rattle.unroll.specs.private.Counted.{first_far_from};
-ghost use Rattle.unroll.specs.private.Steps.{steps_of};
 ghost use Rattle.unroll.specs.Totals.{step_total};
 ghost use Rattle.unroll.specs.private.MadeTotals.{record_total};
 
-use crate::entries::push_instruction;
+use crate::entries::{flip_of, push_errors};
 use crate::products::push_kept_products;
 use crate::steps::push_steps;
 use flat_lists::FlatLists;
 use programs::{CircuitBuilder, Entries, EntryBuilder, Nodes};
 use std::alloc::{AllocError, Allocator};
 use step_model::{ChanceText, Term};
-use stim_parser::{Circuit, Instruction, Item, Numbered, has_argument};
+use stim_parser::{Circuit, Instruction, Item, Numbered};
 
 /// A circuit's steps with its blocks, and what is kept beside them.
 #[derive(Drop)]
@@ -39,17 +37,6 @@ struct Writing<'a, A: Allocator + Copy> {
     terms: Vec<Term, A>,
 }
 
-/// The entry of the fault that flips an instruction's records, where the instruction has an argument.
-fn flip_of(entry: u32, instruction: Instruction<'_, '_>) -> Option<u32>
-    ensures { result ≡ flip_of entry (instruction_in instruction.entry).arguments }
-{
-    if has_argument(instruction.arguments) {
-        Some(entry)
-    } else {
-        None
-    }
-}
-
 impl<'a, A: Allocator + Copy> Writing<'a, A> {
     /// Nothing so far. The probabilities of all instructions are among these.
     fn new(alloc: A, texts: Vec<ChanceText<'a>, A>) -> Self
@@ -65,30 +52,27 @@ impl<'a, A: Allocator + Copy> Writing<'a, A> {
         }
     }
 
-    /// Writes down an instruction. What is kept of it is numbered from what is kept already.
+    /// Writes down an instruction. Its products are numbered from those that are kept already.
     fn write_instruction(&mut self, instruction: Instruction<'_, 'a>) -> Result<(), AllocError>
         requires room { HasRoom (instruction_in instruction) (draft_of self.old) }
         requires number { IsInstructionNumber self.old.entries.chances (instruction_in instruction)
             instruction.mark }
         ensures draft { OnOk result
-            (draft_of self.new
-            ≡ with_instruction (instruction_in instruction.entry) (draft_of self.old)) }
+            (HasWritten (instruction_in instruction.entry) (draft_of self.old)
+            (draft_of self.new)) }
         ensures chances { OnOk result (self.new.entries.chances ≡ self.old.entries.chances) }
     {
         let operation = instruction.operation;
         let targets = instruction.targets;
-        let entries = self.entries.len() as u32;
         let products = self.products.len() as u32;
-        let flip = flip_of(entries, instruction);
-        push_steps(
+        push_errors(
             &mut self.builder,
-            operation,
-            entries,
-            products,
-            flip,
-            targets,
+            &mut self.entries,
+            &mut self.terms,
+            instruction,
         )?;
-        push_instruction(&mut self.entries, &mut self.terms, instruction)?;
+        let flip = flip_of(&mut self.entries, instruction)?;
+        push_steps(&mut self.builder, operation, products, flip, targets)?;
         push_kept_products(&mut self.products, &mut self.terms, operation, targets)
     }
 
@@ -131,10 +115,7 @@ pub(crate) fn written_of<'a, A: Allocator + Copy>(
     requires near { first_far_from 0 circuit ≡ None }
     requires few_records { record_total circuit < 2 ^ 32 }
     requires few_steps { step_total circuit < 2 ^ 32 }
-    ensures circuit { IfOk result (λ w. IsCircuit w.nodes) }
-    ensures steps { IfOk result (λ w. unrolled (tree_of w.nodes) ≡ steps_of circuit.entry) }
-    ensures entries { IfOk result (λ w. w.entries ≡ kept_entries circuit.entry) }
-    ensures products { IfOk result (λ w. w.products ≡ kept_products circuit.entry) }
+    ensures { IfOk result (IsWritten circuit.entry) }
 {
     let Numbered { items, texts } = circuit.numbered();
     let mut writing = Writing::new(alloc, texts);

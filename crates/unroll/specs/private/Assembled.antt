@@ -1,16 +1,18 @@
 -- The parts that make the program of a circuit: its steps with their blocks, how many there are once unrolled, and what
 -- stands beside them.
 -- (Stim's circuit format, github.com/quantumlib/Stim, doc/file_format_stim_circuit.md.)
-use Rattle.std.specs.Prelude.{◌≡◌}
+use Rattle.std.specs.Prelude.{◌≡◌, ℕ, List, [], map}
 use Rattle.programs.specs.declared.program.Parts.{Parts}
 use Rattle.programs.specs.declared.step.Counts.{Counts}
 use Rattle.programs.specs.Made.{text_steps}
-use Rattle.programs.specs.Trees.{IsCircuit}
+use Rattle.programs.specs.Trees.{IsCircuit, tree_of, unrolled}
 use Rattle.stim_parser.specs.Trees.{Tree}
 use Rattle.unroll.specs.declared.assembly.Lists.{Lists}
+use Rattle.unroll.specs.declared.writing.Written.{Written}
 use Rattle.unroll.specs.private.Coordinates.{coordinates_of}
 use Rattle.unroll.specs.private.Detectors.{detectors_of}
 use Rattle.unroll.specs.private.Kept.{kept_entries, kept_products}
+use Rattle.unroll.specs.private.Named.{KeepsAs, renamed}
 use Rattle.unroll.specs.private.Observables.{observables_of}
 use Rattle.unroll.specs.private.Steps.{steps_of}
 use Rattle.unroll.specs.Totals.{qubit_total}
@@ -26,11 +28,12 @@ pub record ArePartsOf {A : Type 0} (tree : Tree) (parts : Parts A) : Type 0 wher
   pub steps : parts.steps ≡ made_total tree
   pub counts : parts.counts ≡ counts_in tree
   pub circuit : IsCircuit parts.nodes
-  pub unrolled : text_steps parts ≡ steps_of tree
+  pub names : List ℕ
+  pub unrolled : text_steps parts ≡ map (renamed names) (steps_of tree)
   pub detectors : parts.detectors ≡ detectors_of tree
   pub observables : parts.observables ≡ observables_of tree
   pub coordinates : parts.coordinates ≡ coordinates_of tree
-  pub kept : parts.entries ≡ kept_entries tree
+  pub kept : KeepsAs (kept_entries tree) names [] parts.entries
   pub products : parts.products ≡ kept_products tree
 
 -- these are the tree's targets, and the coordinates of its detectors
@@ -38,3 +41,11 @@ pub record HasLists {A : Type 0} (tree : Tree) (lists : Lists A) : Type 0 where
   pub detectors : lists.detectors ≡ detectors_of tree
   pub observables : lists.observables ≡ observables_of tree
   pub coordinates : lists.coordinates ≡ coordinates_of tree
+
+-- these are the tree's steps, and what is kept beside them
+pub record IsWritten {A : Type 0} (tree : Tree) (written : Written A) : Type 0 where
+  pub circuit : IsCircuit written.nodes
+  pub names : List ℕ
+  pub steps : unrolled (tree_of written.nodes) ≡ map (renamed names) (steps_of tree)
+  pub entries : KeepsAs (kept_entries tree) names [] written.entries
+  pub products : written.products ≡ kept_products tree

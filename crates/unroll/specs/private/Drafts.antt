@@ -2,7 +2,7 @@
 -- stands in a block is written once. At the end of the block its steps are repeated as often as it has turns, and what
 -- is kept of them stays as it is. (Stim's circuit format, github.com/quantumlib/Stim, doc/file_format_stim_circuit.md,
 -- "REPEAT blocks".)
-use Rattle.std.specs.Prelude.{◌≡◌, ◌+◌, ◌<◌, ◌^◌, ℕ, List, [], ◌∷◌, ◌++◌, length, All}
+use Rattle.std.specs.Prelude.{◌≡◌, ◌+◌, ◌<◌, ◌^◌, ℕ, List, [], ◌∷◌, ◌++◌, length, map, All}
 use Rattle.programs.specs.declared.step.TextStep.{TextStep}
 use Rattle.programs.specs.Builders.{OpenBlock}
 use Rattle.programs.specs.Trees.{repeated}
@@ -13,6 +13,7 @@ use Rattle.stim_lexer.specs.Trees.{InstructionLine, BlockStart, BlockEnd}
 use Rattle.stim_parser.specs.Verdicts.{Instruction}
 use Rattle.unroll.specs.declared.writing.Writing.{Writing}
 use Rattle.unroll.specs.private.Kept.{entries_of, products_in}
+use Rattle.unroll.specs.private.Named.{KeepsAs, renamed}
 use Rattle.unroll.specs.private.Pushed.{IsSmall}
 use Rattle.unroll.specs.private.Steps.{instruction_steps}
 use Rattle.unroll.specs.Totals.{target_count}
@@ -34,10 +35,9 @@ draft_of w =
       products = w.products;
     }
 
--- the numbers of an instruction's targets fit its steps, and so do those of what is kept of it
+-- the numbers of an instruction's targets fit its steps, and so do those of its products
 pub record HasRoom (i : Instruction) (d : Draft) : Type 0 where
   pub small : All IsSmall i.targets
-  pub entries : length d.entries + target_count i.operation i.targets < 2 ^ 32
   pub products : length d.products + target_count i.operation i.targets < 2 ^ 32
 
 -- an item can be written down here
@@ -46,15 +46,13 @@ CanWrite (InstructionLine i) d = HasRoom i d
 CanWrite (BlockStart line turns) d = (0 < turns) × (length d.outer < 32)
 CanWrite BlockEnd d = 0 < length d.outer
 
--- a draft with one more instruction
-abbrev pub with_instruction : Instruction → Draft → Draft
-with_instruction i d =
-    record {
-      outer = d.outer;
-      here = d.here ++ instruction_steps (length d.entries) (length d.products) i;
-      entries = d.entries ++ entries_of i;
-      products = d.products ++ products_in i;
-    }
+-- a draft with one more instruction, whose entries are kept under these numbers
+pub record HasWritten (i : Instruction) (old new : Draft) : Type 0 where
+  pub names : List ℕ
+  pub entries : KeepsAs (entries_of i) names old.entries new.entries
+  pub outer : new.outer ≡ old.outer
+  pub here : (before more : List ℕ) → new.here ≡ old.here ++ map (renamed (before ++ (names ++ more))) (instruction_steps (length before) (length old.products) i)
+  pub products : new.products ≡ old.products ++ products_in i
 
 -- a draft with one more open block
 abbrev pub with_block : ℕ → Draft → Draft
@@ -76,6 +74,6 @@ pub record HasEnded (old new : Draft) : Type 0 where
 
 -- what an item makes of a draft
 abbrev pub Writes : Item → Draft → Draft → Type 0
-Writes (InstructionLine i) old new = new ≡ with_instruction i old
+Writes (InstructionLine i) old new = HasWritten i old new
 Writes (BlockStart line turns) old new = new ≡ with_block turns old
 Writes BlockEnd old new = HasEnded old new

@@ -1,6 +1,6 @@
--- What is kept of a circuit's faults and products, once for each place of the text. A measurement with a probability
--- keeps one entry for all its records; an error of one letter keeps an entry for each target, CORRELATED_ERROR one
--- entry for its line. An entry has the text of the probability as it stands, without the blanks around it, its bound,
+-- What a circuit's faults and products are kept as, once for each place of the text. A measurement with a probability
+-- has one entry for all its records; an error of one letter has an entry for each target, CORRELATED_ERROR one entry for
+-- its line. An entry has the text of the probability as it stands, without the blanks around it, its bound,
 -- which is floor of the probability times 2^64, and the letters at qubits that the fault applies: none where it flips a
 -- record. MPP keeps each of its products. (Stim's gate reference, github.com/quantumlib/Stim, doc/gates.md.)
 use Rattle.std.specs.Prelude.{ℕ, List, [], ◌∷◌, map, unwrap_or}
@@ -33,14 +33,24 @@ abbrev pub flip_entries : List (List ℕ) → List Kept
 flip_entries [] = []
 flip_entries (probability ∷ arguments) = entry_of [] probability ∷ []
 
--- the entries of an operation with these arguments and targets
+-- the entries of an operation's errors, with these arguments and targets
+abbrev pub error_entries : Operation → List (List ℕ) → List Target → List Kept
+error_entries (PauliError l) arguments targets = map (entry_at l (first_argument arguments)) targets
+error_entries CorrelatedError arguments targets = entry_of (map term_of targets) (first_argument arguments) ∷ []
+error_entries operation arguments targets = []
+
+-- the entry of an operation's records
+abbrev pub record_entries : Operation → List (List ℕ) → List Kept
+record_entries (Measurement l) arguments = flip_entries arguments
+record_entries (MeasurementReset l) arguments = flip_entries arguments
+record_entries ProductMeasurement arguments = flip_entries arguments
+record_entries operation arguments = []
+
+-- all entries of an operation
 abbrev pub operation_entries : Operation → List (List ℕ) → List Target → List Kept
-operation_entries (Measurement l) arguments targets = flip_entries arguments
-operation_entries (MeasurementReset l) arguments targets = flip_entries arguments
-operation_entries ProductMeasurement arguments targets = flip_entries arguments
-operation_entries (PauliError l) arguments targets = map (entry_at l (first_argument arguments)) targets
-operation_entries CorrelatedError arguments targets = entry_of (map term_of targets) (first_argument arguments) ∷ []
-operation_entries operation arguments targets = []
+operation_entries (PauliError l) arguments targets = error_entries (PauliError l) arguments targets
+operation_entries CorrelatedError arguments targets = error_entries CorrelatedError arguments targets
+operation_entries operation arguments targets = record_entries operation arguments
 
 abbrev pub entries_of : Instruction → List Kept
 entries_of instruction = operation_entries instruction.operation instruction.arguments instruction.targets

@@ -73,14 +73,18 @@ fault_steps e (target ∷ targets) = step.Fault e ∷ fault_steps (e + 1) target
 
 -- ---- instructions
 
--- the steps of an operation with these targets, where e entries and p products are kept before it, and where `flip` is
--- the entry of the fault that may flip its records
+-- the steps of an operation without errors, where p products are kept before it, and where `flip` is the entry of the
+-- fault that may flip its records
+abbrev pub plain_steps : Operation → ℕ → Option ℕ → List Target → List TextStep
+plain_steps (Applies g) p flip targets = gate_steps g targets
+plain_steps (Measurement l) p flip targets = map (measure_step l false flip) targets
+plain_steps (QubitReset l) p flip targets = map (reset_step l) targets
+plain_steps (MeasurementReset l) p flip targets = map (measure_step l true flip) targets
+plain_steps ProductMeasurement p flip targets = product_steps flip p (products_of targets)
+plain_steps operation p flip targets = []
+
+-- the steps of an operation with these targets, where e entries and p products are kept before it
 abbrev pub operation_steps : Operation → ℕ → ℕ → Option ℕ → List Target → List TextStep
-operation_steps (Applies g) e p flip targets = gate_steps g targets
-operation_steps (Measurement l) e p flip targets = map (measure_step l false flip) targets
-operation_steps (QubitReset l) e p flip targets = map (reset_step l) targets
-operation_steps (MeasurementReset l) e p flip targets = map (measure_step l true flip) targets
-operation_steps ProductMeasurement e p flip targets = product_steps flip p (products_of targets)
 operation_steps (PauliError l) e p flip targets = fault_steps e targets
 operation_steps CorrelatedError e p flip targets = step.Fault e ∷ []
-operation_steps operation e p flip targets = []
+operation_steps operation e p flip targets = plain_steps operation p flip targets

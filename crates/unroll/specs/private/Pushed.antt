@@ -1,17 +1,20 @@
 -- The steps of an instruction as they are appended to a circuit that is being written down, one target, one pair or one
 -- product at a time.
 -- (Stim's gate reference, github.com/quantumlib/Stim, doc/gates.md.)
-use Rattle.std.specs.Prelude.{◌≡◌, ◌+◌, ◌<◌, ◌≤◌, ◌^◌, ℕ, Bool, true, if◌then◌else◌, List, [], ◌∷◌, ◌++◌, length, All, Option, Some}
+use Rattle.std.specs.Prelude.{◌≡◌, ◌+◌, ◌<◌, ◌≤◌, ◌^◌, ℕ, Bool, true, if◌then◌else◌, List, [], ◌∷◌, ◌++◌, length, map, All, Option, Some, option_to_list}
 use Rattle.std.specs.List.{onto_first}
 use Rattle.pauli_word.specs.Parity.{exclusive_or}
 use Rattle.programs.specs.declared.step.TextStep.{TextStep}
 use Rattle.programs.specs.declared.step.TextStep.TheVariants as step
 use Rattle.programs.specs.Builders.{Building}
+use Rattle.programs.specs.Entries.{Gathered}
+use Rattle.programs.specs.Kept.{Kept}
 use Rattle.stim_parser.specs.declared.target.Target.{Target}
 use Rattle.stim_parser.specs.declared.target.Target.TheVariants.{Back}
 use Rattle.unroll.specs.declared.steps.Single.{Single}
 use Rattle.unroll.specs.declared.steps.Single.TheVariants.{Applies, Measurement, QubitReset}
 use Rattle.unroll.specs.private.Made.{measure_step, one_step, product_steps, recording, reset_step}
+use Rattle.unroll.specs.private.Named.{KeepsAs}
 use Rattle.stim_parser.specs.Limits.{products_of}
 use Rattle.unroll.specs.Targets.{is_product_inverted}
 use Rattle.unroll.specs.Totals.{qubits_to}
@@ -20,6 +23,18 @@ use Rattle.unroll.specs.Totals.{qubits_to}
 pub record Adds (steps : List TextStep) (old new : Building) : Type 0 where
   pub outer : new.outer ≡ old.outer
   pub here : new.here ≡ old.here ++ steps
+
+-- it has a fault more for each of these entries
+pub record AddsFaults (entries : List Kept) (old new : Building) (old_kept new_kept : Gathered) : Type 0 where
+  pub names : List ℕ
+  pub steps : Adds (map step.Fault names) old new
+  pub chances : new_kept.chances ≡ old_kept.chances
+  pub kept : KeepsAs entries names old_kept.kept new_kept.kept
+
+-- the entry of an instruction's records, where it has one, is kept under this number
+pub record NamesFlip (entries : List Kept) (old new : Gathered) (flip : Option ℕ) : Type 0 where
+  pub chances : new.chances ≡ old.chances
+  pub kept : KeepsAs entries (option_to_list flip) old.kept new.kept
 
 -- how far back a target reaches
 abbrev pub back_of : Target → ℕ

@@ -15,6 +15,7 @@ returns g c =
       steps = whole.made;
       counts = counts_are t c.args.totals whole;
       circuit = c.in_ok-written.ensures.circuit;
+      names = c.in_ok-written.ensures.names;
       unrolled = c.in_ok-written.ensures.steps;
       detectors = c.in_ok-lists.ensures.detectors;
       observables = c.in_ok-lists.ensures.observables;

@@ -1,25 +1,28 @@
-use Rattle.std.proofs.Common.{List, map, length, ap, subst, refl, sym, ◌∙◌, arith}
+use Rattle.std.proofs.Common.{List, [], map, length, ap, subst, refl, sym, ◌∙◌, arith}
 use Rattle.std.specs.Prelude.{slice_get}
 use Rattle.step_model.specs.Chances.{Chance, chance_of}
 use Rattle.stim_lexer.specs.Kept.{mark_in}
 use Rattle.stim_parser.specs.Kept.{item_in}
 use Rattle.stim_parser.specs.Texts.{Item}
 use Rattle.unroll.specs.private.Drafts.{Draft, draft_of}
+use Rattle.programs.specs.Kept.{Kept}
+use Rattle.unroll.specs.private.Kept.{kept_entries}
+use Rattle.unroll.specs.private.Named.{KeepsAs}
 use Rattle.unroll.specs.private.Numbered.{IsItemNumber}
-use Rattle.unroll.proofs.DraftLemmas.{IsDrafting, drafting-can, drafting-done, drafting-first, drafting-next}
+use Rattle.unroll.proofs.RenamedDrafts.{HasAll, IsWriting, writing-can, writing-done, writing-first, writing-next}
 use Rattle.unroll.proofs.NumberLemmas.{number_at}
 use Rattle.unroll.proofs.writing.written_of.Goals as goal
 
 pub loop-i-init : goal.loop-i-init
 loop-i-init g c = (
-  subst (λ (d : Draft). IsDrafting c.args.circuit 0 d) (sym c.new-writing.ensures.draft)
-      (drafting-first c.args.circuit c.numbered-items.ensures.fits c.requires.near c.requires.few_records),
+  subst (λ (d : Draft). IsWriting c.args.circuit 0 d) (sym c.new-writing.ensures.draft)
+      (writing-first c.args.circuit c.numbered-items.ensures.fits c.requires.near c.requires.few_records),
   refl,
 )
 
 pub write_item-requires-clause-can : goal.write_item-requires-clause-can
 write_item-requires-clause-can g c =
-    drafting-can c.args.circuit c.loop-i.i (draft_of c.loop-i.writing) (item_in c.get.result) c.requires.few_steps c.loop-i.invariant.0
+    writing-can c.args.circuit c.loop-i.i (draft_of c.loop-i.writing) (item_in c.get.result) c.requires.few_steps c.loop-i.invariant.0
     (c.get.ensures.item ∙ ap (λ (items : List Item). slice_get items c.loop-i.i) c.numbered-items.ensures.items)
 
 pub write_item-requires-clause-number : goal.write_item-requires-clause-number
@@ -32,7 +35,7 @@ write_item-requires-clause-number g c =
 
 pub loop-i-preserved : goal.loop-i-preserved
 loop-i-preserved g c = (
-  drafting-next c.args.circuit c.loop-i.i (draft_of c.loop-i.writing) _ (item_in c.get.result) c.loop-i.invariant.0
+  writing-next c.args.circuit c.loop-i.i (draft_of c.loop-i.writing) _ (item_in c.get.result) c.loop-i.invariant.0
       (c.get.ensures.item ∙ ap (λ (items : List Item). slice_get items c.loop-i.i) c.numbered-items.ensures.items)
       c.in_ok-write_item.ensures.writes,
   c.in_ok-write_item.ensures.chances ∙ c.loop-i.invariant.1,
@@ -40,19 +43,15 @@ loop-i-preserved g c = (
 
 pub finish-requires : goal.finish-requires
 finish-requires g c =
-    (drafting-done c.args.circuit c.loop-i.i (draft_of c.loop-i.writing) c.loop-i.invariant.0 (omega (arith, c.len-i-end.ensures, ap length c.numbered-items.ensures.items))).outer
+    (writing-done c.args.circuit c.loop-i.i (draft_of c.loop-i.writing) c.loop-i.invariant.0 (omega (arith, c.len-i-end.ensures, ap length c.numbered-items.ensures.items))).outer
 
-pub returns-clause-steps : goal.returns-clause-steps
-returns-clause-steps g c =
-    c.finish.ensures.steps
-    ∙ (drafting-done c.args.circuit c.loop-i.i (draft_of c.loop-i.writing) c.loop-i.invariant.0 (omega (arith, c.len-i-end.ensures, ap length c.numbered-items.ensures.items))).here
-
-pub returns-clause-entries : goal.returns-clause-entries
-returns-clause-entries g c =
-    c.finish.ensures.entries
-    ∙ (drafting-done c.args.circuit c.loop-i.i (draft_of c.loop-i.writing) c.loop-i.invariant.0 (omega (arith, c.len-i-end.ensures, ap length c.numbered-items.ensures.items))).entries
-
-pub returns-clause-products : goal.returns-clause-products
-returns-clause-products g c =
-    c.finish.ensures.products
-    ∙ (drafting-done c.args.circuit c.loop-i.i (draft_of c.loop-i.writing) c.loop-i.invariant.0 (omega (arith, c.len-i-end.ensures, ap length c.numbered-items.ensures.items))).products
+pub returns : goal.returns
+returns g c =
+    let all = writing-done c.args.circuit c.loop-i.i (draft_of c.loop-i.writing) c.loop-i.invariant.0 (omega (arith, c.len-i-end.ensures, ap length c.numbered-items.ensures.items)) in
+    record {
+      circuit = c.finish.ensures.circuit;
+      names = all.names;
+      steps = c.finish.ensures.steps ∙ all.here;
+      entries = subst (λ (ks : List Kept). KeepsAs (kept_entries c.args.circuit) all.names [] ks) (sym c.finish.ensures.entries) all.entries;
+      products = c.finish.ensures.products ∙ all.products;
+    }
