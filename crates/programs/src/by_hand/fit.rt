@@ -20,6 +20,7 @@ use std::alloc::Allocator;
 use step_model::Term;
 
 const MOST_DETECTORS: usize = 1_000_000;
+
 const MOST_OBSERVABLES: usize = 1024;
 // How many steps are gone over at most.
 const MOST_STEPS: usize = 1_000_000;

@@ -7,7 +7,7 @@ use Rattle.unroll.proofs.inclusions.include_records.Given as goal
 abbrev pub invariant-loop-target : goal.invariant-loop-target
 invariant-loop-target g l = record {
   lists :
-    with_more l.observable (records_named l.records (list_in l.rest)) l.lists ≡ with_more l.observable (records_named l.records (list_in l.targets)) l.fn.lists;
+      with_more l.observable (records_named l.records (list_in l.rest)) l.lists ≡ with_more l.observable (records_named l.records (list_in l.targets)) l.fn.lists;
   count : length l.lists ≡ length l.fn.lists;
 }
 

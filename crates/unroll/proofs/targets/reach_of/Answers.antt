@@ -1,9 +1,9 @@
-use Rattle.std.proofs.Common.{◌+◌, ◌≤◌, ◌||◌, List, ◌∷◌, sym, ap, ◌∙◌, subst, arith}
+use Rattle.std.proofs.Common.{◌≤◌, ◌||◌, ◌∷◌, sym, ap, ◌∙◌, subst, arith}
 use Rattle.std.specs.Prelude.{All}
 use Rattle.std.proofs.lemmas.List.Elements.{All-head, All-tail}
 use Rattle.stim_parser.specs.Kept.{list_in}
 use Rattle.stim_parser.specs.declared.target.Target.{Target}
-use Rattle.unroll.specs.Refusals.{is_before_start, reaches_far}
+use Rattle.unroll.specs.Refusals.{reaches_far}
 use Rattle.unroll.specs.Totals.{qubits_to}
 use Rattle.unroll.specs.private.MadeTotals.{qubits_named}
 use Rattle.unroll.proofs.targets.reach_of.Goals as goal

@@ -1,6 +1,6 @@
 use Rattle.std.proofs.Common.{subst}
 use Rattle.std.proofs.lemmas.Result.{on_ok_weaker}
-use Rattle.stim_lexer.specs.Kept.{instruction_in}
+use Rattle.stim_parser.specs.Kept.{instruction_in}
 use Rattle.unroll.specs.private.Made.{plain_steps}
 use Rattle.unroll.specs.private.Pushed.{Adds}
 use Rattle.unroll.proofs.RenamedSteps.{has-written}
