@@ -1,5 +1,5 @@
 -- The parts of a circuit's program fit, and make that program.
-use Rattle.std.proofs.Common.{◌≡◌, ℕ, ℤ, ◌<◌, ◌≤◌, ◌^◌, List, length, map, None, Some, Ok, Err, refl, sym, ap, ap₂, subst, ◌∙◌, arith}
+use Rattle.std.proofs.Common.{◌≡◌, ℕ, ℤ, ◌<◌, ◌≤◌, ◌^◌, List, length, None, Some, Ok, Err, refl, sym, ap, ap₂, subst, ◌∙◌, arith}
 use Rattle.std.specs.Prelude.{All, min}
 use Rattle.std.specs.List.{list_all}
 use Rattle.std.proofs.Math.Nat.{min-eq_left}
@@ -15,7 +15,6 @@ use Rattle.step_model.specs.declared.fault.Fault.{Fault}
 use Rattle.step_model.specs.declared.step.Term.{Term}
 use Rattle.step_model.specs.Faults.{unless}
 use Rattle.step_model.specs.Listing.{Listing}
-use Rattle.programs.specs.Kept.{Kept}
 use Rattle.step_model.specs.WellFormed.{CoordinatesFit, ProductFits}
 use Rattle.stim_parser.specs.Circuits.{IsCircuit}
 use Rattle.stim_parser.specs.Trees.{Tree}

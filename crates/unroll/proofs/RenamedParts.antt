@@ -1,17 +1,16 @@
 -- A program doesn't depend on the numbers under which its entries are kept.
-use Rattle.std.proofs.Common.{◌≡◌, ℕ, ◌+◌, ◌==◌, ◌&&◌, nat_lt, Bool, true, List, [], ◌∷◌, ◌++◌, length, map, Option, None, Some, refl, sym, ap, ap₂, subst, ◌∙◌, arith}
+use Rattle.std.proofs.Common.{◌≡◌, ℕ, ◌+◌, ◌==◌, ◌&&◌, nat_lt, Bool, true, List, [], ◌∷◌, ◌++◌, length, map, Option, None, Some, refl, sym, ap, ap₂, subst, ◌∙◌}
 use Rattle.std.specs.Prelude.{option_map}
 use Rattle.std.specs.List.{list_all}
 use Rattle.std.proofs.lemmas.Bool.{and_from, and_parts, lt-ltb, ltb-true}
 use Rattle.programs.specs.declared.step.Counts.{Counts}
-use Rattle.programs.specs.declared.step.FaultName.{FaultName}
 use Rattle.programs.specs.declared.step.Recording.{Recording}
 use Rattle.programs.specs.declared.step.TextStep.{TextStep}
 use Rattle.programs.specs.declared.step.TextStep.TheVariants.{One, Two, Collapse, CollapseWord, Fault, Feedback}
 use Rattle.programs.specs.Fits.{flip_is_kept, is_kept, recording_is_kept, text_fits}
 use Rattle.programs.specs.Kept.{Kept}
-use Rattle.programs.specs.Listed.{entry_at, fault_of, flip_fault, listed, listed_steps, made_faults, measured, product_at, recorded, recorded_faults, step_made_faults}
-use Rattle.programs.specs.Numbering.{FeedBack, counts_after, counts_over, faults_in_collapse, feeds_back, flip_name, is_inverted, made_by, made_in_collapse, named, numbered_step, record_number}
+use Rattle.programs.specs.Listed.{entry_at, flip_fault, listed, listed_steps, made_faults, measured, product_at, recorded, recorded_faults, step_made_faults}
+use Rattle.programs.specs.Numbering.{FeedBack, counts_after, counts_over, feeds_back, flip_name, is_inverted, made_by, made_in_collapse, named, numbered_step, record_number}
 use Rattle.step_model.specs.declared.step.Term.{Term}
 use Rattle.step_model.specs.Listing.{Applies, Collapse as Collapsed, Flips, ListedFault, Recorded, Word, word_of_terms}
 use Rattle.unroll.specs.private.Named.{KeepsAs, name_at, renamed, renamed_recording}

@@ -1,8 +1,8 @@
 -- The steps of one instruction, which name entries by their numbers.
-use Rattle.std.proofs.Common.{◌≡◌, ℕ, ◌+◌, ◌==◌, Bool, true, false, List, [], ◌∷◌, ◌++◌, length, map, get_or, Option, None, Some, refl, sym, ap, ap₂, subst, ◌∙◌, append_assoc, append-nil, length-append, arith}
+use Rattle.std.proofs.Common.{◌≡◌, ℕ, ◌+◌, ◌==◌, Bool, true, false, List, [], ◌∷◌, ◌++◌, length, map, Option, None, Some, refl, sym, ap, ap₂, subst, ◌∙◌, append_assoc, append-nil, length-append}
 use Rattle.std.specs.Prelude.{if◌then◌else◌, option_map, option_to_list}
 use Rattle.std.proofs.Math.Nat.{suc_inj}
-use Rattle.std.proofs.lemmas.List.{get_or_at, length-map, nil_from_length}
+use Rattle.std.proofs.lemmas.List.{get_or_at, length-map}
 use Rattle.gate_table.specs.declared.gate.Gate.{Gate}
 use Rattle.gate_table.specs.Images.{arity_of}
 use Rattle.pauli_word.specs.declared.letter.Letter.{Letter}
@@ -19,7 +19,7 @@ use Rattle.stim_parser.specs.Limits.{products_of}
 use Rattle.stim_parser.specs.Verdicts.{Instruction}
 use Rattle.unroll.specs.private.Drafts.{HasWritten}
 use Rattle.unroll.specs.private.Kept.{entry_at, error_entries, flip_entries, operation_entries, products_in, record_entries}
-use Rattle.unroll.specs.private.Made.{fault_steps, gate_steps, measure_step, one_step, operation_steps, pair_step, pair_steps, paired, plain_steps, product_steps, record_back, reset_step}
+use Rattle.unroll.specs.private.Made.{fault_steps, measure_step, one_step, operation_steps, pair_steps, paired, plain_steps, product_steps, record_back, reset_step}
 use Rattle.unroll.specs.private.Named.{KeepsAs, name_at, renamed}
 use Rattle.unroll.specs.private.Pushed.{Adds, AddsFaults, NamesFlip}
 use Rattle.unroll.specs.StepsMade.{flip_of}

@@ -8,7 +8,7 @@ use Rattle.programs.specs.Kept.{Kept}
 use Rattle.unroll.specs.private.Kept.{kept_entries}
 use Rattle.unroll.specs.private.Named.{KeepsAs}
 use Rattle.unroll.specs.private.Numbered.{IsItemNumber}
-use Rattle.unroll.proofs.RenamedDrafts.{HasAll, IsWriting, writing-can, writing-done, writing-first, writing-next}
+use Rattle.unroll.proofs.RenamedDrafts.{IsWriting, writing-can, writing-done, writing-first, writing-next}
 use Rattle.unroll.proofs.NumberLemmas.{number_at}
 use Rattle.unroll.proofs.writing.written_of.Goals as goal
 
