@@ -3,7 +3,7 @@ ghost use Rattle.std.specs.Prelude.{◌≡◌, ◌<◌, length};
 
 use pauli_word::Letter::{self, X, Z};
 use programs::EntryBuilder;
-use std::alloc::Global;
+use std::alloc::{AllocError, Global};
 use std::test::Fail;
 use step_model::{ChanceText, Term};
 
@@ -19,30 +19,37 @@ const TEXTS: [ChanceText<'static>; 2] = [
     },
 ];
 
-/// The number of a probability, and a letter at a qubit, one after another; and the number of the entry. The last entry of a
-/// letter at one of 4,096 qubits is found again.
-const LETTERS: [(usize, Letter, u32, u32); 11] = [
-    (0, X, 0, 0),
-    (0, X, 0, 0),
-    (0, X, 1, 1),
-    (0, Z, 0, 2),
-    (0, X, 0, 0),
-    (1, X, 0, 3),
-    (1, X, 0, 3),
-    (0, X, 0, 4),
-    (0, X, 4_095, 5),
-    (0, X, 4_095, 5),
-    (0, X, 4_096, 6),
-];
+/// The number of the entry of a letter at a qubit. There are two probabilities.
+fn named(
+    entries: &mut EntryBuilder<'_, Global>,
+    number: usize,
+    letter: Letter,
+    qubit: u32,
+) -> Result<u32, AllocError>
+    requires number { number < 2 }
+    requires count { length entries.old.chances ≡ 2 }
+    ensures { length entries.new.chances ≡ 2 }
+{
+    entries.name_letter(number, Term { qubit, letter })
+}
 
+/// The last entry of a letter is found again at 4,096 qubits.
 #[test]
 fn letters_are_named_again(rt: HostRuntime) -> Result<(), Fail> {
     let mut entries = EntryBuilder::new(rt.alloc(), Vec::from_slice(rt.alloc(), &TEXTS)?);
-    for (number, letter, qubit, wanted) in LETTERS {
-        let entry = entries.name_letter(number, Term { qubit, letter })?;
-        assert!(&rt; entry == wanted, "{letter:?} at {qubit} is {entry}");
-    }
-    assert!(&rt; entries.len() == 7);
+    assert!(&rt; named(&mut entries, 0, X, 0)? == 0);
+    assert!(&rt; named(&mut entries, 0, X, 0)? == 0);
+    assert!(&rt; named(&mut entries, 0, X, 1)? == 1);
+    assert!(&rt; named(&mut entries, 0, Z, 0)? == 2);
+    assert!(&rt; named(&mut entries, 0, X, 0)? == 0);
+    assert!(&rt; named(&mut entries, 1, X, 0)? == 3);
+    assert!(&rt; named(&mut entries, 1, X, 0)? == 3);
+    assert!(&rt; named(&mut entries, 0, X, 0)? == 4);
+    assert!(&rt; named(&mut entries, 0, X, 4_095)? == 5);
+    assert!(&rt; named(&mut entries, 0, X, 4_095)? == 5);
+    assert!(&rt; named(&mut entries, 0, X, 4_096)? == 6);
+    assert!(&rt; named(&mut entries, 0, X, 4_096)? == 7);
+    assert!(&rt; entries.len() == 8);
     Ok(())
 }
 
