@@ -5,6 +5,7 @@ mod batches;
 mod bits;
 mod coin_pairs;
 mod drawn_shots;
+mod entries;
 mod faults;
 mod gates;
 mod last_probabilities;

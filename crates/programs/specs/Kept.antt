@@ -1,5 +1,5 @@
--- A program with what is kept of it: once for each place of the text, each fault's probability and the letters that it
--- applies, and each product that is measured. (This project's own.)
+-- A program with what is kept of it: each fault's probability and the letters that it applies, which other faults may
+-- share, and each product that is measured. (This project's own.)
 use Rattle.std.specs.Prelude.{ℕ, All, List, [], Option, None, Some, slice_index_or}
 use Rattle.step_model.specs.declared.step.Term.{Term}
 use Rattle.step_model.specs.Listing.{Listing, Effect, Applies, Flips}

@@ -1,5 +1,5 @@
 -- The program that a text with its blocks stands for: its unrolled steps, numbered, and a fault for each time that one of
--- these steps has one. What is kept of a fault, and a product that is measured, stand once for each place of the text.
+-- these steps has one. What is kept of a fault, and a product that is measured, serve each turn of a block.
 -- (Stim's circuit format.)
 use Rattle.std.specs.Prelude.{ℕ, Bool, if◌then◌else◌, List, [], ◌∷◌, ◌++◌, map, Option, None, Some, option_map, slice_index_or}
 use Rattle.pauli_word.specs.declared.letter.Letter.{Letter}

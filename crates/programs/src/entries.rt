@@ -15,8 +15,8 @@ pub struct ChanceTable<'t, 'a> {
     pub parts: &'t [ChanceText<'a>],
 }
 
-/// What is kept of faults, once for each place of the text: a probability's text with its bound, and letters at qubits. A
-/// circuit has few different probabilities, so an entry keeps the number of its text and bound.
+/// What is kept of faults, which may share it: a probability's text with its bound, and letters at qubits. A circuit has few
+/// different probabilities, so an entry keeps the number of its text and bound.
 #[derive(Drop)]
 pub struct Entries<'a, A: Allocator + Copy> {
     parts: Vec<ChanceText<'a>, A>,

@@ -1,8 +1,7 @@
 //! Entries as they are gathered.
-ghost use Rattle.std.specs.Prelude.{◌≡◌, ◌<◌, [], ◌∷◌, length, map, slice_index_or, true, IfOk, OnErr, OnOk};
-ghost use Rattle.step_model.specs.Chances.{chance_of, no_chance};
-ghost use Rattle.programs.specs.Entries.{entry_from, with_entry, Names};
-ghost use Rattle.programs.specs.Kept.{none_kept};
+ghost use Rattle.std.specs.Prelude.{◌≡◌, ◌<◌, [], ◌∷◌, length, map, true, IfOk, OnErr, OnOk};
+ghost use Rattle.step_model.specs.Chances.{chance_of};
+ghost use Rattle.programs.specs.Entries.{with_entry, Names};
 
 use crate::entries::Entries;
 use flat_lists::FlatLists;
@@ -78,7 +77,8 @@ impl<'a, A: Allocator + Copy> EntryBuilder<'a, A> {
     /// Appends an entry, of the probability with a number, and answers its number.
     pub fn append(&mut self, number: usize, terms: &[Term]) -> Result<u32, AllocError>
         requires { number < length self.old.chances }
-        ensures ok { IfOk result (Names number terms.now self.old self.new) }
+        ensures ok { OnOk result (self.new ≡ with_entry number terms.now self.old) }
+        ensures names { IfOk result (Names number terms.now self.old self.new) }
         ensures err { OnErr result (self.new ≡ self.old) }
     {
         let entry = self.len();

@@ -7,8 +7,8 @@ use crate::step::{FaultName, Step};
 use crate::walk::Walk;
 use std::alloc::Allocator;
 
-/// A fault of a program: its number, the number of its entry (its probability and letters, which are kept once for each
-/// place of the text), and the record that it flips: none where it applies letters at qubits.
+/// A fault of a program: its number, the number of its entry (its probability and letters, which other faults may share), and
+/// the record that it flips: none where it applies letters at qubits.
 #[derive(Clone, Copy, Debug, PartialEq, Eq)]
 pub struct FoundFault {
     pub number: u32,

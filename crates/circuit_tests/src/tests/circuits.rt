@@ -2,6 +2,7 @@ mod agreement;
 mod analyses;
 mod beside;
 mod destabilizers;
+mod entries;
 mod gates;
 mod parts;
 mod runs;

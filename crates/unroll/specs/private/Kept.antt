@@ -1,8 +1,8 @@
--- What a circuit's faults and products are kept as, once for each place of the text. A measurement with a probability
--- has one entry for all its records; an error of one letter has an entry for each target, CORRELATED_ERROR one entry for
--- its line. An entry has the text of the probability as it stands, without the blanks around it, its bound,
--- which is floor of the probability times 2^64, and the letters at qubits that the fault applies: none where it flips a
--- record. MPP keeps each of its products. (Stim's gate reference, github.com/quantumlib/Stim, doc/gates.md.)
+-- The entries and products of a circuit's text, each at its place: a measurement with a probability has one entry for all
+-- its records, an error of one letter has one for each target, CORRELATED_ERROR one for its line. An entry has the text of
+-- the probability as it stands, without the blanks around it, its bound, which is floor of the probability times 2^64, and
+-- the letters at qubits that the fault applies: none where it flips a record. MPP keeps each of its products. (Stim's gate
+-- reference, github.com/quantumlib/Stim, doc/gates.md.)
 use Rattle.std.specs.Prelude.{ℕ, List, [], ◌∷◌, map, unwrap_or}
 use Rattle.std.specs.List.{flat_map}
 use Rattle.pauli_word.specs.declared.letter.Letter.{Letter}

@@ -1,7 +1,11 @@
 use Rattle.std.proofs.Common.{◌≡◌, List, [], ◌∷◌, map, get_or, refl, sym, ap, subst, ◌∙◌}
 use Rattle.pauli_word.specs.declared.letter.Letter.{Letter}
 use Rattle.step_model.specs.Chances.{no_chance}
+<<<<<<< HEAD
 use Rattle.stim_parser.specs.Kept.{instruction_in}
+=======
+use Rattle.stim_lexer.specs.Kept.{instruction_in}
+>>>>>>> h1
 use Rattle.stim_parser.specs.declared.operation.Operation.{Operation}
 use Rattle.stim_parser.specs.declared.operation.Operation.TheVariants.{PauliError, CorrelatedError}
 use Rattle.stim_parser.specs.declared.target.Target.{Target}
@@ -29,7 +33,7 @@ returns-in_ok-push-in-CorrelatedError g c =
     subst (λ o. AddsFaults (error_entries o i.arguments i.targets) c.args.builder.now c.push.new.self c.args.entries.now c.append.new.self) (sym is)
     (subst (λ (k : Kept). AddsFaults (k ∷ []) c.args.builder.now c.push.new.self c.args.entries.now c.append.new.self) entry
     (faults-more [] number c.deref.result.now c.in_ok-entry-in-CorrelatedError.entry _ _ _ _ _ _ (faults-none c.args.builder.now c.args.entries.now)
-    c.in_ok-entry-in-CorrelatedError.ensures.ok c.in_ok-push-in-CorrelatedError.ensures.ok))
+    c.in_ok-entry-in-CorrelatedError.ensures.names c.in_ok-push-in-CorrelatedError.ensures.ok))
 
 no_errors : (o : Operation) (arguments : List (List _)) (ts : List Target) → ((l : Letter) → o ≡ PauliError l → ⊥) → (o ≡ CorrelatedError → ⊥) → [] ≡ error_entries o arguments ts
 no_errors (PauliError l) arguments ts h k = absurd (h l refl)
