@@ -15,6 +15,7 @@ use crate::places::random_target;
 use crate::point::Point;
 use crate::stretch::{cut, write_parts};
 use crate::text_store::TextStore;
+use arrayvec::ArrayVec;
 use error_models::{push_detector, push_observable};
 use programs::{Program, Walk};
 use std::alloc::{AllocError, Allocator};
@@ -169,8 +170,9 @@ fn push_detectors<'a, A: Allocator + Copy, W: Sink>(
         (detectors_text (model_of program.now.listing)) }
 {
     program.well_formed();
+    let mut coordinates = ArrayVec::new();
     for detector in 0..program.detector_count() {
-        let coordinates = program.coordinates(detector);
+        program.put_coordinates(detector, &mut coordinates);
         push_detector(out, sink, detector, coordinates.as_slice());
     }
 }

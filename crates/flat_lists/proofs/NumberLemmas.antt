@@ -1,5 +1,6 @@
 -- Bytes that numbers were written into give these numbers back.
-use Rattle.std.proofs.Common.{◌≡◌, ℕ, ◌+◌, ◌*◌, ◌/◌, ◌%◌, ◌^◌, ◌<◌, ◌≤◌, Bool, if◌then◌else◌, ℤ, pos, negsuc, List, [], ◌∷◌, ◌++◌, reverse, ap, ◌∙◌, arith}
+use Rattle.std.proofs.Common.{◌≡◌, ℕ, suc, ◌+◌, ◌*◌, ◌/◌, ◌%◌, ◌^◌, ◌<◌, ◌≤◌, Bool, if◌then◌else◌, ℤ, pos, negsuc, List, [], ◌∷◌, ◌++◌, length, reverse, take, get_or, ap, ◌∙◌, arith}
+use Rattle.std.proofs.Math.Seq.{take-suc}
 use Rattle.std.proofs.lemmas.Bool.{eq-eqb, ne_eqb, lt-ltb, le-ltb}
 use Rattle.std.proofs.lemmas.List.{reverse-append}
 use Rattle.flat_lists.specs.private.Numbers.{folded, numbers_from, numbers_in, unfolded, with_group}
@@ -46,3 +47,14 @@ further n byte bytes next h byte_is next_is =
     ap (λ (xs : List ℕ). numbers_from (n / 128) xs) (ap reverse next_is ∙ reverse-push bytes byte)
     ∙ numbers_from-goes_on (n / 128) byte (reverse bytes) (omega (arith, byte_is))
     ∙ ap (λ (m : ℕ). numbers_from m (reverse bytes)) (with_group-lowest n byte h (omega (arith, byte_is)))
+
+-- the number that ends with the byte at a place, where those before it are read next
+pub ends-next : (n : ℕ) (bytes : List ℕ) (left k : ℕ) → left ≡ suc k → left ≤ length bytes → get_or bytes k 0 < 128
+    → numbers_from n (reverse (take left bytes)) ≡ unfolded (with_group n (get_or bytes k 0)) ∷ numbers_from 0 (reverse (take k bytes))
+ends-next n bytes left k is within low =
+    let byte = get_or bytes k 0 in
+    let there : k < length bytes = omega (arith, is, within) in
+    ap (λ m. numbers_from n (reverse (take m bytes))) is
+    ∙ ap (λ (xs : List ℕ). numbers_from n (reverse xs)) (take-suc bytes k 0 there)
+    ∙ ap (λ (xs : List ℕ). numbers_from n xs) (reverse-push (take k bytes) byte)
+    ∙ numbers_from-ends n byte (reverse (take k bytes)) low

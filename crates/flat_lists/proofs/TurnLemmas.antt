@@ -1,10 +1,10 @@
 -- What later turns give: how many lists, and which stands at an index.
-use Rattle.std.proofs.Common.{◌≡◌, ℕ, zero, suc, ◌+◌, ◌-◌, ◌*◌, ◌/◌, ◌%◌, ◌<◌, inl, inr, ℤ, pos, ◌+ℤ◌, ◌*ℤ◌, List, [], ◌∷◌, ◌++◌, length, get_or, map, take, drop, set, min, refl, sym, ap, ap₂, ◌∙◌, arith, length-append}
+use Rattle.std.proofs.Common.{◌≡◌, ℕ, zero, suc, ◌+◌, ◌-◌, ◌*◌, ◌/◌, ◌%◌, ◌<◌, ◌≤◌, inl, inr, ℤ, pos, ◌+ℤ◌, ◌*ℤ◌, List, [], ◌∷◌, ◌++◌, length, get_or, map, take, drop, set, refl, sym, ap, ap₂, ◌∙◌, arith, length-append}
 use Rattle.std.specs.List.{refill}
 use Rattle.std.proofs.Math.Seq.{take-append_seam}
 use Rattle.std.proofs.lemmas.Bool.{cases_lt}
 use Rattle.std.proofs.lemmas.Int.{ints}
-use Rattle.std.proofs.lemmas.List.{get_or-append_right, get_or-map, get_or_append_left, length-map}
+use Rattle.std.proofs.lemmas.List.{get_or-append_right, get_or-map, get_or_append_left, length-map, take-append-drop}
 use Rattle.std.proofs.lemmas.Nat.{div-mul-add, mod-mul-add}
 use Rattle.flat_lists.specs.Turns.{later, moved_by}
 
@@ -70,42 +70,27 @@ moved-less n (suc k) [] xs h = refl
 moved-less n (suc k) (s ∷ steps) [] h = refl
 moved-less n (suc k) (s ∷ steps) (x ∷ xs) h = ap (λ (ys : List ℤ). (x +ℤ (pos n *ℤ s)) ∷ ys) (moved-less n k steps xs h)
 
--- ---- numbers that are moved where they stand, of which the first j are done
+-- ---- numbers that are moved where they stand, of which the first `at` are done
 
-abbrev pub moved_to : ℕ → List ℤ → List ℤ → ℕ → List ℤ
-moved_to n steps xs j = take j (moved_by n steps xs) ++ drop j xs
+-- the next one is moved
+pub moving-next : (n : ℕ) (step : ℤ) (steps xs : List ℤ) (at : ℕ) → at < length xs → take at xs ++ moved_by n (step ∷ steps) (drop at xs) ≡ take (suc at) (set xs at (get_or xs at (pos 0) +ℤ (pos n *ℤ step))) ++ moved_by n steps (drop (suc at) (set xs at (get_or xs at (pos 0) +ℤ (pos n *ℤ step))))
+moving-next n step steps [] at h = absurd (omega (arith, h))
+moving-next n step steps (x ∷ xs) zero h = refl
+moving-next n step steps (x ∷ xs) (suc at) h = ap (λ (ys : List ℤ). x ∷ ys) (moving-next n step steps xs at (omega (arith, h)))
 
-pub length-moved_to : (n : ℕ) (steps xs : List ℤ) (j : ℕ) → length (moved_to n steps xs j) ≡ length xs
-length-moved_to n steps xs zero = refl
-length-moved_to n [] [] (suc j) = refl
-length-moved_to n [] (x ∷ xs) (suc j) = ap suc (length-moved_to n [] xs j)
-length-moved_to n (s ∷ steps) [] (suc j) = refl
-length-moved_to n (s ∷ steps) (x ∷ xs) (suc j) = ap suc (length-moved_to n steps xs j)
+-- what it becomes stands at its place in the end
+pub moving-at : (n : ℕ) (step : ℤ) (steps xs : List ℤ) (at : ℕ) → at < length xs → get_or (take at xs ++ moved_by n (step ∷ steps) (drop at xs)) at (pos 0) ≡ get_or xs at (pos 0) +ℤ (pos n *ℤ step)
+moving-at n step steps [] at h = absurd (omega (arith, h))
+moving-at n step steps (x ∷ xs) zero h = refl
+moving-at n step steps (x ∷ xs) (suc at) h = moving-at n step steps xs at (omega (arith, h))
 
--- the next one isn't moved yet
-pub moved_to-at : (n : ℕ) (steps xs : List ℤ) (j : ℕ) (d : ℤ) → j < length steps → get_or (moved_to n steps xs j) j d ≡ get_or xs j d
-moved_to-at n steps xs zero d h = refl
-moved_to-at n [] xs (suc j) d h = absurd (omega (arith, h))
-moved_to-at n (s ∷ steps) [] (suc j) d h = refl
-moved_to-at n (s ∷ steps) (x ∷ xs) (suc j) d h = moved_to-at n steps xs j d (omega (arith, h))
-
--- and is moved so
-pub moved_to-next : (n : ℕ) (steps xs : List ℤ) (j : ℕ) → j < length steps → j < length xs → set (moved_to n steps xs j) j (get_or xs j (pos 0) +ℤ (pos n *ℤ get_or steps j (pos 0))) ≡ moved_to n steps xs (suc j)
-moved_to-next n [] xs j h k = absurd (omega (arith, h))
-moved_to-next n (s ∷ steps) [] j h k = absurd (omega (arith, k))
-moved_to-next n (s ∷ steps) (x ∷ xs) zero h k = refl
-moved_to-next n (s ∷ steps) (x ∷ xs) (suc j) h k =
-    ap (λ (ys : List ℤ). (x +ℤ (pos n *ℤ s)) ∷ ys) (moved_to-next n steps xs j (omega (arith, h)) (omega (arith, k)))
-
--- where there is a step for each, or a number for each, all are
-pub moved_to-all : (n : ℕ) (steps xs : List ℤ) (k : ℕ) → k ≡ min (length steps) (length xs) → moved_to n steps xs k ≡ moved_by n steps xs
-moved_to-all n [] xs zero h = refl
-moved_to-all n [] xs (suc k) h = absurd (omega (arith, h))
-moved_to-all n (s ∷ steps) [] zero h = refl
-moved_to-all n (s ∷ steps) [] (suc k) h = absurd (omega (arith, h))
-moved_to-all n (s ∷ steps) (x ∷ xs) zero h = absurd (omega (arith, h))
-moved_to-all n (s ∷ steps) (x ∷ xs) (suc k) h =
-    ap (λ (ys : List ℤ). (x +ℤ (pos n *ℤ s)) ∷ ys) (moved_to-all n steps xs k (omega (arith, h)))
+-- where no step or no number is left, all are
+pub moving-ends : (n : ℕ) (steps xs : List ℤ) (at : ℕ) → length xs ≤ at → take at xs ++ moved_by n steps (drop at xs) ≡ xs
+moving-ends n [] xs at h = take-append-drop at xs
+moving-ends n (s ∷ steps) [] zero h = refl
+moving-ends n (s ∷ steps) [] (suc at) h = refl
+moving-ends n (s ∷ steps) (x ∷ xs) zero h = absurd (omega (arith, h))
+moving-ends n (s ∷ steps) (x ∷ xs) (suc at) h = ap (λ (ys : List ℤ). x ∷ ys) (moving-ends n (s ∷ steps) xs at (omega (arith, h)))
 
 -- all of a list is written over
 pub refill-whole : (xs ws : List ℤ) → length ws ≡ length xs → refill (length xs) xs ws ≡ ws

@@ -133,8 +133,16 @@ impl<A: Allocator + Copy> NumberLists<A> {
         ensures { result.items ≡ slice_index_or self.now index [] }
     {
         let mut list = ArrayVec::new();
-        put_list(&self.kept, &self.repeats, index as u32, &mut list);
+        self.put(index, &mut list);
         list
+    }
+
+    /// Puts the list at an index in place of what was there.
+    pub fn put(&self, index: usize, list: &mut ArrayVec<i64, MOST_NUMBERS>)
+        requires { index < length self.now }
+        ensures { list.new.items ≡ slice_index_or self.now index [] }
+    {
+        put_list(&self.kept, &self.repeats, index as u32, list);
     }
 }
 
@@ -195,25 +203,5 @@ fn put_list<A: Allocator + Copy>(
         repeat.first + past % size,
         list,
     );
-    let steps = kept.get(repeat.steps as usize);
-    move_on(turn + 1, steps.as_slice(), list.as_mut_slice());
-}
-
-// Moves numbers on by so many turns with these steps.
-fn move_on(turns: u32, steps: &[i64], numbers: &mut [i64])
-    requires fits { All (λ z. nat_abs z < 2 ^ 63) (moved_by turns steps.now numbers.old) }
-    ensures { numbers.new ≡ moved_by turns steps.now numbers.old }
-{
-    let count = steps.len().min(numbers.len());
-    for j in 0..count {
-        numbers[j] = number_after(turns, steps[j], numbers[j]);
-    }
-}
-
-fn number_after(turns: u32, step: i64, number: i64) -> i64
-    requires { nat_abs (number +ℤ (pos turns *ℤ step)) < 2 ^ 63 }
-    ensures { result ≡ number +ℤ (pos turns *ℤ step) }
-{
-    let whole = number as i128 + turns as i128 * step as i128;
-    whole as i64
+    kept.move_on(repeat.steps as usize, turn + 1, list.as_mut_slice());
 }

@@ -1,4 +1,5 @@
-ghost use Rattle.std.specs.Prelude.{◌≡◌, ◌<◌, ◌≤◌, [], ◌∷◌, ◌++◌, length, IfOk, OnOk, OnErr, slice_index_or};
+ghost use Rattle.std.specs.Prelude.{◌≡◌, ◌<◌, ◌≤◌, ◌^◌, pos, ◌+ℤ◌, ◌*ℤ◌, [], ◌∷◌, ◌++◌, All, length, nat_abs, IfOk, OnOk, OnErr, slice_index_or};
+ghost use Rattle.flat_lists.specs.Turns.{moved_by};
 ghost use Rattle.flat_lists.specs.private.Numbers.{folded, numbers_in, unfolded, with_group};
 
 use crate::{FlatLists, MOST_NUMBERS};
@@ -71,22 +72,22 @@ impl<A: Allocator + Copy> PackedLists<A> {
         self.lists.shrink_to_fit();
     }
 
-    /// The list at an index.
-    pub(crate) fn get(&self, index: usize) -> ArrayVec<i64, MOST_NUMBERS>
-        requires { index < length self.now }
-        ensures { result.items ≡ slice_index_or self.now index [] }
-    {
-        let mut list = ArrayVec::new();
-        self.put(index, &mut list);
-        list
-    }
-
     /// Puts the list at an index in place of what was there.
     pub(crate) fn put(&self, index: usize, list: &mut ArrayVec<i64, MOST_NUMBERS>)
         requires { index < length self.now }
         ensures { list.new.items ≡ slice_index_or self.now index [] }
     {
         put_numbers(self.lists.get(index), list);
+    }
+
+    /// Moves numbers on by so many turns, with the steps of the list at an index.
+    pub(crate) fn move_on(&self, index: usize, turns: u32, numbers: &mut [i64])
+        requires there { index < length self.now }
+        requires fits { All (λ z. nat_abs z < 2 ^ 63)
+            (moved_by turns (slice_index_or self.now index []) numbers.old) }
+        ensures { numbers.new ≡ moved_by turns (slice_index_or self.now index []) numbers.old }
+    {
+        move_by(self.lists.get(index), turns, numbers);
     }
 }
 
@@ -162,6 +163,34 @@ fn put_numbers(bytes: &[u8], found: &mut ArrayVec<i64, MOST_NUMBERS>)
         if byte < 128 {
             found.push(unfolded(number));
             number = 0;
+        }
+    }
+}
+
+fn number_after(turns: u32, step: i64, number: i64) -> i64
+    requires { nat_abs (number +ℤ (pos turns *ℤ step)) < 2 ^ 63 }
+    ensures { result ≡ number +ℤ (pos turns *ℤ step) }
+{
+    let whole = number as i128 + turns as i128 * step as i128;
+    whole as i64
+}
+
+// Moves numbers on by so many turns, with the steps that bytes write.
+fn move_by(bytes: &[u8], turns: u32, numbers: &mut [i64])
+    requires { All (λ z. nat_abs z < 2 ^ 63) (moved_by turns (numbers_in bytes.now) numbers.old) }
+    ensures { numbers.new ≡ moved_by turns (numbers_in bytes.now) numbers.old }
+{
+    let mut at = 0;
+    let mut step = 0;
+    let mut left = bytes.len();
+    while left > 0 && at < numbers.len() {
+        left -= 1;
+        let byte = bytes[left];
+        step = with_group(step, byte);
+        if byte < 128 {
+            numbers[at] = number_after(turns, unfolded(step), numbers[at]);
+            at += 1;
+            step = 0;
         }
     }
 }

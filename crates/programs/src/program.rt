@@ -173,6 +173,14 @@ impl<'a, A: Allocator + Copy> Program<'a, A> {
         self.parts.coordinates.get(d)
     }
 
+    /// Puts the coordinates of a detector in place of what was there.
+    pub fn put_coordinates(&self, d: usize, coordinates: &mut ArrayVec<i64, MOST_NUMBERS>)
+        requires { d < length self.now.listing.detectors }
+        ensures { coordinates.new.items ≡ slice_index_or self.now.listing.coordinates d [] }
+    {
+        self.parts.coordinates.put(d, coordinates);
+    }
+
     /// The text of the probability of an entry, byte for byte as the circuit has it.
     pub fn entry_text(&self, e: u32) -> &'a [u8]
         requires { e < length self.now.kept }

@@ -6,4 +6,4 @@ use Rattle.backward.proofs.writing.push_detectors.Goals as goal
 pub loop-detector-preserved : goal.loop-detector-preserved
 loop-detector-preserved g c =
     Pushes-number (λ d. detector_text d (get_or c.args.program.now.listing.coordinates d [])) c.loop-detector.detector
-    c.loop-detector.invariant (rw (c.as_slice.ensures.value ∙ c.coordinates-coordinates.ensures) at c.push_detector.ensures)
+    c.loop-detector.invariant (rw (c.as_slice.ensures.value ∙ c.put_coordinates.ensures) at c.push_detector.ensures)

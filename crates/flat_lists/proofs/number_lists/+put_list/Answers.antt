@@ -1,4 +1,4 @@
-use Rattle.std.proofs.Common.{◌≡◌, ◌<◌, ◌+◌, ◌-◌, ◌/◌, ◌%◌, ℤ, List, [], length, get_or, ap, ap₂, subst, sym, ◌∙◌, arith, rules}
+use Rattle.std.proofs.Common.{◌≡◌, ◌<◌, ◌+◌, ◌-◌, ◌/◌, ℤ, List, [], length, get_or, ap, subst, sym, ◌∙◌, arith, rules}
 use Rattle.std.specs.Prelude.{All, nat_abs, ◌^◌}
 use Rattle.std.proofs.lemmas.List.{length-take}
 use Rattle.std.proofs.lemmas.List.Sorted.{IsNonDecreasingBy-take}
@@ -69,33 +69,30 @@ put_list-requires g t c κs within =
     let turn = of_turn (last_of c.args.repeats.now c.begun-count.result) (before_last c.args.repeats.now c.begun-count.result c.args.kept.now) c.args.kept.now c.args.index here.is here.start c.if-turn-repeat.false in
     (omega (arith, c.begun-count.ensures.bound, length-take (c.begun-count.result - 1) c.args.repeats.now), (search rules, (here.are, (IsNonDecreasingBy-take (λ r. r.start) (c.begun-count.result - 1) c.args.repeats.now c.requires.rise, turn.within))))
 
-pub get-steps-requires : goal.get-steps-requires
-get-steps-requires g t c = (last g t (goal.at.get-steps-requires g t c).After-begun-count (omega arith)).is.steps
+pub move_on-requires-clause-there : goal.move_on-requires-clause-there
+move_on-requires-clause-there g t c = (last g t (goal.at.move_on-requires-clause-there g t c).After-begun-count (omega arith)).is.steps
 
-pub move_on-requires : goal.move_on-requires
-move_on-requires g t c =
-    let here = last g t (goal.at.move_on-requires g t c).After-begun-count (omega arith) in
+pub move_on-requires-clause-fits : goal.move_on-requires-clause-fits
+move_on-requires-clause-fits g t c =
+    let here = last g t (goal.at.move_on-requires-clause-fits g t c).After-begun-count (omega arith) in
     let r = last_of c.args.repeats.now c.begun-count.result in
     let turn = (c.args.index - r.start) / (r.start - r.first) in
-    let read = of_turn r (before_last c.args.repeats.now c.begun-count.result c.args.kept.now) c.args.kept.now c.args.index here.is here.start c.if-turn-repeat.false in
-    record {
-      fits =
-          subst (λ (xs : List ℤ). All (λ z. nat_abs z < 2 ^ 63) (moved_by (turn + 1) c.as_slice.result.now xs)) (sym (c.as_mut_slice.ensures.value ∙ c.put_list.ensures))
-          (subst (λ (steps : List ℤ). All (λ z. nat_abs z < 2 ^ 63) (moved_by (turn + 1) steps (get_or (before_last c.args.repeats.now c.begun-count.result c.args.kept.now) (r.first + (c.args.index - r.start) % (r.start - r.first)) []))) (sym (c.as_slice.ensures.value ∙ c.get-steps.ensures)) read.fits);
-    }
+    let read =
+    of_turn r (before_last c.args.repeats.now c.begun-count.result c.args.kept.now) c.args.kept.now c.args.index here.is here.start c.if-turn-repeat.false in
+    subst (λ (xs : List ℤ). All (λ z. nat_abs z < 2 ^ 63) (moved_by (turn + 1) (get_or c.args.kept.now r.steps []) xs)) (sym (c.as_mut_slice.ensures.value ∙ c.put_list.ensures)) read.fits
 
 pub returns : goal.returns
 returns g t c =
     let here = last g t (goal.at.returns g t c).After-begun-count (omega arith) in
     let r = last_of c.args.repeats.now c.begun-count.result in
     let turns = (c.args.index - r.start) / (r.start - r.first) + 1 in
-    let read = of_turn r (before_last c.args.repeats.now c.begun-count.result c.args.kept.now) c.args.kept.now c.args.index here.is here.start c.if-turn-repeat.false in
+    let steps = get_or c.args.kept.now r.steps [] in
+    let read =
+    of_turn r (before_last c.args.repeats.now c.begun-count.result c.args.kept.now) c.args.kept.now c.args.index here.is here.start c.if-turn-repeat.false in
     let long : length c.move_on.new.numbers ≡ length c.put_list.new.list.items =
-    ap length c.move_on.ensures
-    ∙ length-moved turns c.as_slice.result.now c.as_mut_slice.result.now
-    ∙ ap length c.as_mut_slice.ensures.value in
+    ap length c.move_on.ensures ∙ length-moved turns steps c.as_mut_slice.result.now ∙ ap length c.as_mut_slice.ensures.value in
     refill-whole c.put_list.new.list.items c.move_on.new.numbers long
     ∙ c.move_on.ensures
-    ∙ ap₂ (λ (steps xs : List ℤ). moved_by turns steps xs) (c.as_slice.ensures.value ∙ c.get-steps.ensures) (c.as_mut_slice.ensures.value ∙ c.put_list.ensures)
+    ∙ ap (λ (xs : List ℤ). moved_by turns steps xs) (c.as_mut_slice.ensures.value ∙ c.put_list.ensures)
     ∙ sym read.whole
     ∙ sym here.same

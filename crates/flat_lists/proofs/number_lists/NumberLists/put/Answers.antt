@@ -1,5 +1,5 @@
 use Rattle.std.proofs.Common.{length, ap, arith}
-use Rattle.flat_lists.proofs.number_lists.NumberLists.get.Goals as goal
+use Rattle.flat_lists.proofs.number_lists.NumberLists.put.Goals as goal
 
 pub overflow_cast-index : goal.overflow_cast-index
 overflow_cast-index g c =
