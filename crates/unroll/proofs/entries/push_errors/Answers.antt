@@ -1,11 +1,7 @@
 use Rattle.std.proofs.Common.{◌≡◌, List, [], ◌∷◌, map, get_or, refl, sym, ap, subst, ◌∙◌}
 use Rattle.pauli_word.specs.declared.letter.Letter.{Letter}
 use Rattle.step_model.specs.Chances.{no_chance}
-<<<<<<< HEAD
 use Rattle.stim_parser.specs.Kept.{instruction_in}
-=======
-use Rattle.stim_lexer.specs.Kept.{instruction_in}
->>>>>>> h1
 use Rattle.stim_parser.specs.declared.operation.Operation.{Operation}
 use Rattle.stim_parser.specs.declared.operation.Operation.TheVariants.{PauliError, CorrelatedError}
 use Rattle.stim_parser.specs.declared.target.Target.{Target}
