@@ -1,3 +1,4 @@
 pub mod Findings
 pub mod Headline
 pub mod Output
+pub mod private

@@ -1,7 +1,7 @@
 //! The error model of a circuit, or a random target.
-ghost use Rattle.std.specs.Prelude.{◌≡◌, ◌⊎◌, ℕ, List, length, Ok, Err, IfOk, IfErr, OnOk, OnErr};
-ghost use Rattle.step_model.specs.Ends.{Takes, TakesSome, write_failures};
-ghost use Rattle.step_model.specs.Faults.{memory_fault, write_fault};
+ghost use Rattle.std.specs.Prelude.{◌≡◌, ℕ, List, length, IfOk, IfErr};
+ghost use Rattle.step_model.specs.Ends.{Takes};
+ghost use Rattle.step_model.specs.Faults.{memory_fault};
 ghost use Rattle.step_model.specs.Targets.{targets_of};
 ghost use Rattle.backward.specs.Places.{IsLowestRandom};
 ghost use Rattle.trackers.specs.Tracked.{fresh};
@@ -9,7 +9,9 @@ ghost use Rattle.engine.specs.declared.order.Status.TheVariants.{Done, Random};
 ghost use Rattle.engine.specs.Headline.{IsExactFor, IsExactIn, IsRandomFor, IsRandomIn};
 ghost use Rattle.engine.specs.Output.{analysis_output, found_in, refused_or};
 ghost use Rattle.engine.specs.Output as output;
+ghost use Rattle.engine.specs.private.Answered.{Answers};
 
+use crate::answering::write_answer;
 use crate::lines::random_lines;
 use crate::order::Status;
 use crate::refusing::refuse;
@@ -17,7 +19,7 @@ use backward::{QubitSets, write_analysis};
 use frames::coin_pair;
 use programs::Program;
 use std::alloc::Allocator;
-use step_model::{Fault, Place, Sink, write_all};
+use step_model::{Fault, Place, Sink};
 use unroll::read_program;
 
 /// Writes what is found of a text's circuit, or why it is refused.
@@ -26,20 +28,12 @@ pub(crate) fn answer_analysis<W: Sink, A: Allocator + Copy>(
     text: &[u8],
     sink: &mut W,
 ) -> Result<Status, Fault>
-    ensures written { OnOk result
-        (Takes (W.taken sink.old) (W.taken sink.new)
-        (refused_or (analysis_output text.now)).bytes) }
-    ensures status { IfOk result (λ status. status
-        ≡ (refused_or (analysis_output text.now)).status) }
+    ensures answered { Answers W.taken W.failures sink.old sink.new
+        (refused_or (analysis_output text.now)) result }
     ensures exact { IfOk result (λ status. status ≡ Done →
         (bytes : List ℕ) × Takes (W.taken sink.old) (W.taken sink.new) bytes × IsExactFor text.now bytes) }
     ensures random { IfOk result (λ status. status ≡ Random →
         (bytes : List ℕ) × Takes (W.taken sink.old) (W.taken sink.new) bytes × IsRandomFor text.now bytes) }
-    ensures fault { IfErr result (λ e. (e ≡ memory_fault) ⊎ (e ≡ write_fault)) }
-    ensures writes { W.failures sink.new ≡ write_failures result (W.failures sink.old) }
-    ensures beginning { OnErr result
-        (TakesSome (W.taken sink.old) (W.taken sink.new)
-        (refused_or (analysis_output text.now)).bytes) }
 {
     match read_program(alloc, text) {
         Ok(program) => write_finding(alloc, &program, sink),
@@ -53,17 +47,12 @@ fn write_finding<W: Sink, A: Allocator + Copy>(
     program: &Program<'_, A>,
     sink: &mut W,
 ) -> Result<Status, Fault>
-    ensures written { OnOk result
-        (Takes (W.taken sink.old) (W.taken sink.new) (found_in program.now.listing).bytes) }
-    ensures status { IfOk result (λ status. status ≡ (found_in program.now.listing).status) }
+    ensures answered { Answers W.taken W.failures sink.old sink.new
+        (found_in program.now.listing) result }
     ensures exact { IfOk result (λ status. status ≡ Done →
         (bytes : List ℕ) × Takes (W.taken sink.old) (W.taken sink.new) bytes × IsExactIn program.now.listing bytes) }
     ensures random { IfOk result (λ status. status ≡ Random →
         (bytes : List ℕ) × Takes (W.taken sink.old) (W.taken sink.new) bytes × IsRandomIn program.now.listing bytes) }
-    ensures fault { IfErr result (λ e. (e ≡ memory_fault) ⊎ (e ≡ write_fault)) }
-    ensures writes { W.failures sink.new ≡ write_failures result (W.failures sink.old) }
-    ensures beginning { OnErr result
-        (TakesSome (W.taken sink.old) (W.taken sink.new) (found_in program.now.listing).bytes) }
 {
     program.well_formed();
     let words = fresh_words(&alloc, program)?;
@@ -82,22 +71,16 @@ fn write_random<W: Sink, A: Allocator + Copy>(
     sink: &mut W,
 ) -> Result<Status, Fault>
     requires { IsLowestRandom program.now.listing which place }
-    ensures written { OnOk result
-        (Takes (W.taken sink.old) (W.taken sink.new) (found_in program.now.listing).bytes) }
-    ensures status { IfOk result (λ status. status ≡ (found_in program.now.listing).status) }
+    ensures answered { Answers W.taken W.failures sink.old sink.new
+        (found_in program.now.listing) result }
     ensures random { IfOk result (λ status. (status ≡ Random)
         × ((bytes : List ℕ)
         × Takes (W.taken sink.old) (W.taken sink.new) bytes
         × IsRandomIn program.now.listing bytes)) }
-    ensures fault { IfErr result (λ e. (e ≡ memory_fault) ⊎ (e ≡ write_fault)) }
-    ensures writes { W.failures sink.new ≡ write_failures result (W.failures sink.old) }
-    ensures beginning { OnErr result
-        (TakesSome (W.taken sink.old) (W.taken sink.new) (found_in program.now.listing).bytes) }
 {
     program.well_formed();
     let lines = random_text(alloc, program, which as usize, place)?;
-    write_all(sink, lines.as_slice())?;
-    Ok(Status::Random)
+    write_answer(sink, lines.as_slice(), Status::Random)
 }
 
 /// Words for the targets of a program, each the identity.

@@ -1,8 +1,6 @@
 //! Shots of a circuit.
-ghost use Rattle.std.specs.Prelude.{◌≡◌, ◌⊎◌, Err, IfOk, IfErr, OnOk, OnErr};
-ghost use Rattle.step_model.specs.Ends.{Takes, TakesSome, write_failures};
-ghost use Rattle.step_model.specs.Faults.{memory_fault, write_fault};
 ghost use Rattle.engine.specs.Output.{program_shots, refused_or, shots_output};
+ghost use Rattle.engine.specs.private.Answered.{Answers};
 ghost use Rattle.sampling.specs.Shown.{shown_line};
 
 use crate::order::Status;
@@ -30,14 +28,8 @@ pub(crate) fn answer_shots<W: Sink, A: Allocator + Copy>(
     text: &[u8],
     sink: &mut W,
 ) -> Result<Status, Fault>
-    ensures written { OnOk result (Takes (W.taken sink.old) (W.taken sink.new)
-        (refused_or (shots_output (shown_line shown) shots seed text.now)).bytes) }
-    ensures status { IfOk result (λ status.
-        status ≡ (refused_or (shots_output (shown_line shown) shots seed text.now)).status) }
-    ensures fault { IfErr result (λ e. (e ≡ memory_fault) ⊎ (e ≡ write_fault)) }
-    ensures writes { W.failures sink.new ≡ write_failures result (W.failures sink.old) }
-    ensures beginning { OnErr result (TakesSome (W.taken sink.old) (W.taken sink.new)
-        (refused_or (shots_output (shown_line shown) shots seed text.now)).bytes) }
+    ensures { Answers W.taken W.failures sink.old sink.new
+        (refused_or (shots_output (shown_line shown) shots seed text.now)) result }
 {
     match read_program(alloc, text) {
         Ok(program) => write_shots(alloc, &program, shown, shots, seed, sink),
@@ -54,14 +46,8 @@ fn write_shots<W: Sink, A: Allocator + Copy>(
     seed: u64,
     sink: &mut W,
 ) -> Result<Status, Fault>
-    ensures written { OnOk result (Takes (W.taken sink.old) (W.taken sink.new)
-        (refused_or (program_shots (shown_line shown) shots seed program.now.listing)).bytes) }
-    ensures status { IfOk result (λ status.
-        status ≡ (refused_or (program_shots (shown_line shown) shots seed program.now.listing)).status) }
-    ensures fault { IfErr result (λ e. (e ≡ memory_fault) ⊎ (e ≡ write_fault)) }
-    ensures writes { W.failures sink.new ≡ write_failures result (W.failures sink.old) }
-    ensures beginning { OnErr result (TakesSome (W.taken sink.old) (W.taken sink.new)
-        (refused_or (program_shots (shown_line shown) shots seed program.now.listing)).bytes) }
+    ensures { Answers W.taken W.failures sink.old sink.new
+        (refused_or (program_shots (shown_line shown) shots seed program.now.listing)) result }
 {
     if shots > MOST_SHOTS {
         return refuse(alloc, TOO_MANY, sink);

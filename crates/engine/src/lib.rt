@@ -2,6 +2,7 @@
 #![tactic(auto)]
 
 mod analysis;
+mod answering;
 mod drawing;
 mod lines;
 mod listing;

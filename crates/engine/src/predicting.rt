@@ -1,16 +1,17 @@
 //! The symptom of error lines: what they flip together.
-ghost use Rattle.std.specs.Prelude.{◌≡◌, ◌⊎◌, Ok, Err, IfOk, IfErr, OnOk, OnErr};
-ghost use Rattle.step_model.specs.Ends.{Takes, TakesSome, write_failures};
-ghost use Rattle.step_model.specs.Faults.{memory_fault, write_fault};
+ghost use Rattle.std.specs.Prelude.{◌≡◌, ◌⊎◌, Ok, Err, IfOk, IfErr};
+ghost use Rattle.step_model.specs.Faults.{memory_fault};
 ghost use Rattle.engine.specs.Output.{done, model_prediction, prediction_output, refused_or};
+ghost use Rattle.engine.specs.private.Answered.{Answers};
 
+use crate::answering::write_answer;
 use crate::lines::symptom_line;
 use crate::order::Status;
 use crate::refusing::refuse;
 use dem_text::{PlacedModel, place};
 use forward_sim::read_numbers;
 use std::alloc::Allocator;
-use step_model::{Fault, Sink, write_all};
+use step_model::{Fault, Sink};
 
 /// Writes the symptom of the error lines that are named, of the model that a text writes, or why that is refused.
 pub(crate) fn answer_prediction<W: Sink, A: Allocator + Copy>(
@@ -19,20 +20,11 @@ pub(crate) fn answer_prediction<W: Sink, A: Allocator + Copy>(
     text: &[u8],
     sink: &mut W,
 ) -> Result<Status, Fault>
-    ensures written { OnOk result (Takes (W.taken sink.old) (W.taken sink.new)
-        (refused_or (prediction_output lines.now text.now)).bytes) }
-    ensures status { IfOk result (λ status. status
-        ≡ (refused_or (prediction_output lines.now text.now)).status) }
-    ensures fault { IfErr result (λ e. (e ≡ memory_fault) ⊎ (e ≡ write_fault)) }
-    ensures writes { W.failures sink.new ≡ write_failures result (W.failures sink.old) }
-    ensures beginning { OnErr result (TakesSome (W.taken sink.old) (W.taken sink.new)
-        (refused_or (prediction_output lines.now text.now)).bytes) }
+    ensures { Answers W.taken W.failures sink.old sink.new
+        (refused_or (prediction_output lines.now text.now)) result }
 {
     match prediction_text(alloc, lines, text) {
-        Ok(line) => {
-            write_all(sink, line.as_slice())?;
-            Ok(Status::Done)
-        }
+        Ok(line) => write_answer(sink, line.as_slice(), Status::Done),
         Err(fault) => refuse(alloc, fault, sink),
     }
 }

@@ -1,15 +1,15 @@
 //! Refusals.
-ghost use Rattle.std.specs.Prelude.{◌≡◌, ◌≢◌, ◌⊎◌, IfOk, IfErr, OnOk, OnErr};
-ghost use Rattle.step_model.specs.declared.fault.Cause.TheVariants.{Memory};
-ghost use Rattle.step_model.specs.Ends.{Takes, TakesSome, write_failures};
-ghost use Rattle.step_model.specs.Faults.{memory_fault, write_fault};
-ghost use Rattle.engine.specs.declared.order.Status.TheVariants.{Refused};
-ghost use Rattle.engine.specs.Output.{refusal_line};
+ghost use Rattle.std.specs.Prelude.{◌≡◌, ◌⊎◌, Result, Err};
+ghost use Rattle.step_model.specs.declared.fault.Fault.{Fault};
+ghost use Rattle.step_model.specs.Faults.{memory_fault};
+ghost use Rattle.engine.specs.Output.{Output, refused_or};
+ghost use Rattle.engine.specs.private.Answered.{Answers};
 
+use crate::answering::write_answer;
 use crate::lines::refusal_text;
 use crate::order::Status;
 use std::alloc::Allocator;
-use step_model::{Cause, Fault, Sink, write_all};
+use step_model::{Cause, Fault, Sink};
 
 /// Writes the line that says why an order is refused. Where memory ran out, nothing is written: that is an error, and
 /// no refusal.
@@ -18,20 +18,13 @@ pub(crate) fn refuse<W: Sink, A: Allocator + Copy>(
     fault: Fault,
     sink: &mut W,
 ) -> Result<Status, Fault>
-    ensures refused { OnOk result (fault.cause ≢ Memory) }
-    ensures written { OnOk result
-        (Takes (W.taken sink.old) (W.taken sink.new) (refusal_line fault)) }
-    ensures status { IfOk result (λ status. status ≡ Refused) }
-    ensures fault { IfErr result (λ e. (e ≡ memory_fault) ⊎ (e ≡ write_fault)) }
-    ensures writes { W.failures sink.new ≡ write_failures result (W.failures sink.old) }
-    ensures none { fault.cause ≡ Memory → W.taken sink.new ≡ W.taken sink.old }
-    ensures beginning { OnErr result
-        (TakesSome (W.taken sink.old) (W.taken sink.new) (refusal_line fault)) }
+    // What was asked came to this fault, or there was no memory.
+    ensures { (asked : Result Output Fault) → (fault ≡ memory_fault) ⊎ (asked ≡ Err fault)
+        → Answers W.taken W.failures sink.old sink.new (refused_or asked) result }
 {
     if fault.cause == Cause::Memory {
         return Err(Fault::MEMORY);
     }
     let line = refusal_text(alloc, fault)?;
-    write_all(sink, line.as_slice())?;
-    Ok(Status::Refused)
+    write_answer(sink, line.as_slice(), Status::Refused)
 }

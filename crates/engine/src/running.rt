@@ -1,24 +1,25 @@
 //! The lines of a run.
-ghost use Rattle.std.specs.Prelude.{◌≡◌, ◌⊎◌, ◌++◌, [], false, length, replicate, None, Some, Ok, Err, IfOk, IfErr, OnOk, OnErr};
+ghost use Rattle.std.specs.Prelude.{◌≡◌, ◌⊎◌, ◌++◌, [], false, length, replicate, None, Some, Ok, Err, IfOk, IfErr};
 ghost use Rattle.std.specs.List.{list_any};
 ghost use Rattle.std.specs.Option.{option_copied};
 ghost use Rattle.sampling.specs.Lines.{line_of};
 ghost use Rattle.step_model.specs.declared.fault.Cause.TheVariants.{CoinCount};
-ghost use Rattle.step_model.specs.Ends.{Takes, TakesSome, write_failures};
-ghost use Rattle.step_model.specs.Faults.{memory_fault, without_line, write_fault};
+ghost use Rattle.step_model.specs.Faults.{memory_fault, without_line};
 ghost use Rattle.step_model.specs.Frames.{zero_coins};
 ghost use Rattle.step_model.specs.Runs.{records_of};
 ghost use Rattle.step_model.specs.Targets.{difference};
 ghost use Rattle.engine.specs.Output.{done, program_output, refused_or, run_coins, run_output};
 ghost use Rattle.engine.specs.Output as output;
+ghost use Rattle.engine.specs.private.Answered.{Answers};
 
+use crate::answering::write_answer;
 use crate::lines::run_lines;
 use crate::order::Status;
 use crate::refusing::refuse;
 use forward_sim::{Records, detections, read_coins, read_numbers, run};
 use programs::Program;
 use std::alloc::Allocator;
-use step_model::{Fault, Sink, write_all};
+use step_model::{Fault, Sink};
 use unroll::read_program;
 
 /// Writes the lines of a run of a text's circuit, or why it is refused.
@@ -29,20 +30,11 @@ pub(crate) fn answer_run<W: Sink, A: Allocator + Copy>(
     text: &[u8],
     sink: &mut W,
 ) -> Result<Status, Fault>
-    ensures written { OnOk result (Takes (W.taken sink.old) (W.taken sink.new)
-        (refused_or (run_output (option_copied coins.entry) faults.now text.now)).bytes) }
-    ensures status { IfOk result (λ status.
-        status ≡ (refused_or (run_output (option_copied coins.entry) faults.now text.now)).status) }
-    ensures fault { IfErr result (λ e. (e ≡ memory_fault) ⊎ (e ≡ write_fault)) }
-    ensures writes { W.failures sink.new ≡ write_failures result (W.failures sink.old) }
-    ensures beginning { OnErr result (TakesSome (W.taken sink.old) (W.taken sink.new)
-        (refused_or (run_output (option_copied coins.entry) faults.now text.now)).bytes) }
+    ensures { Answers W.taken W.failures sink.old sink.new
+        (refused_or (run_output (option_copied coins.entry) faults.now text.now)) result }
 {
     match run_text(alloc, coins, faults, text) {
-        Ok(lines) => {
-            write_all(sink, lines.as_slice())?;
-            Ok(Status::Done)
-        }
+        Ok(lines) => write_answer(sink, lines.as_slice(), Status::Done),
         Err(fault) => refuse(alloc, fault, sink),
     }
 }

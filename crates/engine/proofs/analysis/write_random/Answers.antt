@@ -1,34 +1,16 @@
-use Rattle.std.proofs.Common.{refl, ap, sym, subst, ◌∙◌}
-use Rattle.std.proofs.lemmas.Result.{err_from_is_err_and}
-use Rattle.step_model.specs.Ends.{Takes, TakesSome}
-use Rattle.step_model.proofs.EndsLemmas.{TakesSome-beginning}
+use Rattle.std.proofs.Common.{sym, subst, ◌∙◌}
+use Rattle.engine.specs.private.Answered.{Answers}
 use Rattle.engine.specs.Headline.{IsRandomIn}
-use Rattle.engine.proofs.FindingLemmas.{found_some, random_in, target_goes_out}
+use Rattle.engine.proofs.FindingLemmas.{target_goes_out, random_in, told_random}
 use Rattle.engine.proofs.analysis.write_random.Goals as goal
 
-pub returns-clause-written : goal.returns-clause-written
-returns-clause-written g c =
-    subst (Takes (g.W.Sink.taken c.args.sink.now) (g.W.Sink.taken c.write_all.new.sink))
-    (target_goes_out c.args.program.now.listing c.args.which c.args.place c.as_slice.result.now c.in_ok-lines.lines.items c.requires c.as_slice.ensures.value c.in_ok-lines.ensures.ok)
-    c.in_ok-write_all.ensures.all
-
-pub returns-clause-status : goal.returns-clause-status
-returns-clause-status g c = sym (ap (λ output. output.status) (found_some c.args.program.now.listing c.args.which c.args.place c.requires))
+pub returns-clause-answered : goal.returns-clause-answered
+returns-clause-answered g c =
+    subst (λ output. Answers g.W.Sink.taken g.W.Sink.failures c.args.sink.now c.write_answer.new.sink output c.write_answer.result)
+    (target_goes_out c.args.program.now.listing c.args.which c.args.place c.as_slice.result.now c.requires (c.as_slice.ensures.value ∙ c.in_ok-lines.ensures.ok))
+    c.write_answer.ensures
 
 pub returns-clause-random : goal.returns-clause-random
-returns-clause-random g c = (
-  refl,
-  (
-    c.as_slice.result.now,
-    c.in_ok-write_all.ensures.all,
-    subst (IsRandomIn c.args.program.now.listing) (sym (c.as_slice.ensures.value ∙ c.in_ok-lines.ensures.ok)) (random_in c.args.program.now.listing c.args.which c.args.place c.well_formed-2.ensures.listing c.requires),
-  ),
-)
-
-pub returns-in_err-write_all-clause-beginning : goal.returns-in_err-write_all-clause-beginning
-returns-in_err-write_all-clause-beginning g c =
-    let failed = err_from_is_err_and c.from_residual-in_err-write_all.result c.from_residual-in_err-write_all.ensures.1 in
-    rw failed.1
-    (subst (TakesSome (g.W.Sink.taken c.args.sink.now) (g.W.Sink.taken c.write_all.new.sink))
-    (target_goes_out c.args.program.now.listing c.args.which c.args.place c.as_slice.result.now c.in_ok-lines.lines.items c.requires c.as_slice.ensures.value c.in_ok-lines.ensures.ok)
-    (TakesSome-beginning _ _ _ c.in_err-write_all.ensures.beginning))
+returns-clause-random g c =
+    told_random c.args.program.now.listing c.write_answer.ensures
+    (subst (IsRandomIn c.args.program.now.listing) (sym (c.as_slice.ensures.value ∙ c.in_ok-lines.ensures.ok)) (random_in c.args.program.now.listing c.args.which c.args.place c.well_formed-2.ensures.listing c.requires))

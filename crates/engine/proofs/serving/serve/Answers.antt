@@ -28,4 +28,4 @@ returns-clause-decided g c =
     (λ status h asked.
     of_told (λ text. IsDecided text status) (g.R.Source.left c.args.source.now) (g.R.Source.left c.read_all.new.source) c.in_ok-text.text.items c.in_ok-text.ensures.all c.in_ok-text.ensures.end
     (subst (λ (text : List ℕ). IsDecided text status) c.as_slice.ensures.value (h asked)))
-    (decided goes c.args.order.now c.as_slice.result.now c.answer.result c.answer.ensures.status c.answer.ensures.exact c.answer.ensures.random)
+    (decided goes c.args.order.now c.as_slice.result.now c.answer.result c.answer.ensures.answered.status c.answer.ensures.exact c.answer.ensures.random)
