@@ -1,9 +1,7 @@
 -- The probabilities of instructions by their numbers, from which what is kept of faults is made.
 -- (How they are kept is this project's own.)
-use Rattle.std.specs.Prelude.{◌≡◌, ◌<◌, ⊤, ℕ, List, [], ◌∷◌, ◌++◌, length, slice_index_or, unwrap_or}
+use Rattle.std.specs.Prelude.{◌≡◌, ◌<◌, ⊤, ℕ, List, [], ◌∷◌, length, slice_index_or, unwrap_or}
 use Rattle.step_model.specs.Chances.{Chance, no_chance}
-use Rattle.programs.specs.Entries.{Gathered}
-use Rattle.programs.specs.Kept.{Kept}
 use Rattle.step_model.specs.Probabilities.{probability_bound}
 use Rattle.stim_parser.specs.declared.operation.Operation.{Operation}
 use Rattle.stim_parser.specs.declared.operation.Operation.TheVariants.{Measurement, MeasurementReset, ProductMeasurement, PauliError, CorrelatedError}
@@ -42,7 +40,3 @@ abbrev pub IsItemNumber : List Chance → Item → ℕ → Type 0
 IsItemNumber chances (InstructionLine i) number = IsInstructionNumber chances i number
 IsItemNumber chances (BlockStart line turns) number = ⊤
 IsItemNumber chances BlockEnd number = ⊤
-
--- more entries
-abbrev pub with_entries : List Kept → Gathered → Gathered
-with_entries kept g = record { chances = g.chances; kept = g.kept ++ kept }
