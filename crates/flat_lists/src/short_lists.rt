@@ -1,7 +1,7 @@
 ghost use Rattle.std.specs.Prelude.{◌≡◌, ◌+◌, ◌<◌, ◌≤◌, ◌==◌, [], ◌∷◌, ◌++◌, length, vec_len, IfOk, IfSome, MatchOption, OnOk, OnErr, slice_index_or};
 ghost use Rattle.std.specs.Vec.{vec_capacity};
 ghost use Rattle.flat_lists.specs.Short.{list_in};
-ghost use Rattle.flat_lists.specs.private.Joined.{HasShortened, IsShortened};
+ghost use Rattle.flat_lists.specs.private.Joined.{HasShortened, IsPadded, IsShortened, padded};
 
 use crate::{FlatLists, end_after};
 use std::alloc::{AllocError, Allocator};
@@ -72,19 +72,19 @@ impl<'c, T: Copy, S: Short<T>> ShortList<'c, T, S> {
 pub struct ShortLists<T: Copy, S: Short<T>, A: Allocator + Copy> {
     // For each list its short form, which is empty where it has none.
     short: FlatLists<S, A>,
-    // For each list its items, where it has no short form, and else none.
+    // For each list its items where it has no short form, and else none, up to the last list that has none.
     others: FlatLists<T, A>,
 }
 
 impl<T: Copy, S: Short<T>, A: Allocator + Copy> Model for ShortLists<T, S, A> {
-    ghost use Rattle.std.specs.Prelude.{◌≡◌, List, length};
+    ghost use Rattle.std.specs.Prelude.{◌≤◌, List, length};
     ghost use Rattle.flat_lists.specs.private.Joined.{joined};
 
     ghost Value = { List (List T) };
 
     ghost view = { λ l. joined S.long l.short l.others };
 
-    ghost invariant = { λ l. length l.short ≡ length l.others };
+    ghost invariant = { λ l. length l.others ≤ length l.short };
 }
 
 impl<T: Copy, S: Short<T>, A: Allocator + Copy> ShortLists<T, S, A> {
@@ -111,9 +111,11 @@ impl<T: Copy, S: Short<T>, A: Allocator + Copy> ShortLists<T, S, A> {
         ensures ok { OnOk result (self.new ≡ self.old ++ list.now ∷ []) }
         ensures err { OnErr result (self.new ≡ self.old) }
     {
-        let is_short = push_short(&mut self.short, list)?;
-        let others = if is_short { &list[..0] } else { list };
-        if let Err(error) = self.others.push(others) {
+        if push_short(&mut self.short, list)? {
+            return Ok(());
+        }
+        let place = self.short.len() - 1;
+        if let Err(error) = push_at(&mut self.others, place, list) {
             self.short.pop();
             return Err(error);
         }
@@ -126,12 +128,13 @@ impl<T: Copy, S: Short<T>, A: Allocator + Copy> ShortLists<T, S, A> {
         requires { index < length self.now }
         ensures { list_in S.long result ≡ slice_index_or self.now index [] }
     {
-        let others = self.others.get(index);
-        if others.is_empty() {
-            ShortList::Short(self.short.get(index))
-        } else {
-            ShortList::Long(others)
+        if index < self.others.len() {
+            let others = self.others.get(index);
+            if !others.is_empty() {
+                return ShortList::Long(others);
+            }
         }
+        ShortList::Short(self.short.get(index))
     }
 }
 
@@ -171,4 +174,20 @@ fn push_short<T: Copy, S: Short<T>, A: Allocator + Copy>(
     let is_short = shorten_into(&mut lists.items, list);
     lists.ends.push_reserved(lists.items.len() as u32);
     Ok(is_short)
+}
+
+// Appends a list, after as many empty ones as make its place this one.
+fn push_at<T: Copy, A: Allocator + Copy>(
+    lists: &mut FlatLists<T, A>,
+    place: usize,
+    list: &[T],
+) -> Result<(), AllocError>
+    requires { length lists.old ≤ place }
+    ensures ok { OnOk result (lists.new ≡ padded lists.old place ++ list.now ∷ []) }
+    ensures err { OnErr result (IsPadded lists.old lists.new place) }
+{
+    while lists.len() < place {
+        lists.push(&[])?;
+    }
+    lists.push(list)
 }

@@ -1,16 +1,27 @@
 -- Lists that are kept in a short form, or as they are.
 -- (This project's own.)
-use Rattle.std.specs.Prelude.{◌≡◌, ◌<◌, ◌≤◌, Bool, true, false, List, [], ◌∷◌, ◌++◌, length, map}
+use Rattle.std.specs.Prelude.{◌≡◌, ℕ, ◌+◌, ◌-◌, ◌<◌, ◌≤◌, Bool, true, false, List, [], ◌∷◌, ◌++◌, length, map, replicate}
 
 -- a list, from its short form and from what is kept of it where it has none
 abbrev pub either : {S T : Type 0} → (S → T) → List S → List T → List T
 either long short [] = map long short
 either long short (item ∷ items) = item ∷ items
 
--- so of each list
+-- so of each list; of the last ones only the short forms may be kept
 abbrev pub joined : {S T : Type 0} → (S → T) → List (List S) → List (List T) → List (List T)
+joined long [] others = []
+joined long (short ∷ more) [] = map long short ∷ joined long more []
 joined long (short ∷ more) (others ∷ rest) = either long short others ∷ joined long more rest
-joined long more rest = []
+
+-- lists, and behind them empty ones, so many in all
+abbrev pub padded : {T : Type 0} → List (List T) → ℕ → List (List T)
+padded lists count = lists ++ replicate (count - length lists) []
+
+-- some empty ones were appended, up to so many lists in all
+pub record IsPadded {T : Type 0} (old new : List (List T)) (count : ℕ) : Type 0 where
+  pub more : ℕ
+  pub same : new ≡ old ++ replicate more []
+  pub within : length old + more ≤ count
 
 -- these are the short forms of the items of a list, or none, where some item has none
 abbrev pub AreShort : {S T : Type 0} → (S → T) → List S → List T → Bool → Type 0

@@ -1,23 +1,37 @@
-use Rattle.std.proofs.Common.{◌≡◌, Bool, Bor, true, false, List, [], ◌∷◌, ◌++◌, ap, ◌∙◌}
-use Rattle.flat_lists.specs.private.Joined.{either}
-use Rattle.flat_lists.proofs.JoinedLemmas.{either-kept, joined-push}
+use Rattle.std.proofs.Common.{◌≡◌, ◌+◌, ◌-◌, ◌≤◌, Bool, List, [], ◌∷◌, ◌++◌, length, ap, ◌∙◌, subst, length-append, arith}
+use Rattle.std.specs.Prelude.{map}
+use Rattle.flat_lists.specs.private.Joined.{AreShort}
+use Rattle.flat_lists.proofs.JoinedLemmas.{all_but_last, joined-at, joined-padded, joined-short}
 use Rattle.flat_lists.proofs.short_lists.ShortLists.push.Goals as goal
-use Rattle.flat_lists.proofs.short_lists.ShortLists.push.Goals.{then-is_short, else-is_short}
 
-true-not_false : {X : Type 0} {b : Bool} → b ≡ false → b ≡ true → X
-true-not_false f t = absurd cc
+pub returns-then-branch-clause-ok : goal.returns-then-branch-clause-ok
+returns-then-branch-clause-ok g c =
+    let long = g.S.Short.long in
+    let inside = c.self.inside in
+    let has = c.in_ok-push_short.ensures.ok in
+    let same = subst (λ (b : Bool). AreShort long has.short c.args.list.now b) c.if-branch.true has.are in
+    rw has.more
+    (joined-short long inside.short inside.others has.short c.self.invariant
+    ∙ ap (λ (ls : List (List g.row.T.Denot)). ls ++ map long has.short ∷ []) c.self.view_is
+    ∙ ap (λ (l : List g.row.T.Denot). c.args.self.now ++ l ∷ []) same)
+
+pub returns-in-Err-clause-err : goal.returns-in-Err-clause-err
+returns-in-Err-clause-err g c =
+    let long = g.S.Short.long in
+    let inside = c.self.inside in
+    let has = c.in_ok-push_short.ensures.ok in
+    let padded = c.in-Err.ensures.err in
+    let few : length inside.others + padded.more ≤ length inside.short = omega (arith, padded.within, c.len-place.ensures, ap length has.more, length-append inside.short (has.short ∷ [])) in
+    rw (c.pop.ensures ∙ all_but_last inside.short c.push_short.new.lists has.short has.more, padded.same)
+    (joined-padded long inside.short inside.others padded.more few ∙ c.self.view_is)
 
 pub returns-clause-ok : goal.returns-clause-ok
 returns-clause-ok g c =
     let long = g.S.Short.long in
-    let has = c.in_ok-is_short.ensures.ok in
     let inside = c.self.inside in
-    let others = c.if-is_short.others.now in
-    let none : c.in_ok-is_short.is_short ≡ true → others ≡ [] =
-    λ t. elim c.if-is_short.branch [ then-is_short w ↦ ap (λ (b : Bor (List g.row.T.Denot)). b.now) w.others-is | else-is_short w ↦ true-not_false w.if-is_short.false t ] in
-    let all : c.in_ok-is_short.is_short ≡ false → others ≡ c.args.list.now =
-    λ f. elim c.if-is_short.branch [ then-is_short w ↦ true-not_false f w.if-is_short.true | else-is_short w ↦ ap (λ (b : Bor (List g.row.T.Denot)). b.now) w.others-is ] in
+    let has = c.in_ok-push_short.ensures.ok in
+    let some = subst (λ (b : Bool). AreShort long has.short c.args.list.now b) c.if-branch.false has.are in
+    let place : c.len-place.result - 1 ≡ length inside.short = omega (arith, c.len-place.ensures, ap length has.more, length-append inside.short (has.short ∷ [])) in
     rw (has.more, c.in_default.ensures.ok)
-    (joined-push long inside.short inside.others has.short others c.self.invariant
-    ∙ ap (λ (ls : List (List g.row.T.Denot)). ls ++ either long has.short others ∷ []) c.self.view_is
-    ∙ ap (λ (l : List g.row.T.Denot). c.args.self.now ++ l ∷ []) (either-kept long has.short c.args.list.now others c.in_ok-is_short.is_short has.are none all))
+    (joined-at long inside.short inside.others has.short c.args.list.now (c.len-place.result - 1) c.self.invariant place some
+    ∙ ap (λ (ls : List (List g.row.T.Denot)). ls ++ c.args.list.now ∷ []) c.self.view_is)
