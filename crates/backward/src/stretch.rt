@@ -102,7 +102,6 @@ pub(crate) fn cut<'s, 'p, 'a, A: Allocator + Copy, T: Tracker>(
 {
     let to = at.walk.place();
     find_back(program, from, at, found, lines)?;
-    let end = lines.take_text();
     let place = at.walk.place();
     let distance = if found.is_random() {
         usize::MAX
@@ -111,6 +110,7 @@ pub(crate) fn cut<'s, 'p, 'a, A: Allocator + Copy, T: Tracker>(
     };
     found.keeps = true;
     let points = leave_points(program, from, distance, at, found)?;
+    let end = lines.take_text();
     Ok(Parts { points, end })
 }
 
@@ -122,34 +122,35 @@ fn distance_for(way: usize, full: usize, qubits: u32) -> usize {
 }
 
 /// Writes the text of what is before a cut, from the first of its points' parts to the last: from the last point on.
-/// What the tracker has is lost.
+/// What the tracker has is lost, and the points are taken out.
 pub(crate) fn write_parts<'s, 'p, 'a, A: Allocator + Copy, T: Tracker, W: Sink>(
     program: &Program<'a, A>,
     from: usize,
-    mut points: Vec<KeptPoint<'p, 'a, A>, A>,
+    points: &mut Vec<KeptPoint<'p, 'a, A>, A>,
     at: &mut Point<'p, 'a, A, T>,
     found: &mut Found<'s, A>,
     lines: &mut TextStore<'_, 'a, A>,
     out: &mut Pieces,
     sink: &mut W,
 ) -> Result<(), AllocError>
-    requires points { ArePoints program.now from (first_place from points.items) points.items }
+    requires points { ArePoints program.now from (first_place from points.old.items)
+        points.old.items }
     requires tracker { IsFor program.now.listing (T.tracked at.old.tracker) }
-    requires ready { IsReady program.now.listing (first_place from points.items) found.old }
+    requires ready { IsReady program.now.listing (first_place from points.old.items) found.old }
     requires store { lines.old.program.now ≡ program.now }
     requires none { lines.old.text.text ≡ [] }
     ensures tracker { OnOk result (IsFor program.now.listing (T.tracked at.new.tracker)) }
     ensures ready { OnOk result
-        (IsReady program.now.listing (first_place from points.entry.items) found.new) }
+        (IsReady program.now.listing (first_place from points.old.items) found.new) }
     ensures known { found.new.known ≡ found.old.known }
     ensures none { OnOk result (lines.new.text.text ≡ []) }
     ensures store { lines.new.program.now ≡ lines.old.program.now }
     ensures text { OnOk result
         (Pushes W.taken W.failures sink.old sink.new out.old out.new
-        (text_between program.now.listing from (first_place from points.entry.items))) }
+        (text_between program.now.listing from (first_place from points.old.items))) }
     ensures some { OnErr result
         (PushesSome W.taken W.failures sink.old sink.new out.old out.new
-        (text_between program.now.listing from (first_place from points.entry.items))) }
+        (text_between program.now.listing from (first_place from points.old.items))) }
 {
     let mut start = from;
     while let Some(point) = points.pop() {
@@ -158,8 +159,17 @@ pub(crate) fn write_parts<'s, 'p, 'a, A: Allocator + Copy, T: Tracker, W: Sink>(
         }
         let end = point.walk.place();
         at.restore(point)?;
-        let parts = cut(program, start, at, found, lines)?;
-        write_parts(program, start, parts.points, at, found, lines, out, sink)?;
+        let mut parts = cut(program, start, at, found, lines)?;
+        write_parts(
+            program,
+            start,
+            &mut parts.points,
+            at,
+            found,
+            lines,
+            out,
+            sink,
+        )?;
         parts.end.push_to(out, sink);
         lines.reuse(parts.end);
         start = end;
