@@ -4,6 +4,25 @@ use Rattle.pauli_word.specs.declared.letter.Letter.{Letter}
 use Rattle.trackers.proofs.PairLemmas.{parts_set, in_front, at_back, both_ok, made, both_long}
 use Rattle.trackers.proofs.pairs.multiply_ahead.Goals as goal
 
+pub multiply_both-requires-clause-same : goal.multiply_both-requires-clause-same
+multiply_both-requires-clause-same g c =
+    let columns = c.args.columns.now in
+    let a = c.args.a in
+    let b = c.args.b in
+    let parts = c.split_at_mut-front.ensures in
+    let first = ap (λ (l : List (List Letter)). get_or l a c.index-front-a.result) parts.front ∙ in_front columns a b _ [] c.requires.order c.requires.inside in
+    let second = ap (λ (l : List (List Letter)). get_or l 0 c.index-back-0.result) parts.back ∙ at_back columns b _ [] c.requires.inside in
+    (ap length second ∙ c.requires.long b [] c.requires.inside) ∙ sym (ap length first ∙ c.requires.long a [] (omega (arith, c.requires.order, c.requires.inside)))
+
+pub multiply_both-requires-clause-spare : goal.multiply_both-requires-clause-spare
+multiply_both-requires-clause-spare g c =
+    let columns = c.args.columns.now in
+    let a = c.args.a in
+    let b = c.args.b in
+    let parts = c.split_at_mut-front.ensures in
+    let first = ap (λ (l : List (List Letter)). get_or l a c.index-front-a.result) parts.front ∙ in_front columns a b _ [] c.requires.order c.requires.inside in
+    sym (ap length first ∙ c.requires.long a [] (omega (arith, c.requires.order, c.requires.inside)))
+
 pub returns-clause-columns : goal.returns-clause-columns
 returns-clause-columns g c =
     let columns = c.args.columns.now in
