@@ -8,5 +8,5 @@ pub lent_long : (m : ℕ) (columns slice : List (List Letter)) (row : List Bool)
 lent_long m columns slice row same row_long long = subst (All (λ (column : List Letter). length column ≡ length row)) (sym same) (λ k d lt. long k d lt ∙ sym row_long)
 
 -- and given back
-pub back_long : (m : ℕ) (columns slice : List (List Letter)) (row : List Bool) → columns ≡ slice → length row ≡ m → All (λ column. length column ≡ length row) slice → All (λ column. length column ≡ m) columns
-back_long m columns slice row same row_long long = subst (All (λ (column : List Letter). length column ≡ m)) (sym same) (λ k d lt. long k d lt ∙ row_long)
+pub returned_long : (m : ℕ) (columns slice : List (List Letter)) (row : List Bool) → columns ≡ slice → length row ≡ m → All (λ column. length column ≡ length row) slice → All (λ column. length column ≡ m) columns
+returned_long m columns slice row same row_long long = subst (All (λ (column : List Letter). length column ≡ m)) (sym same) (λ k d lt. long k d lt ∙ row_long)

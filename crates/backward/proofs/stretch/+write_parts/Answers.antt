@@ -1,4 +1,4 @@
-use Rattle.std.proofs.Common.{◌≡◌, ◌≤◌, ◌<◌, ◌++◌, refl, rules, ap, ap₂, subst, sym, ◌∙◌, arith}
+use Rattle.std.proofs.Common.{◌≡◌, ◌≤◌, ◌++◌, refl, rules, ap, ap₂, subst, sym, ◌∙◌, arith}
 use Rattle.std.specs.Option.{option_to_list}
 use Rattle.streams.proofs.Pushing.{Pushes-nil, Pushes-trans}
 use Rattle.backward.specs.private.Passes.{records_before}

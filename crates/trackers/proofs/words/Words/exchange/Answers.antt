@@ -4,7 +4,7 @@ use Rattle.std.proofs.lemmas.Result.{on_ok_weaker}
 use Rattle.trackers.specs.Tracked.{Tracked, each_word}
 use Rattle.trackers.specs.private.Transposed.{exchanged_at, exchanged_columns, tracked_of}
 use Rattle.trackers.proofs.ExchangeLemmas.{tracked_exchanged}
-use Rattle.trackers.proofs.LengthLemmas.{back_long, lent_long}
+use Rattle.trackers.proofs.LengthLemmas.{lent_long, returned_long}
 use Rattle.trackers.proofs.words.Words.exchange.Goals as goal
 
 pub exchange_pair-requires-clause-first : goal.exchange_pair-requires-clause-first
@@ -23,7 +23,7 @@ exchange_pair-requires-clause-other g c = c.self.invariant.first_long ∙ sym c.
 pub invariant_of-self : goal.invariant_of-self
 invariant_of-self g c =
     record {
-      columns_long = back_long c.self.inside.targets _ c.exchange_pair.new.columns (g.S.TargetSet.bits c.self.inside.spare)
+      columns_long = returned_long c.self.inside.targets _ c.exchange_pair.new.columns (g.S.TargetSet.bits c.self.inside.spare)
           (with_items_is c.self.inside.columns c.exchange_pair.new.columns (c.exchange_pair.auto.columns ∙ c.as_mut_slice.ensures.len))
           c.self.invariant.spare_long c.exchange_pair.ensures.long;
       first_long = c.exchange_pair.ensures.other ∙ c.self.invariant.first_long;

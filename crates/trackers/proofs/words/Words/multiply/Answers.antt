@@ -4,7 +4,7 @@ use Rattle.std.proofs.lemmas.Result.{on_ok_weaker}
 use Rattle.trackers.specs.Tracked.{Tracked, each_word}
 use Rattle.trackers.specs.private.Transposed.{multiplied_at, multiplied_columns, tracked_of}
 use Rattle.trackers.proofs.MultiplyLemmas.{tracked_multiplied}
-use Rattle.trackers.proofs.LengthLemmas.{back_long, lent_long}
+use Rattle.trackers.proofs.LengthLemmas.{lent_long, returned_long}
 use Rattle.trackers.proofs.words.Words.multiply.Goals as goal
 
 pub multiply_pair-requires-clause-first : goal.multiply_pair-requires-clause-first
@@ -20,7 +20,7 @@ multiply_pair-requires-clause-long g c =
 pub invariant_of-self : goal.invariant_of-self
 invariant_of-self g c =
     record {
-      columns_long = back_long c.self.inside.targets _ c.multiply_pair.new.columns (g.S.TargetSet.bits c.self.inside.spare)
+      columns_long = returned_long c.self.inside.targets _ c.multiply_pair.new.columns (g.S.TargetSet.bits c.self.inside.spare)
           (with_items_is c.self.inside.columns c.multiply_pair.new.columns (c.multiply_pair.auto.columns ∙ c.as_mut_slice.ensures.len))
           c.self.invariant.spare_long c.multiply_pair.ensures.long;
       first_long = c.self.invariant.first_long;
