@@ -170,7 +170,7 @@ fn push_from_end<'s, 'p, 'a, A: Allocator + Copy, T: Tracker, W: Sink>(
 // Pushes the model's text, from what a first pass left.
 fn push_model<'s, 'p, 'a, A: Allocator + Copy, T: Tracker, W: Sink>(
     program: &Program<'a, A>,
-    mut parts: Parts<'p, 'a, A>,
+    parts: Parts<'p, 'a, A>,
     at: &mut Point<'p, 'a, A, T>,
     found: &mut Found<'s, A>,
     lines: &mut TextStore<'_, 'a, A>,
@@ -191,7 +191,7 @@ fn push_model<'s, 'p, 'a, A: Allocator + Copy, T: Tracker, W: Sink>(
 {
     program.well_formed();
     lines.hold_parts();
-    write_parts(program, 0, &mut parts.points, at, found, lines, out, sink)?;
+    write_parts(program, 0, parts.points, at, found, lines, out, sink)?;
     parts.end.push_to(out, sink);
     push_declarations(program, out, sink);
     Ok(())

@@ -27,7 +27,7 @@ returns-then-has_failed-clause-text g t c =
     let program = c.args.program.now in
     let l = c.loop-point in
     let point = c.in-Some.point in
-    let whole = first_place c.args.from c.args.points.now.items in
+    let whole = first_place c.args.from c.args.points.items in
     let all = popped program l.start whole l.points.items c.pop.new.self.items point (c.pop.ensures.items ∙ ap (λ o. c.pop.new.self.items ++ option_to_list o) c.in-Some.is) l.invariant.points in
     let within : l.start ≤ whole = omega (arith, all.2, all.3) in
     Pushes-as c.args.sink.now l.sink c.args.out.now l.out _ _ (text_between-parts program.listing c.args.from l.start whole l.invariant.from within)
@@ -38,7 +38,7 @@ restore-requires g t c =
     let program = c.args.program.now in
     let l = c.loop-point in
     let point = c.in-Some.point in
-    let whole = first_place c.args.from c.args.points.now.items in
+    let whole = first_place c.args.from c.args.points.items in
     let all = popped program l.start whole l.points.items c.pop.new.self.items point (c.pop.ensures.items ∙ ap (λ o. c.pop.new.self.items ++ option_to_list o) c.in-Some.is) l.invariant.points in
     fits_tracker program point (g.T.Tracker.tracked l.at.tracker) l.invariant.tracker all.1
 
@@ -47,7 +47,7 @@ returns-in_err-restore-clause-some g t c =
     let program = c.args.program.now in
     let l = c.loop-point in
     let point = c.in-Some.point in
-    let whole = first_place c.args.from c.args.points.now.items in
+    let whole = first_place c.args.from c.args.points.items in
     let all = popped program l.start whole l.points.items c.pop.new.self.items point (c.pop.ensures.items ∙ ap (λ o. c.pop.new.self.items ++ option_to_list o) c.in-Some.is) l.invariant.points in
     let within : l.start ≤ whole = omega (arith, all.2, all.3) in
     on_err_any c.from_residual.result
@@ -58,7 +58,7 @@ cut-requires-clause-program g t c =
     let program = c.args.program.now in
     let l = c.loop-point in
     let point = c.in-Some.point in
-    let whole = first_place c.args.from c.args.points.now.items in
+    let whole = first_place c.args.from c.args.points.items in
     let all = popped program l.start whole l.points.items c.pop.new.self.items point (c.pop.ensures.items ∙ ap (λ o. c.pop.new.self.items ++ option_to_list o) c.in-Some.is) l.invariant.points in
     ap (λ walk. walk.program) c.in_ok-restore.ensures.walk ∙ all.1.program_is
 
@@ -67,7 +67,7 @@ cut-requires-clause-from g t c =
     let program = c.args.program.now in
     let l = c.loop-point in
     let point = c.in-Some.point in
-    let whole = first_place c.args.from c.args.points.now.items in
+    let whole = first_place c.args.from c.args.points.items in
     let all = popped program l.start whole l.points.items c.pop.new.self.items point (c.pop.ensures.items ∙ ap (λ o. c.pop.new.self.items ++ option_to_list o) c.in-Some.is) l.invariant.points in
     omega (arith, all.2, ap (λ walk. walk.place) c.in_ok-restore.ensures.walk)
 
@@ -76,7 +76,7 @@ cut-requires-clause-passed g t c =
     let program = c.args.program.now in
     let l = c.loop-point in
     let point = c.in-Some.point in
-    let whole = first_place c.args.from c.args.points.now.items in
+    let whole = first_place c.args.from c.args.points.items in
     let all = popped program l.start whole l.points.items c.pop.new.self.items point (c.pop.ensures.items ∙ ap (λ o. c.pop.new.self.items ++ option_to_list o) c.in-Some.is) l.invariant.points in
     passed_at_point g.T.Tracker.tracked program whole point l.found l.at c.restore.new.self l.invariant.tracker c.in_ok-restore.ensures.walk c.in_ok-restore.ensures.words l.invariant.ready all.1 all.3
 
@@ -85,7 +85,7 @@ returns-in_err-parts-clause-some g t c =
     let program = c.args.program.now in
     let l = c.loop-point in
     let point = c.in-Some.point in
-    let whole = first_place c.args.from c.args.points.now.items in
+    let whole = first_place c.args.from c.args.points.items in
     let all = popped program l.start whole l.points.items c.pop.new.self.items point (c.pop.ensures.items ∙ ap (λ o. c.pop.new.self.items ++ option_to_list o) c.in-Some.is) l.invariant.points in
     let within : l.start ≤ whole = omega (arith, all.2, all.3) in
     on_err_any c.from_residual-in_err-parts.result
@@ -96,7 +96,7 @@ write_parts-requires g t c κs now =
     let program = c.args.program.now in
     let l = c.loop-point in
     let point = c.in-Some.point in
-    let whole = first_place c.args.from c.args.points.now.items in
+    let whole = first_place c.args.from c.args.points.items in
     let all = popped program l.start whole l.points.items c.pop.new.self.items point (c.pop.ensures.items ∙ ap (λ o. c.pop.new.self.items ++ option_to_list o) c.in-Some.is) l.invariant.points in
     let part = c.in_ok-parts.ensures.parts in
     let inner = first_place l.start c.in_ok-parts.parts.points.items in
@@ -124,12 +124,24 @@ write_parts-requires g t c κs now =
       ),
     )
 
+pub returns-in_err-parts-clause-known : goal.returns-in_err-parts-clause-known
+returns-in_err-parts-clause-known g t c = c.cut.ensures.known c.loop-point.invariant.ready.keeps ∙ c.loop-point.invariant.known
+
+pub returns-in_err-parts-clause-store : goal.returns-in_err-parts-clause-store
+returns-in_err-parts-clause-store g t c = c.cut.ensures.store ∙ c.loop-point.invariant.store
+
+pub returns-in_err-write_parts-clause-known : goal.returns-in_err-write_parts-clause-known
+returns-in_err-write_parts-clause-known g t c = c.write_parts.ensures.known ∙ (c.cut.ensures.known c.loop-point.invariant.ready.keeps ∙ c.loop-point.invariant.known)
+
+pub returns-in_err-write_parts-clause-store : goal.returns-in_err-write_parts-clause-store
+returns-in_err-write_parts-clause-store g t c = c.write_parts.ensures.store ∙ (c.cut.ensures.store ∙ c.loop-point.invariant.store)
+
 pub returns-in_err-write_parts-clause-some : goal.returns-in_err-write_parts-clause-some
 returns-in_err-write_parts-clause-some g t c =
     let program = c.args.program.now in
     let l = c.loop-point in
     let point = c.in-Some.point in
-    let whole = first_place c.args.from c.args.points.now.items in
+    let whole = first_place c.args.from c.args.points.items in
     let all = popped program l.start whole l.points.items c.pop.new.self.items point (c.pop.ensures.items ∙ ap (λ o. c.pop.new.self.items ++ option_to_list o) c.in-Some.is) l.invariant.points in
     let part = c.in_ok-parts.ensures.parts in
     let inner = first_place l.start c.in_ok-parts.parts.points.items in
@@ -144,7 +156,7 @@ loop-point-preserved g t c =
     let program = c.args.program.now in
     let l = c.loop-point in
     let point = c.in-Some.point in
-    let whole = first_place c.args.from c.args.points.now.items in
+    let whole = first_place c.args.from c.args.points.items in
     let all = popped program l.start whole l.points.items c.pop.new.self.items point (c.pop.ensures.items ∙ ap (λ o. c.pop.new.self.items ++ option_to_list o) c.in-Some.is) l.invariant.points in
     let part = c.in_ok-parts.ensures.parts in
     let inner = first_place l.start c.in_ok-parts.parts.points.items in
