@@ -9,9 +9,10 @@ use Rattle.programs.specs.Kept.{KeptProgram}
 use Rattle.backward.specs.declared.found.Found.{Found}
 use Rattle.backward.specs.declared.point.KeptPoint.{KeptPoint}
 use Rattle.backward.specs.declared.point.Point.{Point}
+use Rattle.backward.specs.declared.stretch.Parts.{Parts}
 use Rattle.trackers.specs.Tracked.{Tracked}
 use Rattle.backward.specs.private.Passes.{IsPassed, Stays, tracked_before}
-use Rattle.backward.specs.private.Points.{ArePoints, IsLeft, IsPointOf, Keeps, first_place}
+use Rattle.backward.specs.private.Points.{ArePoints, AreParts, IsLeft, IsPointOf, Keeps, first_place}
 
 pub stays_on : {A : Type 0} (a b c : Found A) → Stays a b → Stays b c → Stays a c
 stays_on a b c h k =
@@ -106,3 +107,10 @@ module _ {A : Type 0} (program : KeptProgram) where
         subst (λ (p : KeptPoint A). from < p.walk.place) (last point) (h.above (length rest) point (omega (arith, n))),
         subst (λ (p : KeptPoint A). p.walk.place ≤ cut) (last point) (h.below (length rest) point (omega (arith, n))),
       )
+
+  -- a stretch that ends at a point is cut between its start and the point
+  pub cut_before : (start at known : ℕ) (parts : Parts A) (point : KeptPoint A) → at ≡ point.walk.place → start < point.walk.place → AreParts program start at known parts
+      → (start ≤ first_place start parts.points.items) × (first_place start parts.points.items < point.walk.place)
+  cut_before start at known parts point place lt h =
+      let back : h.cut < at = h.back (omega (arith, lt, place)) in
+      (omega (arith, h.above, h.points.first), omega (arith, back, h.points.first, place))

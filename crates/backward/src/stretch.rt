@@ -102,7 +102,6 @@ pub(crate) fn cut<'s, 'p, 'a, A: Allocator + Copy, T: Tracker>(
 {
     let to = at.walk.place();
     find_back(program, from, at, found, lines)?;
-    let end = lines.take_text();
     let place = at.walk.place();
     let distance = if found.is_random() {
         usize::MAX
@@ -111,6 +110,7 @@ pub(crate) fn cut<'s, 'p, 'a, A: Allocator + Copy, T: Tracker>(
     };
     found.keeps = true;
     let points = leave_points(program, from, distance, at, found)?;
+    let end = lines.take_text();
     Ok(Parts { points, end })
 }
 

@@ -1,5 +1,5 @@
 //! The text of a program's error model, written to a sink.
-ghost use Rattle.std.specs.Prelude.{◌≡◌, ◌⊎◌, ◌++◌, [], false, length, IfOk, IfErr, IfNone, IfSome, OnErr};
+ghost use Rattle.std.specs.Prelude.{◌≡◌, ◌⊎◌, ◌++◌, [], false, length, IfOk, IfErr, IfNone, IfSome, OnErr, OnOk};
 ghost use Rattle.error_models.specs.ModelText.{detectors_text, model_text, observables_text};
 ghost use Rattle.streams.specs.Pushed.{Pushes};
 ghost use Rattle.step_model.specs.Ends.{Takes, TakesSome, write_failures};
@@ -8,12 +8,13 @@ ghost use Rattle.step_model.specs.HitModels.{model_of};
 ghost use Rattle.step_model.specs.Targets.{targets_of};
 ghost use Rattle.backward.specs.Places.{IsLowestRandom, NoneIsRandom};
 ghost use Rattle.trackers.specs.Tracked.{fresh};
-ghost use Rattle.backward.specs.private.Points.{PushesSome};
+ghost use Rattle.backward.specs.private.Passes.{IsPassed};
+ghost use Rattle.backward.specs.private.Points.{AreParts, IsFor, IsReady, PushesSome, first_place};
 
 use crate::found::Found;
 use crate::places::random_target;
 use crate::point::Point;
-use crate::stretch::{cut, write_parts};
+use crate::stretch::{Parts, cut, write_parts};
 use crate::text_store::TextStore;
 use arrayvec::ArrayVec;
 use error_models::{push_detector, push_observable};
@@ -117,34 +118,84 @@ fn push_analysis<'a, A: Allocator + Copy, T: Tracker + Drop, W: Sink>(
         × PushesSome W.taken W.failures sink.old sink.new out.old out.new
         (model_text (model_of program.now.listing)))) }
 {
-    program.well_formed();
     let mut found = Found::new(&alloc, program)?;
     let mut lines = TextStore::new(alloc, program, room)?;
     let mut at = Point {
         walk: Walk::end(program),
         tracker,
     };
-    let parts = cut(program, 0, &mut at, &mut found, &mut lines)?;
-    match random_target(program, &mut at.tracker, &mut found)? {
+    push_from_end(program, &mut at, &mut found, &mut lines, out, sink)
+}
+
+// The same, from behind the last step.
+fn push_from_end<'s, 'p, 'a, A: Allocator + Copy, T: Tracker, W: Sink>(
+    program: &Program<'a, A>,
+    at: &mut Point<'p, 'a, A, T>,
+    found: &mut Found<'s, A>,
+    lines: &mut TextStore<'_, 'a, A>,
+    out: &mut Pieces,
+    sink: &mut W,
+) -> Result<Option<(u32, Place)>, AllocError>
+    requires program { at.old.walk.program ≡ program.now }
+    requires end { at.old.walk.place ≡ length program.now.listing.steps }
+    requires passed { IsPassed program.now.listing at.old.walk.place (T.tracked at.old.tracker)
+        found.old }
+    requires first { found.old.settled ≡ false }
+    requires store { lines.old.program.now ≡ program.now }
+    requires empty { lines.old.text.text ≡ [] }
+    ensures none { IfOk result (λ random. IfNone random (NoneIsRandom program.now.listing)) }
+    ensures text { IfOk result (λ random. IfNone random
+        (Pushes W.taken W.failures sink.old sink.new out.old out.new
+        (model_text (model_of program.now.listing)))) }
+    ensures lowest { IfOk result (λ random. IfSome random (λ random. IsLowestRandom
+        program.now.listing random.0 random.1)) }
+    ensures nothing { IfOk result (λ random. IfSome random (λ _. (sink.new ≡ sink.old)
+        × (out.new ≡ out.old))) }
+    ensures some { OnErr result
+        (((sink.new ≡ sink.old) × (out.new ≡ out.old))
+        ⊎ (NoneIsRandom program.now.listing
+        × PushesSome W.taken W.failures sink.old sink.new out.old out.new
+        (model_text (model_of program.now.listing)))) }
+{
+    let parts = cut(program, 0, at, found, lines)?;
+    match random_target(program, &mut at.tracker, found)? {
         Some(random) => Ok(Some(random)),
         None => {
             found.settled = true;
-            lines.hold_parts();
-            write_parts(
-                program,
-                0,
-                parts.points,
-                &mut at,
-                &mut found,
-                &mut lines,
-                out,
-                sink,
-            )?;
-            parts.end.push_to(out, sink);
-            push_declarations(program, out, sink);
+            push_model(program, parts, at, found, lines, out, sink)?;
             Ok(None)
         }
     }
+}
+
+// Pushes the model's text, from what a first pass left.
+fn push_model<'s, 'p, 'a, A: Allocator + Copy, T: Tracker, W: Sink>(
+    program: &Program<'a, A>,
+    parts: Parts<'p, 'a, A>,
+    at: &mut Point<'p, 'a, A, T>,
+    found: &mut Found<'s, A>,
+    lines: &mut TextStore<'_, 'a, A>,
+    out: &mut Pieces,
+    sink: &mut W,
+) -> Result<(), AllocError>
+    requires parts { AreParts program.now 0 (length program.now.listing.steps) found.old.known parts }
+    requires tracker { IsFor program.now.listing (T.tracked at.old.tracker) }
+    requires ready { IsReady program.now.listing (first_place 0 parts.points.items) found.old }
+    requires store { lines.old.program.now ≡ program.now }
+    requires empty { lines.old.text.text ≡ [] }
+    ensures text { OnOk result
+        (Pushes W.taken W.failures sink.old sink.new out.old out.new
+        (model_text (model_of program.now.listing))) }
+    ensures some { OnErr result
+        (PushesSome W.taken W.failures sink.old sink.new out.old out.new
+        (model_text (model_of program.now.listing))) }
+{
+    program.well_formed();
+    lines.hold_parts();
+    write_parts(program, 0, parts.points, at, found, lines, out, sink)?;
+    parts.end.push_to(out, sink);
+    push_declarations(program, out, sink);
+    Ok(())
 }
 
 // Pushes the lines of the detectors and the observables.

@@ -1,6 +1,8 @@
 -- Gates that put at each of two qubits an image of the letters at the other.
-use Rattle.std.proofs.Common.{◌≡◌, ◌≢◌, ℕ, ◌<◌, List, [], map, length, get_or, set, refl, ap, ap₂, sym, ◌∙◌, arith}
+use Rattle.std.proofs.Common.{◌≡◌, ◌≢◌, ℕ, ◌<◌, List, [], map, length, get_or, set, refl, ap, ap₂, subst, sym, ◌∙◌, arith, length-set, get_or-set_other}
+use Rattle.std.specs.Prelude.{All}
 use Rattle.std.proofs.lemmas.List.{get_or-map, set-set, set_comm}
+use Rattle.std.proofs.lemmas.List.Elements.{All-set}
 use Rattle.gate_table.specs.declared.gate.Gate.{Gate}
 use Rattle.gate_table.specs.Images.{image2, inverse_of}
 use Rattle.pauli_word.specs.declared.letter.Letter.{Letter}
@@ -21,6 +23,24 @@ written_over l a b u v x y different =
     (ap (λ m. set m a x) (set_comm l a b u v different)
     ∙ (set-set (set l b v) a u x ∙ sym (set_comm l a b x v different)))
     ∙ set-set (set l a x) b v y
+
+-- two columns change places: all stay as long, and so are the two, of which the first is written before the second is read
+module _ (m a b : ℕ) (columns swapped : List (List Letter)) (whole : swapped ≡ set (set columns a (get_or columns b [])) b (get_or columns a [])) (first : a < length columns) (second : b < length columns) (long : All (λ column. length column ≡ m) columns) where
+  counted : length swapped ≡ length columns
+  counted = ap length whole ∙ (length-set (set columns a (get_or columns b [])) b (get_or columns a []) ∙ length-set columns a (get_or columns b []))
+
+  pub swapped_long : All (λ column. length column ≡ m) swapped
+  swapped_long =
+      let is_long : List Letter → Type 0 = λ column. length column ≡ m in
+      subst (All is_long) (sym whole)
+      (All-set is_long (set columns a (get_or columns b [])) b (get_or columns a []) (long a [] first)
+      (All-set is_long columns a (get_or columns b []) (long b [] second) long))
+
+  pub swapped_first : (d : List Letter) → length (get_or swapped a d) ≡ m
+  swapped_first d = swapped_long a d (omega (arith, counted, first))
+
+  pub swapped_second : (x d : List Letter) → a ≢ b → length (get_or (set swapped a x) b d) ≡ m
+  swapped_second x d different = ap length (get_or-set_other swapped a b x d (λ e. different (sym e))) ∙ swapped_long b d (omega (arith, counted, second))
 
 -- ---- words
 pub tracked_exchanged : (m : ℕ) (columns : List (List Letter)) (a b : ℕ) (to_first to_second : Letter × Letter) → a < length columns → b < length columns → length (get_or columns a []) ≡ m → length (get_or columns b []) ≡ m

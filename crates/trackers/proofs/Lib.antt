@@ -1,6 +1,7 @@
 pub mod ColumnLemmas
 pub mod ExchangeLemmas
 pub mod KeptLemmas
+pub mod LengthLemmas
 pub mod LoneTerms
 pub mod MultiplyLemmas
 mod PairLemmas

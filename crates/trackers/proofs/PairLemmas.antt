@@ -19,13 +19,20 @@ parts_set l a b x y before within =
     ∙ (set-append_right (set front a x) back b b y (length-set front a x ∙ long) (omega arith)
     ∙ ap (λ n. set front a x ++ set back n y) none)))
 
-pub in_front : {X : Type 0} (l : List X) (a b : ℕ) (d e : X) → a < b → b < length l → get_or (take b l) a d ≡ get_or l a e
-in_front l a b d e before within = get_or-take b l a d before ∙ get_or_default l a d e (omega (arith, before, within))
+-- what stands at them, read through the two parts
+pub in_front : {X : Type 0} (l front : List X) (a b : ℕ) (d e : X) → front ≡ take b l → a < b → b < length l → get_or front a d ≡ get_or l a e
+in_front l front a b d e same before within = ap (λ m. get_or m a d) same ∙ (get_or-take b l a d before ∙ get_or_default l a d e (omega (arith, before, within)))
 
-pub at_back : {X : Type 0} (l : List X) (b : ℕ) (d e : X) → b < length l → get_or (drop b l) 0 d ≡ get_or l b e
-at_back l b d e within =
-    let same : b + 0 ≡ b = omega arith in
-    get_or-drop b l 0 d ∙ (ap (λ n. get_or l n d) same ∙ get_or_default l b d e within)
+pub at_back : {X : Type 0} (l back : List X) (b : ℕ) (d e : X) → back ≡ drop b l → b < length l → get_or back 0 d ≡ get_or l b e
+at_back l back b d e same within =
+    let there : b + 0 ≡ b = omega arith in
+    ap (λ m. get_or m 0 d) same ∙ (get_or-drop b l 0 d ∙ (ap (λ n. get_or l n d) there ∙ get_or_default l b d e within))
+
+pub front_long : (m a b : ℕ) (columns front : List (List Letter)) (d : List Letter) → front ≡ take b columns → a < b → b < length columns → All (λ column. length column ≡ m) columns → length (get_or front a d) ≡ m
+front_long m a b columns front d same before within long = ap length (in_front columns front a b d [] same before within) ∙ long a [] (omega (arith, before, within))
+
+pub back_long : (m b : ℕ) (columns back : List (List Letter)) (d : List Letter) → back ≡ drop b columns → b < length columns → All (λ column. length column ≡ m) columns → length (get_or back 0 d) ≡ m
+back_long m b columns back d same within long = ap length (at_back columns back b d [] same within) ∙ long b [] within
 
 -- what follows from two facts where a call answers
 pub both_ok : {T E P Q R : Type 0} (r : Result T E) → (P → Q → R) → OnOk r P → OnOk r Q → OnOk r R

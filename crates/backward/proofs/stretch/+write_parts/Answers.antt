@@ -1,11 +1,11 @@
-use Rattle.std.proofs.Common.{◌≡◌, ◌≤◌, ◌<◌, ◌++◌, refl, rules, ap, ap₂, subst, sym, ◌∙◌, arith}
+use Rattle.std.proofs.Common.{◌≡◌, ◌≤◌, ◌++◌, refl, rules, ap, ap₂, subst, sym, ◌∙◌, arith}
 use Rattle.std.specs.Option.{option_to_list}
 use Rattle.streams.proofs.Pushing.{Pushes-nil, Pushes-trans}
 use Rattle.backward.specs.private.Passes.{records_before}
 use Rattle.backward.specs.private.Points.{ArePoints, first_place}
 use Rattle.backward.specs.private.Stretches.{text_between}
 use Rattle.backward.proofs.PassLines.{text_between-parts}
-use Rattle.backward.proofs.PointLemmas.{popped}
+use Rattle.backward.proofs.PointLemmas.{cut_before, popped}
 use Rattle.backward.proofs.StretchLemmas.{Pushes-as, Pushes-failed, fits_tracker, on_err_any, passed_at_point, passed_for, ready_after, ready_at, some-first, some-then, text_between-none, text_between-three}
 use Rattle.backward.proofs.stretch.+write_parts.Goals as goal
 
@@ -100,12 +100,9 @@ write_parts-requires g t c κs now =
     let all = popped program l.start whole l.points.items c.pop.new.self.items point (c.pop.ensures.items ∙ ap (λ o. c.pop.new.self.items ++ option_to_list o) c.in-Some.is) l.invariant.points in
     let part = c.in_ok-parts.ensures.parts in
     let inner = first_place l.start c.in_ok-parts.parts.points.items in
-    let above : l.start ≤ inner = omega (arith, part.above, part.points.first) in
     let place : c.restore.new.self.walk.place ≡ point.walk.place = ap (λ walk. walk.place) c.in_ok-restore.ensures.walk in
-    let below : inner ≤ point.walk.place = omega (arith, part.below, part.points.first, place) in
-    let back : inner < point.walk.place = omega (arith, part.back (omega (arith, all.2, place)), part.points.first, place) in
-    let within : point.walk.place ≤ whole = all.3 in (
-      omega (arith, above, back, within, l.invariant.from),
+    let cut = cut_before program l.start _ _ c.in_ok-parts.parts point place all.2 part in (
+      omega (arith, cut.0, cut.1, all.3, l.invariant.from),
       (
         search rules,
         (
@@ -127,6 +124,18 @@ write_parts-requires g t c κs now =
       ),
     )
 
+pub returns-in_err-parts-clause-known : goal.returns-in_err-parts-clause-known
+returns-in_err-parts-clause-known g t c = c.cut.ensures.known c.loop-point.invariant.ready.keeps ∙ c.loop-point.invariant.known
+
+pub returns-in_err-parts-clause-store : goal.returns-in_err-parts-clause-store
+returns-in_err-parts-clause-store g t c = c.cut.ensures.store ∙ c.loop-point.invariant.store
+
+pub returns-in_err-write_parts-clause-known : goal.returns-in_err-write_parts-clause-known
+returns-in_err-write_parts-clause-known g t c = c.write_parts.ensures.known ∙ (c.cut.ensures.known c.loop-point.invariant.ready.keeps ∙ c.loop-point.invariant.known)
+
+pub returns-in_err-write_parts-clause-store : goal.returns-in_err-write_parts-clause-store
+returns-in_err-write_parts-clause-store g t c = c.write_parts.ensures.store ∙ (c.cut.ensures.store ∙ c.loop-point.invariant.store)
+
 pub returns-in_err-write_parts-clause-some : goal.returns-in_err-write_parts-clause-some
 returns-in_err-write_parts-clause-some g t c =
     let program = c.args.program.now in
@@ -136,14 +145,11 @@ returns-in_err-write_parts-clause-some g t c =
     let all = popped program l.start whole l.points.items c.pop.new.self.items point (c.pop.ensures.items ∙ ap (λ o. c.pop.new.self.items ++ option_to_list o) c.in-Some.is) l.invariant.points in
     let part = c.in_ok-parts.ensures.parts in
     let inner = first_place l.start c.in_ok-parts.parts.points.items in
-    let above : l.start ≤ inner = omega (arith, part.above, part.points.first) in
     let place : c.restore.new.self.walk.place ≡ point.walk.place = ap (λ walk. walk.place) c.in_ok-restore.ensures.walk in
-    let below : inner ≤ point.walk.place = omega (arith, part.below, part.points.first, place) in
-    let back : inner < point.walk.place = omega (arith, part.back (omega (arith, all.2, place)), part.points.first, place) in
-    let within : point.walk.place ≤ whole = all.3 in
+    let cut = cut_before program l.start _ _ c.in_ok-parts.parts point place all.2 part in
     on_err_any c.from_residual-in_err-write_parts.result
     (some-then c.args.sink.now l.sink c.write_parts.new.sink c.args.out.now l.out c.write_parts.new.out (text_between program.listing c.args.from l.start) (text_between program.listing l.start inner) (text_between program.listing inner whole) _
-    (text_between-three program.listing c.args.from l.start inner whole l.invariant.from above (omega (arith, below, within))) l.invariant.pushed c.in_err-write_parts.ensures.some)
+    (text_between-three program.listing c.args.from l.start inner whole l.invariant.from cut.0 (omega (arith, cut.1, all.3))) l.invariant.pushed c.in_err-write_parts.ensures.some)
 
 pub loop-point-preserved : goal.loop-point-preserved
 loop-point-preserved g t c =
@@ -154,11 +160,8 @@ loop-point-preserved g t c =
     let all = popped program l.start whole l.points.items c.pop.new.self.items point (c.pop.ensures.items ∙ ap (λ o. c.pop.new.self.items ++ option_to_list o) c.in-Some.is) l.invariant.points in
     let part = c.in_ok-parts.ensures.parts in
     let inner = first_place l.start c.in_ok-parts.parts.points.items in
-    let above : l.start ≤ inner = omega (arith, part.above, part.points.first) in
     let place : c.restore.new.self.walk.place ≡ point.walk.place = ap (λ walk. walk.place) c.in_ok-restore.ensures.walk in
-    let below : inner ≤ point.walk.place = omega (arith, part.below, part.points.first, place) in
-    let back : inner < point.walk.place = omega (arith, part.back (omega (arith, all.2, place)), part.points.first, place) in
-    let within : point.walk.place ≤ whole = all.3 in
+    let cut = cut_before program l.start _ _ c.in_ok-parts.parts point place all.2 part in
     let known = c.write_parts.ensures.known ∙ c.cut.ensures.known l.invariant.ready.keeps in
     let end = part.text ∙ ap₂ (text_between program.listing) (sym part.points.first) place in
     record {
@@ -169,6 +172,6 @@ loop-point-preserved g t c =
       ready = ready_at program.listing inner whole c.write_parts.new.found c.in_ok-write_parts.ensures.ready (omega (arith, known, l.invariant.ready.lists.enough));
       tracker = c.in_ok-write_parts.ensures.tracker;
       known = known ∙ l.invariant.known;
-      pushed = Pushes-as c.args.sink.now c.push_to.new.sink c.args.out.now c.push_to.new.out _ _ ((ap (λ bytes. text_between program.listing c.args.from l.start ++ (text_between program.listing l.start inner ++ bytes)) end ∙ text_between-three program.listing c.args.from l.start inner point.walk.place l.invariant.from above below) ∙ ap (text_between program.listing c.args.from) (sym c.place-end.ensures))
+      pushed = Pushes-as c.args.sink.now c.push_to.new.sink c.args.out.now c.push_to.new.out _ _ ((ap (λ bytes. text_between program.listing c.args.from l.start ++ (text_between program.listing l.start inner ++ bytes)) end ∙ text_between-three program.listing c.args.from l.start inner point.walk.place l.invariant.from cut.0 (omega (arith, cut.1))) ∙ ap (text_between program.listing c.args.from) (sym c.place-end.ensures))
           (Pushes-trans l.invariant.pushed (Pushes-trans c.in_ok-write_parts.ensures.text c.push_to.ensures));
     }

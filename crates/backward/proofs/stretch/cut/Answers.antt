@@ -1,4 +1,5 @@
-use Rattle.std.proofs.Common.{[], length, refl, ap, ◌∙◌, arith}
+use Rattle.std.proofs.Common.{[], length, refl, ap, subst, ◌∙◌, arith}
+use Rattle.backward.specs.private.Passes.{IsPassed}
 use Rattle.backward.proofs.HeldLines.{holds_none, stretch_text}
 use Rattle.backward.proofs.stretch.cut.Goals as goal
 
@@ -6,6 +7,23 @@ pub leave_points-requires-clause-passed : goal.leave_points-requires-clause-pass
 leave_points-requires-clause-passed g c =
     let p = c.in_ok-find_back.ensures.passed in
     record { within = p.within; words = p.words; lists = p.lists; judged = p.judged }
+
+pub returns-clause-passed : goal.returns-clause-passed
+returns-clause-passed g c =
+    let left = c.in_ok-points.ensures in
+    subst (λ k. IsPassed c.args.program.now.listing k (g.T.Tracker.tracked c.leave_points.new.at.tracker) c.leave_points.new.found) left.place left.passed
+
+pub returns-clause-settled : goal.returns-clause-settled
+returns-clause-settled g c = c.leave_points.ensures.stays.settled ∙ c.find_back.ensures.stays.settled
+
+pub returns-clause-known : goal.returns-clause-known
+returns-clause-known g c = λ e. c.leave_points.ensures.stays.known refl ∙ c.find_back.ensures.stays.known e
+
+pub returns-in_err-points-clause-settled : goal.returns-in_err-points-clause-settled
+returns-in_err-points-clause-settled g c = c.leave_points.ensures.stays.settled ∙ c.find_back.ensures.stays.settled
+
+pub returns-in_err-points-clause-known : goal.returns-in_err-points-clause-known
+returns-in_err-points-clause-known g c = λ e. c.leave_points.ensures.stays.known refl ∙ c.find_back.ensures.stays.known e
 
 pub returns-clause-parts : goal.returns-clause-parts
 returns-clause-parts g c =

@@ -1,47 +1,41 @@
-use Rattle.std.proofs.Common.{◌≡◌, ◌<◌, List, [], map, length, set, get_or, get_or-set_other, ap, ap₂, subst, sym, ◌∙◌, arith}
-use Rattle.std.specs.Prelude.{All}
+use Rattle.std.proofs.Common.{◌≡◌, List, [], map, length, set, get_or, get_or-set_other, ap, ap₂, sym, ◌∙◌}
 use Rattle.std.proofs.lemmas.List.{get_or_default}
 use Rattle.std.proofs.lemmas.List.Elements.{All-set}
 use Rattle.std.proofs.lemmas.Result.{on_ok_weaker}
 use Rattle.pauli_word.specs.declared.letter.Letter.{Letter}
 use Rattle.trackers.specs.private.Transposed.{combined}
-use Rattle.trackers.proofs.ExchangeLemmas.{written_over}
+use Rattle.trackers.proofs.ExchangeLemmas.{swapped_first, swapped_long, swapped_second, written_over}
 use Rattle.trackers.proofs.pairs.exchange_pair.Goals as goal
+
+pub become_image-requires-clause-other : goal.become_image-requires-clause-other
+become_image-requires-clause-other g c = c.requires.other ∙ sym (swapped_first (length (g.S.TargetSet.bits c.args.spare.now)) c.args.a c.args.b c.args.columns.now c.swap.new.self (c.swap.ensures.by_index.3 []) c.requires.first c.requires.second c.requires.long c.index-columns-a.result)
+
+pub become_image-requires-clause-spare : goal.become_image-requires-clause-spare
+become_image-requires-clause-spare g c = sym (swapped_first (length (g.S.TargetSet.bits c.args.spare.now)) c.args.a c.args.b c.args.columns.now c.swap.new.self (c.swap.ensures.by_index.3 []) c.requires.first c.requires.second c.requires.long c.index-columns-a.result)
+
+pub become_image-requires-2-clause-other : goal.become_image-requires-2-clause-other
+become_image-requires-2-clause-other g c =
+    c.become_image.ensures.other ∙ (c.requires.other ∙ sym (swapped_second (length (g.S.TargetSet.bits c.args.spare.now)) c.args.a c.args.b c.args.columns.now c.swap.new.self (c.swap.ensures.by_index.3 []) c.requires.first c.requires.second c.requires.long c.become_image.new.self c.index-columns-b.result c.requires.different))
+
+pub become_image-requires-2-clause-spare : goal.become_image-requires-2-clause-spare
+become_image-requires-2-clause-spare g c =
+    c.become_image.ensures.spare ∙ sym (swapped_second (length (g.S.TargetSet.bits c.args.spare.now)) c.args.a c.args.b c.args.columns.now c.swap.new.self (c.swap.ensures.by_index.3 []) c.requires.first c.requires.second c.requires.long c.become_image.new.self c.index-columns-b.result c.requires.different)
 
 pub returns-in_err-become_image-clause-long : goal.returns-in_err-become_image-clause-long
 returns-in_err-become_image-clause-long g c =
     let m = length (g.S.TargetSet.bits c.args.spare.now) in
-    let columns = c.args.columns.now in
-    let a = c.args.a in
-    let b = c.args.b in
-    let whole = c.swap.ensures.by_index.3 [] in
-    let swapped : All (λ column. length column ≡ m) c.swap.new.self =
-    subst (All (λ column. length column ≡ m)) (sym whole)
-    (All-set (λ column. length column ≡ m) (set columns a (get_or columns b [])) b (get_or columns a []) (c.requires.long a [] c.requires.first)
-    (All-set (λ column. length column ≡ m) columns a (get_or columns b []) (c.requires.long b [] c.requires.second) c.requires.long)) in
-    let within : a < length c.swap.new.self = omega (arith, c.swap.ensures.len, c.requires.first) in
-    All-set (λ column. length column ≡ m) c.swap.new.self a c.become_image.new.self
-    (c.become_image.ensures.len ∙ swapped a _ within) swapped
+    All-set (λ column. length column ≡ m) c.swap.new.self c.args.a c.become_image.new.self
+    (c.become_image.ensures.len ∙ swapped_first (length (g.S.TargetSet.bits c.args.spare.now)) c.args.a c.args.b c.args.columns.now c.swap.new.self (c.swap.ensures.by_index.3 []) c.requires.first c.requires.second c.requires.long c.index-columns-a.result)
+    (swapped_long (length (g.S.TargetSet.bits c.args.spare.now)) c.args.a c.args.b c.args.columns.now c.swap.new.self (c.swap.ensures.by_index.3 []) c.requires.first c.requires.second c.requires.long)
 
 pub returns-clause-long : goal.returns-clause-long
 returns-clause-long g c =
     let m = length (g.S.TargetSet.bits c.args.spare.now) in
-    let columns = c.args.columns.now in
-    let a = c.args.a in
-    let b = c.args.b in
-    let whole = c.swap.ensures.by_index.3 [] in
-    let swapped : All (λ column. length column ≡ m) c.swap.new.self =
-    subst (All (λ column. length column ≡ m)) (sym whole)
-    (All-set (λ column. length column ≡ m) (set columns a (get_or columns b [])) b (get_or columns a []) (c.requires.long a [] c.requires.first)
-    (All-set (λ column. length column ≡ m) columns a (get_or columns b []) (c.requires.long b [] c.requires.second) c.requires.long)) in
-    let within : a < length c.swap.new.self = omega (arith, c.swap.ensures.len, c.requires.first) in
-    let inside : b < length c.swap.new.self = omega (arith, c.swap.ensures.len, c.requires.second) in
-    let here : get_or (set c.swap.new.self a c.become_image.new.self) b c.index-columns-b.result ≡ get_or c.swap.new.self b c.index-columns-b.result =
-    get_or-set_other c.swap.new.self a b c.become_image.new.self _ (λ e. c.requires.different (sym e)) in
-    All-set (λ column. length column ≡ m) (set c.swap.new.self a c.become_image.new.self) b c.become_image-2.new.self
-    (c.become_image-2.ensures.len ∙ (ap length here ∙ swapped b _ inside))
-    (All-set (λ column. length column ≡ m) c.swap.new.self a c.become_image.new.self
-    (c.become_image.ensures.len ∙ swapped a _ within) swapped)
+    All-set (λ column. length column ≡ m) (set c.swap.new.self c.args.a c.become_image.new.self) c.args.b c.become_image-2.new.self
+    (c.become_image-2.ensures.len ∙ swapped_second (length (g.S.TargetSet.bits c.args.spare.now)) c.args.a c.args.b c.args.columns.now c.swap.new.self (c.swap.ensures.by_index.3 []) c.requires.first c.requires.second c.requires.long c.become_image.new.self c.index-columns-b.result c.requires.different)
+    (All-set (λ column. length column ≡ m) c.swap.new.self c.args.a c.become_image.new.self
+    (c.become_image.ensures.len ∙ swapped_first (length (g.S.TargetSet.bits c.args.spare.now)) c.args.a c.args.b c.args.columns.now c.swap.new.self (c.swap.ensures.by_index.3 []) c.requires.first c.requires.second c.requires.long c.index-columns-a.result)
+    (swapped_long (length (g.S.TargetSet.bits c.args.spare.now)) c.args.a c.args.b c.args.columns.now c.swap.new.self (c.swap.ensures.by_index.3 []) c.requires.first c.requires.second c.requires.long))
 
 pub returns-clause-columns : goal.returns-clause-columns
 returns-clause-columns g c =

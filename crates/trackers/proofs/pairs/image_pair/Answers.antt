@@ -1,4 +1,4 @@
-use Rattle.std.proofs.Common.{◌≡◌, [], map, get_or, ap, ap₂, ◌∙◌}
+use Rattle.std.proofs.Common.{◌≡◌, [], length, map, get_or, ap, ap₂, sym, ◌∙◌}
 use Rattle.std.proofs.lemmas.List.{get_or_default}
 use Rattle.std.proofs.lemmas.Result.{on_ok_weaker}
 use Rattle.gate_table.specs.Images.{image2, inverse_of}
@@ -6,6 +6,24 @@ use Rattle.pauli_word.specs.declared.letter.Letter.TheVariants.{I, X, Z}
 use Rattle.pauli_word.specs.Words.{letters_product}
 use Rattle.trackers.specs.private.Transposed.{combined}
 use Rattle.trackers.proofs.pairs.image_pair.Goals as goal
+
+pub set_images-requires-clause-first : goal.set_images-requires-clause-first
+set_images-requires-clause-first g c = ap length c.index-columns-a.is ∙ (c.requires.long c.args.a _ c.requires.first_place ∙ sym c.requires.first_long)
+
+pub set_images-requires-clause-second : goal.set_images-requires-clause-second
+set_images-requires-clause-second g c = ap length c.index-columns-b.is ∙ (c.requires.long c.args.b _ c.requires.second_place ∙ sym c.requires.first_long)
+
+pub set_images-requires-clause-spare : goal.set_images-requires-clause-spare
+set_images-requires-clause-spare g c = sym c.requires.first_long
+
+pub set_images-requires-2-clause-first : goal.set_images-requires-2-clause-first
+set_images-requires-2-clause-first g c = ap length c.index-columns-a-2.is ∙ (c.requires.long c.args.a _ c.requires.first_place ∙ sym c.requires.second_long)
+
+pub set_images-requires-2-clause-second : goal.set_images-requires-2-clause-second
+set_images-requires-2-clause-second g c = ap length c.index-columns-b-2.is ∙ (c.requires.long c.args.b _ c.requires.second_place ∙ sym c.requires.second_long)
+
+pub set_images-requires-2-clause-spare : goal.set_images-requires-2-clause-spare
+set_images-requires-2-clause-spare g c = c.set_images.ensures.spare ∙ sym c.requires.second_long
 
 pub returns-clause-first : goal.returns-clause-first
 returns-clause-first g c =

@@ -13,7 +13,34 @@ use Rattle.trackers.specs.Tracked.{anticommuting}
 use Rattle.trackers.specs.private.Transposed.{word_at}
 use Rattle.trackers.proofs.LoneTerms.{lone_clash, lone_term}
 use Rattle.trackers.proofs.TransposedLemmas.{ones_are_hit}
+use Rattle.trackers.proofs.LengthLemmas.{lent_long}
 use Rattle.trackers.proofs.words.Words.list_hit.Goals as goal
+
+pub index-requires : goal.index-requires
+index-requires g c =
+    let d : Term = record { qubit = 0; letter = I } in
+    let below = All-get_or (λ term. term.qubit < c.args.self.now.qubits) c.args.terms.now 0 d (omega (arith, c.in-len1.len_at_least)) c.requires in
+    omega (arith, below, ap (λ t. t.qubits) c.self.view_is)
+
+pub list_both-requires-clause-first_in_range : goal.list_both-requires-clause-first_in_range
+list_both-requires-clause-first_in_range g c =
+    let d : Term = record { qubit = 0; letter = I } in
+    All-get_or (λ term. term.qubit < c.args.self.now.qubits) c.args.terms.now 0 d (omega (arith, c.in-len2.len_at_least)) c.requires
+
+pub list_both-requires-clause-second_in_range : goal.list_both-requires-clause-second_in_range
+list_both-requires-clause-second_in_range g c =
+    let d : Term = record { qubit = 0; letter = I } in
+    All-get_or (λ term. term.qubit < c.args.self.now.qubits) c.args.terms.now 1 d (omega (arith, c.in-len2.len_at_least)) c.requires
+
+pub clashing-requires-clause-terms : goal.clashing-requires-clause-terms
+clashing-requires-clause-terms g c = λ k d lt. let below = c.requires k d lt in omega (arith, below, ap length c.as_slice.ensures.value, ap (λ t. t.qubits) c.self.view_is)
+
+pub clashing-requires-clause-long : goal.clashing-requires-clause-long
+clashing-requires-clause-long g c =
+    lent_long c.self.inside.targets c.self.inside.columns.items _ (g.S.TargetSet.bits c.self.inside.set) c.as_slice.ensures.value c.self.invariant.set_long c.self.invariant.columns_long
+
+pub clashing-requires-clause-spare : goal.clashing-requires-clause-spare
+clashing-requires-clause-spare g c = c.self.invariant.spare_long ∙ sym c.self.invariant.set_long
 
 pub returns-in-Some-clause-hit : goal.returns-in-Some-clause-hit
 returns-in-Some-clause-hit g c =

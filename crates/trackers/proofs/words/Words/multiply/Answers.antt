@@ -4,7 +4,31 @@ use Rattle.std.proofs.lemmas.Result.{on_ok_weaker}
 use Rattle.trackers.specs.Tracked.{Tracked, each_word}
 use Rattle.trackers.specs.private.Transposed.{multiplied_at, multiplied_columns, tracked_of}
 use Rattle.trackers.proofs.MultiplyLemmas.{tracked_multiplied}
+use Rattle.trackers.proofs.LengthLemmas.{lent_long, returned_long}
 use Rattle.trackers.proofs.words.Words.multiply.Goals as goal
+
+pub multiply_pair-requires-clause-first : goal.multiply_pair-requires-clause-first
+multiply_pair-requires-clause-first g c = omega (arith, c.as_mut_slice.ensures.len, ap (λ (t : Tracked). t.qubits) c.self.view_is, c.requires.first_in_range)
+
+pub multiply_pair-requires-clause-second : goal.multiply_pair-requires-clause-second
+multiply_pair-requires-clause-second g c = omega (arith, c.as_mut_slice.ensures.len, ap (λ (t : Tracked). t.qubits) c.self.view_is, c.requires.second_in_range)
+
+pub multiply_pair-requires-clause-long : goal.multiply_pair-requires-clause-long
+multiply_pair-requires-clause-long g c =
+    lent_long c.self.inside.targets c.self.inside.columns.items _ (g.S.TargetSet.bits c.self.inside.spare) c.as_mut_slice.ensures.value c.self.invariant.spare_long c.self.invariant.columns_long
+
+pub invariant_of-self : goal.invariant_of-self
+invariant_of-self g c =
+    record {
+      columns_long = returned_long c.self.inside.targets _ c.multiply_pair.new.columns (g.S.TargetSet.bits c.self.inside.spare)
+          (with_items_is c.self.inside.columns c.multiply_pair.new.columns (c.multiply_pair.auto.columns ∙ c.as_mut_slice.ensures.len))
+          c.self.invariant.spare_long c.multiply_pair.ensures.long;
+      first_long = c.self.invariant.first_long;
+      second_long = c.self.invariant.second_long;
+      set_long = c.self.invariant.set_long;
+      spare_long = c.multiply_pair.ensures.spare ∙ c.self.invariant.spare_long;
+      few = c.self.invariant.few;
+    }
 
 pub returns : goal.returns
 returns g c =
