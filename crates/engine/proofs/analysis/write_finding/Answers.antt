@@ -35,7 +35,7 @@ returns-in_err-write_analysis-clause-answered g c =
     let old = g.W.Sink.taken c.args.sink.now in
     let new = g.W.Sink.taken c.write_analysis.new.sink in
     let failed = err_from_is_err_and c.from_residual-in_err-write_analysis.result c.from_residual-in_err-write_analysis.ensures.1 in
-    rw failed.1
+    rw (failed.1, failed.2)
     (record {
       written = tt;
       status = tt;
