@@ -7,7 +7,6 @@ use Rattle.step_model.specs.Ends.{Takes, TakesSome}
 use Rattle.step_model.proofs.EndsLemmas.{TakesSome-none}
 use Rattle.backward.specs.Places.{NoneIsRandom}
 use Rattle.engine.specs.Output.{Output, found_in}
-use Rattle.engine.specs.private.Answered.{Answers}
 use Rattle.engine.proofs.FindingLemmas.{found_none, exact_in}
 use Rattle.engine.proofs.analysis.write_finding.Goals as goal
 
