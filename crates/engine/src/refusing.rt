@@ -1,7 +1,8 @@
 //! Refusals.
-ghost use Rattle.std.specs.Prelude.{◌≡◌, ◌⊎◌, Result, Err};
+ghost use Rattle.std.specs.Prelude.{◌≡◌, ◌⊎◌, Result, Err, IfOk};
 ghost use Rattle.step_model.specs.declared.fault.Fault.{Fault};
 ghost use Rattle.step_model.specs.Faults.{memory_fault};
+ghost use Rattle.engine.specs.declared.order.Status.TheVariants.{Refused};
 ghost use Rattle.engine.specs.Output.{Output, refused_or};
 ghost use Rattle.engine.specs.private.Answered.{Answers};
 
@@ -19,8 +20,9 @@ pub(crate) fn refuse<W: Sink, A: Allocator + Copy>(
     sink: &mut W,
 ) -> Result<Status, Fault>
     // What was asked came to this fault, or there was no memory.
-    ensures { (asked : Result Output Fault) → (fault ≡ memory_fault) ⊎ (asked ≡ Err fault)
+    ensures answered { (asked : Result Output Fault) → (fault ≡ memory_fault) ⊎ (asked ≡ Err fault)
         → Answers W.taken W.failures sink.old sink.new (refused_or asked) result }
+    ensures status { IfOk result (λ status. status ≡ Refused) }
 {
     if fault.cause == Cause::Memory {
         return Err(Fault::MEMORY);

@@ -13,4 +13,4 @@ returns-in-Ok-clause-answered g c =
 
 pub returns-in-Err-clause-answered : goal.returns-in-Err-clause-answered
 returns-in-Err-clause-answered g c =
-    c.refuse.ensures _ (refused_at_first _ (λ program. Ok (found_in program)) _ c.in-Err.ensures.err)
+    c.refuse.ensures.answered _ (refused_at_first _ (λ program. Ok (found_in program)) _ c.in-Err.ensures.err)

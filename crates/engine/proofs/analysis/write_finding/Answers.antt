@@ -7,7 +7,6 @@ use Rattle.step_model.specs.Ends.{Takes, TakesSome}
 use Rattle.step_model.proofs.EndsLemmas.{TakesSome-none}
 use Rattle.backward.specs.Places.{NoneIsRandom}
 use Rattle.engine.specs.Output.{Output, found_in}
-use Rattle.engine.specs.private.Answered.{Answers}
 use Rattle.engine.proofs.FindingLemmas.{found_none, exact_in}
 use Rattle.engine.proofs.analysis.write_finding.Goals as goal
 
@@ -35,7 +34,7 @@ returns-in_err-write_analysis-clause-answered g c =
     let old = g.W.Sink.taken c.args.sink.now in
     let new = g.W.Sink.taken c.write_analysis.new.sink in
     let failed = err_from_is_err_and c.from_residual-in_err-write_analysis.result c.from_residual-in_err-write_analysis.ensures.1 in
-    rw failed.1
+    rw (failed.1, failed.2)
     (record {
       written = tt;
       status = tt;

@@ -13,4 +13,4 @@ returns-in-Ok g c =
 
 pub returns-in-Err : goal.returns-in-Err
 returns-in-Err g c =
-    c.refuse.ensures _ (refused_at_first _ (program_shots (shown_line c.args.shown) c.args.shots c.args.seed) _ c.in-Err.ensures.err)
+    c.refuse.ensures.answered _ (refused_at_first _ (program_shots (shown_line c.args.shown) c.args.shots c.args.seed) _ c.in-Err.ensures.err)
