@@ -178,7 +178,8 @@ fn push_model<'s, 'p, 'a, A: Allocator + Copy, T: Tracker, W: Sink>(
     out: &mut Pieces,
     sink: &mut W,
 ) -> Result<(), AllocError>
-    requires parts { AreParts program.now 0 (length program.now.listing.steps) found.old.known parts }
+    requires parts { AreParts program.now 0 (length program.now.listing.steps) found.old.known
+        parts }
     requires tracker { IsFor program.now.listing (T.tracked at.old.tracker) }
     requires ready { IsReady program.now.listing (first_place 0 parts.points.items) found.old }
     requires store { lines.old.program.now ≡ program.now }
