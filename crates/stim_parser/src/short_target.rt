@@ -63,3 +63,18 @@ impl Short<Target> for ShortTarget {
         }
     }
 }
+
+// A target is a form of its own, so that one function goes over both kinds of lists.
+impl Short<Target> for Target {
+    ghost long = { λ target. target };
+
+    #[inline(always)]
+    fn shorten(target: Target) -> Option<Target> {
+        Some(target)
+    }
+
+    #[inline(always)]
+    fn lengthen(self) -> Target {
+        self
+    }
+}

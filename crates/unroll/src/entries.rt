@@ -9,6 +9,7 @@ ghost use Rattle.unroll.specs.private.Pushed.{AddsFaults, IsSmall, NamesFlip};
 ghost use Rattle.unroll.specs.Totals.{qubits_to};
 
 use crate::targets::qubit_of;
+use flat_lists::Short;
 use pauli_word::Letter;
 use programs::{CircuitBuilder, EntryBuilder, TextStep};
 use std::alloc::{AllocError, Allocator};
@@ -53,6 +54,34 @@ fn name_terms<A: Allocator + Copy>(
     Ok(())
 }
 
+/// Appends a fault of this letter for each of the targets, which have one form.
+#[inline(always)]
+fn push_each_letter<S: Short<Target>, A: Allocator + Copy>(
+    builder: &mut CircuitBuilder<A>,
+    entries: &mut EntryBuilder<'_, A>,
+    number: usize,
+    letter: Letter,
+    targets: &[S],
+) -> Result<(), AllocError>
+    requires small { All IsSmall (map S.long targets.now) }
+    requires there { number < length entries.old.chances }
+    ensures { OnOk result
+        (AddsFaults
+        (map
+        (λ target. entry_from (slice_index_or entries.old.chances number no_chance)
+        (term_at letter target ∷ []))
+        (map S.long targets.now))
+        builder.old builder.new entries.old entries.new) }
+{
+    let mut rest = targets;
+    while let Some((first, after)) = rest.split_first() {
+        let entry = entries.name_letter(number, term_at(letter, first.lengthen()))?;
+        builder.push(TextStep::Fault(entry))?;
+        rest = after;
+    }
+    Ok(())
+}
+
 /// Appends a fault of this letter for each target, of the probability with a number.
 fn push_letters<A: Allocator + Copy>(
     builder: &mut CircuitBuilder<A>,
@@ -71,13 +100,10 @@ fn push_letters<A: Allocator + Copy>(
         (list_in targets.entry))
         builder.old builder.new entries.old entries.new) }
 {
-    let mut rest = targets;
-    while let Some((target, after)) = rest.split_first() {
-        let entry = entries.name_letter(number, term_at(letter, target))?;
-        builder.push(TextStep::Fault(entry))?;
-        rest = after;
+    match targets {
+        Targets::Short(short) => push_each_letter(builder, entries, number, letter, short),
+        Targets::Long(long) => push_each_letter(builder, entries, number, letter, long),
     }
-    Ok(())
 }
 
 /// Appends the faults of an instruction's errors. The mark of the instruction is the number of its probability.

@@ -9,6 +9,7 @@ ghost use Rattle.unroll.specs.private.Pushed.{Adds, IsSmall, single_step};
 ghost use Rattle.unroll.specs.Totals.{qubits_to, target_count};
 
 use crate::targets::{end_of_factor, qubit_of};
+use flat_lists::Short;
 use gate_table::Gate;
 use pauli_word::Letter;
 use programs::{CircuitBuilder, Recording, TextStep};
@@ -138,6 +139,25 @@ fn pair_step(gate: Gate, a: Target, b: Target) -> TextStep
     }
 }
 
+/// Appends a step for each of the targets, which have one form.
+#[inline(always)]
+fn push_each<S: Short<Target>, A: Allocator + Copy>(
+    builder: &mut CircuitBuilder<A>,
+    single: Single,
+    targets: &[S],
+) -> Result<(), AllocError>
+    requires { All IsSmall (map S.long targets.now) }
+    ensures { OnOk result
+        (Adds (map (single_step single) (map S.long targets.now)) builder.old builder.new) }
+{
+    let mut rest = targets;
+    while let Some((first, after)) = rest.split_first() {
+        builder.push(single_step(single, first.lengthen()))?;
+        rest = after;
+    }
+    Ok(())
+}
+
 fn push_singles<A: Allocator + Copy>(
     builder: &mut CircuitBuilder<A>,
     single: Single,
@@ -146,9 +166,29 @@ fn push_singles<A: Allocator + Copy>(
     requires { All IsSmall (list_in targets) }
     ensures { OnOk result (Adds (map (single_step single) (list_in targets.entry)) builder.old builder.new) }
 {
+    match targets {
+        Targets::Short(short) => push_each(builder, single, short),
+        Targets::Long(long) => push_each(builder, single, long),
+    }
+}
+
+/// Appends a step for each pair of the targets, which have one form.
+#[inline(always)]
+fn push_each_pair<S: Short<Target>, A: Allocator + Copy>(
+    builder: &mut CircuitBuilder<A>,
+    gate: Gate,
+    targets: &[S],
+) -> Result<(), AllocError>
+    requires { All IsSmall (map S.long targets.now) }
+    ensures { OnOk result
+        (Adds (pair_steps gate (map S.long targets.now)) builder.old builder.new) }
+{
     let mut rest = targets;
-    while let Some((target, after)) = rest.split_first() {
-        builder.push(single_step(single, target))?;
+    while let Some((first, others)) = rest.split_first() {
+        let Some((second, after)) = others.split_first() else {
+            return Ok(());
+        };
+        builder.push(pair_step(gate, first.lengthen(), second.lengthen()))?;
         rest = after;
     }
     Ok(())
@@ -162,15 +202,10 @@ fn push_pairs<A: Allocator + Copy>(
     requires { All IsSmall (list_in targets) }
     ensures { OnOk result (Adds (pair_steps gate (list_in targets.entry)) builder.old builder.new) }
 {
-    let mut rest = targets;
-    while let Some((first, others)) = rest.split_first() {
-        let Some((second, after)) = others.split_first() else {
-            return Ok(());
-        };
-        builder.push(pair_step(gate, first, second))?;
-        rest = after;
+    match targets {
+        Targets::Short(short) => push_each_pair(builder, gate, short),
+        Targets::Long(long) => push_each_pair(builder, gate, long),
     }
-    Ok(())
 }
 
 /// Appends a collapse of each product; the first product has this number. A collapse is the projective measurement

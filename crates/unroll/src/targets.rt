@@ -1,4 +1,4 @@
-ghost use Rattle.std.specs.Prelude.{◌≡◌, ◌≤◌, All, length};
+ghost use Rattle.std.specs.Prelude.{◌≡◌, ◌≤◌, All, length, map};
 ghost use Rattle.stim_parser.specs.Kept.{list_in};
 ghost use Rattle.stim_parser.specs.private.Products.{is_joining};
 ghost use Rattle.stim_parser.specs.Limits.{products_of, qubit_of};
@@ -7,6 +7,7 @@ ghost use Rattle.unroll.specs.Refusals.{is_before_start, reaches_far};
 ghost use Rattle.unroll.specs.Totals.{qubits_to, target_count};
 ghost use Rattle.unroll.specs.private.MadeTotals.{qubits_named};
 
+use flat_lists::Short;
 use stim_parser::{Operation, Target, Targets};
 
 /// One more than the qubit that a target names, and 0 where it names none.
@@ -52,23 +53,37 @@ pub(crate) struct Reach {
     pub is_far: bool,
 }
 
+/// How far targets of one form reach after this many records.
+#[inline(always)]
+fn reach_in<S: Short<Target>>(records: u64, targets: &[S]) -> Reach
+    requires { All (λ target. qubits_to target ≤ 4096) (map S.long targets.now) }
+    ensures qubits { result.qubits ≡ qubits_named (map S.long targets.now) }
+    ensures far { result.is_far ≡ reaches_far records (map S.long targets.now) }
+{
+    let mut qubits: u32 = 0;
+    let mut far = false;
+    let mut rest = targets;
+    while let Some((first, after)) = rest.split_first() {
+        qubits = qubits.max(qubits_to(first.lengthen()));
+        let goes_far = is_far(records, first.lengthen());
+        far = far || goes_far;
+        rest = after;
+    }
+    Reach {
+        qubits,
+        is_far: far,
+    }
+}
+
 /// How far targets reach after this many records.
 pub(crate) fn reach_of(records: u64, targets: Targets<'_>) -> Reach
     requires { All (λ target. qubits_to target ≤ 4096) (list_in targets) }
     ensures qubits { result.qubits ≡ qubits_named (list_in targets.entry) }
     ensures far { result.is_far ≡ reaches_far records (list_in targets.entry) }
 {
-    let mut qubits: u32 = 0;
-    let mut far = false;
-    let mut rest = targets;
-    while let Some(parts) = rest.split_first() {
-        qubits = qubits.max(qubits_to(parts.0));
-        far = far || is_far(records, parts.0);
-        rest = parts.1;
-    }
-    Reach {
-        qubits,
-        is_far: far,
+    match targets {
+        Targets::Short(short) => reach_in(records, short),
+        Targets::Long(long) => reach_in(records, long),
     }
 }
 
