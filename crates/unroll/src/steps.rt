@@ -164,7 +164,8 @@ fn push_singles<A: Allocator + Copy>(
     targets: Targets<'_>,
 ) -> Result<(), AllocError>
     requires { All IsSmall (list_in targets) }
-    ensures { OnOk result (Adds (map (single_step single) (list_in targets.entry)) builder.old builder.new) }
+    ensures { OnOk result
+        (Adds (map (single_step single) (list_in targets.entry)) builder.old builder.new) }
 {
     match targets {
         Targets::Short(short) => push_each(builder, single, short),
