@@ -1,9 +1,12 @@
 //! Drawn shots of a program, a line each.
-ghost use Rattle.std.specs.Prelude.{◌≡◌, ◌⊎◌, ◌+◌, length, replicate, IfOk, IfErr, OnOk, OnErr};
+ghost use Rattle.std.specs.Prelude.{◌≡◌, ◌⊎◌, ◌+◌, length, IfOk, IfErr, OnOk, OnErr};
 ghost use Rattle.step_model.specs.Ends.{Takes, TakesSome, write_failures};
 ghost use Rattle.step_model.specs.Faults.{memory_fault, write_fault};
+ghost use Rattle.frames.specs.Batches.{IsBatchOf};
 ghost use Rattle.sampling.specs.Sampled.{shots_text};
 ghost use Rattle.sampling.specs.Shown.{shown_line};
+ghost use Rattle.sampling.specs.private.ShownRuns.{shown_count};
+ghost use Rattle.sampling.specs.private.Written.{WritesText};
 
 use crate::batches::write_batches;
 use crate::side_runs::{Shown, SideRuns, count};
@@ -35,10 +38,54 @@ pub fn write_shots<W: Sink, A: Allocator + Copy>(
 {
     let mut words = vec![in alloc; 0u64; count(program, shown)]?;
     let mut line = room_for(alloc, &words)?;
+    write_lines(
+        alloc, program, shown, &mut words, &mut line, shots, seed, sink,
+    )
+}
+
+// The same, where room is lent for what is shown of runs and for a line.
+fn write_lines<W: Sink, A: Allocator + Copy>(
+    alloc: A,
+    program: &Program<'_, A>,
+    shown: Shown,
+    words: &mut [u64],
+    line: &mut [u8],
+    shots: u64,
+    seed: u64,
+    sink: &mut W,
+) -> Result<(), Fault>
+    requires words { length words.old ≡ shown_count shown program.now.listing }
+    requires line { length line.old ≡ length words.old + 1 }
+    ensures { WritesText W.taken W.failures sink.old sink.new
+        (shots_text (shown_line shown) shots seed program.now.listing) result }
+{
     let mut batch = Batch::new(alloc, program)?;
+    write_runs(
+        alloc, program, shown, &mut batch, words, line, shots, seed, sink,
+    )
+}
+
+// The same, where a batch is lent too.
+fn write_runs<W: Sink, A: Allocator + Copy>(
+    alloc: A,
+    program: &Program<'_, A>,
+    shown: Shown,
+    batch: &mut Batch<A>,
+    words: &mut [u64],
+    line: &mut [u8],
+    shots: u64,
+    seed: u64,
+    sink: &mut W,
+) -> Result<(), Fault>
+    requires batch { IsBatchOf program.now.listing batch.old }
+    requires words { length words.old ≡ shown_count shown program.now.listing }
+    requires line { length line.old ≡ length words.old + 1 }
+    ensures { WritesText W.taken W.failures sink.old sink.new
+        (shots_text (shown_line shown) shots seed program.now.listing) result }
+{
     let mut drawn = Shots::new(alloc, program, batch.coins_that_dont_count(program))?;
-    let mut runs = SideRuns::new(program, &mut batch, shown, &mut words);
-    write_batches(&mut drawn, &mut runs, &mut line, shots, seed, sink)
+    let mut runs = SideRuns::new(program, batch, shown, words);
+    write_batches(&mut drawn, &mut runs, line, shots, seed, sink)
 }
 
 // A line with a digit for each of these words, and its line feed.
