@@ -29,16 +29,49 @@ pub(crate) fn follow<A: Allocator + Copy>(
     ensures count { IfOk result (λ made. length made.0 ≡ program.now.listing.records) }
     ensures words { IfOk result (λ made. AreWordsOf program.now.listing (words_of made.1)) }
 {
-    let mut walk = WalkingRun::start(alloc, program)?;
     let mut kept = KeptWords::new(alloc, bytes)?;
-    follow_steps(&mut walk, program, &mut kept)?;
-    let records = walk.into_records();
-    let words = if kept.is_whole() {
-        ReplacedWords::Kept(kept)
-    } else {
-        ReplacedWords::Walked(WalkingRun::start(alloc, program)?)
-    };
-    Ok((records, words))
+    let records = run_and_keep(alloc, program, &mut kept)?;
+    with_words(alloc, program, records, kept)
+}
+
+// The records of the run. The words that its collapses replaced are kept, where there is room for them.
+fn run_and_keep<A: Allocator + Copy>(
+    alloc: A,
+    program: &Program<'_, A>,
+    kept: &mut KeptWords<A>,
+) -> Result<Records<A>, AllocError>
+    requires empty { kept.old.replaced ≡ [] }
+    ensures records { IfOk result (λ records. records
+        ≡ records_of program.now.listing [] (zero_coins program.now.listing)) }
+    ensures count { IfOk result (λ records. length records ≡ program.now.listing.records) }
+    ensures kept { OnOk result
+        (kept.new.whole ≡ true
+        → AreEntries program.now.listing program.now.listing.steps
+        (start (zero_coins program.now.listing)) kept.new.replaced) }
+{
+    let mut walk = WalkingRun::start(alloc, program)?;
+    follow_steps(&mut walk, program, kept)?;
+    Ok(walk.into_records())
+}
+
+// These records, and what says the replaced words: those kept, where there was room for all of them.
+fn with_words<A: Allocator + Copy>(
+    alloc: A,
+    program: &Program<'_, A>,
+    records: Records<A>,
+    kept: KeptWords<A>,
+) -> Result<(Records<A>, ReplacedWords<A>), AllocError>
+    requires kept { kept.whole ≡ true
+        → AreEntries program.now.listing program.now.listing.steps
+        (start (zero_coins program.now.listing)) kept.replaced }
+    ensures records { IfOk result (λ made. made.0 ≡ records) }
+    ensures words { IfOk result (λ made. AreWordsOf program.now.listing (words_of made.1)) }
+{
+    if kept.is_whole() {
+        return Ok((records, ReplacedWords::Kept(kept)));
+    }
+    let walk = WalkingRun::start(alloc, program)?;
+    Ok((records, ReplacedWords::Walked(walk)))
 }
 
 // Takes all steps of the program from the start.
