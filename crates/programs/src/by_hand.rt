@@ -3,7 +3,7 @@ ghost use Rattle.std.specs.Prelude.{◌≡◌, [], map, true, IfOk, IfSome, OnOk
 ghost use Rattle.step_model.specs.Probabilities.{probability_bound};
 ghost use Rattle.step_model.specs.Chances.{chance_of};
 ghost use Rattle.programs.specs.ByHand.{written, chance_by_hand, kept_of, Puts};
-ghost use Rattle.programs.specs.private.KeptLists.{Keeps, KeepsNothing};
+ghost use Rattle.programs.specs.private.KeptLists.{Begins, Keeps, KeepsNothing};
 ghost use Rattle.programs.specs.Listed.{listed_steps, made_faults};
 ghost use Rattle.programs.specs.Numbering.{no_counts, counts_over};
 ghost use Rattle.programs.specs.Trees.{IsCircuit, tree_of, unrolled};
@@ -74,18 +74,32 @@ pub fn program_of<'a, A: Allocator + Copy>(
     ensures products { IfOk result (λ o. IfSome o (λ p. p.products
         ≡ map (λ list. list.now) lists.entry.products.now)) }
 {
-    let Some(nodes) = nodes_of(alloc, pieces)? else {
+    let Some(mut parts) = begun(alloc, qubits, pieces, lists.entries)? else {
         return Ok(None);
     };
-    let Some(entries) = entries_of(alloc, lists.entries)? else {
-        return Ok(None);
-    };
-    let mut parts = bare(alloc, qubits, nodes, entries);
     let kept = keep(&mut parts, lists)?;
     if !kept {
         return Ok(None);
     }
     Ok(checked(parts))
+}
+
+// Parts with nothing but the circuit of these pieces and these entries.
+fn begun<'a, A: Allocator + Copy>(
+    alloc: A,
+    qubits: u32,
+    pieces: &[Piece],
+    entries: &'a [Entry<'a>],
+) -> Result<Option<Parts<'a, A>>, AllocError>
+    ensures { IfOk result (λ o. IfSome o (λ parts. Begins parts qubits pieces.now entries.now)) }
+{
+    let Some(entries) = entries_of(alloc, entries)? else {
+        return Ok(None);
+    };
+    match nodes_of(alloc, pieces)? {
+        Some(nodes) => Ok(Some(bare(alloc, qubits, nodes, entries))),
+        None => Ok(None),
+    }
 }
 
 // Parts with nothing but their circuit and what is kept of faults.

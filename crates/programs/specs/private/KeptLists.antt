@@ -1,7 +1,12 @@
 -- What parts keep besides their circuit and their entries: nothing, or lists just as they are given.
 -- (Stim's circuit format: detectors, observables, coordinates and products.)
-use Rattle.std.specs.Prelude.{◌≡◌, [], map}
+use Rattle.std.specs.Prelude.{◌≡◌, ℕ, List, [], map}
+use Rattle.programs.specs.ByHand.{written, kept_of}
+use Rattle.programs.specs.Made.{text_steps}
+use Rattle.programs.specs.Trees.{IsCircuit}
+use Rattle.programs.specs.declared.by_hand.Entry.{Entry}
 use Rattle.programs.specs.declared.by_hand.Lists.{Lists}
+use Rattle.programs.specs.declared.by_hand.Piece.{Piece}
 use Rattle.programs.specs.declared.program.Parts.{Parts}
 
 -- parts that keep nothing yet
@@ -10,6 +15,14 @@ pub record KeepsNothing {A : Type 0} (parts : Parts A) : Type 0 where
   pub observables : parts.observables ≡ []
   pub coordinates : parts.coordinates ≡ []
   pub products : parts.products ≡ []
+
+-- parts on so many qubits with the circuit of these pieces and with these entries, that keep nothing else yet
+pub record Begins {A : Type 0} (parts : Parts A) (qubits : ℕ) (pieces : List Piece) (entries : List Entry) : Type 0 where
+  pub qubits_are : parts.qubits ≡ qubits
+  pub circuit : IsCircuit parts.nodes
+  pub steps : text_steps parts ≡ written pieces [] []
+  pub entries_are : parts.entries ≡ map kept_of entries
+  pub nothing : KeepsNothing parts
 
 -- parts that keep these lists
 pub record Keeps {A : Type 0} (parts : Parts A) (lists : Lists) : Type 0 where

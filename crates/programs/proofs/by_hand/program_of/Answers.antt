@@ -1,8 +1,19 @@
-use Rattle.std.proofs.Common.{ap, ◌∙◌}
+use Rattle.std.proofs.Common.{ap, ◌∙◌, sym, subst}
 use Rattle.programs.specs.Kept.{KeptProgram}
-use Rattle.programs.specs.Trees.{tree_of, unrolled}
+use Rattle.programs.specs.Trees.{IsCircuit, tree_of, unrolled}
+use Rattle.programs.specs.private.KeptLists.{Begins}
 use Rattle.programs.proofs.WrittenLists.{AreOf, weaken, of_some, qubits_are, steps_are, kept_are, faults_are, records_are, collapses_are}
 use Rattle.programs.proofs.by_hand.program_of.Goals as goal
+
+pub keep-requires : goal.keep-requires
+keep-requires g c =
+    let begun = of_some (λ p. Begins p c.args.qubits c.args.pieces.now c.args.lists.entries.now) _ c.in-Some.parts c.in-Some.is c.in_ok-parts.ensures in
+    begun.nothing
+
+pub checked-requires : goal.checked-requires
+checked-requires g c =
+    let begun = of_some (λ p. Begins p c.args.qubits c.args.pieces.now c.args.lists.entries.now) _ c.in-Some.parts c.in-Some.is c.in_ok-parts.ensures in
+    subst IsCircuit (sym c.in_ok-kept.ensures.nodes) begun.circuit
 
 pub returns : goal.returns
 returns g c =
@@ -10,13 +21,12 @@ returns g c =
     let n = c.args.qubits in
     let pieces = c.args.pieces.now in
     let lists = c.args.lists in
+    let begun = of_some (λ p. Begins p n pieces lists.entries.now) _ c.in-Some.parts c.in-Some.is c.in_ok-parts.ensures in
     let are : AreOf parts n pieces lists =
     record {
-      qubits = c.in_ok-kept.ensures.qubits ∙ c.bare-parts.ensures.qubits;
-      entries = c.in_ok-kept.ensures.entries ∙ c.bare-parts.ensures.entries ∙ of_some _ _ c.in-Some-2.entries c.in-Some-2.is c.in_ok-entries.ensures;
-      steps =
-          ap (λ nodes. unrolled (tree_of nodes)) (c.in_ok-kept.ensures.nodes ∙ c.bare-parts.ensures.nodes)
-          ∙ of_some _ _ c.in-Some.nodes c.in-Some.is c.in_ok-nodes.ensures.steps;
+      qubits = c.in_ok-kept.ensures.qubits ∙ begun.qubits_are;
+      entries = c.in_ok-kept.ensures.entries ∙ begun.entries_are;
+      steps = ap (λ nodes. unrolled (tree_of nodes)) c.in_ok-kept.ensures.nodes ∙ begun.steps;
       keeps = c.in_ok-kept.ensures.lists c.if-not-kept.false;
     } in
     record {
