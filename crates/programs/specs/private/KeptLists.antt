@@ -3,8 +3,6 @@
 use Rattle.std.specs.Prelude.{◌≡◌, ℕ, List, [], map}
 use Rattle.programs.specs.ByHand.{written, kept_of}
 use Rattle.programs.specs.Made.{text_steps}
-use Rattle.programs.specs.Trees.{IsCircuit}
-use Rattle.programs.specs.declared.by_hand.Entry.{Entry}
 use Rattle.programs.specs.declared.by_hand.Lists.{Lists}
 use Rattle.programs.specs.declared.by_hand.Piece.{Piece}
 use Rattle.programs.specs.declared.program.Parts.{Parts}
@@ -16,17 +14,16 @@ pub record KeepsNothing {A : Type 0} (parts : Parts A) : Type 0 where
   pub coordinates : parts.coordinates ≡ []
   pub products : parts.products ≡ []
 
--- parts on so many qubits with the circuit of these pieces and with these entries, that keep nothing else yet
-pub record Begins {A : Type 0} (parts : Parts A) (qubits : ℕ) (pieces : List Piece) (entries : List Entry) : Type 0 where
-  pub qubits_are : parts.qubits ≡ qubits
-  pub circuit : IsCircuit parts.nodes
-  pub steps : text_steps parts ≡ written pieces [] []
-  pub entries_are : parts.entries ≡ map kept_of entries
-  pub nothing : KeepsNothing parts
-
 -- parts that keep these lists
 pub record Keeps {A : Type 0} (parts : Parts A) (lists : Lists) : Type 0 where
   pub detectors : parts.detectors ≡ map (λ list. list.now) lists.detectors.now
   pub observables : parts.observables ≡ map (λ list. list.now) lists.observables.now
   pub coordinates : parts.coordinates ≡ map (λ list. list.now) lists.coordinates.now
   pub products : parts.products ≡ map (λ list. list.now) lists.products.now
+
+-- parts on so many qubits whose circuit these pieces write, and which keep these lists
+pub record AreOf {A : Type 0} (parts : Parts A) (n : ℕ) (pieces : List Piece) (lists : Lists) : Type 0 where
+  pub qubits : parts.qubits ≡ n
+  pub steps : text_steps parts ≡ written pieces [] []
+  pub entries : parts.entries ≡ map kept_of lists.entries.now
+  pub keeps : Keeps parts lists

@@ -27,26 +27,27 @@ const MOST_STEPS: usize = 1_000_000;
 
 // How many steps an unrolled circuit has, and how many records, collapses and faults they make.
 #[derive(Clone, Copy)]
-struct Totals {
+pub(crate) struct Totals {
     steps: usize,
     counts: Counts,
 }
 
-// The program of these parts, once their steps are counted.
-pub(crate) fn checked<'a, A: Allocator + Copy>(mut parts: Parts<'a, A>) -> Option<Program<'a, A>>
-    requires { IsCircuit parts.nodes }
-    ensures { IfSome result (λ p. p ≡ counted_program parts.entry) }
+// The program of parts with these totals.
+pub(crate) fn counted<'a, A: Allocator + Copy>(
+    parts: Parts<'a, A>,
+    totals: Totals,
+) -> Program<'a, A>
+    requires { PartsFit (with_totals parts totals) }
+    ensures { result ≡ counted_program parts.entry }
 {
-    let Some(totals) = fitting_totals(&parts) else {
-        return None;
-    };
-    parts.steps = totals.steps;
-    parts.counts = totals.counts;
-    Some(Program::new(parts))
+    let mut counted = parts;
+    counted.steps = totals.steps;
+    counted.counts = totals.counts;
+    Program::new(counted)
 }
 
 // The totals of parts with which they make a program.
-fn fitting_totals<A: Allocator + Copy>(parts: &Parts<'_, A>) -> Option<Totals>
+pub(crate) fn fitting_totals<A: Allocator + Copy>(parts: &Parts<'_, A>) -> Option<Totals>
     requires { IsCircuit parts.now.nodes }
     ensures { IfSome result (λ totals. PartsFit (with_totals parts.now totals)) }
 {
