@@ -36,3 +36,4 @@ mod AscendingLemmas
 mod MeaningLemmas
 mod ReadModelLemmas
 pub mod ProgramLemmas
+mod ReadNumberLemmas

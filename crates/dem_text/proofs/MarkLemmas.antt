@@ -1,5 +1,5 @@
 -- Detectors marked by the last line that gives them coordinates, one line after another.
-use Rattle.std.proofs.Common.{◌≡◌, ℕ, zero, suc, ◌+◌, ◌==◌, ◌<◌, ◌≤◌, Bool, true, false, not, ◌&&◌, ◌||◌, ℤ, List, [], ◌∷◌, ◌++◌, length, map, get_or, set, replicate, refl, ap, ap₂, sym, ◌∙◌, inl, inr, arith, length-append, length-set}
+use Rattle.std.proofs.Common.{◌≡◌, ℕ, zero, suc, ◌+◌, ◌==◌, ◌<◌, ◌≤◌, Bool, true, false, not, ◌&&◌, ◌||◌, ℤ, List, [], ◌∷◌, ◌++◌, length, map, get_or, set, replicate, refl, ap, ap₂, sym, subst, ◌∙◌, inl, inr, arith, length-append, length-set}
 use Rattle.std.specs.Prelude.{if◌then◌else◌}
 use Rattle.std.specs.List.{range_with_len, list_any}
 use Rattle.std.proofs.Math.Seq.{get_or-append_seam}
@@ -9,7 +9,7 @@ use Rattle.std.proofs.lemmas.List.FromFn.{get_or-map-range_with_len, length-map-
 use Rattle.stim_lexer.specs.Bytes.{is_empty}
 use Rattle.dem_text.specs.declared.target.Target.{Target}
 use Rattle.dem_text.specs.declared.target.Target.TheVariants.{Plain, Detector, Observable, Separator}
-use Rattle.dem_text.specs.private.Marked.{HasMarked, list_numbered, marked}
+use Rattle.dem_text.specs.private.Marked.{HasMarked, IsMarking, list_numbered, marked}
 use Rattle.dem_text.specs.Meanings.{detectors_to, last_coordinates}
 use Rattle.dem_text.specs.Shifts.{Placed}
 
@@ -77,12 +77,6 @@ last-list lists list =
     let later : length lists + 1 ≡ suc (length lists) = omega arith in
     ap (list_numbered (lists ++ list ∷ [])) later ∙ get_or-append_seam lists list [] []
 
--- the lists and marks so far, and the lines that are left
-pub record IsMarking (all rest : List Placed) (lists : List (List ℤ)) (marks : List ℕ) (n : ℕ) : Type 0 where
-  pub long : length marks ≡ n
-  pub there : (d : ℕ) → d < n → get_or marks d 0 ≤ length lists
-  pub same : (d : ℕ) → d < n → last_coordinates d (list_numbered lists (get_or marks d 0)) rest ≡ last_coordinates d [] all
-
 none-got : (n d : ℕ) → ◌≡◌ {A = ℕ} (get_or (replicate n 0) d 0) 0
 none-got zero d = refl
 none-got (suc n) zero = refl
@@ -96,6 +90,11 @@ marking-first all marks n e =
       there = λ d h. omega (arith, at d);
       same = λ d h. ap (λ m. last_coordinates d (list_numbered [] m) all) (at d);
     }
+
+pub marking-begun : (all : List Placed) (lists : List (List ℤ)) (marks : List ℕ) (n : ℕ) → lists ≡ [] → marks ≡ replicate n 0 → IsMarking all all lists marks (length marks)
+marking-begun all lists marks n none e =
+    subst (λ ls. IsMarking all all ls marks (length marks)) (sym none)
+    (subst (IsMarking all all [] marks) (sym (ap length e ∙ length-replicate n 0)) (marking-first all marks n e))
 
 -- what stands for a detector's coordinates after a line
 chosen : (b : Bool) (d : ℕ) (p : Placed) (lists : List (List ℤ)) (marks : List ℕ) → not (is_empty p.coordinates) ≡ b → d < length marks → get_or marks d 0 ≤ length lists

@@ -1,7 +1,7 @@
 ghost use Rattle.std.specs.Prelude.{◌≡◌, ◌<◌, ◌^◌, false, [], length, map, replicate, IfOk};
 ghost use Rattle.std.specs.List.{range_with_len};
 ghost use Rattle.stim_lexer.specs.Reached.{reached};
-ghost use Rattle.dem_text.specs.private.Marked.{HasMarked, list_numbered, marked, marked_at};
+ghost use Rattle.dem_text.specs.private.Marked.{HasMarked, IsMarking, list_numbered, marked, marked_at};
 ghost use Rattle.dem_text.specs.Meanings.{last_coordinates};
 ghost use Rattle.dem_text.specs.Models.{first_beyond, is_beyond, placed_lines};
 ghost use Rattle.dem_text.specs.Shifts.{shifted_target};
@@ -76,6 +76,23 @@ impl<A: Allocator + Copy> Marking<A> {
         }
         Ok(())
     }
+
+    /// Marks the detectors to which the lines that are reached give coordinates.
+    fn mark_lines(&mut self, table: &LineTable<'_, A>) -> Result<(), AllocError>
+        requires near { first_beyond (placed_lines table.now) ≡ None }
+        requires few { length (reached table.now) < 2 ^ 64 }
+        requires marking { IsMarking (placed_lines table.now) (placed_lines table.now)
+            self.old.lists self.old.marks.items (length self.old.marks.items) }
+        ensures { IfOk result (λ _. IsMarking (placed_lines table.now) []
+            self.new.lists self.new.marks.items (length self.old.marks.items)) }
+    {
+        let mut walk = Walk::new(table);
+        while let Some(line) = walk.line() {
+            self.mark(&line)?;
+            walk.pass();
+        }
+        Ok(())
+    }
 }
 
 /// No marks.
@@ -117,11 +134,6 @@ pub(crate) fn coordinates_of<A: Allocator + Copy>(
         room: Vec::new(alloc),
         targets: Vec::new(alloc),
     };
-    let mut walk = Walk::new(table);
-    while let Some(line) = walk.line() {
-        marking.mark(&line)?;
-        walk.pass();
-    }
-    let found = stood_for(alloc, &marking.lists, marking.marks.as_slice())?;
-    Ok(found)
+    marking.mark_lines(table)?;
+    stood_for(alloc, &marking.lists, marking.marks.as_slice())
 }

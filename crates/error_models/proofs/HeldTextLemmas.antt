@@ -1,6 +1,6 @@
 -- Parts of a text put before those that were there.
 use Rattle.std.specs.Prelude.{reverse}
-use Rattle.std.proofs.Common.{◌≡◌, ℕ, ◌+◌, ◌-◌, ◌≤◌, ◌<◌, min, List, [], ◌∷◌, ◌++◌, length, get_or, take, drop, ap, sym, ◌∙◌, arith, append_assoc, append-nil}
+use Rattle.std.proofs.Common.{◌≡◌, ℕ, ◌+◌, ◌-◌, ◌≤◌, ◌<◌, min, List, [], ◌∷◌, ◌++◌, length, get_or, take, drop, refl, ap, ap₂, sym, ◌∙◌, arith, append_assoc, append-nil, length-append}
 use Rattle.std.specs.List.{flat_map}
 use Rattle.std.proofs.lemmas.Grind.{flat_map-append}
 use Rattle.std.proofs.lemmas.List.{take-append-drop, drop-drop, drop_more, reverse-append}
@@ -40,6 +40,19 @@ one_full_more full b = ap (flat_map (λ (c : Filled). c.text)) (reverse-append f
 -- a count that stops at a greatest number, and more
 pub count_more : (n more most : ℕ) → min (min n most + more) most ≡ min (more + n) most
 count_more n more most = omega arith
+
+-- the count of a block's text and of that of the blocks before
+pub counted_more : (full new : List Filled) (b : Filled) (n len most : ℕ) → n ≡ min (length (texts_of full)) most → len ≡ length b.text → new ≡ full ++ b ∷ []
+    → min (n + len) most ≡ min (length (texts_of new)) most
+counted_more full new b n len most n_is len_is new_is =
+    ap₂ (λ k m. min (k + m) most) n_is len_is
+    ∙ count_more (length (texts_of full)) (length b.text) most
+    ∙ ap (λ k. min k most) (sym (ap length (ap texts_of new_is ∙ one_full_more full b) ∙ length-append b.text (texts_of full)))
+
+-- a block without text is no more
+pub no_block : (full : List Filled) (text : List ℕ) (len : ℕ) → len ≡ length text → len ≡ 0 → texts_of full ≡ text ++ texts_of full
+no_block full [] len len_is none = refl
+no_block full (x ∷ text) len len_is none = absurd (omega (arith, len_is, none))
 
 -- a block more, before those that come behind it
 pub one_block_more : (full : List Filled) (i left : ℕ) (b : Filled) → i + 1 ≡ left → i < length full → b ≡ get_or full i b

@@ -1,6 +1,6 @@
 //! Text that grows at its beginning, by blocks that are filled from their ends.
-ghost use Rattle.std.specs.Prelude.{◌≡◌, ◌<◌, ◌≤◌, ◌*◌, ◌++◌, [], All, length, min, IfOk, OnOk, vec_len};
-ghost use Rattle.error_models.specs.HeldText.{no_text};
+ghost use Rattle.std.specs.Prelude.{◌≡◌, ◌<◌, ◌≤◌, ◌*◌, ◌++◌, [], All, length, min, IfOk, OnOk, vec_capacity, vec_len};
+ghost use Rattle.error_models.specs.HeldText.{no_text, texts_of};
 ghost use Rattle.error_models.specs.ModelText.{line_text, targets_text};
 
 use crate::held_text::HeldText;
@@ -77,10 +77,7 @@ impl<A: Allocator + Copy> TextBlocks<A> {
         self.full.reserve(2)?;
         let next = empty_block(self.alloc, &mut self.spare)?;
         let before = mem::replace(&mut self.block, next);
-        if before.len() > 0 {
-            self.full_len = self.full_len.saturating_add(before.len());
-            self.full.push_reserved(before);
-        }
+        keep_full(&mut self.full, &mut self.full_len, before);
         Ok(())
     }
 
@@ -133,6 +130,25 @@ impl<A: Allocator + Copy> TextBlocks<A> {
     {
         keep_blocks(&mut self.spare, held.into_blocks());
     }
+}
+
+// Keeps a block behind those that are full, and counts its text, if it has any.
+fn keep_full<A: Allocator + Copy>(
+    full: &mut Vec<TextBlock<A>, A>,
+    full_len: &mut usize,
+    block: TextBlock<A>,
+)
+    requires room { vec_len full.old < vec_capacity full.old }
+    requires counted { full_len.old ≡ min (length (texts_of full.old.items)) usize.MAX }
+    ensures counted { full_len.new ≡ min (length (texts_of full.new.items)) usize.MAX }
+    ensures texts { texts_of full.new.items ≡ block.text ++ texts_of full.old.items }
+{
+    let len = block.len();
+    if len == 0 {
+        return;
+    }
+    *full_len = full_len.saturating_add(len);
+    full.push_reserved(block);
 }
 
 // A spare block, or a new one.

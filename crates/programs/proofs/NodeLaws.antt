@@ -10,6 +10,12 @@ use Rattle.programs.specs.declared.node.Node.{Node}
 use Rattle.programs.specs.declared.node.Node.TheVariants.{Open, Close}
 use Rattle.programs.specs.private.KeptNodes.{size_at, node_of, nodes_in, NamesBlockBelow}
 
+-- a node that names no block names one among however many
+pub names_none : (n : ℕ) (node : KeptNode) → NamesBlockBelow 0 node → NamesBlockBelow n node
+names_none n (kept.Open b) h = absurd (omega (arith, h))
+names_none n (kept.Close b) h = absurd (omega (arith, h))
+names_none n other h = tt
+
 -- a size behind those that are there changes no node
 size_at-more : (sizes : List BlockSize) (size : BlockSize) (b : ℕ) → b < length sizes → size_at (sizes ++ size ∷ []) b ≡ size_at sizes b
 size_at-more sizes size b h = get_or_append_left sizes (size ∷ []) _ b h

@@ -3,28 +3,30 @@ use Rattle.std.proofs.Common.{◌≡◌, ℕ, List, [], Option, None, Some, IfSo
 use Rattle.step_model.specs.declared.step.Term.{Term}
 use Rattle.programs.specs.Kept.{Kept, KeptProgram}
 use Rattle.programs.specs.declared.by_hand.Lists.{Lists}
+use Rattle.programs.specs.declared.by_hand.fit.Totals.{Totals}
+use Rattle.programs.specs.declared.step.Counts.{Counts}
 use Rattle.programs.specs.declared.by_hand.Piece.{Piece}
 use Rattle.programs.specs.declared.program.Parts.{Parts}
 use Rattle.programs.specs.declared.step.TextStep.{TextStep}
-use Rattle.programs.specs.ByHand.{written, kept_of, counted_program}
-use Rattle.programs.specs.private.KeptLists.{Keeps}
+use Rattle.programs.specs.ByHand.{written, kept_of, counted_program, with_totals}
+use Rattle.programs.specs.private.KeptLists.{AreOf}
 use Rattle.programs.specs.Listed.{listed_steps, made_faults}
-use Rattle.programs.specs.Made.{text_steps}
+use Rattle.programs.specs.Made.{PartsFit, kept_program, listing_of, text_steps}
 use Rattle.programs.specs.Numbering.{no_counts, counts_over}
 
-pub weaken : (P Q : KeptProgram → Type 0) (o : Option KeptProgram) → ((p : KeptProgram) → P p → Q p) → IfSome o P → IfSome o Q
-weaken P Q None h k = tt
-weaken P Q (Some p) h k = h p k
+-- what holds whatever there is
+pub all_of : {X : Type 0} (P : Type 0) (o : Option X) → P → IfSome o (λ _. P)
+all_of P None h = tt
+all_of P (Some x) h = h
+
+-- a program of parts that fit, whose records and collapses its steps make
+pub counted_fits : {A : Type 0} (parts : Parts A) (totals : Totals) (p : KeptProgram) → PartsFit (with_totals parts totals) → p ≡ kept_program (with_totals parts totals) → p ≡ counted_program parts
+counted_fits parts totals p fit is =
+    is
+    ∙ ap (λ (made : Counts). record (kept_program parts) { listing = record (listing_of parts) { records = made.records; collapses = made.collapses } }) fit.counted
 
 pub of_some : {X : Type 0} (P : X → Type 0) (o : Option X) (x : X) → o ≡ Some x → IfSome o P → P x
 of_some P o x e h = subst (λ (u : Option _). IfSome u P) e h
-
--- parts on so many qubits whose circuit these pieces write, and which keep these lists
-pub record AreOf {A : Type 0} (parts : Parts A) (n : ℕ) (pieces : List Piece) (lists : Lists) : Type 0 where
-  pub qubits : parts.qubits ≡ n
-  pub steps : text_steps parts ≡ written pieces [] []
-  pub entries : parts.entries ≡ map kept_of lists.entries.now
-  pub keeps : Keeps parts lists
 
 module _ {A : Type 0} (parts : Parts A) (n : ℕ) (pieces : List Piece) (lists : Lists) (are : AreOf parts n pieces lists) (p : KeptProgram) (e : p ≡ counted_program parts) where
   pub qubits_are : p.listing.qubits ≡ n

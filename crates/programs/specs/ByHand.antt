@@ -63,6 +63,10 @@ pub record FitsUpTo {A : Type 0} (parts : Parts A) (place : Place) (count : ℕ)
   pub at_place : IsAt parts.nodes place count
   pub fit : StepsFit parts (take count (text_steps parts)) made
 
+-- parts with these totals
+abbrev pub with_totals : {A : Type 0} → Parts A → Totals → Parts A
+with_totals parts totals = record parts { steps = totals.steps; counts = totals.counts }
+
 -- how many steps are gone over at most
 abbrev pub most_counted : ℕ
 most_counted = 1_000_000

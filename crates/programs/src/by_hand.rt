@@ -2,9 +2,10 @@
 ghost use Rattle.std.specs.Prelude.{◌≡◌, [], map, true, IfOk, IfSome, OnOk, Some};
 ghost use Rattle.step_model.specs.Probabilities.{probability_bound};
 ghost use Rattle.step_model.specs.Chances.{chance_of};
-ghost use Rattle.programs.specs.ByHand.{written, chance_by_hand, kept_of, Puts};
-ghost use Rattle.programs.specs.private.KeptLists.{Keeps, KeepsNothing};
+ghost use Rattle.programs.specs.ByHand.{written, chance_by_hand, kept_of, with_totals, Puts};
+ghost use Rattle.programs.specs.private.KeptLists.{AreOf, Keeps, KeepsNothing};
 ghost use Rattle.programs.specs.Listed.{listed_steps, made_faults};
+ghost use Rattle.programs.specs.Made.{PartsFit};
 ghost use Rattle.programs.specs.Numbering.{no_counts, counts_over};
 ghost use Rattle.programs.specs.Trees.{IsCircuit, tree_of, unrolled};
 
@@ -17,7 +18,7 @@ use crate::nodes::Nodes;
 use crate::place::LEVELS;
 use crate::program::{Parts, Program};
 use crate::step::{Counts, TextStep};
-use fit::checked;
+use fit::{Totals, counted, fitting_totals};
 use flat_lists::{FlatLists, MOST_NUMBERS, NumberLists};
 use std::alloc::{AllocError, Allocator};
 use step_model::{ChanceText, Term};
@@ -74,29 +75,19 @@ pub fn program_of<'a, A: Allocator + Copy>(
     ensures products { IfOk result (λ o. IfSome o (λ p. p.products
         ≡ map (λ list. list.now) lists.entry.products.now)) }
 {
-    let Some(nodes) = nodes_of(alloc, pieces)? else {
-        return Ok(None);
-    };
     let Some(entries) = entries_of(alloc, lists.entries)? else {
         return Ok(None);
     };
-    let mut parts = bare(alloc, qubits, nodes, entries);
-    let kept = keep(&mut parts, lists)?;
-    if !kept {
-        return Ok(None);
+    let mut parts = bare(alloc, qubits, entries);
+    match fill(alloc, &mut parts, pieces, lists)? {
+        Some(totals) => Ok(Some(counted(parts, totals))),
+        None => Ok(None),
     }
-    Ok(checked(parts))
 }
 
-// Parts with nothing but their circuit and what is kept of faults.
-fn bare<'a, A: Allocator + Copy>(
-    alloc: A,
-    qubits: u32,
-    nodes: Nodes<A>,
-    entries: Entries<'a, A>,
-) -> Parts<'a, A>
+// Parts with nothing but what is kept of faults.
+fn bare<'a, A: Allocator + Copy>(alloc: A, qubits: u32, entries: Entries<'a, A>) -> Parts<'a, A>
     ensures qubits { result.qubits ≡ qubits }
-    ensures nodes { result.nodes ≡ nodes }
     ensures entries { result.entries ≡ entries.entry }
     ensures bare { KeepsNothing result }
 {
@@ -108,13 +99,37 @@ fn bare<'a, A: Allocator + Copy>(
             collapses: 0,
             faults: 0,
         },
-        nodes,
+        nodes: Nodes::new(alloc),
         detectors: FlatLists::new(alloc),
         observables: FlatLists::new(alloc),
         coordinates: NumberLists::new(alloc),
         entries,
         products: FlatLists::new(alloc),
     }
+}
+
+// Puts the circuit of these pieces and these lists into parts that have their entries alone, and answers their totals, if
+// they make a program.
+fn fill<'a, A: Allocator + Copy>(
+    alloc: A,
+    parts: &mut Parts<'a, A>,
+    pieces: &[Piece],
+    lists: Lists<'a>,
+) -> Result<Option<Totals>, AllocError>
+    requires nothing { KeepsNothing parts.old }
+    requires entries { parts.old.entries ≡ map kept_of lists.entries.now }
+    ensures filled { IfOk result (λ o. IfSome o (λ totals. AreOf parts.new parts.old.qubits pieces.now lists.entry)) }
+    ensures fit { IfOk result (λ o. IfSome o (λ totals. PartsFit (with_totals parts.new totals))) }
+{
+    let Some(nodes) = nodes_of(alloc, pieces)? else {
+        return Ok(None);
+    };
+    parts.nodes = nodes;
+    let kept = keep(parts, lists)?;
+    if !kept {
+        return Ok(None);
+    }
+    Ok(fitting_totals(parts))
 }
 
 // Keeps these lists in parts without any, where no detector has too many coordinates.

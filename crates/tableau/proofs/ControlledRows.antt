@@ -1,7 +1,7 @@
 -- What controlled gates make of pairs in place, and that it is what the images of the letters say.
 use Rattle.std.proofs.Common.{◌≡◌, ◌≢◌, ◌<◌, ◌≤◌, ◌++◌, inl, inr, ℕ, zero, suc, Bool, true, false, List, [], ◌∷◌, length, take, drop, set, get_or, refl, ap, ap₂, sym, subst, ◌∙◌, arith}
 use Rattle.std.proofs.lemmas.Bool.{cases_lt}
-use Rattle.std.proofs.lemmas.List.{get_or_default}
+use Rattle.std.proofs.lemmas.List.{get_or_default, length-drop, length-take-le}
 use Rattle.std.proofs.Math.Nat.{suc_inj}
 use Rattle.gate_table.specs.declared.gate.Gate.{Gate}
 use Rattle.gate_table.specs.declared.gate.Gate.TheVariants as gate
@@ -108,6 +108,13 @@ pub at_back : {T : Type 0} (l : List T) (b : ℕ) (d e : T) → b < length l →
 at_back [] b d e k = absurd (omega (arith, k))
 at_back (t ∷ l) zero d e k = refl
 at_back (t ∷ l) (suc b) d e k = at_back l b d e (omega (arith, k))
+
+-- the places are inside the two parts
+pub front_inside : {T : Type 0} (l front : List T) (a b : ℕ) → front ≡ take b l → a < b → b < length l → a < length front
+front_inside l front a b is h k = subst (λ n. a < n) (sym (ap length is ∙ length-take-le b l (omega (arith, k)))) h
+
+pub back_inside : {T : Type 0} (l back : List T) (b : ℕ) → back ≡ drop b l → b < length l → 0 < length back
+back_inside l back b is k = omega (arith, ap length is, length-drop b l, k)
 
 pub comes_after : (a b : ℕ) → b ≤ a → a ≢ b → b < a
 comes_after a b h ne = elim (cases_lt b a) [ inl e ↦ e | inr e ↦ absurd (ne (omega (arith, h, e))) ]

@@ -1,6 +1,5 @@
 -- The rows of the start: those of the map that leaves each word as it is.
-use Rattle.std.proofs.Common.{◌≡◌, ◌<◌, ℕ, List, length, map, refl, ap, ap₂, sym, subst, ◌∙◌, arith}
-use Rattle.std.specs.List.{range_with_len}
+use Rattle.std.proofs.Common.{◌≡◌, ◌<◌, ℕ, List, length, refl, ap, ap₂, sym, subst, ◌∙◌, arith}
 use Rattle.std.proofs.lemmas.List.FromFn.{get_or-map-range_with_len, length-map-range_with_len}
 use Rattle.pauli_word.specs.Groups.{identity_word}
 use Rattle.std.proofs.lemmas.List.{length-replicate}
@@ -31,30 +30,28 @@ start_encodes n =
     (record { x = λ q h. ap (λ r. r.0) (at q h); z = λ q h. ap (λ r. r.1) (at q h) })
     (length-map-range_with_len (start_pair n) 0 n)
 
-pub start_tableau : (n q : ℕ) (rows : List Pair) → rows ≡ map (start_pair n) (range_with_len 0 q) → q ≡ n → IsTableau (length rows) rows
-start_tableau n q rows e here =
-    let whole : rows ≡ start_rows n = e ∙ ap (λ m. map (start_pair n) (range_with_len 0 m)) here in
+pub start_tableau : (n : ℕ) (rows : List Pair) → rows ≡ start_rows n → IsTableau (length rows) rows
+start_tableau n rows whole =
     subst (λ m. IsTableau m rows) (sym (ap length whole ∙ length-map-range_with_len (start_pair n) 0 n))
     (subst (IsTableau n) (sym whole) (start_encodes n).tableau)
 
-pub start_length : (n q : ℕ) (rows : List Pair) → rows ≡ map (start_pair n) (range_with_len 0 q) → q ≡ n → length rows ≡ n
-start_length n q rows e here = ap length e ∙ (length-map-range_with_len (start_pair n) 0 q ∙ here)
+pub start_length : (n : ℕ) (rows : List Pair) → rows ≡ start_rows n → length rows ≡ n
+start_length n rows whole = ap length whole ∙ length-map-range_with_len (start_pair n) 0 n
 
-pub start_seen : (n q : ℕ) (rows : List Pair) → rows ≡ map (start_pair n) (range_with_len 0 q) → q ≡ n → HasState (rows_seen rows) start_state
-start_seen n q rows e here p h =
-    let is = start_tableau n q rows e here in
+pub start_seen : (n : ℕ) (rows : List Pair) → rows ≡ start_rows n → HasState (rows_seen rows) start_state
+start_seen n rows whole p h =
+    let is = start_tableau n rows whole in
     let size = h ∙ seen_size rows is in
-    let whole : rows ≡ start_rows n = e ∙ ap (λ m. map (start_pair n) (range_with_len 0 m)) here in
     seen_state rows is p size
-    ∙ (ap₂ (λ m l. start_state (encoded m l p)) (start_length n q rows e here) whole
-    ∙ ap start_state ((start_encodes n).map p (size ∙ start_length n q rows e here)))
+    ∙ (ap₂ (λ m l. start_state (encoded m l p)) (start_length n rows whole) whole
+    ∙ ap start_state ((start_encodes n).map p (size ∙ start_length n rows whole)))
 
-pub start_size : (n q : ℕ) (rows : List Pair) → rows ≡ map (start_pair n) (range_with_len 0 q) → q ≡ n → row_count (rows_seen rows) ≡ n
-start_size n q rows e here = seen_size rows (start_tableau n q rows e here) ∙ start_length n q rows e here
+pub start_size : (n : ℕ) (rows : List Pair) → rows ≡ start_rows n → row_count (rows_seen rows) ≡ n
+start_size n rows whole = seen_size rows (start_tableau n rows whole) ∙ start_length n rows whole
 
-pub identity_long : (n q : ℕ) (rows : List Pair) → rows ≡ map (start_pair n) (range_with_len 0 q) → q ≡ n → (r : Pair) → r ≡ (identity_word n, identity_word n) → HasLength (length rows) r
-identity_long n q rows e here r r_is =
-    let count = sym (start_length n q rows e here) in
+pub identity_long : (n : ℕ) (rows : List Pair) → rows ≡ start_rows n → (r : Pair) → r ≡ (identity_word n, identity_word n) → HasLength (length rows) r
+identity_long n rows whole r r_is =
+    let count = sym (start_length n rows whole) in
     record {
       x = ap (λ t. length t.0.letters) r_is ∙ (length-replicate n I ∙ count);
       z = ap (λ t. length t.1.letters) r_is ∙ (length-replicate n I ∙ count);

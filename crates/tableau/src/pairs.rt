@@ -18,12 +18,8 @@ pub(crate) fn identity_pair<A: Allocator + Copy>(alloc: A, n: usize) -> Result<P
     Ok((Word::identity(alloc, n)?, Word::identity(alloc, n)?))
 }
 
-/// X and Z at a qubit, as they are.
-pub(crate) fn start_pair<A: Allocator + Copy>(
-    alloc: A,
-    n: usize,
-    qubit: usize,
-) -> Result<Pair<A>, AllocError>
+// X and Z at a qubit, as they are.
+fn start_pair<A: Allocator + Copy>(alloc: A, n: usize, qubit: usize) -> Result<Pair<A>, AllocError>
     requires { qubit < n }
     ensures { IfOk result (λ r. r ≡ start_pair n qubit) }
 {
@@ -32,6 +28,20 @@ pub(crate) fn start_pair<A: Allocator + Copy>(
     let mut z = Word::identity(alloc, n)?;
     z.set_letter(qubit, Letter::Z);
     Ok((x, z))
+}
+
+/// X and Z at each qubit, as they are.
+pub(crate) fn start_pairs<A: Allocator + Copy>(
+    alloc: A,
+    n: usize,
+) -> Result<Vec<Pair<A>, A>, AllocError>
+    ensures { IfOk result (λ rows. rows.items ≡ start_rows n) }
+{
+    let mut rows = Vec::with_capacity(alloc, n)?;
+    for qubit in 0..n {
+        rows.push(start_pair(alloc, n, qubit)?)?;
+    }
+    Ok(rows)
 }
 
 /// Makes the pair of each qubit X and Z there again, as they are.

@@ -10,7 +10,7 @@ pub mod laws;
 use crate::collapse::{collapse_code, encode, sign_seen};
 use crate::decode::{decode, decoded_letter};
 use crate::gates::{apply_letters, apply_one, apply_two};
-use crate::pairs::{Pair, identity_pair, restart_pairs, set_word, start_pair};
+use crate::pairs::{Pair, identity_pair, restart_pairs, set_word, start_pairs};
 use gate_table::Gate;
 use pauli_word::{Letter, Word};
 use std::alloc::{AllocError, Allocator};
@@ -47,14 +47,13 @@ impl<A: Allocator + Copy> Tableau<A> {
         ensures len { IfOk result (λ t. row_count t ≡ n) }
         ensures state { IfOk result (λ t. HasState t start_state) }
     {
-        let mut rows = Vec::with_capacity(alloc, n)?;
-        for q in 0..n {
-            rows.push(start_pair(alloc, n, q)?)?;
-        }
+        let rows = start_pairs(alloc, n)?;
+        let first = identity_pair(alloc, n)?;
+        let second = identity_pair(alloc, n)?;
         Ok(Tableau {
             rows,
-            first: identity_pair(alloc, n)?,
-            second: identity_pair(alloc, n)?,
+            first,
+            second,
         })
     }
 

@@ -3,9 +3,9 @@ ghost use Rattle.std.specs.Prelude.{◌≡◌, ◌<◌, ◌^◌, nat_lt, nat_abs
 ghost use Rattle.step_model.specs.Probabilities.{probability_bound};
 ghost use Rattle.step_model.specs.WellFormed.{TermsFit, ProductFits, CoordinatesFit};
 ghost use Rattle.step_model.specs.Listing.{is_I};
-ghost use Rattle.programs.specs.ByHand.{AllFit, BeginsApart, counted_program};
+ghost use Rattle.programs.specs.ByHand.{AllFit, BeginsApart, counted_program, with_totals};
 ghost use Rattle.programs.specs.Fits.{letter_fits, text_fits, flip_is_kept, recording_is_kept, is_kept};
-ghost use Rattle.programs.specs.Made.{EntryFits};
+ghost use Rattle.programs.specs.Made.{EntryFits, PartsFit};
 ghost use Rattle.programs.specs.Numbering.{feeds_back};
 ghost use Rattle.programs.specs.Trees.{IsCircuit};
 
@@ -27,24 +27,38 @@ const MOST_STEPS: usize = 1_000_000;
 
 // How many steps an unrolled circuit has, and how many records, collapses and faults they make.
 #[derive(Clone, Copy)]
-struct Totals {
+pub(crate) struct Totals {
     steps: usize,
     counts: Counts,
 }
 
-// The program of these parts, once their steps are counted.
-pub(crate) fn checked<'a, A: Allocator + Copy>(parts: Parts<'a, A>) -> Option<Program<'a, A>>
-    requires { IsCircuit parts.nodes }
-    ensures { IfSome result (λ p. p ≡ counted_program parts.entry) }
+// The program of parts with these totals.
+pub(crate) fn counted<'a, A: Allocator + Copy>(
+    parts: Parts<'a, A>,
+    totals: Totals,
+) -> Program<'a, A>
+    requires { PartsFit (with_totals parts totals) }
+    ensures { result ≡ counted_program parts.entry }
 {
-    let Some(totals) = total_of(&parts) else {
+    let mut counted = parts;
+    counted.steps = totals.steps;
+    counted.counts = totals.counts;
+    Program::new(counted)
+}
+
+// The totals of parts with which they make a program.
+pub(crate) fn fitting_totals<A: Allocator + Copy>(parts: &Parts<'_, A>) -> Option<Totals>
+    requires { IsCircuit parts.now.nodes }
+    ensures { IfSome result (λ totals. PartsFit (with_totals parts.now totals)) }
+{
+    let Some(totals) = total_of(parts) else {
         return None;
     };
     let records = totals.counts.records;
-    if !entries_fit(&parts) {
+    if !entries_fit(parts) {
         return None;
     }
-    if !products_fit(&parts) {
+    if !products_fit(parts) {
         return None;
     }
     if !lists_fit(&parts.detectors, records) || parts.detectors.len() > MOST_DETECTORS {
@@ -56,11 +70,7 @@ pub(crate) fn checked<'a, A: Allocator + Copy>(parts: Parts<'a, A>) -> Option<Pr
     if !coordinates_fit(&parts.coordinates) || parts.coordinates.len() != parts.detectors.len() {
         return None;
     }
-    Some(Program::new(Parts {
-        steps: totals.steps,
-        counts: totals.counts,
-        ..parts
-    }))
+    Some(totals)
 }
 
 // Goes over the unrolled steps. None where one doesn't fit, or where there are too many.

@@ -1,6 +1,6 @@
 -- The pairs are read and written through the two parts into which the rows are split.
 use Rattle.std.proofs.Common.{◌++◌, set, slice_index_or, ap₂, sym, ◌∙◌}
-use Rattle.tableau.proofs.ControlledRows.{AreRead, comes_after, parts_set, set_swapped, read_ahead, read_behind, first_there, second_there, commute_there, made_there}
+use Rattle.tableau.proofs.ControlledRows.{AreRead, back_inside, comes_after, front_inside, parts_set, set_swapped, read_ahead, read_behind, first_there, second_there, commute_there, made_there}
 use Rattle.tableau.proofs.controlled.apply_controlled.Given.{Over}
 use Rattle.tableau.proofs.controlled.apply_controlled.Goals as goal
 use Rattle.tableau.proofs.controlled.apply_controlled.Goals.{After-index-back-0, After-index-front-b}
@@ -11,6 +11,15 @@ ahead g c = read_ahead _ _ _ _ _ _ _ c.split_at_mut-front.ensures.front c.split_
 behind : (g : Over) (c : After-index-front-b g) → AreRead c.args.rows.now c.args.a c.args.b (slice_index_or c.split_at_mut-front-else-a-b.result.1.now 0 c.index-back-0-else-a-b.result) (slice_index_or c.split_at_mut-front-else-a-b.result.0.now c.args.b c.index-front-b.result)
 behind g c =
     read_behind _ _ _ _ _ _ _ c.split_at_mut-front-else-a-b.ensures.front c.split_at_mut-front-else-a-b.ensures.back (comes_after c.args.a c.args.b c.if-a-b.false c.requires.differ) c.requires.first_inside
+
+pub bounds-front-a : goal.bounds-front-a
+bounds-front-a g c = front_inside _ _ _ _ c.split_at_mut-front.ensures.front c.if-a-b.true c.requires.second_inside
+
+pub bounds-back-0 : goal.bounds-back-0
+bounds-back-0 g c = back_inside _ _ _ c.split_at_mut-front.ensures.back c.requires.second_inside
+
+pub multiply_both-requires-clause-own : goal.multiply_both-requires-clause-own
+multiply_both-requires-clause-own g c = c.requires.own
 
 pub multiply_both-requires-clause-first : goal.multiply_both-requires-clause-first
 multiply_both-requires-clause-first g c =
@@ -33,6 +42,16 @@ returns-then-a-b g c =
     ∙ (parts_set rows c.args.a c.args.b first second c.if-a-b.true c.requires.second_inside
     ∙ made_there rows c.requires.tableau c.args.a c.args.b c.requires.first_inside c.requires.second_inside c.requires.differ _ _ (ahead g (goal.at.returns-then-a-b g c).After-index-back-0)
     c.args.own c.args.other first second c.multiply_both.ensures.first c.multiply_both.ensures.second)
+
+pub bounds-back-0-else-a-b : goal.bounds-back-0-else-a-b
+bounds-back-0-else-a-b g c = back_inside _ _ _ c.split_at_mut-front-else-a-b.ensures.back c.requires.first_inside
+
+pub bounds-front-b : goal.bounds-front-b
+bounds-front-b g c =
+    front_inside _ _ _ _ c.split_at_mut-front-else-a-b.ensures.front (comes_after c.args.a c.args.b c.if-a-b.false c.requires.differ) c.requires.first_inside
+
+pub multiply_both-requires-else-a-b-clause-own : goal.multiply_both-requires-else-a-b-clause-own
+multiply_both-requires-else-a-b-clause-own g c = c.requires.own
 
 pub multiply_both-requires-else-a-b-clause-first : goal.multiply_both-requires-else-a-b-clause-first
 multiply_both-requires-else-a-b-clause-first g c =

@@ -1,4 +1,4 @@
-use Rattle.std.proofs.Common.{length, refl, sym, subst, ◌∙◌}
+use Rattle.std.proofs.Common.{length, sym, subst, ◌∙◌}
 use Rattle.tableau.specs.private.Encoding.{HasLength}
 use Rattle.tableau.proofs.KeptRows.{kept_size}
 use Rattle.tableau.proofs.StartLaws.{start_tableau, start_length, start_size, start_seen}
@@ -11,8 +11,8 @@ pub invariant_of-self : goal.invariant_of-self
 invariant_of-self g c =
     let n = length c.self.inside.rows.items in
     let rows = c.restart_pairs.new.rows.items in
-    let size = sym (start_length n n rows c.restart_pairs.ensures refl) in (
-      start_tableau n n rows c.restart_pairs.ensures refl,
+    let size = sym (start_length n rows c.restart_pairs.ensures) in (
+      start_tableau n rows c.restart_pairs.ensures,
       subst (λ m. HasLength m c.self.inside.first) size c.self.invariant.1,
       subst (λ m. HasLength m c.self.inside.second) size c.self.invariant.2,
     )
@@ -20,10 +20,10 @@ invariant_of-self g c =
 pub returns-clause-len : goal.returns-clause-len
 returns-clause-len g c =
     let n = length c.self.inside.rows.items in
-    start_size n n c.restart_pairs.new.rows.items c.restart_pairs.ensures refl
+    start_size n c.restart_pairs.new.rows.items c.restart_pairs.ensures
     ∙ kept_size c.self.inside.rows.items c.args.self.now c.self.invariant.0 c.self.view_is
 
 pub returns-clause-state : goal.returns-clause-state
 returns-clause-state g c =
     let n = length c.self.inside.rows.items in
-    start_seen n n c.restart_pairs.new.rows.items c.restart_pairs.ensures refl
+    start_seen n c.restart_pairs.new.rows.items c.restart_pairs.ensures

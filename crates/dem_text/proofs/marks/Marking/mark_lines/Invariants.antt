@@ -1,11 +1,11 @@
 use Rattle.std.proofs.Common.{◌≡◌, None, length}
 use Rattle.dem_text.specs.Models.{first_beyond, placed_lines}
-use Rattle.dem_text.proofs.MarkLemmas.{IsMarking}
-use Rattle.dem_text.proofs.marks.coordinates_of.Given as goal
+use Rattle.dem_text.specs.private.Marked.{IsMarking}
+use Rattle.dem_text.proofs.marks.Marking.mark_lines.Given as goal
 
 abbrev pub invariant-loop-line : goal.invariant-loop-line
 invariant-loop-line g l = record {
-  marking : IsMarking (placed_lines l.table) l.walk l.marking.lists l.marking.marks.items l.detectors;
+  marking : IsMarking (placed_lines l.table) l.walk l.self.lists l.self.marks.items (length l.fn.self.marks.items);
   near : first_beyond l.walk ≡ None;
 }
 
