@@ -1,3 +1,4 @@
+mod AnswerLemmas
 mod ApartLemmas
 pub mod Judging
 mod HeldLines
@@ -12,4 +13,5 @@ pub mod PassWords
 mod PointLemmas
 mod RecordMembers
 pub mod Sensitivities
+mod StepLemmas
 mod StretchLemmas

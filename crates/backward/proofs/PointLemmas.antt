@@ -1,6 +1,7 @@
 -- Points left on the way back, and taken from their end.
-use Rattle.std.proofs.Common.{◌≡◌, ℕ, ◌+◌, ◌<◌, ◌≤◌, List, [], ◌∷◌, ◌++◌, length, drop, get_or, refl, ap, subst, sym, ◌∙◌, arith}
+use Rattle.std.proofs.Common.{◌≡◌, ℕ, ◌+◌, ◌<◌, ◌≤◌, List, [], ◌∷◌, ◌++◌, length, drop, get_or, Option, Some, refl, ap, subst, sym, ◌∙◌, arith}
 use Rattle.std.specs.Prelude.{All}
+use Rattle.std.specs.Option.{option_to_list}
 use Rattle.std.proofs.Math.Seq.{get_or-append_seam}
 use Rattle.std.proofs.lemmas.List.{length-append, get_or_append_left}
 use Rattle.std.proofs.lemmas.List.Elements.{All-push}
@@ -11,16 +12,15 @@ use Rattle.backward.specs.declared.point.KeptPoint.{KeptPoint}
 use Rattle.backward.specs.declared.point.Point.{Point}
 use Rattle.backward.specs.declared.stretch.Parts.{Parts}
 use Rattle.trackers.specs.Tracked.{Tracked}
-use Rattle.backward.specs.private.Passes.{IsPassed, Stays, tracked_before}
+use Rattle.backward.specs.private.Passes.{IsPassed, tracked_before}
 use Rattle.backward.specs.private.Points.{ArePoints, AreParts, IsLeft, IsPointOf, Keeps, first_place}
 
-pub stays_on : {A : Type 0} (a b c : Found A) → Stays a b → Stays b c → Stays a c
-stays_on a b c h k =
-    record {
-      settled = k.settled ∙ h.settled;
-      keeps = k.keeps ∙ h.keeps;
-      known = λ e. k.known (h.keeps ∙ e) ∙ h.known e;
-    }
+-- the last of some points was taken: it comes after `from`, and those before it after its place
+pub record IsPopped {A : Type 0} (program : KeptProgram) (from cut : ℕ) (rest : List (KeptPoint A)) (point : KeptPoint A) : Type 0 where
+  pub points : ArePoints program point.walk.place cut rest
+  pub is_point : IsPointOf program point
+  pub after : from < point.walk.place
+  pub within : point.walk.place ≤ cut
 
 module _ {A : Type 0} (program : KeptProgram) where
   -- what a pass has reached is a point
@@ -90,27 +90,28 @@ module _ {A : Type 0} (program : KeptProgram) where
   step_before from to points lt h k d within = let after : to ≤ (get_or points k d).walk.place = h k d within in omega (arith, lt, after)
 
   -- the last point is taken, and then those before it are points from its place on
-  pub popped : (from cut : ℕ) (points rest : List (KeptPoint A)) (point : KeptPoint A) → points ≡ rest ++ point ∷ [] → ArePoints program from cut points
-      → ArePoints program point.walk.place cut rest × IsPointOf program point × (from < point.walk.place) × (point.walk.place ≤ cut)
-  popped from cut points rest point e h =
+  pub popped : (from cut : ℕ) (points rest : List (KeptPoint A)) (result : Option (KeptPoint A)) (point : KeptPoint A) → points ≡ rest ++ option_to_list result → result ≡ Some point → ArePoints program from cut points → IsPopped program from cut rest point
+  popped from cut points rest result point items is h =
+      let e : points ≡ rest ++ point ∷ [] = items ∙ ap (λ (o : Option (KeptPoint A)). rest ++ option_to_list o) is in
       let n : length points ≡ length rest + 1 = ap length e ∙ length-append rest (point ∷ []) in
       let last : (d : KeptPoint A) → get_or points (length rest) d ≡ point = λ d. ap (λ (l : List (KeptPoint A)). get_or l (length rest) d) e ∙ get_or-append_seam rest point [] d in
-      let front : (k : ℕ) (d : KeptPoint A) → k < length rest → get_or points k d ≡ get_or rest k d = λ k d lt. ap (λ (l : List (KeptPoint A)). get_or l k d) e ∙ get_or_append_left rest (point ∷ []) d k lt in (
-        record {
-          first = sym (one_first from rest point) ∙ (ap (first_place from) (sym e) ∙ h.first);
-          each = λ k d lt. subst (IsPointOf program) (front k d lt) (h.each k d (omega (arith, lt, n)));
-          above = λ k d lt. subst (λ (p : KeptPoint A). point.walk.place < p.walk.place) (front k d lt) (subst (λ (p : KeptPoint A). p.walk.place < (get_or points k d).walk.place) (last d) (h.fall k (length rest) d lt (omega (arith, n))));
-          below = λ k d lt. subst (λ (p : KeptPoint A). p.walk.place ≤ cut) (front k d lt) (h.below k d (omega (arith, lt, n)));
-          fall = λ j k d lt within. subst (λ (p : KeptPoint A). p.walk.place < (get_or rest j d).walk.place) (front k d within) (subst (λ (p : KeptPoint A). (get_or points k d).walk.place < p.walk.place) (front j d (omega (arith, lt, within))) (h.fall j k d lt (omega (arith, within, n))));
-        },
-        subst (IsPointOf program) (last point) (h.each (length rest) point (omega (arith, n))),
-        subst (λ (p : KeptPoint A). from < p.walk.place) (last point) (h.above (length rest) point (omega (arith, n))),
-        subst (λ (p : KeptPoint A). p.walk.place ≤ cut) (last point) (h.below (length rest) point (omega (arith, n))),
-      )
+      let front : (k : ℕ) (d : KeptPoint A) → k < length rest → get_or points k d ≡ get_or rest k d = λ k d lt. ap (λ (l : List (KeptPoint A)). get_or l k d) e ∙ get_or_append_left rest (point ∷ []) d k lt in
+      record {
+        points =
+            record {
+              first = sym (one_first from rest point) ∙ (ap (first_place from) (sym e) ∙ h.first);
+              each = λ k d lt. subst (IsPointOf program) (front k d lt) (h.each k d (omega (arith, lt, n)));
+              above = λ k d lt. subst (λ (p : KeptPoint A). point.walk.place < p.walk.place) (front k d lt) (subst (λ (p : KeptPoint A). p.walk.place < (get_or points k d).walk.place) (last d) (h.fall k (length rest) d lt (omega (arith, n))));
+              below = λ k d lt. subst (λ (p : KeptPoint A). p.walk.place ≤ cut) (front k d lt) (h.below k d (omega (arith, lt, n)));
+              fall = λ j k d lt within. subst (λ (p : KeptPoint A). p.walk.place < (get_or rest j d).walk.place) (front k d within) (subst (λ (p : KeptPoint A). (get_or points k d).walk.place < p.walk.place) (front j d (omega (arith, lt, within))) (h.fall j k d lt (omega (arith, within, n))));
+            };
+        is_point = subst (IsPointOf program) (last point) (h.each (length rest) point (omega (arith, n)));
+        after = subst (λ (p : KeptPoint A). from < p.walk.place) (last point) (h.above (length rest) point (omega (arith, n)));
+        within = subst (λ (p : KeptPoint A). p.walk.place ≤ cut) (last point) (h.below (length rest) point (omega (arith, n)));
+      }
 
-  -- a stretch that ends at a point is cut between its start and the point
-  pub cut_before : (start at known : ℕ) (parts : Parts A) (point : KeptPoint A) → at ≡ point.walk.place → start < point.walk.place → AreParts program start at known parts
-      → (start ≤ first_place start parts.points.items) × (first_place start parts.points.items < point.walk.place)
-  cut_before start at known parts point place lt h =
-      let back : h.cut < at = h.back (omega (arith, lt, place)) in
-      (omega (arith, h.above, h.points.first), omega (arith, back, h.points.first, place))
+  -- a stretch is cut between its start and its end
+  pub cut_before : (start to known : ℕ) (parts : Parts A) → start < to → AreParts program start to known parts → (start ≤ first_place start parts.points.items) × (first_place start parts.points.items < to)
+  cut_before start to known parts lt h =
+      let back : h.cut < to = h.back lt in
+      (omega (arith, h.above, h.points.first), omega (arith, back, h.points.first))

@@ -1,26 +1,24 @@
 -- The text of a stretch, written part by part.
-use Rattle.std.proofs.Common.{◌≡◌, ℕ, ◌≤◌, Bool, true, false, List, [], ◌++◌, length, take, drop, Option, refl, ap, subst, sym, ◌∙◌, arith, append_assoc}
-use Rattle.std.specs.Prelude.{Result, Ok, Err, OnErr}
+use Rattle.std.proofs.Common.{◌≡◌, ℕ, ◌≤◌, Bool, true, false, List, [], ◌++◌, length, drop, Option, refl, ap, subst, sym, ◌∙◌, arith, append_assoc}
+use Rattle.std.specs.Prelude.{Result, Ok, Err, IfOk, OnErr, OnOk}
 use Rattle.std.specs.List.{flat_map}
-use Rattle.std.proofs.Math.Seq.{take-append_seam}
-use Rattle.std.proofs.lemmas.List.{take-append-le}
 use Rattle.std.proofs.lemmas.List.FromFn.{length-map-range_with_len}
 use Rattle.step_model.specs.Listing.{Listing, ListedStep}
 use Rattle.step_model.specs.Targets.{targets_of}
 use Rattle.programs.specs.Kept.{KeptProgram}
-use Rattle.step_model.specs.Ends.{Takes, TakesSome}
 use Rattle.step_model.specs.HitModels.{model_of}
 use Rattle.step_model.specs.WellFormed.{IsWellFormed}
 use Rattle.error_models.specs.ModelText.{detectors_text, line_text, lines_text, model_text, observables_text}
 use Rattle.streams.specs.Held.{Held}
-use Rattle.streams.specs.Pushed.{IsPushed, Outlet, Pushes}
+use Rattle.streams.specs.Pushed.{IsPushed, Pushes}
 use Rattle.streams.proofs.Pushing.{Pushes-trans}
 use Rattle.backward.specs.declared.found.Found.{Found}
 use Rattle.backward.specs.declared.point.KeptPoint.{KeptPoint}
 use Rattle.backward.specs.declared.point.Point.{Point}
+use Rattle.backward.specs.declared.stretch.Parts.{Parts}
 use Rattle.trackers.specs.Tracked.{Tracked, Fit, restored}
 use Rattle.backward.specs.private.Passes.{HoldsLists, IsJudged, IsPassed, records_before, sensitivity_before, tracked_before}
-use Rattle.backward.specs.private.Points.{IsFor, IsPointOf, IsReady, PushesSome, first_place}
+use Rattle.backward.specs.private.Points.{AreParts, IsFor, IsPointOf, IsReady, PushesSome, first_place}
 use Rattle.backward.specs.private.Stretches.{text_between}
 use Rattle.trackers.proofs.KeptLemmas.{fit_alike, restored_alike}
 use Rattle.backward.proofs.PassLines.{lines_between-all, lines_between-none, text_between-parts}
@@ -74,6 +72,13 @@ ready_after program place cut t found settled keeps h enough =
 
 pub ready_at : {A : Type 0} (program : Listing) (from cut : ℕ) (found : Found A) → IsReady program from found → records_before program cut ≤ found.known → IsReady program cut found
 ready_at program from cut found h enough = record { settled = h.settled; keeps = h.keeps; lists = settled-at program from cut found.known found.lists enough h.lists }
+
+-- what is cut from a stretch at its start, ready for a pass over it
+pub ready_parts : {A E : Type 0} (program : KeptProgram) (from to : ℕ) (t : Tracked) (found : Found A) (r : Result (Parts A) E) → found.settled ≡ true → OnOk r (found.keeps ≡ true) → OnOk r (IsPassed program.listing from t found)
+    → IfOk r (AreParts program from to found.known) → IfOk r (λ parts. IsReady program.listing (first_place from parts.points.items) found)
+ready_parts program from to t found (Ok parts) settled keeps passed part =
+    ready_after program.listing from (first_place from parts.points.items) t found settled keeps passed (omega (arith, part.enough, ap (records_before program.listing) part.points.first))
+ready_parts program from to t found (Err e) settled keeps passed part = tt
 
 -- ---- what was pushed
 module _ {S : Type 0} {taken : S → Option (List ℕ)} {failures : S → ℕ} where
@@ -140,25 +145,3 @@ whole_model program cut fits within =
     sym (append_assoc (text_between program 0 cut) (text_between program cut (length program.steps)) behind)
     ∙ (ap (λ (l : List ℕ). l ++ behind) (text_between-parts program 0 cut (length program.steps) first within ∙ ap (flat_map (line_text (length program.detectors))) (lines_between-all program fits))
     ∙ sym (append_assoc (lines_text (model_of program)) (detectors_text (model_of program)) (observables_text (model_of program))))
-
--- what is pushed to a buffer that is empty went out, or is held
-pub some_taken : {S : Type 0} {taken : S → Option (List ℕ)} {failures : S → ℕ} (s t : S) (held : Held) (whole : List ℕ) → PushesSome taken failures s t (record { bytes = []; failed = false }) held whole → TakesSome (taken s) (taken t) whole
-some_taken {S} {taken} {failures} s t held whole some = by_state held.failed some.pushes.pushed
-  where
-    old : Outlet
-    old = record { taken = taken s; failures = failures s; held = [] }
-
-    new : Outlet
-    new = record { taken = taken t; failures = failures t; held = held.bytes }
-
-    by_state : (b : Bool) → IsPushed false b (record { taken = taken s; failures = failures s; held = [] }) (record { taken = taken t; failures = failures t; held = held.bytes }) some.front → TakesSome (taken s) (taken t) whole
-    by_state false h =
-        let all : h.gone ++ (held.bytes ++ some.rest) ≡ whole = sym (append_assoc h.gone held.bytes some.rest) ∙ (ap (λ (l : List ℕ). l ++ some.rest) h.rest ∙ some.whole) in
-        (length h.gone, subst (Takes (taken s) (taken t)) (sym (take-append_seam h.gone (held.bytes ++ some.rest)) ∙ ap (take (length h.gone)) all) h.takes)
-    by_state true h =
-        let n : ℕ = h.beginning.0 in
-        (n, subst (Takes (taken s) (taken t)) (sym (take-append-le n some.front some.rest (omega (arith, h.beginning.1))) ∙ ap (take n) some.whole) h.beginning.2)
-
-pub on_err_told : {T E P : Type 0} (r : Result T E) (e : E) → r ≡ Err e → OnErr r P → P
-on_err_told (Ok x) e is p = cc
-on_err_told (Err d) e is p = p

@@ -1,3 +1,4 @@
+pub mod Answered
 pub mod Apart
 pub mod Collapses
 pub mod Links
@@ -5,4 +6,5 @@ pub mod Numbered
 pub mod Passes
 pub mod Points
 pub mod RecordSets
+pub mod Steps
 pub mod Stretches

@@ -51,17 +51,33 @@ fn find_model<'a, A: Allocator + Copy, T: Tracker + Drop>(
         ≡ fresh program.now.listing.qubits (length (targets_of program.now.listing)) }
     ensures { IfOk result (IsAnalysed program.now.listing) }
 {
-    program.well_formed();
     let mut found = Found::new(&alloc, program)?;
-    let mut lines = ModelStore {
-        program,
-        model: Model::new(alloc, FlatLists::new(alloc), 0),
-    };
     let mut at = Point {
         walk: Walk::end(program),
         tracker,
     };
-    let random = go_back(program, &mut at, &mut found, &mut lines)?;
+    find_from_end(alloc, program, &mut at, &mut found)
+}
+
+// The same, from behind the last step.
+fn find_from_end<'s, 'p, 'a, A: Allocator + Copy, T: Tracker>(
+    alloc: A,
+    program: &Program<'a, A>,
+    at: &mut Point<'p, 'a, A, T>,
+    found: &mut Found<'s, A>,
+) -> Result<Analysed<'a, A>, AllocError>
+    requires program { at.old.walk.program ≡ program.now }
+    requires place { at.old.walk.place ≡ length program.now.listing.steps }
+    requires first { found.old.settled ≡ false }
+    requires passed { IsPassed program.now.listing at.old.walk.place (T.tracked at.old.tracker)
+        found.old }
+    ensures { IfOk result (IsAnalysed program.now.listing) }
+{
+    let mut lines = ModelStore {
+        program,
+        model: Model::new(alloc, FlatLists::new(alloc), 0),
+    };
+    let random = go_back(program, at, found, &mut lines)?;
     answer(alloc, program, random, lines.model)
 }
 

@@ -7,6 +7,7 @@ ghost use Rattle.programs.specs.Kept.{kept_at};
 ghost use Rattle.programs.specs.Listed.{listed};
 ghost use Rattle.programs.specs.Named.{IsNamed, IsNamedFlip, IsStepOf};
 ghost use Rattle.backward.specs.private.Passes.{IsCollapseAt, IsFeedbackAt, IsPassed, IsStepAt, Stays};
+ghost use Rattle.backward.specs.private.Steps.{IsGoneOver, IsUndone};
 ghost use Rattle.backward.specs.private.Stretches.{Gives, flip_line, line_for, lines_at};
 
 use crate::collapse::undo_collapse;
@@ -62,14 +63,8 @@ fn go_over<'s, 'p, 'a, A: Allocator + Copy, T: Tracker, L: LineStore>(
     requires store { L.program lines.old ≡ program.now }
     requires passed { IsPassed program.now.listing (at.old.walk.place + 1)
         (T.tracked at.old.tracker) found.old }
-    ensures walk { at.new.walk ≡ at.old.walk }
-    ensures passed { OnOk result
-        (IsPassed program.now.listing at.old.walk.place (T.tracked at.new.tracker) found.new) }
-    ensures stays { Stays found.old found.new }
-    ensures lines { OnOk result
-        (Gives (L.holds lines.old) (L.holds lines.new)
-        (lines_at program.now.listing at.old.walk.place)) }
-    ensures store { L.program lines.new ≡ L.program lines.old }
+    ensures { IsGoneOver T.tracked L.program L.holds program.now.listing at.old at.new found.old
+        found.new lines.old lines.new result }
 {
     program.well_formed();
     match step {
@@ -126,14 +121,8 @@ fn collapse<'s, 'p, 'a, A: Allocator + Copy, T: Tracker, L: LineStore>(
     requires store { L.program lines.old ≡ program.now }
     requires passed { IsPassed program.now.listing (at.old.walk.place + 1)
         (T.tracked at.old.tracker) found.old }
-    ensures walk { at.new.walk ≡ at.old.walk }
-    ensures passed { OnOk result
-        (IsPassed program.now.listing at.old.walk.place (T.tracked at.new.tracker) found.new) }
-    ensures stays { Stays found.old found.new }
-    ensures lines { OnOk result
-        (Gives (L.holds lines.old) (L.holds lines.new)
-        (lines_at program.now.listing at.old.walk.place)) }
-    ensures store { L.program lines.new ≡ L.program lines.old }
+    ensures { IsGoneOver T.tracked L.program L.holds program.now.listing at.old at.new found.old
+        found.new lines.old lines.new result }
 {
     program.well_formed();
     let targets = target_count(program);
@@ -200,14 +189,8 @@ fn fault<'s, 'p, 'a, A: Allocator + Copy, T: Tracker, L: LineStore>(
     requires store { L.program lines.old ≡ program.now }
     requires passed { IsPassed program.now.listing (at.old.walk.place + 1)
         (T.tracked at.old.tracker) found.old }
-    ensures walk { at.new.walk ≡ at.old.walk }
-    ensures passed { OnOk result
-        (IsPassed program.now.listing at.old.walk.place (T.tracked at.new.tracker) found.new) }
-    ensures stays { Stays found.old found.new }
-    ensures lines { OnOk result
-        (Gives (L.holds lines.old) (L.holds lines.new)
-        (lines_at program.now.listing at.old.walk.place)) }
-    ensures store { L.program lines.new ≡ L.program lines.old }
+    ensures { IsGoneOver T.tracked L.program L.holds program.now.listing at.old at.new found.old
+        found.new lines.old lines.new result }
 {
     if !lines.wants() {
         return Ok(());
@@ -230,10 +213,7 @@ fn feedback<'s, 'p, 'a, A: Allocator + Copy, T: Tracker>(
     requires step { IsFeedbackAt program.now.listing at.old.walk.place term rec }
     requires passed { IsPassed program.now.listing (at.old.walk.place + 1)
         (T.tracked at.old.tracker) found.old }
-    ensures walk { at.new.walk ≡ at.old.walk }
-    ensures passed { OnOk result
-        (IsPassed program.now.listing at.old.walk.place (T.tracked at.new.tracker) found.new) }
-    ensures stays { Stays found.old found.new }
+    ensures { IsUndone T.tracked program.now.listing at.old at.new found.old found.new result }
 {
     if found.settled {
         return Ok(());

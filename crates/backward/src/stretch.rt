@@ -5,7 +5,7 @@ ghost use Rattle.error_models.specs.HeldText.{HoldsLines};
 ghost use Rattle.streams.specs.Pushed.{Pushes};
 ghost use Rattle.backward.specs.private.Passes.{IsPassed, Stays};
 ghost use Rattle.backward.specs.private.Stretches.{lines_between, text_between};
-ghost use Rattle.backward.specs.private.Points.{AreParts, ArePoints, IsFor, IsReady, PushesSome, first_place};
+ghost use Rattle.backward.specs.private.Points.{AreParts, ArePoints, IsFor, IsPointOf, IsReady, PushesSome, first_place};
 
 use crate::found::Found;
 use crate::pass::step_back;
@@ -121,6 +121,33 @@ fn distance_for(way: usize, full: usize, qubits: u32) -> usize {
     near.max(way / POINTS + 1)
 }
 
+// Goes to a point that was left, and back over the stretch before it.
+fn cut_from<'s, 'p, 'a, A: Allocator + Copy, T: Tracker>(
+    program: &Program<'a, A>,
+    from: usize,
+    point: KeptPoint<'p, 'a, A>,
+    at: &mut Point<'p, 'a, A, T>,
+    found: &mut Found<'s, A>,
+    lines: &mut TextStore<'_, 'a, A>,
+) -> Result<Parts<'p, 'a, A>, AllocError>
+    requires point { IsPointOf program.now point }
+    requires from { from < point.walk.place }
+    requires tracker { IsFor program.now.listing (T.tracked at.old.tracker) }
+    requires ready { IsReady program.now.listing point.walk.place found.old }
+    requires store { lines.old.program.now ≡ program.now }
+    requires none { lines.old.text.text ≡ [] }
+    ensures tracker { OnOk result (IsFor program.now.listing (T.tracked at.new.tracker)) }
+    ensures ready { IfOk result (λ parts. IsReady program.now.listing
+        (first_place from parts.points.items) found.new) }
+    ensures known { found.new.known ≡ found.old.known }
+    ensures parts { IfOk result (AreParts program.now from point.entry.walk.place found.new.known) }
+    ensures none { OnOk result (lines.new.text.text ≡ []) }
+    ensures store { lines.new.program.now ≡ lines.old.program.now }
+{
+    at.restore(point)?;
+    cut(program, from, at, found, lines)
+}
+
 /// Writes the text of what is before a cut, from the first of its points' parts to the last: from the last point on.
 /// What the tracker has is lost.
 pub(crate) fn write_parts<'s, 'p, 'a, A: Allocator + Copy, T: Tracker, W: Sink>(
@@ -157,8 +184,7 @@ pub(crate) fn write_parts<'s, 'p, 'a, A: Allocator + Copy, T: Tracker, W: Sink>(
             return Ok(());
         }
         let end = point.walk.place();
-        at.restore(point)?;
-        let parts = cut(program, start, at, found, lines)?;
+        let parts = cut_from(program, start, point, at, found, lines)?;
         write_parts(program, start, parts.points, at, found, lines, out, sink)?;
         parts.end.push_to(out, sink);
         lines.reuse(parts.end);

@@ -8,6 +8,7 @@ ghost use Rattle.step_model.specs.HitModels.{model_of};
 ghost use Rattle.step_model.specs.Targets.{targets_of};
 ghost use Rattle.backward.specs.Places.{IsLowestRandom, NoneIsRandom};
 ghost use Rattle.trackers.specs.Tracked.{fresh};
+ghost use Rattle.backward.specs.private.Answered.{Answers, PushesAnswer};
 ghost use Rattle.backward.specs.private.Passes.{IsPassed};
 ghost use Rattle.backward.specs.private.Points.{AreParts, IsFor, IsReady, PushesSome, first_place};
 
@@ -68,19 +69,7 @@ pub fn write_in_parts<'a, A: Allocator + Copy, T: Tracker + Drop, W: Sink>(
 ) -> Result<Option<(u32, Place)>, Fault>
     requires { T.tracked tracker
         ≡ fresh program.now.listing.qubits (length (targets_of program.now.listing)) }
-    ensures none { IfOk result (λ random. IfNone random (NoneIsRandom program.now.listing)) }
-    ensures written { IfOk result (λ random. IfNone random
-        (Takes (W.taken sink.old) (W.taken sink.new) (model_text (model_of program.now.listing)))) }
-    ensures lowest { IfOk result (λ random. IfSome random (λ random. IsLowestRandom
-        program.now.listing random.0 random.1)) }
-    ensures nothing { IfOk result (λ random. IfSome random (λ _. sink.new ≡ sink.old)) }
-    ensures fault { IfErr result (λ e. (e ≡ memory_fault) ⊎ (e ≡ write_fault)) }
-    ensures beginning { OnErr result
-        ((sink.new ≡ sink.old)
-        ⊎ (NoneIsRandom program.now.listing
-        × TakesSome (W.taken sink.old) (W.taken sink.new)
-        (model_text (model_of program.now.listing)))) }
-    ensures writes { W.failures sink.new ≡ write_failures result (W.failures sink.old) }
+    ensures { Answers W.taken W.failures sink.old sink.new program.now.listing result }
 {
     let mut out = Pieces::new();
     match push_analysis(alloc, program, tracker, room, &mut out, sink) {
@@ -88,7 +77,7 @@ pub fn write_in_parts<'a, A: Allocator + Copy, T: Tracker + Drop, W: Sink>(
             out.finish(sink)?;
             Ok(None)
         }
-        Ok(random) => Ok(random),
+        Ok(Some(random)) => Ok(Some(random)),
         Err(_) if out.has_failed() => Err(Fault::WRITE),
         Err(_) => Err(Fault::MEMORY),
     }
@@ -104,19 +93,8 @@ fn push_analysis<'a, A: Allocator + Copy, T: Tracker + Drop, W: Sink>(
 ) -> Result<Option<(u32, Place)>, AllocError>
     requires { T.tracked tracker
         ≡ fresh program.now.listing.qubits (length (targets_of program.now.listing)) }
-    ensures none { IfOk result (λ random. IfNone random (NoneIsRandom program.now.listing)) }
-    ensures text { IfOk result (λ random. IfNone random
-        (Pushes W.taken W.failures sink.old sink.new out.old out.new
-        (model_text (model_of program.now.listing)))) }
-    ensures lowest { IfOk result (λ random. IfSome random (λ random. IsLowestRandom
-        program.now.listing random.0 random.1)) }
-    ensures nothing { IfOk result (λ random. IfSome random (λ _. (sink.new ≡ sink.old)
-        × (out.new ≡ out.old))) }
-    ensures some { OnErr result
-        (((sink.new ≡ sink.old) × (out.new ≡ out.old))
-        ⊎ (NoneIsRandom program.now.listing
-        × PushesSome W.taken W.failures sink.old sink.new out.old out.new
-        (model_text (model_of program.now.listing)))) }
+    ensures { PushesAnswer W.taken W.failures sink.old sink.new out.old out.new program.now.listing
+        result }
 {
     let mut found = Found::new(&alloc, program)?;
     let mut lines = TextStore::new(alloc, program, room)?;
@@ -143,19 +121,8 @@ fn push_from_end<'s, 'p, 'a, A: Allocator + Copy, T: Tracker, W: Sink>(
     requires first { found.old.settled ≡ false }
     requires store { lines.old.program.now ≡ program.now }
     requires empty { lines.old.text.text ≡ [] }
-    ensures none { IfOk result (λ random. IfNone random (NoneIsRandom program.now.listing)) }
-    ensures text { IfOk result (λ random. IfNone random
-        (Pushes W.taken W.failures sink.old sink.new out.old out.new
-        (model_text (model_of program.now.listing)))) }
-    ensures lowest { IfOk result (λ random. IfSome random (λ random. IsLowestRandom
-        program.now.listing random.0 random.1)) }
-    ensures nothing { IfOk result (λ random. IfSome random (λ _. (sink.new ≡ sink.old)
-        × (out.new ≡ out.old))) }
-    ensures some { OnErr result
-        (((sink.new ≡ sink.old) × (out.new ≡ out.old))
-        ⊎ (NoneIsRandom program.now.listing
-        × PushesSome W.taken W.failures sink.old sink.new out.old out.new
-        (model_text (model_of program.now.listing)))) }
+    ensures { PushesAnswer W.taken W.failures sink.old sink.new out.old out.new program.now.listing
+        result }
 {
     let parts = cut(program, 0, at, found, lines)?;
     match random_target(program, &mut at.tracker, found)? {

@@ -74,6 +74,10 @@ clashes_of_letters letter (a ∷ row) (c ∷ w) h =
 pub rows_long : (x z : List Bool) (column : List Letter) → length x ≡ length z → letters_of x z ≡ column → length column ≡ length x
 rows_long x z column h e = sym (ap length e) ∙ length-letters_of x z h
 
+-- and stays so while they stay as long
+pub stays_long : (x z p q : List Bool) (column : List Letter) → length x ≡ length z → letters_of x z ≡ column → length p ≡ length x → length q ≡ length z → length (letters_of p q) ≡ length column
+stays_long x z p q column h e px qz = length-letters_of p q (px ∙ (h ∙ sym qz)) ∙ (px ∙ sym (rows_long x z column h e))
+
 -- a letter multiplied in at a place turns its bits there
 times_test : Letter → Bool → Bool → Bool
 times_test letter a b =

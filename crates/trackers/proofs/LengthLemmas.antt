@@ -1,12 +1,36 @@
--- Columns that are as long as a set of targets.
-use Rattle.std.proofs.Common.{◌≡◌, ℕ, Bool, List, length, subst, sym, ◌∙◌}
+-- Columns that are lent, changed and given back.
+use Rattle.std.proofs.Common.{◌≡◌, ℕ, Bool, List, Result, OnOk, length, ap, subst, sym, ◌∙◌}
 use Rattle.std.specs.Prelude.{All}
+use Rattle.std.proofs.lemmas.Result.{on_ok_weaker}
 use Rattle.pauli_word.specs.declared.letter.Letter.{Letter}
+use Rattle.trackers.specs.Tracked.{Tracked, each_word}
+use Rattle.trackers.specs.private.Transposed.{ArePlaces, IsTransposed, tracked_of}
 
 -- columns lent as a slice
 pub lent_long : (m : ℕ) (columns slice : List (List Letter)) (row : List Bool) → slice ≡ columns → length row ≡ m → All (λ column. length column ≡ m) columns → All (λ column. length column ≡ length row) slice
 lent_long m columns slice row same row_long long = subst (All (λ (column : List Letter). length column ≡ length row)) (sym same) (λ k d lt. long k d lt ∙ sym row_long)
 
--- and given back
-pub returned_long : (m : ℕ) (columns slice : List (List Letter)) (row : List Bool) → columns ≡ slice → length row ≡ m → All (λ column. length column ≡ length row) slice → All (λ column. length column ≡ m) columns
-returned_long m columns slice row same row_long long = subst (All (λ (column : List Letter). length column ≡ m)) (sym same) (λ k d lt. long k d lt ∙ row_long)
+-- and given back: what else was lent stays as long
+pub given_back : {m : ℕ} {columns : List (List Letter)} {first second : List Letter} {set spare : List Bool} (now made : List (List Letter)) (first_now : List Letter) (spare_now : List Bool) → IsTransposed m columns first second set spare
+    → now ≡ made → All (λ column. length column ≡ length spare) made → length first_now ≡ length first → length spare_now ≡ length spare → IsTransposed m now first_now second set spare_now
+given_back {m} now made first_now spare_now h same long first_stays spare_stays =
+    record {
+      columns_long = subst (All (λ (column : List Letter). length column ≡ m)) (sym same) (λ k d lt. long k d lt ∙ h.spare_long);
+      first_long = first_stays ∙ h.first_long;
+      second_long = h.second_long;
+      set_long = h.set_long;
+      spare_long = spare_stays ∙ h.spare_long;
+      few = h.few;
+    }
+
+-- two places of the words are places of the columns
+pub at_columns : (m : ℕ) (columns : List (List Letter)) (tracked : Tracked) {a b : ℕ} → tracked_of m columns ≡ tracked → ArePlaces tracked.qubits a b → ArePlaces (length columns) a b
+at_columns m columns tracked {a} {b} view = subst (λ n. ArePlaces n a b) (sym (ap (λ (t : Tracked). t.qubits) view))
+
+-- what a call makes of the columns at two places is what becomes of each word
+pub words_changed : {T E : Type 0} (r : Result T E) {m : ℕ} {columns : List (List Letter)} {first second : List Letter} {set spare : List Bool} (by : List (List Letter) → List (List Letter)) (f : List Letter → List Letter) (tracked : Tracked) {a b : ℕ} (lent made now : List (List Letter))
+    → IsTransposed m columns first second set spare → tracked_of m columns ≡ tracked → ArePlaces tracked.qubits a b
+    → (ArePlaces (length columns) a b → All (λ column. length column ≡ m) columns → tracked_of m (by columns) ≡ each_word f (tracked_of m columns))
+    → lent ≡ columns → now ≡ made → OnOk r (made ≡ by lent) → OnOk r (tracked_of m now ≡ each_word f tracked)
+words_changed r {m} {columns} by f tracked lent made now h view places law held given =
+    on_ok_weaker r (λ done. ap (tracked_of m) (given ∙ (done ∙ ap by held)) ∙ (law (at_columns m columns tracked view places) h.columns_long ∙ ap (each_word f) view))

@@ -1,5 +1,6 @@
 pub mod ColumnLemmas
 pub mod ExchangeLemmas
+pub mod GateLemmas
 pub mod KeptLemmas
 pub mod LengthLemmas
 pub mod LoneTerms

@@ -1,5 +1,6 @@
 -- Gates that only multiply the letters at each of two qubits by an image of those at the other.
 use Rattle.std.proofs.Common.{◌≡◌, ℕ, ◌<◌, Bool, true, false, List, [], ◌∷◌, map, length, get_or, set, refl, ap, ap₂, sym, ◌∙◌, arith}
+use Rattle.std.specs.Prelude.{All}
 use Rattle.std.proofs.Math.Nat.{suc_inj}
 use Rattle.std.proofs.lemmas.List.{length-map, get_or-map}
 use Rattle.bit_rows.specs.Rows.{xor_rows}
@@ -15,7 +16,8 @@ use Rattle.pauli_word.proofs.LetterLaws.{letter_product-I, letter_product_comm}
 use Rattle.pauli_word.proofs.LetterTests.{each_four_letters, at_four_letters, same_letter, same_letter-true}
 use Rattle.pauli_word.proofs.WordPlaces.{letter_at-product}
 use Rattle.trackers.specs.Tracked.{Tracked, each_word, undone_two}
-use Rattle.trackers.specs.private.Transposed.{combined, multiplied_at, tracked_of}
+use Rattle.trackers.specs.private.Transposed.{ArePlaces, combined, multiplied_at, multiplied_columns, tracked_of}
+use Rattle.trackers.proofs.GateLemmas.{AreImages, firsts, seconds}
 use Rattle.trackers.proofs.TransposedLemmas.{image2_combined, tracked_set_two}
 
 -- ---- letters
@@ -107,17 +109,19 @@ product_at r s u v m t lu lv lt =
     letter_at-product u (map (combined r s) v) t (lu ∙ sym (length-map v (combined r s) ∙ lv))
     ∙ ap (letter_product (letter_at u t)) (get_or-map (combined r s) v t I I (omega (arith, lt, lv)))
 
-pub tracked_multiplied : (m : ℕ) (columns : List (List Letter)) (a b : ℕ) (to_first to_second : Letter × Letter) (first second : List Letter) → a < length columns → b < length columns → length (get_or columns a []) ≡ m → length (get_or columns b []) ≡ m
-    → first ≡ letters_product (get_or columns a []) (map (combined to_first.0 to_first.1) (get_or columns b []))
-    → second ≡ letters_product (get_or columns b []) (map (combined to_second.0 to_second.1) (get_or columns a []))
-    → tracked_of m (set (set columns a first) b second) ≡ each_word (multiplied_at a b to_first to_second) (tracked_of m columns)
-tracked_multiplied m columns a b to_first to_second first second ha hb la lb is_first is_second =
-    tracked_set_two m columns a b first second
+pub tracked_multiplied : (m : ℕ) (columns : List (List Letter)) (a b : ℕ) (to_first to_second : Letter × Letter) → ArePlaces (length columns) a b → All (λ column. length column ≡ m) columns
+    → tracked_of m (multiplied_columns a b to_first to_second columns) ≡ each_word (multiplied_at a b to_first to_second) (tracked_of m columns)
+tracked_multiplied m columns a b to_first to_second places long =
+    let u = get_or columns a [] in
+    let v = get_or columns b [] in
+    let la = long a [] places.first in
+    let lb = long b [] places.second in
+    tracked_set_two m columns a b (letters_product u (map (combined to_first.0 to_first.1) v)) (letters_product v (map (combined to_second.0 to_second.1) u))
     (λ x y. letter_product x (combined to_first.0 to_first.1 y))
     (λ x y. letter_product y (combined to_second.0 to_second.1 x))
-    ha hb
-    (λ t lt. ap (λ c. letter_at c t) is_first ∙ product_at to_first.0 to_first.1 (get_or columns a []) (get_or columns b []) m t la lb lt)
-    (λ t lt. ap (λ c. letter_at c t) is_second ∙ product_at to_second.0 to_second.1 (get_or columns b []) (get_or columns a []) m t lb la lt)
+    places.first places.second
+    (λ t lt. product_at to_first.0 to_first.1 u v m t la lb lt)
+    (λ t lt. product_at to_second.0 to_second.1 v u m t lb la lt)
 
 -- ---- gates
 
@@ -133,16 +137,15 @@ second_image g a b x z =
     ∙ letter_product_comm (combined (image2 g X I).1 (image2 g Z I).1 a) b)
 
 -- a gate that keeps X and Z at either qubit but for letters at the other
-pub undone-multiplied : (g : Gate) (a b : ℕ) (to_first to_second : Letter × Letter) (w : List Letter)
-    → (image2 (inverse_of g) X I).0 ≡ X → (image2 (inverse_of g) Z I).0 ≡ Z → (image2 (inverse_of g) I X).1 ≡ X → (image2 (inverse_of g) I Z).1 ≡ Z
-    → to_first ≡ ((image2 (inverse_of g) I X).0, (image2 (inverse_of g) I Z).0) → to_second ≡ ((image2 (inverse_of g) X I).1, (image2 (inverse_of g) Z I).1)
-    → multiplied_at a b to_first to_second w ≡ undone_two g a b w
-undone-multiplied g a b to_first to_second w xa za xb zb e f =
-    let h = inverse_of g in
+pub undone-multiplied : (g : Gate) (a b : ℕ) (xa za xb zb : Letter × Letter × Bool) (w : List Letter) → AreImages g xa za xb zb → (xa.0 ≡ X) × (za.0 ≡ Z) → (xb.1 ≡ X) × (zb.1 ≡ Z)
+    → multiplied_at a b (firsts xb zb) (seconds xa za) w ≡ undone_two g a b w
+undone-multiplied g a b xa za xb zb w are first second =
     let u = letter_at w a in
     let v = letter_at w b in
-    ap₂ (λ (p q : Letter × Letter). multiplied_at a b p q w) e f
-    ∙ ap₂ (λ c d. set (set w a c) b d) (sym (first_image h u v xa za)) (sym (second_image h u v xb zb))
+    ap₂ (λ (p q : Letter × Letter). multiplied_at a b p q w) are.to_first are.to_second
+    ∙ ap₂ (λ c d. set (set w a c) b d)
+    (sym (first_image (inverse_of g) u v (sym (ap (λ p. p.0) are.xa_is) ∙ first.0) (sym (ap (λ p. p.0) are.za_is) ∙ first.1)))
+    (sym (second_image (inverse_of g) u v (sym (ap (λ p. p.1) are.xb_is) ∙ second.0) (sym (ap (λ p. p.1) are.zb_is) ∙ second.1)))
 
 pub each_word-same : (f g : List Letter → List Letter) (t : Tracked) → ((w : List Letter) → f w ≡ g w) → each_word f t ≡ each_word g t
 each_word-same f g t same = ap (λ words. record { qubits = t.qubits; words = words }) (map_same t.words)

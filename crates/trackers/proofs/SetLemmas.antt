@@ -122,6 +122,11 @@ pub descends_summed : {V E : Type 0} (r : Result V E) (m : ℕ) (new sum : List 
 descends_summed (Ok v) m new sum ok err h = subst (DescendsBelow m) (sym ok) h
 descends_summed (Err e) m new sum ok err h = subst (DescendsBelow m) (sym err) tt
 
+-- the same where a call that failed left the list as it was
+pub descends_kept : {V E : Type 0} (r : Result V E) (m : ℕ) (old new sum : List ℕ) → OnOk r (new ≡ sum) → OnErr r (new ≡ old) → DescendsBelow m sum → DescendsBelow m old → DescendsBelow m new
+descends_kept (Ok v) m old new sum ok err h k = subst (DescendsBelow m) (sym ok) h
+descends_kept (Err e) m old new sum ok err h k = subst (DescendsBelow m) (sym err) k
+
 -- ---- one target toggled
 pub descends_toggled : {V E : Type 0} (r : Result V E) (m t : ℕ) (old new : List ℕ) → OnOk r ((n : ℕ) → DescendsBelow n old → new ≡ xor_sets (t ∷ []) old) → OnErr r (new ≡ old) → t < m → DescendsBelow m old → DescendsBelow m new
 descends_toggled (Ok v) m t old new ok err low h = subst (DescendsBelow m) (sym (ok m h)) (DescendsBelow-xor_sets m (t ∷ []) old (low, tt) h)
@@ -261,10 +266,18 @@ add_none row other n set same none is =
     let long : length row ≡ n = same ∙ (sym (ap length of_none) ∙ length-map-range_with_len (is_listed []) 0 n) in
     sym (none_added row 0 n long) ∙ ap (xor_rows row) of_none
 
--- a copy of a descending list, where there was none and memory may run out
-pub descends_copied : {A V E : Type 0} (items : A → List ℕ) (r : Result V E) (old new : A) (m : ℕ) (other : List ℕ) → OnOk r (items new ≡ items old ++ other) → OnErr r (new ≡ old) → items old ≡ [] → DescendsBelow m other → DescendsBelow m (items new)
-descends_copied items (Ok v) old new m other ok err none h = subst (DescendsBelow m) (sym (ok ∙ ap (λ l. l ++ other) none)) h
-descends_copied items (Err e) old new m other ok err none h = subst (DescendsBelow m) (sym (ap items err ∙ none)) tt
+-- two sets of as many targets: the sum of their lists is listed below, and its row is the sum of their rows
+pub record AreSummed (m : ℕ) (mine other : List ℕ) (p q : List Bool) : Type 0 where
+  pub row : (new : List ℕ) → new ≡ xor_sets mine other → row_of_set m new ≡ xor_rows p q
+  pub below : DescendsBelow m mine → DescendsBelow m (xor_sets mine other)
+
+pub summed : (m n : ℕ) (mine other : List ℕ) (p q : List Bool) → row_of_set m mine ≡ p → row_of_set n other ≡ q → length p ≡ length q → DescendsBelow n other → AreSummed m mine other p q
+summed m n mine other p q is_p is_q long descends =
+    let counted : m ≡ n = same_count m n mine other p q is_p is_q long in
+    record {
+      row = λ new is. ap (row_of_set m) is ∙ (row_of_xor_sets m mine other ∙ ap₂ xor_rows is_p (ap (λ n. row_of_set n other) counted ∙ is_q));
+      below = λ h. DescendsBelow-xor_sets m mine other h (subst (λ n. DescendsBelow n other) (sym counted) descends);
+    }
 
 -- no more than both have
 step_short : (x n : ℕ) (rest : List ℕ → List ℕ) (ys : List ℕ) → ((zs : List ℕ) → length (rest zs) ≤ n + length zs) → length (xor_step x rest ys) ≤ suc n + length ys

@@ -193,6 +193,37 @@ pub(crate) fn merge<A: Allocator + Copy>(
     }
 }
 
+/// Puts the exclusive or of two descending lists in place of the first, which stays as it was after an error. What the
+/// spare list held is lost.
+#[inline(always)]
+pub(crate) fn add_many<'a, A: Allocator + Copy>(
+    items: &mut SmallVec<u32, 4, &'a A>,
+    more: &[u32],
+    spare: &mut SmallVec<u32, 4, &'a A>,
+) -> Result<(), AllocError>
+    ensures ok { OnOk result (items.new.items ≡ xor_sets items.old.items more.now) }
+    ensures err { OnErr result (items.new.items ≡ items.old.items) }
+    ensures spare { (m : ℕ)
+        → DescendsBelow m items.old.items
+        → DescendsBelow m spare.old.items
+        → DescendsBelow m spare.new.items }
+{
+    if items.as_slice().is_empty() {
+        return items.extend_from_slice(more);
+    }
+    spare.clear();
+    match merge(items.as_slice(), more, spare) {
+        Ok(()) => {
+            std::mem::swap(items, spare);
+            Ok(())
+        }
+        Err(error) => {
+            spare.clear();
+            Err(error)
+        }
+    }
+}
+
 // Puts the exclusive or of two short descending lists at the start of `sum`, and answers how long it is. Which of two
 // is the greater is hard to predict, so no branch is taken on it.
 fn merge_few(first: &[u32], second: &[u32], sum: &mut [u32; 16]) -> usize

@@ -1,8 +1,8 @@
 //! Two columns of a list: multiplied by images of one another where they stand, exchanged, or made anew.
-ghost use Rattle.std.specs.Prelude.{◌≡◌, ◌≢◌, ◌<◌, [], length, All, OnOk, slice_index_or};
+ghost use Rattle.std.specs.Prelude.{◌≡◌, ◌<◌, [], length, All, OnOk, slice_index_or};
 ghost use Rattle.gate_table.specs.Images.{arity_of};
 ghost use Rattle.pauli_word.specs.declared.letter.Letter.TheVariants.{I};
-ghost use Rattle.trackers.specs.private.Transposed.{combined, exchanged_columns, first_before, multiplied_columns, second_before};
+ghost use Rattle.trackers.specs.private.Transposed.{ArePlaces, combined, exchanged_columns, first_before, multiplied_columns, second_before};
 
 use crate::column::{Column, multiply_both};
 use crate::target_set::TargetSet;
@@ -21,9 +21,7 @@ pub(crate) fn multiply_pair<S: TargetSet>(
     to_second: (Letter, Letter),
     spare: &mut S,
 ) -> Result<(), AllocError>
-    requires first { a < length columns.old }
-    requires second { b < length columns.old }
-    requires different { a ≢ b }
+    requires places { ArePlaces (length columns.old) a b }
     requires long { All (λ column. length column ≡ length (S.bits spare.old)) columns.old }
     requires x_is_lost { combined to_second.0 to_second.1 to_first.0 ≡ I }
     requires z_is_lost { combined to_second.0 to_second.1 to_first.1 ≡ I }
@@ -33,58 +31,12 @@ pub(crate) fn multiply_pair<S: TargetSet>(
     ensures spare { length (S.bits spare.new) ≡ length (S.bits spare.old) }
 {
     if a < b {
-        multiply_ahead(columns, a, b, to_first, to_second, spare)
+        let (front, back) = columns.split_at_mut(b);
+        multiply_both(&mut front[a], &mut back[0], to_first, to_second, spare)
     } else {
-        multiply_behind(columns, a, b, to_first, to_second, spare)
+        let (front, back) = columns.split_at_mut(a);
+        multiply_both(&mut back[0], &mut front[b], to_first, to_second, spare)
     }
-}
-
-// The first place comes before the second.
-#[inline(always)]
-fn multiply_ahead<S: TargetSet>(
-    columns: &mut [Column<S>],
-    a: usize,
-    b: usize,
-    to_first: (Letter, Letter),
-    to_second: (Letter, Letter),
-    spare: &mut S,
-) -> Result<(), AllocError>
-    requires order { a < b }
-    requires inside { b < length columns.old }
-    requires long { All (λ column. length column ≡ length (S.bits spare.old)) columns.old }
-    requires x_is_lost { combined to_second.0 to_second.1 to_first.0 ≡ I }
-    requires z_is_lost { combined to_second.0 to_second.1 to_first.1 ≡ I }
-    ensures columns { OnOk result
-        (columns.new ≡ multiplied_columns a b to_first to_second columns.old) }
-    ensures long { All (λ column. length column ≡ length (S.bits spare.old)) columns.new }
-    ensures spare { length (S.bits spare.new) ≡ length (S.bits spare.old) }
-{
-    let (front, back) = columns.split_at_mut(b);
-    multiply_both(&mut front[a], &mut back[0], to_first, to_second, spare)
-}
-
-// The first place comes after the second.
-#[inline(always)]
-fn multiply_behind<S: TargetSet>(
-    columns: &mut [Column<S>],
-    a: usize,
-    b: usize,
-    to_first: (Letter, Letter),
-    to_second: (Letter, Letter),
-    spare: &mut S,
-) -> Result<(), AllocError>
-    requires order { b < a }
-    requires inside { a < length columns.old }
-    requires long { All (λ column. length column ≡ length (S.bits spare.old)) columns.old }
-    requires x_is_lost { combined to_second.0 to_second.1 to_first.0 ≡ I }
-    requires z_is_lost { combined to_second.0 to_second.1 to_first.1 ≡ I }
-    ensures columns { OnOk result
-        (columns.new ≡ multiplied_columns a b to_first to_second columns.old) }
-    ensures long { All (λ column. length column ≡ length (S.bits spare.old)) columns.new }
-    ensures spare { length (S.bits spare.new) ≡ length (S.bits spare.old) }
-{
-    let (front, back) = columns.split_at_mut(a);
-    multiply_both(&mut back[0], &mut front[b], to_first, to_second, spare)
 }
 
 /// Puts at each of two places an image of the letters of the column at the other.
@@ -98,9 +50,7 @@ pub(crate) fn exchange_pair<S: TargetSet>(
     other: &mut Column<S>,
     spare: &mut S,
 ) -> Result<(), AllocError>
-    requires first { a < length columns.old }
-    requires second { b < length columns.old }
-    requires different { a ≢ b }
+    requires places { ArePlaces (length columns.old) a b }
     requires long { All (λ column. length column ≡ length (S.bits spare.old)) columns.old }
     requires other { length other.old ≡ length (S.bits spare.old) }
     ensures columns { OnOk result

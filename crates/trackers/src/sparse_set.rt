@@ -3,7 +3,7 @@ ghost use Rattle.std.specs.Prelude.{◌≡◌, false, length, replicate, OnOk};
 ghost use Rattle.bit_rows.specs.Rows.{xor_rows};
 
 use crate::descending::{
-    FEW, add_few, empty, list_ascending, list_sum, list_sum_of_four, merge, toggle_in,
+    FEW, add_few, add_many, empty, list_ascending, list_sum, list_sum_of_four, toggle_in,
 };
 use crate::target_set::TargetSet;
 use smallvec::SmallVec;
@@ -55,20 +55,7 @@ impl<'a, A: Allocator + Copy> SparseSet<'a, A> {
         if self.items.len() <= FEW && more.len() <= FEW {
             return add_few(&mut self.items, more);
         }
-        if self.items.as_slice().is_empty() {
-            return self.items.extend_from_slice(more);
-        }
-        spare.items.clear();
-        match merge(self.items.as_slice(), more, &mut spare.items) {
-            Ok(()) => {
-                std::mem::swap(&mut self.items, &mut spare.items);
-                Ok(())
-            }
-            Err(error) => {
-                spare.items.clear();
-                Err(error)
-            }
-        }
+        add_many(&mut self.items, more, &mut spare.items)
     }
 }
 

@@ -1,10 +1,10 @@
-ghost use Rattle.std.specs.Prelude.{◌≡◌, ◌<◌, ◌≤◌, ◌≢◌, ◌^◌, ◌∷◌, [], ℕ, false, true, All, IfOk, OnOk, replicate};
+ghost use Rattle.std.specs.Prelude.{◌≡◌, ◌<◌, ◌≤◌, ◌^◌, ◌∷◌, [], ℕ, false, true, All, IfOk, OnOk, replicate};
 ghost use Rattle.gate_table.specs.Images.{arity_of};
 ghost use Rattle.gate_table.specs.declared.gate.Gate.TheVariants.{CX, H};
 ghost use Rattle.pauli_word.specs.declared.letter.Letter.TheVariants.{I, Y};
 ghost use Rattle.trackers.specs.Tracked.{anticommuting, each_word, fresh, undone_one, undone_two};
 ghost use Rattle.trackers.specs.TargetSets.{members};
-ghost use Rattle.trackers.specs.private.Transposed.{combined, exchanged_at, multiplied_at};
+ghost use Rattle.trackers.specs.private.Transposed.{ArePlaces, combined, exchanged_at, multiplied_at};
 
 use crate::column::{Column, is_y};
 use crate::columns::{clashing, keep_columns, restore_columns};
@@ -104,22 +104,14 @@ impl<S: TargetSet, A: Allocator + Copy> Words<S, A> {
         to_first: (Letter, Letter),
         to_second: (Letter, Letter),
     ) -> Result<(), AllocError>
-        requires first_in_range { a < self.old.qubits }
-        requires second_in_range { b < self.old.qubits }
-        requires different { a ≢ b }
+        requires places { ArePlaces self.old.qubits a b }
         requires x_is_lost { combined to_second.0 to_second.1 to_first.0 ≡ I }
         requires z_is_lost { combined to_second.0 to_second.1 to_first.1 ≡ I }
         ensures { OnOk result
             (self.new ≡ each_word (multiplied_at a b to_first to_second) self.old) }
     {
-        multiply_pair(
-            self.columns.as_mut_slice(),
-            a,
-            b,
-            to_first,
-            to_second,
-            &mut self.spare,
-        )
+        let columns = self.columns.as_mut_slice();
+        multiply_pair(columns, a, b, to_first, to_second, &mut self.spare)
     }
 
     // Puts at each of two qubits an image of the letters at the other.
@@ -130,14 +122,13 @@ impl<S: TargetSet, A: Allocator + Copy> Words<S, A> {
         to_first: (Letter, Letter),
         to_second: (Letter, Letter),
     ) -> Result<(), AllocError>
-        requires first_in_range { a < self.old.qubits }
-        requires second_in_range { b < self.old.qubits }
-        requires different { a ≢ b }
+        requires places { ArePlaces self.old.qubits a b }
         ensures { OnOk result
             (self.new ≡ each_word (exchanged_at a b to_first to_second) self.old) }
     {
+        let columns = self.columns.as_mut_slice();
         exchange_pair(
-            self.columns.as_mut_slice(),
+            columns,
             a,
             b,
             to_first,
@@ -247,9 +238,7 @@ impl<S: TargetSet, A: Allocator + Copy> Words<S, A> {
     // The commonest gate of two qubits, whose images the compiler then knows.
     #[inline(always)]
     fn undo_cx(&mut self, a: usize, b: usize) -> Result<(), AllocError>
-        requires first_in_range { a < self.old.qubits }
-        requires second_in_range { b < self.old.qubits }
-        requires different { a ≢ b }
+        requires places { ArePlaces self.old.qubits a b }
         ensures { OnOk result (self.new ≡ each_word (undone_two CX a b) self.old) }
     {
         self.multiply(a, b, (Letter::I, Letter::Z), (Letter::X, Letter::I))
@@ -259,9 +248,7 @@ impl<S: TargetSet, A: Allocator + Copy> Words<S, A> {
     #[inline(never)]
     fn undo_by_table(&mut self, gate: Gate, a: usize, b: usize) -> Result<(), AllocError>
         requires arity { arity_of gate ≡ 2 }
-        requires first_in_range { a < self.old.qubits }
-        requires second_in_range { b < self.old.qubits }
-        requires different { a ≢ b }
+        requires places { ArePlaces self.old.qubits a b }
         ensures { OnOk result (self.new ≡ each_word (undone_two gate a b) self.old) }
     {
         let inverse = gate.inverse();
@@ -282,9 +269,7 @@ impl<S: TargetSet, A: Allocator + Copy> Words<S, A> {
     // Any gate of two qubits, by the images of the letters at both.
     fn undo_by_images(&mut self, gate: Gate, a: usize, b: usize) -> Result<(), AllocError>
         requires arity { arity_of gate ≡ 2 }
-        requires first_in_range { a < self.old.qubits }
-        requires second_in_range { b < self.old.qubits }
-        requires different { a ≢ b }
+        requires places { ArePlaces self.old.qubits a b }
         ensures { OnOk result (self.new ≡ each_word (undone_two gate a b) self.old) }
     {
         image_pair(

@@ -1,7 +1,7 @@
 -- Words kept by qubit: for each qubit a column, the letters that all words have there. The words are the columns
 -- transposed. A column is kept as two rows of bits, one bit a word: X in the letter, and Z in it. (Sensitivities taken
 -- back over a circuit: Gidney, Quantum 5, 497 (2021). How they are kept here is this project's own.)
-use Rattle.std.specs.Prelude.{◌≡◌, ◌<◌, ◌≤◌, ◌+◌, ◌*◌, ◌^◌, ℕ, Bool, ◌&&◌, List, [], ◌∷◌, ◌++◌, false, map, length, All, slice_index_or, slice_set}
+use Rattle.std.specs.Prelude.{◌≡◌, ◌≢◌, ◌<◌, ◌≤◌, ◌+◌, ◌*◌, ◌^◌, ℕ, Bool, ◌&&◌, List, [], ◌∷◌, ◌++◌, false, map, length, All, slice_index_or, slice_set}
 use Rattle.std.specs.List.{range_with_len}
 use Rattle.gate_table.specs.declared.gate.Gate.{Gate}
 use Rattle.gate_table.specs.Images.{image2, inverse_of}
@@ -98,6 +98,12 @@ abbrev pub exchanged_columns : ℕ → ℕ → Letter × Letter → Letter × Le
 exchanged_columns a b to_first to_second columns =
     slice_set (slice_set columns a (map (combined to_first.0 to_first.1) (slice_index_or columns b []))) b
     (map (combined to_second.0 to_second.1) (slice_index_or columns a []))
+
+-- two places below n that differ
+pub record ArePlaces (n a b : ℕ) : Type 0 where
+  pub first : a < n
+  pub second : b < n
+  pub differ : a ≢ b
 
 -- columns, spare columns and spare sets for m targets
 pub record IsTransposed (m : ℕ) (columns : List (List Letter)) (first second : List Letter) (set spare : List Bool) : Type 0 where

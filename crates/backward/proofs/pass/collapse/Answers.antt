@@ -1,6 +1,7 @@
-use Rattle.std.proofs.Common.{◌≡◌, ◌+◌, ◌-◌, ◌<◌, Bool, List, length, drop, ap, subst, sym, ◌∙◌, arith}
+use Rattle.std.proofs.Common.{◌≡◌, ◌+◌, ◌-◌, ◌<◌, Bool, List, length, drop, refl, ap, subst, sym, ◌∙◌, arith}
 use Rattle.std.specs.Prelude.{All, IfSome}
 use Rattle.std.specs.List.Sorted.{IsStrictlyIncreasing}
+use Rattle.std.proofs.lemmas.Result.{err_from_is_err_and}
 use Rattle.step_model.specs.Targets.{targets_of}
 use Rattle.programs.specs.Listed.{recorded}
 use Rattle.backward.specs.private.Collapses.{members_at, noted, undone_collapse}
@@ -9,6 +10,7 @@ use Rattle.backward.specs.private.Stretches.{Gives}
 use Rattle.trackers.specs.Tracked.{anticommuting}
 use Rattle.backward.proofs.PassSteps.{collapse_is_left, collapse_judged, collapse_keeps, collapse_line, collapse_lists, collapse_words, holds_same, latest_of_size, words_of_size}
 use Rattle.backward.proofs.RecordMembers.{members_at-ascend, members_at-within, record_has_set, record_named}
+use Rattle.backward.proofs.StepLemmas.{over_failed, stays_as}
 use Rattle.backward.proofs.pass.collapse.Goals as goal
 
 pub judge-requires-clause-words : goal.judge-requires-clause-words
@@ -63,13 +65,32 @@ let_go-requires g c =
     subst (λ (sets : List (List Bool)). IfSome c.args.rec (λ r. r < length sets)) (sym (c.in_ok-list_record.ensures.lists ∙ c.judge.ensures.lists))
     (record_has_set c.args.rec program.listing.records (length f.lists) lists.size (record_named program c.args.rec c.requires.step.is_record))
 
-pub returns-clause-passed : goal.returns-clause-passed
-returns-clause-passed g c =
+pub returns-in_err-judge : goal.returns-in_err-judge
+returns-in_err-judge g c = over_failed (err_from_is_err_and c.from_residual.result c.from_residual.ensures.1).1 refl (stays_as c.judge.ensures.settled c.judge.ensures.keeps c.judge.ensures.known) refl
+
+pub returns-in_err-list_record : goal.returns-in_err-list_record
+returns-in_err-list_record g c =
+    let e = c.list_record.ensures in
+    over_failed (err_from_is_err_and c.from_residual-in_err-list_record.result c.from_residual-in_err-list_record.ensures.1).1 refl (stays_as (e.settled ∙ c.judge.ensures.settled) (e.keeps ∙ c.judge.ensures.keeps) (e.known ∙ c.judge.ensures.known)) refl
+
+pub returns-in_err-note_flip : goal.returns-in_err-note_flip
+returns-in_err-note_flip g c =
+    let e = c.list_record.ensures in
+    over_failed (err_from_is_err_and c.from_residual-in_err-note_flip.result c.from_residual-in_err-note_flip.ensures.1).1 refl (stays_as (e.settled ∙ c.judge.ensures.settled) (e.keeps ∙ c.judge.ensures.keeps) (e.known ∙ c.judge.ensures.known)) c.note_flip.ensures.store
+
+pub returns-in_err-undo_collapse : goal.returns-in_err-undo_collapse
+returns-in_err-undo_collapse g c =
+    let e = c.list_record.ensures in
+    over_failed (err_from_is_err_and c.from_residual-in_err-undo_collapse.result c.from_residual-in_err-undo_collapse.ensures.1).1 refl (stays_as (e.settled ∙ c.judge.ensures.settled) (e.keeps ∙ c.judge.ensures.keeps) (e.known ∙ c.judge.ensures.known)) c.note_flip.ensures.store
+
+pub returns : goal.returns
+returns g c =
     let program = c.args.program.now in
     let at = c.args.at.now in
     let f = c.args.found.now in
     let place = at.walk.place in
     let tracked = g.T.Tracker.tracked at.tracker in
+    let holds = g.L.LineStore.holds in
     let fits = c.well_formed-2.ensures.listing in
     let now = c.let_go.new.self in
     let settled = c.list_record.ensures.settled ∙ c.judge.ensures.settled in
@@ -80,21 +101,25 @@ returns-clause-passed g c =
     (λ e. ap (λ l. opened (length (targets_of program.listing)) l.items) (c.let_go.ensures.latest ∙ c.list_record.ensures.latest)
     ∙ subst (λ n. opened n c.judge.new.self.latest.items ≡ noted (f.left - 1) (anticommuting c.args.terms.now tracked) (opened n f.latest.items)) c.target_count-targets.ensures.count (c.in_ok-judge.ensures.latest e))
     (λ e. c.let_go.ensures.left ∙ (c.list_record.ensures.left ∙ c.in_ok-judge.ensures.left e)) in
+    let keeps = c.list_record.ensures.keeps ∙ c.judge.ensures.keeps in
+    let line = c.as_slice.ensures.value ∙ (c.in_ok-list_record.ensures.hit ∙ ap (λ l. members_at l c.args.rec) c.judge.ensures.lists) in
     record {
-      within = omega (arith, c.requires.passed.within);
-      words = collapse_words program place c.args.terms.now c.args.reset c.args.rec c.args.flip tracked f fits c.requires.step c.requires.passed c.as_slice-2.result.now _ hit (c.in_ok-undo_collapse.ensures ∙ ap (undone_collapse c.as_slice-2.result.now c.args.terms.now c.args.reset) c.judge.ensures.words);
-      lists = c.let_go.ensures.lists program.listing place (collapse_keeps program place c.args.terms.now c.args.reset c.args.rec c.args.flip tracked f fits c.requires.step c.requires.passed _ known)
-          (holds_same program.listing _ _ place _ _ _ _ settled known lists (collapse_lists program place c.args.terms.now c.args.reset c.args.rec c.args.flip tracked f fits c.requires.step c.requires.passed));
-      judged = subst (λ s. IsJudged program.listing s place now.latest.items now.left) (sym (c.let_go.ensures.settled ∙ settled)) judged;
+      undone =
+          record {
+            walk = refl;
+            passed =
+                record {
+                  within = omega (arith, c.requires.passed.within);
+                  words = collapse_words program place c.args.terms.now c.args.reset c.args.rec c.args.flip tracked f fits c.requires.step c.requires.passed c.as_slice-2.result.now _ hit (c.in_ok-undo_collapse.ensures ∙ ap (undone_collapse c.as_slice-2.result.now c.args.terms.now c.args.reset) c.judge.ensures.words);
+                  lists = c.let_go.ensures.lists program.listing place (collapse_keeps program place c.args.terms.now c.args.reset c.args.rec c.args.flip tracked f fits c.requires.step c.requires.passed _ known)
+                      (holds_same program.listing _ _ place _ _ _ _ settled known lists (collapse_lists program place c.args.terms.now c.args.reset c.args.rec c.args.flip tracked f fits c.requires.step c.requires.passed));
+                  judged = subst (λ s. IsJudged program.listing s place now.latest.items now.left) (sym (c.let_go.ensures.settled ∙ settled)) judged;
+                };
+            stays = record { settled = c.let_go.ensures.settled ∙ settled; keeps = c.let_go.ensures.keeps ∙ keeps; known = λ e. c.let_go.ensures.known (keeps ∙ e) ∙ known };
+          };
+      lines =
+          subst (Gives (holds c.args.lines.now) (holds c.note_flip.new.lines))
+          (collapse_line program place c.args.terms.now c.args.reset c.args.rec c.args.flip tracked f fits c.requires.step c.requires.passed c.as_slice.result.now line)
+          c.in_ok-note_flip.ensures.lines;
+      store = c.note_flip.ensures.store;
     }
-
-pub returns-clause-lines : goal.returns-clause-lines
-returns-clause-lines g c =
-    let program = c.args.program.now in
-    let at = c.args.at.now in
-    let f = c.args.found.now in
-    let holds = g.L.LineStore.holds in
-    let hit = c.as_slice.ensures.value ∙ (c.in_ok-list_record.ensures.hit ∙ ap (λ l. members_at l c.args.rec) c.judge.ensures.lists) in
-    subst (Gives (holds c.args.lines.now) (holds c.note_flip.new.lines))
-    (collapse_line program at.walk.place c.args.terms.now c.args.reset c.args.rec c.args.flip (g.T.Tracker.tracked at.tracker) f c.well_formed-2.ensures.listing c.requires.step c.requires.passed c.as_slice.result.now hit)
-    c.in_ok-note_flip.ensures.lines

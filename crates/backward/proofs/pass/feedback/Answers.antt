@@ -1,16 +1,24 @@
 use Rattle.std.proofs.Common.{◌≡◌, ◌+◌, ◌<◌, ◌∷◌, [], List, length, drop, get_or, refl, subst, sym, ◌∙◌, arith}
 use Rattle.std.specs.Prelude.{All}
-use Rattle.std.proofs.lemmas.Result.{on_ok_weaker}
+use Rattle.std.proofs.lemmas.Result.{err_from_is_err_and, on_ok_weaker}
 use Rattle.step_model.specs.declared.step.Term.{Term}
 use Rattle.step_model.specs.Targets.{targets_of}
 use Rattle.backward.proofs.PassPlaces.{hit_in_range}
 use Rattle.backward.proofs.PassSteps.{passed-fed, passed-feedback, words_of_size}
+use Rattle.backward.proofs.StepLemmas.{stays_as, undone_failed}
 use Rattle.backward.proofs.pass.feedback.Goals as goal
 
-pub returns-then-found-clause-passed : goal.returns-then-found-clause-passed
-returns-then-found-clause-passed g c =
+pub returns-then-found : goal.returns-then-found
+returns-then-found g c =
     let at = c.args.at.now in
-    passed-feedback c.args.program.now.listing at.walk.place (g.T.Tracker.tracked at.tracker) c.args.found.now c.requires.passed c.args.term c.args.rec _ c.requires.step c.if-found.true refl
+    record {
+      walk = refl;
+      passed = passed-feedback c.args.program.now.listing at.walk.place (g.T.Tracker.tracked at.tracker) c.args.found.now c.requires.passed c.args.term c.args.rec _ c.requires.step c.if-found.true refl;
+      stays = stays_as refl refl refl;
+    }
+
+pub returns-in_err-hit : goal.returns-in_err-hit
+returns-in_err-hit g c = undone_failed (err_from_is_err_and c.from_residual.result c.from_residual.ensures.1).1 refl (stays_as refl refl refl)
 
 pub toggle_each-requires-clause-targets : goal.toggle_each-requires-clause-targets
 toggle_each-requires-clause-targets g c =
@@ -25,10 +33,15 @@ toggle_each-requires-clause-targets g c =
     (subst (All (λ t. t < length (targets_of program))) (sym (c.as_slice.ensures.value ∙ c.in_ok-hit.ensures.hit))
     (hit_in_range program terms tracked (words_of_size program (drop (at.walk.place + 1) program.steps) tracked c.requires.passed.words)))
 
-pub returns-clause-passed : goal.returns-clause-passed
-returns-clause-passed g c =
+pub returns : goal.returns
+returns g c =
     let at = c.args.at.now in
-    on_ok_weaker c.toggle_each.result
-    (λ h. let p = passed-fed c.args.program.now.listing at.walk.place (g.T.Tracker.tracked at.tracker) c.args.found.now c.requires.passed c.args.term c.args.rec _ c.toggle_each.new.self c.as_slice.result.now c.requires.step c.if-found.false c.hit.ensures.same (c.as_slice.ensures.value ∙ c.in_ok-hit.ensures.hit) h in
-    record { within = p.0; words = p.1; lists = p.2; judged = p.3 })
-    c.toggle_each.ensures
+    record {
+      walk = refl;
+      passed =
+          on_ok_weaker c.toggle_each.result
+          (λ h. let p = passed-fed c.args.program.now.listing at.walk.place (g.T.Tracker.tracked at.tracker) c.args.found.now c.requires.passed c.args.term c.args.rec _ c.toggle_each.new.self c.as_slice.result.now c.requires.step c.if-found.false c.hit.ensures.same (c.as_slice.ensures.value ∙ c.in_ok-hit.ensures.hit) h in
+          record { within = p.0; words = p.1; lists = p.2; judged = p.3 })
+          c.toggle_each.ensures;
+      stays = stays_as refl refl refl;
+    }

@@ -1,9 +1,8 @@
-use Rattle.std.proofs.Common.{subst}
+use Rattle.std.proofs.Common.{refl, subst}
 use Rattle.std.proofs.lemmas.Result.{on_ok_weaker}
-use Rattle.programs.specs.Listed.{listed}
 use Rattle.programs.specs.Named.{IsStepOf}
-use Rattle.backward.specs.private.Passes.{IsStepAt}
 use Rattle.backward.proofs.PassSteps.{letter_at_place, passed-one, passed-two}
+use Rattle.backward.proofs.StepLemmas.{at_step, over_quiet, stays_as}
 use Rattle.backward.proofs.pass.go_over.Goals as goal
 
 pub collapse-requires-clause-step : goal.collapse-requires-clause-step
@@ -11,22 +10,24 @@ collapse-requires-clause-step g c =
     let program = c.args.program.now in
     let place = c.args.at.now.walk.place in
     let s = c.in-Collapse in
-    let at = subst (λ st. IsStepAt program.listing place (listed program.listing.qubits program.products st)) s.is c.requires.step in
+    let at = at_step program place s.is c.requires.step in
     let named = subst (IsStepOf program) s.is c.requires.named in
     letter_at_place program place s.letter s.qubit s.reset s.inverted s.rec s.flip c.reset_qubit-reset.result at c.reset_qubit-reset.ensures named.1 named.2 named.3
 
-pub returns-in-One-clause-passed : goal.returns-in-One-clause-passed
-returns-in-One-clause-passed g c =
-    let program = c.args.program.now in
+pub returns-in-One : goal.returns-in-One
+returns-in-One g c =
     let at = c.args.at.now in
-    let s = c.in-One in
-    let there = subst (λ st. IsStepAt program.listing at.walk.place (listed program.listing.qubits program.products st)) s.is c.requires.step in
-    on_ok_weaker c.undo1.result (λ h. passed-one program at.walk.place (g.T.Tracker.tracked at.tracker) c.args.found.now c.requires.passed s.gate s.q _ there h) c.undo1.ensures
+    let there = at_step c.args.program.now at.walk.place c.in-One.is c.requires.step in
+    let passed = on_ok_weaker c.undo1.result (λ h. passed-one c.args.program.now at.walk.place (g.T.Tracker.tracked at.tracker) c.args.found.now c.requires.passed c.in-One.gate c.in-One.q _ there h) c.undo1.ensures in
+    over_quiet c.args.lines.now c.undo1.result _ there refl (record { walk = refl; passed = passed; stays = stays_as refl refl refl })
 
-pub returns-in-Two-clause-passed : goal.returns-in-Two-clause-passed
-returns-in-Two-clause-passed g c =
-    let program = c.args.program.now in
+pub returns-in-Two : goal.returns-in-Two
+returns-in-Two g c =
     let at = c.args.at.now in
-    let s = c.in-Two in
-    let there = subst (λ st. IsStepAt program.listing at.walk.place (listed program.listing.qubits program.products st)) s.is c.requires.step in
-    on_ok_weaker c.undo2.result (λ h. passed-two program at.walk.place (g.T.Tracker.tracked at.tracker) c.args.found.now c.requires.passed s.gate s.a s.b _ there h) c.undo2.ensures
+    let there = at_step c.args.program.now at.walk.place c.in-Two.is c.requires.step in
+    let passed = on_ok_weaker c.undo2.result (λ h. passed-two c.args.program.now at.walk.place (g.T.Tracker.tracked at.tracker) c.args.found.now c.requires.passed c.in-Two.gate c.in-Two.a c.in-Two.b _ there h) c.undo2.ensures in
+    over_quiet c.args.lines.now c.undo2.result _ there refl (record { walk = refl; passed = passed; stays = stays_as refl refl refl })
+
+pub returns-in-Feedback : goal.returns-in-Feedback
+returns-in-Feedback g c =
+    over_quiet c.args.lines.now c.feedback.result _ (at_step c.args.program.now c.args.at.now.walk.place c.in-Feedback.is c.requires.step) refl c.feedback.ensures

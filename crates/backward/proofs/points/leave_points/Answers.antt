@@ -1,7 +1,8 @@
 use Rattle.std.proofs.Common.{◌<◌, ◌≤◌, length, get_or, refl, ap, subst, sym, ◌∙◌, arith}
 use Rattle.std.specs.Prelude.{All}
 use Rattle.backward.specs.private.Points.{ArePoints}
-use Rattle.backward.proofs.PointLemmas.{first_point, left_behind, next_point, no_points, stays_on, step_before}
+use Rattle.backward.proofs.PointLemmas.{first_point, left_behind, next_point, no_points, step_before}
+use Rattle.backward.proofs.StepLemmas.{stays_as, stays_on}
 use Rattle.backward.proofs.points.leave_points.Goals as goal
 use Rattle.backward.proofs.points.leave_points.Goals.{then-place-from+in_ok-leave, else-place-from}
 
@@ -19,7 +20,7 @@ loop-at-init g c =
             above = c.requires.from;
             below = omega arith;
             passed = c.requires.passed;
-            stays = record { settled = refl; keeps = refl; known = λ e. refl };
+            stays = stays_as refl refl refl;
             points =
                 subst (ArePoints program c.args.from at.walk.place) (sym items)
                 (first_point program tracked c.args.from at.walk.place at c.args.found.now _ _ none refl (omega (arith, w.if-place-from.true, c.place.ensures)) c.requires.program c.requires.passed w.in_ok-leave.ensures);
@@ -34,7 +35,7 @@ loop-at-init g c =
             above = c.requires.from;
             below = omega arith;
             passed = c.requires.passed;
-            stays = record { settled = refl; keeps = refl; known = λ e. refl };
+            stays = stays_as refl refl refl;
             points = subst (ArePoints program c.args.from at.walk.place) (sym items) (no_points program c.args.from at.walk.place (omega (arith, w.if-place-from.false, c.place.ensures, c.requires.from)));
             behind = λ k d lt. absurd (omega (arith, lt, ap length items));
           }

@@ -1,9 +1,11 @@
 use Rattle.std.proofs.Common.{inl, inr, refl, ap, subst, sym, ◌∙◌, arith}
-use Rattle.std.specs.Prelude.{IfNone}
-use Rattle.backward.specs.Places.{NoneIsRandom}
+use Rattle.std.specs.Prelude.{IfNone, IfSome}
+use Rattle.std.proofs.lemmas.Result.{err_from_is_err_and}
+use Rattle.backward.specs.Places.{IsLowestRandom, NoneIsRandom}
 use Rattle.backward.specs.private.Passes.{records_before}
 use Rattle.backward.specs.private.Points.{AreParts, IsFor, first_place}
-use Rattle.backward.proofs.StretchLemmas.{on_err_any, passed_for, ready_first}
+use Rattle.backward.proofs.AnswerLemmas.{failed_answer}
+use Rattle.backward.proofs.StretchLemmas.{passed_for, ready_first}
 use Rattle.backward.proofs.writing.push_from_end.Goals as goal
 
 pub random_target-requires-clause-first : goal.random_target-requires-clause-first
@@ -37,16 +39,36 @@ push_model-requires-clause-ready g c =
     (omega (arith, part.enough, ap (records_before program) part.points.first))
     refl (c.random_target.ensures.keeps ∙ c.in_ok-parts.ensures.keeps) c.random_target.ensures.known c.random_target.ensures.lists
 
-pub returns-in_err-parts-clause-some : goal.returns-in_err-parts-clause-some
-returns-in_err-parts-clause-some g c = on_err_any c.from_residual.result (inl (refl, refl))
+pub returns-in_err-parts : goal.returns-in_err-parts
+returns-in_err-parts g c = failed_answer (err_from_is_err_and c.from_residual.result c.from_residual.ensures.1).1 (inl (refl, refl))
 
-pub returns-in_err-random-clause-some : goal.returns-in_err-random-clause-some
-returns-in_err-random-clause-some g c = on_err_any c.from_residual-in_err-random.result (inl (refl, refl))
+pub returns-in_err-random : goal.returns-in_err-random
+returns-in_err-random g c = failed_answer (err_from_is_err_and c.from_residual-in_err-random.result c.from_residual-in_err-random.ensures.1).1 (inl (refl, refl))
 
-pub returns-in_err-push_model-in-None-clause-some : goal.returns-in_err-push_model-in-None-clause-some
-returns-in_err-push_model-in-None-clause-some g c =
-    on_err_any c.from_residual-in_err-push_model-in-None.result
+pub returns-in-Some : goal.returns-in-Some
+returns-in-Some g c =
+    record {
+      none = tt;
+      text = tt;
+      lowest = subst (λ o. IfSome o (λ random. IsLowestRandom c.args.program.now.listing random.0 random.1)) c.in-Some.is c.in_ok-random.ensures.lowest;
+      nothing = (refl, refl);
+      some = tt;
+    }
+
+pub returns-in_err-push_model-in-None : goal.returns-in_err-push_model-in-None
+returns-in_err-push_model-in-None g c =
+    failed_answer (err_from_is_err_and c.from_residual-in_err-push_model-in-None.result c.from_residual-in_err-push_model-in-None.ensures.1).1
     (inr (
       subst (λ o. IfNone o (NoneIsRandom c.args.program.now.listing)) c.in-None.is c.in_ok-random.ensures.none,
       c.in_err-push_model-in-None.ensures.some,
     ))
+
+pub returns-in_ok-push_model-in-None : goal.returns-in_ok-push_model-in-None
+returns-in_ok-push_model-in-None g c =
+    record {
+      none = subst (λ o. IfNone o (NoneIsRandom c.args.program.now.listing)) c.in-None.is c.in_ok-random.ensures.none;
+      text = c.in_ok-push_model-in-None.ensures.text;
+      lowest = tt;
+      nothing = tt;
+      some = tt;
+    }

@@ -1,10 +1,9 @@
-use Rattle.std.proofs.Common.{map, ap, sym, ◌∙◌}
+use Rattle.std.proofs.Common.{map, refl, ap, ◌∙◌}
 use Rattle.std.proofs.lemmas.Result.{on_ok_weaker}
 use Rattle.pauli_word.specs.declared.letter.Letter.TheVariants.{Y, Z}
 use Rattle.pauli_word.specs.Bits.{letters_of}
-use Rattle.pauli_word.proofs.BitWords.{length-letters_of}
 use Rattle.trackers.specs.private.Transposed.{combined}
-use Rattle.trackers.proofs.ColumnLemmas.{rows_long}
+use Rattle.trackers.proofs.ColumnLemmas.{rows_long, stays_long}
 use Rattle.trackers.proofs.MultiplyLemmas.{z_added_rows}
 use Rattle.trackers.proofs.column.Column.add_x_to_z.Goals as goal
 
@@ -17,10 +16,7 @@ add-requires-clause-spare g c =
 pub returns-clause-len : goal.returns-clause-len
 returns-clause-len g c =
     let bits = g.S.TargetSet.bits in
-    let sx = bits c.self.inside.x in
-    let sz = bits c.self.inside.z in
-    let here = rows_long sx sz c.args.self.now c.self.invariant c.self.view_is in
-    length-letters_of sx (bits c.add.new.self) (sym (c.add.ensures.len ∙ sym c.self.invariant)) ∙ sym here
+    stays_long (bits c.self.inside.x) (bits c.self.inside.z) (bits c.self.inside.x) (bits c.add.new.self) c.args.self.now c.self.invariant c.self.view_is refl c.add.ensures.len
 
 pub returns-clause-ok : goal.returns-clause-ok
 returns-clause-ok g c =

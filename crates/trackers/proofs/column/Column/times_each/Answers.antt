@@ -2,10 +2,9 @@ use Rattle.std.proofs.Common.{◌<◌, length, refl, ap, ap₂, subst, sym, ◌�
 use Rattle.std.specs.Prelude.{All}
 use Rattle.std.proofs.lemmas.Result.{on_ok_weaker}
 use Rattle.pauli_word.specs.Bits.{letters_of}
-use Rattle.pauli_word.proofs.BitWords.{length-letters_of}
 use Rattle.trackers.specs.TargetSets.{row_of_set}
 use Rattle.trackers.specs.private.Transposed.{xor_where, times_each}
-use Rattle.trackers.proofs.ColumnLemmas.{rows_long}
+use Rattle.trackers.proofs.ColumnLemmas.{rows_long, stays_long}
 use Rattle.trackers.proofs.TimesAll.{times_by_set}
 use Rattle.trackers.proofs.column.Column.times_each.Goals as goal
 
@@ -28,8 +27,7 @@ toggle_where-requires-clause-spare g c =
 pub returns-in_err-toggle_where-clause-len : goal.returns-in_err-toggle_where-clause-len
 returns-in_err-toggle_where-clause-len g c =
     let bits = g.S.TargetSet.bits in
-    let here = rows_long (bits c.self.inside.x) (bits c.self.inside.z) c.args.self.now c.self.invariant c.self.view_is in
-    length-letters_of (bits c.toggle_where.new.set) (bits c.self.inside.z) (c.toggle_where.ensures.len ∙ c.self.invariant) ∙ (c.toggle_where.ensures.len ∙ sym here)
+    stays_long (bits c.self.inside.x) (bits c.self.inside.z) (bits c.toggle_where.new.set) (bits c.self.inside.z) c.args.self.now c.self.invariant c.self.view_is c.toggle_where.ensures.len refl
 
 pub toggle_where-requires-2-clause-targets : goal.toggle_where-requires-2-clause-targets
 toggle_where-requires-2-clause-targets g c =
@@ -52,8 +50,7 @@ toggle_where-requires-2-clause-spare g c =
 pub returns-clause-len : goal.returns-clause-len
 returns-clause-len g c =
     let bits = g.S.TargetSet.bits in
-    let here = rows_long (bits c.self.inside.x) (bits c.self.inside.z) c.args.self.now c.self.invariant c.self.view_is in
-    length-letters_of (bits c.toggle_where.new.set) (bits c.toggle_where-2.new.set) (c.toggle_where.ensures.len ∙ (c.self.invariant ∙ sym c.toggle_where-2.ensures.len)) ∙ (c.toggle_where.ensures.len ∙ sym here)
+    stays_long (bits c.self.inside.x) (bits c.self.inside.z) (bits c.toggle_where.new.set) (bits c.toggle_where-2.new.set) c.args.self.now c.self.invariant c.self.view_is c.toggle_where.ensures.len c.toggle_where-2.ensures.len
 
 pub returns-clause-ok : goal.returns-clause-ok
 returns-clause-ok g c =

@@ -1,51 +1,27 @@
-use Rattle.std.proofs.Common.{◌<◌, [], length, refl, ap, ◌∙◌, arith}
+use Rattle.std.proofs.Common.{length, refl, ap, subst, sym, ◌∙◌}
 use Rattle.std.proofs.lemmas.List.{with_items_is}
-use Rattle.std.proofs.lemmas.Result.{on_ok_weaker}
-use Rattle.trackers.specs.Tracked.{Tracked, each_word}
-use Rattle.trackers.specs.private.Transposed.{multiplied_at, multiplied_columns, tracked_of}
+use Rattle.trackers.specs.private.Transposed.{ArePlaces, multiplied_at, multiplied_columns}
+use Rattle.trackers.proofs.LengthLemmas.{at_columns, given_back, lent_long, words_changed}
 use Rattle.trackers.proofs.MultiplyLemmas.{tracked_multiplied}
-use Rattle.trackers.proofs.LengthLemmas.{lent_long, returned_long}
 use Rattle.trackers.proofs.words.Words.multiply.Goals as goal
 
-pub multiply_pair-requires-clause-first : goal.multiply_pair-requires-clause-first
-multiply_pair-requires-clause-first g c = omega (arith, c.as_mut_slice.ensures.len, ap (λ (t : Tracked). t.qubits) c.self.view_is, c.requires.first_in_range)
-
-pub multiply_pair-requires-clause-second : goal.multiply_pair-requires-clause-second
-multiply_pair-requires-clause-second g c = omega (arith, c.as_mut_slice.ensures.len, ap (λ (t : Tracked). t.qubits) c.self.view_is, c.requires.second_in_range)
+pub multiply_pair-requires-clause-places : goal.multiply_pair-requires-clause-places
+multiply_pair-requires-clause-places g c =
+    subst (λ n. ArePlaces n c.args.a c.args.b) (sym (ap length c.as_mut_slice-columns.ensures.value))
+    (at_columns c.self.inside.targets c.self.inside.columns.items c.args.self.now c.self.view_is c.requires.places)
 
 pub multiply_pair-requires-clause-long : goal.multiply_pair-requires-clause-long
 multiply_pair-requires-clause-long g c =
-    lent_long c.self.inside.targets c.self.inside.columns.items _ (g.S.TargetSet.bits c.self.inside.spare) c.as_mut_slice.ensures.value c.self.invariant.spare_long c.self.invariant.columns_long
+    lent_long c.self.inside.targets c.self.inside.columns.items _ (g.S.TargetSet.bits c.self.inside.spare) c.as_mut_slice-columns.ensures.value c.self.invariant.spare_long c.self.invariant.columns_long
 
 pub invariant_of-self : goal.invariant_of-self
 invariant_of-self g c =
-    record {
-      columns_long = returned_long c.self.inside.targets _ c.multiply_pair.new.columns (g.S.TargetSet.bits c.self.inside.spare)
-          (with_items_is c.self.inside.columns c.multiply_pair.new.columns (c.multiply_pair.auto.columns ∙ c.as_mut_slice.ensures.len))
-          c.self.invariant.spare_long c.multiply_pair.ensures.long;
-      first_long = c.self.invariant.first_long;
-      second_long = c.self.invariant.second_long;
-      set_long = c.self.invariant.set_long;
-      spare_long = c.multiply_pair.ensures.spare ∙ c.self.invariant.spare_long;
-      few = c.self.invariant.few;
-    }
+    given_back _ c.multiply_pair.new.columns c.self.inside.first (g.S.TargetSet.bits c.multiply_pair.new.spare) c.self.invariant
+    (with_items_is c.self.inside.columns c.multiply_pair.new.columns (c.multiply_pair.auto.columns ∙ c.as_mut_slice-columns.ensures.len))
+    c.multiply_pair.ensures.long refl c.multiply_pair.ensures.spare
 
 pub returns : goal.returns
 returns g c =
-    let m = c.self.inside.targets in
-    let columns = c.self.inside.columns.items in
-    let a = c.args.a in
-    let b = c.args.b in
-    let r = c.args.to_first in
-    let p = c.args.to_second in
-    let count = ap (λ (t : Tracked). t.qubits) c.self.view_is in
-    let ha : a < length columns = omega (arith, count, c.requires.first_in_range) in
-    let hb : b < length columns = omega (arith, count, c.requires.second_in_range) in
-    on_ok_weaker c.multiply_pair.result
-    (λ made.
-    ap (tracked_of m)
-    (with_items_is c.self.inside.columns c.multiply_pair.new.columns (c.multiply_pair.auto.columns ∙ c.as_mut_slice.ensures.len)
-    ∙ (made ∙ ap (multiplied_columns a b r p) c.as_mut_slice.ensures.value))
-    ∙ (tracked_multiplied m columns a b r p _ _ ha hb (c.self.invariant.columns_long a [] ha) (c.self.invariant.columns_long b [] hb) refl refl
-    ∙ ap (each_word (multiplied_at a b r p)) c.self.view_is))
-    c.multiply_pair.ensures.columns
+    words_changed c.multiply_pair.result (multiplied_columns c.args.a c.args.b c.args.to_first c.args.to_second) (multiplied_at c.args.a c.args.b c.args.to_first c.args.to_second) c.args.self.now _ c.multiply_pair.new.columns _
+    c.self.invariant c.self.view_is c.requires.places (tracked_multiplied c.self.inside.targets c.self.inside.columns.items c.args.a c.args.b c.args.to_first c.args.to_second)
+    c.as_mut_slice-columns.ensures.value (with_items_is c.self.inside.columns c.multiply_pair.new.columns (c.multiply_pair.auto.columns ∙ c.as_mut_slice-columns.ensures.len)) c.multiply_pair.ensures.columns

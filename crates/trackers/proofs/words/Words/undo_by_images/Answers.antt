@@ -1,9 +1,10 @@
-use Rattle.std.proofs.Common.{◌≡◌, ◌<◌, List, [], length, set, get_or, ap, ◌∙◌, arith, length-set}
+use Rattle.std.proofs.Common.{◌≡◌, List, [], length, set, get_or, ap, ◌∙◌, arith, length-set}
 use Rattle.std.specs.Prelude.{All}
 use Rattle.std.proofs.lemmas.List.Elements.{All-set}
 use Rattle.pauli_word.specs.declared.letter.Letter.{Letter}
-use Rattle.trackers.specs.Tracked.{Tracked, each_word, undone_two}
+use Rattle.trackers.specs.Tracked.{each_word, undone_two}
 use Rattle.trackers.specs.private.Transposed.{first_before, second_before}
+use Rattle.trackers.proofs.LengthLemmas.{at_columns}
 use Rattle.trackers.proofs.TransposedLemmas.{tracked_two}
 use Rattle.trackers.proofs.words.Words.undo_by_images.Goals as goal
 
@@ -13,16 +14,14 @@ invariant_of-self-2 g c =
     let columns = c.self.inside.columns.items in
     let a = c.args.a in
     let b = c.args.b in
-    let count = ap (λ (t : Tracked). t.qubits) c.self.view_is in
-    let ha : a < length columns = omega (arith, count, c.requires.first_in_range) in
-    let hb : b < length columns = omega (arith, count, c.requires.second_in_range) in
+    let places = at_columns m columns c.args.self.now c.self.view_is c.requires.places in
     let first : length c.swap.new.self ≡ m = ap length c.swap.ensures.first ∙ (c.image_pair.ensures.first_len ∙ c.self.invariant.first_long) in
     let second : length c.swap-2.new.self ≡ m = ap length c.swap-2.ensures.first ∙ (c.image_pair.ensures.second_len ∙ c.self.invariant.second_long) in
     let once : All (λ column. length column ≡ m) (set columns a c.swap.new.self) = All-set (λ column. length column ≡ m) columns a c.swap.new.self first c.self.invariant.columns_long in
     record {
       columns_long = All-set (λ column. length column ≡ m) (set columns a c.swap.new.self) b c.swap-2.new.self second once;
-      first_long = ap length c.swap.ensures.second ∙ (ap length c.index_mut.ensures.value ∙ c.self.invariant.columns_long a _ ha);
-      second_long = ap length c.swap-2.ensures.second ∙ (ap length c.index_mut-2.ensures.value ∙ once b _ (omega (arith, hb, length-set columns a c.swap.new.self)));
+      first_long = ap length c.swap.ensures.second ∙ (ap length c.index_mut.ensures.value ∙ c.self.invariant.columns_long a _ places.first);
+      second_long = ap length c.swap-2.ensures.second ∙ (ap length c.index_mut-2.ensures.value ∙ once b _ (omega (arith, places.second, length-set columns a c.swap.new.self)));
       set_long = c.self.invariant.set_long;
       spare_long = c.image_pair.ensures.spare ∙ c.self.invariant.spare_long;
       few = c.self.invariant.few;
@@ -34,11 +33,9 @@ returns g c =
     let columns = c.self.inside.columns.items in
     let a = c.args.a in
     let b = c.args.b in
-    let count = ap (λ (t : Tracked). t.qubits) c.self.view_is in
-    let ha : a < length columns = omega (arith, count, c.requires.first_in_range) in
-    let hb : b < length columns = omega (arith, count, c.requires.second_in_range) in
+    let places = at_columns m columns c.args.self.now c.self.view_is c.requires.places in
     let held : c.as_slice.result.now ≡ columns = c.as_slice.ensures.value in
     let first = c.swap.ensures.first ∙ (c.in_ok-image_pair.ensures.first ∙ ap (λ (l : List (List Letter)). first_before c.args.gate (get_or l a []) (get_or l b [])) held) in
     let second = c.swap-2.ensures.first ∙ (c.in_ok-image_pair.ensures.second ∙ ap (λ (l : List (List Letter)). second_before c.args.gate (get_or l a []) (get_or l b [])) held) in
-    tracked_two m columns a b c.args.gate c.swap.new.self c.swap-2.new.self ha hb (c.self.invariant.columns_long a [] ha) (c.self.invariant.columns_long b [] hb) first second
+    tracked_two m columns a b c.args.gate c.swap.new.self c.swap-2.new.self places.first places.second (c.self.invariant.columns_long a [] places.first) (c.self.invariant.columns_long b [] places.second) first second
     ∙ ap (each_word (undone_two c.args.gate a b)) c.self.view_is

@@ -1,0 +1,57 @@
+-- One step gone back over: where a call failed, and where the step has no fault.
+use Rattle.std.proofs.Common.{◌≡◌, ℕ, List, [], Result, Ok, Err, OnOk, refl, subst, sym, ◌∙◌}
+use Rattle.step_model.specs.ErrorModels.{ErrorLine}
+use Rattle.step_model.specs.Listing.{Listing, ListedStep}
+use Rattle.step_model.specs.WellFormed.{step_faults}
+use Rattle.programs.specs.Kept.{KeptProgram}
+use Rattle.programs.specs.Listed.{listed}
+use Rattle.programs.specs.declared.step.Step.{Step}
+use Rattle.backward.specs.declared.found.Found.{Found}
+use Rattle.backward.specs.declared.point.Point.{Point}
+use Rattle.backward.specs.private.Passes.{IsPassed, IsStepAt, Stays}
+use Rattle.backward.specs.private.Steps.{IsGoneOver, IsUndone}
+use Rattle.backward.proofs.PassSteps.{gives_none, no_line}
+use Rattle.trackers.specs.Tracked.{Tracked}
+
+-- ---- what stays
+pub stays_as : {A : Type 0} {old new : Found A} → new.settled ≡ old.settled → new.keeps ≡ old.keeps → new.known ≡ old.known → Stays old new
+stays_as settled keeps known = record { settled = settled; keeps = keeps; known = λ e. known }
+
+pub stays_on : {A : Type 0} (a b c : Found A) → Stays a b → Stays b c → Stays a c
+stays_on a b c h k =
+    record {
+      settled = k.settled ∙ h.settled;
+      keeps = k.keeps ∙ h.keeps;
+      known = λ e. k.known (h.keeps ∙ e) ∙ h.known e;
+    }
+
+pub passed_as : {A : Type 0} {program : Listing} {k m : ℕ} {t u : Tracked} {found : Found A} → k ≡ m → t ≡ u → IsPassed program m u found → IsPassed program k t found
+passed_as {program = program} {m = m} {t = t} {found = found} place words h = subst (λ k. IsPassed program k t found) (sym place) (subst (λ t. IsPassed program m t found) (sym words) h)
+
+-- ---- what a call that failed leaves
+on_ok_failed : {T E : Type 0} (P : Type 0) {r : Result T E} {y : E} → r ≡ Err y → OnOk r P
+on_ok_failed P e = subst (λ r. OnOk r P) (sym e) tt
+
+pub undone_failed : {A T U E : Type 0} {tracked : T → Tracked} {program : Listing} {from to : Point A T} {old new : Found A} {r : Result U E} {y : E} → r ≡ Err y → to.walk ≡ from.walk → Stays old new → IsUndone tracked program from to old new r
+undone_failed e walk stays = record { walk = walk; passed = on_ok_failed _ e; stays = stays }
+
+pub over_failed : {A T L U E : Type 0} {tracked : T → Tracked} {kept : L → KeptProgram} {holds : L → List ErrorLine → Type 0} {program : Listing} {from to : Point A T} {old new : Found A} {before after : L} {r : Result U E} {y : E}
+    → r ≡ Err y → to.walk ≡ from.walk → Stays old new → kept after ≡ kept before → IsGoneOver tracked kept holds program from to old new before after r
+over_failed e walk stays store = record { undone = undone_failed e walk stays; lines = on_ok_failed _ e; store = store }
+
+-- ---- a step that has no fault gives no line
+pub at_step : (program : KeptProgram) (place : ℕ) {step known : Step} → step ≡ known → IsStepAt program.listing place (listed program.listing.qubits program.products step) → IsStepAt program.listing place (listed program.listing.qubits program.products known)
+at_step program place is = subst (λ step. IsStepAt program.listing place (listed program.listing.qubits program.products step)) is
+
+on_ok_any : {T E P : Type 0} (r : Result T E) → P → OnOk r P
+on_ok_any (Ok x) p = p
+on_ok_any (Err e) p = tt
+
+pub over_quiet : {A T L U E : Type 0} {tracked : T → Tracked} {kept : L → KeptProgram} {holds : L → List ErrorLine → Type 0} {program : Listing} {from to : Point A T} {old new : Found A} (lines : L) (r : Result U E) (step : ListedStep)
+    → IsStepAt program from.walk.place step → step_faults step ≡ [] → IsUndone tracked program from to old new r → IsGoneOver tracked kept holds program from to old new lines lines r
+over_quiet {holds = holds} {program = program} {from = from} lines r step at none undone =
+    record {
+      undone = undone;
+      lines = on_ok_any r (gives_none (holds lines) _ (no_line program from.walk.place step at none));
+      store = refl;
+    }
