@@ -1,17 +1,14 @@
 -- The steps of the loops that multiply words of letters: words without letters, which are passed over, and those ahead.
-use Rattle.std.proofs.Common.{◌≡◌, ℕ, zero, suc, ◌+◌, ◌*◌, ◌/◌, ◌<◌, ◌≤◌, ◌%◌, Bool, true, false, List, [], ◌∷◌, length, get_or, refl, ap, ap₂, sym, ◌∙◌, arith, ⊎_elim, ◌-◌, bit_or, bit_xor}
+use Rattle.std.proofs.Common.{◌≡◌, ℕ, zero, suc, ◌+◌, ◌<◌, ◌≤◌, ◌%◌, Bool, true, false, List, [], ◌∷◌, length, get_or, refl, ap, ap₂, sym, ◌∙◌, arith, ◌-◌, bit_or, bit_xor}
 use Rattle.std.specs.Int.Bits.{xor_zero_r}
 use Rattle.std.specs.Simd.Lanes.{zip2, chunk, put_chunk, fold_l}
-use Rattle.std.proofs.lemmas.Bool.{cases_lt}
-use Rattle.std.proofs.lemmas.List.{get_or_past}
 use Rattle.std.proofs.lemmas.Nat.{le_or_l, le_or_r}
 use Rattle.std.proofs.lemmas.Simd.{length-chunk, length-zip2, get_or-zip2, get_or-put_chunk_at}
 use Rattle.bit_rows.specs.Rows.{letter_phase}
 use Rattle.bit_rows.specs.private.Spans.{XorsWithin}
 use Rattle.bit_rows.specs.private.Words.{bit_of}
-use Rattle.bit_rows.specs.private.WordTotals.{word_phase, words_phase, carried}
+use Rattle.bit_rows.specs.private.WordTotals.{word_phase, carried}
 use Rattle.bit_rows.proofs.BitLaws.{bit_of-zero}
-use Rattle.bit_rows.proofs.Carries.{words_phase-zero, carried-zero}
 use Rattle.bit_rows.proofs.Sums.{total_none}
 
 blank_phase : (a b : Bool) → letter_phase a b false false ≡ 0
@@ -86,33 +83,3 @@ pub blank_block : (words : List ℕ) (at : ℕ) → ((k : ℕ) → k < 4 → get
 blank_block words at blank k h l =
     let e : at + (k - at) ≡ k = omega (arith, h) in
     ap (λ j. get_or words j 0) (sym e) ∙ blank (k - at) (omega (arith, h, l))
-
--- the words ahead of the blocks multiplied are as they were
-pub ahead_phase : (xa xa' za za' xb zb : List ℕ) (at k : ℕ) → XorsWithin xa xb xa' 0 at → XorsWithin za zb za' 0 at
-    → word_phase (get_or xa' (at + k) 0) (get_or za' (at + k) 0) (get_or xb (at + k) 0) (get_or zb (at + k) 0)
-    ≡ word_phase (get_or xa (at + k) 0) (get_or za (at + k) 0) (get_or xb (at + k) 0) (get_or zb (at + k) 0)
-ahead_phase xa xa' za za' xb zb at k x z =
-    ap₂ (λ v w. word_phase v w (get_or xb (at + k) 0) (get_or zb (at + k) 0)) (x.above (at + k) (omega arith)) (z.above (at + k) (omega arith))
-
--- fewer words than a block
-pub no_blocks : (xa za xb zb : List ℕ) (n : ℕ) → n / 4 ≡ 0 → carried 0 0 % 4 ≡ words_phase xa za xb zb (n / 4 * 4) % 4
-no_blocks xa za xb zb n h =
-    let none : n / 4 * 4 ≡ 0 = omega (arith, h) in
-    ap (λ s. s % 4) (carried-zero ∙ sym (ap (words_phase xa za xb zb) none ∙ words_phase-zero xa za xb zb))
-
--- the same at the next word
-pub here_phase : (xa xa' za za' xb zb : List ℕ) (i : ℕ) → XorsWithin xa xb xa' 0 i → XorsWithin za zb za' 0 i
-    → word_phase (get_or xa' i 0) (get_or za' i 0) (get_or xb i 0) (get_or zb i 0) ≡ word_phase (get_or xa i 0) (get_or za i 0) (get_or xb i 0) (get_or zb i 0)
-here_phase xa xa' za za' xb zb i x z =
-    ap₂ (λ v w. word_phase v w (get_or xb i 0) (get_or zb i 0)) (x.above i (omega arith)) (z.above i (omega arith))
-
--- all words multiplied
-pub all_multiplied : (first second new : List ℕ) (i : ℕ) → XorsWithin first second new 0 i → length first ≤ i → length second ≤ i → (k : ℕ) → get_or new k 0 ≡ bit_xor (get_or first k 0) (get_or second k 0)
-all_multiplied first second new i x p q k =
-    ⊎_elim
-    (λ (h : k < i). x.inside k (omega arith) h)
-    (λ (h : i ≤ k).
-    let a : get_or first k 0 ≡ 0 = get_or_past first k 0 (omega (arith, h, p)) in
-    let b : get_or second k 0 ≡ 0 = get_or_past second k 0 (omega (arith, h, q)) in
-    x.above k h ∙ a ∙ sym (ap (λ v. bit_xor v (get_or second k 0)) a ∙ ap (λ v. bit_xor 0 v) b))
-    (cases_lt k i)

@@ -6,5 +6,8 @@ pub mod Carries
 pub mod Blocks
 pub mod VectorLanes
 pub mod Blanks
+pub mod Multiplying
 pub mod Marked
+pub mod BitsPut
+pub mod RowsSummed
 pub mod LaneLaws

@@ -1,4 +1,5 @@
 pub mod Marks
+pub mod Multiplied
 pub mod Spans
 pub mod Totals
 pub mod WordTotals

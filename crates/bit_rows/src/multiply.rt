@@ -1,10 +1,11 @@
 // The product of two Pauli words in one pass: the x bits and the z bits of the first, lists of machine words, become
 // those of the product, and the power of i is answered. It goes four machine words at a time, so that the carry words
 // stay in registers of 16 bytes, and skips the blocks without marks, in which the second word has no letters.
-ghost use Rattle.std.specs.Prelude.{◌≡◌, ℕ, ◌+◌, ◌*◌, ◌/◌, ◌%◌, ◌<◌, ◌≤◌, true, length, slice_index, bit_xor};
-ghost use Rattle.bit_rows.specs.private.Marks.{BlanksBelow, MarksOnes};
+ghost use Rattle.std.specs.Prelude.{◌≡◌, ℕ, ◌+◌, ◌*◌, ◌/◌, ◌%◌, ◌<◌, ◌≤◌, true, length, slice_index};
+ghost use Rattle.bit_rows.specs.private.Marks.{BlanksBelow};
+ghost use Rattle.bit_rows.specs.private.Multiplied.{HaveOneLength, MarksBoth, Multiplies, MultipliesFirst};
 ghost use Rattle.bit_rows.specs.private.Spans.{XorsWithin};
-ghost use Rattle.bit_rows.specs.private.WordTotals.{carried, word_phase, words_phase};
+ghost use Rattle.bit_rows.specs.private.WordTotals.{carried, word_phase};
 
 use crate::marks::{is_unmarked, mark_where};
 use crate::phase::{carry, carry_block, join_lanes, power_held};
@@ -19,16 +20,9 @@ pub(crate) fn multiply_words(
     zb: &[u64],
     marks: u64,
 ) -> (u8, u64)
-    requires za { length za.old ≡ length xa.old }
-    requires xb { length xb.now ≡ length xa.old }
-    requires zb { length zb.now ≡ length xa.old }
-    requires x_marks { MarksOnes marks xb.now }
-    requires z_marks { MarksOnes marks zb.now }
-    ensures power { result.0 ≡ words_phase xa.old za.old xb.now zb.now (length xa.old) % 4 }
-    ensures x { (k : ℕ)
-        → slice_index xa.new k ≡ bit_xor (slice_index xa.old k) (slice_index xb.now k) }
-    ensures z { (k : ℕ)
-        → slice_index za.new k ≡ bit_xor (slice_index za.old k) (slice_index zb.now k) }
+    requires long { HaveOneLength xa.old za.old xb.now zb.now }
+    requires marks { MarksBoth marks xb.now zb.now }
+    ensures product { Multiplies xa.old za.old xb.now zb.now xa.new za.new result.0 }
     ensures blank { BlanksBelow result.1 xa.new za.new (length xa.old) }
 {
     if xb.len() < 4 {
@@ -40,14 +34,8 @@ pub(crate) fn multiply_words(
 // The same for words of less than a block.
 #[inline(always)]
 fn multiply_few(xa: &mut [u64], za: &mut [u64], xb: &[u64], zb: &[u64]) -> u8
-    requires za { length za.old ≡ length xa.old }
-    requires xb { length xb.now ≡ length xa.old }
-    requires zb { length zb.now ≡ length xa.old }
-    ensures power { result ≡ words_phase xa.old za.old xb.now zb.now (length xa.old) % 4 }
-    ensures x { (k : ℕ)
-        → slice_index xa.new k ≡ bit_xor (slice_index xa.old k) (slice_index xb.now k) }
-    ensures z { (k : ℕ)
-        → slice_index za.new k ≡ bit_xor (slice_index za.old k) (slice_index zb.now k) }
+    requires { HaveOneLength xa.old za.old xb.now zb.now }
+    ensures { Multiplies xa.old za.old xb.now zb.now xa.new za.new result }
 {
     let mut ones = 0u64;
     let mut twos = 0u64;
@@ -64,16 +52,9 @@ fn multiply_few(xa: &mut [u64], za: &mut [u64], xb: &[u64], zb: &[u64]) -> u8
 // The same for words of a block or more. It is never inlined: that would slow its callers where words are short.
 #[inline(never)]
 fn multiply_many(xa: &mut [u64], za: &mut [u64], xb: &[u64], zb: &[u64], marks: u64) -> (u8, u64)
-    requires za { length za.old ≡ length xa.old }
-    requires xb { length xb.now ≡ length xa.old }
-    requires zb { length zb.now ≡ length xa.old }
-    requires x_marks { MarksOnes marks xb.now }
-    requires z_marks { MarksOnes marks zb.now }
-    ensures power { result.0 ≡ words_phase xa.old za.old xb.now zb.now (length xa.old) % 4 }
-    ensures x { (k : ℕ)
-        → slice_index xa.new k ≡ bit_xor (slice_index xa.old k) (slice_index xb.now k) }
-    ensures z { (k : ℕ)
-        → slice_index za.new k ≡ bit_xor (slice_index za.old k) (slice_index zb.now k) }
+    requires long { HaveOneLength xa.old za.old xb.now zb.now }
+    requires marks { MarksBoth marks xb.now zb.now }
+    ensures product { Multiplies xa.old za.old xb.now zb.now xa.new za.new result.0 }
     ensures blank { BlanksBelow result.1 xa.new za.new (length xa.old) }
 {
     let (mut ones, mut twos, noted) = multiply_blocks(xa, za, xb, zb, marks);
@@ -93,15 +74,10 @@ fn multiply_blocks(
     zb: &[u64],
     marks: u64,
 ) -> (u64, u64, u64)
-    requires za { length za.old ≡ length xa.old }
-    requires xb { length xb.now ≡ length xa.old }
-    requires zb { length zb.now ≡ length xa.old }
-    requires x_marks { MarksOnes marks xb.now }
-    requires z_marks { MarksOnes marks zb.now }
-    ensures power { carried result.0 result.1 % 4
-        ≡ words_phase xa.old za.old xb.now zb.now (length xb.now / 4 * 4) % 4 }
-    ensures x { XorsWithin xa.old xb.now xa.new 0 (length xb.now / 4 * 4) }
-    ensures z { XorsWithin za.old zb.now za.new 0 (length xb.now / 4 * 4) }
+    requires long { HaveOneLength xa.old za.old xb.now zb.now }
+    requires marks { MarksBoth marks xb.now zb.now }
+    ensures product { MultipliesFirst xa.old za.old xb.now zb.now xa.new za.new
+        (carried result.0 result.1) (length xb.now / 4 * 4) }
     ensures blank { BlanksBelow result.2 xa.new za.new (length xb.now / 4 * 4) }
 {
     let blocks = xb.len() / 4;
@@ -117,13 +93,9 @@ fn multiply_blocks(
 
 // The same where every block may have letters: no mark is looked at, and no block is noted as empty.
 fn multiply_all(xa: &mut [u64], za: &mut [u64], xb: &[u64], zb: &[u64]) -> (u64, u64)
-    requires za { length za.old ≡ length xa.old }
-    requires xb { length xb.now ≡ length xa.old }
-    requires zb { length zb.now ≡ length xa.old }
-    ensures power { carried result.0 result.1 % 4
-        ≡ words_phase xa.old za.old xb.now zb.now (length xb.now / 4 * 4) % 4 }
-    ensures x { XorsWithin xa.old xb.now xa.new 0 (length xb.now / 4 * 4) }
-    ensures z { XorsWithin za.old zb.now za.new 0 (length xb.now / 4 * 4) }
+    requires { HaveOneLength xa.old za.old xb.now zb.now }
+    ensures { MultipliesFirst xa.old za.old xb.now zb.now xa.new za.new
+        (carried result.0 result.1) (length xb.now / 4 * 4) }
 {
     let mut ones = u64x4::splat(0);
     let mut twos = u64x4::splat(0);
@@ -142,15 +114,10 @@ fn multiply_marked(
     zb: &[u64],
     marks: u64,
 ) -> (u64, u64, u64)
-    requires za { length za.old ≡ length xa.old }
-    requires xb { length xb.now ≡ length xa.old }
-    requires zb { length zb.now ≡ length xa.old }
-    requires x_marks { MarksOnes marks xb.now }
-    requires z_marks { MarksOnes marks zb.now }
-    ensures power { carried result.0 result.1 % 4
-        ≡ words_phase xa.old za.old xb.now zb.now (length xb.now / 4 * 4) % 4 }
-    ensures x { XorsWithin xa.old xb.now xa.new 0 (length xb.now / 4 * 4) }
-    ensures z { XorsWithin za.old zb.now za.new 0 (length xb.now / 4 * 4) }
+    requires long { HaveOneLength xa.old za.old xb.now zb.now }
+    requires marks { MarksBoth marks xb.now zb.now }
+    ensures product { MultipliesFirst xa.old za.old xb.now zb.now xa.new za.new
+        (carried result.0 result.1) (length xb.now / 4 * 4) }
     ensures blank { BlanksBelow result.2 xa.new za.new (length xb.now / 4 * 4) }
 {
     let mut ones = u64x4::splat(0);
@@ -184,8 +151,7 @@ fn multiply_block(
     requires za { block * 4 + 4 ≤ length za.old }
     requires xb { block * 4 + 4 ≤ length xb.now }
     requires zb { block * 4 + 4 ≤ length zb.now }
-    requires x_marks { MarksOnes marks xb.now }
-    requires z_marks { MarksOnes marks zb.now }
+    requires marks { MarksBoth marks xb.now zb.now }
     ensures power { (k : ℕ) → k < 4 → carried (slice_index result.0 k) (slice_index result.1 k) % 4
         ≡ (carried (slice_index ones k) (slice_index twos k)
         + word_phase (slice_index xa.old (block * 4 + k)) (slice_index za.old (block * 4 + k))

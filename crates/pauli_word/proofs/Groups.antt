@@ -63,32 +63,20 @@ all_of_none : (n : ℕ) → list_all is_I_or_Z (no_letters n) ≡ true
 all_of_none zero = refl
 all_of_none (suc n) = all_of_none n
 
-product_of_I_or_Z : (a b : Letter) → is_I_or_Z a ≡ true → is_I_or_Z b ≡ true → is_I_or_Z (letter_product a b) ≡ true
-product_of_I_or_Z I b h k = k
-product_of_I_or_Z Z I h k = refl
-product_of_I_or_Z Z Z h k = refl
-product_of_I_or_Z X b h k = cc
-product_of_I_or_Z Y b h k = cc
-product_of_I_or_Z Z X h k = cc
-product_of_I_or_Z Z Y h k = cc
+-- of two letters I or Z: their product is one, brings no power of i, and they don't clash
+record IsDiagonal (a b : Letter) : Type 0 where
+  product : is_I_or_Z (letter_product a b) ≡ true
+  power : letter_power a b ≡ one
+  clash : letters_clash a b ≡ false
 
-power_of_I_or_Z : (a b : Letter) → is_I_or_Z a ≡ true → is_I_or_Z b ≡ true → letter_power a b ≡ one
-power_of_I_or_Z I b h k = letter_power_of_I b
-power_of_I_or_Z Z I h k = refl
-power_of_I_or_Z Z Z h k = refl
-power_of_I_or_Z X b h k = cc
-power_of_I_or_Z Y b h k = cc
-power_of_I_or_Z Z X h k = cc
-power_of_I_or_Z Z Y h k = cc
-
-clash_of_I_or_Z : (a b : Letter) → is_I_or_Z a ≡ true → is_I_or_Z b ≡ true → letters_clash a b ≡ false
-clash_of_I_or_Z I b h k = letters_clash_of_I b
-clash_of_I_or_Z Z I h k = refl
-clash_of_I_or_Z Z Z h k = refl
-clash_of_I_or_Z X b h k = cc
-clash_of_I_or_Z Y b h k = cc
-clash_of_I_or_Z Z X h k = cc
-clash_of_I_or_Z Z Y h k = cc
+of_I_or_Z : (a b : Letter) → is_I_or_Z a ≡ true → is_I_or_Z b ≡ true → IsDiagonal a b
+of_I_or_Z I b h k = record { product = k; power = letter_power_of_I b; clash = letters_clash_of_I b }
+of_I_or_Z Z I h k = record { product = refl; power = refl; clash = refl }
+of_I_or_Z Z Z h k = record { product = refl; power = refl; clash = refl }
+of_I_or_Z X b h k = cc
+of_I_or_Z Y b h k = cc
+of_I_or_Z Z X h k = cc
+of_I_or_Z Z Y h k = cc
 
 -- of words of I and Z: the product is one, brings no power of i, and they commute
 record AreDiagonal (p q : List Letter) : Type 0 where
@@ -103,10 +91,11 @@ diagonal (a ∷ p) (b ∷ q) h k =
     let first = and_parts (is_I_or_Z a) (list_all is_I_or_Z p) h in
     let second = and_parts (is_I_or_Z b) (list_all is_I_or_Z q) k in
     let rest = diagonal p q first.1 second.1 in
+    let letters = of_I_or_Z a b first.0 second.0 in
     record {
-      product = and_from (is_I_or_Z (letter_product a b)) (list_all is_I_or_Z (letters_product p q)) (product_of_I_or_Z a b first.0 second.0) rest.product;
-      power = ap₂ power_product (power_of_I_or_Z a b first.0 second.0) rest.power;
-      clash = ap₂ exclusive_or (clash_of_I_or_Z a b first.0 second.0) rest.clash;
+      product = and_from (is_I_or_Z (letter_product a b)) (list_all is_I_or_Z (letters_product p q)) letters.product rest.product;
+      power = ap₂ power_product letters.power rest.power;
+      clash = ap₂ exclusive_or letters.clash rest.clash;
     }
 
 pub IsGroup-start : (n : ℕ) → IsGroup n start_state

@@ -23,6 +23,13 @@ no_steps Nothing h = refl
 no_steps (Then s rest) h = absurd (omega arith)
 no_steps (Block n body rest) h = absurd (omega arith)
 
+-- the nodes once the last of the open blocks is closed, and those that are still open then: all nodes that aren't before what it stood
+-- in, which had this many before the block, are counted now
+pub record Closed (nodes : List Node) (outer : List Outer) (count : ℕ) (rest : List Outer) (before : ℕ) (new : List Node) : Type 0 where
+  pub builds : Builds new rest (length new - (length nodes - count - 1 - before))
+  pub closes : Closes (building nodes outer) (building new rest)
+  pub enough_left : length nodes - count - 1 - before ≤ length new
+
 module _ (nodes : List Node) (outer : List Outer) (count : ℕ) (b : Builds nodes outer count) (rest : List Outer) (o : Outer) (outer_is : outer ≡ rest ++ o ∷ []) where
   abbrev pub last : Last b.frames rest o
   last = last_of b.frames rest o (sym b.outer_is ∙ outer_is)
@@ -124,13 +131,7 @@ module _ (nodes : List Node) (outer : List Outer) (count : ℕ) (b : Builds node
       ∙ ap (λ xs. unrolled last.frame.before ++ xs) (append-nil (repeated o.turns (unrolled b.tree)))
       ∙ ap (λ n. unrolled last.frame.before ++ repeated n (unrolled b.tree)) last.turns_is)
 
-  -- the nodes after that: all that aren't before what the block stood in are counted now
-  pub record Closed (new : List Node) : Type 0 where
-    pub builds : Builds new rest (length new - (length nodes - count - 1 - o.length))
-    pub closes : Closes (building nodes outer) (building new rest)
-    pub enough_left : length nodes - count - 1 - o.length ≤ length new
-
-  closed_with : (new was : List Node) (k : ℕ) → new ≡ was → k + (length nodes - count - 1 - o.length) ≡ length was → Builds was rest k → Closes (building nodes outer) (building was rest) → Closed new
+  closed_with : (new was : List Node) (k : ℕ) → new ≡ was → k + (length nodes - count - 1 - o.length) ≡ length was → Builds was rest k → Closes (building nodes outer) (building was rest) → Closed nodes outer count rest o.length new
   closed_with new was k is k_is builds closes =
       let k_here : k ≡ length new - (length nodes - count - 1 - o.length) = omega (arith, ap length is, k_is) in
       record {
@@ -139,20 +140,20 @@ module _ (nodes : List Node) (outer : List Outer) (count : ℕ) (b : Builds node
         enough_left = omega (arith, ap length is, k_is);
       }
 
-  closed_empty : (new : List Node) → count ≡ 0 → new ≡ take (length nodes - count - 1) nodes → Closed new
+  closed_empty : (new : List Node) → count ≡ 0 → new ≡ take (length nodes - count - 1) nodes → Closed nodes outer count rest o.length new
   closed_empty new none is =
       closed_with new _ o.length is
       (omega (arith, all-counted, length-take (length nodes - count - 1) nodes))
       (dropped none) (dropped-view none)
 
-  closed_full : (new : List Node) → 0 < count → new ≡ set nodes (length nodes - count - 1) (Open o.turns count) ++ Close o.turns count ∷ [] → Closed new
+  closed_full : (new : List Node) → 0 < count → new ≡ set nodes (length nodes - count - 1) (Open o.turns count) ++ Close o.turns count ∷ [] → Closed nodes outer count rest o.length new
   closed_full new some is =
       let put = set nodes (length nodes - count - 1) (Open o.turns count) in
       closed_with new _ (count + (o.length + 2)) is
       (omega (arith, all-counted, length-append put (Close o.turns count ∷ []), length-set nodes (length nodes - count - 1) (Open o.turns count)))
       (written some) (written-view some)
 
-  pub closed : (new : List Node) (len : ℕ) → len ≡ length nodes → new ≡ closed_at (len - count - 1) (record { turns = o.turns; length = count }) nodes → Closed new
+  pub closed : (new : List Node) (len : ℕ) → len ≡ length nodes → new ≡ closed_at (len - count - 1) (record { turns = o.turns; length = count }) nodes → Closed nodes outer count rest o.length new
   closed new len len_is closes =
       let is : new ≡ closed_at (length nodes - count - 1) (record { turns = o.turns; length = count }) nodes =
       closes ∙ ap (λ k. closed_at (k - count - 1) (record { turns = o.turns; length = count }) nodes) len_is in

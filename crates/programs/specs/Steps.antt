@@ -5,7 +5,7 @@ use Rattle.programs.specs.declared.node.Node.{Node}
 use Rattle.programs.specs.declared.step.TextStep.{TextStep}
 use Rattle.programs.specs.declared.node.Node.TheVariants.{Do, Open, Close}
 use Rattle.programs.specs.declared.place.Place.{Place}
-use Rattle.programs.specs.Trees.{tree_of, unrolled}
+use Rattle.programs.specs.Trees.{IsCircuit, tree_of, unrolled}
 use Rattle.programs.specs.Places.{IsPlace}
 
 -- k steps are before the place
@@ -15,6 +15,11 @@ IsAt nodes place k = IsPlace (tree_of nodes) place.index place.turns.items k
 -- a move over no step
 abbrev pub KeepsStep : List Node → Place → Place → Type 0
 KeepsStep nodes old new = (k : ℕ) → IsAt nodes old k → IsAt nodes new k
+
+-- a place in a circuit, after some of its steps
+pub record StandsIn (nodes : List Node) (at : Place) : Type 0 where
+  pub circuit : IsCircuit nodes
+  pub place : (k : ℕ) × IsAt nodes at k
 
 -- a node, if there is one, isn't the start of a block
 abbrev pub IsNoOpen : Option Node → Type 0
@@ -36,6 +41,13 @@ is_step None = false
 is_step (Some (Do step)) = true
 is_step (Some (Open turns size)) = false
 is_step (Some (Close turns size)) = false
+
+-- a move over no step, to where this node is ahead or none is: the answer says whether it is a step, and there is none
+-- where it isn't
+pub record MovesTo (nodes : List Node) (old new : Place) (ahead : Option Node) (answer : Bool) : Type 0 where
+  pub kept : KeepsStep nodes old new
+  pub step : answer ≡ is_step ahead
+  pub none : answer ≡ false → ahead ≡ None
 
 -- the node before a place
 abbrev pub node_before : List Node → ℕ → Option Node

@@ -1,6 +1,5 @@
-ghost use Rattle.std.specs.Prelude.{◌≡◌, ◌<◌, ◌+◌, ◌^◌, false, ℕ, length, None, IfSome, slice_get};
-ghost use Rattle.programs.specs.Trees.{IsCircuit};
-ghost use Rattle.programs.specs.Steps.{IsAt, KeepsStep, IsNoOpen, IsNoClose, NextStep, PreviousStep, is_step, node_before};
+ghost use Rattle.std.specs.Prelude.{◌≡◌, ◌<◌, ◌+◌, ◌^◌, length, None, IfSome, slice_get};
+ghost use Rattle.programs.specs.Steps.{StandsIn, KeepsStep, MovesTo, IsNoOpen, IsNoClose, NextStep, PreviousStep, is_step, node_before};
 
 use crate::node::Node;
 use crate::nodes::Nodes;
@@ -48,8 +47,7 @@ fn turn_after(turn: u64, turns: u64) -> Option<u64>
 
 // Goes forward over the ends of turns, to a place that isn't before one.
 fn leave_turns<A: Allocator + Copy>(nodes: &Nodes<A>, place: &mut Place)
-    requires circuit { IsCircuit nodes.now }
-    requires place { (k : ℕ) × IsAt nodes.now place.old k }
+    requires { StandsIn nodes.now place.old }
     ensures kept { KeepsStep nodes.now place.old place.new }
     ensures no_close { IsNoClose (slice_get nodes.now place.new.index) }
 {
@@ -68,8 +66,7 @@ fn leave_turns<A: Allocator + Copy>(nodes: &Nodes<A>, place: &mut Place)
 
 // Goes forward into the first turns of the blocks that start here.
 fn enter_turns<A: Allocator + Copy>(nodes: &Nodes<A>, place: &mut Place)
-    requires circuit { IsCircuit nodes.now }
-    requires place { (k : ℕ) × IsAt nodes.now place.old k }
+    requires stands { StandsIn nodes.now place.old }
     requires no_close { IsNoClose (slice_get nodes.now place.old.index) }
     ensures kept { KeepsStep nodes.now place.old place.new }
     ensures no_close { IsNoClose (slice_get nodes.now place.new.index) }
@@ -84,11 +81,9 @@ fn enter_turns<A: Allocator + Copy>(nodes: &Nodes<A>, place: &mut Place)
 // Goes forward over the ends and starts of turns, which few places are at. Answers whether a step follows then.
 #[inline(never)]
 fn go_past_turns<A: Allocator + Copy>(nodes: &Nodes<A>, place: &mut Place) -> bool
-    requires circuit { IsCircuit nodes.now }
-    requires place { (k : ℕ) × IsAt nodes.now place.old k }
-    ensures kept { KeepsStep nodes.now place.old place.new }
-    ensures step { result ≡ is_step (slice_get nodes.now place.new.index) }
-    ensures end { result ≡ false → slice_get nodes.now place.new.index ≡ None }
+    requires { StandsIn nodes.now place.old }
+    ensures moved { MovesTo nodes.now place.old place.new
+        (slice_get nodes.now place.new.index) result }
     ensures few { length nodes.now < 2 ^ 64 }
 {
     leave_turns(nodes, place);
@@ -99,11 +94,9 @@ fn go_past_turns<A: Allocator + Copy>(nodes: &Nodes<A>, place: &mut Place) -> bo
 // Goes forward to a place before a step, as most places are, or to the end. Answers whether a step follows then.
 #[inline(always)]
 fn go_to_step<A: Allocator + Copy>(nodes: &Nodes<A>, place: &mut Place) -> bool
-    requires circuit { IsCircuit nodes.now }
-    requires place { (k : ℕ) × IsAt nodes.now place.old k }
-    ensures kept { KeepsStep nodes.now place.old place.new }
-    ensures step { result ≡ is_step (slice_get nodes.now place.new.index) }
-    ensures end { result ≡ false → slice_get nodes.now place.new.index ≡ None }
+    requires { StandsIn nodes.now place.old }
+    ensures moved { MovesTo nodes.now place.old place.new
+        (slice_get nodes.now place.new.index) result }
     ensures few { length nodes.now < 2 ^ 64 }
 {
     if nodes.is_step(place.index) {
@@ -115,8 +108,7 @@ fn go_to_step<A: Allocator + Copy>(nodes: &Nodes<A>, place: &mut Place) -> bool
 // Answers the step after a place, and goes over it.
 #[inline(always)]
 pub fn next<A: Allocator + Copy>(nodes: &Nodes<A>, place: &mut Place) -> Option<TextStep>
-    requires circuit { IsCircuit nodes.now }
-    requires place { (k : ℕ) × IsAt nodes.now place.old k }
+    requires { StandsIn nodes.now place.old }
     ensures { NextStep nodes.now place.old place.new result }
 {
     if !go_to_step(nodes, place) {
@@ -129,8 +121,7 @@ pub fn next<A: Allocator + Copy>(nodes: &Nodes<A>, place: &mut Place) -> Option<
 
 // Goes back over the starts of turns, to a place that isn't after one.
 fn leave_turns_back<A: Allocator + Copy>(nodes: &Nodes<A>, place: &mut Place)
-    requires circuit { IsCircuit nodes.now }
-    requires place { (k : ℕ) × IsAt nodes.now place.old k }
+    requires { StandsIn nodes.now place.old }
     ensures kept { KeepsStep nodes.now place.old place.new }
     ensures no_open { IsNoOpen (node_before nodes.now place.new.index) }
 {
@@ -147,8 +138,7 @@ fn leave_turns_back<A: Allocator + Copy>(nodes: &Nodes<A>, place: &mut Place)
 
 // Goes back into the last turns of the blocks that end here.
 fn enter_turns_back<A: Allocator + Copy>(nodes: &Nodes<A>, place: &mut Place)
-    requires circuit { IsCircuit nodes.now }
-    requires place { (k : ℕ) × IsAt nodes.now place.old k }
+    requires stands { StandsIn nodes.now place.old }
     requires no_open { IsNoOpen (node_before nodes.now place.old.index) }
     ensures kept { KeepsStep nodes.now place.old place.new }
     ensures no_open { IsNoOpen (node_before nodes.now place.new.index) }
@@ -163,11 +153,9 @@ fn enter_turns_back<A: Allocator + Copy>(nodes: &Nodes<A>, place: &mut Place)
 // Goes back over the starts and ends of turns, which few places are at. Answers whether a step is before then.
 #[inline(never)]
 fn go_back_past_turns<A: Allocator + Copy>(nodes: &Nodes<A>, place: &mut Place) -> bool
-    requires circuit { IsCircuit nodes.now }
-    requires place { (k : ℕ) × IsAt nodes.now place.old k }
-    ensures kept { KeepsStep nodes.now place.old place.new }
-    ensures step { result ≡ is_step (node_before nodes.now place.new.index) }
-    ensures start { result ≡ false → node_before nodes.now place.new.index ≡ None }
+    requires { StandsIn nodes.now place.old }
+    ensures { MovesTo nodes.now place.old place.new (node_before nodes.now place.new.index)
+        result }
 {
     leave_turns_back(nodes, place);
     enter_turns_back(nodes, place);
@@ -177,11 +165,9 @@ fn go_back_past_turns<A: Allocator + Copy>(nodes: &Nodes<A>, place: &mut Place) 
 // Goes back to a place after a step, as most places are, or to the start. Answers whether a step is before then.
 #[inline(always)]
 fn go_back_to_step<A: Allocator + Copy>(nodes: &Nodes<A>, place: &mut Place) -> bool
-    requires circuit { IsCircuit nodes.now }
-    requires place { (k : ℕ) × IsAt nodes.now place.old k }
-    ensures kept { KeepsStep nodes.now place.old place.new }
-    ensures step { result ≡ is_step (node_before nodes.now place.new.index) }
-    ensures start { result ≡ false → node_before nodes.now place.new.index ≡ None }
+    requires { StandsIn nodes.now place.old }
+    ensures { MovesTo nodes.now place.old place.new (node_before nodes.now place.new.index)
+        result }
 {
     if is_after_step(nodes, place.index) {
         return true;
@@ -192,8 +178,7 @@ fn go_back_to_step<A: Allocator + Copy>(nodes: &Nodes<A>, place: &mut Place) -> 
 // Answers the step before a place, and goes back over it.
 #[inline(always)]
 pub fn previous<A: Allocator + Copy>(nodes: &Nodes<A>, place: &mut Place) -> Option<TextStep>
-    requires circuit { IsCircuit nodes.now }
-    requires place { (k : ℕ) × IsAt nodes.now place.old k }
+    requires { StandsIn nodes.now place.old }
     ensures { PreviousStep nodes.now place.old place.new result }
 {
     if !go_back_to_step(nodes, place) {

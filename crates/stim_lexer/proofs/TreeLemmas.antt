@@ -11,6 +11,7 @@ use Rattle.stim_lexer.specs.Flat.{tree_of}
 use Rattle.stim_lexer.specs.Stored.{tree_of-items}
 use Rattle.stim_lexer.specs.Texts.{Format, Reading, Accepts, Opens, Closes, Refuses, items_in, items_from, followed, line_reading, open_after}
 use Rattle.stim_lexer.specs.Judged.{Writes, IsRefusedBy}
+use Rattle.stim_lexer.specs.JudgedOnce.{AreJudgedOnce}
 use Rattle.stim_lexer.specs.Trees.{Item, InstructionLine, BlockStart, BlockEnd, Tree, Nothing, Then, Block, items_of}
 
 -- ---- one tree
@@ -140,7 +141,7 @@ judged_either : {I : Type 0} (Fits : I → Type 0) (r : Result (List (Item I)) F
 judged_either {I} Fits (Ok items) w = inl (tree_of items, ap (λ (is : List (Item I)). Ok is) (sym (w items refl).written))
 judged_either Fits (Err fault) w = inr (fault, refl)
 
-pub each_text_is_judged : {I : Type 0} (Fits : I → Type 0) (format : Format I) → LinesFit Fits format → (text : List ℕ) → ((tree : Tree I) × Writes format text tree) ⊎ ((fault : Fault) × IsRefusedBy format text fault)
+each_text_is_judged : {I : Type 0} (Fits : I → Type 0) (format : Format I) → LinesFit Fits format → (text : List ℕ) → ((tree : Tree I) × Writes format text tree) ⊎ ((fault : Fault) × IsRefusedBy format text fault)
 each_text_is_judged Fits format fit text = judged_either Fits (items_in format text) (items_are_written Fits format fit text)
 
 pub each_tree_fits : {I : Type 0} (Fits : I → Type 0) (format : Format I) → LinesFit Fits format → (text : List ℕ) (tree : Tree I) → Writes format text tree → IsBuilt Fits tree
@@ -159,10 +160,19 @@ pub no_text_writes_two_trees : {I : Type 0} (format : Format I) (text : List ℕ
 no_text_writes_two_trees {I} format text t u written also =
     same_tree t u (ap (λ (r : Result (List (Item I)) Fault). items_or_none r) (sym written ∙ also))
 
-pub no_text_has_two_faults : {I : Type 0} (format : Format I) (text : List ℕ) (f g : Fault) → IsRefusedBy format text f → IsRefusedBy format text g → f ≡ g
+no_text_has_two_faults : {I : Type 0} (format : Format I) (text : List ℕ) (f g : Fault) → IsRefusedBy format text f → IsRefusedBy format text g → f ≡ g
 no_text_has_two_faults {I} format text f g refused also =
     ap (λ (r : Result (List (Item I)) Fault). fault_or f r) (sym refused ∙ also)
 
-pub no_text_is_both : {I : Type 0} (format : Format I) (text : List ℕ) (t : Tree I) (f : Fault) → Writes format text t → IsRefusedBy format text f → ⊥
+no_text_is_both : {I : Type 0} (format : Format I) (text : List ℕ) (t : Tree I) (f : Fault) → Writes format text t → IsRefusedBy format text f → ⊥
 no_text_is_both {I} format text t f written refused =
     false≢true (ap (λ (r : Result (List (Item I)) Fault). is_err r) (sym written ∙ refused))
+
+pub judged_once : {I : Type 0} (Fits : I → Type 0) (format : Format I) → LinesFit Fits format → AreJudgedOnce format
+judged_once Fits format fit =
+    record {
+      judged = each_text_is_judged Fits format fit;
+      one_tree = no_text_writes_two_trees format;
+      one_fault = no_text_has_two_faults format;
+      not_both = no_text_is_both format;
+    }

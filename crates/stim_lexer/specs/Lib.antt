@@ -17,3 +17,4 @@ pub mod Marked
 pub mod Reached
 pub mod Stored
 pub mod Judged
+pub mod JudgedOnce

@@ -1,25 +1,16 @@
 //! Laws of circuits' texts. Each is the contract of a function that does nothing.
 
-ghost use Rattle.std.specs.Prelude.{◌≡◌, ◌⊎◌, ℕ, List};
-ghost use Rattle.step_model.specs.declared.fault.Fault.{Fault};
+ghost use Rattle.std.specs.Prelude.{◌≡◌, ℕ, List};
+ghost use Rattle.stim_lexer.specs.JudgedOnce.{AreJudgedOnce};
+ghost use Rattle.stim_parser.specs.Texts.{circuits};
 ghost use Rattle.stim_parser.specs.Circuits.{IsCircuit};
 ghost use Rattle.stim_parser.specs.Trees.{Tree};
-ghost use Rattle.stim_parser.specs.Judged.{items_of, Writes, IsRefusedBy};
+ghost use Rattle.stim_parser.specs.Judged.{items_of, Writes};
 ghost use Rattle.stim_parser.specs.Written.{AreAlike, circuit_text, with_lines};
 
 /// Each text writes exactly one tree, or is refused by exactly one fault, and never both.
 pub fn texts_are_judged_once()
-    ensures judged { (text : List ℕ)
-        → ((tree : Tree) × Writes text tree) ⊎ ((fault : Fault) × IsRefusedBy text fault) }
-    ensures one_tree { (text : List ℕ) (t u : Tree) → Writes text t → Writes text u → t ≡ u }
-    ensures one_fault { (text : List ℕ) (f g : Fault)
-        → IsRefusedBy text f
-        → IsRefusedBy text g
-        → f ≡ g }
-    ensures not_both { (text : List ℕ) (t : Tree) (f : Fault)
-        → Writes text t
-        → IsRefusedBy text f
-        → ⊥ }
+    ensures { AreJudgedOnce circuits }
 {}
 
 /// In a tree that a text writes, each instruction has the arguments and targets that its operation takes, each block

@@ -1,6 +1,6 @@
 -- The coordinates of a circuit's detectors are few to each detector, and within a limit that the circuit's steps set.
-use Rattle.std.proofs.Common.{◌≡◌, ◌≤◌, ◌<◌, ◌+◌, ◌*◌, ℕ, zero, suc, ℤ, ◌+ℤ◌, List, [], ◌∷◌, ◌++◌, length, map, refl, ap, arith, length-append}
-use Rattle.std.specs.Prelude.{⊤, All, nat_abs, ◌^◌}
+use Rattle.std.proofs.Common.{◌≡◌, ◌≤◌, ◌<◌, ◌+◌, ◌*◌, ℕ, zero, suc, ℤ, ◌+ℤ◌, List, [], ◌∷◌, length, map, refl, ap, arith, length-append}
+use Rattle.std.specs.Prelude.{All, nat_abs, ◌^◌}
 use Rattle.std.proofs.lemmas.Int.{ints}
 use Rattle.std.proofs.lemmas.List.{length-map}
 use Rattle.std.proofs.lemmas.List.Elements.{All-append, All-cons, All-head, All-nil, All-tail, All-weaker}
@@ -18,6 +18,7 @@ use Rattle.unroll.specs.TargetsMade.{offset_after, operation_coordinates}
 use Rattle.stim_lexer.specs.Reached.{copies, reached, total}
 use Rattle.unroll.specs.Totals.{step_total}
 use Rattle.unroll.specs.private.MadeTotals.{step_count}
+use Rattle.unroll.proofs.EachReached.{Each, each-reached}
 use Rattle.stim_parser.proofs.CoordinateArguments.{AreUpTo, HasCoordinates, has_coordinates, most}
 
 -- ---- how many instructions are reached
@@ -44,22 +45,10 @@ few-reached (Block line turns body rest) =
 -- ---- what is reached states coordinates within their limit
 
 abbrev pub HaveCoordinates : List Instruction → Type 0
-HaveCoordinates [] = ⊤
-HaveCoordinates (i ∷ is) = HasCoordinates i.operation i.arguments × HaveCoordinates is
-
-have-append : (is js : List Instruction) → HaveCoordinates is → HaveCoordinates js → HaveCoordinates (is ++ js)
-have-append [] js h k = k
-have-append (i ∷ is) js h k = (h.0, have-append is js h.1 k)
-
-have-copies : (n : ℕ) (is : List Instruction) → HaveCoordinates is → HaveCoordinates (copies n is)
-have-copies zero is h = tt
-have-copies (suc n) is h = have-append is (copies n is) h (have-copies n is h)
+HaveCoordinates is = Each (λ i. HasCoordinates i.operation i.arguments) is
 
 pub have-coordinates : (t : Tree) → AllFit t → HaveCoordinates (reached t)
-have-coordinates Nothing fit = tt
-have-coordinates (Then i rest) fit = (has_coordinates i fit.0, have-coordinates rest fit.1)
-have-coordinates (Block line turns body rest) fit =
-    have-append (copies turns (reached body)) (reached rest) (have-copies turns (reached body) (have-coordinates body fit.1)) (have-coordinates rest fit.2)
+have-coordinates t fit = each-reached (λ i. HasCoordinates i.operation i.arguments) has_coordinates t fit
 
 -- ---- offsets
 

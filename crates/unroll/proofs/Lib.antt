@@ -45,6 +45,7 @@ pub mod QubitsWithin
 pub mod StepTests
 pub mod StepsKept
 pub mod TextFits
+pub mod EachReached
 pub mod CoordinateFits
 pub mod PlacingLoops
 pub mod StatedLemmas
@@ -54,6 +55,7 @@ pub mod MeaningFaults
 pub mod MadeCounts
 pub mod MeaningLemmas
 pub mod OnTexts
+pub mod WorkedWords
 pub mod WorkedTexts
 pub mod WorkedErrors
 pub mod WorkedRecords

@@ -1,6 +1,5 @@
 -- The coordinates that a pass gathers are those of the detectors that are reached.
 use Rattle.std.proofs.Common.{◌≡◌, ℕ, zero, suc, ◌+◌, ◌-◌, ◌*◌, ◌<◌, ◌≤◌, inl, inr, ℤ, pos, negsuc, neg_ℤ, ◌+ℤ◌, ◌*ℤ◌, List, [], ◌∷◌, ◌++◌, length, get_or, map, replicate, refl, sym, ap, ap₂, ◌∙◌, append-nil, arith}
-use Rattle.std.specs.Prelude.{⊤}
 use Rattle.std.proofs.lemmas.Int.{ints}
 use Rattle.std.proofs.lemmas.Bool.{cases_lt}
 use Rattle.std.proofs.lemmas.List.{get_or_past, length-map, map-append, same_lists}
@@ -23,6 +22,7 @@ use Rattle.stim_lexer.specs.Reached.{copies, reached}
 use Rattle.unroll.specs.private.Gathered.{Gathered, gathering, given, place_behind}
 use Rattle.unroll.specs.private.Passes.{behind}
 use Rattle.unroll.specs.private.Placing.{down_of, downs, moved_down, moved_to, moved_up, numbers_of, operation_places, placing, raised_by, step_at, steps_of, turned_by, unmoved, unplaced, up_of, ups}
+use Rattle.unroll.proofs.EachReached.{Each, each-reached}
 use Rattle.unroll.proofs.GatherLemmas.{AreSteady, IsSteady, copies-more, gathered, place_behind-append}
 use Rattle.unroll.proofs.CountLoops.{length-moved as length-moved_to, moved-at as moved_to-at}
 use Rattle.unroll.proofs.OffsetLemmas.{joined, length-joined, length-raised, moved-raised, raised-joined, raised-more, raised-none, raised-once, raised-swap, scaled, turned-raised}
@@ -36,22 +36,10 @@ pub record IsWide (p : Offset) : Type 0 where
   pub down : 16 ≤ length p.down
 
 abbrev pub AreFew : List Instruction → Type 0
-AreFew [] = ⊤
-AreFew (i ∷ is) = HasFewCoordinates i.operation i.arguments × AreFew is
-
-few-append : (is js : List Instruction) → AreFew is → AreFew js → AreFew (is ++ js)
-few-append [] js h k = k
-few-append (i ∷ is) js h k = (h.0, few-append is js h.1 k)
-
-few-copies : (n : ℕ) (is : List Instruction) → AreFew is → AreFew (copies n is)
-few-copies zero is h = tt
-few-copies (suc n) is h = few-append is (copies n is) h (few-copies n is h)
+AreFew is = Each (λ i. HasFewCoordinates i.operation i.arguments) is
 
 few-tree : (t : Tree) → AllFit t → AreFew (reached t)
-few-tree Nothing fit = tt
-few-tree (Then i rest) fit = (has_few_coordinates i fit.0, few-tree rest fit.1)
-few-tree (Block line turns body rest) fit =
-    few-append (copies turns (reached body)) (reached rest) (few-copies turns (reached body) (few-tree body fit.1)) (few-tree rest fit.2)
+few-tree t fit = each-reached (λ i. HasFewCoordinates i.operation i.arguments) has_few_coordinates t fit
 
 -- ---- what instructions shift
 

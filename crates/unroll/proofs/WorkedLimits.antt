@@ -20,6 +20,7 @@ use Rattle.unroll.specs.Meaning.{listing_of}
 use Rattle.unroll.specs.Programs.{program_in}
 use Rattle.unroll.proofs.FarLines.{refused-as-counted}
 use Rattle.unroll.proofs.OnTexts.{on_texts}
+use Rattle.unroll.proofs.WorkedWords.{refused}
 use Rattle.unroll.proofs.TextLemmas.{program_of_text}
 
 -- a text is refused as what its tree makes is counted
@@ -29,21 +30,21 @@ by_count text tree fault written counted =
     ∙ ap (λ (r : Option Fault). unless r (listing_of tree))
     (sym (refused-as-counted tree (each_tree_fits Fits circuits reading_fits text tree written).fit) ∙ counted)
 
-too_many_records : program_in (codes "REPEAT 8000001 {\nM 0\n}\n") ≡ Err (record { cause = cause.Records; line = 0 })
+too_many_records : program_in (codes "REPEAT 8000001 {\nM 0\n}\n") ≡ refused cause.Records 0
 unfolding on_texts
 too_many_records =
     by_count (codes "REPEAT 8000001 {\nM 0\n}\n")
     (Block 1 8000001 (Then (record { line = 2; operation = Measurement letter.Z; arguments = []; targets = Plain 0 ∷ [] }) Nothing) Nothing)
     (record { cause = cause.Records; line = 0 }) refl refl
 
-too_many_collapses : program_in (codes "REPEAT 4000001 {\nR 0 1\n}\n") ≡ Err (record { cause = cause.Records; line = 0 })
+too_many_collapses : program_in (codes "REPEAT 4000001 {\nR 0 1\n}\n") ≡ refused cause.Records 0
 unfolding on_texts
 too_many_collapses =
     by_count (codes "REPEAT 4000001 {\nR 0 1\n}\n")
     (Block 1 4000001 (Then (record { line = 2; operation = QubitReset letter.Z; arguments = []; targets = Plain 0 ∷ Plain 1 ∷ [] }) Nothing) Nothing)
     (record { cause = cause.Records; line = 0 }) refl refl
 
-too_many_detectors : program_in (codes "REPEAT 1000001 {\nDETECTOR\n}\n") ≡ Err (record { cause = cause.Detectors; line = 0 })
+too_many_detectors : program_in (codes "REPEAT 1000001 {\nDETECTOR\n}\n") ≡ refused cause.Detectors 0
 unfolding on_texts
 too_many_detectors =
     by_count (codes "REPEAT 1000001 {\nDETECTOR\n}\n")
@@ -51,7 +52,7 @@ too_many_detectors =
     (record { cause = cause.Detectors; line = 0 }) refl refl
 
 -- a gate of one target counts two, and the turn one more
-too_many_steps : program_in (codes "REPEAT 21333334 {\nH 0\n}\n") ≡ Err (record { cause = cause.Steps; line = 0 })
+too_many_steps : program_in (codes "REPEAT 21333334 {\nH 0\n}\n") ≡ refused cause.Steps 0
 unfolding on_texts
 too_many_steps =
     by_count (codes "REPEAT 21333334 {\nH 0\n}\n")

@@ -5,7 +5,7 @@ use Rattle.programs.proofs.place.previous.Goals as goal
 pub returns-then-not-go_back_to_step : goal.returns-then-not-go_back_to_step
 returns-then-not-go_back_to_step g c k h =
     at_the_start c.args.nodes.now c.requires.circuit c.args.place.now c.go_back_to_step.new.place k (c.go_back_to_step.ensures.kept k h)
-    (c.go_back_to_step.ensures.start c.if-not-go_back_to_step.true)
+    (c.go_back_to_step.ensures.none c.if-not-go_back_to_step.true)
 
 pub returns : goal.returns
 returns g c k h =

@@ -1,34 +1,16 @@
-use Rattle.std.proofs.Common.{◌≡◌, ◌<◌, length, arith, ap, ◌∙◌, refl, set}
-use Rattle.bit_rows.specs.private.Marks.{KeepsRow}
-use Rattle.bit_rows.specs.private.Words.{row_of}
-use Rattle.bit_rows.proofs.Marked.{marked_by_slice, marked_after_put}
-use Rattle.bit_rows.proofs.Places.{row_long, word_within, held_by_slice, seen_by_slice, rewritten, held_after_put, row_of_put}
+use Rattle.bit_rows.proofs.BitsPut.{word_there, put_keeps, put_seen}
 use Rattle.bit_rows.proofs.row.BitRow.set.Goals as goal
 
 pub put_bit-requires : goal.put_bit-requires
-put_bit-requires g c =
-    let long = row_long c.self.inside.places c.self.inside.words.items c.args.self.now c.self.view_is in
-    let within : c.args.i < c.self.inside.places = omega (arith, long) in
-    omega (arith, word_within c.self.inside.places c.self.inside.words.items c.args.i c.self.invariant.held within, ap length c.as_mut_slice.ensures.value)
+put_bit-requires g c = word_there c.self.inside.places c.self.inside.marks c.self.inside.words.items c.args.self.now c.self.invariant c.self.view_is c.args.i c.requires c.as_mut_slice.result.now c.as_mut_slice.ensures.value
 
 pub invariant_of-self : goal.invariant_of-self
 invariant_of-self g c =
-    let long = row_long c.self.inside.places c.self.inside.words.items c.args.self.now c.self.view_is in
-    let within : c.args.i < c.self.inside.places = omega (arith, long) in
-    rewritten (KeepsRow c.self.inside.places c.mark-self-inside.result) _ _ c.put_bit.new.words c.self.inside.words.items c.as_mut_slice.ensures.len c.put_bit.auto.words
-    (record {
-      held =
-          held_after_put c.self.inside.places c.as_mut_slice.result.now c.put_bit.new.words c.args.i c.args.b
-          (held_by_slice _ _ _ _ refl c.as_mut_slice.ensures.value c.self.invariant.held) c.put_bit.auto.words within c.put_bit.ensures;
-      marked =
-          marked_after_put c.self.inside.marks c.mark-self-inside.result c.as_mut_slice.result.now c.put_bit.new.words c.args.i c.args.b
-          (marked_by_slice _ _ _ c.as_mut_slice.ensures.value c.self.invariant.marked) c.put_bit.ensures c.mark-self-inside.ensures;
-    })
+    put_keeps c.self.inside.places c.self.inside.marks c.self.inside.words.items c.args.self.now c.self.invariant c.self.view_is c.args.i c.requires
+    c.as_mut_slice.result.now c.put_bit.new.words _ c.args.b c.as_mut_slice.ensures.value c.as_mut_slice.ensures.len c.put_bit.auto.words c.put_bit.ensures
+    c.mark-self-inside.result c.mark-self-inside.ensures
 
 pub returns : goal.returns
 returns g c =
-    let long = row_long c.self.inside.places c.self.inside.words.items c.args.self.now c.self.view_is in
-    let within : c.args.i < c.self.inside.places = omega (arith, long) in
-    rewritten (λ ws. row_of c.self.inside.places ws ≡ set c.args.self.now c.args.i c.args.b) _ _ c.put_bit.new.words c.self.inside.words.items c.as_mut_slice.ensures.len c.put_bit.auto.words
-    (row_of_put c.self.inside.places c.as_mut_slice.result.now c.put_bit.new.words c.args.i c.args.b within c.put_bit.ensures
-    ∙ ap (λ row. set row c.args.i c.args.b) (seen_by_slice _ _ _ _ _ refl c.as_mut_slice.ensures.value c.self.view_is))
+    put_seen c.self.inside.places c.self.inside.marks c.self.inside.words.items c.args.self.now c.self.invariant c.self.view_is c.args.i c.requires
+    c.as_mut_slice.result.now c.put_bit.new.words _ c.args.b c.as_mut_slice.ensures.value c.as_mut_slice.ensures.len c.put_bit.auto.words c.put_bit.ensures
