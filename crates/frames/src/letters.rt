@@ -126,10 +126,10 @@ pub(crate) fn clear_all(letters: &mut [Letters])
     letters.fill(Letters::none());
 }
 
-/// Multiplies by a letter, in these runs, the letters at each of these qubits. It is lent the letters alone, so that the loop keeps
-/// where they stand in a register.
+/// Multiplies by a letter, in these runs, the letters at each of these qubits. It is lent the letters
+/// alone, so that the loop keeps their address in a register.
 #[inline(always)]
-pub(crate) fn multiply_at(letters: &mut [Letters], letter: Letter, qubits: &[u16], runs: u64)
+pub(crate) fn multiply_letter(letters: &mut [Letters], letter: Letter, qubits: &[u16], runs: u64)
     requires { TermsFit (length letters.old) (terms_at letter qubits.now) }
     ensures { GoesTo (letters_alone letters.old) (letters_alone letters.new)
         (multiplied_in runs (word_of_terms (length letters.old) (terms_at letter qubits.now))) }

@@ -3,7 +3,7 @@ use Rattle.step_model.specs.Listing.{word_of_terms}
 use Rattle.forward_sim.specs.References.{terms_at}
 use Rattle.frames.specs.private.Followed.{letters_alone, multiplied_in}
 use Rattle.frames.specs.LaneFrames.{GoesTo}
-use Rattle.frames.proofs.letters.multiply_at.Given as goal
+use Rattle.frames.proofs.letters.multiply_letter.Given as goal
 
 -- the letters from a place on are multiplied in
 abbrev pub invariant-loop-left : goal.invariant-loop-left

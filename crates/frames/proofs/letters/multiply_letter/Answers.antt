@@ -14,7 +14,7 @@ use Rattle.frames.specs.private.Followed.{letters_alone, multiplied_in}
 use Rattle.frames.specs.LaneFrames.{GoesTo}
 use Rattle.frames.specs.LaneLetters.{word_in, times_where}
 use Rattle.frames.proofs.LaneFrameLaws.{length-word_in, letter_at-word_in, no_term, put_letters, set-times, times-more, times-none}
-use Rattle.frames.proofs.letters.multiply_at.Goals as goal
+use Rattle.frames.proofs.letters.multiply_letter.Goals as goal
 
 -- as many letters as qubits, each at its own
 count : (a : Letter) (qubits : List ℕ) → length (terms_at a qubits) ≡ length qubits
@@ -35,7 +35,7 @@ inside : (n m i : ℕ) (a : Letter) (qubits : List ℕ) → m ≡ n → i < leng
 inside n m i a qubits same within fit =
     let among : i < length (terms_at a qubits) = omega (arith, within, count a qubits) in
     let fits : get_or qubits i 0 < n = subst (λ (term : Term). term.qubit < n) (at a qubits i within)
-        (All-get_or (λ (term : Term). term.qubit < n) (terms_at a qubits) i no_term among fit) in
+    (All-get_or (λ (term : Term). term.qubit < n) (terms_at a qubits) i no_term among fit) in
     omega (arith, fits, same)
 
 pub bounds-letters-qubit : goal.bounds-letters-qubit
@@ -61,10 +61,10 @@ loop-left-preserved c =
     let within : i < length qubits = omega (arith, c.loop-left.invariant.within) in
     let q_in : q < m = inside n m i a qubits c.loop-left.auto.letters within c.requires in
     let one : GoesTo (letters_alone letters) (letters_alone (set letters q c.times.result)) (multiplied_in runs (lone_letter m q a)) =
-        put_letters (letters_alone letters) q c.times.result (λ j w. multiplied (lane_bit j runs) (lone_letter m q a) w)
-        (λ j.
-        ap (set (word_in j letters) q) (c.times.ensures j ∙ ap (times_where (lane_bit j runs) a) (sym (letter_at-word_in j letters q _ q_in)))
-        ∙ set-times m (lane_bit j runs) (word_in j letters) q a (length-word_in j letters) q_in) in
+    put_letters (letters_alone letters) q c.times.result (λ j w. multiplied (lane_bit j runs) (lone_letter m q a) w)
+    (λ j.
+    ap (set (word_in j letters) q) (c.times.ensures j ∙ ap (times_where (lane_bit j runs) a) (sym (letter_at-word_in j letters q _ q_in)))
+    ∙ set-times m (lane_bit j runs) (word_in j letters) q a (length-word_in j letters) q_in) in
     record {
       within = omega (arith, c.loop-left.invariant.within);
       so_far = times-more n terms i runs (letters_alone c.args.letters.now) (letters_alone letters) (letters_alone (set letters q c.times.result)) refl (omega (arith, within, count a qubits))
