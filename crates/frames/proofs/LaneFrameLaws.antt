@@ -23,7 +23,7 @@ use Rattle.step_model.proofs.StepNumbers.{length-word_of_terms}
 use Rattle.forward_sim.proofs.KeptWords.{word_of_both}
 use Rattle.run_laws.proofs.ShiftSteps.{anticommute-multiplied}
 use Rattle.run_laws.proofs.ShiftWords.{anticommute-lone}
-use Rattle.frames.specs.private.Followed.{multiplied_in}
+use Rattle.frames.specs.private.Followed.{letters_alone, multiplied_in}
 use Rattle.frames.specs.declared.letters.Letters.{Letters}
 use Rattle.frames.specs.LaneFrames.{LaneFrames, frame_in, GoesTo}
 use Rattle.frames.specs.LaneLetters.{letter_in, none_at, word_in, times_where}
@@ -151,6 +151,20 @@ times-both us vs runs old mid new first second =
           ∙ ap (λ w. frame_with w v.records) (multiplied-product b (word_of_terms n us) (word_of_terms n vs) v.word)
           ∙ ap (λ w. frame_with (multiplied b w v.word) v.records) (sym (word_of_both n us vs));
     }
+
+-- the letters alone are multiplied, and the flips stay
+pub times-alone : (old new : LaneFrames) (before after : List Letters) (runs : ℕ) (terms : List Term)
+    → before ≡ old.letters → new.letters ≡ after → new.flips ≡ old.flips → new.room ≡ old.room
+    → GoesTo (letters_alone before) (letters_alone after) (multiplied_in runs (word_of_terms (length before) terms))
+    → GoesTo old new (multiplied_in runs (word_of_terms (length old.letters) terms))
+times-alone old new before after runs terms first last flips room alone = record {
+  qubits = ap length last ∙ alone.qubits ∙ ap length first;
+  room = room;
+  frames = λ j.
+      ap₂ (λ ls fs. frame_with (word_in j ls) (lane j fs)) last flips
+      ∙ ap (λ (u : Frame). frame_with u.word (lane j old.flips)) (alone.frames j)
+      ∙ ap (λ ls. frame_with (multiplied (lane_bit j runs) (word_of_terms (length ls) terms) (word_in j ls)) (lane j old.flips)) first;
+}
 
 -- what goes to the same frames, and two ways one after another
 pub goes_as : (old new : LaneFrames) (f g : ℕ → Frame → Frame) → GoesTo old new f → ((j : ℕ) → f j (frame_in j old) ≡ g j (frame_in j old)) → GoesTo old new g

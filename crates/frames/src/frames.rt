@@ -13,7 +13,7 @@ ghost use Rattle.frames.specs.LaneFrames.{GoesTo, with_record};
 ghost use Rattle.frames.specs.LaneLetters.{letter_in, word_in};
 ghost use Rattle.frames.specs.private.Followed.{multiplied_in};
 
-use crate::letters::{Letters, clear_all};
+use crate::letters::{Letters, clear_all, multiply_letter};
 use crate::steps::word_at;
 use bit_rows::lanes::xor;
 use forward_sim::ReplacedWord;
@@ -151,11 +151,7 @@ impl<A: Allocator + Copy> Frames<A> {
             (multiplied_in runs
             (word_of_terms (length self.old.letters) (terms_at letter qubits.now))) }
     {
-        let mut left = qubits.len();
-        while left > 0 {
-            left -= 1;
-            self.times(letter, qubits[left] as usize, runs);
-        }
+        multiply_letter(&mut self.letters, letter, qubits, runs);
     }
 
     /// The runs whose frame anticommutes with a product of letters at qubits.

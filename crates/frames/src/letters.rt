@@ -1,10 +1,15 @@
 ghost use Rattle.std.specs.Prelude.{◌≡◌, ◌&&◌, ℕ, length, replicate};
+ghost use Rattle.forward_sim.specs.References.{terms_at};
 ghost use Rattle.gate_table.specs.Images.{arity_of, image1, image2};
 ghost use Rattle.bit_rows.specs.Lanes.{lane_bit};
 ghost use Rattle.pauli_word.specs.Bits.{x_bit, z_bit};
 ghost use Rattle.pauli_word.specs.Letters.{letters_clash};
 ghost use Rattle.pauli_word.specs.declared.letter.Letter.TheVariants.{I};
+ghost use Rattle.step_model.specs.Listing.{word_of_terms};
+ghost use Rattle.step_model.specs.WellFormed.{TermsFit};
+ghost use Rattle.frames.specs.LaneFrames.{GoesTo};
 ghost use Rattle.frames.specs.LaneLetters.{letter_in, none_at, times_where};
+ghost use Rattle.frames.specs.private.Followed.{letters_alone, multiplied_in};
 
 use bit_rows::lanes::xor;
 use gate_table::Gate;
@@ -119,4 +124,21 @@ pub(crate) fn clear_all(letters: &mut [Letters])
     ensures { letters.new ≡ replicate (length letters.old) none_at }
 {
     letters.fill(Letters::none());
+}
+
+/// Multiplies by a letter, in these runs, the letters at each of these qubits. It is lent the letters
+/// alone, so that the loop keeps their address in a register.
+#[inline(always)]
+pub(crate) fn multiply_letter(letters: &mut [Letters], letter: Letter, qubits: &[u16], runs: u64)
+    requires { TermsFit (length letters.old) (terms_at letter qubits.now) }
+    ensures { GoesTo (letters_alone letters.old) (letters_alone letters.new)
+        (multiplied_in runs (word_of_terms (length letters.old) (terms_at letter qubits.now))) }
+{
+    let mut left = qubits.len();
+    while left > 0 {
+        left -= 1;
+        let qubit = qubits[left] as usize;
+        let here = letters[qubit];
+        letters[qubit] = here.times(letter, runs);
+    }
 }

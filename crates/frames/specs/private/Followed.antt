@@ -17,6 +17,7 @@ use Rattle.step_model.specs.Listing.{Listing, ListedStep, One, Two, Collapse, Fa
 use Rattle.step_model.specs.Sensitivities.{cleared, multiplied}
 use Rattle.step_model.specs.WellFormed.{TermsFit}
 use Rattle.run_laws.specs.Shifts.{carried_with}
+use Rattle.frames.specs.declared.letters.Letters.{Letters}
 use Rattle.frames.specs.LaneFrames.{LaneFrames, frame_in}
 
 -- a frame, multiplied where b by the word that is kept of a collapse, if there is one
@@ -62,6 +63,10 @@ TurnsAt n replaced (Two gate a b) = ⊤
 TurnsAt n replaced (Collapse c r) = Turns n replaced (measured_word n c)
 TurnsAt n replaced (Fault f) = ⊤
 TurnsAt n replaced (Feedback w r) = ⊤
+
+-- frames before the first record
+abbrev pub letters_alone : List Letters → LaneFrames
+letters_alone letters = record { letters = letters; flips = []; room = 0 }
 
 -- what is done to the frame of each run j: where the run is one of these, it is multiplied by w
 abbrev pub multiplied_in : ℕ → List Letter → ℕ → Frame → Frame
