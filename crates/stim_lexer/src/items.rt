@@ -87,6 +87,7 @@ impl<'a, O: Copy, T: Copy, S: Short<T>, A: Allocator + Copy> Items<'a, O, T, S, 
     }
 
     /// Appends an item with a copy of its targets. It fails only where memory runs out.
+    #[inline(always)]
     #[tactic(auto, using(crate::proofs::FlatLemmas::pushes))]
     pub(crate) fn push(&mut self, node: Node<'a, O>, targets: &[T]) -> Result<(), AllocError>
         ensures ok { OnOk result
@@ -102,6 +103,7 @@ impl<'a, O: Copy, T: Copy, S: Short<T>, A: Allocator + Copy> Items<'a, O, T, S, 
     }
 
     /// Appends the start of a block. It fails only where memory runs out.
+    #[inline(never)]
     pub(crate) fn begin(&mut self, line: u64, turns: u64) -> Result<(), AllocError>
         ensures ok { OnOk result (self.new ≡ with_item (BlockStart line turns) 0 self.old) }
         ensures err { OnErr result (self.new ≡ self.old) }
@@ -110,6 +112,7 @@ impl<'a, O: Copy, T: Copy, S: Short<T>, A: Allocator + Copy> Items<'a, O, T, S, 
     }
 
     /// Appends the end of a block. It fails only where memory runs out.
+    #[inline(never)]
     pub(crate) fn end(&mut self) -> Result<(), AllocError>
         ensures ok { OnOk result (self.new ≡ with_item BlockEnd 0 self.old) }
         ensures err { OnErr result (self.new ≡ self.old) }

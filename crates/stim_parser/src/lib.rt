@@ -8,6 +8,7 @@ mod circuit_judge;
 mod coordinates;
 mod decimal;
 mod digits;
+mod first_target;
 mod forms;
 mod halved;
 mod judge;

@@ -158,6 +158,7 @@ fn push_each<S: Short<Target>, A: Allocator + Copy>(
     Ok(())
 }
 
+#[inline(always)]
 fn push_singles<A: Allocator + Copy>(
     builder: &mut CircuitBuilder<A>,
     single: Single,
@@ -255,34 +256,26 @@ pub(crate) fn push_steps<A: Allocator + Copy>(
     ensures { OnOk result
         (Adds (plain_steps operation products flip (list_in targets.entry)) builder.old builder.new) }
 {
-    match operation {
+    let single = match operation {
         Operation::Applies(gate) => {
-            if gate.arity() == 1 {
-                push_singles(builder, Single::Applies(gate), targets)
-            } else {
-                push_pairs(builder, gate, targets)
+            if gate.arity() != 1 {
+                return push_pairs(builder, gate, targets);
             }
+            Single::Applies(gate)
         }
-        Operation::Measurement(letter) => push_singles(
-            builder,
-            Single::Measurement {
-                letter,
-                reset: false,
-                flip,
-            },
-            targets,
-        ),
-        Operation::MeasurementReset(letter) => push_singles(
-            builder,
-            Single::Measurement {
-                letter,
-                reset: true,
-                flip,
-            },
-            targets,
-        ),
-        Operation::QubitReset(letter) => push_singles(builder, Single::QubitReset(letter), targets),
-        Operation::ProductMeasurement => push_products(builder, flip, products, targets),
-        _ => Ok(()),
-    }
+        Operation::Measurement(letter) => Single::Measurement {
+            letter,
+            reset: false,
+            flip,
+        },
+        Operation::MeasurementReset(letter) => Single::Measurement {
+            letter,
+            reset: true,
+            flip,
+        },
+        Operation::QubitReset(letter) => Single::QubitReset(letter),
+        Operation::ProductMeasurement => return push_products(builder, flip, products, targets),
+        _ => return Ok(()),
+    };
+    push_singles(builder, single, targets)
 }

@@ -97,39 +97,35 @@ impl Totals {
         }
     }
 
-    /// The totals after one more instruction.
+    /// Adds what one more instruction takes.
     #[inline(always)]
-    fn after(self, instruction: Instruction<'_, '_>) -> Totals
+    fn add(&mut self, instruction: Instruction<'_, '_>)
         requires { Fits (instruction_in instruction) }
-        ensures { result ≡ totals_after (instruction_in instruction.entry) self }
+        ensures { self.new ≡ totals_after (instruction_in instruction.entry) self.old }
     {
+        // In place, since a copy of all totals for each instruction takes long. The proof reads what each of them fits.
+        let before = *self;
         let operation = instruction.operation;
         let line = instruction.line;
         let targets = target_count(operation, instruction.targets);
-        let reach = reach_of(self.records, instruction.targets);
-        let totals = Totals {
-            steps: capped_sum(self.steps, 1 + targets),
-            made: capped_sum(self.made, steps_made(operation, targets)),
-            qubits: self.qubits.max(reach.qubits),
-            far_line: first_line(self.far_line, reach.is_far, line),
-            ..self
-        };
+        let reach = reach_of(before.records, instruction.targets);
+        self.steps = capped_sum(before.steps, 1 + targets);
+        self.made = capped_sum(before.made, steps_made(operation, targets));
+        self.qubits = before.qubits.max(reach.qubits);
+        self.far_line = first_line(before.far_line, reach.is_far, line);
         match operation {
             // A gate adds to nothing else, and most lines are gates.
-            Operation::Applies(_) => totals,
+            Operation::Applies(_) => {}
             _ => {
                 let flips = has_argument(instruction);
                 let named = named_to(instruction);
-                Totals {
-                    records: capped_sum(self.records, records_made(operation, targets)),
-                    collapses: capped_sum(self.collapses, collapses_made(operation, targets)),
-                    detectors: capped_sum(self.detectors, detectors_made(operation)),
-                    listed: capped_sum(self.listed, records_listed(operation, targets)),
-                    faults: capped_sum(self.faults, faults_counted(operation, flips, targets)),
-                    observables: self.observables.max(named),
-                    beyond_line: first_line(self.beyond_line, are_beyond_limit(named), line),
-                    ..totals
-                }
+                self.records = capped_sum(before.records, records_made(operation, targets));
+                self.collapses = capped_sum(before.collapses, collapses_made(operation, targets));
+                self.detectors = capped_sum(before.detectors, detectors_made(operation));
+                self.listed = capped_sum(before.listed, records_listed(operation, targets));
+                self.faults = capped_sum(before.faults, faults_counted(operation, flips, targets));
+                self.observables = before.observables.max(named);
+                self.beyond_line = first_line(before.beyond_line, are_beyond_limit(named), line);
             }
         }
     }
@@ -162,7 +158,7 @@ impl Summing {
             self.new.totals self.new.blocks.items }
     {
         match item {
-            Item::InstructionLine(instruction) => self.totals = self.totals.after(instruction),
+            Item::InstructionLine(instruction) => self.totals.add(instruction),
             Item::BlockStart { turns, .. } => self.blocks.push(OpenBlock {
                 turns,
                 before: self.totals,

@@ -8,6 +8,6 @@ use Rattle.stim_parser.specs.declared.target.Target.{Target}
 use Rattle.unroll.specs.private.Passes.{CanStand}
 use Rattle.unroll.proofs.totals.Summing.pass.Goals as goal
 
-pub after-self-requires : goal.after-self-requires
-after-self-requires c =
+pub add-requires : goal.add-requires
+add-requires c =
     subst (λ (item : Item Operation Target ShortTarget). CanStand (item_in item) (array_vec_len c.args.self.now.blocks)) c.in-InstructionLine.is c.requires

@@ -4,7 +4,7 @@ use Rattle.stim_parser.proofs.NumberArguments.{names_number}
 use Rattle.unroll.specs.Totals.{observables_to}
 use Rattle.unroll.proofs.FitLemmas.{qubits_within}
 use Rattle.unroll.proofs.ObservableLemmas.{one-to}
-use Rattle.unroll.proofs.totals.Totals.after.Goals as goal
+use Rattle.unroll.proofs.totals.Totals.add.Goals as goal
 
 pub reach_of-reach-requires : goal.reach_of-reach-requires
 reach_of-reach-requires c = qubits_within (instruction_in c.args.instruction) c.requires
