@@ -107,6 +107,7 @@ fn reset_qubit(reset: bool, qubit: u32) -> Option<u32>
 
 // Goes back over a collapse of a product of letters: judges it, puts the line of the fault that flips its record, and
 // takes the words back.
+#[inline(always)]
 fn collapse<'s, 'p, 'a, A: Allocator + Copy, T: Tracker, L: LineStore>(
     program: &Program<'a, A>,
     terms: &[Term],

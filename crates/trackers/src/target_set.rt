@@ -151,6 +151,7 @@ pub fn make_set<S: TargetSet>(set: &mut S, targets: &[u32]) -> Result<(), AllocE
 }
 
 /// Toggles each of these targets, where `toggle`. What the sets `made` and `spare` held is lost.
+#[inline(always)]
 pub(crate) fn toggle_where<S: TargetSet>(
     toggle: bool,
     set: &mut S,
