@@ -5,6 +5,7 @@ use Rattle.pauli_word.specs.Groups.{identity_word}
 use Rattle.std.proofs.lemmas.List.{length-replicate}
 use Rattle.pauli_word.specs.declared.letter.Letter.TheVariants.{I}
 use Rattle.pauli_word.specs.States.{start_state}
+use Rattle.pauli_word.specs.Words.{Signed}
 use Rattle.pauli_word.specs.private.WordMaps.{KeepsWords}
 use Rattle.tableau.specs.private.CliffordMaps.{IsClifford}
 use Rattle.tableau.specs.private.Decoding.{rows_seen}
@@ -13,6 +14,10 @@ use Rattle.tableau.specs.private.EncodingSteps.{start_pair, start_rows}
 use Rattle.tableau.specs.Rows.{row_count, HasState}
 use Rattle.tableau.proofs.EncodingGates.{Encodes, encodes}
 use Rattle.tableau.proofs.SeenRows.{seen_size, seen_state}
+
+-- the identity has a letter at each qubit
+pub identity_inside : (n q : ℕ) (w : Signed) → w ≡ identity_word n → q < n → q < length w.letters
+identity_inside n q w is h = subst (λ m. q < m) (sym (ap (λ u. length u.letters) is ∙ length-replicate n I)) h
 
 stays_keeps : (n : ℕ) → KeepsWords n (λ p. p)
 stays_keeps n =

@@ -1,13 +1,40 @@
-use Rattle.std.proofs.Common.{length, drop, set, ap, ap₂, sym, subst, ◌∙◌, get_or-set_other}
+use Rattle.std.proofs.Common.{◌<◌, List, length, drop, set, ap, ap₂, sym, subst, ◌∙◌, get_or-set_other}
 use Rattle.pauli_word.specs.declared.letter.Letter.TheVariants.{I, X, Z}
 use Rattle.tableau.specs.private.ControlledSteps.{after_controlled}
-use Rattle.tableau.specs.private.Encoding.{HasLength, IsTableau}
+use Rattle.tableau.specs.private.Encoding.{HasLength, IsTableau, Pair}
 use Rattle.tableau.proofs.ControlledRows.{controlled_rows, written_back}
 use Rattle.tableau.proofs.NewSizes.{two_size}
 use Rattle.tableau.proofs.PairWords.{pair_size, first_made, second_made, two_commute}
 use Rattle.tableau.proofs.gates.apply_two.Given.{Over}
 use Rattle.tableau.proofs.gates.apply_two.Goals as goal
 use Rattle.tableau.proofs.gates.apply_two.Goals.{After-index_mut-2, After-set_products-2}
+
+pub index-requires : goal.index-requires
+index-requires g c = subst (λ m. c.args.a < m) (sym c.args.rows.now.ok.0) c.requires.first_inside
+
+pub index-requires-2 : goal.index-requires-2
+index-requires-2 g c = subst (λ m. c.args.b < m) (sym c.args.rows.now.ok.0) c.requires.second_inside
+
+pub index-requires-3 : goal.index-requires-3
+index-requires-3 g c = subst (λ m. c.args.a < m) (sym c.args.rows.now.ok.0) c.requires.first_inside
+
+pub index-requires-4 : goal.index-requires-4
+index-requires-4 g c = subst (λ m. c.args.b < m) (sym c.args.rows.now.ok.0) c.requires.second_inside
+
+pub index_mut-requires : goal.index_mut-requires
+index_mut-requires g c = subst (λ m. c.args.a < m) (sym c.args.rows.now.ok.0) c.requires.first_inside
+
+pub set_products-requires-clause-arity : goal.set_products-requires-clause-arity
+set_products-requires-clause-arity g c = c.requires.arity
+
+pub set_products-requires-clause-new : goal.set_products-requires-clause-new
+set_products-requires-clause-new g c = subst (λ m. HasLength m c.args.first.now) (sym c.requires.first.x) c.requires.first
+
+pub set_products-requires-2-clause-arity : goal.set_products-requires-2-clause-arity
+set_products-requires-2-clause-arity g c = c.requires.arity
+
+pub set_products-requires-2-clause-new : goal.set_products-requires-2-clause-new
+set_products-requires-2-clause-new g c = subst (λ m. HasLength m c.args.second.now) (sym c.requires.second.x) c.requires.second
 
 pub set_products-requires-clause-first : goal.set_products-requires-clause-first
 set_products-requires-clause-first g c =
@@ -85,6 +112,24 @@ returns-clause-first g c = first_long g (goal.at.returns-clause-first g c).After
 
 pub returns-clause-second : goal.returns-clause-second
 returns-clause-second g c = second_long g (goal.at.returns-clause-second g c).After-set_products-2
+
+pub apply_controlled-requires-clause-own : goal.apply_controlled-requires-clause-own
+apply_controlled-requires-clause-own g c = c.in-Some.ensures.own
+
+pub apply_controlled-requires-clause-first_inside : goal.apply_controlled-requires-clause-first_inside
+apply_controlled-requires-clause-first_inside g c = subst (λ (l : List Pair). c.args.a < length l) (sym c.as_mut_slice.ensures.value) c.requires.first_inside
+
+pub apply_controlled-requires-clause-second_inside : goal.apply_controlled-requires-clause-second_inside
+apply_controlled-requires-clause-second_inside g c = subst (λ (l : List Pair). c.args.b < length l) (sym c.as_mut_slice.ensures.value) c.requires.second_inside
+
+pub apply_controlled-requires-clause-differ : goal.apply_controlled-requires-clause-differ
+apply_controlled-requires-clause-differ g c = c.requires.differ
+
+pub returns-in-Some-clause-first : goal.returns-in-Some-clause-first
+returns-in-Some-clause-first g c = c.requires.first
+
+pub returns-in-Some-clause-second : goal.returns-in-Some-clause-second
+returns-in-Some-clause-second g c = c.requires.second
 
 pub apply_controlled-requires-clause-tableau : goal.apply_controlled-requires-clause-tableau
 apply_controlled-requires-clause-tableau g c = subst (λ l. IsTableau (length l) l) (sym c.as_mut_slice.ensures.value) c.requires.tableau
