@@ -1,7 +1,8 @@
 -- The images of X and Z at each of two qubits under a gate's inverse, as they are looked up.
-use Rattle.std.proofs.Common.{◌≡◌, Bool, ap, ap₂, ◌∙◌}
+use Rattle.std.proofs.Common.{◌≡◌, ℕ, Bool, ap, ap₂, ◌∙◌}
 use Rattle.gate_table.specs.declared.gate.Gate.{Gate}
-use Rattle.gate_table.specs.Images.{image2, inverse_of}
+use Rattle.gate_table.specs.Images.{arity_of, image2, inverse_of}
+use Rattle.gate_table.proofs.Inverses.{arity_of-inverse_of}
 use Rattle.pauli_word.specs.declared.letter.Letter.{Letter}
 use Rattle.pauli_word.specs.declared.letter.Letter.TheVariants.{I, X, Z}
 
@@ -34,3 +35,7 @@ images_of gate inverse xa za xb zb is_inverse is_xa is_za is_xb is_zb =
       to_first = ap₂ firsts xb_is zb_is;
       to_second = ap₂ seconds xa_is za_is;
     }
+
+-- it acts on as many qubits
+pub arity_kept : (gate inverse : Gate) {n : ℕ} → inverse ≡ inverse_of gate → arity_of gate ≡ n → arity_of inverse ≡ n
+arity_kept gate inverse is h = ap arity_of is ∙ (arity_of-inverse_of gate ∙ h)

@@ -1,6 +1,7 @@
 -- Columns that are lent, changed and given back.
-use Rattle.std.proofs.Common.{◌≡◌, ℕ, Bool, List, Result, OnOk, length, ap, subst, sym, ◌∙◌}
+use Rattle.std.proofs.Common.{◌≡◌, ℕ, Bool, List, Result, OnOk, length, set, ap, subst, sym, ◌∙◌}
 use Rattle.std.specs.Prelude.{All}
+use Rattle.std.proofs.lemmas.List.Elements.{All-set}
 use Rattle.std.proofs.lemmas.Result.{on_ok_weaker}
 use Rattle.pauli_word.specs.declared.letter.Letter.{Letter}
 use Rattle.trackers.specs.Tracked.{Tracked, each_word}
@@ -19,6 +20,19 @@ given_back {m} now made first_now spare_now h same long first_stays spare_stays 
       first_long = first_stays ∙ h.first_long;
       second_long = h.second_long;
       set_long = h.set_long;
+      spare_long = spare_stays ∙ h.spare_long;
+      few = h.few;
+    }
+
+-- the same of one column that was changed where it stands
+pub column_given_back : {m : ℕ} {columns : List (List Letter)} {first second : List Letter} {row spare : List Bool} (q : ℕ) (column first_now : List Letter) (row_now spare_now : List Bool) → IsTransposed m columns first second row spare
+    → length column ≡ m → length first_now ≡ length first → length row_now ≡ length row → length spare_now ≡ length spare → IsTransposed m (set columns q column) first_now second row_now spare_now
+column_given_back {m} {columns} q column first_now row_now spare_now h long first_stays row_stays spare_stays =
+    record {
+      columns_long = All-set (λ column. length column ≡ m) columns q column long h.columns_long;
+      first_long = first_stays ∙ h.first_long;
+      second_long = h.second_long;
+      set_long = row_stays ∙ h.set_long;
       spare_long = spare_stays ∙ h.spare_long;
       few = h.few;
     }

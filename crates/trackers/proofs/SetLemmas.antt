@@ -5,7 +5,7 @@ use Rattle.std.specs.List.{range_with_len, refill, slice_range}
 use Rattle.std.proofs.Math.Nat.{suc_inj}
 use Rattle.std.proofs.lemmas.Bool.{eqb-true, ltb-true, ltb-false, lt-ltb, le-ltb, cases_eq, eq-eqb, ne_eqb}
 use Rattle.trackers.proofs.RangeLemmas.{filter_range_agree, filter_range_taken, filter_range_left, set-map-range}
-use Rattle.std.proofs.lemmas.List.{drop_all, reverse-append, take-take, take-append-le, take-append-drop, drop-take}
+use Rattle.std.proofs.lemmas.List.{drop_all, drop_more, reverse-append, take-take, take-append-le, take-append-drop, drop-take}
 use Rattle.pauli_word.specs.Parity.{exclusive_or}
 use Rattle.pauli_word.proofs.Parities.{exclusive_or-false, exclusive_or_assoc, exclusive_or_left_comm}
 use Rattle.step_model.specs.Targets.{is_listed}
@@ -101,6 +101,34 @@ reverse_is_listed (suc m) (x ∷ xs) h =
   where
     next : m + 1 ≡ suc m
     next = omega arith
+
+-- ---- a step of a merge: the greater of two comes first, equal ones cancel
+module _ (first second : List ℕ) (i j : ℕ) (some_first : i < length first) (some_second : j < length second) where
+  abbrev x : ℕ
+  x = get_or first i 0
+
+  abbrev y : ℕ
+  y = get_or second j 0
+
+  abbrev by_order : Bool → Bool → List ℕ
+  by_order b c =
+      if b then x ∷ xor_sets (drop (i + 1) first) (y ∷ drop (j + 1) second) else (if c then y ∷ xor_sets (x ∷ drop (i + 1) first) (drop (j + 1) second) else xor_sets (drop (i + 1) first) (drop (j + 1) second))
+
+  both_drop : xor_sets (drop i first) (drop j second) ≡ by_order (nat_lt y x) (nat_lt x y)
+  both_drop = ap₂ xor_sets (drop_more first i 0 some_first) (drop_more second j 0 some_second)
+
+  pub greater_first : y < x → x ∷ xor_sets (drop (i + 1) first) (drop j second) ≡ xor_sets (drop i first) (drop j second)
+  greater_first h =
+      ap (λ l. x ∷ xor_sets (drop (i + 1) first) l) (drop_more second j 0 some_second)
+      ∙ sym (both_drop ∙ ap (λ b. by_order b (nat_lt x y)) (lt-ltb y x h))
+
+  pub greater_second : x < y → y ∷ xor_sets (drop i first) (drop (j + 1) second) ≡ xor_sets (drop i first) (drop j second)
+  greater_second h =
+      ap (λ l. y ∷ xor_sets l (drop (j + 1) second)) (drop_more first i 0 some_first)
+      ∙ sym (both_drop ∙ ap₂ by_order (le-ltb y x (omega (arith, h))) (lt-ltb x y h))
+
+  pub both_cancel : x ≤ y → y ≤ x → xor_sets (drop (i + 1) first) (drop (j + 1) second) ≡ xor_sets (drop i first) (drop j second)
+  both_cancel h k = sym (both_drop ∙ ap₂ by_order (le-ltb y x h) (le-ltb x y k))
 
 -- ---- the end of a merge: one of the two is used up
 pub first_left : (first second : List ℕ) (i j : ℕ) → (length first ≤ i) ⊎ (length second ≤ j) → i < length first → drop i first ≡ xor_sets (drop i first) (drop j second)

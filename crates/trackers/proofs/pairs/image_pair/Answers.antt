@@ -5,7 +5,20 @@ use Rattle.gate_table.specs.Images.{image2, inverse_of}
 use Rattle.pauli_word.specs.declared.letter.Letter.TheVariants.{I, X, Z}
 use Rattle.pauli_word.specs.Words.{letters_product}
 use Rattle.trackers.specs.private.Transposed.{combined}
+use Rattle.trackers.proofs.GateLemmas.{arity_kept}
 use Rattle.trackers.proofs.pairs.image_pair.Goals as goal
+
+pub image2-xa-requires : goal.image2-xa-requires
+image2-xa-requires g c = arity_kept c.args.gate c.inverse-inverse.result c.inverse-inverse.ensures c.requires.arity
+
+pub image2-za-requires : goal.image2-za-requires
+image2-za-requires g c = arity_kept c.args.gate c.inverse-inverse.result c.inverse-inverse.ensures c.requires.arity
+
+pub image2-xb-requires : goal.image2-xb-requires
+image2-xb-requires g c = arity_kept c.args.gate c.inverse-inverse.result c.inverse-inverse.ensures c.requires.arity
+
+pub image2-zb-requires : goal.image2-zb-requires
+image2-zb-requires g c = arity_kept c.args.gate c.inverse-inverse.result c.inverse-inverse.ensures c.requires.arity
 
 pub set_images-requires-clause-first : goal.set_images-requires-clause-first
 set_images-requires-clause-first g c = ap length c.index-columns-a.is ∙ (c.requires.long c.args.a _ c.requires.first_place ∙ sym c.requires.first_long)

@@ -17,8 +17,7 @@ add_parts-requires-clause-spare g c = c.requires.spare ∙ sym c.requires.from
 
 pub returns-in_err-add_parts-clause-len : goal.returns-in_err-add_parts-clause-len
 returns-in_err-add_parts-clause-len g c =
-    let bits = g.S.TargetSet.bits in
-    stays_long (bits c.self.inside.x) (bits c.self.inside.z) (bits c.add_parts.new.set) (bits c.self.inside.z) c.args.self.now c.self.invariant c.self.view_is c.add_parts.ensures.len refl
+    stays_long (g.S.TargetSet.bits c.self.inside.x) (g.S.TargetSet.bits c.self.inside.z) (g.S.TargetSet.bits c.add_parts.new.set) (g.S.TargetSet.bits c.self.inside.z) c.args.self.now c.self.invariant c.self.view_is c.add_parts.ensures.len refl
 
 pub add_parts-requires-2-clause-set : goal.add_parts-requires-2-clause-set
 add_parts-requires-2-clause-set g c =
@@ -31,8 +30,7 @@ add_parts-requires-2-clause-spare g c = c.add_parts.ensures.spare ∙ (c.require
 
 pub returns-clause-len : goal.returns-clause-len
 returns-clause-len g c =
-    let bits = g.S.TargetSet.bits in
-    stays_long (bits c.self.inside.x) (bits c.self.inside.z) (bits c.add_parts.new.set) (bits c.add_parts-2.new.set) c.args.self.now c.self.invariant c.self.view_is c.add_parts.ensures.len c.add_parts-2.ensures.len
+    stays_long (g.S.TargetSet.bits c.self.inside.x) (g.S.TargetSet.bits c.self.inside.z) (g.S.TargetSet.bits c.add_parts.new.set) (g.S.TargetSet.bits c.add_parts-2.new.set) c.args.self.now c.self.invariant c.self.view_is c.add_parts.ensures.len c.add_parts-2.ensures.len
 
 pub returns-clause-ok : goal.returns-clause-ok
 returns-clause-ok g c =

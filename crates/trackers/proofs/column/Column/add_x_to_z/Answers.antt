@@ -15,8 +15,7 @@ add-requires-clause-spare g c =
 
 pub returns-clause-len : goal.returns-clause-len
 returns-clause-len g c =
-    let bits = g.S.TargetSet.bits in
-    stays_long (bits c.self.inside.x) (bits c.self.inside.z) (bits c.self.inside.x) (bits c.add.new.self) c.args.self.now c.self.invariant c.self.view_is refl c.add.ensures.len
+    stays_long (g.S.TargetSet.bits c.self.inside.x) (g.S.TargetSet.bits c.self.inside.z) (g.S.TargetSet.bits c.self.inside.x) (g.S.TargetSet.bits c.add.new.self) c.args.self.now c.self.invariant c.self.view_is refl c.add.ensures.len
 
 pub returns-clause-ok : goal.returns-clause-ok
 returns-clause-ok g c =

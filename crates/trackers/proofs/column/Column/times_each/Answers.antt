@@ -26,8 +26,7 @@ toggle_where-requires-clause-spare g c =
 
 pub returns-in_err-toggle_where-clause-len : goal.returns-in_err-toggle_where-clause-len
 returns-in_err-toggle_where-clause-len g c =
-    let bits = g.S.TargetSet.bits in
-    stays_long (bits c.self.inside.x) (bits c.self.inside.z) (bits c.toggle_where.new.set) (bits c.self.inside.z) c.args.self.now c.self.invariant c.self.view_is c.toggle_where.ensures.len refl
+    stays_long (g.S.TargetSet.bits c.self.inside.x) (g.S.TargetSet.bits c.self.inside.z) (g.S.TargetSet.bits c.toggle_where.new.set) (g.S.TargetSet.bits c.self.inside.z) c.args.self.now c.self.invariant c.self.view_is c.toggle_where.ensures.len refl
 
 pub toggle_where-requires-2-clause-targets : goal.toggle_where-requires-2-clause-targets
 toggle_where-requires-2-clause-targets g c =
@@ -49,8 +48,7 @@ toggle_where-requires-2-clause-spare g c =
 
 pub returns-clause-len : goal.returns-clause-len
 returns-clause-len g c =
-    let bits = g.S.TargetSet.bits in
-    stays_long (bits c.self.inside.x) (bits c.self.inside.z) (bits c.toggle_where.new.set) (bits c.toggle_where-2.new.set) c.args.self.now c.self.invariant c.self.view_is c.toggle_where.ensures.len c.toggle_where-2.ensures.len
+    stays_long (g.S.TargetSet.bits c.self.inside.x) (g.S.TargetSet.bits c.self.inside.z) (g.S.TargetSet.bits c.toggle_where.new.set) (g.S.TargetSet.bits c.toggle_where-2.new.set) c.args.self.now c.self.invariant c.self.view_is c.toggle_where.ensures.len c.toggle_where-2.ensures.len
 
 pub returns-clause-ok : goal.returns-clause-ok
 returns-clause-ok g c =

@@ -5,10 +5,22 @@ use Rattle.pauli_word.specs.declared.letter.Letter.TheVariants.{X, Z}
 use Rattle.trackers.specs.Tracked.{undone_two}
 use Rattle.trackers.specs.private.Transposed.{exchanged_at, multiplied_at}
 use Rattle.trackers.proofs.ExchangeLemmas.{undone-exchanged}
-use Rattle.trackers.proofs.GateLemmas.{images_of}
+use Rattle.trackers.proofs.GateLemmas.{arity_kept, images_of}
 use Rattle.trackers.proofs.MultiplyLemmas.{each_word-same, undone-multiplied}
 use Rattle.trackers.proofs.words.Words.undo_by_table.Goals as goal
 use Rattle.trackers.proofs.words.Words.undo_by_table.Goals.{then-is_kept, else-is_kept}
+
+pub image2-xa-requires : goal.image2-xa-requires
+image2-xa-requires g c = arity_kept c.args.gate c.inverse-inverse.result c.inverse-inverse.ensures c.requires.arity
+
+pub image2-za-requires : goal.image2-za-requires
+image2-za-requires g c = arity_kept c.args.gate c.inverse-inverse.result c.inverse-inverse.ensures c.requires.arity
+
+pub image2-xb-requires : goal.image2-xb-requires
+image2-xb-requires g c = arity_kept c.args.gate c.inverse-inverse.result c.inverse-inverse.ensures c.requires.arity
+
+pub image2-zb-requires : goal.image2-zb-requires
+image2-zb-requires g c = arity_kept c.args.gate c.inverse-inverse.result c.inverse-inverse.ensures c.requires.arity
 
 pub multiply-requires-clause-x_is_lost : goal.multiply-requires-clause-x_is_lost
 multiply-requires-clause-x_is_lost g c = c.is_lost.ensures c.if-is_lost.true

@@ -1,9 +1,10 @@
-use Rattle.std.proofs.Common.{◌≡◌, ◌<◌, [], length, set, get_or, ap, sym, ◌∙◌, arith}
+use Rattle.std.proofs.Common.{◌≡◌, ◌<◌, [], length, set, get_or, refl, ap, sym, ◌∙◌, arith}
 use Rattle.std.proofs.lemmas.List.{get_or_default}
 use Rattle.std.proofs.lemmas.List.FromFn.{length-map-range_with_len}
 use Rattle.std.proofs.lemmas.Result.{on_ok_weaker}
 use Rattle.trackers.specs.Tracked.{Tracked, added}
 use Rattle.trackers.specs.private.Transposed.{tracked_of, word_at, times_each}
+use Rattle.trackers.proofs.LengthLemmas.{column_given_back}
 use Rattle.trackers.proofs.TransposedLemmas.{tracked_added}
 use Rattle.trackers.proofs.words.WordsTracker.add.Goals as goal
 
@@ -34,6 +35,14 @@ times_each-requires-clause-spare g c =
     let count = ap (λ (t : Tracked). t.qubits) c.self.view_is in
     let within : q < length columns = omega (arith, count, c.requires.in_range) in
     c.self.invariant.spare_long ∙ sym (ap length c.index_mut.ensures.value ∙ c.self.invariant.columns_long q _ within)
+
+pub invariant_of-self : goal.invariant_of-self
+invariant_of-self g c =
+    let bits = g.S.TargetSet.bits in
+    let within : c.args.q < length c.self.inside.columns.items = omega (arith, ap (λ (t : Tracked). t.qubits) c.self.view_is, c.requires.in_range) in
+    column_given_back c.args.q c.times_each.new.self c.self.inside.first (bits c.times_each.new.set) (bits c.times_each.new.spare) c.self.invariant
+    (c.times_each.ensures.len ∙ (ap length c.index_mut.ensures.value ∙ c.self.invariant.columns_long c.args.q _ within))
+    refl c.times_each.ensures.set c.times_each.ensures.spare
 
 pub returns : goal.returns
 returns g c =
