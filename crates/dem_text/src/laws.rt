@@ -1,7 +1,9 @@
 //! Laws of error models' texts. Each is the contract of a function that does nothing.
 
-ghost use Rattle.std.specs.Prelude.{◌≡◌, ◌⊎◌, ℕ, List, Err};
+ghost use Rattle.std.specs.Prelude.{◌≡◌, ℕ, List, Err};
 ghost use Rattle.step_model.specs.declared.fault.Fault.{Fault};
+ghost use Rattle.stim_lexer.specs.JudgedOnce.{AreJudgedOnce};
+ghost use Rattle.dem_text.specs.Texts.{models};
 ghost use Rattle.dem_text.specs.Fitting.{IsAccepted};
 ghost use Rattle.dem_text.specs.Trees.{Tree};
 ghost use Rattle.dem_text.specs.Judged.{Writes, IsRefusedBy};
@@ -9,17 +11,7 @@ ghost use Rattle.dem_text.specs.Models.{model_in, model_of_tree};
 
 /// The lines of each text make exactly one tree, or are refused by exactly one fault, and never both.
 pub fn texts_are_judged_once()
-    ensures judged { (text : List ℕ)
-        → ((tree : Tree) × Writes text tree) ⊎ ((fault : Fault) × IsRefusedBy text fault) }
-    ensures one_tree { (text : List ℕ) (t u : Tree) → Writes text t → Writes text u → t ≡ u }
-    ensures one_fault { (text : List ℕ) (f g : Fault)
-        → IsRefusedBy text f
-        → IsRefusedBy text g
-        → f ≡ g }
-    ensures not_both { (text : List ℕ) (t : Tree) (f : Fault)
-        → Writes text t
-        → IsRefusedBy text f
-        → ⊥ }
+    ensures { AreJudgedOnce models }
 {}
 
 /// In a tree that a text writes, each instruction has the arguments and targets that its name takes, each block has a

@@ -1,14 +1,14 @@
 -- The letters X and Z of a word, as terms, make the word; and those of the destabilizer of a row that a collapse names are
 -- what is kept of the collapse.
 use Rattle.std.proofs.Common.{◌≡◌, ℕ, zero, suc, ◌+◌, ◌<◌, Bool, true, false, List, [], ◌∷◌, ◌++◌, length, set, Option, Some, None, refl, sym, ap, ap₂, subst, ◌∙◌, arith, append-nil}
-use Rattle.std.specs.Prelude.{IfSome, IfNone, if◌then◌else◌, map}
+use Rattle.std.specs.Prelude.{IfSome, if◌then◌else◌, map}
 use Rattle.std.proofs.lemmas.Bool.{false≢true}
 use Rattle.std.proofs.lemmas.List.{length-map}
 use Rattle.std.proofs.lemmas.List.Elements.{All-append, All-nil, All-cons}
 use Rattle.pauli_word.specs.declared.letter.Letter.{Letter}
 use Rattle.pauli_word.specs.declared.letter.Letter.TheVariants.{I, X, Y, Z}
 use Rattle.pauli_word.specs.Letters.{letter_product, letters_clash}
-use Rattle.pauli_word.specs.States.{State, is_decided}
+use Rattle.pauli_word.specs.States.{State}
 use Rattle.pauli_word.specs.Words.{signed, anticommute, letter_at, letters_product, lone_letter, no_letters}
 use Rattle.pauli_word.proofs.LetterLaws.{letter_product-I}
 use Rattle.pauli_word.proofs.LoneLetters.{letters_product-lone_letter, letters_product_of_no_letters}
@@ -17,7 +17,7 @@ use Rattle.step_model.specs.declared.step.Term.{Term}
 use Rattle.step_model.specs.Listing.{word_of_terms}
 use Rattle.step_model.specs.WellFormed.{TermsFit}
 use Rattle.step_model.proofs.StepNumbers.{length-word_of_terms}
-use Rattle.tableau.specs.Rows.{Rows, row_count, state_of, stabilizer_at, destabilizer_at, IsReplaced}
+use Rattle.tableau.specs.Rows.{Rows, row_count, state_of, stabilizer_at, destabilizer_at, IsCollapsed}
 use Rattle.forward_sim.specs.private.Kept.{clashing, terms_of_word, entry_for, NamesRow}
 use Rattle.forward_sim.specs.References.{entry_of, terms_at, IsEntry, IsReplacing}
 
@@ -119,14 +119,15 @@ terms_fit n w h =
     (parts_fit Z X 0 w n size) (parts_fit X Z 0 w n size)
 
 -- the row that a collapse names
-pub names_row : (old new : Rows) (w : List Letter) (row : Option ℕ) → row_count new ≡ row_count old → IfNone row (is_decided (state_of old) w ≡ true) → IfSome row (λ r. is_decided (state_of old) w ≡ false) → IfSome row (IsReplaced old new w) → NamesRow old new w row
-names_row old new w None size decided random replaced = decided
-names_row old new w (Some row) size decided random replaced =
+pub names_row : (old new : Rows) (w : List Letter) (coin seen : Bool) (row : Option ℕ) → IsCollapsed old new w coin seen row → NamesRow old new w row
+names_row old new w coin seen None made = made.decided
+names_row old new w coin seen (Some row) made =
     let v = stabilizer_at old row in
-    let inside : row < row_count new = omega (arith, replaced.inside, size) in (
+    let replaced = made.replaced in
+    let inside : row < row_count new = omega (arith, replaced.inside, made.len) in (
       inside,
       record {
-        random = random;
+        random = made.random;
         in_state = (v.negative, ap (λ letters. state_of old (signed letters v.negative)) replaced.becomes_destabilizer ∙ replaced.was_in_state);
         anticommutes = ap (anticommute w) replaced.becomes_destabilizer ∙ replaced.anticommuted;
       },
@@ -139,9 +140,16 @@ entry_is n s w [] fit replacing =
 entry_is n s w (term ∷ terms) fit replacing = (fit, replacing)
 
 -- what is kept of a collapse that names a row
-pub kept_entry : (n : ℕ) (old new : Rows) (w : List Letter) (row : Option ℕ) → IfSome row (λ r. length (destabilizer_at new r).letters ≡ n) → NamesRow old new w row → IsEntry n (state_of old) w (entry_for new row)
-kept_entry n old new w None long named = named
-kept_entry n old new w (Some row) long named =
+row_entry : (n : ℕ) (old new : Rows) (w : List Letter) (row : Option ℕ) → IfSome row (λ r. length (destabilizer_at new r).letters ≡ n) → NamesRow old new w row → IsEntry n (state_of old) w (entry_for new row)
+row_entry n old new w None long named = named
+row_entry n old new w (Some row) long named =
     let v = (destabilizer_at new row).letters in
     entry_is n (state_of old) w (terms_of_word v) (terms_fit n v long)
     (subst (IsReplacing (state_of old) w) (sym (word_of_its_terms n v long)) named.1)
+
+-- and is read from the rows after it, which are as many
+pub kept_entry : (n m : ℕ) (old new : Rows) (w : List Letter) (row : Option ℕ) (entry : Option (List Term)) → m ≡ n → IfSome row (λ r. length (destabilizer_at new r).letters ≡ m) → entry ≡ entry_for new row → NamesRow old new w row
+    → IsEntry n (state_of old) w entry
+kept_entry n m old new w row entry same long read named =
+    subst (IsEntry n (state_of old) w) (sym read)
+    (row_entry n old new w row (subst (λ k. IfSome row (λ r. length (destabilizer_at new r).letters ≡ k)) same long) named)

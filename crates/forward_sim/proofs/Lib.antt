@@ -15,5 +15,6 @@ pub mod WordLemmas
 pub mod HalfLemmas
 pub mod BoundLemmas
 pub mod LaneLemmas
+pub mod LaneWords
 pub mod PairLemmas
 pub mod SideLemmas

@@ -24,6 +24,10 @@ drop-no_step steps place none = elim (slice_get_cases steps place).1 [
   | inr over ↦ drop_all place steps over.0
 ]
 
+-- a step as it is listed
+abbrev pub listed_of : KeptProgram → Step → ListedStep
+listed_of program s = listed program.listing.qubits program.products s
+
 -- a walk over a program went over a step
 pub record GoesOver (program : KeptProgram) (old new : Walked) (s : Step) : Type 0 where
   pub named : IsStepOf program s

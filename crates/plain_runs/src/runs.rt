@@ -11,9 +11,7 @@ ghost use Rattle.plain_runs.specs.private.PlainSteps.{ResetFits, WordsFit, liste
 use crate::given::Run;
 use crate::plain_step::{PlainStep, Recording};
 use crate::unrolled::Unrolled;
-use crate::words::{
-    anticommutes, preimage, preimage_of_two, product, uncorrected, with_sign_changed,
-};
+use crate::words::{anticommutes, image, image_of_two, product, uncorrected, with_sign_changed};
 use pauli_word::{Letter, Word};
 use programs::Program;
 use std::alloc::{AllocError, Allocator};
@@ -94,11 +92,11 @@ fn is_in_after<A: Allocator + Copy>(
 {
     match step {
         PlainStep::One { gate, q } => {
-            let earlier = preimage(*gate, *q, word)?;
+            let earlier = image(gate.inverse(), *q, word)?;
             is_in(run, steps, &earlier)
         }
         PlainStep::Two { gate, a, b } => {
-            let earlier = preimage_of_two(*gate, *a, *b, word)?;
+            let earlier = image_of_two(gate.inverse(), *a, *b, word)?;
             is_in(run, steps, &earlier)
         }
         PlainStep::Collapse {

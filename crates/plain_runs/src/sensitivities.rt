@@ -9,7 +9,7 @@ ghost use Rattle.plain_runs.specs.private.PlainSteps.{ResetFits, WordsFit, liste
 use crate::given::collapses_before;
 use crate::plain_step::{PlainStep, Recording, plain_step};
 use crate::unrolled::Unrolled;
-use crate::words::{anticommutes, cleared, multiplied, preimage, preimage_of_two};
+use crate::words::{anticommutes, cleared, image, image_of_two, multiplied};
 use pauli_word::{Letter, Word};
 use programs::Program;
 use std::alloc::{AllocError, Allocator};
@@ -149,10 +149,10 @@ fn go_back_over_plain<A: Allocator + Copy>(
 {
     match step {
         PlainStep::One { gate, q } => {
-            s.word = preimage(*gate, *q, &s.word)?;
+            s.word = image(gate.inverse(), *q, &s.word)?;
         }
         PlainStep::Two { gate, a, b } => {
-            s.word = preimage_of_two(*gate, *a, *b, &s.word)?;
+            s.word = image_of_two(gate.inverse(), *a, *b, &s.word)?;
         }
         PlainStep::Collapse {
             word,

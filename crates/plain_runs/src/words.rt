@@ -1,7 +1,7 @@
 //! Signed words, changed letter by letter.
 ghost use Rattle.std.specs.Prelude.{◌≡◌, ◌<◌, length, false, not, All, IfOk, Bool, List};
 ghost use Rattle.gate_table.specs.Images.{arity_of};
-ghost use Rattle.gate_table.specs.WordImages.{image_at, image_at_two, preimage_at, preimage_at_two};
+ghost use Rattle.gate_table.specs.WordImages.{image_at, image_at_two};
 ghost use Rattle.pauli_word.specs.declared.letter.Letter.{Letter};
 ghost use Rattle.pauli_word.specs.States.{State, correcting};
 ghost use Rattle.pauli_word.specs.Words.{anticommute, lone_letter, product, signed, with_sign_changed};
@@ -14,33 +14,6 @@ use gate_table::Gate;
 use pauli_word::{Letter, Word};
 use std::alloc::{AllocError, Allocator};
 use step_model::Term;
-
-/// The word that a gate turns into this one.
-pub(crate) fn preimage<A: Allocator + Copy>(
-    gate: Gate,
-    qubit: u32,
-    word: &Word<A>,
-) -> Result<Word<A>, AllocError>
-    requires arity { arity_of gate ≡ 1 }
-    requires qubit { qubit < length word.now.letters }
-    ensures { IfOk result (λ w. w ≡ preimage_at gate qubit word.now) }
-{
-    image(gate.inverse(), qubit, word)
-}
-
-pub(crate) fn preimage_of_two<A: Allocator + Copy>(
-    gate: Gate,
-    first: u32,
-    second: u32,
-    word: &Word<A>,
-) -> Result<Word<A>, AllocError>
-    requires arity { arity_of gate ≡ 2 }
-    requires first { first < length word.now.letters }
-    requires second { second < length word.now.letters }
-    ensures { IfOk result (λ w. w ≡ preimage_at_two gate first second word.now) }
-{
-    image_of_two(gate.inverse(), first, second, word)
-}
 
 /// The word that a gate turns this one into.
 pub(crate) fn image<A: Allocator + Copy>(

@@ -13,7 +13,7 @@ use Rattle.pauli_word.proofs.WordLaws.{anticommute_comm}
 use Rattle.tableau.specs.private.Decoding.{decoded, rows_seen}
 use Rattle.tableau.specs.private.Encoding.{Pair, word_of, encoded, IsTableau, HasLength}
 use Rattle.tableau.specs.private.EncodingSteps.{lone, mapped, code_of, row_map, collapsed_at, after_collapse, outcome_of}
-use Rattle.tableau.specs.Rows.{Rows, row_count, stabilizer_at, destabilizer_at, state_of, HasState, IsReplaced}
+use Rattle.tableau.specs.Rows.{Rows, row_count, stabilizer_at, destabilizer_at, state_of, HasState, IsReplaced, IsCollapsed}
 use Rattle.tableau.proofs.DecodingLaws.{decoded_size, encode_decode, decode_encode}
 use Rattle.tableau.proofs.DiagonalWords.{Z_in_start}
 use Rattle.tableau.proofs.EncodingCollapse.{collapse_is, decided_here_by, random_undecided, low, P_size}
@@ -33,10 +33,7 @@ pub record Keeps (n : ℕ) (old : Rows) (new : List Pair) (state : State) : Type
 -- and what they owe after a collapse of w that saw this outcome, and named this row
 pub record Collapses (n : ℕ) (old : Rows) (new : List Pair) (w : List Letter) (coin seen : Bool) (row : Option ℕ) : Type 0 where
   pub keeps : Keeps n old new (collapsed w coin (state_of old))
-  pub outcome_is : seen ≡ outcome (state_of old) w coin
-  pub decided : IfNone row (is_decided (state_of old) w ≡ true)
-  pub random : IfSome row (λ k. is_decided (state_of old) w ≡ false)
-  pub replaced : IfSome row (IsReplaced old (rows_seen new) w)
+  pub owed : IsCollapsed old (rows_seen new) w coin seen row
 
 module _ (rows : List Pair) (old : Rows) (is : IsTableau (length rows) rows) (same : rows_seen rows ≡ old) where
   abbrev n : ℕ
@@ -190,12 +187,18 @@ module _ (rows : List Pair) (old : Rows) (is : IsTableau (length rows) rows) (sa
 
       pub collapses : (seen : Bool) → seen ≡ outcome_of code coin → (row : Option ℕ) → row ≡ lowest_X_or_Y code.letters → Collapses n old new w coin seen row
       collapses seen seen_is row row_is =
+          let keeps : Keeps n old new (collapsed w coin (state_of old)) =
+          record { tableau = new_tableau new collapsed_tableau; long = still_long new collapsed_tableau; len = new_count new collapsed_tableau; state_is = collapsed_state } in
           record {
-            keeps = record { tableau = new_tableau new collapsed_tableau; long = still_long new collapsed_tableau; len = new_count new collapsed_tableau; state_is = collapsed_state };
-            outcome_is = outcome_owed seen seen_is;
-            decided = decided_owed row row_is;
-            random = random_owed row row_is;
-            replaced = replaced_owed row row_is;
+            keeps = keeps;
+            owed = record {
+              len = keeps.len;
+              outcome_is = outcome_owed seen seen_is;
+              state_is = keeps.state_is;
+              decided = decided_owed row row_is;
+              random = random_owed row row_is;
+              replaced = replaced_owed row row_is;
+            };
           }
 
   -- gates and words, whose rows encode by the map before after the step's map

@@ -4,11 +4,11 @@
 -- those of its factors alone. So a word is in the state where it commutes with all stabilizer rows, and has the sign of
 -- the product of those whose destabilizer rows it anticommutes with. A destabilizer row's sign has no meaning.
 -- (Aaronson and Gottesman, Phys. Rev. A 70, 052328 (2004), section III.)
-use Rattle.std.specs.Prelude.{◌≡◌, ◌<◌, ℕ, Bool, true, not, ◌&&◌, if◌then◌else◌, List, ◌∷◌, length, map, slice_index_or}
+use Rattle.std.specs.Prelude.{◌≡◌, ◌<◌, ℕ, Bool, true, false, not, ◌&&◌, if◌then◌else◌, List, ◌∷◌, length, map, Option, IfNone, IfSome, slice_index_or}
 use Rattle.std.specs.List.{list_all}
 use Rattle.pauli_word.specs.declared.letter.Letter.{Letter}
 use Rattle.pauli_word.specs.Parity.{exclusive_or}
-use Rattle.pauli_word.specs.States.{State}
+use Rattle.pauli_word.specs.States.{State, is_decided, outcome, collapsed}
 use Rattle.pauli_word.specs.Words.{Signed, anticommute, product}
 use Rattle.pauli_word.specs.Groups.{identity_word}
 
@@ -66,3 +66,12 @@ pub record IsReplaced (old new : Rows) (w : List Letter) (row : ℕ) : Type 0 wh
   pub was_in_state : state_of old (stabilizer_at old row) ≡ true
   pub anticommuted : anticommute w (stabilizer_at old row).letters ≡ true
   pub becomes_destabilizer : (destabilizer_at new row).letters ≡ (stabilizer_at old row).letters
+
+-- a collapse of w by a coin, which saw this outcome; it names a row where the outcome is random, which is then replaced
+pub record IsCollapsed (old new : Rows) (w : List Letter) (coin seen : Bool) (row : Option ℕ) : Type 0 where
+  pub len : row_count new ≡ row_count old
+  pub outcome_is : seen ≡ outcome (state_of old) w coin
+  pub state_is : HasState new (collapsed w coin (state_of old))
+  pub decided : IfNone row (is_decided (state_of old) w ≡ true)
+  pub random : IfSome row (λ k. is_decided (state_of old) w ≡ false)
+  pub replaced : IfSome row (IsReplaced old new w)

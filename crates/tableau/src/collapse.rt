@@ -211,7 +211,8 @@ fn turn_row<A: Allocator + Copy>(
     if stays(here, clashes) {
         return;
     }
-    change_row(row, code, letter, qubit, here, clashes);
+    let twisted = twist(row, code, letter, qubit, here, clashes);
+    put_image(row, turning_gate(letter), qubit, twisted);
 }
 
 // Whether a turn leaves a row as it is that has this letter at the qubit.
@@ -220,28 +221,6 @@ fn stays(here: Letter, clashes: bool) -> bool
     ensures { IsTrue result → (here ≡ I) × (clashes ≡ false) }
 {
     here == Letter::I && !clashes
-}
-
-#[inline(always)]
-fn change_row<A: Allocator + Copy>(
-    row: &mut Word<A>,
-    code: &Pair<A>,
-    letter: Letter,
-    qubit: usize,
-    here: Letter,
-    clashes: bool,
-)
-    requires pivot { IsPivot (length code.now.0.letters) qubit code.now }
-    requires size { length row.old.letters ≡ length code.now.0.letters }
-    requires here { here ≡ letter_at row.old.letters qubit }
-    requires clashes { anticommute row.old.letters code.now.0.letters
-        ≡ exclusive_or clashes (letters_clash here letter) }
-    ensures { row.new
-        ≡ image_at (turning_gate letter) qubit
-        (twisted (lone (length code.now.0.letters) qubit Z) code.now.0 row.old) }
-{
-    let twisted = twist(row, code, letter, qubit, here, clashes);
-    put_image(row, turning_gate(letter), qubit, twisted);
 }
 
 // Only rows with X or Y at the qubit are multiplied; of others only the letter there changes. Answers the new letter

@@ -1,9 +1,9 @@
-ghost use Rattle.std.specs.Prelude.{◌≡◌, ◌≢◌, ◌<◌, true, false, length, IfOk, IfSome, IfNone};
+ghost use Rattle.std.specs.Prelude.{◌≡◌, ◌≢◌, ◌<◌, true, false, length, IfOk};
 ghost use Rattle.gate_table.specs.Images.{arity_of};
 ghost use Rattle.gate_table.specs.WordImages.{preimage_at, preimage_at_two};
-ghost use Rattle.pauli_word.specs.States.{start_state, applied, is_decided, outcome, collapsed, correcting};
+ghost use Rattle.pauli_word.specs.States.{start_state, applied, correcting};
 ghost use Rattle.pauli_word.specs.Words.{letter_at, lone_letter, signed};
-ghost use Rattle.tableau.specs.Rows.{row_count, state_of, destabilizer_at, HasState, IsReplaced};
+ghost use Rattle.tableau.specs.Rows.{row_count, state_of, destabilizer_at, HasState, IsCollapsed};
 
 pub mod laws;
 
@@ -130,19 +130,8 @@ impl<A: Allocator + Copy> Tableau<A> {
     /// whose stabilizer was then replaced.
     pub fn collapse(&mut self, letter: Letter, qubit: usize, coin: bool) -> (bool, Option<usize>)
         requires { qubit < row_count self.old }
-        ensures len { row_count self.new ≡ row_count self.old }
-        ensures outcome { result.0
-            ≡ outcome (state_of self.old) (lone_letter (row_count self.old) qubit letter) coin }
-        ensures state { HasState self.new
-            (collapsed (lone_letter (row_count self.old) qubit letter) coin (state_of self.old)) }
-        ensures decided { IfNone result.1
-            (is_decided (state_of self.old) (lone_letter (row_count self.old) qubit letter)
-            ≡ true) }
-        ensures random { IfSome result.1 (λ row. is_decided (state_of self.old)
-            (lone_letter (row_count self.old) qubit letter)
-            ≡ false) }
-        ensures replaced { IfSome result.1
-            (IsReplaced self.old self.new (lone_letter (row_count self.old) qubit letter)) }
+        ensures { IsCollapsed self.old self.new (lone_letter (row_count self.old) qubit letter) coin
+            result.0 result.1 }
     {
         if let Some(outcome) = sign_seen(&self.rows[qubit], letter) {
             return (outcome, None);
@@ -163,13 +152,7 @@ impl<A: Allocator + Copy> Tableau<A> {
     /// whose stabilizer was then replaced.
     pub fn collapse_word(&mut self, word: &Word<A>, coin: bool) -> (bool, Option<usize>)
         requires { length word.now.letters ≡ row_count self.old }
-        ensures len { row_count self.new ≡ row_count self.old }
-        ensures outcome { result.0 ≡ outcome (state_of self.old) word.now.letters coin }
-        ensures state { HasState self.new (collapsed word.now.letters coin (state_of self.old)) }
-        ensures decided { IfNone result.1 (is_decided (state_of self.old) word.now.letters ≡ true) }
-        ensures random { IfSome result.1 (λ row. is_decided (state_of self.old) word.now.letters
-            ≡ false) }
-        ensures replaced { IfSome result.1 (IsReplaced self.old self.new word.now.letters) }
+        ensures { IsCollapsed self.old self.new word.now.letters coin result.0 result.1 }
     {
         encode(&self.rows, word, &mut self.first.0);
         collapse_code(&mut self.rows, word, None, &mut self.first, coin)

@@ -1,12 +1,10 @@
 -- Each step leads from what is left before it to what is left behind it.
 use Rattle.std.proofs.Common.{◌≡◌, length, sym, ap, subst, ◌∙◌, arith}
-use Rattle.programs.specs.Listed.{listed}
-use Rattle.step_model.specs.Listing.{ListedStep}
 use Rattle.step_model.specs.Runs.{next, records_of, start}
 use Rattle.forward_sim.specs.private.Machines.{run_of}
 use Rattle.forward_sim.specs.private.SameRuns.{IsSameRun}
 use Rattle.forward_sim.proofs.RunRecords.{MakesRest, rest_at_start, step_is_next, rest_after_step, records_at_end, length-records_of}
-use Rattle.forward_sim.proofs.WalkedSteps.{GoesOver, goes_over, nothing_left}
+use Rattle.forward_sim.proofs.WalkedSteps.{GoesOver, goes_over, listed_of, nothing_left}
 use Rattle.forward_sim.proofs.forward.take_steps.Given.{Over}
 use Rattle.forward_sim.proofs.forward.take_steps.Goals as goal
 use Rattle.forward_sim.proofs.forward.take_steps.Goals.{In-Some, In_default}
@@ -15,10 +13,6 @@ use Rattle.forward_sim.proofs.forward.take_steps.Goals.{In-Some, In_default}
 over : (g : Over) (c : In-Some g) → GoesOver c.args.program.now c.loop-step.walk c.next_step.new.self c.in-Some.step
 over g c =
     goes_over c.args.program.now c.loop-step.walk c.next_step.new.self c.in-Some.step c.loop-step.invariant.program c.in-Some.ensures.step c.in-Some.ensures.named c.in-Some.ensures.program c.in-Some.ensures.place
-
--- the step, as it is listed
-abbrev taken : (g : Over) → In-Some g → ListedStep
-taken g c = listed c.args.program.now.listing.qubits c.args.program.now.products c.in-Some.step
 
 pub loop-step-init : goal.loop-step-init
 loop-step-init g c =
@@ -36,7 +30,7 @@ loop-step-init g c =
 pub take_step-requires-clause-room : goal.take_step-requires-clause-room
 take_step-requires-clause-room g c =
     let here = (goal.at.take_step-requires-clause-room g c).In-Some in
-    let next = step_is_next c.args.program.now.listing c.args.faults.now c.args.coins.now _ _ (taken g here) _ c.well_formed-2.ensures.listing (over g here).left c.loop-step.invariant.rest in
+    let next = step_is_next c.args.program.now.listing c.args.faults.now c.args.coins.now _ _ (listed_of c.args.program.now c.in-Some.step) _ c.well_formed-2.ensures.listing (over g here).left c.loop-step.invariant.rest in
     omega (arith, next.room)
 
 pub loop-step-smaller : goal.loop-step-smaller
@@ -50,13 +44,13 @@ loop-step-preserved g c =
     let before = run_of c.loop-step.machine in
     let after = run_of c.take_step.new.machine in
     let faults = c.args.faults.now in
-    let same : IsSameRun program.qubits after (next program faults (taken g here) before) =
-    subst (λ n. IsSameRun n after (next program faults (taken g here) before)) c.loop-step.invariant.qubits c.take_step.ensures.run in
+    let same : IsSameRun program.qubits after (next program faults (listed_of c.args.program.now c.in-Some.step) before) =
+    subst (λ n. IsSameRun n after (next program faults (listed_of c.args.program.now c.in-Some.step) before)) c.loop-step.invariant.qubits c.take_step.ensures.run in
     record {
       program = walked.program_is;
       qubits = c.take_step.ensures.qubits ∙ c.loop-step.invariant.qubits;
       room = c.take_step.ensures.room ∙ c.loop-step.invariant.room;
-      rest = rest_after_step program faults c.args.coins.now _ _ (taken g here) before after c.well_formed-2.ensures.listing walked.left c.loop-step.invariant.rest same;
+      rest = rest_after_step program faults c.args.coins.now _ _ (listed_of c.args.program.now c.in-Some.step) before after c.well_formed-2.ensures.listing walked.left c.loop-step.invariant.rest same;
     }
 
 -- at the end the records are those of the run

@@ -1,14 +1,12 @@
 -- Each step leads from what is left before it to what is left behind it, and keeps what is kept of it.
 use Rattle.std.proofs.Common.{◌≡◌, [], length, drop, sym, ap, subst, ◌∙◌, arith}
-use Rattle.programs.specs.Listed.{listed}
 use Rattle.step_model.specs.Frames.{zero_coins}
-use Rattle.step_model.specs.Listing.{ListedStep}
 use Rattle.step_model.specs.Runs.{next, records_of}
 use Rattle.forward_sim.specs.References.{walking_run}
 use Rattle.forward_sim.specs.private.SameRuns.{IsSameRun}
 use Rattle.forward_sim.proofs.ReferenceSteps.{KeepsRest, entries_at_end, keeps_at_start, keeps_after_step, reference_records}
 use Rattle.forward_sim.proofs.RunRecords.{MakesRest, rest_at_start, step_is_next, rest_after_step, length-records_of}
-use Rattle.forward_sim.proofs.WalkedSteps.{GoesOver, goes_over, nothing_left}
+use Rattle.forward_sim.proofs.WalkedSteps.{GoesOver, goes_over, listed_of, nothing_left}
 use Rattle.forward_sim.proofs.keeping.follow_steps.Given.{Over}
 use Rattle.forward_sim.proofs.keeping.follow_steps.Goals as goal
 use Rattle.forward_sim.proofs.keeping.follow_steps.Goals.{In-Some, In_default}
@@ -17,10 +15,6 @@ use Rattle.forward_sim.proofs.keeping.follow_steps.Goals.{In-Some, In_default}
 over : (g : Over) (c : In-Some g) → GoesOver c.args.program.now c.loop-step.steps c.next_step.new.self c.in-Some.step
 over g c =
     goes_over c.args.program.now c.loop-step.steps c.next_step.new.self c.in-Some.step c.loop-step.invariant.program c.in-Some.ensures.step c.in-Some.ensures.named c.in-Some.ensures.program c.in-Some.ensures.place
-
--- the step, as it is listed
-abbrev taken : (g : Over) → In-Some g → ListedStep
-taken g c = listed c.args.program.now.listing.qubits c.args.program.now.products c.in-Some.step
 
 pub loop-step-init : goal.loop-step-init
 loop-step-init g c =
@@ -38,7 +32,7 @@ loop-step-init g c =
 pub keep_step-requires-clause-room : goal.keep_step-requires-clause-room
 keep_step-requires-clause-room g c =
     let here = (goal.at.keep_step-requires-clause-room g c).In-Some in
-    let next = step_is_next c.args.program.now.listing [] [] _ _ (taken g here) _ c.well_formed-2.ensures.listing (over g here).left c.loop-step.invariant.rest in
+    let next = step_is_next c.args.program.now.listing [] [] _ _ (listed_of c.args.program.now c.in-Some.step) _ c.well_formed-2.ensures.listing (over g here).left c.loop-step.invariant.rest in
     omega (arith, next.room)
 
 pub loop-step-smaller : goal.loop-step-smaller
@@ -52,16 +46,16 @@ loop-step-preserved g c =
     let before = walking_run c.loop-step.walk in
     let after = walking_run c.keep_step.new.walk in
     let well_formed = c.well_formed-2.ensures.listing in
-    let same : IsSameRun program.qubits after (next program [] (taken g here) before) =
-    subst (λ n. IsSameRun n after (next program [] (taken g here) before)) c.loop-step.invariant.qubits c.in_ok-keep_step.ensures.walked.run in
+    let same : IsSameRun program.qubits after (next program [] (listed_of c.args.program.now c.in-Some.step) before) =
+    subst (λ n. IsSameRun n after (next program [] (listed_of c.args.program.now c.in-Some.step) before)) c.loop-step.invariant.qubits c.in_ok-keep_step.ensures.walked.run in
     record {
       program = walked.program_is;
       qubits = c.in_ok-keep_step.ensures.walked.qubits ∙ c.loop-step.invariant.qubits;
       room = c.in_ok-keep_step.ensures.walked.room ∙ c.loop-step.invariant.room;
-      rest = rest_after_step program [] [] _ _ (taken g here) before after well_formed walked.left c.loop-step.invariant.rest same;
+      rest = rest_after_step program [] [] _ _ (listed_of c.args.program.now c.in-Some.step) before after well_formed walked.left c.loop-step.invariant.rest same;
       kept = λ whole.
           let step_kept = c.in_ok-keep_step.ensures.kept whole in
-          keeps_after_step program _ _ (taken g here) before after c.loop-step.kept.replaced c.keep_step.new.kept.replaced well_formed walked.left c.loop-step.invariant.rest same step_kept.1 (c.loop-step.invariant.kept step_kept.0);
+          keeps_after_step program _ _ (listed_of c.args.program.now c.in-Some.step) before after c.loop-step.kept.replaced c.keep_step.new.kept.replaced well_formed walked.left c.loop-step.invariant.rest same step_kept.1 (c.loop-step.invariant.kept step_kept.0);
     }
 
 -- at the end nothing is left

@@ -14,4 +14,4 @@ returns-clause-row g c =
     let whole = c.machine.view_is ∙ c.take_coin-coin.ensures.taken in
     let rows : old ≡ c.args.machine.now.rows = ap (λ (r : Running). r.rows) whole in
     subst (λ (r : Rows). NamesRow r new (lone_letter (row_count r) c.args.qubit c.args.letter) c.collapse.result.1) rows
-    (names_row old new (lone_letter (row_count old) c.args.qubit c.args.letter) c.collapse.result.1 c.collapse.ensures.len c.collapse.ensures.decided c.collapse.ensures.random c.collapse.ensures.replaced)
+    (names_row old new (lone_letter (row_count old) c.args.qubit c.args.letter) _ _ c.collapse.result.1 c.collapse.ensures)

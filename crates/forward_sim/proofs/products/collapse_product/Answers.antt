@@ -33,4 +33,4 @@ returns-clause-row g c =
     ap (λ (w : Signed). w.letters) c.set_product.ensures ∙ ap (λ n. word_of_terms n terms) c.machine.invariant in
     subst (λ (r : Rows). NamesRow r new (word_of_terms (row_count r) terms) row) rows
     (subst (λ w. NamesRow old new w row) word
-    (names_row old new c.set_product.new.word.letters row c.collapse_word.ensures.len c.collapse_word.ensures.decided c.collapse_word.ensures.random c.collapse_word.ensures.replaced))
+    (names_row old new c.set_product.new.word.letters _ _ row c.collapse_word.ensures))

@@ -1,9 +1,8 @@
 -- Each step of the walk is the next of those that are left before it, and its records are counted.
 use Rattle.std.proofs.Common.{◌≡◌, ◌+◌, ◌<◌, true, false, length, take, sym, ap, ◌∙◌, arith}
-use Rattle.programs.specs.Listed.{listed}
 use Rattle.step_model.specs.WellFormed.{records_made}
 use Rattle.step_model.specs.Listing.{ListedStep, step_records, is_collapse}
-use Rattle.forward_sim.proofs.WalkedSteps.{GoesOver, goes_over, rests}
+use Rattle.forward_sim.proofs.WalkedSteps.{GoesOver, goes_over, listed_of, rests}
 use Rattle.frames.proofs.Passing.{ahead-step, ahead-collapse, ahead-found, ahead-none, made_after-step, records_made-more}
 use Rattle.frames.proofs.collapses.go_past.Given.{Over}
 use Rattle.frames.proofs.collapses.go_past.Goals as goal
@@ -14,12 +13,8 @@ over : (g : Over) (c : After-records_after-made g) → GoesOver c.args.program.n
 over g c =
     goes_over c.args.program.now c.loop-step.walk c.next_step.new.self c.in-Some.step c.loop-step.invariant.program c.in-Some.ensures.step c.in-Some.ensures.named c.in-Some.ensures.program c.in-Some.ensures.place
 
--- the step, as it is listed
-abbrev step_of : (g : Over) → After-records_after-made g → ListedStep
-step_of g c = listed c.args.program.now.listing.qubits c.args.program.now.products c.in-Some.step
-
 -- the records behind the step
-counted : (g : Over) (c : After-records_after-made g) → c.records_after-made.result ≡ c.loop-step.made + length (step_records (step_of g c))
+counted : (g : Over) (c : After-records_after-made g) → c.records_after-made.result ≡ c.loop-step.made + length (step_records (listed_of c.args.program.now c.in-Some.step))
 counted g c =
     c.records_after-made.ensures
     ∙ made_after-step c.args.program.now c.well_formed-2.ensures.listing c.loop-step.walk.place c.loop-step.made c.loop-step.invariant.made c.in-Some.step (over g c).here
@@ -27,7 +22,7 @@ counted g c =
 made : (g : Over) (c : After-records_after-made g) → c.records_after-made.result ≡ length (records_made (take c.next_step.new.self.place c.args.program.now.listing.steps))
 made g c =
     let steps = c.args.program.now.listing.steps in
-    let step = step_of g c in
+    let step = listed_of c.args.program.now c.in-Some.step in
     counted g c
     ∙ (ap (λ m. m + length (step_records step)) c.loop-step.invariant.made
     ∙ (sym (records_made-more steps c.loop-step.walk.place step (over g c).here)
@@ -38,7 +33,7 @@ returns-then-before-collapse-clause-passed g c =
     let program = c.args.program.now in
     let behind = (goal.at.returns-then-before-collapse-clause-passed g c).After-records_after-made in
     let past = over g behind in
-    let step = step_of g behind in
+    let step = listed_of c.args.program.now c.in-Some.step in
     let here : is_collapse step ≡ true = sym (c.is_collapse.ensures program.listing.qubits program.products) ∙ c.if-is_collapse.true in
     let found = ahead-found program.listing c.args.collapse c.loop-step.made step _ here (rw (past.left, c.if-before-collapse.true) at c.loop-step.invariant.ahead) in
     record {
@@ -55,7 +50,7 @@ loop-step-preserved-then-is_collapse g c =
     let program = c.args.program.now in
     let behind = (goal.at.loop-step-preserved-then-is_collapse g c).After-records_after-made in
     let past = over g behind in
-    let step = step_of g behind in
+    let step = listed_of c.args.program.now c.in-Some.step in
     let here : is_collapse step ≡ true = sym (c.is_collapse.ensures program.listing.qubits program.products) ∙ c.if-is_collapse.true in
     let earlier : c.loop-step.before < c.args.collapse = omega (arith, c.loop-step.invariant.earlier, c.if-before-collapse.false) in
     record {
@@ -73,7 +68,7 @@ loop-step-preserved g c =
     let program = c.args.program.now in
     let behind = (goal.at.loop-step-preserved g c).After-records_after-made in
     let past = over g behind in
-    let step = step_of g behind in
+    let step = listed_of c.args.program.now c.in-Some.step in
     let other : is_collapse step ≡ false = sym (c.is_collapse.ensures program.listing.qubits program.products) ∙ c.if-is_collapse.false in
     record {
       program = past.program_is;

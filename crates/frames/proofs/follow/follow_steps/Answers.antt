@@ -2,7 +2,7 @@
 use Rattle.std.proofs.Common.{ℕ, Bool, List, [], ◌∷◌, ◌≡◌, true, false, length, drop, refl, sym, ap, subst, ◌∙◌, arith}
 use Rattle.forward_sim.specs.References.{GoneOver, ReferenceRun, StandBefore}
 use Rattle.forward_sim.proofs.RunRecords.{length-records_of}
-use Rattle.forward_sim.proofs.WalkedSteps.{GoesOver, goes_over, nothing_left}
+use Rattle.forward_sim.proofs.WalkedSteps.{GoesOver, goes_over, listed_of, nothing_left}
 use Rattle.bit_rows.specs.Lanes.{lane, lane_bit}
 use Rattle.programs.specs.Listed.{listed}
 use Rattle.step_model.specs.Frames.{zero_coins}
@@ -24,11 +24,7 @@ over : (g : Over) (c : In-Some g) → GoesOver c.args.program.now c.loop-step.wa
 over g c =
     goes_over c.args.program.now c.loop-step.walk c.next_step.new.self c.in-Some.step c.loop-step.invariant.program c.in-Some.ensures.step c.in-Some.ensures.named c.in-Some.ensures.program c.in-Some.ensures.place
 
--- the step, as it is listed
-abbrev step_of : (g : Over) → In-Some g → ListedStep
-step_of g c = listed c.args.program.now.listing.qubits c.args.program.now.products c.in-Some.step
-
-before : (g : Over) (c : In-Some g) → Beside c.args.program.now.listing c.loop-step.reference c.args.faults.now c.args.coins.now (step_of g c ∷ drop c.next_step.new.self.place c.args.program.now.listing.steps) c.loop-step.collapse c.loop-step.frames
+before : (g : Over) (c : In-Some g) → Beside c.args.program.now.listing c.loop-step.reference c.args.faults.now c.args.coins.now (listed_of c.args.program.now c.in-Some.step ∷ drop c.next_step.new.self.place c.args.program.now.listing.steps) c.loop-step.collapse c.loop-step.frames
 before g c =
     subst (λ steps. Beside c.args.program.now.listing c.loop-step.reference c.args.faults.now c.args.coins.now steps c.loop-step.collapse c.loop-step.frames) (over g c).left c.loop-step.invariant.beside
 
@@ -60,11 +56,11 @@ go_over-requires-clause-next g c =
 
 -- the reference run has gone over the step too
 gone : (g : Over) (c : In-Some g) (new : ReferenceRun)
-    → ((rest : List ListedStep) (m : RunState) (k : ℕ) → StandBefore c.args.program.now.listing (step_of g c ∷ rest) m k c.loop-step.reference.words → GoneOver c.args.program.now.listing (step_of g c) rest m k new.words)
-    → GoneOver c.args.program.now.listing (step_of g c) (drop c.next_step.new.self.place c.args.program.now.listing.steps) (before g c).m c.loop-step.collapse new.words
+    → ((rest : List ListedStep) (m : RunState) (k : ℕ) → StandBefore c.args.program.now.listing (listed_of c.args.program.now c.in-Some.step ∷ rest) m k c.loop-step.reference.words → GoneOver c.args.program.now.listing (listed_of c.args.program.now c.in-Some.step) rest m k new.words)
+    → GoneOver c.args.program.now.listing (listed_of c.args.program.now c.in-Some.step) (drop c.next_step.new.self.place c.args.program.now.listing.steps) (before g c).m c.loop-step.collapse new.words
 gone g c new goes = goes (drop c.next_step.new.self.place c.args.program.now.listing.steps) (before g c).m c.loop-step.collapse (before g c).stand
 
-collapses : (g : Over) (c : In-Some g) (is : Bool) → ((n : ℕ) (products : List (List Term)) → is ≡ is_collapse (listed n products c.in-Some.step)) → (value : Bool) → is ≡ value → is_collapse (step_of g c) ≡ value
+collapses : (g : Over) (c : In-Some g) (is : Bool) → ((n : ℕ) (products : List (List Term)) → is ≡ is_collapse (listed n products c.in-Some.step)) → (value : Bool) → is ≡ value → is_collapse (listed_of c.args.program.now c.in-Some.step) ≡ value
 collapses g c is says value is_value = sym (says c.args.program.now.listing.qubits c.args.program.now.products) ∙ is_value
 
 pub replaced-replaced-requires : goal.replaced-replaced-requires
@@ -72,8 +68,8 @@ replaced-replaced-requires g c =
     let here = (goal.at.replaced-replaced-requires g c).In-Some in
     (gone g here c.go_over.new.self c.go_over.ensures.over).said (collapses g here c.is_collapse.result c.is_collapse.ensures true c.if-is_collapse.true)
 
-fits : (g : Over) (c : In-Some g) → step_fits c.args.program.now.listing (step_of g c) ≡ true
-fits g c = fits_at c.args.program.now.listing c.loop-step.walk.place (step_of g c) c.well_formed-2.ensures.listing (over g c).here
+fits : (g : Over) (c : In-Some g) → step_fits c.args.program.now.listing (listed_of c.args.program.now c.in-Some.step) ≡ true
+fits g c = fits_at c.args.program.now.listing c.loop-step.walk.place (listed_of c.args.program.now c.in-Some.step) c.well_formed-2.ensures.listing (over g c).here
 
 count : (g : Over) (c : In-Some g) → length c.loop-step.reference.records ≡ c.args.program.now.listing.records
 count g c =
@@ -83,14 +79,14 @@ count g c =
 pub take_step-requires-clause-room : goal.take_step-requires-clause-room
 take_step-requires-clause-room g c =
     let here = (goal.at.take_step-requires-clause-room g c).In-Some in
-    omega (arith, c.requires.room, c.loop-step.invariant.room, beside-room c.args.program.now.listing c.loop-step.reference c.args.faults.now c.args.coins.now (step_of g here) (drop c.next_step.new.self.place c.args.program.now.listing.steps) c.loop-step.collapse c.loop-step.frames (count g here) (before g here))
+    omega (arith, c.requires.room, c.loop-step.invariant.room, beside-room c.args.program.now.listing c.loop-step.reference c.args.faults.now c.args.coins.now (listed_of c.args.program.now c.in-Some.step) (drop c.next_step.new.self.place c.args.program.now.listing.steps) c.loop-step.collapse c.loop-step.frames (count g here) (before g here))
 
 pub take_step-requires-clause-turns : goal.take_step-requires-clause-turns
 take_step-requires-clause-turns g c =
     let here = (goal.at.take_step-requires-clause-turns g c).In-Some in
     let program = c.args.program.now.listing in
-    subst (λ entry. TurnsAt program.qubits entry (step_of g here)) (sym c.replaced-replaced.ensures)
-    (entry-turns program.qubits (before g here).m.state (step_of g here) _ (gone g here c.go_over.new.self c.go_over.ensures.over).entry)
+    subst (λ entry. TurnsAt program.qubits entry (listed_of c.args.program.now c.in-Some.step)) (sym c.replaced-replaced.ensures)
+    (entry-turns program.qubits (before g here).m.state (listed_of c.args.program.now c.in-Some.step) _ (gone g here c.go_over.new.self c.go_over.ensures.over).entry)
 
 pub loop-step-smaller-then-is_collapse : goal.loop-step-smaller-then-is_collapse
 loop-step-smaller-then-is_collapse g c = (over g (goal.at.loop-step-smaller-then-is_collapse g c).In-Some).smaller
@@ -108,15 +104,15 @@ loop-step-preserved-then-is_collapse g c =
       reference = c.go_over.ensures.reference c.loop-step.invariant.reference;
       records = c.go_over.ensures.records ∙ c.loop-step.invariant.records;
       beside =
-          beside-collapse program c.loop-step.reference after c.args.faults.now c.args.coins.now (step_of g here) (drop c.next_step.new.self.place program.steps) c.loop-step.collapse c.word_at.result c.loop-step.frames c.take_step.new.frames
+          beside-collapse program c.loop-step.reference after c.args.faults.now c.args.coins.now (listed_of c.args.program.now c.in-Some.step) (drop c.next_step.new.self.place program.steps) c.loop-step.collapse c.word_at.result c.loop-step.frames c.take_step.new.frames
           (fits g here) (collapses g here c.is_collapse.result c.is_collapse.ensures true c.if-is_collapse.true) (before g here) c.go_over.ensures.records (gone g here after c.go_over.ensures.over) c.word_at.ensures
-          (subst (λ entry. GoesTo c.loop-step.frames c.take_step.new.frames (λ j v. followed program (lane j c.args.faults.now) entry (lane_bit j c.word_at.result) (step_of g here) v)) c.replaced-replaced.ensures c.take_step.ensures);
+          (subst (λ entry. GoesTo c.loop-step.frames c.take_step.new.frames (λ j v. followed program (lane j c.args.faults.now) entry (lane_bit j c.word_at.result) (listed_of c.args.program.now c.in-Some.step) v)) c.replaced-replaced.ensures c.take_step.ensures);
     }
 
 pub take_step-requires-else-is_collapse-clause-room : goal.take_step-requires-else-is_collapse-clause-room
 take_step-requires-else-is_collapse-clause-room g c =
     let here = (goal.at.take_step-requires-else-is_collapse-clause-room g c).In-Some in
-    omega (arith, c.requires.room, c.loop-step.invariant.room, beside-room c.args.program.now.listing c.loop-step.reference c.args.faults.now c.args.coins.now (step_of g here) (drop c.next_step.new.self.place c.args.program.now.listing.steps) c.loop-step.collapse c.loop-step.frames (count g here) (before g here))
+    omega (arith, c.requires.room, c.loop-step.invariant.room, beside-room c.args.program.now.listing c.loop-step.reference c.args.faults.now c.args.coins.now (listed_of c.args.program.now c.in-Some.step) (drop c.next_step.new.self.place c.args.program.now.listing.steps) c.loop-step.collapse c.loop-step.frames (count g here) (before g here))
 
 pub loop-step-smaller : goal.loop-step-smaller
 loop-step-smaller g c = (over g (goal.at.loop-step-smaller g c).In-Some).smaller
@@ -134,7 +130,7 @@ loop-step-preserved g c =
       reference = c.go_over.ensures.reference c.loop-step.invariant.reference;
       records = c.go_over.ensures.records ∙ c.loop-step.invariant.records;
       beside =
-          beside-other program c.loop-step.reference after c.args.faults.now c.args.coins.now (step_of g here) (drop c.next_step.new.self.place program.steps) c.loop-step.collapse 0 c.loop-step.frames c.take_step-else-is_collapse.new.frames
+          beside-other program c.loop-step.reference after c.args.faults.now c.args.coins.now (listed_of c.args.program.now c.in-Some.step) (drop c.next_step.new.self.place program.steps) c.loop-step.collapse 0 c.loop-step.frames c.take_step-else-is_collapse.new.frames
           (fits g here) (collapses g here c.is_collapse.result c.is_collapse.ensures false c.if-is_collapse.false) (before g here) c.go_over.ensures.records (gone g here after c.go_over.ensures.over) c.take_step-else-is_collapse.ensures;
     }
 

@@ -2,12 +2,11 @@
 use Rattle.std.proofs.Common.{◌≡◌, ◌<◌, length, None, ap, sym, subst, ◌∙◌}
 use Rattle.std.proofs.lemmas.List.{length-replicate}
 use Rattle.pauli_word.specs.declared.letter.Letter.TheVariants.{I}
-use Rattle.pauli_word.specs.States.{collapsed}
 use Rattle.pauli_word.specs.Words.{letter_at, lone_letter}
 use Rattle.pauli_word.proofs.LoneLetters.{length-lone_letter}
 use Rattle.tableau.specs.private.Encoding.{HasLength}
 use Rattle.tableau.specs.private.EncodingSteps.{code_of}
-use Rattle.tableau.specs.Rows.{row_count, state_of, HasState}
+use Rattle.tableau.specs.Rows.{row_count, IsCollapsed}
 use Rattle.tableau.proofs.LoneWords.{letter_elsewhere}
 use Rattle.tableau.proofs.PairWords.{pair_size}
 use Rattle.tableau.proofs.KeptRows.{Collapses, inside, lone_code, lone_made, kept_size, code_long, collapses}
@@ -25,16 +24,10 @@ seen_owed g c =
     seen c.self.inside.rows.items c.args.self.now c.self.invariant.0 c.self.view_is c.args.qubit (inside c.self.inside.rows.items c.args.self.now c.self.invariant.0 c.self.view_is c.args.qubit c.requires)
     c.index.result.now c.index.ensures c.args.letter c.args.coin c.in-Some.outcome (c.in-Some.ensures (length c.self.inside.rows.items))
 
-pub returns-in-Some-clause-outcome : goal.returns-in-Some-clause-outcome
-returns-in-Some-clause-outcome g c = (seen_owed g (goal.at.returns-in-Some-clause-outcome g c).In-Some).outcome_is
-
-pub returns-in-Some-clause-state : goal.returns-in-Some-clause-state
-returns-in-Some-clause-state g c =
-    subst (λ rows. HasState rows (collapsed (lone_letter (row_count c.args.self.now) c.args.qubit c.args.letter) c.args.coin (state_of c.args.self.now))) c.self.view_is
-    (seen_owed g (goal.at.returns-in-Some-clause-state g c).In-Some).keeps.state_is
-
-pub returns-in-Some-clause-decided : goal.returns-in-Some-clause-decided
-returns-in-Some-clause-decided g c = (seen_owed g (goal.at.returns-in-Some-clause-decided g c).In-Some).decided
+pub returns-in-Some : goal.returns-in-Some
+returns-in-Some g c =
+    subst (λ rows. IsCollapsed c.args.self.now rows (lone_letter (row_count c.args.self.now) c.args.qubit c.args.letter) c.args.coin c.in-Some.outcome None) c.self.view_is
+    (seen_owed g (goal.at.returns-in-Some g c).In-Some).owed
 
 pub set_letter-requires : goal.set_letter-requires
 set_letter-requires g c =
@@ -107,20 +100,5 @@ invariant_of-self g c =
       kept.long (c.set_letter.new.self, c.self.inside.second.1) (record { x = ap length (word_is g here) ∙ size g here; z = c.self.invariant.2.z }),
     )
 
-pub returns-clause-len : goal.returns-clause-len
-returns-clause-len g c = (owed g (goal.at.returns-clause-len g c).After-collapse_code).keeps.len
-
-pub returns-clause-outcome : goal.returns-clause-outcome
-returns-clause-outcome g c = (owed g (goal.at.returns-clause-outcome g c).After-collapse_code).outcome_is
-
-pub returns-clause-state : goal.returns-clause-state
-returns-clause-state g c = (owed g (goal.at.returns-clause-state g c).After-collapse_code).keeps.state_is
-
-pub returns-clause-decided : goal.returns-clause-decided
-returns-clause-decided g c = (owed g (goal.at.returns-clause-decided g c).After-collapse_code).decided
-
-pub returns-clause-random : goal.returns-clause-random
-returns-clause-random g c = (owed g (goal.at.returns-clause-random g c).After-collapse_code).random
-
-pub returns-clause-replaced : goal.returns-clause-replaced
-returns-clause-replaced g c = (owed g (goal.at.returns-clause-replaced g c).After-collapse_code).replaced
+pub returns : goal.returns
+returns g c = (owed g (goal.at.returns g c).After-collapse_code).owed

@@ -32,20 +32,5 @@ invariant_of-self g c =
     let kept = (owed g (goal.at.invariant_of-self g c).After-collapse_code).keeps in
     (kept.tableau, kept.long _ c.collapse_code.ensures.code, kept.long _ c.self.invariant.2)
 
-pub returns-clause-len : goal.returns-clause-len
-returns-clause-len g c = (owed g (goal.at.returns-clause-len g c).After-collapse_code).keeps.len
-
-pub returns-clause-outcome : goal.returns-clause-outcome
-returns-clause-outcome g c = (owed g (goal.at.returns-clause-outcome g c).After-collapse_code).outcome_is
-
-pub returns-clause-state : goal.returns-clause-state
-returns-clause-state g c = (owed g (goal.at.returns-clause-state g c).After-collapse_code).keeps.state_is
-
-pub returns-clause-decided : goal.returns-clause-decided
-returns-clause-decided g c = (owed g (goal.at.returns-clause-decided g c).After-collapse_code).decided
-
-pub returns-clause-random : goal.returns-clause-random
-returns-clause-random g c = (owed g (goal.at.returns-clause-random g c).After-collapse_code).random
-
-pub returns-clause-replaced : goal.returns-clause-replaced
-returns-clause-replaced g c = (owed g (goal.at.returns-clause-replaced g c).After-collapse_code).replaced
+pub returns : goal.returns
+returns g c = (owed g (goal.at.returns g c).After-collapse_code).owed

@@ -1,0 +1,14 @@
+-- The inner allocator that a call of the wrapper is made for, and the wrapper as the call is lent it.
+use Rattle.std.proofs.Common.{[], ◌∷◌}
+use mir.Syntax.{Args, a_type, dnil, dcons}
+use denote.Builtin.{RefOf}
+use denote.Param.{bounded, param}
+use denote.Signature.{Slot, plain}
+use Rattle.std.proofs.alloc.Calls.{Al}
+use Rattle.test_support.specs.contracts.scarce.Scarce as wrapper
+
+abbrev pub args : Al → Args
+args Z = bounded (a_type ∷ []) (Z.row, tt) (dcons Z.d (dcons Z.drops dnil))
+
+abbrev pub self : Al → Slot 2
+self Z = RefOf (0 ∷ []) tt (plain (λ _. wrapper.the_row (param 0 Z.row))) (λ _. tt)
