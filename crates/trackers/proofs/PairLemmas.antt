@@ -1,7 +1,7 @@
 -- Two columns of a list that is written through its two parts.
 use Rattle.std.proofs.Common.{◌≡◌, ℕ, ◌+◌, ◌-◌, ◌<◌, List, [], ◌++◌, Result, Ok, Err, OnOk, length, map, take, drop, set, get_or, ap, ap₂, subst, sym, ◌∙◌, arith, length-set}
 use Rattle.std.specs.Prelude.{All}
-use Rattle.std.proofs.lemmas.List.{get_or-take, get_or-drop, get_or_default, set-append_left, set-append_right, take-append-drop, length-take-le}
+use Rattle.std.proofs.lemmas.List.{get_or-take, get_or-drop, get_or_default, set-append_left, set-append_right, take-append-drop, length-drop, length-take-le}
 use Rattle.std.proofs.lemmas.List.Elements.{All-set}
 use Rattle.pauli_word.specs.declared.letter.Letter.{Letter}
 use Rattle.pauli_word.specs.Words.{letters_product}
@@ -20,8 +20,8 @@ parts_set l a b x y before within =
     ∙ ap (λ n. set front a x ++ set back n y) none)))
 
 -- what stands at them, read through the two parts
-in_front : {X : Type 0} (l front : List X) (a b : ℕ) (d e : X) → front ≡ take b l → a < b → b < length l → get_or front a d ≡ get_or l a e
-in_front l front a b d e same before within = ap (λ m. get_or m a d) same ∙ (get_or-take b l a d before ∙ get_or_default l a d e (omega (arith, before, within)))
+read_front : {X : Type 0} (l front : List X) (a b : ℕ) (d e : X) → front ≡ take b l → a < b → b < length l → get_or front a d ≡ get_or l a e
+read_front l front a b d e same before within = ap (λ m. get_or m a d) same ∙ (get_or-take b l a d before ∙ get_or_default l a d e (omega (arith, before, within)))
 
 at_back : {X : Type 0} (l back : List X) (b : ℕ) (d e : X) → back ≡ drop b l → b < length l → get_or back 0 d ≡ get_or l b e
 at_back l back b d e same within =
@@ -29,7 +29,7 @@ at_back l back b d e same within =
     ap (λ m. get_or m 0 d) same ∙ (get_or-drop b l 0 d ∙ (ap (λ n. get_or l n d) there ∙ get_or_default l b d e within))
 
 front_long : (m a b : ℕ) (columns front : List (List Letter)) (d : List Letter) → front ≡ take b columns → a < b → b < length columns → All (λ column. length column ≡ m) columns → length (get_or front a d) ≡ m
-front_long m a b columns front d same before within long = ap length (in_front columns front a b d [] same before within) ∙ long a [] (omega (arith, before, within))
+front_long m a b columns front d same before within long = ap length (read_front columns front a b d [] same before within) ∙ long a [] (omega (arith, before, within))
 
 back_long : (m b : ℕ) (columns back : List (List Letter)) (d : List Letter) → back ≡ drop b columns → b < length columns → All (λ column. length column ≡ m) columns → length (get_or back 0 d) ≡ m
 back_long m b columns back d same within long = ap length (at_back columns back b d [] same within) ∙ long b [] within
@@ -55,6 +55,8 @@ both_long m a b columns x y x_long y_long long =
 
 -- columns in two parts, of which the front has one place and the back starts at the other: what is read and written at them
 pub record AreParts (m a b : ℕ) (columns front back : List (List Letter)) : Type 0 where
+  pub in_front : a < length front
+  pub in_back : 0 < length back
   pub first_is : (d : List Letter) → get_or front a d ≡ get_or columns a []
   pub second_is : (d : List Letter) → get_or back 0 d ≡ get_or columns b []
   pub first_long : (d : List Letter) → length (get_or front a d) ≡ m
@@ -66,8 +68,12 @@ pub parts_of : (m a b : ℕ) (columns front back : List (List Letter)) → front
 parts_of m a b columns front back is_front is_back before within long =
     let whole : (x y : List Letter) → set front a x ++ set back 0 y ≡ set (set columns a x) b y =
     λ x y. ap₂ (λ (f k : List (List Letter)). set f a x ++ set k 0 y) is_front is_back ∙ parts_set columns a b x y before within in
+    let front_count : length front ≡ b = ap length is_front ∙ length-take-le b columns (omega (arith, within)) in
+    let back_count : length back ≡ length columns - b = ap length is_back ∙ length-drop b columns in
     record {
-      first_is = λ d. in_front columns front a b d [] is_front before within;
+      in_front = omega (arith, front_count, before);
+      in_back = omega (arith, back_count, within);
+      first_is = λ d. read_front columns front a b d [] is_front before within;
       second_is = λ d. at_back columns back b d [] is_back within;
       first_long = λ d. front_long m a b columns front d is_front before within long;
       second_long = λ d. back_long m b columns back d is_back within long;

@@ -1,9 +1,10 @@
-use Rattle.std.proofs.Common.{inl, inr, refl, ap, subst, sym, ◌∙◌, arith}
+use Rattle.std.proofs.Common.{inl, inr, refl, ap, ap₂, subst, sym, ◌∙◌, arith}
 use Rattle.std.specs.Prelude.{IfNone, IfSome}
 use Rattle.std.proofs.lemmas.Result.{err_from_is_err_and}
 use Rattle.backward.specs.Places.{IsLowestRandom, NoneIsRandom}
 use Rattle.backward.specs.private.Passes.{records_before}
-use Rattle.backward.specs.private.Points.{AreParts, IsFor, first_place}
+use Rattle.backward.specs.private.Points.{ArePoints, IsFor, first_place}
+use Rattle.backward.specs.private.Stretches.{text_between}
 use Rattle.backward.proofs.AnswerLemmas.{failed_answer}
 use Rattle.backward.proofs.StretchLemmas.{passed_for, ready_first}
 use Rattle.backward.proofs.writing.push_from_end.Goals as goal
@@ -14,11 +15,20 @@ random_target-requires-clause-first g c = c.cut.ensures.settled ∙ c.requires.f
 pub random_target-requires-clause-passed : goal.random_target-requires-clause-passed
 random_target-requires-clause-passed g c = c.in_ok-parts.ensures.passed
 
-pub push_model-requires-clause-parts : goal.push_model-requires-clause-parts
-push_model-requires-clause-parts g c =
-    let program = c.args.program.now in
-    subst (λ k. AreParts program 0 k c.random_target.new.found.known c.in_ok-parts.parts) c.requires.end
-    (subst (λ known. AreParts program 0 c.args.at.now.walk.place known c.in_ok-parts.parts) (sym c.random_target.ensures.known) c.in_ok-parts.ensures.parts)
+pub push_model-requires-clause-points : goal.push_model-requires-clause-points
+push_model-requires-clause-points g c =
+    let part = c.in_ok-parts.ensures.parts in
+    subst (λ k. ArePoints c.args.program.now 0 k c.in_ok-parts.parts.points.items) (sym part.points.first) part.points
+
+pub push_model-requires-clause-within : goal.push_model-requires-clause-within
+push_model-requires-clause-within g c =
+    let part = c.in_ok-parts.ensures.parts in
+    omega (arith, part.points.first, part.below, c.requires.end)
+
+pub push_model-requires-clause-end : goal.push_model-requires-clause-end
+push_model-requires-clause-end g c =
+    let part = c.in_ok-parts.ensures.parts in
+    part.text ∙ ap₂ (text_between c.args.program.now.listing) (sym part.points.first) c.requires.end
 
 pub push_model-requires-clause-store : goal.push_model-requires-clause-store
 push_model-requires-clause-store g c = c.cut.ensures.store ∙ c.requires.store

@@ -3,6 +3,16 @@ use Rattle.std.proofs.lemmas.List.{set_comm}
 use Rattle.trackers.proofs.PairLemmas.{both_ok, made, parts_of}
 use Rattle.trackers.proofs.pairs.multiply_pair.Goals as goal
 
+pub bounds-front-a : goal.bounds-front-a
+bounds-front-a g c =
+    let parts = parts_of (length (g.S.TargetSet.bits c.args.spare.now)) c.args.a c.args.b c.args.columns.now _ _ c.split_at_mut-front.ensures.front c.split_at_mut-front.ensures.back c.if-a-b.true c.requires.places.second c.requires.long in
+    parts.in_front
+
+pub bounds-back-0 : goal.bounds-back-0
+bounds-back-0 g c =
+    let parts = parts_of (length (g.S.TargetSet.bits c.args.spare.now)) c.args.a c.args.b c.args.columns.now _ _ c.split_at_mut-front.ensures.front c.split_at_mut-front.ensures.back c.if-a-b.true c.requires.places.second c.requires.long in
+    parts.in_back
+
 pub multiply_both-requires-clause-same : goal.multiply_both-requires-clause-same
 multiply_both-requires-clause-same g c =
     let parts = parts_of (length (g.S.TargetSet.bits c.args.spare.now)) c.args.a c.args.b c.args.columns.now _ _ c.split_at_mut-front.ensures.front c.split_at_mut-front.ensures.back c.if-a-b.true c.requires.places.second c.requires.long in
@@ -34,6 +44,18 @@ returns-then-a-b-clause-long g c =
     (c.multiply_both.ensures.second_len ∙ parts.second_long c.index-back-0.result)
 
 -- ---- the first place comes after the second
+pub bounds-front-b : goal.bounds-front-b
+bounds-front-b g c =
+    let behind : c.args.b < c.args.a = omega (arith, c.if-a-b.false, c.requires.places.differ) in
+    let parts = parts_of (length (g.S.TargetSet.bits c.args.spare.now)) c.args.b c.args.a c.args.columns.now _ _ c.split_at_mut-front-else-a-b.ensures.front c.split_at_mut-front-else-a-b.ensures.back behind c.requires.places.first c.requires.long in
+    parts.in_front
+
+pub bounds-back-0-else-a-b : goal.bounds-back-0-else-a-b
+bounds-back-0-else-a-b g c =
+    let behind : c.args.b < c.args.a = omega (arith, c.if-a-b.false, c.requires.places.differ) in
+    let parts = parts_of (length (g.S.TargetSet.bits c.args.spare.now)) c.args.b c.args.a c.args.columns.now _ _ c.split_at_mut-front-else-a-b.ensures.front c.split_at_mut-front-else-a-b.ensures.back behind c.requires.places.first c.requires.long in
+    parts.in_back
+
 pub multiply_both-requires-else-a-b-clause-same : goal.multiply_both-requires-else-a-b-clause-same
 multiply_both-requires-else-a-b-clause-same g c =
     let behind : c.args.b < c.args.a = omega (arith, c.if-a-b.false, c.requires.places.differ) in

@@ -1,12 +1,39 @@
-use Rattle.std.proofs.Common.{◌≡◌, List, [], length, set, get_or, ap, ◌∙◌, arith, length-set}
+use Rattle.std.proofs.Common.{◌≡◌, List, [], length, set, get_or, ap, sym, ◌∙◌, arith, length-set}
 use Rattle.std.specs.Prelude.{All}
 use Rattle.std.proofs.lemmas.List.Elements.{All-set}
 use Rattle.pauli_word.specs.declared.letter.Letter.{Letter}
-use Rattle.trackers.specs.Tracked.{each_word, undone_two}
+use Rattle.trackers.specs.Tracked.{Tracked, each_word, undone_two}
 use Rattle.trackers.specs.private.Transposed.{first_before, second_before}
-use Rattle.trackers.proofs.LengthLemmas.{at_columns}
+use Rattle.trackers.proofs.LengthLemmas.{at_columns, lent_long}
 use Rattle.trackers.proofs.TransposedLemmas.{tracked_two}
 use Rattle.trackers.proofs.words.Words.undo_by_images.Goals as goal
+
+pub image_pair-requires-clause-first_place : goal.image_pair-requires-clause-first_place
+image_pair-requires-clause-first_place g c = omega (arith, ap length c.as_slice.ensures.value, ap (λ (t : Tracked). t.qubits) c.self.view_is, c.requires.places.first)
+
+pub image_pair-requires-clause-second_place : goal.image_pair-requires-clause-second_place
+image_pair-requires-clause-second_place g c = omega (arith, ap length c.as_slice.ensures.value, ap (λ (t : Tracked). t.qubits) c.self.view_is, c.requires.places.second)
+
+pub image_pair-requires-clause-long : goal.image_pair-requires-clause-long
+image_pair-requires-clause-long g c =
+    lent_long c.self.inside.targets c.self.inside.columns.items _ (g.S.TargetSet.bits c.self.inside.spare) c.as_slice.ensures.value c.self.invariant.spare_long c.self.invariant.columns_long
+
+pub image_pair-requires-clause-first_long : goal.image_pair-requires-clause-first_long
+image_pair-requires-clause-first_long g c = c.self.invariant.first_long ∙ sym c.self.invariant.spare_long
+
+pub image_pair-requires-clause-second_long : goal.image_pair-requires-clause-second_long
+image_pair-requires-clause-second_long g c = c.self.invariant.second_long ∙ sym c.self.invariant.spare_long
+
+pub invariant_of-self : goal.invariant_of-self
+invariant_of-self g c =
+    record {
+      columns_long = c.self.invariant.columns_long;
+      first_long = c.image_pair.ensures.first_len ∙ c.self.invariant.first_long;
+      second_long = c.image_pair.ensures.second_len ∙ c.self.invariant.second_long;
+      set_long = c.self.invariant.set_long;
+      spare_long = c.image_pair.ensures.spare ∙ c.self.invariant.spare_long;
+      few = c.self.invariant.few;
+    }
 
 pub invariant_of-self-2 : goal.invariant_of-self-2
 invariant_of-self-2 g c =
