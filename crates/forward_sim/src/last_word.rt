@@ -17,6 +17,8 @@ pub(crate) struct LastWord<A: Allocator + Copy> {
     // only the first `len` of these are the list
     numbers: Vec<u16, A>,
     len: usize,
+    // room for the qubits with Z, until it is known where they come in the list
+    zs: Vec<u16, A>,
 }
 
 impl<A: Allocator + Copy> Model for LastWord<A> {
@@ -28,7 +30,7 @@ impl<A: Allocator + Copy> Model for LastWord<A> {
 
     ghost view = { λ w. record { room = w.qubits; terms = terms_listed (take w.len w.numbers.items) } };
 
-    ghost invariant = { λ w. (length w.numbers.items ≡ 2 * w.qubits + 1) × (w.qubits ≤ MAX) × (w.len ≤ length w.numbers.items) };
+    ghost invariant = { λ w. (length w.numbers.items ≡ 2 * w.qubits + 1) × (w.qubits ≤ MAX) × (w.len ≤ length w.numbers.items) × (length w.zs.items ≡ w.qubits) };
 }
 
 impl<A: Allocator + Copy> LastWord<A> {
@@ -40,10 +42,12 @@ impl<A: Allocator + Copy> LastWord<A> {
             return Err(AllocError);
         }
         let numbers = vec![in alloc; 0u16; 2 * qubits + 1]?;
+        let zs = vec![in alloc; 0u16; qubits]?;
         Ok(LastWord {
             qubits,
             numbers,
             len: 0,
+            zs,
         })
     }
 
@@ -63,10 +67,10 @@ impl<A: Allocator + Copy> LastWord<A> {
         ensures read { self.new.terms ≡ terms_of_word (destabilizer_at tableau.now row).letters }
     {
         let numbers = self.numbers.as_mut_slice();
-        let xs_end = list_clashing(numbers, 1, tableau, row, Letter::Z);
+        let (xs_end, count) = list_letters(numbers, self.zs.as_mut_slice(), tableau, row);
         numbers[0] = (xs_end - 1) as u16;
-        let end = list_clashing(numbers, xs_end, tableau, row, Letter::X);
-        self.len = end;
+        append(numbers, xs_end, &self.zs[..count]);
+        self.len = xs_end + count;
     }
 
     /// The word as a list of numbers.
@@ -77,33 +81,51 @@ impl<A: Allocator + Copy> LastWord<A> {
     }
 }
 
-// Lists from a place on the qubits at which the destabilizer of a row clashes with a letter. Answers where the list ends. No
-// branch is taken on the letters, since those of a long word come in no order that could be predicted.
-#[inline(always)]
-fn list_clashing<A: Allocator + Copy>(
-    numbers: &mut [u16],
-    start: usize,
+// Lists the qubits at which the destabilizer of a row clashes with Z, behind the first number of `xs`, and those at which it clashes
+// with X. Answers where the first list ends, and how long the second is.
+fn list_letters<A: Allocator + Copy>(
+    xs: &mut [u16],
+    zs: &mut [u16],
     tableau: &Tableau<A>,
     row: usize,
-    letter: Letter,
-) -> usize
+) -> (usize, usize)
     requires row { row < row_count tableau.now }
     requires few { row_count tableau.now ≤ u16.MAX }
-    requires room { start + row_count tableau.now ≤ length numbers.old }
-    ensures length { length numbers.new ≡ length numbers.old }
-    ensures start { start ≤ result }
-    ensures end { result ≤ start + row_count tableau.now }
-    ensures listed { take result numbers.new
-        ≡ take start numbers.old ++ clashing letter 0 (destabilizer_at tableau.now row).letters }
+    requires xs_room { 1 + row_count tableau.now ≤ length xs.old }
+    requires zs_room { row_count tableau.now ≤ length zs.old }
+    ensures xs_length { length xs.new ≡ length xs.old }
+    ensures zs_length { length zs.new ≡ length zs.old }
+    ensures start { 1 ≤ result.0 }
+    ensures xs_end { result.0 ≤ 1 + row_count tableau.now }
+    ensures zs_end { result.1 ≤ row_count tableau.now }
+    ensures xs { take result.0 xs.new
+        ≡ take 1 xs.old ++ clashing Z 0 (destabilizer_at tableau.now row).letters }
+    ensures zs { take result.1 zs.new ≡ clashing X 0 (destabilizer_at tableau.now row).letters }
 {
     rows_have_all_letters(tableau);
-    let mut end = start;
+    let mut xs_end = 1;
+    let mut zs_end = 0;
     for qubit in 0..tableau.len() {
-        let clashes = tableau.destabilizer_letter(row, qubit).clashes(letter);
-        numbers[end] = qubit as u16;
-        end = after(end, clashes);
+        let letter = tableau.destabilizer_letter(row, qubit);
+        xs[xs_end] = qubit as u16;
+        xs_end = after(xs_end, letter.clashes(Letter::Z));
+        zs[zs_end] = qubit as u16;
+        zs_end = after(zs_end, letter.clashes(Letter::X));
     }
-    end
+    (xs_end, zs_end)
+}
+
+// Writes a list from a place on.
+#[inline(always)]
+fn append(numbers: &mut [u16], start: usize, more: &[u16])
+    requires { start + length more.now ≤ length numbers.old }
+    ensures length { length numbers.new ≡ length numbers.old }
+    ensures listed { take (start + length more.now) numbers.new
+        ≡ take start numbers.old ++ more.now }
+{
+    for place in 0..more.len() {
+        numbers[start + place] = more[place];
+    }
 }
 
 // The next place where there is one more, otherwise the same.

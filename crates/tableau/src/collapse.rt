@@ -211,6 +211,10 @@ fn turn_row<A: Allocator + Copy>(
     if stays(here, clashes) {
         return;
     }
+    if loses(here, clashes ^ here.clashes(letter)) {
+        row.set_letter(qubit, Letter::I);
+        return;
+    }
     let twisted = twist(row, code, letter, qubit, here, clashes);
     put_image(row, turning_gate(letter), qubit, twisted);
 }
@@ -221,6 +225,14 @@ fn stays(here: Letter, clashes: bool) -> bool
     ensures { IsTrue result → (here ≡ I) × (clashes ≡ false) }
 {
     here == Letter::I && !clashes
+}
+
+// Whether a turn takes this letter at the qubit away from a row, and changes nothing else there.
+#[inline(always)]
+fn loses(here: Letter, anticommutes: bool) -> bool
+    ensures { IsTrue result → (here ≡ Z) × (anticommutes ≡ true) }
+{
+    here == Letter::Z && anticommutes
 }
 
 // Only rows with X or Y at the qubit are multiplied; of others only the letter there changes. Answers the new letter
