@@ -4,7 +4,7 @@ use Rattle.std.specs.Prelude.{if◌then◌else◌}
 use Rattle.std.specs.List.{position_or_len, before_first, list_any}
 use Rattle.std.proofs.lemmas.Bool.{cases_Bool}
 use Rattle.stim_lexer.specs.declared.line.Braces.TheVariants.{NoBrace, OpeningLast, Misplaced}
-use Rattle.stim_lexer.specs.Bytes.{after_blanks, is_brace, is_empty, is_open_brace, from_first}
+use Rattle.stim_lexer.specs.Bytes.{after_blanks, is_blank, is_brace, is_empty, is_hash, is_open_brace, from_first}
 use Rattle.stim_lexer.specs.Cut.{after_brackets, after_name, after_opening, braces_in, has_opening, has_opening_last}
 use Rattle.stim_lexer.proofs.LexingLemmas.{is_empty-is}
 use Rattle.stim_lexer.proofs.ScanLemmas.{list_any-from_first}
@@ -69,3 +69,22 @@ brace_nowhere false body h = braces_told (list_any is_brace body) (has_opening_l
 pub is_false : (b : Bool) → not b ≡ true → b ≡ false
 is_false true h = cc
 is_false false h = refl
+
+blank_is_no_hash : (b : ℕ) → is_blank b ≡ true → is_hash b ≡ false
+blank_is_no_hash b h = grind arith
+
+-- what stands before a comment is the same with the blanks in front cut first
+pub content_from : (line : List ℕ) → before_first is_hash (after_blanks line) ≡ after_blanks (before_first is_hash line)
+content_from [] = refl
+content_from (b ∷ line) =
+    let blanks : 1 + position_or_len (λ x. not (is_blank x)) line ≡ suc (position_or_len (λ x. not (is_blank x)) line) = omega arith in
+    let bytes : 1 + position_or_len is_hash line ≡ suc (position_or_len is_hash line) = omega arith in
+    let front = before_first is_hash line in
+    let blanks_in_front : 1 + position_or_len (λ x. not (is_blank x)) front ≡ suc (position_or_len (λ x. not (is_blank x)) front) = omega arith in
+    elim (cases_Bool (is_blank b)) [
+      | inl e ↦
+          let other = blank_is_no_hash b e in
+          rw (e, blanks, other, bytes, e, blanks_in_front) (content_from line)
+      | inr e ↦
+          elim (cases_Bool (is_hash b)) [ inl f ↦ rw (e, f) refl | inr f ↦ rw (e, f, bytes, e) refl ]
+    ]

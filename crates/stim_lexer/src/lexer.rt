@@ -1,11 +1,12 @@
 ghost use Rattle.std.specs.Prelude.{◌≡◌, ◌+◌, ◌<◌, ◌^◌, ◌∷◌, [], length, IfErr, IfSome, Err, None};
 ghost use Rattle.std.specs.List.{list_any};
+ghost use Rattle.stim_lexer.specs.Bytes.{after_blanks};
 ghost use Rattle.stim_lexer.specs.Lexing.{after_silent, next_found, after_next, answered};
 ghost use Rattle.stim_lexer.specs.Lines.{content_of, lines_of};
 ghost use Rattle.stim_lexer.specs.private.Special.{is_special};
 
-use crate::line::{Line, content_of, has_bad_byte, is_closing, line_of, parts_of};
-use crate::scan::{any_special, first_line};
+use crate::line::{Line, Scanned, content_of, has_bad_byte, is_closing, line_of, parts_of};
+use crate::scan::{after_blanks, any_special, first_line};
 use std::marker::Model;
 use step_model::{Cause, Fault};
 
@@ -16,13 +17,11 @@ pub struct Lexer<'a> {
     read: u64,
 }
 
-/// A line that says something: the whole line, its content up to a comment, whether it has a special byte, and what
-/// follows it in the text.
+/// A line that says something, its content up to a comment, and what follows it in the text.
 #[derive(Clone, Copy)]
 struct Found<'a> {
-    line: &'a [u8],
+    scanned: Scanned<'a>,
     content: &'a [u8],
-    special: bool,
     after: &'a [u8],
 }
 
@@ -59,9 +58,10 @@ impl<'a> Lexer<'a> {
         let Some(found) = self.pass_silent() else {
             return Ok(None);
         };
-        let parts = parts_of(found.line, found.special);
+        let line = found.scanned.line;
+        let parts = parts_of(found.scanned);
         let number = self.read + 1;
-        if has_bad_byte(found.line, parts) {
+        if has_bad_byte(line, parts) {
             return Err(Fault {
                 cause: Cause::Byte,
                 line: number,
@@ -70,30 +70,36 @@ impl<'a> Lexer<'a> {
         self.rest = found.after;
         self.read = number;
         let closes = is_closing(found.content);
-        Ok(Some(line_of(number, found.line, closes, parts)))
+        Ok(Some(line_of(number, line, closes, parts)))
     }
 
     /// Passes over lines that say nothing, up to the first one that does.
     fn pass_silent(&mut self) -> Option<Found<'a>>
         ensures rest { self.new ≡ after_silent self.old.read self.old.lines }
         ensures lines { IfSome result (λ found. self.new.lines
-            ≡ found.line.now ∷ lines_of found.after.now) }
-        ensures content { IfSome result (λ found. found.content.now ≡ content_of found.line.now) }
-        ensures special { IfSome result (λ found. found.special
-            ≡ list_any is_special found.line.now) }
+            ≡ found.scanned.line.now ∷ lines_of found.after.now) }
+        ensures content { IfSome result (λ found. found.content.now
+            ≡ content_of found.scanned.line.now) }
+        ensures start { IfSome result (λ found. found.scanned.start.now
+            ≡ after_blanks found.scanned.line.now) }
+        ensures special { IfSome result (λ found. found.scanned.special
+            ≡ list_any is_special found.scanned.line.now) }
         ensures room { IfSome result (λ found. self.new.read + 1 + length found.after.now
             < 2 ^ 64) }
         ensures none { result ≡ None → self.new.lines ≡ [] }
     {
         while !self.rest.is_empty() {
             let (line, after) = first_line(self.rest);
-            let special = any_special(line);
-            let content = content_of(line, special);
+            let scanned = Scanned {
+                line,
+                start: after_blanks(line),
+                special: any_special(line),
+            };
+            let content = content_of(scanned);
             if !content.is_empty() {
                 return Some(Found {
-                    line,
+                    scanned,
                     content,
-                    special,
                     after,
                 });
             }

@@ -1,15 +1,13 @@
 ghost use Rattle.std.specs.Prelude.{◌≡◌, ◌&&◌, drop, false, true};
 ghost use Rattle.std.specs.List.{list_all, list_any};
-ghost use Rattle.stim_lexer.specs.Bytes.{begins_with, is_blank, is_brace, is_close_brace, is_open_brace};
+ghost use Rattle.stim_lexer.specs.Bytes.{after_blanks, begins_with, is_blank, is_brace, is_close_brace, is_open_brace};
 ghost use Rattle.stim_lexer.specs.declared.line.Braces.TheVariants.{NoBrace};
 ghost use Rattle.stim_lexer.specs.Cut.{name_of, body_of, leaves_tag_open, braces_in, cut_of, has_bad_byte};
 ghost use Rattle.stim_lexer.specs.Lexing.{cut_in};
 ghost use Rattle.stim_lexer.specs.Lines.{content_of, is_closing};
 ghost use Rattle.stim_lexer.specs.private.Special.{is_special};
 
-use crate::scan::{
-    after_blanks, any_bad_byte, before_byte, cut_brackets, cut_name, from_brace, is_blank_text,
-};
+use crate::scan::{any_bad_byte, before_byte, cut_brackets, cut_name, from_brace, is_blank_text};
 
 /// The braces of a line, outside tag and comment.
 #[derive(Clone, Copy, Debug, PartialEq, Eq)]
@@ -51,13 +49,22 @@ pub(crate) struct Parts<'a> {
     pub special: bool,
 }
 
+/// A line, what follows the blanks in front, and whether it has a special byte.
+#[derive(Clone, Copy)]
+pub(crate) struct Scanned<'a> {
+    pub line: &'a [u8],
+    pub start: &'a [u8],
+    pub special: bool,
+}
+
 /// A line up to a comment, without the blanks in front.
 #[inline(always)]
-pub(crate) fn content_of(line: &[u8], special: bool) -> &[u8]
-    requires { special ≡ list_any is_special line.now }
-    ensures { result.now ≡ content_of line.now }
+pub(crate) fn content_of(scanned: Scanned<'_>) -> &[u8]
+    requires start { scanned.start.now ≡ after_blanks scanned.line.now }
+    requires special { scanned.special ≡ list_any is_special scanned.line.now }
+    ensures { result.now ≡ content_of scanned.entry.line.now }
 {
-    after_blanks(before_byte(line, b'#', !special))
+    before_byte(scanned.start, b'#', !scanned.special)
 }
 
 /// Whether a line with this content closes a block.
@@ -73,20 +80,21 @@ pub(crate) fn is_closing(content: &[u8]) -> bool
 
 /// The parts of a line.
 #[inline(always)]
-pub(crate) fn parts_of(line: &[u8], special: bool) -> Parts<'_>
-    requires { special ≡ list_any is_special line.now }
-    ensures name { result.name.now ≡ name_of line.now }
-    ensures body { result.body.now ≡ body_of line.now }
-    ensures stays_open { result.leaves_tag_open ≡ leaves_tag_open line.now }
-    ensures special { result.special ≡ special }
+pub(crate) fn parts_of(scanned: Scanned<'_>) -> Parts<'_>
+    requires start { scanned.start.now ≡ after_blanks scanned.line.now }
+    requires special { scanned.special ≡ list_any is_special scanned.line.now }
+    ensures name { result.name.now ≡ name_of scanned.entry.line.now }
+    ensures body { result.body.now ≡ body_of scanned.entry.line.now }
+    ensures stays_open { result.leaves_tag_open ≡ leaves_tag_open scanned.entry.line.now }
+    ensures special { result.special ≡ scanned.entry.special }
 {
-    let (name, rest) = cut_name(after_blanks(line));
+    let (name, rest) = cut_name(scanned.start);
     let tag = cut_brackets(rest, b'[', b']');
     Parts {
         name,
-        body: before_byte(tag.after, b'#', !special),
+        body: before_byte(tag.after, b'#', !scanned.special),
         leaves_tag_open: tag.stays_open,
-        special,
+        special: scanned.special,
     }
 }
 

@@ -145,6 +145,26 @@ pub(crate) fn before_byte(text: &[u8], byte: u8, nowhere: bool) -> &[u8]
     cut_at(text, byte).0
 }
 
+/// Where a byte first stands. One that is near is found sooner than by `place_of`.
+#[inline(always)]
+fn near_place(text: &[u8], byte: u8) -> Option<usize>
+    ensures { result ≡ position (λ b. b == byte) text.now }
+{
+    text.iter().position(|other| *other == byte)
+}
+
+/// The parts of a text before the first of a byte that is near, and from there on. Where the byte isn't there, the first
+/// part is all.
+#[inline(always)]
+#[tactic(auto, using(crate::proofs::ScanLemmas::places))]
+fn cut_near(text: &[u8], byte: u8) -> (&[u8], &[u8])
+    ensures before { result.0.now ≡ before_first (λ b. b == byte) text.now }
+    ensures after { result.1.now ≡ from_first (λ b. b == byte) text.now }
+{
+    let place = near_place(text, byte).unwrap_or(text.len());
+    text.split_at(place)
+}
+
 /// What stands before the first of this byte, what follows it, and whether it is there. Where it isn't, everything
 /// stands before it.
 #[inline(always)]
@@ -153,7 +173,7 @@ fn cut_round(text: &[u8], byte: u8) -> (&[u8], &[u8], bool)
     ensures after { result.1.now ≡ after_first (λ b. b == byte) text.now }
     ensures found { result.2 ≡ list_any (λ b. b == byte) text.now }
 {
-    let (before, rest) = cut_at(text, byte);
+    let (before, rest) = cut_near(text, byte);
     match rest {
         [_, after @ ..] => (before, after, true),
         [] => (before, rest, false),

@@ -42,6 +42,10 @@ whole_value text = if has_minus text then neg_ℤ (pos (magnitude_of text)) else
 abbrev pub greatest_qubit : ℕ
 greatest_qubit = 4095
 
+-- how many qubits a circuit may have, which is also the most that a product may name
+abbrev pub most_qubits : ℕ
+most_qubits = 4096
+
 -- the greatest magnitude of a coordinate
 abbrev pub greatest_coordinate : ℕ
 greatest_coordinate = 1_000_000_000

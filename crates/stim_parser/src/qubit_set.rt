@@ -1,7 +1,8 @@
 ghost use Rattle.std.specs.Prelude.{◌≡◌, ◌==◌, ◌<◌, ◌&&◌, ◌||◌, ℕ, false, not};
+ghost use Rattle.stim_parser.specs.Numbers.{most_qubits};
 ghost use Rattle.stim_parser.specs.private.QubitSets.{is_named};
 
-/// A set of qubits below 4,096, by a bit for each. It takes no memory from an allocator.
+/// A set of qubits, by a bit for each that a circuit may have. It takes no memory from an allocator.
 #[derive(Drop)]
 pub(crate) struct QubitSet {
     words: [u64; 64],
@@ -17,7 +18,7 @@ impl QubitSet {
 
     /// Whether a qubit is in the set.
     pub(crate) fn contains(&self, qubit: u64) -> bool
-        requires { qubit < 4096 }
+        requires { qubit < most_qubits }
         ensures { result ≡ is_named self.now.words qubit }
     {
         (self.words[(qubit / 64) as usize] >> (qubit % 64)) & 1 == 1
@@ -25,7 +26,7 @@ impl QubitSet {
 
     /// Puts a qubit in.
     pub(crate) fn insert(&mut self, qubit: u64)
-        requires { qubit < 4096 }
+        requires { qubit < most_qubits }
         ensures { (q : ℕ) → is_named self.new.words q ≡ (q == qubit || is_named self.old.words q) }
     {
         self.words[(qubit / 64) as usize] |= 1u64 << (qubit % 64);
@@ -33,7 +34,7 @@ impl QubitSet {
 
     /// Takes a qubit out.
     pub(crate) fn remove(&mut self, qubit: u64)
-        requires { qubit < 4096 }
+        requires { qubit < most_qubits }
         ensures { (q : ℕ)
             → is_named self.new.words q ≡ (not (q == qubit) && is_named self.old.words q) }
     {

@@ -8,10 +8,11 @@ use Rattle.stim_parser.specs.declared.target.Target.TheVariants.{Plain, Inverted
 use Rattle.stim_parser.specs.Circuits.{Fits}
 use Rattle.stim_parser.specs.Verdicts.{Instruction}
 use Rattle.stim_parser.proofs.TargetNumbers.{IsWithin, targets_within}
+use Rattle.stim_parser.specs.Numbers.{most_qubits}
 use Rattle.unroll.specs.private.Pushed.{back_of, IsSmall}
 use Rattle.unroll.specs.Totals.{qubits_to}
 
-qubit_within : (t : Target) → IsWithin t → qubits_to t ≤ 4096
+qubit_within : (t : Target) → IsWithin t → qubits_to t ≤ most_qubits
 qubit_within (Plain q) h = omega (arith, h)
 qubit_within (Inverted q) h = omega (arith, h)
 qubit_within (Pauli inverted l q) h = omega (arith, h)
@@ -25,7 +26,7 @@ back_within (Inverted q) h = omega arith
 back_within (Pauli inverted l q) h = omega arith
 back_within Star h = omega arith
 
-pub qubits_within : (i : Instruction) → Fits i → All (λ t. qubits_to t ≤ 4096) i.targets
+pub qubits_within : (i : Instruction) → Fits i → All (λ t. qubits_to t ≤ most_qubits) i.targets
 qubits_within i fits = λ k d lt. qubit_within _ (targets_within i fits k d lt)
 
 pub backs_within : (i : Instruction) → Fits i → All (λ t. back_of t ≤ 999_999_999_999_999_999) i.targets

@@ -1,6 +1,7 @@
 ghost use Rattle.std.specs.Prelude.{◌≡◌, ◌<◌, ◌≤◌, [], ◌∷◌, All, length, map, slice_index_or, IfOk, OnOk};
 ghost use Rattle.step_model.specs.Chances.{no_chance};
 ghost use Rattle.stim_parser.specs.Kept.{instruction_in, list_in};
+ghost use Rattle.stim_parser.specs.Numbers.{most_qubits};
 ghost use Rattle.programs.specs.Entries.{entry_from};
 ghost use Rattle.unroll.specs.private.Kept.{error_entries, flip_entries, record_entries};
 ghost use Rattle.unroll.specs.Targets.{pauli_letter, term_at, term_of};
@@ -28,7 +29,7 @@ pub(crate) fn pauli_letter(target: Target) -> Letter
 
 /// A letter at the qubit of a target.
 pub(crate) fn term_at(letter: Letter, target: Target) -> Term
-    requires { qubits_to target ≤ 4096 }
+    requires { qubits_to target ≤ most_qubits }
     ensures { result ≡ term_at letter target }
 {
     Term {

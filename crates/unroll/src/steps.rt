@@ -1,5 +1,6 @@
 ghost use Rattle.std.specs.Prelude.{◌≡◌, ◌+◌, ◌<◌, ◌^◌, ◌≤◌, All, length, map, OnOk};
 ghost use Rattle.stim_parser.specs.Kept.{list_in};
+ghost use Rattle.stim_parser.specs.Numbers.{most_qubits};
 ghost use Rattle.pauli_word.specs.Parity.{exclusive_or};
 ghost use Rattle.unroll.specs.private.Made.{pair_step, pair_steps, plain_steps, product_steps, record_back};
 ghost use Rattle.unroll.specs.StepsMade.{fed_letter};
@@ -59,7 +60,7 @@ fn fed_letter(gate: Gate) -> Letter
 
 /// The qubit that a target names, and whether it has a `!`.
 fn qubit_and_sign(target: Target) -> (u32, bool)
-    requires { qubits_to target ≤ 4096 }
+    requires { qubits_to target ≤ most_qubits }
     ensures qubit { result.0 ≡ qubit_of target }
     ensures sign { result.1 ≡ is_inverted target }
 {
@@ -72,7 +73,7 @@ fn qubit_and_sign(target: Target) -> (u32, bool)
 }
 
 fn single_step(single: Single, target: Target) -> TextStep
-    requires { qubits_to target ≤ 4096 }
+    requires { qubits_to target ≤ most_qubits }
     ensures { result ≡ single_step single target }
 {
     let (q, inverted) = qubit_and_sign(target);
@@ -99,7 +100,7 @@ fn single_step(single: Single, target: Target) -> TextStep
 
 /// How many records back a target is, where it is a record, and the qubit that it names.
 fn back_and_qubit(target: Target) -> (Option<u64>, u32)
-    requires { qubits_to target ≤ 4096 }
+    requires { qubits_to target ≤ most_qubits }
     ensures back { result.0 ≡ record_back target }
     ensures qubit { result.1 ≡ qubit_of target }
 {

@@ -1,5 +1,6 @@
 ghost use Rattle.std.specs.Prelude.{◌≡◌, ◌≤◌, All, length, map};
 ghost use Rattle.stim_parser.specs.Kept.{list_in};
+ghost use Rattle.stim_parser.specs.Numbers.{most_qubits};
 ghost use Rattle.stim_parser.specs.private.Products.{is_joining};
 ghost use Rattle.stim_parser.specs.Limits.{products_of, qubit_of};
 ghost use Rattle.unroll.specs.private.Pushed.{FollowsFactor};
@@ -13,7 +14,7 @@ use stim_parser::{Operation, Target, Targets};
 /// One more than the qubit that a target names, and 0 where it names none.
 #[inline(always)]
 fn qubits_to(target: Target) -> u32
-    requires { qubits_to target ≤ 4096 }
+    requires { qubits_to target ≤ most_qubits }
     ensures { result ≡ qubits_to target }
 {
     match target {
@@ -25,7 +26,7 @@ fn qubits_to(target: Target) -> u32
 /// The qubit that a target names.
 #[inline(always)]
 pub(crate) fn qubit_of(target: Target) -> u32
-    requires { qubits_to target ≤ 4096 }
+    requires { qubits_to target ≤ most_qubits }
     ensures { result ≡ qubit_of target }
 {
     match target {
@@ -56,7 +57,7 @@ pub(crate) struct Reach {
 /// How far targets of one form reach after this many records.
 #[inline(always)]
 fn reach_in<S: Short<Target>>(records: u64, targets: &[S]) -> Reach
-    requires { All (λ target. qubits_to target ≤ 4096) (map S.long targets.now) }
+    requires { All (λ target. qubits_to target ≤ most_qubits) (map S.long targets.now) }
     ensures qubits { result.qubits ≡ qubits_named (map S.long targets.now) }
     ensures far { result.is_far ≡ reaches_far records (map S.long targets.now) }
 {
@@ -77,7 +78,7 @@ fn reach_in<S: Short<Target>>(records: u64, targets: &[S]) -> Reach
 
 /// How far targets reach after this many records.
 pub(crate) fn reach_of(records: u64, targets: Targets<'_>) -> Reach
-    requires { All (λ target. qubits_to target ≤ 4096) (list_in targets) }
+    requires { All (λ target. qubits_to target ≤ most_qubits) (list_in targets) }
     ensures qubits { result.qubits ≡ qubits_named (list_in targets.entry) }
     ensures far { result.is_far ≡ reaches_far records (list_in targets.entry) }
 {

@@ -3,7 +3,7 @@ ghost use Rattle.arrayvec.specs.ArrayVec.{array_vec_len};
 ghost use Rattle.stim_parser.specs.Circuits.{Fits};
 ghost use Rattle.stim_parser.specs.Kept.{instruction_in, item_in};
 ghost use Rattle.unroll.specs.private.Passes.{CanStand, Passes};
-ghost use Rattle.unroll.specs.private.Summed.{AreTotals, capped_sum, first_line, nothing_summed, repeated_sum, summing, totals_after, totals_repeated};
+ghost use Rattle.unroll.specs.private.Summed.{AreTotals, capped_sum, first_line, nothing_summed, repeated_sum, summing, totals_after, totals_repeated, SumsFit};
 ghost use Rattle.unroll.specs.private.MadeTotals.{has_argument};
 
 use crate::counts::{
@@ -97,35 +97,47 @@ impl Totals {
         }
     }
 
+    /// Does nothing. Its contract says that each of the sums fits 64 bits.
+    #[inline(always)]
+    fn fits(&self)
+        ensures { SumsFit self.now }
+    {
+        // The proof takes each range from a read.
+        let _records = self.records;
+        let _collapses = self.collapses;
+        let _detectors = self.detectors;
+        let _listed = self.listed;
+        let _faults = self.faults;
+    }
+
     /// Adds what one more instruction takes.
     #[inline(always)]
     fn add(&mut self, instruction: Instruction<'_, '_>)
         requires { Fits (instruction_in instruction) }
         ensures { self.new ≡ totals_after (instruction_in instruction.entry) self.old }
     {
-        // In place, since a copy of all totals for each instruction takes long. The proof reads what each of them fits.
-        let before = *self;
+        self.fits();
         let operation = instruction.operation;
         let line = instruction.line;
         let targets = target_count(operation, instruction.targets);
-        let reach = reach_of(before.records, instruction.targets);
-        self.steps = capped_sum(before.steps, 1 + targets);
-        self.made = capped_sum(before.made, steps_made(operation, targets));
-        self.qubits = before.qubits.max(reach.qubits);
-        self.far_line = first_line(before.far_line, reach.is_far, line);
+        let reach = reach_of(self.records, instruction.targets);
+        self.steps = capped_sum(self.steps, 1 + targets);
+        self.made = capped_sum(self.made, steps_made(operation, targets));
+        self.qubits = self.qubits.max(reach.qubits);
+        self.far_line = first_line(self.far_line, reach.is_far, line);
         match operation {
             // A gate adds to nothing else, and most lines are gates.
             Operation::Applies(_) => {}
             _ => {
                 let flips = has_argument(instruction);
                 let named = named_to(instruction);
-                self.records = capped_sum(before.records, records_made(operation, targets));
-                self.collapses = capped_sum(before.collapses, collapses_made(operation, targets));
-                self.detectors = capped_sum(before.detectors, detectors_made(operation));
-                self.listed = capped_sum(before.listed, records_listed(operation, targets));
-                self.faults = capped_sum(before.faults, faults_counted(operation, flips, targets));
-                self.observables = before.observables.max(named);
-                self.beyond_line = first_line(before.beyond_line, are_beyond_limit(named), line);
+                self.records = capped_sum(self.records, records_made(operation, targets));
+                self.collapses = capped_sum(self.collapses, collapses_made(operation, targets));
+                self.detectors = capped_sum(self.detectors, detectors_made(operation));
+                self.listed = capped_sum(self.listed, records_listed(operation, targets));
+                self.faults = capped_sum(self.faults, faults_counted(operation, flips, targets));
+                self.observables = self.observables.max(named);
+                self.beyond_line = first_line(self.beyond_line, are_beyond_limit(named), line);
             }
         }
     }

@@ -16,6 +16,7 @@ use Rattle.unroll.specs.declared.steps.Single.TheVariants.{Applies, Measurement,
 use Rattle.unroll.specs.private.Made.{measure_step, one_step, product_steps, recording, reset_step}
 use Rattle.unroll.specs.private.Named.{KeepsAs}
 use Rattle.stim_parser.specs.Limits.{products_of}
+use Rattle.stim_parser.specs.Numbers.{most_qubits}
 use Rattle.unroll.specs.Targets.{is_product_inverted}
 use Rattle.unroll.specs.Totals.{qubits_to}
 
@@ -43,7 +44,7 @@ back_of target = 0
 
 -- the numbers of a target fit a step's
 pub record IsSmall (target : Target) : Type 0 where
-  pub qubit : qubits_to target ≤ 4096
+  pub qubit : qubits_to target ≤ most_qubits
   pub back : back_of target < 2 ^ 32
 
 abbrev pub single_step : Single → Target → TextStep

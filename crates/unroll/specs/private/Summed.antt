@@ -1,7 +1,7 @@
 -- A circuit's totals as they are summed up in one pass over its text. A sum that doesn't fit 64 bits stays at the
 -- greatest number that does, which is above every limit, and beyond every record that a target can name. (Stim's
 -- circuit format, github.com/quantumlib/Stim, doc/file_format_stim_circuit.md; the limits are this project's.)
-use Rattle.std.specs.Prelude.{◌≡◌, ℕ, ◌+◌, ◌-◌, ◌*◌, ◌^◌, min, max, nat_lt, Bool, if◌then◌else◌, Option, None, Some}
+use Rattle.std.specs.Prelude.{◌≡◌, ℕ, ◌+◌, ◌-◌, ◌*◌, ◌^◌, ◌≤◌, min, max, nat_lt, Bool, if◌then◌else◌, Option, None, Some}
 use Rattle.std.specs.Option.{option_or}
 use Rattle.stim_lexer.specs.Reached.{instructions_of}
 use Rattle.stim_parser.specs.Trees.{Tree}
@@ -43,6 +43,14 @@ nothing_summed =
       far_line = None;
       beyond_line = None;
     }
+
+-- what only some instructions add to fits 64 bits
+pub record SumsFit (t : Totals) : Type 0 where
+  pub records : t.records ≤ greatest
+  pub collapses : t.collapses ≤ greatest
+  pub detectors : t.detectors ≤ greatest
+  pub listed : t.listed ≤ greatest
+  pub faults : t.faults ≤ greatest
 
 -- the totals after one more instruction
 abbrev pub totals_after : Instruction → Totals → Totals

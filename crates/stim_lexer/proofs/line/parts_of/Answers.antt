@@ -12,13 +12,13 @@ returns-clause-body c =
     ∙ ap (before_first is_hash)
     (c.cut_brackets-tag.ensures.after
     ∙ ap (after_brackets is_open_bracket is_close_bracket)
-    (c.cut_name.ensures.after ∙ ap (from_first ends_name) c.after_blanks.ensures))
+    (c.cut_name.ensures.after ∙ ap (from_first ends_name) c.requires.start))
 
 pub before_byte-requires : goal.before_byte-requires
 before_byte-requires c plain =
-    let none : list_any is_hash c.args.line.now ≡ false = no_hash c.args.line.now (sym c.requires ∙ is_false c.args.special plain) in
+    let none : list_any is_hash c.args.scanned.line.now ≡ false = no_hash c.args.scanned.line.now (sym c.requires.special ∙ is_false c.args.scanned.special plain) in
     ap (list_any is_hash)
     (c.cut_brackets-tag.ensures.after
     ∙ ap (after_brackets is_open_bracket is_close_bracket)
-    (c.cut_name.ensures.after ∙ ap (from_first ends_name) c.after_blanks.ensures))
-    ∙ none_after_brackets is_hash is_open_bracket is_close_bracket (after_name c.args.line.now) (none_after_name is_hash c.args.line.now none)
+    (c.cut_name.ensures.after ∙ ap (from_first ends_name) c.requires.start))
+    ∙ none_after_brackets is_hash is_open_bracket is_close_bracket (after_name c.args.scanned.line.now) (none_after_name is_hash c.args.scanned.line.now none)

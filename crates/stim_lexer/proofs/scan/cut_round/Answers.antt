@@ -6,18 +6,18 @@ use Rattle.stim_lexer.proofs.scan.cut_round.Goals as goal
 
 pub returns-in-empty-clause-found : goal.returns-in-empty-clause-found
 returns-in-empty-clause-found c =
-    let rest = c.cut_at.result.1.now in
+    let rest = c.cut_near.result.1.now in
     let none : rest ≡ [] = nil_from_length rest (omega arith) in
     sym (list_any-from_first (λ b. b == c.args.byte) c.args.text.now
-    ∙ ap (λ xs. not (is_empty xs)) (sym c.cut_at.ensures.after ∙ none))
+    ∙ ap (λ xs. not (is_empty xs)) (sym c.cut_near.ensures.after ∙ none))
 
 pub returns-in-len1-up-clause-after : goal.returns-in-len1-up-clause-after
 returns-in-len1-up-clause-after c =
-    take_rest c.cut_at.result.1.now 1
-    ∙ (ap (drop 1) c.cut_at.ensures.after ∙ drop-from_first (λ b. b == c.args.byte) c.args.text.now)
+    take_rest c.cut_near.result.1.now 1
+    ∙ (ap (drop 1) c.cut_near.ensures.after ∙ drop-from_first (λ b. b == c.args.byte) c.args.text.now)
 
 pub returns-in-len1-up-clause-found : goal.returns-in-len1-up-clause-found
 returns-in-len1-up-clause-found c =
-    let rest = c.cut_at.result.1.now in
+    let rest = c.cut_near.result.1.now in
     sym (list_any-from_first (λ b. b == c.args.byte) c.args.text.now
-    ∙ (ap (λ xs. not (is_empty xs)) (sym c.cut_at.ensures.after) ∙ ap not (is_empty-length rest (omega arith))))
+    ∙ (ap (λ xs. not (is_empty xs)) (sym c.cut_near.ensures.after) ∙ ap not (is_empty-length rest (omega arith))))

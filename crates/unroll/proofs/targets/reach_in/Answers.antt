@@ -2,6 +2,7 @@ use Rattle.std.proofs.Common.{◌≡◌, ◌≤◌, ◌||◌, ◌∷◌, map, sy
 use Rattle.std.specs.Prelude.{All}
 use Rattle.std.proofs.lemmas.List.Elements.{All-head, All-tail}
 use Rattle.stim_parser.specs.declared.target.Target.{Target}
+use Rattle.stim_parser.specs.Numbers.{most_qubits}
 use Rattle.unroll.specs.Refusals.{is_before_start, reaches_far}
 use Rattle.unroll.specs.Totals.{qubits_to}
 use Rattle.unroll.specs.private.MadeTotals.{qubits_named}
@@ -9,7 +10,7 @@ use Rattle.unroll.proofs.FitLemmas.{cut_long}
 use Rattle.unroll.proofs.targets.reach_in.Goals as goal
 
 abbrev IsFew : Target → Type 0
-IsFew target = qubits_to target ≤ 4096
+IsFew target = qubits_to target ≤ most_qubits
 
 pub qubits_to-requires : goal.qubits_to-requires
 qubits_to-requires g c =
