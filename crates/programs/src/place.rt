@@ -184,8 +184,10 @@ pub fn previous<A: Allocator + Copy>(nodes: &Nodes<A>, place: &mut Place) -> Opt
     if !go_back_to_step(nodes, place) {
         return None;
     }
+    // Read before the place is moved, so that what was asked of the node isn't loaded again.
+    let step = nodes.step(place.index - 1);
     place.index -= 1;
-    Some(nodes.step(place.index))
+    Some(step)
 }
 
 // Whether the node before a place is a step.

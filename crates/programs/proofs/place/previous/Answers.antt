@@ -13,5 +13,5 @@ returns g c k h =
     let index = c.go_back_to_step.new.place.index in
     let some = step_after nodes index (sym c.go_back_to_step.ensures.step ∙ c.if-not-go_back_to_step.false) in
     let one_less : index ≡ index - 1 + 1 = omega (arith, some) in
-    back_over_step nodes c.requires.circuit c.args.place.now c.go_back_to_step.new.place k c.step.result
-    (c.go_back_to_step.ensures.kept k h) (node_before-suc nodes c.requires.circuit (index - 1) index one_less ∙ c.step.ensures)
+    back_over_step nodes c.requires.circuit c.args.place.now c.go_back_to_step.new.place k c.step-step.result
+    (c.go_back_to_step.ensures.kept k h) (node_before-suc nodes c.requires.circuit (index - 1) index one_less ∙ c.step-step.ensures)
