@@ -1,2 +1,3 @@
 pub mod LaneLines
 pub mod ShownRuns
+pub mod WritesShots
