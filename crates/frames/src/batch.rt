@@ -1,5 +1,4 @@
 ghost use Rattle.std.specs.Prelude.{◌≡◌, ◌<◌, ◌≤◌, ◌+◌, ℕ, false, length, slice_index_or, IfOk, IfErr};
-ghost use Rattle.forward_sim.specs.References.{IsReferenceOf};
 ghost use Rattle.bit_rows.specs.Lanes.{lane_bit};
 ghost use Rattle.step_model.specs.Faults.{memory_fault};
 ghost use Rattle.step_model.specs.Targets.{difference};
@@ -39,8 +38,9 @@ impl<A: Allocator + Copy> Batch<A> {
         ensures ok { IfOk result (IsBatchOf program.now.listing) }
         ensures err { IfErr result (λ fault. fault ≡ memory_fault) }
     {
+        let frames = start(alloc, program)?;
         let reference = Reference::of(alloc, program)?;
-        beside(alloc, program, reference)
+        Ok(Batch { reference, frames })
     }
 
     /// The same, where the words that the reference run's collapses replaced are kept if they take at most so many bytes.
@@ -48,8 +48,9 @@ impl<A: Allocator + Copy> Batch<A> {
         ensures ok { IfOk result (IsBatchOf program.now.listing) }
         ensures err { IfErr result (λ fault. fault ≡ memory_fault) }
     {
+        let frames = start(alloc, program)?;
         let reference = Reference::in_room(alloc, program, bytes)?;
-        beside(alloc, program, reference)
+        Ok(Batch { reference, frames })
     }
 
     /// Follows 64 runs once: what `new` and then `follow` leave.
@@ -140,21 +141,6 @@ impl<A: Allocator + Copy> Batch<A> {
     {
         self.frames.parity(program.target(number))
     }
-}
-
-// A batch beside a program's reference run.
-fn beside<A: Allocator + Copy>(
-    alloc: A,
-    program: &Program<'_, A>,
-    reference: Reference<A>,
-) -> Result<Batch<A>, Fault>
-    requires reference { IsReferenceOf program.now.listing reference }
-    requires records { length reference.records ≡ program.now.listing.records }
-    ensures ok { IfOk result (IsBatchOf program.now.listing) }
-    ensures err { IfErr result (λ fault. fault ≡ memory_fault) }
-{
-    let frames = start(alloc, program)?;
-    Ok(Batch { reference, frames })
 }
 
 // Memory for the frames of a program.

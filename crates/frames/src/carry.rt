@@ -44,12 +44,29 @@ pub(crate) fn flips_at<A: Allocator + Copy>(
     ensures { IfOk result (λ flips. flips.items
         ≡ flips_of program.now.listing place word.now.letters) }
 {
-    let mut walk = Walk::start(program);
     let mut flips = Vec::new(alloc);
-    let made = go_to(program, place, &mut walk, &mut flips)?;
-    let mut frame = Frame::begin(alloc, word.copy()?, made)?;
-    push_flips(program, &mut walk, &mut frame, &mut flips)?;
+    put_flips(alloc, program, place, word, &mut flips)?;
     Ok(flips)
+}
+
+// The same, put into a list without any.
+fn put_flips<A: Allocator + Copy>(
+    alloc: A,
+    program: &Program<'_, A>,
+    place: Place,
+    word: &Word<A>,
+    flips: &mut Vec<bool, A>,
+) -> Result<(), AllocError>
+    requires word { length word.now.letters ≡ program.now.listing.qubits }
+    requires none { flips.old.items ≡ [] }
+    ensures { OnOk result
+        (flips.new.items ≡ flips_of program.now.listing place word.now.letters) }
+{
+    let mut walk = Walk::start(program);
+    let made = go_to(program, place, &mut walk, flips)?;
+    let word = word.copy()?;
+    let mut frame = Frame::begin(alloc, word, made)?;
+    push_flips(program, &mut walk, &mut frame, flips)
 }
 
 // Goes to a place, over collapses that aren't flipped, and answers how many records there are at it; to the end, over all

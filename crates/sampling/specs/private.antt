@@ -1,3 +1,3 @@
 pub mod LaneLines
 pub mod ShownRuns
-pub mod Written
+pub mod WritesShots

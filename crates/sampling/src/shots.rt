@@ -1,12 +1,12 @@
 //! Drawn shots of a program, a line each.
-ghost use Rattle.std.specs.Prelude.{◌≡◌, ◌⊎◌, ◌+◌, length, IfOk, IfErr, OnOk, OnErr};
+ghost use Rattle.std.specs.Prelude.{◌≡◌, ◌⊎◌, ◌+◌, length, replicate, IfOk, IfErr, OnOk, OnErr};
 ghost use Rattle.step_model.specs.Ends.{Takes, TakesSome, write_failures};
 ghost use Rattle.step_model.specs.Faults.{memory_fault, write_fault};
-ghost use Rattle.frames.specs.Batches.{IsBatchOf};
+ghost use Rattle.forward_sim.specs.Drawn.{bounds_of};
+ghost use Rattle.frames.specs.Batches.{DontCount, IsBatchOf};
 ghost use Rattle.sampling.specs.Sampled.{shots_text};
 ghost use Rattle.sampling.specs.Shown.{shown_line};
-ghost use Rattle.sampling.specs.private.ShownRuns.{shown_count};
-ghost use Rattle.sampling.specs.private.Written.{WritesText};
+ghost use Rattle.sampling.specs.private.WritesShots.{WritesShots};
 
 use crate::batches::write_batches;
 use crate::side_runs::{Shown, SideRuns, count};
@@ -36,56 +36,50 @@ pub fn write_shots<W: Sink, A: Allocator + Copy>(
         (TakesSome (W.taken sink.old) (W.taken sink.new)
         (shots_text (shown_line shown) shots seed program.now.listing)) }
 {
-    let mut words = vec![in alloc; 0u64; count(program, shown)]?;
-    let mut line = room_for(alloc, &words)?;
-    write_lines(
-        alloc, program, shown, &mut words, &mut line, shots, seed, sink,
-    )
+    let mut batch = Batch::new(alloc, program)?;
+    write_beside(alloc, program, &mut batch, shown, shots, seed, sink)
 }
 
-// The same, where room is lent for what is shown of runs and for a line.
-fn write_lines<W: Sink, A: Allocator + Copy>(
+// The same, in a batch of the program.
+fn write_beside<W: Sink, A: Allocator + Copy>(
     alloc: A,
     program: &Program<'_, A>,
+    batch: &mut Batch<A>,
     shown: Shown,
-    words: &mut [u64],
-    line: &mut [u8],
     shots: u64,
     seed: u64,
     sink: &mut W,
 ) -> Result<(), Fault>
-    requires words { length words.old ≡ shown_count shown program.now.listing }
-    requires line { length line.old ≡ length words.old + 1 }
-    ensures { WritesText W.taken W.failures sink.old sink.new
+    requires { IsBatchOf program.now.listing batch.old }
+    ensures { WritesShots W.taken W.failures sink.old sink.new
         (shots_text (shown_line shown) shots seed program.now.listing) result }
 {
-    let mut batch = Batch::new(alloc, program)?;
-    write_runs(
-        alloc, program, shown, &mut batch, words, line, shots, seed, sink,
-    )
+    let mut drawn = Shots::new(alloc, program, batch.coins_that_dont_count(program))?;
+    write_drawn(alloc, program, batch, &mut drawn, shown, shots, seed, sink)
 }
 
-// The same, where a batch is lent too.
-fn write_runs<W: Sink, A: Allocator + Copy>(
+// The same, with shots to be drawn.
+fn write_drawn<W: Sink, A: Allocator + Copy>(
     alloc: A,
     program: &Program<'_, A>,
-    shown: Shown,
     batch: &mut Batch<A>,
-    words: &mut [u64],
-    line: &mut [u8],
+    drawn: &mut Shots<A>,
+    shown: Shown,
     shots: u64,
     seed: u64,
     sink: &mut W,
 ) -> Result<(), Fault>
     requires batch { IsBatchOf program.now.listing batch.old }
-    requires words { length words.old ≡ shown_count shown program.now.listing }
-    requires line { length line.old ≡ length words.old + 1 }
-    ensures { WritesText W.taken W.failures sink.old sink.new
+    requires bounds { drawn.old.bounds ≡ bounds_of program.now.listing }
+    requires coins { length drawn.old.coins ≡ program.now.listing.collapses }
+    requires passed { DontCount program.now.listing drawn.old.passed }
+    ensures { WritesShots W.taken W.failures sink.old sink.new
         (shots_text (shown_line shown) shots seed program.now.listing) result }
 {
-    let mut drawn = Shots::new(alloc, program, batch.coins_that_dont_count(program))?;
-    let mut runs = SideRuns::new(program, batch, shown, words);
-    write_batches(&mut drawn, &mut runs, line, shots, seed, sink)
+    let mut words = vec![in alloc; 0u64; count(program, shown)]?;
+    let mut line = room_for(alloc, &words)?;
+    let mut runs = SideRuns::new(program, batch, shown, &mut words);
+    write_batches(drawn, &mut runs, &mut line, shots, seed, sink)
 }
 
 // A line with a digit for each of these words, and its line feed.
