@@ -73,3 +73,8 @@ pub decided : (Goes : List ℕ → Type 0) (order : Order) (text : List ℕ) (r 
 decided Goes order text (Ok status) is exact random =
     λ asked. is_decided Goes text status (is ∙ ap (λ (o : Order). (output_of o text).status) asked) (exact asked) (random asked)
 decided Goes order text (Err fault) is exact random = tt
+
+-- an order that isn't an analysis promises nothing of one
+pub not_asked : (order other : Order) (P : Status → Type 0) (r : Result Status Fault) → order ≡ other → (other ≡ Analyze → ⊥) → IfOk r (λ status. order ≡ Analyze → P status)
+not_asked order other P (Ok status) is differs = λ asked. absurd (differs (sym is ∙ asked))
+not_asked order other P (Err fault) is differs = tt
