@@ -3,15 +3,15 @@ use Rattle.std.specs.Prelude.{All}
 use Rattle.backward.specs.private.Points.{ArePoints}
 use Rattle.backward.proofs.PointLemmas.{first_point, left_behind, next_point, no_points, step_before}
 use Rattle.backward.proofs.StepLemmas.{stays_as, stays_on}
-use Rattle.backward.proofs.points.leave_points.Goals as goal
-use Rattle.backward.proofs.points.leave_points.Goals.{then-place-from+in_ok-leave, else-place-from}
+use Rattle.backward.proofs.points.leave_on_way.Goals as goal
+use Rattle.backward.proofs.points.leave_on_way.Goals.{then-place-from+in_ok-leave, else-place-from}
 
 pub loop-at-init : goal.loop-at-init
 loop-at-init g c =
     let tracked = g.T.Tracker.tracked in
     let program = c.args.program.now in
     let at = c.args.at.now in
-    let none = c.new-points.ensures.items in
+    let none = c.requires.none in
     elim c.if-place-from.branch [
       | then-place-from+in_ok-leave w ↦
           let items = ap (λ v. v.items) w.points-is in
