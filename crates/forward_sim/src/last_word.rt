@@ -81,8 +81,9 @@ impl<A: Allocator + Copy> LastWord<A> {
     }
 }
 
-// Lists the qubits at which the destabilizer of a row clashes with Z, behind the first number of `xs`, and those at which it clashes
-// with X. Answers where the first list ends, and how long the second is.
+// Lists the qubits at which the destabilizer of a row clashes with Z, behind the first number of
+// `xs`, and those at which it clashes with X. Answers where the first list ends, and how long the
+// second is.
 fn list_letters<A: Allocator + Copy>(
     xs: &mut [u16],
     zs: &mut [u16],
