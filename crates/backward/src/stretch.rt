@@ -25,9 +25,6 @@ const POINTS: usize = 60;
 /// A point takes little where there are no more qubits than these.
 const FEW_QUBITS: u32 = 256;
 
-/// After how many steps it is asked whether the text of their lines is full.
-const STRIDE: usize = 16;
-
 // Goes back to a place, and finds the lines on the way.
 #[inline(always)]
 fn go_back_to<'s, 'p, 'a, A: Allocator + Copy, T: Tracker>(
@@ -94,12 +91,13 @@ fn find_back<'s, 'p, 'a, A: Allocator + Copy, T: Tracker>(
     ensures store { lines.new.program.now ≡ lines.old.program.now }
 {
     let to = at.walk.place();
+    let stride = lines.stride();
     let mut next = 0;
     while at.walk.place() > from {
         let place = at.walk.place();
         go_back_to(
             program,
-            place.saturating_sub(STRIDE).max(from),
+            place.saturating_sub(stride).max(from),
             at,
             found,
             lines,

@@ -1,5 +1,5 @@
 //! The text of error lines that a pass finds, up to a limit.
-ghost use Rattle.std.specs.Prelude.{◌≡◌, [], length, IfOk, OnOk};
+ghost use Rattle.std.specs.Prelude.{◌≡◌, ◌<◌, [], length, IfOk, OnOk};
 ghost use Rattle.backward.specs.private.Numbered.{AreNumbers, IsTextFor};
 ghost use Rattle.error_models.specs.HeldText.{HoldsLines};
 
@@ -11,7 +11,7 @@ use std::alloc::{AllocError, Allocator};
 use step_model::ChanceText;
 
 /// How many times its room a whole text may take, so that it is found in one pass.
-const WHOLE: usize = 5;
+const WHOLE: usize = 12;
 
 /// The same for a part of a text, so that it isn't parted again where it is little longer than others.
 const WHOLE_PART: usize = 2;
@@ -19,6 +19,12 @@ const WHOLE_PART: usize = 2;
 /// A text that is to be whole grows by its room in this many steps, and whether it still seems to fit is thought about
 /// after each.
 const STEPS: usize = 32;
+
+/// After how many steps it is asked whether the text is full, at most.
+const STRIDE: usize = 16;
+
+/// One of these steps for each so many bytes of the room.
+const STEP_ROOM: usize = 4096;
 
 /// The text of a program's lines.
 #[derive(Drop)]
@@ -56,6 +62,13 @@ impl<'p, 'a, A: Allocator + Copy> TextStore<'p, 'a, A> {
             room,
             whole: room.saturating_mul(WHOLE),
         })
+    }
+
+    /// After how many steps it is asked again whether the text is full: fewer where there is little room.
+    pub(crate) fn stride(&self) -> usize
+        ensures { 0 < result }
+    {
+        (self.room / STEP_ROOM).min(STRIDE).max(1)
     }
 
     /// Whether the text, which is that of `steps` of a stretch of `all`, is to be taken before more lines are found. It is

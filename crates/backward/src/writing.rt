@@ -59,8 +59,8 @@ pub fn write_analysis<'a, A: Allocator + Copy, T: Tracker + Drop, W: Sink>(
     write_in_parts(alloc, program, tracker, ROOM, sink)
 }
 
-/// The same, with a text of error lines held up to this many bytes and a line, or five times as many where all of it
-/// seems to fit.
+/// The same, with a text of error lines held up to this many bytes and the lines of 16 steps at most, or twelve times
+/// as many where all of it seems to fit.
 pub fn write_in_parts<'a, A: Allocator + Copy, T: Tracker + Drop, W: Sink>(
     alloc: A,
     program: &Program<'a, A>,
