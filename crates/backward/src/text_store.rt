@@ -11,7 +11,7 @@ use std::alloc::{AllocError, Allocator};
 use step_model::ChanceText;
 
 /// How many times its room a whole text may take, so that it is found in one pass.
-const WHOLE: usize = 12;
+const WHOLE: usize = 5;
 
 /// The same for a part of a text, so that it isn't parted again where it is little longer than others.
 const WHOLE_PART: usize = 2;

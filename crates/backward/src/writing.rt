@@ -59,7 +59,7 @@ pub fn write_analysis<'a, A: Allocator + Copy, T: Tracker + Drop, W: Sink>(
     write_in_parts(alloc, program, tracker, ROOM, sink)
 }
 
-/// The same, with a text of error lines held up to this many bytes and the lines of 16 steps at most, or twelve times
+/// The same, with a text of error lines held up to this many bytes and the lines of 16 steps at most, or five times
 /// as many where all of it seems to fit.
 pub fn write_in_parts<'a, A: Allocator + Copy, T: Tracker + Drop, W: Sink>(
     alloc: A,
