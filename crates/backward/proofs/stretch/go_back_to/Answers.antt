@@ -5,7 +5,7 @@ use Rattle.step_model.specs.ErrorModels.{ErrorLine}
 use Rattle.error_models.specs.HeldText.{HoldsLines}
 use Rattle.backward.proofs.HeldLines.{lines_more}
 use Rattle.backward.proofs.PassLines.{lines_between-none}
-use Rattle.backward.proofs.PointLemmas.{stays_on}
+use Rattle.backward.proofs.StepLemmas.{stays_as, stays_on}
 use Rattle.backward.proofs.stretch.go_back_to.Goals as goal
 
 pub loop-at-init : goal.loop-at-init
@@ -19,7 +19,7 @@ loop-at-init g c =
       above = c.requires.to;
       below = omega arith;
       passed = c.requires.passed;
-      stays = record { settled = refl; keeps = refl; known = λ e. refl };
+      stays = stays_as refl refl refl;
       lines = λ given h. subst (HoldsLines c.args.lines.now.text) (sym (ap (λ (l : List ErrorLine). given ++ l) none ∙ append-nil given)) h;
     }
 
