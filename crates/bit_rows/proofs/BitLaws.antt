@@ -21,23 +21,18 @@ pub bit_at_value : (word j : ℕ) → bit_at word j ≡ value (bit_of word j)
 unfolding bit_of
 bit_at_value word j = bit_value (bit_at word j) (bit_at-lt word j)
 
-pub sum_of_bits : (a b : ℕ) → a < 2 → b < 2 → eqb ((a + b) % 2) 1 ≡ exclusive_or (eqb a 1) (eqb b 1)
-sum_of_bits zero zero p q = refl
-sum_of_bits zero (suc zero) p q = refl
-sum_of_bits (suc zero) zero p q = refl
-sum_of_bits (suc zero) (suc zero) p q = refl
-sum_of_bits (suc (suc a)) b p q = absurd (omega arith)
-sum_of_bits zero (suc (suc b)) p q = absurd (omega arith)
-sum_of_bits (suc zero) (suc (suc b)) p q = absurd (omega arith)
+-- a function of two bits
+on_bits : (f : ℕ → ℕ → ℕ) (g : Bool → Bool → Bool) → eqb (f 0 0) 1 ≡ g false false → eqb (f 0 1) 1 ≡ g false true → eqb (f 1 0) 1 ≡ g true false → eqb (f 1 1) 1 ≡ g true true
+    → (a b : ℕ) → a < 2 → b < 2 → eqb (f a b) 1 ≡ g (eqb a 1) (eqb b 1)
+on_bits f g none second first both zero zero p q = none
+on_bits f g none second first both zero (suc zero) p q = second
+on_bits f g none second first both (suc zero) zero p q = first
+on_bits f g none second first both (suc zero) (suc zero) p q = both
+on_bits f g none second first both (suc (suc a)) b p q = absurd (omega arith)
+on_bits f g none second first both a (suc (suc b)) p q = absurd (omega arith)
 
-least_of_bits : (a b : ℕ) → a < 2 → b < 2 → eqb (min a b) 1 ≡ (eqb a 1 && eqb b 1)
-least_of_bits zero zero p q = refl
-least_of_bits zero (suc zero) p q = refl
-least_of_bits (suc zero) zero p q = refl
-least_of_bits (suc zero) (suc zero) p q = refl
-least_of_bits (suc (suc a)) b p q = absurd (omega arith)
-least_of_bits zero (suc (suc b)) p q = absurd (omega arith)
-least_of_bits (suc zero) (suc (suc b)) p q = absurd (omega arith)
+pub sum_of_bits : (a b : ℕ) → a < 2 → b < 2 → eqb ((a + b) % 2) 1 ≡ exclusive_or (eqb a 1) (eqb b 1)
+sum_of_bits = on_bits (λ a b. (a + b) % 2) exclusive_or refl refl refl refl
 
 pub bit_of-xor : (x y j : ℕ) → bit_of (bit_xor x y) j ≡ exclusive_or (bit_of x j) (bit_of y j)
 unfolding bit_of
@@ -45,20 +40,11 @@ bit_of-xor x y j = ap (λ v. eqb v 1) (bit_at_xor x y j) ∙ sum_of_bits (bit_at
 
 pub bit_of-and : (x y j : ℕ) → bit_of (bit_and x y) j ≡ (bit_of x j && bit_of y j)
 unfolding bit_of
-bit_of-and x y j = ap (λ v. eqb v 1) (bit_at_and x y j) ∙ least_of_bits (bit_at x j) (bit_at y j) (bit_at-lt x j) (bit_at-lt y j)
-
-greatest_of_bits : (a b : ℕ) → a < 2 → b < 2 → eqb (max a b) 1 ≡ (eqb a 1 || eqb b 1)
-greatest_of_bits zero zero p q = refl
-greatest_of_bits zero (suc zero) p q = refl
-greatest_of_bits (suc zero) zero p q = refl
-greatest_of_bits (suc zero) (suc zero) p q = refl
-greatest_of_bits (suc (suc a)) b p q = absurd (omega arith)
-greatest_of_bits zero (suc (suc b)) p q = absurd (omega arith)
-greatest_of_bits (suc zero) (suc (suc b)) p q = absurd (omega arith)
+bit_of-and x y j = ap (λ v. eqb v 1) (bit_at_and x y j) ∙ on_bits min ◌&&◌ refl refl refl refl (bit_at x j) (bit_at y j) (bit_at-lt x j) (bit_at-lt y j)
 
 pub bit_of-or : (x y j : ℕ) → bit_of (bit_or x y) j ≡ (bit_of x j || bit_of y j)
 unfolding bit_of
-bit_of-or x y j = ap (λ v. eqb v 1) (bit_at_or x y j) ∙ greatest_of_bits (bit_at x j) (bit_at y j) (bit_at-lt x j) (bit_at-lt y j)
+bit_of-or x y j = ap (λ v. eqb v 1) (bit_at_or x y j) ∙ on_bits max ◌||◌ refl refl refl refl (bit_at x j) (bit_at y j) (bit_at-lt x j) (bit_at-lt y j)
 
 other_bit : (a : ℕ) → a < 2 → eqb (1 - a) 1 ≡ not (eqb a 1)
 other_bit zero h = refl
@@ -84,23 +70,29 @@ zero_from_bits word fits none =
     same_from_bits_below 64 word 0 fits (lit< tt)
     (λ j h. bit_at_value word j ∙ ap value (none j h) ∙ sym (bit_at-zero j))
 
+-- what is x at a place and y at any other
+pub at_place : (j k : ℕ) (v x y : Bool) → (j ≡ k → v ≡ x) → ((j ≡ k → ⊥) → v ≡ y) → v ≡ cond (eqb j k) x y
+at_place j k v x y here other =
+    ⊎_elim
+    (λ e. here e ∙ sym (ap (λ t. cond t x y) (eq-eqb j k e)))
+    (λ ne. other ne ∙ sym (ap (λ t. cond t x y) (ne_eqb j k ne)))
+    (cases_eq j k)
+
 -- `word | 1 << k`
 pub bit_of_put : (word k j : ℕ) → k < 64 → bit_of (bit_or word (1 * 2 ^ k % 2 ^ 64)) j ≡ cond (eqb j k) true (bit_of word j)
 unfolding bit_of
 bit_of_put word k j within =
-    ⊎_elim
-    (λ e. ap (λ v. eqb v 1) (ap (λ v. bit_at (bit_or word (1 * 2 ^ k % 2 ^ 64)) v) e ∙ bit_at_set_same w64 word k within) ∙ sym (ap (λ b. cond b true (bit_of word j)) (eq-eqb j k e)))
-    (λ ne. ap (λ v. eqb v 1) (bit_at_set_other w64 word k within j ne) ∙ sym (ap (λ b. cond b true (bit_of word j)) (ne_eqb j k ne)))
-    (cases_eq j k)
+    at_place j k _ true (bit_of word j)
+    (λ e. ap (λ v. eqb v 1) (ap (bit_at (bit_or word (1 * 2 ^ k % 2 ^ 64))) e ∙ bit_at_set_same w64 word k within))
+    (λ ne. ap (λ v. eqb v 1) (bit_at_set_other w64 word k within j ne))
 
 -- `word & !(1 << k)`
 pub bit_of_take : (word k j : ℕ) → k < 64 → j < 64 → bit_of (bit_and word (bit_not w64 (1 * 2 ^ k % 2 ^ 64))) j ≡ cond (eqb j k) false (bit_of word j)
 unfolding bit_of
 bit_of_take word k j within below =
-    ⊎_elim
-    (λ e. ap (λ v. eqb v 1) (ap (λ v. bit_at (bit_and word (bit_not w64 (1 * 2 ^ k % 2 ^ 64))) v) e ∙ bit_at_clear_same w64 word k within) ∙ sym (ap (λ b. cond b false (bit_of word j)) (eq-eqb j k e)))
-    (λ ne. ap (λ v. eqb v 1) (bit_at_clear_other w64 word k within j below ne) ∙ sym (ap (λ b. cond b false (bit_of word j)) (ne_eqb j k ne)))
-    (cases_eq j k)
+    at_place j k _ false (bit_of word j)
+    (λ e. ap (λ v. eqb v 1) (ap (bit_at (bit_and word (bit_not w64 (1 * 2 ^ k % 2 ^ 64)))) e ∙ bit_at_clear_same w64 word k within))
+    (λ ne. ap (λ v. eqb v 1) (bit_at_clear_other w64 word k within j below ne))
 
 -- `1 << k`
 bit_of_one : (k j : ℕ) → k < 64 → bit_of (1 * 2 ^ k % 2 ^ 64) j ≡ eqb j k

@@ -1,5 +1,5 @@
 -- Marks of blocks of words: what a mark that isn't set says of the words, and what keeps marks true.
-use Rattle.std.proofs.Common.{◌≡◌, ◌≢◌, ◌⊎◌, ℕ, ◌+◌, ◌*◌, ◌/◌, ◌%◌, ◌^◌, ◌<◌, ◌≤◌, Bool, true, false, not, cond, eqb, ◌&&◌, ◌||◌, List, get_or, replicate, refl, sym, ap, ap₂, ◌∙◌, arith, subst, ⊎_elim, inl, inr, bit_xor}
+use Rattle.std.proofs.Common.{◌≡◌, ◌≢◌, ◌⊎◌, ℕ, ◌+◌, ◌*◌, ◌/◌, ◌%◌, ◌^◌, ◌<◌, ◌≤◌, Bool, true, false, cond, eqb, List, get_or, replicate, refl, sym, ap, ap₂, ◌∙◌, arith, subst, ⊎_elim, inl, inr, bit_xor}
 use Rattle.std.proofs.lemmas.Bool.{cases_eq, eq-eqb, ne_eqb}
 use Rattle.bit_rows.specs.private.Marks.{MarksOnes, BlanksBelow}
 use Rattle.bit_rows.specs.Rows.{exclusive_or}
@@ -9,19 +9,6 @@ use Rattle.bit_rows.proofs.BitLaws.{bit_of-zero, zero_from_bits}
 use Rattle.bit_rows.proofs.Places.{bit_in_is, bit_in_word, bit_in_zeros, bit_in-xor, zeros_everywhere}
 
 -- ---- truth values
-pub off : (b : Bool) → not b ≡ true → b ≡ false
-off false h = refl
-off true h = sym h
-
-pub neither : (a b : Bool) → (a || b) ≡ false → (a ≡ false) × (b ≡ false)
-neither false b h = (refl, h)
-neither true b h = absurd (let e : true ≡ false = h in cc)
-
-pub taken_away : (a b : Bool) → (a && not b) ≡ false → (b ≡ true) ⊎ (a ≡ false)
-taken_away false b h = inr refl
-taken_away true true h = inl refl
-taken_away true false h = absurd (let e : true ≡ false = h in cc)
-
 pub set_where : (t b : Bool) → cond t true b ≡ true → (b ≡ true) ⊎ (t ≡ true)
 set_where true b h = inr refl
 set_where false b h = inl h

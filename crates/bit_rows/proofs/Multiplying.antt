@@ -1,13 +1,13 @@
 -- The steps of the loops that multiply the machine words of a Pauli word by those of another: none yet, one word more, one
 -- block more, and all of them.
-use Rattle.std.proofs.Common.{◌≡◌, ℕ, ◌+◌, ◌*◌, ◌/◌, ◌<◌, ◌≤◌, ◌%◌, List, length, get_or, set, sym, ap, ap₂, subst, ◌∙◌, arith, ⊎_elim, bit_xor}
+use Rattle.std.proofs.Common.{◌≡◌, ℕ, ◌+◌, ◌*◌, ◌<◌, ◌≤◌, ◌%◌, List, length, get_or, set, sym, ap, ap₂, subst, ◌∙◌, arith, ⊎_elim, bit_xor}
 use Rattle.std.proofs.lemmas.Bool.{cases_lt}
 use Rattle.std.proofs.lemmas.List.{get_or_past}
 use Rattle.bit_rows.specs.private.Multiplied.{HaveOneLength, MultipliesFirst, Multiplies}
 use Rattle.bit_rows.specs.private.Spans.{XorsWithin}
 use Rattle.bit_rows.specs.private.WordTotals.{word_phase, words_phase, carried, carried_by}
 use Rattle.bit_rows.proofs.Blocks.{XorsWithin-none, XorsWithin-one, XorsWithin-join}
-use Rattle.bit_rows.proofs.Carries.{words_phase-zero, carried-zero, power_more}
+use Rattle.bit_rows.proofs.Carries.{words_phase-zero, power_more}
 use Rattle.bit_rows.proofs.VectorLanes.{block_more}
 
 module _ (xa za xb zb : List ℕ) where
@@ -23,12 +23,6 @@ module _ (xa za xb zb : List ℕ) where
         x = XorsWithin-none xa xb 0;
         z = XorsWithin-none za zb 0;
       }
-
-  -- fewer words than a block
-  pub no_blocks : (n : ℕ) → n / 4 ≡ 0 → MultipliesFirst xa za xb zb xa za (carried 0 0) (n / 4 * 4)
-  no_blocks n h =
-      let none : n / 4 * 4 ≡ 0 = omega (arith, h) in
-      subst (λ m. MultipliesFirst xa za xb zb xa za (carried 0 0) m) (sym none) (none_multiplied (carried 0 0) carried-zero)
 
   pub word_multiplied : (xa' za' : List ℕ) (held held' i : ℕ) → MultipliesFirst xa za xb zb xa' za' held i → i < length xa' → i < length za'
       → held' % 4 ≡ (held + word_phase (get_or xa' i 0) (get_or za' i 0) (get_or xb i 0) (get_or zb i 0)) % 4

@@ -11,7 +11,7 @@ use Rattle.std.proofs.lemmas.List.FromFn.{length-map-range_with_len, get_or-map-
 use Rattle.std.proofs.lemmas.Simd.{length-replicate, get_or-replicate}
 use Rattle.bit_rows.specs.Rows.{exclusive_or, xor_rows, first_one_of}
 use Rattle.bit_rows.specs.private.Words.{bit_of, bit_in, row_of, words_for, HoldsRow}
-use Rattle.bit_rows.proofs.BitLaws.{bit_of-xor, bit_of-zero, zero_from_bits}
+use Rattle.bit_rows.proofs.BitLaws.{at_place, bit_of-xor, bit_of-zero, zero_from_bits}
 
 -- ---- the bit at a place
 pub bit_in_word : (words : List ℕ) (k j : ℕ) → j < 64 → bit_in words (k * 64 + j) ≡ bit_of (get_or words k 0) j
@@ -99,16 +99,10 @@ row_of_put n words others place b within each =
   where
     at : (i : ℕ) → i < n → get_or (set (row_of n words) place b) i false ≡ bit_in others i
     at i h =
-        ⊎_elim
-        (λ (e : i ≡ place).
-        ap (λ v. get_or (set (row_of n words) place b) v false) e
-        ∙ get_or-set_same (row_of n words) place b false (rw length-row_of within)
-        ∙ sym (each i ∙ ap (λ t. cond t b (bit_in words i)) (eq-eqb i place e)))
-        (λ (ne : i ≡ place → ⊥).
-        get_or-set_other (row_of n words) place i b false ne
-        ∙ get_or-row_of n words i h
-        ∙ sym (each i ∙ ap (λ t. cond t b (bit_in words i)) (ne_eqb i place ne)))
-        (cases_eq i place)
+        at_place i place _ b (bit_in words i)
+        (λ e. ap (λ v. get_or (set (row_of n words) place b) v false) e ∙ get_or-set_same (row_of n words) place b false (rw length-row_of within))
+        (λ ne. get_or-set_other (row_of n words) place i b false ne ∙ get_or-row_of n words i h)
+        ∙ sym (each i)
 
 xor_of_maps : (f g : ℕ → Bool) (xs : List ℕ) → xor_rows (map f xs) (map g xs) ≡ map (λ i. exclusive_or (f i) (g i)) xs
 xor_of_maps f g [] = refl

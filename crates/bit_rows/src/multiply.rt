@@ -80,15 +80,23 @@ fn multiply_blocks(
         (carried result.0 result.1) (length xb.now / 4 * 4) }
     ensures blank { BlanksBelow result.2 xa.new za.new (length xb.now / 4 * 4) }
 {
-    let blocks = xb.len() / 4;
-    if blocks == 0 {
-        return (0, 0, 0);
-    }
-    if marks.trailing_ones() as usize >= blocks {
+    if marks.trailing_ones() as usize >= xb.len() / 4 {
         let (ones, twos) = multiply_all(xa, za, xb, zb);
         return (ones, twos, 0);
     }
-    multiply_marked(xa, za, xb, zb, marks)
+    let mut ones = u64x4::splat(0);
+    let mut twos = u64x4::splat(0);
+    let mut noted = 0u64;
+    for block in 0..xb.len() / 4 {
+        let (next_ones, next_twos, emptied) = multiply_block(
+            ones, twos, xa, za, xb, zb, marks, block,
+        );
+        ones = next_ones;
+        twos = next_twos;
+        noted = mark_where(noted, block, emptied);
+    }
+    let (one, two) = join_lanes(&ones.to_array(), &twos.to_array());
+    (one, two, noted)
 }
 
 // The same where every block may have letters: no mark is looked at, and no block is noted as empty.
@@ -104,35 +112,6 @@ fn multiply_all(xa: &mut [u64], za: &mut [u64], xb: &[u64], zb: &[u64]) -> (u64,
         xor_both(xa, za, xb, zb, block * 4);
     }
     join_lanes(&ones.to_array(), &twos.to_array())
-}
-
-// The same, skipping the blocks without marks.
-fn multiply_marked(
-    xa: &mut [u64],
-    za: &mut [u64],
-    xb: &[u64],
-    zb: &[u64],
-    marks: u64,
-) -> (u64, u64, u64)
-    requires long { HaveOneLength xa.old za.old xb.now zb.now }
-    requires marks { MarksBoth marks xb.now zb.now }
-    ensures product { MultipliesFirst xa.old za.old xb.now zb.now xa.new za.new
-        (carried result.0 result.1) (length xb.now / 4 * 4) }
-    ensures blank { BlanksBelow result.2 xa.new za.new (length xb.now / 4 * 4) }
-{
-    let mut ones = u64x4::splat(0);
-    let mut twos = u64x4::splat(0);
-    let mut noted = 0u64;
-    for block in 0..xb.len() / 4 {
-        let (next_ones, next_twos, emptied) = multiply_block(
-            ones, twos, xa, za, xb, zb, marks, block,
-        );
-        ones = next_ones;
-        twos = next_twos;
-        noted = mark_where(noted, block, emptied);
-    }
-    let (one, two) = join_lanes(&ones.to_array(), &twos.to_array());
-    (one, two, noted)
 }
 
 // One block. The last answer is true only where no letter is left in it. Most blocks of a long word have no letters.

@@ -1,13 +1,39 @@
-use Rattle.std.proofs.Common.{◌*◌, ◌/◌, length, arith}
-use Rattle.bit_rows.proofs.Marked.{blanks_none}
-use Rattle.bit_rows.proofs.Multiplying.{no_blocks}
+use Rattle.std.proofs.Common.{◌≡◌, ◌*◌, ◌/◌, ◌%◌, length, arith, ap, ◌∙◌, subst}
+use Rattle.bit_rows.specs.private.Marks.{BlanksBelow}
+use Rattle.bit_rows.specs.private.WordTotals.{carried_by}
+use Rattle.bit_rows.proofs.Marked.{blanks_none, blanks_more}
+use Rattle.bit_rows.proofs.Multiplying.{none_multiplied, block_multiplied, held_otherwise}
+use Rattle.bit_rows.proofs.VectorLanes.{carried_by-zeros}
 use Rattle.bit_rows.proofs.multiply.multiply_blocks.Goals as goal
 
-pub returns-then-blocks-eq0-clause-product : goal.returns-then-blocks-eq0-clause-product
-returns-then-blocks-eq0-clause-product c = no_blocks c.args.xa.now c.args.za.now c.args.xb.now c.args.zb.now (length c.args.xb.now) (omega (arith, c.if-blocks-eq0.true))
+pub returns-then-trailing_ones-xb-clause-blank : goal.returns-then-trailing_ones-xb-clause-blank
+returns-then-trailing_ones-xb-clause-blank c = blanks_none c.multiply_all-ones.new.xa c.multiply_all-ones.new.za (length c.args.xb.now / 4 * 4)
 
-pub returns-then-blocks-eq0-clause-blank : goal.returns-then-blocks-eq0-clause-blank
-returns-then-blocks-eq0-clause-blank c = blanks_none c.args.xa.now c.args.za.now (length c.args.xb.now / 4 * 4)
+pub loop-block-init : goal.loop-block-init
+loop-block-init c =
+    record {
+      product = none_multiplied c.args.xa.now c.args.za.now c.args.xb.now c.args.zb.now _ (carried_by-zeros 4 4);
+      blank = blanks_none c.args.xa.now c.args.za.now 0;
+    }
 
-pub returns-then-trailing_ones-blocks-clause-blank : goal.returns-then-trailing_ones-blocks-clause-blank
-returns-then-trailing_ones-blocks-clause-blank c = blanks_none c.multiply_all-ones.new.xa c.multiply_all-ones.new.za (length c.args.xb.now / 4 * 4)
+pub loop-block-preserved : goal.loop-block-preserved
+loop-block-preserved c =
+    let made = c.multiply_block-emptied in
+    record {
+      product =
+          block_multiplied c.args.xa.now c.args.za.now c.args.xb.now c.args.zb.now c.loop-block.xa c.loop-block.za made.new.xa made.new.za c.loop-block.ones c.loop-block.twos _ _ c.loop-block.block
+          c.loop-block.invariant.product made.ensures.power made.ensures.x made.ensures.z;
+      blank =
+          blanks_more c.loop-block.noted c.mark_where-noted.result c.loop-block.xa c.loop-block.za made.new.xa made.new.za c.args.xb.now c.args.zb.now c.loop-block.block
+          made.result.2 c.loop-block.invariant.blank made.ensures.x made.ensures.z made.ensures.emptied c.mark_where-noted.ensures;
+    }
+
+pub returns-clause-product : goal.returns-clause-product
+returns-clause-product c =
+    held_otherwise c.args.xa.now c.args.za.now c.args.xb.now c.args.zb.now c.loop-block.xa c.loop-block.za _ _ _ _ c.loop-block.invariant.product
+    (c.join_lanes-one.ensures ∙ ap (λ n. carried_by c.loop-block.ones c.loop-block.twos n % 4) c.loop-block.auto.ones.0) (omega arith)
+
+pub returns-clause-blank : goal.returns-clause-blank
+returns-clause-blank c =
+    let end : c.loop-block.block ≡ length c.args.xb.now / 4 = omega arith in
+    subst (λ b. BlanksBelow c.loop-block.noted c.loop-block.xa c.loop-block.za (b * 4)) end c.loop-block.invariant.blank

@@ -2,7 +2,7 @@ use Rattle.std.proofs.Common.{◌*◌}
 use Rattle.bit_rows.specs.private.Marks.{BlanksBelow}
 use Rattle.bit_rows.specs.private.Multiplied.{MultipliesFirst}
 use Rattle.bit_rows.specs.private.WordTotals.{carried_by}
-use Rattle.bit_rows.proofs.multiply.multiply_marked.Given as goal
+use Rattle.bit_rows.proofs.multiply.multiply_blocks.Given as goal
 
 abbrev pub invariant-loop-block : goal.invariant-loop-block
 invariant-loop-block l = record {
