@@ -5,12 +5,12 @@ use Rattle.std.proofs.Math.Bool.{beq}
 use Rattle.std.proofs.Math.Nat.{suc_inj}
 use Rattle.bit_rows.specs.Rows.{xor_rows, and_parity_of, letter_phase, phase_sum, phase_of}
 use Rattle.pauli_word.specs.declared.letter.Letter.{Letter}
-use Rattle.pauli_word.specs.declared.letter.Letter.TheVariants.{I, X, Y, Z}
+use Rattle.pauli_word.specs.declared.letter.Letter.TheVariants.{I}
 use Rattle.pauli_word.specs.Bits.{letter_of, x_bit, z_bit, letters_of}
 use Rattle.pauli_word.specs.Letters.{Power, one, times_i, power_product, is_minus, letter_product, letter_power, letters_clash}
 use Rattle.pauli_word.specs.Parity.{exclusive_or}
 use Rattle.pauli_word.specs.Words.{Signed, product, letters_product, letters_power, anticommute, letter_at, no_letters}
-use Rattle.pauli_word.proofs.LetterTests.{same_letter, same_letter-true, same_power, same_power-true}
+use Rattle.pauli_word.proofs.LetterTests.{letter_of-bits, same_letter, same_letter-true, same_power, same_power-true}
 use Rattle.pauli_word.proofs.Parities.{exclusive_or_middle, same_truth, same_truth-true, at_four_truths}
 use Rattle.pauli_word.proofs.PowerLaws.{four_times_i, times_i-power_product}
 
@@ -36,12 +36,6 @@ letters_of-set (a ∷ x) [] zero b c = refl
 letters_of-set (a ∷ x) [] (suc i) b c = refl
 letters_of-set (a ∷ x) (d ∷ z) zero b c = refl
 letters_of-set (a ∷ x) (d ∷ z) (suc i) b c = ap (λ p. letter_of a d ∷ p) (letters_of-set x z i b c)
-
-letter_of-bits : (a : Letter) → letter_of (x_bit a) (z_bit a) ≡ a
-letter_of-bits I = refl
-letter_of-bits X = refl
-letter_of-bits Y = refl
-letter_of-bits Z = refl
 
 pub letters_of-set_bits : (x z : List Bool) (i : ℕ) (a : Letter) → letters_of (set x i (x_bit a)) (set z i (z_bit a)) ≡ set (letters_of x z) i a
 letters_of-set_bits x z i a = letters_of-set x z i (x_bit a) (z_bit a) ∙ ap (set (letters_of x z) i) (letter_of-bits a)

@@ -1,7 +1,7 @@
 -- The words of a state form a commutative group without minus the identity: at the start; after a map of words that keeps
 -- length, products, what anticommutes and the identity, as an applied word is; and after a collapse, random or not.
 use Rattle.std.proofs.Common.{◌≡◌, ◌⊎◌, inl, inr, ℕ, zero, suc, Bool, true, false, not, ◌&&◌, ◌||◌, cond, List, [], ◌∷◌, length, refl, ap, ap₂, sym, ◌∙◌}
-use Rattle.std.proofs.lemmas.Bool.{and_parts, and_from, or_cases, or_left, or_right, or_parts, not-true}
+use Rattle.std.proofs.lemmas.Bool.{and_parts, and_from, or_cases, or_left, or_right, or_parts, not-true, and_right}
 use Rattle.std.specs.List.{list_all}
 use Rattle.pauli_word.specs.declared.letter.Letter.{Letter}
 use Rattle.pauli_word.specs.declared.letter.Letter.TheVariants.{I, X, Y, Z}
@@ -30,22 +30,18 @@ IsGroup-moved n f s keeps group =
     }
 
 -- a word applied where b changes signs alone, and keeps what makes a group
-and-exclusive_or : (b x y : Bool) → (b && exclusive_or x y) ≡ exclusive_or (b && x) (b && y)
+pub and-exclusive_or : (b x y : Bool) → (b && exclusive_or x y) ≡ exclusive_or (b && x) (b && y)
 and-exclusive_or false x y = refl
 and-exclusive_or true x y = refl
 
-and_false : (b : Bool) → (b && false) ≡ false
-and_false false = refl
-and_false true = refl
-
-sign_changed_twice : (a b : Bool) (p : Signed) → with_sign_changed a (with_sign_changed b p) ≡ with_sign_changed (exclusive_or a b) p
+pub sign_changed_twice : (a b : Bool) (p : Signed) → with_sign_changed a (with_sign_changed b p) ≡ with_sign_changed (exclusive_or a b) p
 sign_changed_twice a b p = ap (signed p.letters) (sym (exclusive_or_assoc a b p.negative))
 
 pub applied_keeps : (n : ℕ) (b : Bool) (w : List Letter) → KeepsWords n (λ p. with_sign_changed (b && anticommute p.letters w) p)
 applied_keeps n b w =
     record {
       size = λ p h. h;
-      identity = λ c. ap (λ t. with_sign_changed t (signed (no_letters n) c)) (ap (λ t. b && t) (anticommute_of_none n w) ∙ and_false b);
+      identity = λ c. ap (λ t. with_sign_changed t (signed (no_letters n) c)) (ap (λ t. b && t) (anticommute_of_none n w) ∙ and_right b false refl);
       anticommuting = λ p q h k. refl;
       product = λ p q h k.
           ap (λ t. with_sign_changed t (product p q)) (ap (λ t. b && t) (anticommute-product p.letters q.letters w (h ∙ sym k)) ∙ and-exclusive_or b (anticommute p.letters w) (anticommute q.letters w))
@@ -59,7 +55,7 @@ IsGroup-applied n b w s = IsGroup-moved n (λ p. with_sign_changed (b && anticom
 
 -- the start
 
-all_of_none : (n : ℕ) → list_all is_I_or_Z (no_letters n) ≡ true
+pub all_of_none : (n : ℕ) → list_all is_I_or_Z (no_letters n) ≡ true
 all_of_none zero = refl
 all_of_none (suc n) = all_of_none n
 

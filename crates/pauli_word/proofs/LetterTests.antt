@@ -1,9 +1,11 @@
 -- Tests of letters and of powers of i, which compute, and what they show at each letter.
-use Rattle.std.proofs.Common.{◌≡◌, Bool, true, false, ◌&&◌, refl}
+use Rattle.std.proofs.Common.{◌≡◌, Bool, true, false, ◌&&◌, refl, sym, ap₂, ◌∙◌}
 use Rattle.std.proofs.lemmas.Bool.{and_parts}
 use Rattle.pauli_word.specs.declared.letter.Letter.{Letter}
 use Rattle.pauli_word.specs.declared.letter.Letter.TheVariants.{I, X, Y, Z}
+use Rattle.pauli_word.specs.Bits.{letter_of, x_bit, z_bit}
 use Rattle.pauli_word.specs.Letters.{Power, one, i, minus_one, minus_i}
+use Rattle.pauli_word.proofs.Parities.{same_truth, same_truth-true}
 
 -- a test at each letter, at each two letters, and so on: what passes at each passes at these
 abbrev pub each_letter : (Letter → Bool) → Bool
@@ -38,20 +40,21 @@ each_four_letters p = each_two_letters (λ a b. each_two_letters (p a b))
 pub at_four_letters : (p : Letter → Letter → Letter → Letter → Bool) → each_four_letters p ≡ true → (a b c d : Letter) → p a b c d ≡ true
 at_four_letters p h a b c d = at_two_letters (p a b) (at_two_letters (λ e f. each_two_letters (p e f)) h a b) c d
 
--- equality of letters, as a test
+-- a letter is that of its bits
+pub letter_of-bits : (a : Letter) → letter_of (x_bit a) (z_bit a) ≡ a
+letter_of-bits I = refl
+letter_of-bits X = refl
+letter_of-bits Y = refl
+letter_of-bits Z = refl
+
+-- equality of letters, as a test of their bits
 abbrev pub same_letter : Letter → Letter → Bool
-same_letter I I = true
-same_letter X X = true
-same_letter Y Y = true
-same_letter Z Z = true
-same_letter a b = false
+same_letter a b = same_truth (x_bit a) (x_bit b) && same_truth (z_bit a) (z_bit b)
 
 pub same_letter-true : (a b : Letter) → same_letter a b ≡ true → a ≡ b
-same_letter-true I I h = refl
-same_letter-true X X h = refl
-same_letter-true Y Y h = refl
-same_letter-true Z Z h = refl
-same_letter-true a b h = cc
+same_letter-true a b h =
+    let both = and_parts (same_truth (x_bit a) (x_bit b)) (same_truth (z_bit a) (z_bit b)) h in
+    sym (letter_of-bits a) ∙ ap₂ letter_of (same_truth-true _ _ both.0) (same_truth-true _ _ both.1) ∙ letter_of-bits b
 
 -- equality of powers, as a test
 abbrev pub same_power : Power → Power → Bool

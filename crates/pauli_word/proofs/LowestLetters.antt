@@ -9,9 +9,7 @@ use Rattle.pauli_word.specs.declared.letter.Letter.{Letter}
 use Rattle.pauli_word.specs.declared.letter.Letter.TheVariants.{I, X, Y, Z}
 use Rattle.pauli_word.specs.Letters.{letters_clash}
 use Rattle.pauli_word.specs.Words.{letter_at, has_X_or_Y, lowest_X_or_Y}
-
-some_injective : (j k : ℕ) → ◌≡◌ {A = Option ℕ} (Some j) (Some k) → j ≡ k
-some_injective j k h = cc
+use Rattle.std.proofs.lemmas.Option.{same_Some}
 
 clash-Z : (a : Letter) → has_X_or_Y a ≡ true → letters_clash a Z ≡ true
 clash-Z I h = h
@@ -26,7 +24,7 @@ lowest-clash (a ∷ w) q h =
     elim (cases_Bool (has_X_or_Y a)) [
       | inl k ↦
           (let e : ◌≡◌ {A = Option ℕ} (Some 0) (Some q) = sym (ap (λ b. if b then Some 0 else option_map suc (lowest_X_or_Y w)) k) ∙ h in
-          let z : 0 ≡ q = some_injective _ _ e in
+          let z : 0 ≡ q = same_Some _ _ e in
           subst (λ i. (i < length (a ∷ w)) × (letters_clash (letter_at (a ∷ w) i) Z ≡ true)) z (omega arith, clash-Z a k))
       | inr k ↦
           (let e : option_map suc (lowest_X_or_Y w) ≡ Some q = sym (ap (λ b. if b then Some 0 else option_map suc (lowest_X_or_Y w)) k) ∙ h in
@@ -36,7 +34,7 @@ lowest-clash (a ∷ w) q h =
     further : ((k : ℕ) → lowest_X_or_Y w ≡ Some k → (k < length w) × (letters_clash (letter_at w k) Z ≡ true)) → (o : Option ℕ) → lowest_X_or_Y w ≡ o → option_map suc o ≡ Some q → (q < length (a ∷ w)) × (letters_clash (letter_at (a ∷ w) q) Z ≡ true)
     further rest None l e = cc
     further rest (Some k) l e =
-        let z : suc k ≡ q = some_injective _ _ e in
+        let z : suc k ≡ q = same_Some _ _ e in
         let below = rest k l in
         let inside : suc k < length (a ∷ w) = omega (arith, below.0) in
         subst (λ i. (i < length (a ∷ w)) × (letters_clash (letter_at (a ∷ w) i) Z ≡ true)) z (inside, below.1)

@@ -15,7 +15,7 @@ power_left_comm : (p q r : Power) → power_product p (power_product q r) ≡ po
 power_left_comm p q r =
     sym (power_product_assoc p q r) ∙ (ap (λ s. power_product s r) (power_product_comm p q) ∙ power_product_assoc q p r)
 
-clash-I : (a : Letter) → letters_clash a I ≡ false
+pub clash-I : (a : Letter) → letters_clash a I ≡ false
 clash-I a = letters_clash_comm a I ∙ letters_clash_of_I a
 
 pub letters_power_at : (p q : List Letter) (i : ℕ) → letters_power p q ≡ power_product (letter_power (letter_at p i) (letter_at q i)) (letters_power (set p i I) (set q i I))
