@@ -16,7 +16,6 @@ use std::alloc::{AllocError, Allocator};
 use std::marker::Model;
 
 /// Lists of items, in the order in which they were pushed. They have less than 2^32 items in all.
-#[derive(Drop)]
 pub struct FlatLists<T: Copy, A: Allocator + Copy> {
     items: Vec<T, A>,
     ends: Vec<u32, A>,
@@ -31,6 +30,15 @@ impl<T: Copy, A: Allocator + Copy> Model for FlatLists<T, A> {
     ghost view = { λ lists. cut 0 lists.ends.items lists.items.items };
 
     ghost invariant = { λ lists. AreEnds 0 lists.ends.items (length lists.items.items) };
+}
+
+// Written out, so that it is a call in the proof of each function that owns lists.
+impl<T: Copy, A: Allocator + Copy> Drop for FlatLists<T, A> {
+    fn drop(self) {
+        let FlatLists { items, ends } = self;
+        drop(items);
+        drop(ends);
+    }
 }
 
 impl<T: Copy, A: Allocator + Copy> FlatLists<T, A> {

@@ -26,7 +26,6 @@ struct Repeat {
 
 /// Lists of whole numbers, at most 16 in each. Where lists are those of later turns of a block, only those of its first turn
 /// are kept.
-#[derive(Drop)]
 pub struct NumberLists<A: Allocator + Copy> {
     // The lists that were pushed, and where they were repeated the steps of a turn.
     kept: PackedLists<A>,
@@ -43,6 +42,19 @@ impl<A: Allocator + Copy> Model for NumberLists<A> {
     ghost view = { λ n. unrolled (reverse n.repeats.items) n.kept };
 
     ghost invariant = { λ n. HasRepeats n.repeats.items n.kept n.len };
+}
+
+// Written out, so that it is a call in the proof of each function that owns lists.
+impl<A: Allocator + Copy> Drop for NumberLists<A> {
+    fn drop(self) {
+        let NumberLists {
+            kept,
+            repeats,
+            len: _,
+        } = self;
+        drop(kept);
+        drop(repeats);
+    }
 }
 
 impl<A: Allocator + Copy> NumberLists<A> {

@@ -7,7 +7,6 @@ use std::marker::Model;
 
 /// Lists that are filled in any order, each in a room of its own. The rooms lie one after another, so that full ones are
 /// flat lists without a copy. There is room for less than 2^32 items in all.
-#[derive(Drop)]
 pub struct ListRooms<T: Copy, A: Allocator + Copy> {
     items: Vec<T, A>,
     // Where each room ends, and how many items are in it.
@@ -24,6 +23,20 @@ impl<T: Copy, A: Allocator + Copy> Model for ListRooms<T, A> {
     ghost view = { λ rooms. held 0 rooms.ends.items rooms.lengths.items rooms.items.items };
 
     ghost invariant = { λ rooms. AreRooms 0 rooms.ends.items rooms.lengths.items (length rooms.items.items) };
+}
+
+// Written out, so that it is a call in the proof of each function that owns lists.
+impl<T: Copy, A: Allocator + Copy> Drop for ListRooms<T, A> {
+    fn drop(self) {
+        let ListRooms {
+            items,
+            ends,
+            lengths,
+        } = self;
+        drop(items);
+        drop(ends);
+        drop(lengths);
+    }
 }
 
 impl<T: Copy, A: Allocator + Copy> ListRooms<T, A> {
@@ -83,10 +96,13 @@ impl<T: Copy, A: Allocator + Copy> ListRooms<T, A> {
         if !are_full(&self.ends, &self.lengths) {
             return None;
         }
-        Some(FlatLists {
-            items: self.items,
-            ends: self.ends,
-        })
+        let ListRooms {
+            items,
+            ends,
+            lengths,
+        } = self;
+        drop(lengths);
+        Some(FlatLists { items, ends })
     }
 }
 

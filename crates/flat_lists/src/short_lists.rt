@@ -68,7 +68,6 @@ impl<'c, T: Copy, S: Short<T>> ShortList<'c, T, S> {
 
 /// Lists of items, in the order in which they were pushed. A list whose items all have a short form is kept so. There are
 /// less than 2^32 items of either kind.
-#[derive(Drop)]
 pub struct ShortLists<T: Copy, S: Short<T>, A: Allocator + Copy> {
     // For each list its short form, which is empty where it has none.
     short: FlatLists<S, A>,
@@ -85,6 +84,15 @@ impl<T: Copy, S: Short<T>, A: Allocator + Copy> Model for ShortLists<T, S, A> {
     ghost view = { λ l. joined S.long l.short l.others };
 
     ghost invariant = { λ l. length l.others ≤ length l.short };
+}
+
+// Written out, so that it is a call in the proof of each function that owns lists.
+impl<T: Copy, S: Short<T>, A: Allocator + Copy> Drop for ShortLists<T, S, A> {
+    fn drop(self) {
+        let ShortLists { short, others } = self;
+        drop(short);
+        drop(others);
+    }
 }
 
 impl<T: Copy, S: Short<T>, A: Allocator + Copy> ShortLists<T, S, A> {

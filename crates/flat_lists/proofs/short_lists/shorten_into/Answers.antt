@@ -1,8 +1,38 @@
-use Rattle.std.proofs.Common.{◌≡◌, ◌+◌, ◌<◌, List, [], ◌∷◌, ◌++◌, length, suc, take, sym, ap, ap₂, ◌∙◌, append_assoc, arith}
+use Rattle.std.proofs.Common.{◌≡◌, ℕ, ◌+◌, ◌<◌, List, [], ◌∷◌, ◌++◌, length, suc, take, refl, sym, ap, ap₂, ◌∙◌, append_assoc, append-nil, arith}
 use Rattle.std.specs.Prelude.{map}
-use Rattle.std.proofs.Math.Seq.{take-suc}
-use Rattle.std.proofs.lemmas.List.{map-append}
+use Rattle.std.proofs.Math.Seq.{take-append_seam, take-suc}
+use Rattle.std.proofs.lemmas.List.{length-map, map-append, take_all}
 use Rattle.flat_lists.proofs.short_lists.shorten_into.Goals as goal
+
+pub loop-item-init : goal.loop-item-init
+loop-item-init g c =
+    record {
+      so_far = record { short = []; more = sym (append-nil c.args.items.now.items); same = refl };
+      start = omega (arith, c.len-start.ensures);
+      room = omega (arith, c.requires);
+    }
+
+pub push_reserved-requires : goal.push_reserved-requires
+push_reserved-requires g c = omega (arith, c.loop-item.invariant.room, c.loop-item-test.true)
+
+pub returns-in_default : goal.returns-in_default
+returns-in_default g c =
+    let old = c.args.items.now.items in
+    let before = c.loop-item.invariant in
+    let short = before.so_far.short in
+    let kept : c.truncate.new.self.items ≡ old =
+    c.truncate.ensures.items
+    ∙ ap₂ (λ (n : ℕ) (xs : List g.row.S.Denot). take n xs) before.start before.so_far.more
+    ∙ take-append_seam old short in
+    record { short = []; more = kept ∙ sym (append-nil old); few = omega arith; are = omega (arith, c.loop-item-test.true) }
+
+pub returns : goal.returns
+returns g c =
+    let so_far = c.loop-item.invariant.so_far in
+    let list = c.args.list.now in
+    let all : map g.S.Short.long so_far.short ≡ list = so_far.same ∙ take_all c.loop-item.item-index list c.loop-item-test.false in
+    let count : length so_far.short ≡ length list = sym (length-map so_far.short g.S.Short.long) ∙ ap length all in
+    record { short = so_far.short; more = so_far.more; few = omega (arith, count); are = all }
 
 pub loop-item-preserved : goal.loop-item-preserved
 loop-item-preserved g c =
