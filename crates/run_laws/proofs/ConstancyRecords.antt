@@ -6,6 +6,8 @@ use Rattle.pauli_word.specs.Parity.{exclusive_or}
 use Rattle.pauli_word.specs.declared.letter.Letter.{Letter}
 use Rattle.pauli_word.specs.Words.{anticommute}
 use Rattle.pauli_word.proofs.Parities.{exclusive_or-false, same_truth, same_truth-true, at_six_truths}
+pub use Rattle.step_model.proofs.HitSteps.{first_of_range}
+use Rattle.step_model.proofs.HitSteps.{rest_of_range}
 use Rattle.step_model.specs.Listing.{ListedStep, One, Two, Collapse, Fault, Feedback, measured_word, Listing, step_records}
 use Rattle.step_model.specs.Runs.{RunState, next, next_coin, record_changes}
 use Rattle.pauli_word.specs.States.{outcome}
@@ -48,14 +50,6 @@ record_change program faults (Collapse c r) s m =
     && exclusive_or (outcome m.state (measured_word program.qubits c) (next_coin m.coins)) (record_changes faults r)
 record_change program faults (Fault f) s m = false
 record_change program faults (Feedback w r) s m = anticommute s.word w && get_or m.records r false
-
-pub first_of_range : (r L k : ℕ) (rest : List ℕ) → r ∷ rest ≡ range_with_len L k → r ≡ L
-first_of_range r L zero rest h = cc
-first_of_range r L (suc k) rest h = cc
-
-rest_of_range : (r L k : ℕ) (rest : List ℕ) → r ∷ rest ≡ range_with_len L k → (j : ℕ) × (rest ≡ range_with_len (L + 1) j)
-rest_of_range r L zero rest h = cc
-rest_of_range r L (suc k) rest h = (k, cc)
 
 fed_back : (c x p : Bool) → p ≡ exclusive_or (exclusive_or x p) x
 fed_back c x p = same_truth-true _ _ (at_six_truths (λ x p _ _ _ _. same_truth p (exclusive_or (exclusive_or x p) x)) refl x p false false false false)

@@ -1,7 +1,7 @@
 -- One step of a run: where the sensitivity before a step is in the state, that after it is in the next state. Its
 -- sign changes by what the step brings, and by what its record changes in the parity.
 use Rattle.std.proofs.Common.{◌≡◌, ℕ, ◌<◌, Bool, true, false, not, ◌&&◌, List, length, set, get_or, nat_lt, Option, refl, ap, sym, ◌∙◌, length-set}
-use Rattle.std.proofs.lemmas.Bool.{and_parts, ltb-true}
+use Rattle.std.proofs.lemmas.Bool.{and_parts, not-true, ltb-true}
 use Rattle.pauli_word.specs.declared.letter.Letter.{Letter}
 use Rattle.pauli_word.specs.declared.letter.Letter.TheVariants.{I}
 use Rattle.pauli_word.specs.Letters.{is_minus}
@@ -50,10 +50,6 @@ length-sensitivity_before program (Collapse c r) s fits h = by_count (record_cou
 length-sensitivity_before program (Fault f) s fits h = h
 length-sensitivity_before program (Feedback w r) s fits h = h
 
-from_not : (b : Bool) → not b ≡ true → b ≡ false
-from_not false h = refl
-from_not true h = cc
-
 -- a reset that fits is of no I, at a qubit of the program
 pub record ResetFits (n qubit : ℕ) (letter : Letter) : Type 0 where
   pub letter_fits : is_I letter ≡ false
@@ -62,7 +58,7 @@ pub record ResetFits (n qubit : ℕ) (letter : Letter) : Type 0 where
 pub reset_fits : (program : Listing) (letter : Letter) (qubit : ℕ) (r : Option Recorded) → step_fits program (Collapse (Reset letter qubit) r) ≡ true → ResetFits program.qubits qubit letter
 reset_fits program letter qubit r h =
     let both = and_parts (not (is_I letter)) (nat_lt qubit program.qubits) (and_parts (not (is_I letter) && nat_lt qubit program.qubits) (record_fits program r) h).0
-    in record { letter_fits = from_not (is_I letter) both.0; qubit_fits = ltb-true qubit program.qubits both.1 }
+    in record { letter_fits = not-true (is_I letter) both.0; qubit_fits = ltb-true qubit program.qubits both.1 }
 
 commutes_cleared : (program : Listing) (c : Measured) (r : Option Recorded) (w : List Letter) → step_fits program (Collapse c r) ≡ true → length w ≡ program.qubits → anticommute (measured_word program.qubits c) w ≡ false → anticommute (measured_word program.qubits c) (cleared c w) ≡ false
 commutes_cleared program (Word v) r w fits h c = c

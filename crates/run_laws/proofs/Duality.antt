@@ -19,6 +19,7 @@ use Rattle.step_model.specs.Targets.{target_at, is_listed, parity}
 use Rattle.step_model.specs.WellFormed.{IsWellFormed, measured_fits, step_fits, flip_fits, flips_record, applies_word}
 use Rattle.run_laws.proofs.ConstancyRuns.{parity-brought}
 use Rattle.run_laws.proofs.DualitySums.{sum_over, sum_over-split, sum_over-never, sum_over-only}
+use Rattle.pauli_word.proofs.Groups.{and-exclusive_or}
 
 -- whether what happens at a step changes the target, and whether all that happens at these steps does
 abbrev record_flipped : List Bool → Option Recorded → Bool
@@ -109,17 +110,13 @@ hits_at_step program happening (Fault g) s fits =
     ∙ at_it g (happens happening g) (anticommute s.word (fault_word program g))
 hits_at_step program happening (Feedback w r) s fits = never_here program happening
 
-and_exclusive_or : (a b c : Bool) → (a && exclusive_or b c) ≡ exclusive_or (a && b) (a && c)
-and_exclusive_or true b c = refl
-and_exclusive_or false b c = refl
-
 -- the faults that happen and hit at these steps
 hits_in_all : (program : Listing) (happening : List Bool) (named : List ℕ) (steps : List ListedStep) → AllPass (step_fits program) steps → sum_over (λ f. happens happening f && hits_oddly program named f steps) (range_with_len 0 (length program.faults)) ≡ flipped_among program happening named steps
 hits_in_all program happening named [] fits =
     sum_over-never (λ f. happens happening f && false) (λ f. and_right (happens happening f) false refl) (range_with_len 0 (length program.faults))
 hits_in_all program happening named (step ∷ steps) fits =
     sum_over-split (λ f. happens happening f && hits_oddly program named f (step ∷ steps)) (λ f. happens happening f && hits_at program f step s) (λ f. happens happening f && hits_oddly program named f steps)
-    (λ f. and_exclusive_or (happens happening f) (hits_at program f step s) (hits_oddly program named f steps))
+    (λ f. and-exclusive_or (happens happening f) (hits_at program f step s) (hits_oddly program named f steps))
     (range_with_len 0 (length program.faults))
     ∙ ap₂ exclusive_or
     (hits_at_step program happening step s (fits 0 step (omega arith)))

@@ -1,7 +1,7 @@
 -- The model of a program's hits fits the program, and is exact where no target has a place: its lines stand for the
 -- faults that hit something, and by duality the targets that differ are the exclusive sum of what the faults hit.
 use Rattle.std.proofs.Common.{◌≡◌, ◌≢◌, ◌<◌, ◌≤◌, ◌+◌, ℕ, zero, suc, Bool, true, false, not, ◌&&◌, cond, eqb, List, [], ◌∷◌, length, get_or, map, None, refl, ap, ap₂, sym, ◌∙◌, arith, eqb-true}
-use Rattle.std.proofs.lemmas.Bool.{not-false}
+use Rattle.std.proofs.lemmas.Bool.{not-false, and_right}
 use Rattle.std.proofs.lemmas.List.Kept.{IsStrictlyIncreasing-filter}
 use Rattle.std.proofs.lemmas.List.Elements.{All-from_recursion}
 use Rattle.std.specs.List.{range_with_len, list_any, filter, AllByRecursion}
@@ -61,16 +61,12 @@ no_hit program f d h none =
     sym (is_hit_among program f d h)
     ∙ ap (list_any (λ u. eqb d u)) (no_items (targets_hit program f) (not-false (eqb (length (targets_hit program f)) 0) none))
 
-and_false : (b : Bool) → (b && false) ≡ false
-and_false false = refl
-and_false true = refl
-
 one_more : (program : Listing) (d : ℕ) (happening : List Bool) (f : ℕ) (fs : List ℕ) (b : Bool) → d < length (targets_of program) → hits_some program f ≡ b → exclusive_or (happens happening f && is_hit program d f) (is_in_sum fs (map (error_line_of program) fs) happening d) ≡ is_in_sum (cond b (f ∷ fs) fs) (map (error_line_of program) (cond b (f ∷ fs) fs)) happening d
 one_more program d happening f fs true h some =
     ap (λ t. exclusive_or (happens happening f && t) (is_in_sum fs (map (error_line_of program) fs) happening d)) (sym (is_hit_among program f d h))
 one_more program d happening f fs false h none =
     ap (λ t. exclusive_or t (is_in_sum fs (map (error_line_of program) fs) happening d))
-    (ap (λ t. happens happening f && t) (no_hit program f d h none) ∙ and_false (happens happening f))
+    (ap (λ t. happens happening f && t) (no_hit program f d h none) ∙ and_right (happens happening f) false refl)
 
 sums_agree : (program : Listing) (d : ℕ) (happening : List Bool) (fs : List ℕ) → d < length (targets_of program) → odd_hits_among program d happening fs ≡ is_in_sum (filter (hits_some program) fs) (map (error_line_of program) (filter (hits_some program) fs)) happening d
 sums_agree program d happening [] h = refl

@@ -1,6 +1,6 @@
 -- The flips of a frame over the records that a target names: their parity says whether the frame anticommutes with the
 -- target's sensitivity where the frame begins.
-use Rattle.std.proofs.Common.{◌≡◌, ℕ, zero, suc, ◌+◌, ◌&&◌, Bool, true, false, List, [], ◌∷◌, if◌then◌else◌, get_or, length, length-append, length-set, append-nil, None, Some, refl, ap, ap₂, sym, ◌∙◌}
+use Rattle.std.proofs.Common.{◌≡◌, ℕ, ◌&&◌, Bool, true, false, List, [], ◌∷◌, if◌then◌else◌, get_or, length, length-append, length-set, append-nil, None, Some, refl, ap, ap₂, sym, ◌∙◌}
 use Rattle.std.proofs.lemmas.List.Elements.{All-head, All-tail}
 use Rattle.std.specs.List.{AllPass, range_with_len}
 use Rattle.pauli_word.specs.declared.letter.Letter.{Letter}
@@ -22,6 +22,7 @@ use Rattle.run_laws.proofs.ShiftWords.{anticommute-none, anticommute-cleared}
 use Rattle.run_laws.proofs.ConstancyRuns.{length-sensitivity}
 use Rattle.step_model.proofs.StateIsGroup.{length-measured}
 use Rattle.pauli_word.proofs.WordLaws.{anticommute_comm}
+use Rattle.step_model.proofs.HitSteps.{first_of_range, rest_of_range}
 
 cleared-either : (c : Measured) (v w : List Letter) → anticommute (cleared c v) w ≡ anticommute v (cleared c w)
 cleared-either (Reset letter q) v w = anticommute-cleared v w q
@@ -75,15 +76,11 @@ step-balance program (Collapse c (Some r)) s v rest fits numbered size size' =
     let long : length u ≡ n = length-measured program c (Some r) fits in
     ap₂ exclusive_or
     (parity-push s.records v.records (anticommute v.word u)
-    ∙ ap (λ k. exclusive_or (parity s.records v.records) (is_listed s.records k && anticommute v.word u)) (sym (first_number r.number (length v.records) numbered.0 (records_made rest) numbered.1)))
+    ∙ ap (λ k. exclusive_or (parity s.records v.records) (is_listed s.records k && anticommute v.word u)) (sym (first_of_range r.number (length v.records) numbered.0 (records_made rest) numbered.1)))
     (cleared-either c v.word s.word)
     ∙ collapse-signs (parity s.records v.records) counts (anticommute v.word u) (anticommute v.word (cleared c s.word))
     ∙ ap (exclusive_or (parity s.records v.records))
     (sym (anticommute-multiplied counts v.word u (cleared c s.word) (long ∙ sym (length-cleared n c s.word size'))))
-  where
-    first_number : (r L k : ℕ) (rest : List ℕ) → r ∷ rest ≡ range_with_len L k → r ≡ L
-    first_number r L zero rest h = cc
-    first_number r L (suc k) rest h = cc
 step-balance program (Fault f) s v rest fits numbered size size' = refl
 step-balance program (Feedback w r) s v rest fits numbered size size' =
     feedback-signs (get_or v.records r false) v.word w s.word r s.records v.records (anticommute s.word w) refl refl (length-fed program w r fits ∙ sym size)
@@ -97,12 +94,8 @@ numbered-carried program (One gate q) v rest h = h
 numbered-carried program (Two gate a b) v rest h = h
 numbered-carried program (Collapse c None) v rest h = (h.0, h.1 ∙ ap (λ k. range_with_len k h.0) (ap length (sym (append-nil v.records))))
 numbered-carried program (Collapse c (Some r)) v rest h =
-    let more = rest_of r.number (length v.records) h.0 (records_made rest) h.1 in
+    let more = rest_of_range r.number (length v.records) h.0 (records_made rest) h.1 in
     (more.0, more.1 ∙ ap (λ k. range_with_len k more.0) (sym (length-append v.records (anticommute v.word (measured_word program.qubits c) ∷ []))))
-  where
-    rest_of : (r L k : ℕ) (rest : List ℕ) → r ∷ rest ≡ range_with_len L k → (j : ℕ) × (rest ≡ range_with_len (L + 1) j)
-    rest_of r L zero rest h = cc
-    rest_of r L (suc k) rest h = (k, cc)
 numbered-carried program (Fault f) v rest h = h
 numbered-carried program (Feedback w r) v rest h = h
 

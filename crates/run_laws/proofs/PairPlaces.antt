@@ -7,13 +7,11 @@ use Rattle.step_model.specs.Listing.{ListedStep, One, Two, Collapse, Fault, Feed
 use Rattle.step_model.specs.Frames.{Frame, begun, flips_from, flips_after}
 use Rattle.step_model.specs.Sensitivities.{later_or_here}
 use Rattle.step_model.specs.WellFormed.{collapse_count}
+use Rattle.std.proofs.lemmas.Option.{same_Some}
 
 pub option_either : {T : Type 0} → (o : Option T) → (o ≡ None) ⊎ ((x : T) × (o ≡ Some x))
 option_either None = inl refl
 option_either (Some x) = inr (x, refl)
-
-some_injective : (j k : ℕ) → ◌≡◌ {A = Option ℕ} (Some j) (Some k) → j ≡ k
-some_injective j k h = cc
 
 counted_not : (b : Bool) → b ≡ false → ◌≡◌ {A = ℕ} (if b then 1 else 0) 0
 counted_not false h = refl
@@ -26,7 +24,7 @@ counted_once false h = cc
 -- a step that is no collapse is no place
 pub later_only : (step : ListedStep) (o : Option ℕ) (clashes : Bool) (k : ℕ) → is_collapse step ≡ false → clashes ≡ false → later_or_here step o clashes ≡ Some k → o ≡ Some k
 later_only step (Some j) clashes k other h e =
-    let l : (if is_collapse step then 1 else 0) + j ≡ k = some_injective _ _ e in
+    let l : (if is_collapse step then 1 else 0) + j ≡ k = same_Some _ _ e in
     ap Some (omega (arith, counted_not (is_collapse step) other))
 later_only step None true k other h e = cc
 later_only step None false k other h e = e
@@ -34,10 +32,10 @@ later_only step None false k other h e = e
 -- a collapse is the place where none is later and it clashes
 pub later_or_this : (step : ListedStep) (o : Option ℕ) (clashes : Bool) (k : ℕ) → is_collapse step ≡ true → later_or_here step o clashes ≡ Some k → ((j : ℕ) × (o ≡ Some j) × (k ≡ suc j)) ⊎ ((o ≡ None) × (clashes ≡ true) × (k ≡ 0))
 later_or_this step (Some j) clashes k this e =
-    let l : (if is_collapse step then 1 else 0) + j ≡ k = some_injective _ _ e in
+    let l : (if is_collapse step then 1 else 0) + j ≡ k = same_Some _ _ e in
     let m : k ≡ suc j = omega (arith, counted_once (is_collapse step) this) in
     inl (j, refl, m)
-later_or_this step None true k this e = inr (refl, refl, sym (some_injective _ _ e))
+later_or_this step None true k this e = inr (refl, refl, sym (same_Some _ _ e))
 later_or_this step None false k this e = cc
 
 -- what is said of 0, and otherwise of the number before

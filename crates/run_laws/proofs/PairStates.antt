@@ -6,7 +6,7 @@ use Rattle.pauli_word.specs.declared.letter.Letter.{Letter}
 use Rattle.pauli_word.specs.declared.letter.Letter.TheVariants.{Z}
 use Rattle.pauli_word.specs.Letters.{letters_clash}
 use Rattle.pauli_word.specs.Parity.{exclusive_or}
-use Rattle.pauli_word.specs.Words.{Signed, anticommute, letters_product, no_letters, lone_letter, with_sign_changed}
+use Rattle.pauli_word.specs.Words.{Signed, anticommute, letters_product, lone_letter, with_sign_changed}
 use Rattle.pauli_word.proofs.Parities.{same_truth, same_truth-true}
 use Rattle.pauli_word.proofs.LetterTests.{at_two_letters}
 use Rattle.step_model.specs.Listing.{Collapse, Measured, Word, Reset, Recorded, measured_word, Listing}
@@ -16,9 +16,10 @@ use Rattle.step_model.specs.Runs.{RunState, next_coin, next}
 use Rattle.run_laws.specs.Shifts.{IsShifted}
 use Rattle.step_model.specs.WellFormed.{step_fits}
 use Rattle.step_model.proofs.StateIsGroup.{length-measured}
-use Rattle.run_laws.proofs.ShiftCollapse.{changed-changed, collapsed-none}
+use Rattle.run_laws.proofs.ShiftCollapse.{collapsed-none}
 use Rattle.run_laws.proofs.ShiftSteps.{anticommute-multiplied}
 use Rattle.pauli_word.proofs.LoneLetters.{length-lone_letter}
+use Rattle.pauli_word.proofs.Groups.{all_of_none, sign_changed_twice}
 
 no_clash : (a b : Letter) → is_I_or_Z a ≡ true → is_I_or_Z b ≡ true → letters_clash a b ≡ false
 no_clash a b h k =
@@ -42,13 +43,9 @@ start-shifted n v h p size =
       | inr k ↦ ap (λ b. b && not p.negative) k ∙ sym (ap (λ b. b && not (exclusive_or (anticommute p.letters v) p.negative)) k)
     ]
 
-none-I_or_Z : (n : ℕ) → list_all is_I_or_Z (no_letters n) ≡ true
-none-I_or_Z zero = refl
-none-I_or_Z (suc n) = none-I_or_Z n
-
 pub lone_letter-I_or_Z : (n q : ℕ) → list_all is_I_or_Z (lone_letter n q Z) ≡ true
 lone_letter-I_or_Z zero q = refl
-lone_letter-I_or_Z (suc n) zero = none-I_or_Z n
+lone_letter-I_or_Z (suc n) zero = all_of_none n
 lone_letter-I_or_Z (suc n) (suc q) = lone_letter-I_or_Z n q
 
 -- after a collapse, and after its reset, all words of the state commute with the word collapsed
@@ -81,5 +78,5 @@ pub shifted-times : (n : ℕ) (v w : List Letter) (s t : State) → length w ≡
 shifted-times n v w s t sizes shifted same p size =
     shifted p size
     ∙ same (with_sign_changed (anticommute p.letters v) p) size
-    ∙ ap s (changed-changed (anticommute p.letters w) (anticommute p.letters v) p)
+    ∙ ap s (sign_changed_twice (anticommute p.letters w) (anticommute p.letters v) p)
     ∙ ap (λ b. s (with_sign_changed b p)) (sym (anticommute-multiplied true p.letters w v sizes))

@@ -7,7 +7,7 @@ use Rattle.pauli_word.specs.declared.letter.Letter.TheVariants.{I}
 use Rattle.pauli_word.specs.Letters.{letters_clash, is_minus}
 use Rattle.pauli_word.specs.Parity.{exclusive_or}
 use Rattle.pauli_word.specs.Words.{Signed, anticommute, product, no_letters, lone_letter, letter_at, signed, with_sign_changed}
-use Rattle.pauli_word.proofs.Parities.{exclusive_or_assoc, same_truth, same_truth-true, at_six_truths}
+use Rattle.pauli_word.proofs.Parities.{same_truth, same_truth-true, at_six_truths}
 use Rattle.pauli_word.proofs.LetterTests.{at_three_letters}
 use Rattle.pauli_word.proofs.WordLaws.{anticommute_comm, anticommute-product, length-letters_product, letters_product_self, letters_power_self}
 use Rattle.pauli_word.proofs.SignedLaws.{product-sign_changed_left, product-sign_changed_right}
@@ -17,11 +17,9 @@ use Rattle.run_laws.specs.Shifts.{IsShifted}
 use Rattle.step_model.specs.Listing.{is_I}
 use Rattle.pauli_word.proofs.LoneLetters.{length-lone_letter}
 use Rattle.run_laws.proofs.ShiftWords.{anticommute-lone, anticommute-parts}
+use Rattle.pauli_word.proofs.Groups.{sign_changed_twice}
 
 -- two changes of a sign are one
-pub changed-changed : (a b : Bool) (p : Signed) → with_sign_changed a (with_sign_changed b p) ≡ with_sign_changed (exclusive_or a b) p
-changed-changed a b p = ap (signed p.letters) (sym (exclusive_or_assoc a b p.negative))
-
 -- a state doesn't have both a word and minus the word
 not_both : (n : ℕ) (s : State) (w : List Letter) → IsGroup n s → length w ≡ n → s (signed w false) ≡ true → s (signed w true) ≡ true → false ≡ true
 not_both n s w group size plus minus =
@@ -90,7 +88,7 @@ product-shifted n v w s t coin p shifted size size' =
     (anticommute-product w p.letters v (size ∙ sym size') ∙ ap (λ x. exclusive_or x c) (anticommute_comm w v))
     (product-sign_changed_left b (signed w coin) p)
     ∙ ap s
-    (changed-changed (exclusive_or b c) b (product (signed w coin) p)
+    (sign_changed_twice (exclusive_or b c) b (product (signed w coin) p)
     ∙ ap (λ x. with_sign_changed x (product (signed w coin) p)) (cancel b c)
     ∙ sym (product-sign_changed_right c (signed w coin) p))
 

@@ -8,20 +8,11 @@ use Rattle.pauli_word.specs.Parity.{exclusive_or}
 use Rattle.pauli_word.specs.Words.{anticommute, no_letters, lone_letter, letter_at}
 use Rattle.pauli_word.proofs.Parities.{exclusive_or_left_comm}
 use Rattle.pauli_word.proofs.LetterLaws.{letters_clash_comm, letters_clash_of_I}
-use Rattle.pauli_word.proofs.WordLaws.{anticommute_comm, anticommute_of_none, length-letters_product}
-use Rattle.step_model.specs.declared.step.Term.{Term}
-use Rattle.step_model.specs.Listing.{Effect, Applies, Flips, word_of_terms, effect_word}
-use Rattle.pauli_word.proofs.LoneLetters.{length-lone_letter, anticommute-lone_letter}
-
-letters_clash-I : (a : Letter) → letters_clash a I ≡ false
-letters_clash-I a = letters_clash_comm a I ∙ letters_clash_of_I a
-
-length-word_of_terms : (n : ℕ) (terms : List Term) → length (word_of_terms n terms) ≡ n
-length-word_of_terms n [] = length-replicate n I
-length-word_of_terms n (term ∷ terms) =
-    length-letters_product (lone_letter n term.qubit term.letter) (word_of_terms n terms)
-    (length-lone_letter n term.qubit term.letter ∙ sym (length-word_of_terms n terms))
-    ∙ length-lone_letter n term.qubit term.letter
+use Rattle.pauli_word.proofs.WordLaws.{anticommute_comm, anticommute_of_none}
+use Rattle.step_model.specs.Listing.{Effect, Applies, Flips, effect_word}
+use Rattle.pauli_word.proofs.LoneLetters.{anticommute-lone_letter}
+use Rattle.pauli_word.proofs.WordPlaces.{clash-I}
+use Rattle.step_model.proofs.StepNumbers.{length-word_of_terms}
 
 -- what a fault applies is a word of the program's qubits
 pub length-effect_word : (n : ℕ) (effect : Effect) → length (effect_word n effect) ≡ n
@@ -39,9 +30,9 @@ anticommute-lone p n q a size inside =
 -- the part at a qubit, and that at the other qubits
 pub anticommute-parts : (p v : List Letter) (q : ℕ) → anticommute p v ≡ exclusive_or (letters_clash (letter_at p q) (letter_at v q)) (anticommute p (slice_set v q I))
 anticommute-parts [] v q = sym (ap (λ b. exclusive_or b false) (letters_clash_of_I (letter_at v q)))
-anticommute-parts (x ∷ p) [] q = sym (ap (λ b. exclusive_or b false) (letters_clash-I (letter_at (x ∷ p) q)))
+anticommute-parts (x ∷ p) [] q = sym (ap (λ b. exclusive_or b false) (clash-I (letter_at (x ∷ p) q)))
 anticommute-parts (x ∷ p) (y ∷ v) zero =
-    ap (λ b. exclusive_or (letters_clash x y) (exclusive_or b (anticommute p v))) (sym (letters_clash-I x))
+    ap (λ b. exclusive_or (letters_clash x y) (exclusive_or b (anticommute p v))) (sym (clash-I x))
 anticommute-parts (x ∷ p) (y ∷ v) (suc q) =
     ap (exclusive_or (letters_clash x y)) (anticommute-parts p v q)
     ∙ exclusive_or_left_comm (letters_clash x y) (letters_clash (letter_at p q) (letter_at v q)) (anticommute p (slice_set v q I))
@@ -51,5 +42,5 @@ pub anticommute-cleared : (v w : List Letter) (q : ℕ) → anticommute (slice_s
 anticommute-cleared [] w q = refl
 anticommute-cleared (x ∷ v) [] zero = refl
 anticommute-cleared (x ∷ v) [] (suc q) = refl
-anticommute-cleared (x ∷ v) (y ∷ w) zero = ap (λ b. exclusive_or b (anticommute v w)) (letters_clash_of_I y ∙ sym (letters_clash-I x))
+anticommute-cleared (x ∷ v) (y ∷ w) zero = ap (λ b. exclusive_or b (anticommute v w)) (letters_clash_of_I y ∙ sym (clash-I x))
 anticommute-cleared (x ∷ v) (y ∷ w) (suc q) = ap (exclusive_or (letters_clash x y)) (anticommute-cleared v w q)
