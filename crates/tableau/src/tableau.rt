@@ -21,7 +21,6 @@ use std::marker::Model;
 ///
 /// It keeps the rows of the inverse circuit, from which those are read: a gate changes only the rows of its qubits, and
 /// an outcome that isn't random is the sign of a product. Only `start` allocates.
-#[derive(Drop)]
 pub struct Tableau<A: Allocator + Copy> {
     rows: Vec<Pair<A>, A>,
     first: Pair<A>,
@@ -39,6 +38,20 @@ impl<A: Allocator + Copy> Model for Tableau<A> {
     ghost view = { λ t. rows_seen t.rows.items };
 
     ghost invariant = { λ t. IsTableau (length t.rows.items) t.rows.items × HasLength (length t.rows.items) t.first × HasLength (length t.rows.items) t.second };
+}
+
+// Written out, so that it is a call in the proof of each function that owns one.
+impl<A: Allocator + Copy> Drop for Tableau<A> {
+    fn drop(self) {
+        let Tableau {
+            rows,
+            first,
+            second,
+        } = self;
+        drop(rows);
+        drop(first);
+        drop(second);
+    }
 }
 
 impl<A: Allocator + Copy> Tableau<A> {

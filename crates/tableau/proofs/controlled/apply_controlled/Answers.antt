@@ -1,5 +1,5 @@
 -- The pairs are read and written through the two parts into which the rows are split.
-use Rattle.std.proofs.Common.{◌++◌, set, slice_index_or, ap₂, sym, ◌∙◌}
+use Rattle.std.proofs.Common.{ℕ, ◌<◌, ◌≤◌, ◌++◌, set, slice_index_or, ap₂, sym, ◌∙◌, arith}
 use Rattle.tableau.proofs.ControlledRows.{AreRead, back_inside, comes_after, front_inside, parts_set, set_swapped, read_ahead, read_behind, first_there, second_there, commute_there, made_there}
 use Rattle.tableau.proofs.controlled.apply_controlled.Given.{Over}
 use Rattle.tableau.proofs.controlled.apply_controlled.Goals as goal
@@ -11,6 +11,15 @@ ahead g c = read_ahead _ _ _ _ _ _ _ c.split_at_mut-front.ensures.front c.split_
 behind : (g : Over) (c : After-index-front-b g) → AreRead c.args.rows.now c.args.a c.args.b (slice_index_or c.split_at_mut-front-else-a-b.result.1.now 0 c.index-back-0-else-a-b.result) (slice_index_or c.split_at_mut-front-else-a-b.result.0.now c.args.b c.index-front-b.result)
 behind g c =
     read_behind _ _ _ _ _ _ _ c.split_at_mut-front-else-a-b.ensures.front c.split_at_mut-front-else-a-b.ensures.back (comes_after c.args.a c.args.b c.if-a-b.false c.requires.differ) c.requires.first_inside
+
+split_inside : (k n : ℕ) → k < n → k ≤ n
+split_inside k n h = omega (arith, h)
+
+pub split_at_mut-front-requires : goal.split_at_mut-front-requires
+split_at_mut-front-requires g c = split_inside _ _ c.requires.second_inside
+
+pub split_at_mut-front-requires-else-a-b : goal.split_at_mut-front-requires-else-a-b
+split_at_mut-front-requires-else-a-b g c = split_inside _ _ c.requires.first_inside
 
 pub bounds-front-a : goal.bounds-front-a
 bounds-front-a g c = front_inside _ _ _ _ c.split_at_mut-front.ensures.front c.if-a-b.true c.requires.second_inside
