@@ -1,6 +1,7 @@
 -- Columns that are lent, changed and given back.
-use Rattle.std.proofs.Common.{◌≡◌, ℕ, Bool, List, Result, OnOk, length, set, ap, subst, sym, ◌∙◌}
+use Rattle.std.proofs.Common.{◌≡◌, ℕ, ◌<◌, Bool, List, [], Result, OnOk, length, get_or, set, ap, subst, sym, ◌∙◌, arith}
 use Rattle.std.specs.Prelude.{All}
+use Rattle.std.proofs.lemmas.List.{get_or_default}
 use Rattle.std.proofs.lemmas.List.Elements.{All-set}
 use Rattle.std.proofs.lemmas.Result.{on_ok_weaker}
 use Rattle.pauli_word.specs.declared.letter.Letter.{Letter}
@@ -35,6 +36,24 @@ column_given_back {m} {columns} q column first_now row_now spare_now h long firs
       set_long = row_stays ∙ h.set_long;
       spare_long = spare_stays ∙ h.spare_long;
       few = h.few;
+    }
+
+-- a column that is lent, by the qubit of the words at which it stands
+pub record IsLent (m q : ℕ) (columns : List (List Letter)) (column : List Letter) : Type 0 where
+  pub within : q < length columns
+  pub is : column ≡ get_or columns q []
+  pub long : length column ≡ m
+  pub there : length (get_or columns q []) ≡ m
+
+pub lent : {m : ℕ} {columns : List (List Letter)} {first second : List Letter} {set spare : List Bool} {tracked : Tracked} (q : ℕ) (column d : List Letter) → IsTransposed m columns first second set spare
+    → tracked_of m columns ≡ tracked → q < tracked.qubits → column ≡ get_or columns q d → IsLent m q columns column
+lent {m} {columns} q column d h view inside at =
+    let within : q < length columns = omega (arith, ap (λ (t : Tracked). t.qubits) view, inside) in
+    record {
+      within = within;
+      is = at ∙ get_or_default columns q d [] within;
+      long = ap length at ∙ h.columns_long q d within;
+      there = h.columns_long q [] within;
     }
 
 -- two places of the words are places of the columns

@@ -170,29 +170,9 @@ pub(crate) fn toggle_where<S: TargetSet>(
     ensures made { length (S.bits made.new) ≡ length (S.bits made.old) }
     ensures spare { length (S.bits spare.new) ≡ length (S.bits spare.old) }
 {
-    if toggle {
-        toggle_all(set, targets, made, spare)
-    } else {
-        Ok(())
+    if !toggle {
+        return Ok(());
     }
-}
-
-fn toggle_all<S: TargetSet>(
-    set: &mut S,
-    targets: &[u32],
-    made: &mut S,
-    spare: &mut S,
-) -> Result<(), AllocError>
-    requires targets { All (λ t. t < length (S.bits set.old)) targets.now }
-    requires made { length (S.bits made.old) ≡ length (S.bits set.old) }
-    requires spare { length (S.bits spare.old) ≡ length (S.bits set.old) }
-    ensures ok { OnOk result
-        (S.bits set.new
-        ≡ xor_rows (S.bits set.old) (row_of_set (length (S.bits set.old)) targets.now)) }
-    ensures len { length (S.bits set.new) ≡ length (S.bits set.old) }
-    ensures made { length (S.bits made.new) ≡ length (S.bits made.old) }
-    ensures spare { length (S.bits spare.new) ≡ length (S.bits spare.old) }
-{
     if targets.len() < MANY {
         return toggle_down(set, targets);
     }
