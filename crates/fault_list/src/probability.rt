@@ -2,7 +2,7 @@
 ghost use Rattle.std.specs.Prelude.{◌≡◌, ◌<◌, ◌≤◌, ◌+◌, IfSome, length, slice_index_or};
 ghost use Rattle.step_model.specs.Chances.{chance_at};
 ghost use Rattle.fault_list.specs.private.KeptTexts.{HasProbability, probability_text};
-ghost use Rattle.fault_list.specs.private.PutTexts.{MayPut};
+ghost use Rattle.fault_list.specs.private.PutTexts.{Puts};
 
 use crate::put::{put_byte, put_first, put_text};
 use programs::ChanceTable;
@@ -54,7 +54,7 @@ impl<'t, 'a> Probability<'t, 'a> {
         requires part { slice_index_or self.old.numbers.now entry 0 < length self.old.parts.now }
         ensures same { self.new ≡ self.old }
         ensures from { IfSome result (λ end. at ≤ end) }
-        ensures put { MayPut KEPT at
+        ensures put { Puts KEPT at
             (probability_text
             (chance_at self.old.parts.now (slice_index_or self.old.numbers.now entry 0)).text)
             buffer.old buffer.new result }
@@ -73,7 +73,7 @@ impl<'t, 'a> Probability<'t, 'a> {
         requires part { part < length self.old.parts.now }
         ensures same { self.new ≡ self.old }
         ensures from { IfSome result (λ end. at ≤ end) }
-        ensures put { MayPut KEPT at (probability_text (chance_at self.old.parts.now part).text)
+        ensures put { Puts KEPT at (probability_text (chance_at self.old.parts.now part).text)
             buffer.old buffer.new result }
     {
         let parts = self.table.parts;

@@ -3,7 +3,7 @@ use Rattle.std.specs.Prelude.{◌≡◌, ◌≤◌, ◌+◌, ℕ, List, ◌++◌
 
 -- where an end is answered, the text stands between `at` and there, and has so many bytes at most; where none is, nothing
 -- is changed
-pub record MayPut (most at : ℕ) (text old new : List ℕ) (answer : Option ℕ) : Type 0 where
+pub record Puts (most at : ℕ) (text old new : List ℕ) (answer : Option ℕ) : Type 0 where
   pub within : IfSome answer (λ end. end ≤ at + most)
   pub written : IfSome answer (λ end. take end new ≡ take at old ++ text)
   pub kept : answer ≡ None → new ≡ old
