@@ -56,11 +56,6 @@ clashes_of_Y [] (d ∷ z) h = cc
 clashes_of_Y (c ∷ x) [] h = cc
 clashes_of_Y (c ∷ x) (d ∷ z) h = ap₂ (λ b row. b ∷ row) (clash_Y c d) (clashes_of_Y x z (suc_inj h))
 
-pub lone_term : (terms : List Term) (d : Term) → length terms ≡ 1 → terms ≡ get_or terms 0 d ∷ []
-lone_term [] d h = cc
-lone_term (t ∷ []) d h = refl
-lone_term (t ∷ u ∷ more) d h = absurd (omega (arith, h))
-
 -- the row of the targets that one letter hits
 pub lone_clash : (m : ℕ) (columns : List (List Letter)) (term : Term) (row : List Bool) → length (get_or columns term.qubit []) ≡ m → term.qubit < length columns
     → row ≡ map (letters_clash term.letter) (get_or columns term.qubit [])

@@ -1,4 +1,4 @@
-use Rattle.std.proofs.Common.{map, set, refl, ap, ap₂, sym, ◌∙◌}
+use Rattle.std.proofs.Common.{map, set, refl, ap, ap₂, ◌∙◌}
 use Rattle.std.proofs.lemmas.Result.{on_ok_weaker}
 use Rattle.gate_table.specs.Images.{image1, inverse_of}
 use Rattle.pauli_word.specs.declared.letter.Letter.TheVariants.{X, Z}
@@ -17,13 +17,11 @@ image1-z-requires g c = arity_kept c.args.gate c.inverse-inverse.result c.invers
 
 pub become_image-requires-clause-other : goal.become_image-requires-clause-other
 become_image-requires-clause-other g c =
-    let at = lent c.args.q _ _ c.self.invariant c.self.view_is c.requires.in_range c.index_mut.ensures.value in
-    c.self.invariant.first_long ∙ sym at.long
+    (lent c.args.q _ _ c.self.invariant c.self.view_is c.requires.in_range c.index_mut.ensures.value).as_long _ c.self.invariant.first_long
 
 pub become_image-requires-clause-spare : goal.become_image-requires-clause-spare
 become_image-requires-clause-spare g c =
-    let at = lent c.args.q _ _ c.self.invariant c.self.view_is c.requires.in_range c.index_mut.ensures.value in
-    c.self.invariant.spare_long ∙ sym at.long
+    (lent c.args.q _ _ c.self.invariant c.self.view_is c.requires.in_range c.index_mut.ensures.value).as_long _ c.self.invariant.spare_long
 
 pub invariant_of-self : goal.invariant_of-self
 invariant_of-self g c =

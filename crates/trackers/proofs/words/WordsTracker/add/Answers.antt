@@ -1,4 +1,4 @@
-use Rattle.std.proofs.Common.{length, set, refl, ap, sym, ◌∙◌, arith}
+use Rattle.std.proofs.Common.{length, set, refl, ap, ◌∙◌, arith}
 use Rattle.std.proofs.lemmas.Result.{on_ok_weaker}
 use Rattle.trackers.specs.Tracked.{Tracked, added}
 use Rattle.trackers.specs.private.Transposed.{tracked_of, times_each}
@@ -16,13 +16,11 @@ times_each-requires-clause-targets g c =
 
 pub times_each-requires-clause-set : goal.times_each-requires-clause-set
 times_each-requires-clause-set g c =
-    let at = lent c.args.q _ _ c.self.invariant c.self.view_is c.requires.in_range c.index_mut.ensures.value in
-    c.self.invariant.set_long ∙ sym at.long
+    (lent c.args.q _ _ c.self.invariant c.self.view_is c.requires.in_range c.index_mut.ensures.value).as_long _ c.self.invariant.set_long
 
 pub times_each-requires-clause-spare : goal.times_each-requires-clause-spare
 times_each-requires-clause-spare g c =
-    let at = lent c.args.q _ _ c.self.invariant c.self.view_is c.requires.in_range c.index_mut.ensures.value in
-    c.self.invariant.spare_long ∙ sym at.long
+    (lent c.args.q _ _ c.self.invariant c.self.view_is c.requires.in_range c.index_mut.ensures.value).as_long _ c.self.invariant.spare_long
 
 pub invariant_of-self : goal.invariant_of-self
 invariant_of-self g c =
