@@ -2,6 +2,7 @@
 use Rattle.std.proofs.Common.{◌≡◌, ◌≢◌, ℕ, suc, inl, inr, ◌+◌, ◌-◌, ◌<◌, ◌≤◌, ◌^◌, true, false, List, [], ◌∷◌, ◌++◌, length, drop, refl, sym, ap, ap₂, ◌∙◌, arith}
 use Rattle.std.specs.Prelude.{Bool, codes, decimal, not, map, ◌⊎◌, if◌then◌else◌}
 use Rattle.std.specs.List.{flat_map, range_with_len}
+use Rattle.std.proofs.lemmas.Bool.{not-true, not-false}
 use Rattle.std.proofs.lemmas.Bool.Decides.{eqb_tells, leb_tells}
 use Rattle.std.proofs.lemmas.Fmt.{length-decimal-le}
 use Rattle.std.proofs.lemmas.List.{drop_more}
@@ -42,14 +43,6 @@ first_ordered from term terms h = elim (leb_tells (suc term.qubit) from) [
       first_acts from term terms (is_I term.letter) refl (omega (arith, after.1)) rest
 ]
 
-not_true : (b : Bool) → not b ≡ true → b ≡ false
-not_true true h = absurd (cc)
-not_true false h = refl
-
-not_false : (b : Bool) → not b ≡ false → b ≡ true
-not_false true h = refl
-not_false false h = absurd (cc)
-
 -- the test, term by term
 pub ordered_until : (terms : List Term) (i from : ℕ) → i < length terms → ((term_at terms i).qubit < from) ⊎ (not (is_I (term_at terms i).letter) ≡ false) → is_ordered from (drop i terms) ≡ false
 ordered_until terms i from more stops =
@@ -65,7 +58,7 @@ ordered_until terms i from more stops =
         | inl tells ↦ ap (λ b. if b then false else if is_I term.letter then false else rest) tells.0
         | inr after ↦
             ap (λ b. if b then false else if is_I term.letter then false else rest) after.0
-            ∙ ap (λ b. if b then false else rest) (not_false (is_I term.letter) none)
+            ∙ ap (λ b. if b then false else rest) (not-false (is_I term.letter) none)
       ]
     ]
 
@@ -78,7 +71,7 @@ ordered_more terms i from more after acts =
       | inl below ↦ absurd (omega (arith, below.1, after))
       | inr tells ↦
           ap (λ b. if b then false else if is_I term.letter then false else rest) tells.0
-          ∙ ap (λ b. if b then false else rest) (not_true (is_I term.letter) acts)
+          ∙ ap (λ b. if b then false else rest) (not-true (is_I term.letter) acts)
     ]
 
 letter_in-other : (term : Term) (terms : List Term) (q : ℕ) → term.qubit ≢ q → letter_in (term ∷ terms) q ≡ letter_in terms q

@@ -3,3 +3,4 @@ pub mod FactorTexts
 pub mod KeptTexts
 pub mod QubitNames
 pub mod HeldLines
+pub mod PutTexts

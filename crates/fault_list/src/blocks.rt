@@ -5,6 +5,7 @@ ghost use Rattle.streams.specs.Pushed.{Pushes};
 ghost use Rattle.step_model.specs.Listing.{is_I};
 ghost use Rattle.fault_list.specs.FaultLines.{factor_text};
 ghost use Rattle.fault_list.specs.private.FactorTexts.{is_none, joined_on, letter_factors, starred};
+ghost use Rattle.fault_list.specs.private.PutTexts.{PutsBefore};
 
 use crate::letters::{acts, letter_byte};
 use itoa::write_digits;
@@ -93,11 +94,8 @@ fn letters_before(buffer: &mut [u8], end: usize, letters: &[Letter], from: u32) 
 fn letter_before(buffer: &mut [u8], end: usize, qubit: u32, letter: Letter) -> usize
     requires within { end ≤ length buffer.old }
     requires room { 12 ≤ end }
-    ensures within { result ≤ end }
-    ensures least { end ≤ result + 12 }
-    ensures written { drop result buffer.new
-        ≡ (if is_I letter then [] else codes "*" ++ factor_text qubit letter)
-        ++ drop end buffer.old }
+    ensures { PutsBefore 12 end (if is_I letter then [] else codes "*" ++ factor_text qubit letter)
+        buffer.old buffer.new result }
 {
     if acts(letter) {
         starred_before(buffer, end, Term { qubit, letter })
@@ -111,10 +109,8 @@ fn letter_before(buffer: &mut [u8], end: usize, qubit: u32, letter: Letter) -> u
 fn starred_before(buffer: &mut [u8], end: usize, term: Term) -> usize
     requires within { end ≤ length buffer.old }
     requires room { 12 ≤ end }
-    ensures within { result ≤ end }
-    ensures least { end ≤ result + 12 }
-    ensures written { drop result buffer.new
-        ≡ codes "*" ++ factor_text term.qubit term.letter ++ drop end buffer.old }
+    ensures { PutsBefore 12 end (codes "*" ++ factor_text term.qubit term.letter) buffer.old
+        buffer.new result }
 {
     let at = factor_before(buffer, end, term);
     byte_before(buffer, at, b'*')
@@ -124,10 +120,7 @@ fn starred_before(buffer: &mut [u8], end: usize, term: Term) -> usize
 fn factor_before(buffer: &mut [u8], end: usize, term: Term) -> usize
     requires within { end ≤ length buffer.old }
     requires room { 11 ≤ end }
-    ensures within { result ≤ end }
-    ensures least { end ≤ result + 11 }
-    ensures written { drop result buffer.new
-        ≡ factor_text term.qubit term.letter ++ drop end buffer.old }
+    ensures { PutsBefore 11 end (factor_text term.qubit term.letter) buffer.old buffer.new result }
 {
     let at = number_before(buffer, end, term.qubit);
     byte_before(buffer, at, letter_byte(term.letter))
@@ -137,9 +130,7 @@ fn factor_before(buffer: &mut [u8], end: usize, term: Term) -> usize
 fn number_before(buffer: &mut [u8], end: usize, number: u32) -> usize
     requires within { end ≤ length buffer.old }
     requires room { 10 ≤ end }
-    ensures within { result ≤ end }
-    ensures least { end ≤ result + 10 }
-    ensures written { drop result buffer.new ≡ decimal number ++ drop end buffer.old }
+    ensures { PutsBefore 10 end (decimal number) buffer.old buffer.new result }
 {
     write_digits(number as u64, buffer, end)
 }

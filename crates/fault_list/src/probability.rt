@@ -1,7 +1,8 @@
 //! The text of a fault's probability, kept for the faults that follow: most have the same.
-ghost use Rattle.std.specs.Prelude.{◌≡◌, ◌<◌, ◌≤◌, ◌+◌, ◌++◌, IfSome, None, length, slice_index_or, take};
+ghost use Rattle.std.specs.Prelude.{◌≡◌, ◌<◌, ◌≤◌, ◌+◌, IfSome, length, slice_index_or};
 ghost use Rattle.step_model.specs.Chances.{chance_at};
 ghost use Rattle.fault_list.specs.private.KeptTexts.{HasProbability, probability_text};
+ghost use Rattle.fault_list.specs.private.PutTexts.{Puts};
 
 use crate::put::{put_byte, put_first, put_text};
 use programs::ChanceTable;
@@ -53,13 +54,10 @@ impl<'t, 'a> Probability<'t, 'a> {
         requires part { slice_index_or self.old.numbers.now entry 0 < length self.old.parts.now }
         ensures same { self.new ≡ self.old }
         ensures from { IfSome result (λ end. at ≤ end) }
-        ensures within { IfSome result (λ end. end ≤ at + KEPT) }
-        ensures written { IfSome result
-            (λ end. take end buffer.new
-            ≡ take at buffer.old
-            ++ probability_text
-            (chance_at self.old.parts.now (slice_index_or self.old.numbers.now entry 0)).text) }
-        ensures kept { result ≡ None → buffer.new ≡ buffer.old }
+        ensures put { Puts KEPT at
+            (probability_text
+            (chance_at self.old.parts.now (slice_index_or self.old.numbers.now entry 0)).text)
+            buffer.old buffer.new result }
     {
         let part = self.table.numbers[entry as usize];
         if part == self.part {
@@ -75,10 +73,8 @@ impl<'t, 'a> Probability<'t, 'a> {
         requires part { part < length self.old.parts.now }
         ensures same { self.new ≡ self.old }
         ensures from { IfSome result (λ end. at ≤ end) }
-        ensures within { IfSome result (λ end. end ≤ at + KEPT) }
-        ensures written { IfSome result (λ end. take end buffer.new
-            ≡ take at buffer.old ++ probability_text (chance_at self.old.parts.now part).text) }
-        ensures kept { result ≡ None → buffer.new ≡ buffer.old }
+        ensures put { Puts KEPT at (probability_text (chance_at self.old.parts.now part).text)
+            buffer.old buffer.new result }
     {
         let parts = self.table.parts;
         let text = parts[part].text;

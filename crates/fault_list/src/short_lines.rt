@@ -5,6 +5,7 @@ ghost use Rattle.programs.specs.Entries.{TellsChances};
 ghost use Rattle.step_model.specs.Listing.{effect_at, word_of_terms};
 ghost use Rattle.step_model.specs.WellFormed.{TermsFit};
 ghost use Rattle.fault_list.specs.FaultLines.{effect_text, factor_text, fault_line, record_text, word_text};
+ghost use Rattle.fault_list.specs.private.PutTexts.{Puts};
 ghost use Rattle.fault_list.specs.private.TermLetters.{is_ordered, starred_factors};
 
 use crate::counter::{Counter, digits_of};
@@ -84,12 +85,9 @@ fn put_effect<'t, 'a, A: Allocator + Copy>(
     requires room { at + WORD + 8 ≤ length buffer.old }
     requires fault { IsFaultOf program.now fault }
     ensures same { texts.new.probability ≡ texts.old.probability }
-    ensures within { IfSome result (λ end. end ≤ at + WORD) }
-    ensures written { IfSome result (λ end. take end buffer.new
-        ≡ take at buffer.old
-        ++ effect_text program.now.listing.qubits
-        (effect_at program.now.listing fault.number)) }
-    ensures kept { result ≡ None → buffer.new ≡ buffer.old }
+    ensures put { Puts WORD at
+        (effect_text program.now.listing.qubits (effect_at program.now.listing fault.number))
+        buffer.old buffer.new result }
 {
     program.well_formed();
     match fault.flips {
@@ -129,10 +127,8 @@ fn put_word(
 ) -> Option<usize>
     requires room { at + WORD + 8 ≤ length buffer.old }
     requires fit { TermsFit qubits terms.now }
-    ensures within { IfSome result (λ end. end ≤ at + WORD) }
-    ensures written { IfSome result (λ end. take end buffer.new
-        ≡ take at buffer.old ++ word_text (word_of_terms qubits terms.now)) }
-    ensures kept { result ≡ None → buffer.new ≡ buffer.old }
+    ensures { Puts WORD at (word_text (word_of_terms qubits terms.now)) buffer.old buffer.new
+        result }
 {
     match terms {
         [only] => put_ordered(buffer, at, names, qubits, &[*only]),
@@ -156,10 +152,8 @@ fn put_ordered(
 ) -> Option<usize>
     requires room { at + WORD + 8 ≤ length buffer.old }
     requires fit { TermsFit qubits terms.now }
-    ensures within { IfSome result (λ end. end ≤ at + WORD) }
-    ensures written { IfSome result (λ end. take end buffer.new
-        ≡ take at buffer.old ++ word_text (word_of_terms qubits terms.now)) }
-    ensures kept { result ≡ None → buffer.new ≡ buffer.old }
+    ensures { Puts WORD at (word_text (word_of_terms qubits terms.now)) buffer.old buffer.new
+        result }
 {
     if terms.len() > SHORT_TERMS || !is_ordered(terms) {
         return None;

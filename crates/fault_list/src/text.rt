@@ -106,36 +106,36 @@ fn write_line<'t, 'a, A: Allocator + Copy, W: Sink>(
         }
         None => {
             out.push(sink, &desk.lines[..held]);
-            write_long_line(
-                out,
-                sink,
-                &mut desk.block,
-                &mut desk.letters,
-                program,
-                fault,
-            );
+            write_long_line(out, sink, desk, program, fault);
             0
         }
     }
 }
 
-fn write_long_line<'a, A: Allocator + Copy, W: Sink>(
+fn write_long_line<'t, 'a, A: Allocator + Copy, W: Sink>(
     out: &mut Pieces,
     sink: &mut W,
-    buffer: &mut [u8; BLOCK_ROOM],
-    letters: &mut [Letter; SPAN],
+    desk: &mut Desk<'t, 'a>,
     program: &Program<'a, A>,
     fault: FoundFault,
 )
     requires { IsFaultOf program.now fault }
-    ensures { Pushes W.taken W.failures sink.old sink.new out.old out.new
+    ensures texts { desk.new.texts.probability ≡ desk.old.texts.probability }
+    ensures pushed { Pushes W.taken W.failures sink.old sink.new out.old out.new
         (fault_line program.now.listing fault.number) }
 {
     write_number(out, sink, fault.number);
     out.push(sink, b" ");
     out.push(sink, program.entry_text(fault.entry));
     out.push(sink, b" ");
-    write_effect(out, sink, buffer, letters, program, fault);
+    write_effect(
+        out,
+        sink,
+        &mut desk.block,
+        &mut desk.letters,
+        program,
+        fault,
+    );
     out.push(sink, b"\n");
 }
 

@@ -1,5 +1,5 @@
 -- Gates that put at each of two qubits an image of the letters at the other.
-use Rattle.std.proofs.Common.{◌≡◌, ◌≢◌, ℕ, Bool, List, [], map, length, get_or, set, refl, ap, ap₂, subst, sym, ◌∙◌, arith, length-set, get_or-set_other}
+use Rattle.std.proofs.Common.{◌≡◌, ◌≢◌, ℕ, List, [], map, length, get_or, set, refl, ap, ap₂, subst, sym, ◌∙◌, arith, length-set, get_or-set_other}
 use Rattle.std.specs.Prelude.{All}
 use Rattle.std.proofs.lemmas.List.{get_or-map, set-set, set_comm}
 use Rattle.std.proofs.lemmas.List.Elements.{All-set}
@@ -11,8 +11,9 @@ use Rattle.pauli_word.specs.Letters.{letter_product}
 use Rattle.pauli_word.specs.Words.{letter_at}
 use Rattle.pauli_word.proofs.LetterLaws.{letter_product-I, letter_product_comm}
 use Rattle.trackers.specs.Tracked.{each_word, undone_two}
+use Rattle.trackers.specs.declared.images.PairImages.{PairImages}
+use Rattle.trackers.specs.private.PairImages.{AreBefore}
 use Rattle.trackers.specs.private.Transposed.{ArePlaces, combined, exchanged_at, exchanged_columns, tracked_of}
-use Rattle.trackers.proofs.GateLemmas.{AreImages, firsts, seconds}
 use Rattle.trackers.proofs.TransposedLemmas.{image2_combined, tracked_set_two}
 
 -- ---- lists
@@ -78,12 +79,12 @@ second_image g a b x z =
     ∙ letter_product-I (combined (image2 g X I).1 (image2 g Z I).1 a))
 
 -- a gate that leaves nothing of X and Z at their own qubit
-pub undone-exchanged : (g : Gate) (a b : ℕ) (xa za xb zb : Letter × Letter × Bool) (w : List Letter) → AreImages g xa za xb zb → (xa.0 ≡ I) × (za.0 ≡ I) → (xb.1 ≡ I) × (zb.1 ≡ I)
-    → exchanged_at a b (firsts xb zb) (seconds xa za) w ≡ undone_two g a b w
-undone-exchanged g a b xa za xb zb w are first second =
+pub undone-exchanged : (g : Gate) (a b : ℕ) (images : PairImages) (w : List Letter) → AreBefore g images → (images.first_own.0 ≡ I) × (images.first_own.1 ≡ I) → (images.second_own.0 ≡ I) × (images.second_own.1 ≡ I)
+    → exchanged_at a b images.first_other images.second_other w ≡ undone_two g a b w
+undone-exchanged g a b images w are first second =
     let u = letter_at w a in
     let v = letter_at w b in
-    ap₂ (λ (p q : Letter × Letter). exchanged_at a b p q w) are.to_first are.to_second
+    ap₂ (λ (p q : Letter × Letter). exchanged_at a b p q w) are.first_other are.second_other
     ∙ ap₂ (λ c d. set (set w a c) b d)
-    (sym (first_image (inverse_of g) u v (sym (ap (λ p. p.0) are.xa_is) ∙ first.0) (sym (ap (λ p. p.0) are.za_is) ∙ first.1)))
-    (sym (second_image (inverse_of g) u v (sym (ap (λ p. p.1) are.xb_is) ∙ second.0) (sym (ap (λ p. p.1) are.zb_is) ∙ second.1)))
+    (sym (first_image (inverse_of g) u v (sym (ap (λ p. p.0) are.first_own) ∙ first.0) (sym (ap (λ p. p.1) are.first_own) ∙ first.1)))
+    (sym (second_image (inverse_of g) u v (sym (ap (λ p. p.0) are.second_own) ∙ second.0) (sym (ap (λ p. p.1) are.second_own) ∙ second.1)))

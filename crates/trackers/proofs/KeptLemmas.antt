@@ -6,43 +6,37 @@ use Rattle.std.proofs.Math.Nat.{suc_inj}
 use Rattle.std.proofs.lemmas.List.{get_or-map, get_or_default, length-map, map-set, set-get_or}
 use Rattle.std.proofs.lemmas.List.FromFn.{length-map-range_with_len}
 use Rattle.pauli_word.specs.declared.letter.Letter.{Letter}
-use Rattle.pauli_word.specs.declared.letter.Letter.TheVariants.{I, X, Y, Z}
+use Rattle.pauli_word.specs.declared.letter.Letter.TheVariants.{I}
 use Rattle.pauli_word.specs.Bits.{letter_of, x_bit, z_bit, letters_of}
 use Rattle.pauli_word.specs.Words.{letter_at}
 use Rattle.pauli_word.proofs.BitWords.{letter_at-letters_of}
+use Rattle.pauli_word.proofs.LetterTests.{letter_of-bits}
 use Rattle.step_model.specs.Targets.{is_listed}
 use Rattle.trackers.specs.Tracked.{Tracked, Fit, listed_word, restored}
 use Rattle.trackers.specs.TargetSets.{members, row_of_set}
 use Rattle.trackers.specs.private.Transposed.{AreRestored, column_of, lists_of, lists_of_each, tracked_of, transposed, word_at}
 use Rattle.trackers.proofs.RangeLemmas.{listed_in_range, map_range_below, members_within}
 use Rattle.trackers.proofs.SetLemmas.{get_or-row_of_set, length-row_of_set}
+use Rattle.trackers.proofs.TransposedLemmas.{tracked_words}
 
 -- ---- the bits of letters
-x_bits : (x z : List Bool) → length x ≡ length z → map x_bit (letters_of x z) ≡ x
-x_bits [] z h = refl
-x_bits (a ∷ x) [] h = cc
-x_bits (a ∷ x) (b ∷ z) h = ap₂ (λ c r. c ∷ r) (bit a b) (x_bits x z (suc_inj h))
-  where
-    bit : (a b : Bool) → x_bit (letter_of a b) ≡ a
-    bit true true = refl
-    bit true false = refl
-    bit false true = refl
-    bit false false = refl
+letter_bits : (a b : Bool) → (x_bit (letter_of a b) ≡ a) × (z_bit (letter_of a b) ≡ b)
+letter_bits true true = (refl, refl)
+letter_bits true false = (refl, refl)
+letter_bits false true = (refl, refl)
+letter_bits false false = (refl, refl)
 
-z_bits : (x z : List Bool) → length x ≡ length z → map z_bit (letters_of x z) ≡ z
-z_bits [] [] h = refl
-z_bits [] (b ∷ z) h = cc
-z_bits (a ∷ x) [] h = cc
-z_bits (a ∷ x) (b ∷ z) h = ap₂ (λ c r. c ∷ r) (bit a b) (z_bits x z (suc_inj h))
-  where
-    bit : (a b : Bool) → z_bit (letter_of a b) ≡ b
-    bit true true = refl
-    bit true false = refl
-    bit false true = refl
-    bit false false = refl
+row_bits : (x z : List Bool) → length x ≡ length z → (map x_bit (letters_of x z) ≡ x) × (map z_bit (letters_of x z) ≡ z)
+row_bits [] [] h = (refl, refl)
+row_bits [] (b ∷ z) h = cc
+row_bits (a ∷ x) [] h = cc
+row_bits (a ∷ x) (b ∷ z) h =
+    let here = letter_bits a b in
+    let rest = row_bits x z (suc_inj h) in
+    (ap₂ (λ c r. c ∷ r) here.0 rest.0, ap₂ (λ c r. c ∷ r) here.1 rest.1)
 
 pub bits_of_column : (x z : List Bool) (column : List Letter) → length x ≡ length z → letters_of x z ≡ column → (map x_bit column ≡ x) × (map z_bit column ≡ z)
-bits_of_column x z column h e = (ap (map x_bit) (sym e) ∙ x_bits x z h, ap (map z_bit) (sym e) ∙ z_bits x z h)
+bits_of_column x z column h e = subst (λ c. (map x_bit c ≡ x) × (map z_bit c ≡ z)) e (row_bits x z h)
 
 -- ---- what is kept
 pub lists_of_more : (columns : List (List Letter)) (column : List Letter) → lists_of_each (columns ++ column ∷ []) ≡ lists_of_each columns ++ lists_of column
@@ -56,13 +50,7 @@ listed_bit bit column t none h =
     ∙ get_or-map bit column t I false h
 
 listed_letter : (column : List Letter) (t : ℕ) → t < length column → letter_of (is_listed (members (map x_bit column)) t) (is_listed (members (map z_bit column)) t) ≡ letter_at column t
-listed_letter column t h = ap₂ letter_of (listed_bit x_bit column t refl h) (listed_bit z_bit column t refl h) ∙ whole (letter_at column t)
-  where
-    whole : (a : Letter) → letter_of (x_bit a) (z_bit a) ≡ a
-    whole I = refl
-    whole X = refl
-    whole Y = refl
-    whole Z = refl
+listed_letter column t h = ap₂ letter_of (listed_bit x_bit column t refl h) (listed_bit z_bit column t refl h) ∙ letter_of-bits (letter_at column t)
 
 kept_word : (m t : ℕ) (columns : List (List Letter)) → t < m → All (λ column. length column ≡ m) columns → listed_word (lists_of_each columns) t ≡ word_at columns t
 kept_word m t [] lt long = refl
@@ -84,9 +72,6 @@ all_named m (column ∷ columns) long zero d lt = bits_named m x_bit column (lon
 all_named m (column ∷ columns) long (suc zero) d lt = bits_named m z_bit column (long 0 column (omega arith))
 all_named m (column ∷ columns) long (suc (suc k)) d lt =
     all_named m columns (λ j c within. long (suc j) c (omega (arith, within))) k d (omega (arith, lt))
-
-abbrev tracked_words : ℕ → List (List Letter) → Tracked
-tracked_words n words = record { qubits = n; words = words }
 
 pub words_long : (m : ℕ) (columns : List (List Letter)) → length (transposed m columns) ≡ m
 words_long m columns = length-map-range_with_len (word_at columns) 0 m

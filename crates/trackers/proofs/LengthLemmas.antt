@@ -1,6 +1,7 @@
 -- Columns that are lent, changed and given back.
-use Rattle.std.proofs.Common.{◌≡◌, ℕ, Bool, List, Result, OnOk, length, set, ap, subst, sym, ◌∙◌}
+use Rattle.std.proofs.Common.{◌≡◌, ℕ, ◌<◌, Bool, List, [], Result, OnOk, length, get_or, set, ap, subst, sym, ◌∙◌, arith}
 use Rattle.std.specs.Prelude.{All}
+use Rattle.std.proofs.lemmas.List.{get_or_default}
 use Rattle.std.proofs.lemmas.List.Elements.{All-set}
 use Rattle.std.proofs.lemmas.Result.{on_ok_weaker}
 use Rattle.pauli_word.specs.declared.letter.Letter.{Letter}
@@ -36,6 +37,29 @@ column_given_back {m} {columns} q column first_now row_now spare_now h long firs
       spare_long = spare_stays ∙ h.spare_long;
       few = h.few;
     }
+
+-- a column that is read or lent, of some that are as long as m
+pub record IsColumn (m q : ℕ) (columns : List (List Letter)) (column : List Letter) : Type 0 where
+  pub within : q < length columns
+  pub is : column ≡ get_or columns q []
+  pub long : length column ≡ m
+  pub there : length (get_or columns q []) ≡ m
+  pub as_long : (n : ℕ) → n ≡ m → n ≡ length column
+
+pub column_at : {m : ℕ} {columns : List (List Letter)} (q : ℕ) (column d : List Letter) → All (λ column. length column ≡ m) columns → q < length columns → column ≡ get_or columns q d → IsColumn m q columns column
+column_at {m} {columns} q column d long within at =
+    record {
+      within = within;
+      is = at ∙ get_or_default columns q d [] within;
+      long = ap length at ∙ long q d within;
+      there = long q [] within;
+      as_long = λ n e. e ∙ sym (ap length at ∙ long q d within);
+    }
+
+-- the same, by the qubit of the words at which it stands
+pub lent : {m : ℕ} {columns : List (List Letter)} {first second : List Letter} {set spare : List Bool} {tracked : Tracked} (q : ℕ) (column d : List Letter) → IsTransposed m columns first second set spare
+    → tracked_of m columns ≡ tracked → q < tracked.qubits → column ≡ get_or columns q d → IsColumn m q columns column
+lent q column d h view inside at = column_at q column d h.columns_long (omega (arith, ap (λ (t : Tracked). t.qubits) view, inside)) at
 
 -- two places of the words are places of the columns
 pub at_columns : (m : ℕ) (columns : List (List Letter)) (tracked : Tracked) {a b : ℕ} → tracked_of m columns ≡ tracked → ArePlaces tracked.qubits a b → ArePlaces (length columns) a b

@@ -1,9 +1,10 @@
 -- A word of one letter: the targets that it hits are those of one set of the letter's column. Of two letters: those that
 -- are in one of their sets alone.
 use Rattle.std.proofs.Common.{◌≡◌, ℕ, ◌<◌, Bool, true, false, List, [], ◌∷◌, length, map, get_or, refl, ap, ap₂, sym, ◌∙◌, arith}
+use Rattle.std.specs.Prelude.{All}
 use Rattle.std.specs.List.{range_with_len}
 use Rattle.std.proofs.Math.Nat.{suc_inj}
-use Rattle.std.proofs.lemmas.List.{length-map}
+use Rattle.std.proofs.lemmas.List.{get_or_default, length-map}
 use Rattle.std.proofs.lemmas.List.FromFn.{fill_by_all, get_or-map-range_with_len}
 use Rattle.bit_rows.specs.Rows.{xor_rows}
 use Rattle.pauli_word.specs.Bits.{letter_of, letters_of}
@@ -15,8 +16,10 @@ use Rattle.pauli_word.specs.Words.{anticommute, letter_at}
 use Rattle.pauli_word.proofs.Parities.{exclusive_or-false}
 use Rattle.step_model.specs.declared.step.Term.{Term}
 use Rattle.step_model.specs.Listing.{word_of_terms}
-use Rattle.trackers.specs.private.Transposed.{word_at}
-use Rattle.trackers.proofs.TransposedLemmas.{clash_more, clash_none, clash_rows, get_or-xor_rows, length-xor_rows}
+use Rattle.trackers.specs.TargetSets.{members}
+use Rattle.trackers.specs.Tracked.{Tracked, anticommuting}
+use Rattle.trackers.specs.private.Transposed.{tracked_of, word_at}
+use Rattle.trackers.proofs.TransposedLemmas.{clash_more, clash_none, clash_rows, get_or-xor_rows, length-xor_rows, ones_are_hit}
 
 clash_X : (c d : Bool) → d ≡ letters_clash X (letter_of c d)
 clash_X false false = refl
@@ -53,11 +56,6 @@ clashes_of_Y [] (d ∷ z) h = cc
 clashes_of_Y (c ∷ x) [] h = cc
 clashes_of_Y (c ∷ x) (d ∷ z) h = ap₂ (λ b row. b ∷ row) (clash_Y c d) (clashes_of_Y x z (suc_inj h))
 
-pub lone_term : (terms : List Term) (d : Term) → length terms ≡ 1 → terms ≡ get_or terms 0 d ∷ []
-lone_term [] d h = cc
-lone_term (t ∷ []) d h = refl
-lone_term (t ∷ u ∷ more) d h = absurd (omega (arith, h))
-
 -- the row of the targets that one letter hits
 pub lone_clash : (m : ℕ) (columns : List (List Letter)) (term : Term) (row : List Bool) → length (get_or columns term.qubit []) ≡ m → term.qubit < length columns
     → row ≡ map (letters_clash term.letter) (get_or columns term.qubit [])
@@ -85,7 +83,7 @@ pair_of_terms (t ∷ u ∷ []) d e h = refl
 pair_of_terms (t ∷ u ∷ v ∷ more) d e h = absurd (omega (arith, h))
 
 -- the row of the targets that two letters hit
-pub pair_clash : (m : ℕ) (columns : List (List Letter)) (first second : Term) (p q : List Bool)
+pair_clash : (m : ℕ) (columns : List (List Letter)) (first second : Term) (p q : List Bool)
     → length (get_or columns first.qubit []) ≡ m → length (get_or columns second.qubit []) ≡ m → first.qubit < length columns → second.qubit < length columns
     → p ≡ map (letters_clash first.letter) (get_or columns first.qubit []) → q ≡ map (letters_clash second.letter) (get_or columns second.qubit [])
     → xor_rows p q ≡ map (λ t. anticommute (word_at columns t) (word_of_terms (length columns) (first ∷ second ∷ []))) (range_with_len 0 m)
@@ -111,3 +109,18 @@ pair_clash m columns first second p q first_long second_long first_fits second_f
 
     same : length p ≡ length q
     same = p_long ∙ sym q_long
+
+-- the same of columns as they are read
+pub pair_hit : (m : ℕ) (columns : List (List Letter)) (held : Tracked) (first second : Term) (d e u v : List Letter) (p q : List Bool) → tracked_of m columns ≡ held → All (λ column. length column ≡ m) columns
+    → first.qubit < held.qubits → second.qubit < held.qubits → u ≡ get_or columns first.qubit d → v ≡ get_or columns second.qubit e
+    → p ≡ map (letters_clash first.letter) u → q ≡ map (letters_clash second.letter) v
+    → members (xor_rows p q) ≡ anticommuting (first ∷ second ∷ []) held
+pair_hit m columns held first second d e u v p q is long in_first in_second at_first at_second hp hq =
+    let counted = ap (λ (t : Tracked). t.qubits) is in
+    let first_fits : first.qubit < length columns = omega (arith, in_first, counted) in
+    let second_fits : second.qubit < length columns = omega (arith, in_second, counted) in
+    ones_are_hit m columns (first ∷ second ∷ []) (xor_rows p q)
+    (pair_clash m columns first second p q (long first.qubit [] first_fits) (long second.qubit [] second_fits) first_fits second_fits
+    (hp ∙ ap (map (letters_clash first.letter)) (at_first ∙ get_or_default columns first.qubit d [] first_fits))
+    (hq ∙ ap (map (letters_clash second.letter)) (at_second ∙ get_or_default columns second.qubit e [] second_fits)))
+    ∙ ap (anticommuting (first ∷ second ∷ [])) is

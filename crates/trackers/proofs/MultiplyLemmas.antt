@@ -16,8 +16,9 @@ use Rattle.pauli_word.proofs.LetterLaws.{letter_product-I, letter_product_comm}
 use Rattle.pauli_word.proofs.LetterTests.{each_four_letters, at_four_letters, same_letter, same_letter-true}
 use Rattle.pauli_word.proofs.WordPlaces.{letter_at-product}
 use Rattle.trackers.specs.Tracked.{Tracked, each_word, undone_two}
+use Rattle.trackers.specs.declared.images.PairImages.{PairImages}
+use Rattle.trackers.specs.private.PairImages.{AreBefore}
 use Rattle.trackers.specs.private.Transposed.{ArePlaces, combined, multiplied_at, multiplied_columns, tracked_of}
-use Rattle.trackers.proofs.GateLemmas.{AreImages, firsts, seconds}
 use Rattle.trackers.proofs.TransposedLemmas.{image2_combined, tracked_set_two}
 
 -- ---- letters
@@ -137,15 +138,15 @@ second_image g a b x z =
     ∙ letter_product_comm (combined (image2 g X I).1 (image2 g Z I).1 a) b)
 
 -- a gate that keeps X and Z at either qubit but for letters at the other
-pub undone-multiplied : (g : Gate) (a b : ℕ) (xa za xb zb : Letter × Letter × Bool) (w : List Letter) → AreImages g xa za xb zb → (xa.0 ≡ X) × (za.0 ≡ Z) → (xb.1 ≡ X) × (zb.1 ≡ Z)
-    → multiplied_at a b (firsts xb zb) (seconds xa za) w ≡ undone_two g a b w
-undone-multiplied g a b xa za xb zb w are first second =
+pub undone-multiplied : (g : Gate) (a b : ℕ) (images : PairImages) (w : List Letter) → AreBefore g images → (images.first_own.0 ≡ X) × (images.first_own.1 ≡ Z) → (images.second_own.0 ≡ X) × (images.second_own.1 ≡ Z)
+    → multiplied_at a b images.first_other images.second_other w ≡ undone_two g a b w
+undone-multiplied g a b images w are first second =
     let u = letter_at w a in
     let v = letter_at w b in
-    ap₂ (λ (p q : Letter × Letter). multiplied_at a b p q w) are.to_first are.to_second
+    ap₂ (λ (p q : Letter × Letter). multiplied_at a b p q w) are.first_other are.second_other
     ∙ ap₂ (λ c d. set (set w a c) b d)
-    (sym (first_image (inverse_of g) u v (sym (ap (λ p. p.0) are.xa_is) ∙ first.0) (sym (ap (λ p. p.0) are.za_is) ∙ first.1)))
-    (sym (second_image (inverse_of g) u v (sym (ap (λ p. p.1) are.xb_is) ∙ second.0) (sym (ap (λ p. p.1) are.zb_is) ∙ second.1)))
+    (sym (first_image (inverse_of g) u v (sym (ap (λ p. p.0) are.first_own) ∙ first.0) (sym (ap (λ p. p.1) are.first_own) ∙ first.1)))
+    (sym (second_image (inverse_of g) u v (sym (ap (λ p. p.0) are.second_own) ∙ second.0) (sym (ap (λ p. p.1) are.second_own) ∙ second.1)))
 
 pub each_word-same : (f g : List Letter → List Letter) (t : Tracked) → ((w : List Letter) → f w ≡ g w) → each_word f t ≡ each_word g t
 each_word-same f g t same = ap (λ words. record { qubits = t.qubits; words = words }) (map_same t.words)

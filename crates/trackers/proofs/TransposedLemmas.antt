@@ -18,7 +18,7 @@ use Rattle.gate_table.specs.declared.gate.Gate.{Gate}
 use Rattle.gate_table.specs.declared.gate.Gate.TheVariants as gate
 use Rattle.gate_table.specs.Images.{image1, image2, inverse_of}
 use Rattle.pauli_word.specs.declared.letter.Letter.{Letter}
-use Rattle.pauli_word.specs.declared.letter.Letter.TheVariants.{I, X, Y, Z}
+use Rattle.pauli_word.specs.declared.letter.Letter.TheVariants.{I, X, Z}
 use Rattle.pauli_word.specs.Bits.{letters_of}
 use Rattle.pauli_word.proofs.BitWords.{letters_of-zeros}
 use Rattle.pauli_word.specs.Letters.{letter_product, letters_clash}
@@ -28,12 +28,12 @@ use Rattle.pauli_word.proofs.WordPlaces.{letter_at-product}
 use Rattle.step_model.specs.declared.step.Term.{Term}
 use Rattle.step_model.specs.Listing.{word_of_terms}
 use Rattle.step_model.specs.Sensitivities.{multiplied}
-use Rattle.pauli_word.proofs.LoneLetters.{letters_product-lone_letter}
+use Rattle.pauli_word.proofs.LoneLetters.{letters_product-lone_letter, letters_product_of_no_letters}
 use Rattle.trackers.specs.Tracked.{Tracked, fresh, each_word, with_I_at, undone_one, undone_two, is_among, added, anticommuting}
 use Rattle.trackers.specs.private.Transposed.{word_at, transposed, tracked_of, combined, times_each}
 use Rattle.trackers.proofs.RangeLemmas.{filter_range_agree, map-map, map_range_below}
 
-abbrev tracked_words : ℕ → List (List Letter) → Tracked
+abbrev pub tracked_words : ℕ → List (List Letter) → Tracked
 tracked_words n words = record { qubits = n; words = words }
 
 -- the letter of a word at a qubit is that of the qubit's column at the target
@@ -74,25 +74,10 @@ pub image1_combined : (g : Gate) (a : Letter) → (image1 g a).0 ≡ combined (i
 unfolding one_test
 image1_combined g a = same_letter-true _ _ (at_letter (one_test g) (one_tests g) a)
 
-letters_product_none : (p : List Letter) (n : ℕ) → length p ≡ n → letters_product (no_letters n) p ≡ p
-letters_product_none [] n h = none n
-  where
-    none : (n : ℕ) → letters_product (no_letters n) [] ≡ []
-    none zero = refl
-    none (suc n) = refl
-letters_product_none (a ∷ p) zero h = cc
-letters_product_none (a ∷ p) (suc n) h = let e : length p ≡ n = omega (arith, h) in ap₂ (λ b q. b ∷ q) (left a) (letters_product_none p n e)
-  where
-    left : (a : Letter) → letter_product I a ≡ a
-    left I = refl
-    left X = refl
-    left Y = refl
-    left Z = refl
-
 -- a column whose letters are the images of those of another
 pub image_column : (x z : Letter) (spare column made : List Letter) (n : ℕ) → length column ≡ n → spare ≡ no_letters n → made ≡ letters_product spare (map (combined x z) column) → made ≡ map (combined x z) column
 image_column x z spare column made n long e h =
-    h ∙ (ap (λ s. letters_product s (map (combined x z) column)) e ∙ letters_product_none (map (combined x z) column) n (length-map column (combined x z) ∙ long))
+    h ∙ (ap (λ s. letters_product s (map (combined x z) column)) e ∙ letters_product_of_no_letters n (map (combined x z) column) (length-map column (combined x z) ∙ long))
 
 pub tracked_one : (m : ℕ) (columns : List (List Letter)) (q : ℕ) (g : Gate) → q < length columns → length (get_or columns q []) ≡ m → tracked_of m (set columns q (map (combined (image1 (inverse_of g) X).0 (image1 (inverse_of g) Z).0) (get_or columns q []))) ≡ each_word (undone_one g q) (tracked_of m columns)
 tracked_one m columns q g h long =

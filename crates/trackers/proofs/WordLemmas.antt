@@ -1,21 +1,23 @@
 -- A word beside the product of letters at qubits.
-use Rattle.std.proofs.Common.{◌≡◌, ℕ, ◌<◌, List, [], ◌∷◌, length, refl, ap, sym, ◌∙◌}
-use Rattle.std.proofs.lemmas.List.{length-replicate}
+use Rattle.std.proofs.Common.{◌≡◌, ℕ, ◌<◌, List, [], ◌∷◌, length, get_or, refl, ap, sym, ◌∙◌}
+use Rattle.std.specs.Prelude.{All}
+use Rattle.std.proofs.lemmas.List.Elements.{All-get_or}
 use Rattle.pauli_word.specs.declared.letter.Letter.{Letter}
 use Rattle.pauli_word.specs.declared.letter.Letter.TheVariants.{I}
 use Rattle.pauli_word.specs.Letters.{letters_clash}
 use Rattle.pauli_word.specs.Parity.{exclusive_or}
 use Rattle.pauli_word.specs.Words.{anticommute, letter_at, lone_letter, no_letters}
-use Rattle.pauli_word.proofs.WordLaws.{length-letters_product, letters_product_comm, anticommute_comm, anticommute-product}
+use Rattle.pauli_word.proofs.WordLaws.{letters_product_comm, anticommute_comm, anticommute-product}
 use Rattle.step_model.specs.declared.step.Term.{Term}
 use Rattle.step_model.specs.Listing.{word_of_terms}
 use Rattle.pauli_word.proofs.LoneLetters.{length-lone_letter, anticommute-lone_letter, letters_product_of_no_letters}
+use Rattle.step_model.proofs.StepNumbers.{length-word_of_terms}
 
-pub length-word_of_terms : (n : ℕ) (terms : List Term) → length (word_of_terms n terms) ≡ n
-length-word_of_terms n [] = length-replicate n I
-length-word_of_terms n (term ∷ terms) =
-    length-letters_product (lone_letter n term.qubit term.letter) (word_of_terms n terms) (length-lone_letter n term.qubit term.letter ∙ sym (length-word_of_terms n terms))
-    ∙ length-lone_letter n term.qubit term.letter
+abbrev pub no_term : Term
+no_term = record { qubit = 0; letter = I }
+
+pub term_below : (terms : List Term) (n i : ℕ) → All (λ term. term.qubit < n) terms → i < length terms → (get_or terms i no_term).qubit < n
+term_below terms n i all within = All-get_or (λ term. term.qubit < n) terms i no_term within all
 
 -- one term more: it clashes with the letter at its qubit alone
 pub anticommute-term : (w : List Letter) (term : Term) (terms : List Term) → term.qubit < length w → anticommute w (word_of_terms (length w) (term ∷ terms)) ≡ exclusive_or (letters_clash term.letter (letter_at w term.qubit)) (anticommute w (word_of_terms (length w) terms))

@@ -1,2 +1,3 @@
+pub mod PairImages
 pub mod Sets
 pub mod Transposed

@@ -254,6 +254,7 @@ impl<S: TargetSet> Column<S> {
 
     /// Lists the targets for which just one of their letters in two columns clashes with Y, and answers whether it did:
     /// it need not.
+    #[inline(never)]
     pub(crate) fn list_clashing_y<B: Allocator + Copy>(
         &self,
         other: &Column<S>,

@@ -5,6 +5,7 @@ ghost use Rattle.pauli_word.specs.declared.letter.Letter.TheVariants.{I};
 ghost use Rattle.trackers.specs.private.Transposed.{ArePlaces, combined, exchanged_columns, first_before, multiplied_columns, second_before};
 
 use crate::column::{Column, multiply_both};
+use crate::images::images_before;
 use crate::target_set::TargetSet;
 use gate_table::Gate;
 use pauli_word::Letter;
@@ -92,11 +93,19 @@ pub(crate) fn image_pair<S: TargetSet>(
     ensures second_len { length second.new ≡ length second.old }
     ensures spare { length (S.bits spare.new) ≡ length (S.bits spare.old) }
 {
-    let inverse = gate.inverse();
-    let xa = inverse.image2(Letter::X, Letter::I);
-    let za = inverse.image2(Letter::Z, Letter::I);
-    let xb = inverse.image2(Letter::I, Letter::X);
-    let zb = inverse.image2(Letter::I, Letter::Z);
-    first.set_images(&columns[a], &columns[b], (xa.0, za.0), (xb.0, zb.0), spare)?;
-    second.set_images(&columns[a], &columns[b], (xa.1, za.1), (xb.1, zb.1), spare)
+    let images = images_before(gate);
+    first.set_images(
+        &columns[a],
+        &columns[b],
+        images.first_own,
+        images.first_other,
+        spare,
+    )?;
+    second.set_images(
+        &columns[a],
+        &columns[b],
+        images.second_other,
+        images.second_own,
+        spare,
+    )
 }

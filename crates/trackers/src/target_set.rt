@@ -3,7 +3,7 @@ ghost use Rattle.std.specs.Prelude.{◌≡◌, ◌<◌, ◌≤◌, ◌^◌, fals
 ghost use Rattle.std.specs.List.{range_with_len};
 ghost use Rattle.bit_rows.specs.Rows.{xor_rows};
 ghost use Rattle.trackers.specs.TargetSets.{members, row_of_set};
-ghost use Rattle.trackers.specs.private.Transposed.{xor_where};
+ghost use Rattle.trackers.specs.private.Transposed.{xor_where, AreAsLong};
 
 use bit_rows::BitRow;
 use std::alloc::{AllocError, Allocator};
@@ -150,7 +150,8 @@ pub fn make_set<S: TargetSet>(set: &mut S, targets: &[u32]) -> Result<(), AllocE
     toggle_down(set, targets)
 }
 
-/// Toggles each of these targets, where `toggle`. What the sets `made` and `spare` held is lost.
+/// Toggles each of these targets, where `toggle`. What the sets `made` and `spare` held is lost. Most collapses have one
+/// target or none.
 #[inline(always)]
 pub(crate) fn toggle_where<S: TargetSet>(
     toggle: bool,
@@ -160,8 +161,7 @@ pub(crate) fn toggle_where<S: TargetSet>(
     spare: &mut S,
 ) -> Result<(), AllocError>
     requires targets { All (λ t. t < length (S.bits set.old)) targets.now }
-    requires made { length (S.bits made.old) ≡ length (S.bits set.old) }
-    requires spare { length (S.bits spare.old) ≡ length (S.bits set.old) }
+    requires long { AreAsLong (S.bits set.old) (S.bits made.old) (S.bits spare.old) }
     ensures ok { OnOk result
         (S.bits set.new
         ≡ xor_where toggle (S.bits set.old)
@@ -170,13 +170,16 @@ pub(crate) fn toggle_where<S: TargetSet>(
     ensures made { length (S.bits made.new) ≡ length (S.bits made.old) }
     ensures spare { length (S.bits spare.new) ≡ length (S.bits spare.old) }
 {
-    if toggle {
-        toggle_all(set, targets, made, spare)
-    } else {
-        Ok(())
+    if !toggle {
+        return Ok(());
     }
+    if let [target] = targets {
+        return set.toggle(*target);
+    }
+    toggle_all(set, targets, made, spare)
 }
 
+#[inline(never)]
 fn toggle_all<S: TargetSet>(
     set: &mut S,
     targets: &[u32],
@@ -184,8 +187,7 @@ fn toggle_all<S: TargetSet>(
     spare: &mut S,
 ) -> Result<(), AllocError>
     requires targets { All (λ t. t < length (S.bits set.old)) targets.now }
-    requires made { length (S.bits made.old) ≡ length (S.bits set.old) }
-    requires spare { length (S.bits spare.old) ≡ length (S.bits set.old) }
+    requires long { AreAsLong (S.bits set.old) (S.bits made.old) (S.bits spare.old) }
     ensures ok { OnOk result
         (S.bits set.new
         ≡ xor_rows (S.bits set.old) (row_of_set (length (S.bits set.old)) targets.now)) }

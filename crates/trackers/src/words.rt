@@ -1,14 +1,14 @@
 ghost use Rattle.std.specs.Prelude.{◌≡◌, ◌<◌, ◌≤◌, ◌^◌, ◌∷◌, [], ℕ, false, true, All, IfOk, OnOk, replicate};
 ghost use Rattle.gate_table.specs.Images.{arity_of};
 ghost use Rattle.gate_table.specs.declared.gate.Gate.TheVariants.{CX, H};
-ghost use Rattle.pauli_word.specs.declared.letter.Letter.TheVariants.{I, Y};
+ghost use Rattle.pauli_word.specs.declared.letter.Letter.TheVariants.{I};
 ghost use Rattle.trackers.specs.Tracked.{anticommuting, each_word, fresh, undone_one, undone_two};
 ghost use Rattle.trackers.specs.TargetSets.{members};
 ghost use Rattle.trackers.specs.private.Transposed.{ArePlaces, combined, exchanged_at, multiplied_at};
 
 use crate::column::{Column, is_y};
 use crate::columns::{clashing, keep_columns, restore_columns};
-use crate::images::{is_kept, is_left, is_lost};
+use crate::images::{images_before, is_kept, is_left, is_lost};
 use crate::pairs::{exchange_pair, image_pair, multiply_pair};
 use crate::sparse_set::SparseSet;
 use crate::target_set::TargetSet;
@@ -183,34 +183,18 @@ impl<S: TargetSet, A: Allocator + Copy> Words<S, A> {
         ensures { IfOk result (λ done. done ≡ true
             → hit.new.items ≡ anticommuting (first.now ∷ second.now ∷ []) self.now) }
     {
+        let one = &self.columns[first.qubit as usize];
+        let other = &self.columns[second.qubit as usize];
         if is_y(first.letter) && is_y(second.letter) {
-            return self.list_both_y(first, second, hit);
+            return one.list_clashing_y(other, hit);
         }
-        let one = self.columns[first.qubit as usize].kept_clashing(first.letter);
-        let other = self.columns[second.qubit as usize].kept_clashing(second.letter);
-        match (one, other) {
+        match (
+            one.kept_clashing(first.letter),
+            other.kept_clashing(second.letter),
+        ) {
             (Some(one), Some(other)) => one.list_sum(other, hit),
             _ => Ok(false),
         }
-    }
-
-    // The same for two letters Y.
-    #[inline(never)]
-    fn list_both_y<B: Allocator + Copy>(
-        &self,
-        first: &Term,
-        second: &Term,
-        hit: &mut Vec<u32, B>,
-    ) -> Result<bool, AllocError>
-        requires first_in_range { first.now.qubit < self.now.qubits }
-        requires second_in_range { second.now.qubit < self.now.qubits }
-        requires first_is_y { first.now.letter ≡ Y }
-        requires second_is_y { second.now.letter ≡ Y }
-        ensures { IfOk result (λ done. done ≡ true
-            → hit.new.items ≡ anticommuting (first.now ∷ second.now ∷ []) self.now) }
-    {
-        let other = &self.columns[second.qubit as usize];
-        self.columns[first.qubit as usize].list_clashing_y(other, hit)
     }
 
     // The commonest gate of one qubit, which exchanges X and Z.
@@ -251,16 +235,13 @@ impl<S: TargetSet, A: Allocator + Copy> Words<S, A> {
         requires places { ArePlaces self.old.qubits a b }
         ensures { OnOk result (self.new ≡ each_word (undone_two gate a b) self.old) }
     {
-        let inverse = gate.inverse();
-        let xa = inverse.image2(Letter::X, Letter::I);
-        let za = inverse.image2(Letter::Z, Letter::I);
-        let xb = inverse.image2(Letter::I, Letter::X);
-        let zb = inverse.image2(Letter::I, Letter::Z);
-        let kept = is_kept(xa.0, za.0) && is_kept(xb.1, zb.1);
-        if kept && is_lost(xa.1, za.1, xb.0) && is_lost(xa.1, za.1, zb.0) {
-            self.multiply(a, b, (xb.0, zb.0), (xa.1, za.1))
-        } else if is_left(xa.0, za.0) && is_left(xb.1, zb.1) {
-            self.exchange(a, b, (xb.0, zb.0), (xa.1, za.1))
+        let images = images_before(gate);
+        let (x, z) = images.first_other;
+        let kept = is_kept(images.first_own) && is_kept(images.second_own);
+        if kept && is_lost(images.second_other, x) && is_lost(images.second_other, z) {
+            self.multiply(a, b, images.first_other, images.second_other)
+        } else if is_left(images.first_own) && is_left(images.second_own) {
+            self.exchange(a, b, images.first_other, images.second_other)
         } else {
             self.undo_by_images(gate, a, b)
         }

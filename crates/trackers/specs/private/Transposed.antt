@@ -99,6 +99,11 @@ exchanged_columns a b to_first to_second columns =
     slice_set (slice_set columns a (map (combined to_first.0 to_first.1) (slice_index_or columns b []))) b
     (map (combined to_second.0 to_second.1) (slice_index_or columns a []))
 
+-- two rows as long as another
+pub record AreAsLong (row made spare : List Bool) : Type 0 where
+  pub made_long : length made ≡ length row
+  pub spare_long : length spare ≡ length row
+
 -- two places below n that differ
 pub record ArePlaces (n a b : ℕ) : Type 0 where
   pub first : a < n

@@ -10,8 +10,8 @@ pub returns-in_err-end-2-clause-kept : goal.returns-in_err-end-2-clause-kept
 returns-in_err-end-2-clause-kept g c =
     let at = c.args.at in
     let number = c.put-end.result in
-    let first = before_kept number c.in_ok-end.end c.put.new.buffer c.put-end.new.buffer _ c.in_ok-end.ensures.from (omega (arith, c.put-end.auto.buffer, c.put-end.ensures.within, c.requires.room)) c.in_ok-end.ensures.written in
-    λ none. ap (take at) (c.in_err-end-2.ensures.kept refl)
+    let first = before_kept number c.in_ok-end.end c.put.new.buffer c.put-end.new.buffer _ c.in_ok-end.ensures.from (omega (arith, c.put-end.auto.buffer, c.put-end.ensures.within, c.requires.room)) c.in_ok-end.ensures.put.written in
+    λ none. ap (take at) (c.in_err-end-2.ensures.put.kept refl)
     ∙ before_kept at number c.put.new.buffer c.args.buffer.now (decimal c.args.fault.number) c.put-end.ensures.from (omega (arith, c.requires.room)) (first ∙ c.put-end.ensures.written)
 
 pub returns-clause-written : goal.returns-clause-written
@@ -21,4 +21,4 @@ returns-clause-written g c =
     let before = take c.args.at c.args.buffer.now in
     let effect = effect_text program.qubits (effect_at program number) in
     let text = text_told c.args.program.now c.args.texts.now.probability c.args.fault.entry c.requires.texts c.requires.fault.entry in
-    line_put before (decimal number) effect c.put-end.ensures.written c.in_ok-end.ensures.written c.in_ok-end-2.ensures.written c.put_byte.ensures.written (text ∙ c.requires.fault.text)
+    line_put before (decimal number) effect c.put-end.ensures.written c.in_ok-end.ensures.put.written c.in_ok-end-2.ensures.put.written c.put_byte.ensures.written (text ∙ c.requires.fault.text)

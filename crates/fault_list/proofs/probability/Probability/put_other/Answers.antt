@@ -1,5 +1,5 @@
 -- The text is put into its bytes between two spaces, and these go into the buffer.
-use Rattle.std.proofs.Common.{◌<◌, ◌++◌, length, take, sym, ap, ◌∙◌, arith}
+use Rattle.std.proofs.Common.{◌<◌, ◌++◌, length, take, sym, ap, ◌∙◌, arith, rules}
 use Rattle.step_model.specs.Chances.{Chance, chance_at}
 use Rattle.step_model.proofs.ChanceLaws.{chance_at-get_or}
 use Rattle.programs.specs.declared.entries.ChanceTable.{ChanceTable}
@@ -17,13 +17,18 @@ invariant_of-self c =
           (ap (λ (chance : Chance). chance.text) (sym (chance_at-get_or parts c.args.part _ there)));
     }
 
-pub returns-clause-written : goal.returns-clause-written
-returns-clause-written c =
+pub returns-clause-put : goal.returns-clause-put
+returns-clause-put c =
     let before = take c.args.at c.args.buffer.now in
     let parts = c.self.inside.table.parts.now in
     let there : c.args.part < length parts = rw (c.self.view_is) c.requires.part in
     let put = between_spaces c.put_byte-end.ensures.written c.put_text-end.ensures.written c.put_byte-self-inside.ensures.written
     (ap (λ (chance : Chance). chance.text) (sym (chance_at-get_or parts c.args.part _ there))) in
-    c.put_first.ensures.written
-    ∙ (ap (λ l. before ++ l) put
-    ∙ ap (λ (table : ChanceTable). before ++ probability_text (chance_at table.parts.now c.args.part).text) c.self.view_is)
+    record {
+      within = search rules;
+      written =
+          c.put_first.ensures.written
+          ∙ (ap (λ l. before ++ l) put
+          ∙ ap (λ (table : ChanceTable). before ++ probability_text (chance_at table.parts.now c.args.part).text) c.self.view_is);
+      kept = λ none. cc;
+    }

@@ -14,15 +14,11 @@ toggle_where-requires-clause-targets g c =
     let here = rows_long (bits c.self.inside.x) (bits c.self.inside.z) c.args.self.now c.self.invariant c.self.view_is in
     subst (λ n. All (λ t. t < n) c.args.targets.now) here c.requires.targets
 
-pub toggle_where-requires-clause-made : goal.toggle_where-requires-clause-made
-toggle_where-requires-clause-made g c =
+pub toggle_where-requires-clause-long : goal.toggle_where-requires-clause-long
+toggle_where-requires-clause-long g c =
     let bits = g.S.TargetSet.bits in
-    c.requires.set ∙ rows_long (bits c.self.inside.x) (bits c.self.inside.z) c.args.self.now c.self.invariant c.self.view_is
-
-pub toggle_where-requires-clause-spare : goal.toggle_where-requires-clause-spare
-toggle_where-requires-clause-spare g c =
-    let bits = g.S.TargetSet.bits in
-    c.requires.spare ∙ rows_long (bits c.self.inside.x) (bits c.self.inside.z) c.args.self.now c.self.invariant c.self.view_is
+    let here = rows_long (bits c.self.inside.x) (bits c.self.inside.z) c.args.self.now c.self.invariant c.self.view_is in
+    record { made_long = c.requires.set ∙ here; spare_long = c.requires.spare ∙ here }
 
 pub returns-in_err-toggle_where-clause-len : goal.returns-in_err-toggle_where-clause-len
 returns-in_err-toggle_where-clause-len g c =
@@ -34,17 +30,14 @@ toggle_where-requires-2-clause-targets g c =
     let here = rows_long (bits c.self.inside.x) (bits c.self.inside.z) c.args.self.now c.self.invariant c.self.view_is in
     subst (λ n. All (λ t. t < n) c.args.targets.now) (here ∙ c.self.invariant) c.requires.targets
 
-pub toggle_where-requires-2-clause-made : goal.toggle_where-requires-2-clause-made
-toggle_where-requires-2-clause-made g c =
+pub toggle_where-requires-2-clause-long : goal.toggle_where-requires-2-clause-long
+toggle_where-requires-2-clause-long g c =
     let bits = g.S.TargetSet.bits in
     let here = rows_long (bits c.self.inside.x) (bits c.self.inside.z) c.args.self.now c.self.invariant c.self.view_is in
-    c.toggle_where.ensures.made ∙ (c.requires.set ∙ (here ∙ c.self.invariant))
-
-pub toggle_where-requires-2-clause-spare : goal.toggle_where-requires-2-clause-spare
-toggle_where-requires-2-clause-spare g c =
-    let bits = g.S.TargetSet.bits in
-    let here = rows_long (bits c.self.inside.x) (bits c.self.inside.z) c.args.self.now c.self.invariant c.self.view_is in
-    c.toggle_where.ensures.spare ∙ (c.requires.spare ∙ (here ∙ c.self.invariant))
+    record {
+      made_long = c.toggle_where.ensures.made ∙ (c.requires.set ∙ (here ∙ c.self.invariant));
+      spare_long = c.toggle_where.ensures.spare ∙ (c.requires.spare ∙ (here ∙ c.self.invariant));
+    }
 
 pub returns-clause-len : goal.returns-clause-len
 returns-clause-len g c =

@@ -1,36 +1,29 @@
-use Rattle.std.proofs.Common.{◌≡◌, ◌<◌, ◌∷◌, [], length, get_or, ap, ap₂, sym, ◌∙◌, arith}
+use Rattle.std.proofs.Common.{◌≡◌, ◌∷◌, [], length, get_or, ap, ap₂, sym, ◌∙◌, arith}
 use Rattle.std.specs.Prelude.{map}
 use Rattle.std.specs.List.{range_with_len}
 use Rattle.std.proofs.lemmas.Result.{on_ok_weaker}
-use Rattle.std.proofs.lemmas.List.{get_or_default}
-use Rattle.std.proofs.lemmas.List.Elements.{All-get_or}
-use Rattle.pauli_word.specs.declared.letter.Letter.TheVariants.{I}
 use Rattle.pauli_word.specs.Letters.{letters_clash}
 use Rattle.pauli_word.specs.Words.{anticommute}
-use Rattle.step_model.specs.declared.step.Term.{Term}
 use Rattle.step_model.specs.Listing.{word_of_terms}
 use Rattle.trackers.specs.Tracked.{anticommuting}
 use Rattle.trackers.specs.private.Transposed.{word_at}
-use Rattle.trackers.proofs.LoneTerms.{lone_clash, lone_term}
+use Rattle.trackers.proofs.LoneTerms.{lone_clash}
+use Rattle.trackers.proofs.SetLemmas.{only_one}
 use Rattle.trackers.proofs.TransposedLemmas.{ones_are_hit}
-use Rattle.trackers.proofs.LengthLemmas.{lent_long}
+use Rattle.trackers.proofs.LengthLemmas.{lent, lent_long}
+use Rattle.trackers.proofs.WordLemmas.{no_term, term_below}
 use Rattle.trackers.proofs.words.Words.list_hit.Goals as goal
 
 pub index-requires : goal.index-requires
 index-requires g c =
-    let d : Term = record { qubit = 0; letter = I } in
-    let below = All-get_or (λ term. term.qubit < c.args.self.now.qubits) c.args.terms.now 0 d (omega (arith, c.in-len1.len_at_least)) c.requires in
+    let below = term_below c.args.terms.now _ 0 c.requires (omega (arith, c.in-len1.len_at_least)) in
     omega (arith, below, ap (λ t. t.qubits) c.self.view_is)
 
 pub list_both-requires-clause-first_in_range : goal.list_both-requires-clause-first_in_range
-list_both-requires-clause-first_in_range g c =
-    let d : Term = record { qubit = 0; letter = I } in
-    All-get_or (λ term. term.qubit < c.args.self.now.qubits) c.args.terms.now 0 d (omega (arith, c.in-len2.len_at_least)) c.requires
+list_both-requires-clause-first_in_range g c = term_below c.args.terms.now _ 0 c.requires (omega (arith, c.in-len2.len_at_least))
 
 pub list_both-requires-clause-second_in_range : goal.list_both-requires-clause-second_in_range
-list_both-requires-clause-second_in_range g c =
-    let d : Term = record { qubit = 0; letter = I } in
-    All-get_or (λ term. term.qubit < c.args.self.now.qubits) c.args.terms.now 1 d (omega (arith, c.in-len2.len_at_least)) c.requires
+list_both-requires-clause-second_in_range g c = term_below c.args.terms.now _ 1 c.requires (omega (arith, c.in-len2.len_at_least))
 
 pub clashing-requires-clause-terms : goal.clashing-requires-clause-terms
 clashing-requires-clause-terms g c = λ k d lt. let below = c.requires k d lt in omega (arith, below, ap length c.as_slice.ensures.value, ap (λ t. t.qubits) c.self.view_is)
@@ -48,14 +41,12 @@ returns-in-Some-clause-hit g c =
     let columns = c.self.inside.columns.items in
     let terms = c.args.terms.now in
     let row = g.S.TargetSet.bits c.in-Some.set.now in
-    let d : Term = record { qubit = 0; letter = I } in
-    let term = get_or terms 0 d in
-    let one : terms ≡ term ∷ [] = lone_term terms d (omega (arith, c.in-len1.len_at_least, c.in-len1.len_below)) in
-    let below = All-get_or (λ term. term.qubit < c.args.self.now.qubits) terms 0 d (omega (arith, c.in-len1.len_at_least)) c.requires in
-    let fits : term.qubit < length columns = omega (arith, below, ap (λ t. t.qubits) c.self.view_is) in
-    let column : c.index.result.now ≡ get_or columns term.qubit [] = c.index.ensures ∙ get_or_default columns term.qubit _ [] fits in
+    let term = get_or terms 0 no_term in
+    let one : terms ≡ term ∷ [] = only_one terms no_term (omega (arith, c.in-len1.len_at_least, c.in-len1.len_below)) in
+    let below = term_below terms _ 0 c.requires (omega (arith, c.in-len1.len_at_least)) in
+    let at = lent term.qubit _ _ c.self.invariant c.self.view_is below c.index.ensures in
     let set =
-    lone_clash m columns term row (c.self.invariant.columns_long term.qubit [] fits) fits (c.in-Some.ensures ∙ ap (map (letters_clash term.letter)) column)
+    lone_clash m columns term row at.there at.within (c.in-Some.ensures ∙ ap (map (letters_clash term.letter)) at.is)
     ∙ ap (λ ts. map (λ t. anticommute (word_at columns t) (word_of_terms (length columns) ts)) (range_with_len 0 m)) (sym one) in
     on_ok_weaker c.list.result
     (λ h. h ∙ (ones_are_hit m columns terms row set ∙ ap (anticommuting terms) c.self.view_is))

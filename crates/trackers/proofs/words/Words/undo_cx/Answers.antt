@@ -1,10 +1,11 @@
-use Rattle.std.proofs.Common.{false, refl, ◌∙◌}
+use Rattle.std.proofs.Common.{refl, ◌∙◌}
 use Rattle.std.proofs.lemmas.Result.{on_ok_weaker}
 use Rattle.gate_table.specs.declared.gate.Gate.TheVariants.{CX}
 use Rattle.pauli_word.specs.declared.letter.Letter.TheVariants.{I, X, Z}
 use Rattle.trackers.specs.Tracked.{undone_two}
+use Rattle.trackers.specs.declared.images.PairImages.{PairImages}
+use Rattle.trackers.specs.private.PairImages.{AreBefore}
 use Rattle.trackers.specs.private.Transposed.{multiplied_at}
-use Rattle.trackers.proofs.GateLemmas.{images_of}
 use Rattle.trackers.proofs.MultiplyLemmas.{undone-multiplied, each_word-same}
 use Rattle.trackers.proofs.words.Words.undo_cx.Goals as goal
 
@@ -12,8 +13,10 @@ pub returns : goal.returns
 returns g c =
     let a = c.args.a in
     let b = c.args.b in
+    let images : PairImages = record { first_own = (X, Z); first_other = (I, Z); second_own = (X, Z); second_other = (X, I) } in
+    let are : AreBefore CX images = record { first_own = refl; first_other = refl; second_own = refl; second_other = refl } in
     on_ok_weaker c.multiply.result
     (λ h. h
     ∙ each_word-same (multiplied_at a b (I, Z) (X, I)) (undone_two CX a b) c.args.self.now
-    (λ w. undone-multiplied CX a b (X, X, false) (Z, I, false) (I, X, false) (Z, Z, false) w (images_of CX CX (X, X, false) (Z, I, false) (I, X, false) (Z, Z, false) refl refl refl refl refl) (refl, refl) (refl, refl)))
+    (λ w. undone-multiplied CX a b images w are (refl, refl) (refl, refl)))
     c.multiply.ensures
