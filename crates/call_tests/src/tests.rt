@@ -21,7 +21,7 @@ mod words;
 
 use pauli_word::{Letter, Word};
 use programs::Program;
-use programs::by_hand::{Lists, Piece, program_of};
+use hand_programs::{Lists, Piece, program_of};
 use std::alloc::{AllocError, Global};
 use std::process::Abort;
 

@@ -15,7 +15,6 @@ use std::marker::Model;
 
 /// The lines of an error model's text, with what is worked out once of each, however often it is reached. Instructions stay
 /// in the text and are read again where they are needed.
-#[derive(Drop)]
 pub(crate) struct KeptLines<'a, A: Allocator + Copy> {
     text: &'a [u8],
     entries: Vec<Entry, A>,
@@ -35,6 +34,21 @@ impl<'a, A: Allocator + Copy> Model for KeptLines<'a, A> {
     ghost view = { λ k. record { text = k.text.now; items = map (item_of k.text.now k.rares.items) k.entries.items } };
 
     ghost invariant = { λ k. AreKept k.text.now k.entries.items k.rares.items k.numbers };
+}
+
+// Written out, so that it is a call in the proof of each function that owns one.
+impl<A: Allocator + Copy> Drop for KeptLines<'_, A> {
+    fn drop(self) {
+        let KeptLines {
+            text: _,
+            entries,
+            rares,
+            numbers,
+        } = self;
+        drop(entries);
+        drop(rares);
+        drop(numbers);
+    }
 }
 
 /// A rare line of a text that states these numbers, where it is an instruction.

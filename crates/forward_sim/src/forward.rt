@@ -46,5 +46,5 @@ fn take_steps<A: Allocator + Copy>(
     while let Some(step) = walk.next_step() {
         take_step(&mut machine, program, faults, step);
     }
-    Ok(machine.into_records())
+    Ok(machine.take_records(alloc))
 }

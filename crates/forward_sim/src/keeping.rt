@@ -50,8 +50,7 @@ fn run_and_keep<A: Allocator + Copy>(
         (start (zero_coins program.now.listing)) kept.new.replaced) }
 {
     let mut walk = WalkingRun::start(alloc, program)?;
-    follow_steps(&mut walk, program, kept)?;
-    Ok(walk.into_records())
+    follow_steps(alloc, &mut walk, program, kept)
 }
 
 // These records, and what says the replaced words: those kept, where there was room for all of them.
@@ -74,19 +73,20 @@ fn with_words<A: Allocator + Copy>(
     Ok((records, ReplacedWords::Walked(walk)))
 }
 
-// Takes all steps of the program from the start.
+// Takes all steps of the program from the start, and answers the records.
 fn follow_steps<A: Allocator + Copy>(
+    alloc: A,
     walk: &mut WalkingRun<A>,
     program: &Program<'_, A>,
     kept: &mut KeptWords<A>,
-) -> Result<(), AllocError>
+) -> Result<Records<A>, AllocError>
     requires qubits { walking_qubits walk.old ≡ program.now.listing.qubits }
     requires room { walk.old.room ≡ program.now.listing.records }
     requires starts { IsSameRun program.now.listing.qubits (walking_run walk.old) (start []) }
     requires empty { kept.old.replaced ≡ [] }
-    ensures records { OnOk result
-        (walk.new.records ≡ records_of program.now.listing [] (zero_coins program.now.listing)) }
-    ensures count { OnOk result (length walk.new.records ≡ program.now.listing.records) }
+    ensures records { IfOk result (λ records. records
+        ≡ records_of program.now.listing [] (zero_coins program.now.listing)) }
+    ensures count { IfOk result (λ records. length records ≡ program.now.listing.records) }
     ensures kept { OnOk result
         (kept.new.whole ≡ true
         → AreEntries program.now.listing program.now.listing.steps
@@ -97,7 +97,7 @@ fn follow_steps<A: Allocator + Copy>(
     while let Some(step) = steps.next_step() {
         keep_step(walk, program, kept, step)?;
     }
-    Ok(())
+    Ok(walk.take_records(alloc))
 }
 
 // Takes a step, and keeps the word that it replaced if it is a collapse. Where there is no room for the words any more, it

@@ -10,7 +10,6 @@ use std::marker::Model;
 
 /// For each collapse the word that it replaced, while there is room for all of them. A word that comes again soon is kept
 /// once.
-#[derive(Drop)]
 pub(crate) struct KeptWords<A: Allocator + Copy> {
     alloc: A,
     // as lists of numbers, of which an empty one stands for no word
@@ -31,6 +30,21 @@ impl<A: Allocator + Copy> Model for KeptWords<A> {
     ghost view = { λ kept. record { whole = kept.whole; replaced = map (entry_with kept.words) kept.numbers.items } };
 
     ghost invariant = { λ kept. All (λ number. number < length kept.words) kept.numbers.items };
+}
+
+// Written out, so that it is a call in the proof of each function that owns one.
+impl<A: Allocator + Copy> Drop for KeptWords<A> {
+    fn drop(self) {
+        let KeptWords {
+            alloc: _,
+            words,
+            numbers,
+            room: _,
+            whole: _,
+        } = self;
+        drop(words);
+        drop(numbers);
+    }
 }
 
 impl<A: Allocator + Copy> KeptWords<A> {

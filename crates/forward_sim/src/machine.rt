@@ -15,11 +15,11 @@ use gate_table::Gate;
 use pauli_word::{Letter, Word};
 use std::alloc::{AllocError, Allocator};
 use std::marker::Model;
+use std::mem;
 use step_model::Term;
 use tableau::Tableau;
 
 /// What a run holds between two steps. All of its memory is taken before the first step.
-#[derive(Drop)]
 pub(crate) struct Machine<'c, A: Allocator + Copy> {
     pub(crate) tableau: Tableau<A>,
     // a spare word, for products that are measured
@@ -39,6 +39,21 @@ impl<'c, A: Allocator + Copy> Model for Machine<'c, A> {
     ghost view = { λ m. record { rows = m.tableau; coins = m.coins.now; records = m.records.items; room = vec_capacity m.records } };
 
     ghost invariant = { λ m. length m.word.letters ≡ row_count m.tableau };
+}
+
+// Written out, so that it is a call in the proof of each function that owns one.
+impl<A: Allocator + Copy> Drop for Machine<'_, A> {
+    fn drop(self) {
+        let Machine {
+            tableau,
+            word,
+            coins: _,
+            records,
+        } = self;
+        drop(tableau);
+        drop(word);
+        drop(records);
+    }
 }
 
 impl<'c, A: Allocator + Copy> Machine<'c, A> {
@@ -74,11 +89,12 @@ impl<'c, A: Allocator + Copy> Machine<'c, A> {
         self.records.clear();
     }
 
-    /// The records made.
-    pub(crate) fn into_records(self) -> Records<A>
-        ensures { result ≡ self.entry.records }
+    /// Takes the records made out of it. No more can be made.
+    pub(crate) fn take_records(&mut self, alloc: A) -> Records<A>
+        ensures records { result ≡ self.old.records }
+        ensures qubits { qubit_count self.new ≡ qubit_count self.old }
     {
-        Records::new(self.records)
+        Records::new(mem::replace(&mut self.records, Vec::new(alloc)))
     }
 
     /// Takes the coin of the next collapse: 0 where none is left.

@@ -26,7 +26,6 @@ const MOST_BYTES: usize = 1 << 27;
 ///
 /// The words are kept where they take at most 128 MB, beside four bytes for each record; one that comes again soon counts
 /// once. Where they take more, only the records are kept, and a tableau goes over the steps anew with each batch of runs.
-#[derive(Drop)]
 pub struct Reference<A: Allocator + Copy> {
     records: Records<A>,
     words: ReplacedWords<A>,
@@ -39,6 +38,15 @@ impl<A: Allocator + Copy> Model for Reference<A> {
     ghost Value = { ReferenceRun };
 
     ghost view = { λ reference. record { records = reference.records; words = words_of reference.words } };
+}
+
+// Written out, so that it is a call in the proof of each function that owns one.
+impl<A: Allocator + Copy> Drop for Reference<A> {
+    fn drop(self) {
+        let Reference { records, words } = self;
+        drop(records);
+        drop(words);
+    }
 }
 
 impl<A: Allocator + Copy> Reference<A> {

@@ -18,7 +18,6 @@ use std::marker::Model;
 
 /// A run in which no fault happens and all coins are 0. It goes over the steps one by one, and says of each collapse which
 /// word it replaced. Only its start allocates.
-#[derive(Drop)]
 pub(crate) struct WalkingRun<A: Allocator + Copy> {
     machine: Machine<'static, A>,
     // the word that the last collapse replaced
@@ -35,6 +34,15 @@ impl<A: Allocator + Copy> Model for WalkingRun<A> {
     ghost view = { λ w. record { rows = w.machine.rows; coins = w.machine.coins; records = w.machine.records; room = w.machine.room; terms = w.word.terms } };
 
     ghost invariant = { λ w. qubit_count w.machine ≤ w.word.room };
+}
+
+// Written out, so that it is a call in the proof of each function that owns one.
+impl<A: Allocator + Copy> Drop for WalkingRun<A> {
+    fn drop(self) {
+        let WalkingRun { machine, word } = self;
+        drop(machine);
+        drop(word);
+    }
 }
 
 impl<A: Allocator + Copy> WalkingRun<A> {
@@ -101,10 +109,10 @@ impl<A: Allocator + Copy> WalkingRun<A> {
         self.word.list()
     }
 
-    /// The records made.
-    pub(crate) fn into_records(self) -> Records<A>
-        ensures { result ≡ self.records }
+    /// Takes the records made out of it. No more can be made.
+    pub(crate) fn take_records(&mut self, alloc: A) -> Records<A>
+        ensures { result ≡ self.old.records }
     {
-        self.machine.into_records()
+        self.machine.take_records(alloc)
     }
 }

@@ -12,7 +12,6 @@ const SLOTS: usize = 16384;
 const TELLING: usize = 16;
 
 /// Words as lists of numbers, each by the number of its own. A list that comes again soon is found.
-#[derive(Drop)]
 pub(crate) struct WordTable<A: Allocator + Copy> {
     words: FlatLists<u16, A>,
     // for each slot the number of the last word in it, if it has any
@@ -28,6 +27,15 @@ impl<A: Allocator + Copy> Model for WordTable<A> {
     ghost view = { λ table. table.words };
 
     ghost invariant = { λ table. length table.latest.items ≡ SLOTS };
+}
+
+// Written out, so that it is a call in the proof of each function that owns one.
+impl<A: Allocator + Copy> Drop for WordTable<A> {
+    fn drop(self) {
+        let WordTable { words, latest } = self;
+        drop(words);
+        drop(latest);
+    }
 }
 
 impl<A: Allocator + Copy> WordTable<A> {

@@ -16,7 +16,6 @@ use step_model::Fault;
 /// 64 runs (shots) of a program side by side, each with its own faults and coins: bit j of a word belongs to run j, the
 /// lowest bit to run 0. Each run is followed by its Pauli frame beside a reference run, whose records are made once. (A
 /// collapse is the projective measurement inside a measurement or a reset; its coin is the outcome where that is random.)
-#[derive(Drop)]
 pub struct Batch<A: Allocator + Copy> {
     reference: Reference<A>,
     frames: Frames<A>,
@@ -30,6 +29,15 @@ impl<A: Allocator + Copy> Model for Batch<A> {
     ghost Value = { Followed };
 
     ghost view = { λ b. record { reference = b.reference; flips = b.frames.flips; qubits = length b.frames.letters; room = b.frames.room } };
+}
+
+// Written out, so that it is a call in the proof of each function that owns one.
+impl<A: Allocator + Copy> Drop for Batch<A> {
+    fn drop(self) {
+        let Batch { reference, frames } = self;
+        drop(reference);
+        drop(frames);
+    }
 }
 
 impl<A: Allocator + Copy> Batch<A> {

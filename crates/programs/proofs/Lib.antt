@@ -1,7 +1,6 @@
 pub mod BuilderCloses
 pub mod BuilderLaws
 pub mod Building
-pub mod ByHandLaws
 pub mod Ends
 pub mod EntryLaws
 pub mod Indices
@@ -18,7 +17,6 @@ pub mod Places
 pub mod ProductWords
 pub mod Reading
 pub mod WalkSteps
-pub mod WrittenLists
 pub mod FoundLaws
 pub mod FaultOrders
 pub mod Walking

@@ -15,7 +15,7 @@ use Rattle.step_model.specs.declared.step.Term.{Term}
 use Rattle.step_model.specs.Listing.{word_of_terms, is_I}
 use Rattle.step_model.specs.WellFormed.{TermsFit, ProductFits}
 use Rattle.step_model.proofs.StepNumbers.{length-word_of_terms}
-use Rattle.programs.specs.ByHand.{BeginsApart}
+use Rattle.programs.specs.Apart.{BeginsApart}
 
 -- a list that has a letter other than I somewhere
 some_set : (w : List Letter) (q : ℕ) (a : Letter) → q < length w → is_I a ≡ false → list_any (λ b. not (is_I b)) (set w q a) ≡ true

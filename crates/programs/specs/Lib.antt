@@ -1,5 +1,5 @@
+pub mod Apart
 pub mod Builders
-pub mod ByHand
 pub mod Entries
 pub mod Fits
 pub mod Listed

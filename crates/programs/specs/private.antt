@@ -1,5 +1,4 @@
 pub mod Held
 pub mod KeptNodes
-pub mod KeptLists
 pub mod Moves
 pub mod WalkStates

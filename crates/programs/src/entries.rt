@@ -17,7 +17,6 @@ pub struct ChanceTable<'t, 'a> {
 
 /// What is kept of faults, which may share it: a probability's text with its bound, and letters at qubits. A circuit has few
 /// different probabilities, so an entry keeps the number of its text and bound.
-#[derive(Drop)]
 pub struct Entries<'a, A: Allocator + Copy> {
     parts: Vec<ChanceText<'a>, A>,
     numbers: Vec<usize, A>,
@@ -34,6 +33,20 @@ impl<'a, A: Allocator + Copy> Model for Entries<'a, A> {
     ghost view = { λ e. entries_of e.parts.items e.numbers.items e.terms };
 
     ghost invariant = { λ e. IsNumbered e.parts.items e.numbers.items e.terms };
+}
+
+// Written out, so that it is a call in the proof of each function that owns one.
+impl<A: Allocator + Copy> Drop for Entries<'_, A> {
+    fn drop(self) {
+        let Entries {
+            parts,
+            numbers,
+            terms,
+        } = self;
+        drop(parts);
+        drop(numbers);
+        drop(terms);
+    }
 }
 
 impl<'a, A: Allocator + Copy> Entries<'a, A> {

@@ -2,7 +2,6 @@
 #![tactic(auto)]
 
 mod builder;
-pub mod by_hand;
 mod entries;
 mod entry_builder;
 mod fault_walk;
@@ -20,6 +19,7 @@ pub use entry_builder::EntryBuilder;
 pub use fault_walk::{FoundFault, next_fault};
 pub use node::Node;
 pub use nodes::Nodes;
+pub use place::{LEVELS, Place, next};
 pub use program::{Parts, Program, Text};
-pub use step::{Counts, FaultName, Recording, Step, TextStep};
+pub use step::{Counts, FaultName, Recording, Step, TextStep, after};
 pub use walk::Walk;

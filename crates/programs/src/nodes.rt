@@ -11,7 +11,6 @@ use std::marker::Model;
 
 /// The nodes of a circuit. Most circuits have few blocks, so their turns and lengths stand apart. A block that is still
 /// open has no turns and no nodes here.
-#[derive(Drop)]
 pub struct Nodes<A: Allocator + Copy> {
     kept: Vec<KeptNode, A>,
     sizes: Vec<BlockSize, A>,
@@ -29,9 +28,18 @@ impl<A: Allocator + Copy> Model for Nodes<A> {
     ghost invariant = { λ n. All (NamesBlockBelow (length n.sizes.items)) n.kept.items };
 }
 
+// Written out, so that it is a call in the proof of each function that owns one.
+impl<A: Allocator + Copy> Drop for Nodes<A> {
+    fn drop(self) {
+        let Nodes { kept, sizes } = self;
+        drop(kept);
+        drop(sizes);
+    }
+}
+
 impl<A: Allocator + Copy> Nodes<A> {
     /// No nodes. Allocates nothing.
-    pub(crate) fn new(alloc: A) -> Self
+    pub fn new(alloc: A) -> Self
         ensures { result ≡ [] }
     {
         Nodes {

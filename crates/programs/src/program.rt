@@ -20,7 +20,6 @@ use step_model::Term;
 /// What a program is made of: its circuit with its blocks, how many steps that has once unrolled, how many records,
 /// collapses and faults these make, its detectors and observables, and what is kept of its faults and of the Pauli
 /// products that it measures.
-#[derive(Drop)]
 pub struct Parts<'a, A: Allocator + Copy> {
     pub qubits: u32,
     pub steps: usize,
@@ -33,6 +32,29 @@ pub struct Parts<'a, A: Allocator + Copy> {
     pub products: FlatLists<Term, A>,
 }
 
+// Written out, so that it is a call in the proof of each function that owns one.
+impl<A: Allocator + Copy> Drop for Parts<'_, A> {
+    fn drop(self) {
+        let Parts {
+            qubits: _,
+            steps: _,
+            counts: _,
+            nodes,
+            detectors,
+            observables,
+            coordinates,
+            entries,
+            products,
+        } = self;
+        drop(nodes);
+        drop(detectors);
+        drop(observables);
+        drop(coordinates);
+        drop(entries);
+        drop(products);
+    }
+}
+
 /// A circuit with its blocks, how many steps it has once unrolled, and how many records, collapses and faults they make.
 #[derive(Clone, Copy, Drop)]
 pub struct Text<'a, A: Allocator + Copy> {
@@ -43,7 +65,6 @@ pub struct Text<'a, A: Allocator + Copy> {
 
 /// A circuit that is kept with its blocks. Contracts see it as the list of its unrolled steps. A collapse is the
 /// projective measurement inside a measurement or a reset.
-#[derive(Drop)]
 pub struct Program<'a, A: Allocator + Copy> {
     parts: Parts<'a, A>,
 }
@@ -58,6 +79,14 @@ impl<'a, A: Allocator + Copy> Model for Program<'a, A> {
     ghost view = { λ p. kept_program p.parts };
 
     ghost invariant = { λ p. PartsFit p.parts };
+}
+
+// Written out, so that it is a call in the proof of each function that owns one.
+impl<A: Allocator + Copy> Drop for Program<'_, A> {
+    fn drop(self) {
+        let Program { parts } = self;
+        drop(parts);
+    }
 }
 
 impl<'a, A: Allocator + Copy> Program<'a, A> {

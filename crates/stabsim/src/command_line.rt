@@ -9,19 +9,30 @@ use std::alloc::{AllocError, Global};
 
 /// The subcommand and options that these words name, the first being the program's own name.
 pub(crate) fn read_words<'a>(alloc: Global, words: &'a [String]) -> Result<ArgMatches<'a>, Error> {
-    Command::new(alloc, "stabsim")
+    whole_command(alloc)?.try_get_matches_from(words)
+}
+
+fn whole_command<'a>(alloc: Global) -> Result<Command<'a>, AllocError> {
+    let command = Command::new(alloc, "stabsim")
         .about(
             "Simulates stabilizer circuits in Stim's format, and writes their detector error models",
         )
         .after_help(ABOUT_ENDS)
-        .subcommand_required(true)
-        .subcommand(run_command(alloc)?)?
-        .subcommand(sample_command(alloc)?)?
-        .subcommand(detect_command(alloc)?)?
-        .subcommand(analyze_command(alloc))?
-        .subcommand(faults_command(alloc))?
-        .subcommand(predict_command(alloc)?)?
-        .try_get_matches_from(words)
+        .subcommand_required(true);
+    let command = with_part(command, run_command(alloc))?;
+    let command = with_part(command, sample_command(alloc))?;
+    let command = with_part(command, detect_command(alloc))?;
+    let command = with_part(command, Ok(analyze_command(alloc)))?;
+    let command = with_part(command, Ok(faults_command(alloc)))?;
+    with_part(command, predict_command(alloc))
+}
+
+/// The command with this subcommand, where there was memory for that.
+fn with_part<'a>(
+    command: Command<'a>,
+    part: Result<Command<'a>, AllocError>,
+) -> Result<Command<'a>, AllocError> {
+    command.subcommand(part?)
 }
 
 fn run_command<'a>(alloc: Global) -> Result<Command<'a>, AllocError> {
@@ -119,17 +130,15 @@ fn option<'a>(alloc: Global, name: &'a str, help: &'a str) -> Arg<'a> {
 pub(crate) fn order_of<'a>(matches: &ArgMatches<'a>) -> Option<Order<'a>> {
     match matches.subcommand() {
         Some(("run", given)) => Some(Order::Run {
-            coins: given.get_str("coins").map(|text| text.as_bytes()),
+            coins: coins_in(given),
             faults: list_in(given, "faults"),
         }),
         Some(("sample", given)) => {
-            let shots = number_in(given.get_str("shots")?)?;
-            let seed = number_in(given.get_str("seed").unwrap_or("0"))?;
+            let (shots, seed) = draws_in(given)?;
             Some(Order::Sample { shots, seed })
         }
         Some(("detect", given)) => {
-            let shots = number_in(given.get_str("shots")?)?;
-            let seed = number_in(given.get_str("seed").unwrap_or("0"))?;
+            let (shots, seed) = draws_in(given)?;
             Some(Order::Detect { shots, seed })
         }
         Some(("analyze", _)) => Some(Order::Analyze),
@@ -139,6 +148,18 @@ pub(crate) fn order_of<'a>(matches: &ArgMatches<'a>) -> Option<Order<'a>> {
         }),
         _ => None,
     }
+}
+
+/// The coins that are given.
+fn coins_in<'a>(given: &ArgMatches<'a>) -> Option<&'a [u8]> {
+    given.get_str("coins").map(|text| text.as_bytes())
+}
+
+/// How many shots are asked for, and the seed.
+fn draws_in(given: &ArgMatches<'_>) -> Option<(u64, u64)> {
+    let shots = number_in(given.get_str("shots")?)?;
+    let seed = number_in(given.get_str("seed").unwrap_or("0"))?;
+    Some((shots, seed))
 }
 
 /// The list of numbers that an option gives, empty where it isn't given.

@@ -5,7 +5,7 @@ use Rattle.std.specs.Prelude.{All}
 use Rattle.std.specs.List.{list_all, list_any, onto_first}
 use Rattle.std.proofs.lemmas.Bool.{and_from, and_parts, eqb-false, not-true, or_left, or_parts, not_from_false}
 use Rattle.std.proofs.lemmas.List.Elements.{All-cons, All-head, All-nil, All-tail}
-use Rattle.programs.specs.ByHand.{BeginsApart}
+use Rattle.programs.specs.Apart.{BeginsApart}
 use Rattle.step_model.specs.declared.step.Term.{Term}
 use Rattle.step_model.specs.Listing.{is_I}
 use Rattle.stim_parser.specs.declared.target.Target.{Target}

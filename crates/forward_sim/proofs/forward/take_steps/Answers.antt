@@ -60,9 +60,9 @@ all_records g c =
     (nothing_left c.args.program.now c.loop-step.walk c.loop-step.invariant.program c.in_default.ensures.step) c.loop-step.invariant.rest
 
 pub returns-clause-ok : goal.returns-clause-ok
-returns-clause-ok g c = c.into_records.ensures ∙ all_records g (goal.at.returns-clause-ok g c).In_default
+returns-clause-ok g c = c.take_records.ensures.records ∙ all_records g (goal.at.returns-clause-ok g c).In_default
 
 pub returns-clause-count : goal.returns-clause-count
 returns-clause-count g c =
-    ap length (c.into_records.ensures ∙ all_records g (goal.at.returns-clause-count g c).In_default)
+    ap length (c.take_records.ensures.records ∙ all_records g (goal.at.returns-clause-count g c).In_default)
     ∙ length-records_of c.args.program.now.listing c.args.faults.now c.args.coins.now c.well_formed-2.ensures.listing

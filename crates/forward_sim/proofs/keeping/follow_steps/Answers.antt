@@ -67,12 +67,12 @@ all_records g c =
     reference_records c.args.program.now.listing c.loop-step.steps.place (walking_run c.loop-step.walk) (none g c) c.loop-step.invariant.rest
 
 pub returns-clause-records : goal.returns-clause-records
-returns-clause-records g c = all_records g (goal.at.returns-clause-records g c).In_default
+returns-clause-records g c = c.take_records.ensures ∙ all_records g (goal.at.returns-clause-records g c).In_default
 
 pub returns-clause-count : goal.returns-clause-count
 returns-clause-count g c =
     let program = c.args.program.now.listing in
-    ap length (all_records g (goal.at.returns-clause-count g c).In_default)
+    ap length (c.take_records.ensures ∙ all_records g (goal.at.returns-clause-count g c).In_default)
     ∙ length-records_of program [] (zero_coins program) c.well_formed-2.ensures.listing
 
 pub returns-clause-kept : goal.returns-clause-kept

@@ -1,6 +1,8 @@
-use Rattle.std.proofs.Common.{length, get_or, sym, subst, ◌∙◌}
+use Rattle.std.proofs.Common.{length, get_or, sym, ap, subst, ◌∙◌}
+use Rattle.pauli_word.specs.Words.{with_sign_changed}
 use Rattle.pauli_word.proofs.LowestLetters.{lowest-clash}
 use Rattle.tableau.specs.private.Encoding.{HasLength}
+use Rattle.tableau.specs.private.EncodingSteps.{IsPivot, collapsed_at, outcome_at}
 use Rattle.tableau.proofs.PairWords.{pair_long}
 use Rattle.tableau.proofs.RowClashes.{clashes_told}
 use Rattle.tableau.proofs.TwistRows.{turned_size}
@@ -30,3 +32,35 @@ returns-in-Some-clause-code g c =
       x = c.set_pivot.ensures.pivot.rest_size ∙ c.requires.code.x;
       z = turned_size (length c.args.code.now.0.letters) c.in-Some.qubit c.set_pivot.new.code c.set_pivot.ensures.pivot ∙ c.requires.code.x;
     }
+
+pub set_pivot-requires-clause-size : goal.set_pivot-requires-clause-size
+set_pivot-requires-clause-size g c = subst (λ m. HasLength m c.args.code.now) (sym c.requires.code.x) c.requires.code
+
+pub turn_rows-requires-clause-word : goal.turn_rows-requires-clause-word
+turn_rows-requires-clause-word g c = c.requires.word
+
+pub turn_rows-requires-clause-only : goal.turn_rows-requires-clause-only
+turn_rows-requires-clause-only g c = c.requires.only
+
+pub turn_rows-requires-clause-pivot : goal.turn_rows-requires-clause-pivot
+turn_rows-requires-clause-pivot g c =
+    subst (λ m. IsPivot m c.in-Some.qubit c.set_pivot.new.code) (sym c.set_pivot.ensures.pivot.rest_size) c.set_pivot.ensures.pivot
+
+pub returns-in-Some-clause-row : goal.returns-in-Some-clause-row
+returns-in-Some-clause-row g c = sym (sym c.lowest_x_or_y.ensures ∙ c.in-Some.is)
+
+pub returns-in-Some-clause-outcome : goal.returns-in-Some-clause-outcome
+returns-in-Some-clause-outcome g c =
+    sym (ap (λ o. outcome_at o c.args.code.now.0 c.args.coin) (sym c.lowest_x_or_y.ensures ∙ c.in-Some.is))
+
+pub returns-in-None-clause-rows : goal.returns-in-None-clause-rows
+returns-in-None-clause-rows g c =
+    let rows = c.args.rows.now.items in
+    sym (ap (λ o. collapsed_at (length rows) o (with_sign_changed c.args.coin c.args.code.now.0) rows) (sym c.lowest_x_or_y.ensures ∙ c.in-None.is))
+
+pub returns-in-None-clause-row : goal.returns-in-None-clause-row
+returns-in-None-clause-row g c = sym (sym c.lowest_x_or_y.ensures ∙ c.in-None.is)
+
+pub returns-in-None-clause-outcome : goal.returns-in-None-clause-outcome
+returns-in-None-clause-outcome g c =
+    c.sign.ensures ∙ sym (ap (λ o. outcome_at o c.args.code.now.0 c.args.coin) (sym c.lowest_x_or_y.ensures ∙ c.in-None.is))

@@ -19,3 +19,15 @@ returns-clause-kept g c whole =
     ap (map (entry_with new)) c.in_ok-push.ensures.items
     ∙ kept_more c.self.inside.words new c.self.inside.numbers.items c.in_ok-number.number c.args.list.now c.in_ok-number.ensures.stay c.self.invariant c.in_ok-number.ensures.word
     ∙ ap (λ (k : KeptSoFar). k.replaced ++ entry_of (terms_listed c.args.list.now) ∷ []) c.self.view_is
+
+pub number-requires-clause-inside : goal.number-requires-clause-inside
+number-requires-clause-inside g c = c.find-found.ensures.inside
+
+pub number-requires-clause-found : goal.number-requires-clause-found
+number-requires-clause-found g c = c.find-found.ensures.found
+
+pub overflow_sub-self : goal.overflow_sub-self
+overflow_sub-self g c = c.if-taken-self.false
+
+pub returns-clause-whole : goal.returns-clause-whole
+returns-clause-whole g c whole = sym (ap (λ (k : KeptSoFar). k.whole) c.self.view_is) ∙ whole

@@ -1,6 +1,0 @@
-use Rattle.std.proofs.Common.{◌≡◌, [], drop, reverse}
-use Rattle.programs.specs.ByHand.{written}
-use Rattle.programs.proofs.by_hand.nodes_of.Given as goal
-
-abbrev pub invariant-loop-piece : goal.invariant-loop-piece
-invariant-loop-piece g l = written (drop l.piece-index l.pieces) (reverse l.builder.outer) l.builder.here ≡ written l.pieces [] []
