@@ -21,7 +21,7 @@ mod words;
 
 use pauli_word::{Letter, Word};
 use programs::Program;
-use hand_programs::{Lists, Piece, program_of};
+use plain_runs::{Lists, Piece, program_of};
 use std::alloc::{AllocError, Global};
 use std::process::Abort;
 

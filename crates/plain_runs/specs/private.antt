@@ -1,3 +1,4 @@
 pub mod GivenRuns
+pub mod KeptLists
 pub mod PlainSteps
 pub mod Unrolled

@@ -5,7 +5,7 @@ use crate::tests::{NOTHING, made};
 use frames::Batch;
 use gate_table::Gate;
 use pauli_word::Letter;
-use hand_programs::Piece;
+use plain_runs::Piece;
 use programs::{Program, Recording, TextStep};
 use std::alloc::Global;
 use std::test::Fail;

@@ -2,7 +2,7 @@
 use crate::tests::made;
 use forward_sim::draw;
 use pauli_word::Letter;
-use hand_programs::{Entry, Lists, Piece};
+use plain_runs::{Entry, Lists, Piece};
 use programs::{Program, Recording, TextStep};
 use rand_core::SeedableRng;
 use rand_core::utils::NextWord;

@@ -4,7 +4,7 @@ ghost use Rattle.std.specs.Prelude.{◌≡◌, ◌<◌, length, IfOk};
 mod table;
 
 use crate::tests::{NOTHING, made};
-use hand_programs::{Piece, program_of};
+use plain_runs::{Piece, program_of};
 use programs::{Program, Step, Walk};
 use std::alloc::{AllocError, Global};
 use std::process::Abort;

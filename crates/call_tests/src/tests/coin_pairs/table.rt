@@ -1,7 +1,7 @@
 //! Circuits with the flips of their frames, carried by hand.
 use gate_table::Gate;
 use pauli_word::Letter;
-use hand_programs::Piece;
+use plain_runs::Piece;
 use programs::{Recording, TextStep};
 use step_model::Place;
 

@@ -1,7 +1,7 @@
 //! Circuits with blocks, and their steps written out by hand.
 use gate_table::Gate;
 use pauli_word::Letter;
-use hand_programs::{Entry, Lists, Piece};
+use plain_runs::{Entry, Lists, Piece};
 use programs::{FaultName, Recording, Step, TextStep};
 use step_model::Term;
 

@@ -4,7 +4,7 @@ use super::agreement::records_agree;
 use super::gates::{ONE, TWO};
 use gate_table::Gate;
 use pauli_word::Letter;
-use hand_programs::{Lists, Piece, program_of};
+use plain_runs::{Lists, Piece, program_of};
 use programs::{Program, Recording, TextStep};
 use std::alloc::{AllocError, Global};
 use std::test::Fail;

@@ -3,7 +3,7 @@ use super::growths::{Call, Memory, Ration, sweep, told};
 use super::lent::Lent;
 use bit_rows::BitRow;
 use pauli_word::{Letter, Word};
-use hand_programs::{Entry, Lists, Piece, program_of};
+use plain_runs::{Entry, Lists, Piece, program_of};
 use programs::{Recording, TextStep};
 use std::alloc::AllocError;
 use std::test::Fail;

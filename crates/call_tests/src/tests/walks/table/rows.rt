@@ -2,7 +2,7 @@
 use super::{CX, GATE, MEASURE, READ, RESET, Row, WAS_CX, WAS_RESET, X};
 use crate::tests::NOTHING;
 use pauli_word::Letter;
-use hand_programs::{Entry, Lists, Piece};
+use plain_runs::{Entry, Lists, Piece};
 use programs::{FaultName, Recording, Step, TextStep};
 use step_model::Term;
 
