@@ -1,3 +1,2 @@
 mod drawn;
 mod sweeps;
-mod worked;

@@ -12,7 +12,6 @@ mod products;
 mod randoms;
 mod runs;
 mod served;
-mod shots;
 mod words;
 
 use analyses::finding_of;

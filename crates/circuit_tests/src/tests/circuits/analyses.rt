@@ -158,7 +158,10 @@ fn is_random(
     (target, place): (usize, Place),
     pair: (&[bool], &[bool]),
 ) -> Result<bool, Fail> {
-    Ok(has_place(alloc, program, target, place)? && differs(alloc, program, target, pair)?)
+    if !has_place(alloc, program, target, place)? {
+        return Ok(false);
+    }
+    differs(alloc, program, target, pair)
 }
 
 fn has_place(

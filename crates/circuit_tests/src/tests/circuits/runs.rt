@@ -63,11 +63,13 @@ fn is_run(
     let Some((records, detections)) = expected.split_once(';') else {
         return Ok(false);
     };
-    Ok(
-        records_are(alloc, program, given, records)?
-            && plain_records_are(alloc, program, given, records)?
-            && detections_are(alloc, program, given, detections)?,
-    )
+    if !records_are(alloc, program, given, records)? {
+        return Ok(false);
+    }
+    if !plain_records_are(alloc, program, given, records)? {
+        return Ok(false);
+    }
+    detections_are(alloc, program, given, detections)
 }
 
 fn records_are(

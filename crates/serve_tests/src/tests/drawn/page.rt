@@ -73,15 +73,10 @@ impl Page {
         self.push(b'0' + (number % 10) as u8);
     }
 
-    /// Writes 1 or 0.
-    pub(super) fn push_truth(&mut self, value: bool) {
-        self.push(if value { b'1' } else { b'0' });
-    }
-
     /// Writes a digit for each truth value, and the end of a line.
     pub(super) fn push_line(&mut self, values: &[bool]) {
         for value in values {
-            self.push_truth(*value);
+            self.push(if *value { b'1' } else { b'0' });
         }
         self.push(b'\n');
     }

@@ -41,9 +41,10 @@ fn are_written(
     text: &[u8],
 ) -> Result<bool, Fault> {
     for room in ROOMS {
-        if !writes_by_sparse(alloc, program, room, random, text)?
-            || !writes_by_dense(alloc, program, room, random, text)?
-        {
+        if !writes_by_sparse(alloc, program, room, random, text)? {
+            return Ok(false);
+        }
+        if !writes_by_dense(alloc, program, room, random, text)? {
             return Ok(false);
         }
     }

@@ -12,10 +12,10 @@ pub(super) fn serves_alike(
     bytes: &[u8],
     status: Status,
 ) -> Result<bool, Fault> {
-    Ok(
-        serves(alloc, drawing.text.as_slice(), bytes, status)?
-            && serves(alloc, drawing.unrolled.as_slice(), bytes, status)?,
-    )
+    if !serves(alloc, drawing.text.as_slice(), bytes, status)? {
+        return Ok(false);
+    }
+    serves(alloc, drawing.unrolled.as_slice(), bytes, status)
 }
 
 fn serves(alloc: Global, text: &[u8], bytes: &[u8], status: Status) -> Result<bool, Fault> {

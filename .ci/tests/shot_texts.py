@@ -1,20 +1,7 @@
-//! Texts whose shots differ: of each gate, collapse, fault, feedback and target, and of blocks.
+"""Texts whose shots differ: of each gate, collapse, fault, feedback and target, and of blocks."""
 
-pub(super) const TEXTS: [&str; 10] = [
-    "",
-    GATES_ON_ONE,
-    GATES_ON_TWO,
-    COLLAPSES,
-    PRODUCTS,
-    FEEDBACK,
-    BLOCKS,
-    ERRORS_TOGETHER,
-    TARGETS,
-    MANY_TURNS,
-];
-
-/// Each gate on one qubit, in a state of each letter.
-const GATES_ON_ONE: &str = "\
+# Each gate on one qubit, in a state of each letter.
+GATES_ON_ONE = """\
 RX 0 3 6
 RY 1 4 7
 X_ERROR(0.3) 0 1 2 3 4 5 6 7 8
@@ -42,10 +29,10 @@ M 0 1 2 3 4 5 6 7 8
 DETECTOR rec[-1] rec[-9]
 DETECTOR rec[-18]
 OBSERVABLE_INCLUDE(0) rec[-10] rec[-14]
-";
+"""
 
-/// Each gate on two qubits, on entangled ones too.
-const GATES_ON_TWO: &str = "\
+# Each gate on two qubits, on entangled ones too.
+GATES_ON_TWO = """\
 RX 0
 RY 2 5
 X_ERROR(0.3) 0 1 2 3 4 5
@@ -78,10 +65,10 @@ M 0 1 2 3 4 5
 DETECTOR rec[-12] rec[-9]
 DETECTOR rec[-11]
 DETECTOR rec[-7] rec[-8]
-";
+"""
 
-/// Each measurement and each reset, in states of its own letter and of others, with flips.
-const COLLAPSES: &str = "\
+# Each measurement and each reset, in states of its own letter and of others, with flips.
+COLLAPSES = """\
 H 0
 CX 0 1 0 2
 X_ERROR(0.2) 0 1 2 3
@@ -115,10 +102,10 @@ DETECTOR rec[-1]
 DETECTOR rec[-2] rec[-3]
 DETECTOR rec[-4] rec[-5] rec[-6]
 OBSERVABLE_INCLUDE(1) rec[-7] rec[-9]
-";
+"""
 
-/// Products of several letters, measured once and again.
-const PRODUCTS: &str = "\
+# Products of several letters, measured once and again.
+PRODUCTS = """\
 MPP X0*X1 Z0*Z1 !Y0*Y1
 DETECTOR rec[-1] rec[-2] rec[-3]
 X_ERROR(0.1) 0 1 2 3
@@ -130,10 +117,10 @@ DETECTOR rec[-2] rec[-5]
 MPP X2 Z3*Z2 !X0*X1*X2*X3
 M 0 1 2 3
 OBSERVABLE_INCLUDE(0) rec[-1] rec[-6]
-";
+"""
 
-/// Records of every kind that are fed back, as they are written.
-const FEEDBACK: &str = "\
+# Records of every kind that are fed back, as they are written.
+FEEDBACK = """\
 H 0 1
 X_ERROR(0.3) 1 2
 M(0.2) 0 !1
@@ -153,10 +140,10 @@ DETECTOR rec[-6]
 DETECTOR rec[-5]
 DETECTOR rec[-4]
 OBSERVABLE_INCLUDE(0) rec[-1]
-";
+"""
 
-/// Blocks inside one another, with records that reach into the turn before.
-const BLOCKS: &str = "\
+# Blocks inside one another, with records that reach into the turn before.
+BLOCKS = """\
 R 0 1 2
 M 1
 REPEAT 3 {
@@ -177,10 +164,10 @@ REPEAT 3 {
 }
 M 0 1 2
 DETECTOR rec[-3]
-";
+"""
 
-/// Faults of several letters, of one qubit twice, of none, and of every probability.
-const ERRORS_TOGETHER: &str = "\
+# Faults of several letters, of one qubit twice, of none, and of every probability.
+ERRORS_TOGETHER = """\
 H 0 2
 CX 0 1 2 3
 E(0.5) X0 Z1 Y2
@@ -197,10 +184,10 @@ DETECTOR rec[-5]
 DETECTOR rec[-4]
 DETECTOR rec[-2] rec[-3]
 OBSERVABLE_INCLUDE(0) rec[-1]
-";
+"""
 
-/// Detectors and observables that are fixed, random and empty, and that name a record twice.
-const TARGETS: &str = "\
+# Detectors and observables that are fixed, random and empty, and that name a record twice.
+TARGETS = """\
 DETECTOR
 H 0
 CX 0 1
@@ -217,10 +204,10 @@ X_ERROR(0.75) 0
 M !0
 OBSERVABLE_INCLUDE(2) rec[-1]
 DETECTOR rec[-1] rec[-4]
-";
+"""
 
-/// Many records, and many words of the generator for each shot.
-const MANY_TURNS: &str = "\
+# Many records, and many words of the generator for each shot.
+MANY_TURNS = """\
 REPEAT 50 {
     H 0
     X_ERROR(0.1) 0
@@ -232,4 +219,6 @@ REPEAT 50 {
     OBSERVABLE_INCLUDE(0) rec[-1]
 }
 MX 0 1
-";
+"""
+
+TEXTS = ["", GATES_ON_ONE, GATES_ON_TWO, COLLAPSES, PRODUCTS, FEEDBACK, BLOCKS, ERRORS_TOGETHER, TARGETS, MANY_TURNS]
