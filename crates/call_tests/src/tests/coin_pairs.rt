@@ -10,8 +10,7 @@ use step_model::Place;
 use test_support::{are_digits, text_of};
 use unroll::read_program;
 
-/// A circuit, a place of it, behind a collapse or at the start of a qubit, and the second coin list of the place's pair. The first
-/// is as many zeros.
+/// A circuit, a place of it, and the second coin list of the place's pair. The first is as many zeros.
 const PAIRS: &[(&str, Place, &str)] = &[
     ("H 0 | M 0", Place::Start(0), "1"),
     // The frame flips the reset, and is cleared there.

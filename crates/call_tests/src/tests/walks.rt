@@ -8,11 +8,11 @@ use step_model::Fault;
 use test_support::text_of;
 use unroll::read_program;
 
-/// A row a circuit, on which a fault is X at qubit 0: its lines, how many records and how many faults it has, and its steps.
+/// A row a circuit: its lines, how many records and how many faults it has, and its steps.
 ///
-/// `X` and `C` are the gates X and CX, and `R` a reset. `M`, `P` and `N` are measurements, of Z at qubit 0, of a product and of one
-/// that is inverted, with the record and, where it may be flipped, the fault and its entry. `F` is a fault with its entry, and `B` is
-/// feedback of a record; `-` stands for no step.
+/// `X` and `C` are the gates X and CX, and `R` is a reset. `M`, `P` and `N` are measurements of Z, of a product and of one that
+/// is inverted, each with its record and, where it may be flipped, the fault and its entry. `F` is a fault with its entry, and
+/// `B` is feedback of a record. `-` stands for no step.
 const ROWS: &str = "\
 REPEAT 2 { | REPEAT 2 { | X 0 | M 0 | } | X 0 | } = 40 = X M0 X M1 X X M2 X M3 X
 REPEAT 1 { | M 0 | } = 10 = M0
