@@ -2,8 +2,7 @@
 
 A seed's words are worked by hand from the generator's, or drawn by the tests' own generator.
 """
-import random
-
+from drawn_texts import draw_text
 from pcg64 import draw_shots
 from program import ProgramTest, bits, listed, run_program
 from shot_texts import TEXTS
@@ -114,43 +113,6 @@ class WorkedShots(ProgramTest):
     def test_refused_shots(self):
         for order in "sample", "detect":
             self.check_rows((asked(order, shots, seed), text, line, 2) for shots, text, line in REFUSED for seed in (0, 3))
-
-
-GATES = """
-    I X Y Z H H_XY H_YZ S S_DAG SQRT_X SQRT_X_DAG SQRT_Y SQRT_Y_DAG C_XYZ C_ZYX
-""".split()
-
-PAIR_GATES = """
-    CX CY CZ XCX XCY XCZ YCX YCY YCZ SWAP ISWAP ISWAP_DAG SQRT_XX SQRT_XX_DAG SQRT_YY SQRT_YY_DAG SQRT_ZZ SQRT_ZZ_DAG
-""".split()
-
-
-def draw_line(source):
-    """A line of any kind, on five qubits, behind three records."""
-    a, b, c = source.sample(range(5), 3)
-    letter, mark, back = source.choice("XYZ"), source.choice(("", "!")), source.randrange(1, 4)
-    flip = source.choice(("", "(0.1)", "(0.5)"))
-    return source.choice([
-        f"{source.choice(GATES)} {a} {b}",
-        f"{source.choice(PAIR_GATES)} {a} {b} {c} {a}",
-        f"M{letter}{flip} {mark}{a} {b}",
-        f"MR{letter}{flip} {mark}{c}",
-        f"R{letter} {b}",
-        f"MPP{flip} {mark}{letter}{a}*Z{b} X{c}*{letter}{b}",
-        f"{letter}_ERROR(0.3) {a} {c}",
-        f"E(0.4) {letter}{a} Y{b} {letter}{b}",
-        f"C{letter} rec[-{back}] {a}",
-        f"DETECTOR({back}) rec[-{back}] rec[-2]",
-        f"OBSERVABLE_INCLUDE({back}) rec[-{back}]",
-    ])
-
-
-def draw_text(seed):
-    """Lines, a block, a block in a block, and lines."""
-    source = random.Random(seed)
-    parts = ["".join(draw_line(source) + "\n" for _ in range(12)) for _ in range(4)]
-    blocks = f"REPEAT 2 {{\n{parts[1]}}}\nREPEAT 2 {{\nREPEAT 3 {{\n{parts[2]}}}\n}}\n"
-    return f"H 0 1 2\nM 0 1 2\n{parts[0]}{blocks}{parts[3]}M 0 1 2 3 4\nDETECTOR rec[-1] rec[-7]\nDETECTOR rec[-2]\n"
 
 
 class ShotsBesideRuns(ProgramTest):

@@ -1,2 +1,1 @@
-mod drawn;
 mod sweeps;

@@ -121,7 +121,6 @@ fn readers_answer_their_parts(rt: HostRuntime) -> Result<(), Fail> {
     Ok(())
 }
 
-
 const GATE: Piece = Piece::Do(TextStep::One {
     gate: Gate::X,
     q: 0,

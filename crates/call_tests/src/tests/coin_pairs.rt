@@ -63,7 +63,12 @@ fn pairs_of_the_table(rt: HostRuntime) -> Result<(), Fail> {
 /// A circuit, and the flips of the frame that begins at a place as a letter at qubit 0, with sign minus.
 const FLIPS: &[(&str, Place, Letter, &str)] = &[
     // Behind that record there is none that the frame flips.
-    ("H 0 | M 0 | CX rec[-1] 1 | M 1", Place::After(0), Letter::X, "00"),
+    (
+        "H 0 | M 0 | CX rec[-1] 1 | M 1",
+        Place::After(0),
+        Letter::X,
+        "00",
+    ),
     // By the gate and not its inverse: X becomes Y, Y becomes Z, Z becomes X.
     ("C_XYZ 0 | M 0", Place::Start(0), Letter::X, "1"),
     ("C_XYZ 0 | M 0", Place::Start(0), Letter::Y, "0"),

@@ -33,12 +33,7 @@ fn make_device(alloc: Global, most: usize, bytes: &[u8]) -> Device<'_> {
     Device::new(alloc, bytes, plan)
 }
 
-fn reads_them(
-    rt: &impl Abort,
-    alloc: Global,
-    most: usize,
-    bytes: &[u8],
-) -> Result<(), Fail> {
+fn reads_them(rt: &impl Abort, alloc: Global, most: usize, bytes: &[u8]) -> Result<(), Fail> {
     let mut source = ReaderSource::new(make_device(alloc, most, bytes));
     let read = read_all(alloc, &mut source)?;
     assert!(rt;
@@ -66,7 +61,10 @@ fn writes_each_byte_of_long_pieces(rt: HostRuntime) -> Result<(), Fail> {
     let bytes = numbered_bytes(rt.alloc())?;
     for most in PIECES {
         let mut sink = WriterSink::new(make_device(rt.alloc(), most, b""));
-        assert!(rt; writes_them(&mut sink, bytes.as_slice()), "pieces of {most}");
+        assert!(rt;
+            writes_them(&mut sink, bytes.as_slice()),
+            "pieces of {most}"
+        );
     }
     Ok(())
 }

@@ -1,4 +1,5 @@
 //! Streams over devices that follow a script.
+use Event::{Fails, Moves};
 use std::alloc::Global;
 use std::io::ErrorKind;
 use std::process::Abort;
@@ -6,8 +7,6 @@ use std::test::Fail;
 use step_model::{Fault, Sink, Source, read_all, write_all};
 use streams::{ReaderSource, WriterSink};
 use test_support::{Device, Event, Plan};
-
-use Event::{Fails, Moves};
 
 const INTERRUPTED: Event = Fails(ErrorKind::Interrupted);
 

@@ -190,7 +190,11 @@ fn rows_of_the_table(rt: HostRuntime) -> Result<(), Fail> {
 fn nested(alloc: Global) -> Result<String, AllocError> {
     let mut text = String::new(alloc);
     for level in 0..32 {
-        text.push_str(if level < 29 { "REPEAT 1 {|" } else { "REPEAT 2 {|" })?;
+        text.push_str(if level < 29 {
+            "REPEAT 1 {|"
+        } else {
+            "REPEAT 2 {|"
+        })?;
     }
     text.push_str("M 0|")?;
     for _ in 0..32 {
@@ -202,7 +206,12 @@ fn nested(alloc: Global) -> Result<String, AllocError> {
 #[test]
 fn blocks_of_thirty_two_levels(rt: HostRuntime) -> Result<(), Fail> {
     let circuit = nested(rt.alloc())?;
-    let holds = circuit_holds(rt.alloc(), circuit.as_str(), "80", "M0 M1 M2 M3 M4 M5 M6 M7")?;
+    let holds = circuit_holds(
+        rt.alloc(),
+        circuit.as_str(),
+        "80",
+        "M0 M1 M2 M3 M4 M5 M6 M7",
+    )?;
     assert!(rt; holds);
     Ok(())
 }

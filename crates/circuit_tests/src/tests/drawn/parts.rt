@@ -1,6 +1,6 @@
 //! The analysis of a drawn text's program that is written in parts, by both trackers.
 
-use super::words::{dense_words, sparse_words};
+use crate::tests::words::{dense_words, sparse_words};
 use backward::{Analysed, write_in_parts};
 use error_models::Model;
 use programs::Program;

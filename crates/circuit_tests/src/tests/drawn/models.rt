@@ -4,15 +4,13 @@ use super::drawing::{Drawing, row};
 use super::marks::Marks;
 use super::names::PROBABILITIES;
 use super::runs::{are_fixed_below, flipped_by, is_sum_of_flips};
-use super::served::serves_alike;
 use super::{Finding, Tally};
-use engine::Status;
 use error_models::Model;
 use programs::Program;
 use std::alloc::Global;
-use step_model::{Fault, MemorySink};
+use step_model::Fault;
 
-/// Whether a model has a line for each fault that flips something, and none else, and is what is served.
+/// Whether a model has a line for each fault that flips something, and none else.
 pub(super) fn model_holds(
     alloc: Global,
     program: &Program<'_, Global>,
@@ -28,9 +26,6 @@ pub(super) fn model_holds(
     }
     if !are_fixed_below(alloc, program, usize::MAX, drawing)? {
         return Ok(Finding::Wrong("a target is random"));
-    }
-    if !is_served(alloc, model, drawing)? {
-        return Ok(Finding::Wrong("another text is served"));
     }
     Ok(Finding::Model)
 }
@@ -87,20 +82,4 @@ fn sums_hold(
         }
     }
     Ok(true)
-}
-
-fn is_served(alloc: Global, model: &Model<'_, Global>, drawing: &Drawing) -> Result<bool, Fault> {
-    let mut sink = MemorySink::new(alloc);
-    is_written(alloc, model, drawing, &mut sink)
-}
-
-/// Whether the model is written as it is served.
-fn is_written(
-    alloc: Global,
-    model: &Model<'_, Global>,
-    drawing: &Drawing,
-    sink: &mut MemorySink<Global>,
-) -> Result<bool, Fault> {
-    error_models::write(model, sink)?;
-    serves_alike(alloc, drawing, sink.bytes(), Status::Done)
 }

@@ -72,12 +72,4 @@ impl Page {
     fn push_digit(&mut self, number: u32) {
         self.push(b'0' + (number % 10) as u8);
     }
-
-    /// Writes a digit for each truth value, and the end of a line.
-    pub(super) fn push_line(&mut self, values: &[bool]) {
-        for value in values {
-            self.push(if *value { b'1' } else { b'0' });
-        }
-        self.push(b'\n');
-    }
 }

@@ -4,15 +4,16 @@ use super::drawing::Drawing;
 use super::models::model_holds;
 use super::parts::parts_hold;
 use super::randoms::random_holds;
-use super::words::{dense_words, sparse_words};
 use super::{Finding, Tally};
+use crate::tests::words::{dense_words, sparse_words};
 use backward::{Analysed, analyse};
 use programs::Program;
 use std::alloc::Global;
 use step_model::{Fault, Place};
+use unroll::read_program;
 
-/// What is found of a program: the dense tracker's answer is compared with runs, with the sparse tracker's, with what is
-/// written in parts, and with what is served.
+/// What is found of a program: the dense tracker's answer is compared with runs, with the sparse tracker's, and with what is
+/// written in parts, of the text without blocks too.
 pub(super) fn finding_of(
     alloc: Global,
     program: &Program<'_, Global>,
@@ -27,7 +28,20 @@ pub(super) fn finding_of(
     if !parts_hold(alloc, program, &analysed)? {
         return Ok(Finding::Wrong("something else is written in parts"));
     }
+    if !unrolled_holds(alloc, drawing, &analysed)? {
+        return Ok(Finding::Wrong("the text without blocks is analysed otherwise"));
+    }
     answer_holds(alloc, program, &analysed, drawing, tally)
+}
+
+/// The same of the text without blocks.
+fn unrolled_holds(
+    alloc: Global,
+    drawing: &Drawing,
+    analysed: &Analysed<'_, Global>,
+) -> Result<bool, Fault> {
+    let program = read_program(alloc, drawing.unrolled.as_slice())?;
+    parts_hold(alloc, &program, analysed)
 }
 
 fn answer_holds(

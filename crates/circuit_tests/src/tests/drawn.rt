@@ -11,8 +11,6 @@ mod parts;
 mod products;
 mod randoms;
 mod runs;
-mod served;
-mod words;
 
 use analyses::finding_of;
 use circuits::draw;
