@@ -106,7 +106,7 @@ PREDICTED = [
 ]
 
 # Lists that are none, or that name a line that isn't there or one twice.
-NO_LISTS = ["2", "0,0", "0,00", ",", "0,", " 0", "+0", "-1", "D0", "18446744073709551616"]
+NO_LISTS = ["2", "0,0", "0,00", ",", "0,", " 0", "+0", "D0", "18446744073709551616"]
 
 REFUSED_TOO = [
     *((lines, SEPARATED, "refused 51 line 0\n") for lines in NO_LISTS),
@@ -153,6 +153,7 @@ class Models(ProgramTest):
         self.check_predictions(REFUSED, 2)
         self.check_predictions(REFUSED_FORMS, 2)
         self.check_predictions(REFUSED_TOO, 2)
+        self.check(["predict", "--lines=-1"], SEPARATED, "refused 51 line 0\n", 2)
 
     def test_blocks_stand_inside_32(self):
         for depth, output, status in (32, "1\n", 0), (33, "refused 46 line 33\n", 2):

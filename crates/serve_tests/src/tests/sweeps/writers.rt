@@ -1,5 +1,5 @@
 //! Whole orders to a writer that takes at most a thousand bytes a call, and none at one of its calls: it has then failed.
-use super::rows::{ROWS, Row};
+use super::rows::{Row, rows};
 use engine::{Status, serve};
 use std::alloc::Global;
 use step_model::{Fault, MemorySource};
@@ -55,7 +55,7 @@ fn unstopped(alloc: Global, row: &Row) -> Option<u64> {
 
 #[test]
 fn every_call_takes_none_once(rt: HostRuntime) {
-    for row in ROWS {
+    for row in rows() {
         let call = unstopped(rt.alloc(), row);
         assert!(rt; call.is_none(), "call {call:?} of {}", row.output);
     }
