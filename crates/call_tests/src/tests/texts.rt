@@ -68,7 +68,7 @@ fn target_words(alloc: Global, target: Target) -> Result<String, AllocError> {
         Target::Inverted(qubit) => format!(in alloc; " !{}", qubit.value()),
         Target::Back(back) => format!(in alloc; " <{}", back.value()),
         Target::Pauli(inverted, letter, qubit) => {
-            let sign = if inverted { "!" } else { "" end;
+            let sign = if inverted { "!" } else { "" };
             format!(in alloc; " {sign}{letter:?}{}", qubit.value())
         }
         Target::Star => String::from_str(alloc, " *"),
