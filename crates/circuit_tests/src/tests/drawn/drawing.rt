@@ -74,10 +74,6 @@ impl Drawing {
         self.kind == Kind::Calm
     }
 
-    pub(super) fn last_qubit(&self) -> u32 {
-        self.last_qubit
-    }
-
     pub(super) fn qubit(&mut self) -> u32 {
         let last = self.last_qubit;
         self.up_to(last)
@@ -109,25 +105,35 @@ impl Drawing {
         self.unrolled.push(byte);
     }
 
+    /// One of these.
+    pub(super) fn put_any(&mut self, rows: &[&[u8]]) {
+        let drawn = self.up_to(last_of(rows.len()));
+        self.put(row(rows, drawn));
+    }
+
     pub(super) fn put_number(&mut self, number: u32) {
-        let zeros = self.up_to(3);
-        self.put(row(&ZEROS, zeros));
+        self.put_any(&ZEROS);
         self.text.push_number(number);
         self.unrolled.push_number(number);
     }
 
     pub(super) fn put_blank(&mut self) {
-        let blank = self.up_to(3);
-        self.put(row(&BLANKS, blank));
+        self.put_any(&BLANKS);
     }
 
     /// The beginning of a line, up to the instruction's tag.
     pub(super) fn begin(&mut self, name: &[u8]) {
-        let indent = self.up_to(3);
-        self.put(row(&INDENTS, indent));
+        self.put_any(&INDENTS);
         self.put_name(name);
-        let tag = self.up_to(5);
-        self.put(row(&TAGS, tag));
+        self.put_any(&TAGS);
+    }
+
+    /// The same with any of these names, of which a calm text takes the first so many. Its row is told.
+    pub(super) fn begin_any(&mut self, names: &[&[u8]], calm: usize) -> u32 {
+        let count = if self.is_calm() { calm } else { names.len() };
+        let drawn = self.up_to(last_of(count));
+        self.begin(row(names, drawn));
+        drawn
     }
 
     /// A name in capitals, in small letters or in both.
@@ -144,8 +150,7 @@ impl Drawing {
     }
 
     pub(super) fn end(&mut self) {
-        let end = self.up_to(5);
-        self.put(row(&ENDS, end));
+        self.put_any(&ENDS);
     }
 
     pub(super) fn put_qubit(&mut self, qubit: u32) {
@@ -194,6 +199,11 @@ fn up_to(rng: &mut Pcg64, most: u32) -> u32
     ensures { result ≤ most }
 {
     (rng.next_word() % (most as u64 + 1)) as u32
+}
+
+/// The last of so many rows.
+fn last_of(count: usize) -> u32 {
+    u32::try_from(count.saturating_sub(1)).unwrap_or(0)
 }
 
 fn kind_of(seed: u64) -> Kind {

@@ -1,9 +1,9 @@
 //! Lines of every instruction.
 
-use super::drawing::{Drawing, RECORDED, UNRECORDED, row};
+use super::drawing::{Drawing, RECORDED, UNRECORDED};
 use super::names::{
-    COORDINATES, EITHER_PLACE, FAULTS, FAULTS_TOGETHER, FEEDBACKS, LAST_CALM_ONE, LAST_CALM_TWO,
-    LAST_COORDINATES, LAST_ONE, LAST_TWO, MEASUREMENTS, NOTHINGS, ONE, RESETS, TWO,
+    CALM_ONE, CALM_TWO, COORDINATES, EITHER_PLACE, FAULTS, FAULTS_TOGETHER, FEEDBACKS,
+    MEASUREMENTS, NOTHINGS, ONE, RESETS, TWO,
 };
 use super::products::{draw_product, put_product};
 
@@ -22,13 +22,7 @@ pub(super) fn draw_line(drawing: &mut Drawing) {
 }
 
 fn draw_one(drawing: &mut Drawing) {
-    let last = if drawing.is_calm() {
-        LAST_CALM_ONE
-    } else {
-        LAST_ONE
-    };
-    let gate = drawing.up_to(last);
-    drawing.begin(row(&ONE, gate));
+    drawing.begin_any(&ONE, CALM_ONE);
     draw_qubits(drawing);
     drawing.end();
 }
@@ -41,13 +35,7 @@ fn draw_qubits(drawing: &mut Drawing) {
 }
 
 fn draw_two(drawing: &mut Drawing) {
-    let last = if drawing.is_calm() {
-        LAST_CALM_TWO
-    } else {
-        LAST_TWO
-    };
-    let gate = drawing.up_to(last);
-    drawing.begin(row(&TWO, gate));
+    drawing.begin_any(&TWO, CALM_TWO);
     for _ in 0..drawing.up_to(3) {
         draw_pair(drawing);
     }
@@ -63,9 +51,7 @@ fn draw_pair(drawing: &mut Drawing) {
 
 /// Measurements, with resets or without, and with flips or without.
 fn draw_measurements(drawing: &mut Drawing) {
-    let last = if drawing.is_calm() { 3 } else { 7 };
-    let name = drawing.up_to(last);
-    drawing.begin(row(&MEASUREMENTS, name));
+    drawing.begin_any(&MEASUREMENTS, 4);
     let flip = draw_flip(drawing);
     for _ in 0..drawing.up_to(3) {
         let qubit = drawing.qubit();
@@ -96,9 +82,7 @@ pub(super) fn count_record(drawing: &mut Drawing, flip: Option<u8>) {
 }
 
 fn draw_resets(drawing: &mut Drawing) {
-    let last = if drawing.is_calm() { 1 } else { 3 };
-    let name = drawing.up_to(last);
-    drawing.begin(row(&RESETS, name));
+    drawing.begin_any(&RESETS, 2);
     for _ in 0..drawing.up_to(3) {
         let qubit = drawing.qubit();
         drawing.put_qubit(qubit);
@@ -123,8 +107,7 @@ fn draw_feedback(drawing: &mut Drawing) {
     if drawing.records == 0 {
         return draw_two(drawing);
     }
-    let name = drawing.up_to(6);
-    drawing.begin(row(&FEEDBACKS, name));
+    let name = drawing.begin_any(&FEEDBACKS, 7);
     for _ in 0..drawing.up_to(2) {
         let stands_second = name >= EITHER_PLACE && drawing.once_in(1);
         draw_controlled(drawing, stands_second);
@@ -161,8 +144,7 @@ pub(super) fn draw_noise(drawing: &mut Drawing) {
 }
 
 fn draw_faults(drawing: &mut Drawing) {
-    let name = drawing.up_to(2);
-    drawing.begin(row(&FAULTS, name));
+    drawing.begin_any(&FAULTS, 3);
     let probability = drawing.put_probability();
     for _ in 0..drawing.up_to(3) {
         let qubit = drawing.qubit();
@@ -173,8 +155,7 @@ fn draw_faults(drawing: &mut Drawing) {
 }
 
 fn draw_faults_together(drawing: &mut Drawing) {
-    let name = drawing.up_to(1);
-    drawing.begin(row(&FAULTS_TOGETHER, name));
+    drawing.begin_any(&FAULTS_TOGETHER, 2);
     let probability = drawing.put_probability();
     for _ in 0..drawing.up_to(4) {
         let qubit = drawing.qubit();
@@ -190,18 +171,12 @@ fn draw_faults_together(drawing: &mut Drawing) {
 pub(super) fn draw_nothing(drawing: &mut Drawing) {
     if drawing.once_in(1) {
         drawing.begin(b"SHIFT_COORDS");
-        draw_coordinates(drawing);
+        drawing.put_any(&COORDINATES);
         drawing.end();
     } else {
-        let line = drawing.up_to(7);
-        drawing.put(row(&NOTHINGS, line));
+        drawing.put_any(&NOTHINGS);
         drawing.put(b"\n");
     }
-}
-
-pub(super) fn draw_coordinates(drawing: &mut Drawing) {
-    let coordinates = drawing.up_to(LAST_COORDINATES);
-    drawing.put(row(&COORDINATES, coordinates));
 }
 
 /// A detector or a part of an observable, of up to four records as they come; some may be the same.
@@ -225,6 +200,6 @@ pub(super) fn begin_target(drawing: &mut Drawing, observes: bool) {
         drawing.put(b")");
     } else {
         drawing.begin(b"DETECTOR");
-        draw_coordinates(drawing);
+        drawing.put_any(&COORDINATES);
     }
 }

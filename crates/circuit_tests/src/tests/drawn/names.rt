@@ -23,10 +23,8 @@ pub(super) const ONE: [&[u8]; 19] = [
     b"C_ZYX",
 ];
 
-/// The last row of such a gate.
-pub(super) const LAST_CALM_ONE: u32 = 8;
-
-pub(super) const LAST_ONE: u32 = 18;
+/// How many those are.
+pub(super) const CALM_ONE: usize = 9;
 
 /// The gates on two qubits and their aliases, in the same order.
 pub(super) const TWO: [&[u8]; 22] = [
@@ -54,9 +52,7 @@ pub(super) const TWO: [&[u8]; 22] = [
     b"SQRT_YY_DAG",
 ];
 
-pub(super) const LAST_CALM_TWO: u32 = 13;
-
-pub(super) const LAST_TWO: u32 = 21;
+pub(super) const CALM_TWO: usize = 14;
 
 /// Gates on two qubits, and the one that undoes each.
 pub(super) const DONE: [&[u8]; 8] = [
@@ -141,8 +137,6 @@ pub(super) const COORDINATES: [&[u8]; 7] = [
     b"(-0, 007, 1000000000)",
     b"(3, 0, -8, 1)",
 ];
-
-pub(super) const LAST_COORDINATES: u32 = 6;
 
 /// Instructions and lines that do nothing.
 pub(super) const NOTHINGS: [&[u8]; 8] = [

@@ -1,6 +1,6 @@
 //! Products of letters at qubits.
 
-use super::drawing::{Drawing, row};
+use super::drawing::Drawing;
 use super::names::STARS;
 
 /// How many qubits a product has a place for.
@@ -62,8 +62,7 @@ pub(super) fn put_product(drawing: &mut Drawing, product: &Product) {
 
 fn put_factor(drawing: &mut Drawing, follows: bool, letter: u32, qubit: u32) {
     if follows {
-        let star = drawing.up_to(3);
-        drawing.put(row(&STARS, star));
+        drawing.put_any(&STARS);
     }
     drawing.put_inversion();
     drawing.put_letter(letter, qubit);
