@@ -1,4 +1,4 @@
-"""The files of examples/: each is a text of the proved tests, and the commands that pages show write what they say."""
+"""The files of examples/: what each of them gives, and the commands that pages show."""
 import pathlib
 import re
 import shlex
@@ -12,47 +12,7 @@ TOP = pathlib.Path(__file__).resolve().parents[2]
 
 EXAMPLES = TOP / "examples"
 
-CONSTANTS = TOP / "crates/serve_tests/src/tests/worked/examples/texts.rt"
-
-# The name of each constant of the proved tests, and the file with its text.
-FILES = {
-    "FIRST": "first.stim",
-    "RESET": "reset.stim",
-    "BELL_PAIR": "bell_pair.stim",
-    "TELEPORTATION": "teleportation.stim",
-    "REPETITION_CODE": "repetition_code.stim",
-    "REPETITION_BLOCKS": "repetition_code.dem",
-    "SURFACE_CODE": "surface_code.stim",
-}
-
-CONSTANT = re.compile(r'^pub\(crate\) const (\w+): &str =\s*"([^"]*)";$', re.MULTILINE)
-
-
-def constants():
-    """The texts of the proved tests, by name."""
-    return dict(CONSTANT.findall(CONSTANTS.read_text()))
-
-
-class TextsOfExamples(unittest.TestCase):
-    """Each file is a constant, byte for byte, comments too."""
-
-    maxDiff = None
-
-    def test_each_constant_is_read(self):
-        text = CONSTANTS.read_text()
-        self.assertEqual(len(constants()), text.count("const "))
-        # Without escapes a constant is the bytes between its quotes.
-        self.assertNotIn("\\", text)
-
-    def test_each_constant_has_its_file_and_each_file_its_constant(self):
-        files = {path.name for pattern in ("*.stim", "*.dem") for path in EXAMPLES.glob(pattern)}
-        self.assertEqual(set(FILES), set(constants()))
-        self.assertEqual(set(FILES.values()), files)
-
-    def test_each_file_is_its_constant(self):
-        for name, text in constants().items():
-            with self.subTest(name=name):
-                self.assertEqual((EXAMPLES / FILES[name]).read_bytes().decode(), text)
+FILES = sorted(path.name for pattern in ("*.stim", "*.dem") for path in EXAMPLES.glob(pattern))
 
 
 def of_shots(code, shots, seed, line_of=None):
@@ -98,9 +58,22 @@ COMMANDS = {
     "analyze < first.stim": "",
     "faults < first.stim": "0 0.1 X0\ncoins 2\n",
     "run < reset.stim": "010\n\n",
+    # XX is its coin, ZZ is 0 and YY is -XX ZZ; then Z of one qubit is its coin, and that of the other is the same.
+    "run < bell_pair.stim": "00100\n000\n",
     "run --coins 10010 < bell_pair.stim": "10011\n000\n",
+    "run --coins 11100 < bell_pair.stim": "10000\n000\n",
+    # X changes YY and makes the two Z differ, Z changes YY, and the flip one record.
+    "run --faults 0 < bell_pair.stim": "00001\n011\n",
+    "run --faults 1 < bell_pair.stim": "00000\n010\n",
+    "run --faults 0,2 < bell_pair.stim": "00101\n001\n",
     "analyze < bell_pair.stim": BELL_MODEL,
+    # Both measurements are their coins, and the last one is 0.
     "run --coins 110 < teleportation.stim": "110\n0\n",
+    "run --coins 100 < teleportation.stim": "100\n0\n",
+    "run --coins 111 < teleportation.stim": "110\n0\n",
+    "run --coins 010 --faults 0 < teleportation.stim": "011\n1\n",
+    "run --coins 010 --faults 0,1 < teleportation.stim": "011\n1\n",
+    "run --coins 010 --faults 2,3 < teleportation.stim": "100\n0\n",
     "analyze < teleportation.stim": TELEPORTATION_MODEL,
     "analyze < repetition_code.stim": repetition_code().model(),
     "run --faults 6,16 < repetition_code.stim": "001111000\n001100110\n",
@@ -109,8 +82,15 @@ COMMANDS = {
     "detect --shots 10 < repetition_code.stim": of_shots(repetition_code(), 10, 0),
     "detect --shots 10 --seed 7 < repetition_code.stim": of_shots(repetition_code(), 10, 7),
     "detect --shots 10 --seed 1 < repetition_code.stim": of_shots(repetition_code(), 10, 1),
+    "predict < repetition_code.dem": "000000000\n",
     "predict --lines 6,16 < repetition_code.dem": "001100110\n",
+    # The left qubit in each round, and its final record; the same of the right qubit, whose observable cancels.
+    "predict --lines 0,5,10,15 < repetition_code.dem": "101010100\n",
+    "predict --lines 2,7,12,17 < repetition_code.dem": "010101010\n",
+    # A measurement that is wrong shows in two rounds.
+    "predict --lines 13 < repetition_code.dem": "000010100\n",
     "analyze < surface_code.stim": surface_code().model(),
+    "run < surface_code.stim": f"{'0' * 33}\n{'0' * 25}\n",
     "run --faults 30 < surface_code.stim": SURFACE_RUN,
     "detect --shots 10 --seed 1 < surface_code.stim": of_shots(surface_code(), 10, 1),
 }
@@ -171,10 +151,13 @@ class CommandsOnExamples(ProgramTest):
 
 
 class CommandsOfPages(unittest.TestCase):
-    """A command on an example that a comment of an example, or README, shows is one of those above."""
+    """Each example has its commands. One that a comment of an example, or README, shows is one of those above."""
+
+    def test_each_file_has_commands(self):
+        self.assertEqual({command.split("< ")[1] for command in COMMANDS}, set(FILES))
 
     def test_comments_of_examples(self):
-        shown = {command for file in FILES.values() for command in commands_in((EXAMPLES / file).read_text())}
+        shown = {command for file in FILES for command in commands_in((EXAMPLES / file).read_text())}
         self.assertGreaterEqual(len(shown), 10)
         self.assertEqual(shown - set(COMMANDS), set())
 

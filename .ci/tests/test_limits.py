@@ -1,4 +1,4 @@
-"""Each limit at its edge: a text at the limit that is taken, and one beyond it; and numbers of ten thousand digits.
+"""Each limit at its edge: a text at the limit that is taken, and one beyond it; numbers of ten thousand digits; and long texts.
 
 A row has a text and what is written for it. All by hand.
 """
@@ -88,6 +88,7 @@ QUICK = [
 # Texts beyond a total's limit.
 TOTALS_BEYOND = [
     ("REPEAT 8000001 {\nM 0\n}\n", "refused 24 line 0\n"),
+    ("REPEAT 1000000000000 {\nM 0\n}\n", "refused 24 line 0\n"),
     ("REPEAT 8000000 {\nM 0\n}\nM 0\n", "refused 24 line 0\n"),
     ("M 0\nREPEAT 8000000 {\nM 0\n}\n", "refused 24 line 0\n"),
     ("REPEAT 8000001 {\nMPP X0*X1\n}\n", "refused 24 line 0\n"),
@@ -122,8 +123,34 @@ NESTED = [
     (33, "", "refused 21 line 33\n"),
 ]
 
-# What stands before ten thousand digits 9 and behind them, and what `run` then writes.
+# What stands before ten thousand digits 0 and behind them, and what `run` writes with the coin 1.
+ZEROS = [
+    ("H ", "5\nM 5\n", "1\n\n"),
+    ("X ", "5\nM 5\n", "1\n\n"),
+    ("X 5\nM !", "5\n", "0\n\n"),
+    ("X 0\nM 0\nDETECTOR rec[-", "1]\n", "1\n0\n"),
+    ("X 0\nMPP Z", "0\n", "1\n\n"),
+    ("REPEAT ", "3 {\nX 0\n}\nM 0", "1\n\n"),
+    ("X 0\nM 0\nOBSERVABLE_INCLUDE(", "1)", "1\n00\n"),
+    ("X 0\nM(", ".1) 0\n", "1\n\n"),
+    ("X 0\nM(0.1", ") 0\n", "1\n\n"),
+]
+
+# What stands before ten thousand digits 9 and behind them, and what `run` then writes, or every subcommand on a circuit where it
+# is a refusal.
 NINES = [
+    ("H ", "", "refused 20 line 1\n"),
+    ("M !", "", "refused 20 line 1\n"),
+    ("MPP X0*Z", "", "refused 20 line 1\n"),
+    ("CX 0 ", "", "refused 20 line 1\n"),
+    ("DETECTOR rec[-", "]", "refused 20 line 1\n"),
+    ("DETECTOR(", ")", "refused 20 line 1\n"),
+    ("SHIFT_COORDS(0, -", ")", "refused 20 line 1\n"),
+    ("OBSERVABLE_INCLUDE(", ")", "refused 20 line 1\n"),
+    ("REPEAT ", " {", "refused 20 line 1\n"),
+    ("X_ERROR(", ") 0", "refused 14 line 1\n"),
+    ("X_ERROR(0.", ") 0", "refused 14 line 1\n"),
+    ("X_ERROR(1e-", ") 0", "refused 14 line 1\n"),
     ("R ", "", "refused 20 line 1\n"),
     ("MPP !X", "*Z1", "refused 20 line 1\n"),
     ("E(0.1) X", "", "refused 20 line 1\n"),
@@ -187,10 +214,21 @@ class Limits(ProgramTest):
 
 class LongNumbers(ProgramTest):
     def test_numbers_of_many_digits(self):
-        for before, after, output in NINES:
-            with self.subTest(before=before, after=after):
-                status = 2 if output.startswith("refused") else 0
-                self.check(["run"], before + "9" * 10_000 + after, output, status)
+        nines = "9" * 10_000
+        refused = [row for row in NINES if row[2].startswith("refused")]
+        self.check_refused((before + nines + after, line) for before, after, line in refused)
+        taken = [row for row in NINES if row not in refused]
+        self.check_runs([(None, "", before + nines + after, output) for before, after, output in taken], 0)
+
+    def test_numbers_with_many_zeros(self):
+        zeros = "0" * 10_000
+        self.check_runs([("1", "", before + zeros + after, output) for before, after, output in ZEROS], 0)
+
+    def test_what_is_written_of_long_numbers(self):
+        """A probability is written as it stands, and a qubit by its number."""
+        zeros = "0" * 10_000
+        self.check(["analyze"], f"M( {zeros}.5 ) 0\nDETECTOR rec[-1]", f"error({zeros}.5) D0\ndetector D0\n")
+        self.check(["faults"], f"H {zeros}5\nX_ERROR(0.1) {zeros}5\n", "0 0.1 X5\ncoins 0\n")
 
     def test_lists_of_many_digits(self):
         """Lists of ten thousand times a digit, for a run with one fault and one coin."""
@@ -198,3 +236,26 @@ class LongNumbers(ProgramTest):
         self.check(["run", "--faults", "9" * 10_000], text, "refused 51 line 0\n", 2)
         self.check(["run", "--faults", "0" * 10_000], text, "1\n\n")
         self.check(["run", "--coins", "0" * 10_000], text, "refused 50 line 0\n", 2)
+
+
+class LongTexts(ProgramTest):
+    """None is answered with a want of memory."""
+
+    def test_texts_of_many_lines(self):
+        """Of each size about the powers of two that a table or a piece might have."""
+        for lines in 100, 511, 512, 513, 1_023, 1_025, 8_191, 8_193, 70_000:
+            self.check_taken(["X 0 1\nM 1\n" * lines + "DETECTOR rec[-1]\n"])
+
+    def test_far_lines(self):
+        """Empty lines, and then one that is refused by its number, or one that isn't."""
+        for lines in 300, 70_000, 1_000_000:
+            self.check_refused([("\n" * lines + "DETECTOR rec[-1]\n", f"refused 22 line {lines + 1}\n")])
+            self.check_taken(["\n" * lines + "M 0\n"])
+
+    def test_a_line_of_many_pairs(self):
+        """One after another on one line: an odd number of them."""
+        self.check(["run"], "X 0\nCX" + " 0 1" * 100_001 + "\nM 1\n", "1\n\n")
+
+    def test_an_observable_that_a_thousand_errors_flip(self):
+        text = "REPEAT 1000 {\nX_ERROR(0.001) 0\nMR 0\nOBSERVABLE_INCLUDE(0) rec[-1]\n}\n"
+        self.check(["analyze"], text, "error(0.001) L0\n" * 1_000 + "logical_observable L0\n")

@@ -137,6 +137,7 @@ X_ERROR(0e9999) 0
 DETECTOR(1, 1, 1, 1, 1, 1, 1, 1, 1, 1, 1, 1, 1, 1, 1, 1, 1)
 SHIFT_COORDS(1, 1, 1, 1, 1, 1, 1, 1, 1, 1, 1, 1, 1, 1, 1, 1, 1)
 QUBIT_COORDS(1, 1, 1, 1, 1, 1, 1, 1, 1, 1, 1, 1, 1, 1, 1, 1, 1) 0
+QUBIT_COORDS(1, 1, 1, 1, 1, 1, 1, 1, 1, 1, 1, 1, 1, 1, 1, 1, 1)
 """,
 }
 
@@ -249,6 +250,21 @@ TEXTS = [
     ("H X0\r\nCX 1 1", "refused 15 line 1\n"),
 ]
 
+CUT = "R 0 1\nREPEAT 2 {\nX_ERROR(0.01) 0\nCX 0 1\nMR 1\nDETECTOR(0, 0) rec[-1]\nSHIFT_COORDS(0, 1)\n}\nM 0\nO"
+
+# What that text ends with where it is cut, and the first refusal and its line.
+ENDS = [
+    ("REPEA", "refused 11 line 2\n"),
+    ("REPEAT 2", "refused 18 line 2\n"),
+    ("X_ERROR(0.0", "refused 13 line 3\n"),
+    ("\nCX", "refused 18 line 2\n"),
+    ("\nCX 0", "refused 16 line 4\n"),
+    ("\nM", "refused 18 line 2\n"),
+    ("re", "refused 15 line 6\n"),
+    ("\nS", "refused 18 line 2\n"),
+    ("\nO", "refused 11 line 10\n"),
+]
+
 
 def put_inside(depth, line):
     """A line inside so many blocks."""
@@ -284,3 +300,6 @@ class Lines(ProgramTest):
 
     def test_texts_are_refused(self):
         self.check_refused(TEXTS)
+
+    def test_beginnings_are_refused(self):
+        self.check_refused((CUT[:CUT.index(end) + len(end)], line) for end, line in ENDS)

@@ -1,4 +1,4 @@
-"""The texts of error models by which docs/FORMATS.md shows what they say and their refusals.
+"""The texts of error models by which docs/FORMATS.md shows what they say and their refusals, and further ones.
 
 A row has the numbers of error lines, a text, and what `predict` writes. All by hand.
 """
@@ -63,6 +63,75 @@ REFUSED_FORMS = [
     ("", "repeat 999999999999999999 {\nrepeat 999999999999999999 {\nrepeat 999 {\n}\n}\n}", "refused 47 line 0\n"),
 ]
 
+# The model of two turns of a repetition code.
+TWO_TURNS = (
+    "error(0.01) D0 D1 L0\nerror(0.01) D1 L0\ndetector(0, 0) D0\ndetector(0, 1) D1\nlogical_observable L0\n"
+)
+
+# Three detectors and two observables.
+SEPARATED = "error(0.1) D0 D2\nerror(0.2) L1 ^ D2\n"
+
+# Three turns, each of which shifts by one.
+SHIFTED = "repeat 3 {\nerror(0.1) D0 D1\nshift_detectors 1\n}\n"
+
+# A line of each kind, the errors first and last.
+MIXED = "error(0.1) D0\ndetector(1) D1\nlogical_observable L0\nshift_detectors 1\nerror(0.2) D0 L0\n"
+
+PREDICTED = [
+    ("", "", "\n"),
+    ("0,1", TWO_TURNS, "100\n"),
+    ("1,0", TWO_TURNS, "100\n"),
+    ("0", "error(0.1) D0 ^ D0 D1 L0\n", "011\n"),
+    ("0,1", SEPARATED, "10001\n"),
+    ("", SEPARATED, "00000\n"),
+    ("0", "detector(1, -2) D5\nerror(0) D1\n", "010000\n"),
+    ("", "shift_detectors 1\n", "\n"),
+    ("0,1", SHIFTED, "1010\n"),
+    ("0,2", SHIFTED, "1111\n"),
+    ("0", "shift_detectors(0, 5) 2\ndetector(1, 1) D0\nerror(0.1) D0 L0\n", "0011\n"),
+    # Only error lines have numbers, and zeros in front change nothing.
+    ("0", MIXED, "100\n"),
+    ("001", MIXED, "011\n"),
+    ("1,0", MIXED, "111\n"),
+    # A line that flips nothing, and one whose targets cancel, have numbers too.
+    ("0", "error(0.1)\n", "\n"),
+    ("0,1,2", "error(0.1)\nerror(1) L0 L0\nerror(0) L0", "1\n"),
+    # The greatest of each counts, wherever it stands and whether it cancels.
+    ("0", "logical_observable L2\nerror(0.1) D1\n", "01000\n"),
+    ("0", "error(0.1) D1 D1 D0\n", "10\n"),
+    # Names in any case, tags, comments and blanks.
+    ("0", "# a model\n\n  ERROR[x](0.1)\tD0   ^ L1 # none\r\nDetector D1", "1001\n"),
+    ("0", "error( 1e-38 ) L0", "1\n"),
+    ("1,2", "repeat 2 {\nrepeat 2 {\nerror(0.5) D0\nshift_detectors 1\n}\nshift_detectors 1\n}\n", "01010\n"),
+]
+
+# Lists that are none, or that name a line that isn't there or one twice.
+NO_LISTS = ["2", "0,0", "0,00", ",", "0,", " 0", "+0", "D0", "18446744073709551616"]
+
+REFUSED_TOO = [
+    *((lines, SEPARATED, "refused 51 line 0\n") for lines in NO_LISTS),
+    ("0", "", "refused 51 line 0\n"),
+    ("3", SHIFTED, "refused 51 line 0\n"),
+    ("2", MIXED, "refused 51 line 0\n"),
+    # The text comes first.
+    ("x", "error(0.1) D0\nfoo\n", "refused 40 line 2\n"),
+    ("7", "repeat 4000001 {\n}\n", "refused 47 line 0\n"),
+    ("0,0", "error D0\n", "refused 41 line 1\n"),
+    ("1", "shift_detectors 1000000\nerror(0.1) D0\n", "refused 44 line 2\n"),
+    ("0", "error(2) D0\n", "refused 41 line 1\n"),
+    ("0", "error(0.1) X0\n", "refused 42 line 1\n"),
+    ("0", "detector D1000000\n", "refused 44 line 1\n"),
+    # The causes meet on one line.
+    ("", "\x01 error(0.1) X0 {\n", "refused 10 line 1\n"),
+    ("", "error(2) X0\n", "refused 41 line 1\n"),
+    ("", "error(0.1) D1000000 0\n", "refused 42 line 1\n"),
+    ("", "shift_detectors 1 2\n", "refused 42 line 1\n"),
+    ("", "repeat 2 {\n", "refused 43 line 1\n"),
+    ("", "repeat 0 {\n}\n", "refused 45 line 1\n"),
+    # What an analysis writes of a random target is no model.
+    ("", "random D0\n0\n1\n", "refused 40 line 1\n"),
+]
+
 # Texts at a limit.
 WITHIN = [
     ("", "repeat 2000000 {\nlogical_observable L0\n}", "0\n"),
@@ -77,11 +146,14 @@ class Models(ProgramTest):
 
     def test_models_are_taken(self):
         self.check_predictions(SHOWN, 0)
+        self.check_predictions(PREDICTED, 0)
         self.check_predictions(WITHIN, 0)
 
     def test_models_are_refused(self):
         self.check_predictions(REFUSED, 2)
         self.check_predictions(REFUSED_FORMS, 2)
+        self.check_predictions(REFUSED_TOO, 2)
+        self.check(["predict", "--lines=-1"], SEPARATED, "refused 51 line 0\n", 2)
 
     def test_blocks_stand_inside_32(self):
         for depth, output, status in (32, "1\n", 0), (33, "refused 46 line 33\n", 2):

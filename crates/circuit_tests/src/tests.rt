@@ -1,3 +1,4 @@
 mod circuits;
+mod drawn;
 mod sweeps;
 mod words;

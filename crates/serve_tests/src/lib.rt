@@ -1,6 +1,5 @@
-//! Tests of `serve` over memory: worked rows, known circuits and long texts; each refusal of memory and each failure of a
-//! device; and drawn texts of the whole format, of which what is read, run and analysed agrees. The crate has nothing but
-//! tests; docs/TESTING.md tells what each does.
+//! Tests of `serve` over memory: each refusal of memory and each failure of a device. The crate has nothing but tests;
+//! docs/TESTING.md tells what each does.
 #![tactic(auto)]
 
 #[cfg(test)]

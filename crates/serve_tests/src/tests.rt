@@ -1,3 +1,1 @@
-mod drawn;
 mod sweeps;
-mod worked;

@@ -1,45 +1,14 @@
 //! A batch of runs in which two qubits are measured alike: each run's outcomes are its coin.
 ghost use Rattle.std.specs.Prelude.{◌<◌};
 
-use crate::tests::{NOTHING, made};
 use frames::Batch;
-use gate_table::Gate;
-use pauli_word::Letter;
-use plain_runs::Piece;
-use programs::{Program, Recording, TextStep};
+use programs::Program;
 use std::alloc::Global;
 use std::test::Fail;
 use step_model::Fault;
+use unroll::read_program;
 
-const PLAIN: Option<Recording> = Some(Recording {
-    inverted: false,
-    flip: None,
-});
-
-// H 0, CX 0 1, M 0 1
-const PIECES: &[Piece] = &[
-    Piece::Do(TextStep::One {
-        gate: Gate::H,
-        q: 0,
-    }),
-    Piece::Do(TextStep::Two {
-        gate: Gate::CX,
-        a: 0,
-        b: 1,
-    }),
-    Piece::Do(TextStep::Collapse {
-        letter: Letter::Z,
-        qubit: 0,
-        reset: false,
-        recording: PLAIN,
-    }),
-    Piece::Do(TextStep::Collapse {
-        letter: Letter::Z,
-        qubit: 1,
-        reset: false,
-        recording: PLAIN,
-    }),
-];
+const CIRCUIT: &[u8] = b"H 0\nCX 0 1\nM 0 1\n";
 
 /// The first coin is 1 in the odd runs. The second outcome is decided, so its coin doesn't count.
 const COINS: &[u64] = &[0xaaaa_aaaa_aaaa_aaaa, 0x0123_4567_89ab_cdef];
@@ -66,7 +35,7 @@ fn have_their_coins(alloc: Global, program: &Program<'_, Global>) -> Result<bool
 
 #[test]
 fn runs_of_a_bell_pair(rt: HostRuntime) -> Result<(), Fail> {
-    let program = made(&rt, rt.alloc(), 2, PIECES, NOTHING)?;
+    let program = read_program(rt.alloc(), CIRCUIT)?;
     assert!(rt; have_their_coins(rt.alloc(), &program)?);
     Ok(())
 }

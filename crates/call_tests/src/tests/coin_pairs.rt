@@ -1,39 +1,79 @@
 //! Circuits small enough to carry their frames by hand.
 ghost use Rattle.std.specs.Prelude.{◌≡◌, length, IfOk};
 
-mod table;
-
-use crate::tests::{NOTHING, made};
 use frames::{coin_pair, flips};
 use pauli_word::{Letter, Word};
 use programs::Program;
 use std::alloc::{AllocError, Global};
-use std::process::Abort;
 use std::test::Fail;
-use table::{FLIPS, FlipRow, PAIRS, PairRow};
+use step_model::Place;
+use test_support::{are_digits, text_of};
+use unroll::read_program;
 
-// Whether it is as many zeros, and the list of the row.
-fn are_of_row(zeros: &[bool], coins: &[bool], row: &PairRow) -> bool {
-    zeros.len() == row.second.len() && zeros.iter().all(|coin| !*coin) && coins == row.second
+/// A circuit, a place of it, and the second coin list of the place's pair. The first is as many zeros.
+const PAIRS: &[(&str, Place, &str)] = &[
+    ("H 0 | M 0", Place::Start(0), "1"),
+    // The frame flips the reset, and is cleared there.
+    ("H 0 | CX 0 1 | R 0 | M 1 0", Place::Start(0), "110"),
+    // The frame begins behind the collapse and its reset, which doesn't clear it.
+    ("MX 0 | M 0", Place::After(0), "01"),
+    ("RX 0 | M 0", Place::After(0), "01"),
+    // From the second qubit.
+    ("H 0 1 | M 0 1", Place::Start(1), "01"),
+    // A block of two turns and a last measurement.
+    ("REPEAT 2 { | M 0 | H 0 | } | M 0", Place::After(1), "001"),
+    ("REPEAT 2 { | M 0 | H 0 | } | M 0", Place::After(0), "010"),
+    // The flipped record takes X at qubit 1 into the frame.
+    ("H 0 | M 0 | CX rec[-1] 1 | M 1", Place::Start(0), "11"),
+];
+
+/// Whether it is as many zeros, and these coins.
+fn are_coins(zeros: &[bool], second: &[bool], coins: &str) -> bool {
+    zeros.len() == second.len() && zeros.iter().all(|coin| !*coin) && are_digits(second, coins)
 }
 
-fn has_pair(alloc: Global, program: &Program<'_, Global>, row: &PairRow) -> Result<bool, Fail> {
-    let (zeros, coins) = coin_pair(alloc, program, row.place)?;
-    Ok(are_of_row(zeros.as_slice(), coins.as_slice(), row))
+fn has_pair(
+    alloc: Global,
+    program: &Program<'_, Global>,
+    place: Place,
+    coins: &str,
+) -> Result<bool, Fail> {
+    let (zeros, second) = coin_pair(alloc, program, place)?;
+    Ok(are_coins(zeros.as_slice(), second.as_slice(), coins))
 }
 
-fn is_pair(rt: &impl Abort, alloc: Global, row: &PairRow) -> Result<bool, Fail> {
-    let program = made(rt, alloc, row.qubits, row.pieces, NOTHING)?;
-    has_pair(alloc, &program, row)
+fn text_has_pair(alloc: Global, text: &[u8], place: Place, coins: &str) -> Result<bool, Fail> {
+    let program = read_program(alloc, text)?;
+    has_pair(alloc, &program, place, coins)
+}
+
+fn is_pair(alloc: Global, row: (&str, Place, &str)) -> Result<bool, Fail> {
+    let text = text_of(alloc, row.0)?;
+    text_has_pair(alloc, text.as_slice(), row.1, row.2)
 }
 
 #[test]
 fn pairs_of_the_table(rt: HostRuntime) -> Result<(), Fail> {
     for row in PAIRS {
-        assert!(rt; is_pair(&rt, rt.alloc(), row)?, "of {}", row.circuit);
+        assert!(rt; is_pair(rt.alloc(), *row)?, "of {}", row.0);
     }
     Ok(())
 }
+
+/// A circuit, and the flips of the frame that begins at a place as a letter at qubit 0, with sign minus.
+const FLIPS: &[(&str, Place, Letter, &str)] = &[
+    // Behind that record there is none that the frame flips.
+    (
+        "H 0 | M 0 | CX rec[-1] 1 | M 1",
+        Place::After(0),
+        Letter::X,
+        "00",
+    ),
+    // By the gate and not its inverse: X becomes Y, Y becomes Z, Z becomes X.
+    ("C_XYZ 0 | M 0", Place::Start(0), Letter::X, "1"),
+    ("C_XYZ 0 | M 0", Place::Start(0), Letter::Y, "0"),
+    ("C_XYZ 0 | M 0", Place::Start(0), Letter::Z, "1"),
+];
 
 // A letter at qubit 0, with sign minus.
 fn lone(
@@ -55,28 +95,44 @@ fn word_has_flips(
     alloc: Global,
     program: &Program<'_, Global>,
     word: &Word<Global>,
-    row: &FlipRow,
+    place: Place,
+    digits: &str,
 ) -> Result<bool, Fail>
     requires { length word.now.letters ≡ program.now.listing.qubits }
 {
-    let flips = flips(alloc, program, row.place, word)?;
-    Ok(flips.as_slice() == row.flips)
+    let flips = flips(alloc, program, place, word)?;
+    Ok(are_digits(flips.as_slice(), digits))
 }
 
-fn has_flips(alloc: Global, program: &Program<'_, Global>, row: &FlipRow) -> Result<bool, Fail> {
-    let word = lone(alloc, program, row.letter)?;
-    word_has_flips(alloc, program, &word, row)
+fn has_flips(
+    alloc: Global,
+    program: &Program<'_, Global>,
+    (place, letter): (Place, Letter),
+    digits: &str,
+) -> Result<bool, Fail> {
+    let word = lone(alloc, program, letter)?;
+    word_has_flips(alloc, program, &word, place, digits)
 }
 
-fn are_flips(rt: &impl Abort, alloc: Global, row: &FlipRow) -> Result<bool, Fail> {
-    let program = made(rt, alloc, row.qubits, row.pieces, NOTHING)?;
-    has_flips(alloc, &program, row)
+fn text_has_flips(
+    alloc: Global,
+    text: &[u8],
+    frame: (Place, Letter),
+    digits: &str,
+) -> Result<bool, Fail> {
+    let program = read_program(alloc, text)?;
+    has_flips(alloc, &program, frame, digits)
+}
+
+fn are_flips(alloc: Global, row: (&str, Place, Letter, &str)) -> Result<bool, Fail> {
+    let text = text_of(alloc, row.0)?;
+    text_has_flips(alloc, text.as_slice(), (row.1, row.2), row.3)
 }
 
 #[test]
 fn flips_of_the_table(rt: HostRuntime) -> Result<(), Fail> {
     for row in FLIPS {
-        assert!(rt; are_flips(&rt, rt.alloc(), row)?, "of {}", row.circuit);
+        assert!(rt; are_flips(rt.alloc(), *row)?, "of {}", row.0);
     }
     Ok(())
 }

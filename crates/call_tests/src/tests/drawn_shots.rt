@@ -1,100 +1,37 @@
 //! Drawn shots of a small program, against the generator's words taken outside.
-use crate::tests::made;
 use forward_sim::draw;
-use pauli_word::Letter;
-use plain_runs::{Entry, Lists, Piece};
-use programs::{Program, Recording, TextStep};
+use programs::Program;
 use rand_core::SeedableRng;
 use rand_core::utils::NextWord;
 use rand_pcg::Pcg64;
 use std::alloc::Global;
 use std::test::Fail;
-use step_model::{Fault, Term};
+use step_model::Fault;
+use test_support::are_digits;
+use unroll::read_program;
 
-const X_0: &[Term] = &[Term {
-    qubit: 0,
-    letter: Letter::X,
-}];
+const CIRCUIT: &[u8] = b"\
+X_ERROR(0.5) 0
+X_ERROR(0) 0
+X_ERROR(1) 0
+M(0.25) 0
+R 0
+X_ERROR(0.5) 0
+";
 
-const LISTS: Lists<'static> = Lists {
-    entries: &[
-        Entry {
-            text: b"0.5",
-            terms: X_0,
-        },
-        Entry {
-            text: b"0",
-            terms: X_0,
-        },
-        Entry {
-            text: b"1",
-            terms: X_0,
-        },
-        Entry {
-            text: b"0.25",
-            terms: &[],
-        },
-    ],
-    products: &[],
-    detectors: &[],
-    observables: &[],
-    coordinates: &[],
-};
-
-// X_ERROR(0.5) 0, X_ERROR(0) 0, X_ERROR(1) 0, M(0.25) 0, R 0, X_ERROR(0.5) 0
-const PIECES: &[Piece] = &[
-    Piece::Do(TextStep::Fault(0)),
-    Piece::Do(TextStep::Fault(1)),
-    Piece::Do(TextStep::Fault(2)),
-    Piece::Do(TextStep::Collapse {
-        letter: Letter::Z,
-        qubit: 0,
-        reset: false,
-        recording: Some(Recording {
-            inverted: false,
-            flip: Some(3),
-        }),
-    }),
-    Piece::Do(TextStep::Collapse {
-        letter: Letter::Z,
-        qubit: 0,
-        reset: true,
-        recording: None,
-    }),
-    Piece::Do(TextStep::Fault(0)),
-];
-
-struct Row {
-    faults: [bool; 5],
-    coins: [bool; 2],
-}
-
-// By the first words of the generator of seed 5, seven a shot: the first begin with the hexadecimal digits 61, 94, 44,
-// 92, b8, 43 and 2f, and the last two end with 59 and e2.
-const ROWS: &[Row] = &[
-    Row {
-        faults: [true, false, true, false, false],
-        coins: [true, false],
-    },
-    Row {
-        faults: [true, false, true, true, true],
-        coins: [true, false],
-    },
-    Row {
-        faults: [false, false, true, false, false],
-        coins: [false, true],
-    },
-];
+/// The faults and the coins of the first shots, by the first words of the generator of seed 5, seven a shot: the first begin with
+/// the hexadecimal digits 61, 94, 44, 92, b8, 43 and 2f, and the last two end with 59 and e2.
+const ROWS: &[(&str, &str)] = &[("10100", "10"), ("10111", "10"), ("00100", "01")];
 
 /// Whether the shot that is drawn next is that of the row.
 fn is_of_row(
     alloc: Global,
     program: &Program<'_, Global>,
     rng: &mut Pcg64,
-    row: &Row,
+    row: (&str, &str),
 ) -> Result<bool, Fault> {
     let (faults, coins) = draw(alloc, program, rng)?;
-    Ok(faults.as_slice() == row.faults.as_slice() && coins.as_slice() == row.coins.as_slice())
+    Ok(are_digits(faults.as_slice(), row.0) && are_digits(coins.as_slice(), row.1))
 }
 
 /// Whether the shots that are drawn in turn are those of the rows.
@@ -105,7 +42,7 @@ fn are_of_rows(
 ) -> Result<bool, Fault> {
     let mut all = true;
     for row in ROWS {
-        all &= is_of_row(alloc, program, rng, row)?;
+        all &= is_of_row(alloc, program, rng, *row)?;
     }
     Ok(all)
 }
@@ -124,7 +61,7 @@ fn has_shots(alloc: Global, program: &Program<'_, Global>) -> Result<bool, Fault
 
 #[test]
 fn shots_of_seed_five(rt: HostRuntime) -> Result<(), Fail> {
-    let program = made(&rt, rt.alloc(), 1, PIECES, LISTS)?;
+    let program = read_program(rt.alloc(), CIRCUIT)?;
     assert!(rt; has_shots(rt.alloc(), &program)?);
     Ok(())
 }

@@ -35,7 +35,10 @@ fn has_symptom(alloc: Global, model: &Model<'_, Global>) -> Result<bool, Fault> 
 }
 
 fn is_model(alloc: Global, model: &Model<'_, Global>) -> Result<bool, Fault> {
-    Ok(has_coordinates(alloc, model, COORDINATES)? && has_symptom(alloc, model)?)
+    if !has_coordinates(alloc, model, COORDINATES)? {
+        return Ok(false);
+    }
+    has_symptom(alloc, model)
 }
 
 fn has_model(alloc: Global) -> Result<bool, Fail> {

@@ -1,20 +1,12 @@
 //! Streams over devices that follow a script.
+use Event::{Fails, Moves};
 use std::alloc::Global;
-use std::io::{Error, ErrorKind, Read, Result, Write};
+use std::io::ErrorKind;
 use std::process::Abort;
 use std::test::Fail;
 use step_model::{Fault, Sink, Source, read_all, write_all};
 use streams::{ReaderSource, WriterSink};
-
-/// What a device does at one of its calls.
-#[derive(Clone, Copy)]
-enum Event {
-    /// Moves at most so many bytes.
-    Moves(usize),
-    Fails(ErrorKind),
-}
-
-use Event::{Fails, Moves};
+use test_support::{Device, Event, Plan};
 
 const INTERRUPTED: Event = Fails(ErrorKind::Interrupted);
 
@@ -27,59 +19,14 @@ const KINDS: [ErrorKind; 5] = [
     ErrorKind::Other,
 ];
 
-/// Hands out the bytes `abcdefgh` and keeps what it takes, an event a call. After the script it moves all there is.
-#[derive(Drop)]
-struct Device<'s> {
-    script: &'s [Event],
-    calls: usize,
-    left: &'static [u8],
-    taken: Vec<u8>,
-}
-
-fn make_device(alloc: Global, script: &[Event]) -> Device<'_> {
-    Device {
-        script,
-        calls: 0,
-        left: b"abcdefgh",
-        taken: Vec::new(alloc),
-    }
-}
-
-impl<'s> Device<'s> {
-    fn next_event(&mut self) -> Result<usize> {
-        let event = self.script.get(self.calls).copied();
-        self.calls = self.calls.saturating_add(1);
-        match event {
-            Some(Moves(n)) => Ok(n),
-            Some(Fails(kind)) => Err(Error::from(kind)),
-            None => Ok(usize::MAX),
-        }
-    }
-}
-
-impl<'s> Read for Device<'s> {
-    fn read(&mut self, buf: &mut [u8]) -> Result<usize> {
-        // What a failed call leaves in the buffer is the device's own affair.
-        buf.fill(b'?');
-        let n = self.next_event()?.min(buf.len()).min(self.left.len());
-        buf[..n].copy_from_slice(&self.left[..n]);
-        self.left = &self.left[n..];
-        Ok(n)
-    }
-}
-
-impl<'s> Write for Device<'s> {
-    fn write(&mut self, buf: &[u8]) -> Result<usize> {
-        let n = self.next_event()?.min(buf.len());
-        self.taken
-            .extend_from_slice(&buf[..n])
-            .map_err(|_| Error::from(ErrorKind::OutOfMemory))?;
-        Ok(n)
-    }
-
-    fn flush(&mut self) -> Result<()> {
-        Ok(())
-    }
+/// Hands out the bytes `abcdefgh`, and follows a script from its first call on.
+fn make_device(alloc: Global, events: &[Event]) -> Device<'_> {
+    let plan = Plan {
+        most: usize::MAX,
+        first: 1,
+        events,
+    };
+    Device::new(alloc, b"abcdefgh", plan)
 }
 
 /// Scripts by which a device hands out all it has.
@@ -94,14 +41,14 @@ fn reads_all_bytes(
     rt: &impl Abort,
     alloc: Global,
     source: &mut ReaderSource<Device<'_>>,
-) -> std::result::Result<(), Fail> {
+) -> Result<(), Fail> {
     let bytes = read_all(alloc, source)?;
     assert!(rt; bytes.as_slice() == b"abcdefgh".as_slice() && source.failures() == 0);
     Ok(())
 }
 
 #[test]
-fn reads_all_bytes_and_goes_on_where_interrupted(rt: HostRuntime) -> std::result::Result<(), Fail> {
+fn reads_all_bytes_and_goes_on_where_interrupted(rt: HostRuntime) -> Result<(), Fail> {
     for script in READS {
         let mut source = ReaderSource::new(make_device(rt.alloc(), script));
         reads_all_bytes(&rt, rt.alloc(), &mut source)?;
@@ -114,7 +61,7 @@ fn fails_behind_two_bytes(rt: &impl Abort, source: &mut ReaderSource<Device<'_>>
     for outcome in [Ok(2), Err(Fault::READ)] {
         assert!(rt; source.read(&mut buffer) == outcome && buffer.as_slice() == b"ab..".as_slice());
     }
-    assert!(rt; source.failures() == 1 && source.reader().calls == 3);
+    assert!(rt; source.failures() == 1 && source.reader().calls() == 3);
 }
 
 #[test]
@@ -130,7 +77,7 @@ fn a_failed_read_is_counted_and_leaves_the_buffer(rt: HostRuntime) {
 
 fn stops_reading(rt: &impl Abort, alloc: Global, source: &mut ReaderSource<Device<'_>>) {
     assert!(rt; read_all(alloc, source).err() == Some(Fault::READ));
-    assert!(rt; source.failures() == 1 && source.reader().calls == 2);
+    assert!(rt; source.failures() == 1 && source.reader().calls() == 2);
 }
 
 #[test]
@@ -158,7 +105,7 @@ const WRITES: [&[Event]; 3] = [
 
 fn writes_all_bytes(rt: &impl Abort, sink: &mut WriterSink<Device<'_>>) {
     assert!(rt; write_all(sink, b"wxyz") == Ok(()) && sink.failures() == 0);
-    assert!(rt; sink.writer().taken.as_slice() == b"wxyz".as_slice());
+    assert!(rt; sink.writer().taken() == b"wxyz".as_slice());
 }
 
 #[test]
@@ -180,7 +127,7 @@ const WRITE_FAILURES: [Event; 6] = [
 
 fn stops_writing(rt: &impl Abort, sink: &mut WriterSink<Device<'_>>) {
     assert!(rt; write_all(sink, b"wxyz") == Err(Fault::WRITE) && sink.failures() == 1);
-    assert!(rt; sink.writer().taken.as_slice() == b"w".as_slice() && sink.writer().calls == 3);
+    assert!(rt; sink.writer().taken() == b"w".as_slice() && sink.writer().calls() == 3);
 }
 
 #[test]

@@ -1,15 +1,107 @@
 //! The walk over small circuits, step by step against lists that were written out by hand.
-ghost use Rattle.std.specs.Prelude.{◌≡◌, ◌<◌, length, IfOk};
-
-mod table;
-
-use crate::tests::{NOTHING, made};
-use plain_runs::{Piece, program_of};
-use programs::{Program, Step, Walk};
+use gate_table::Gate;
+use pauli_word::Letter;
+use programs::{FaultName, Program, Step, Walk};
 use std::alloc::{AllocError, Global};
-use std::process::Abort;
 use std::test::Fail;
-use table::{EIGHT, MEASURE, MISFITS, READ, ROWS, Row, TWICE};
+use step_model::Fault;
+use test_support::text_of;
+use unroll::read_program;
+
+/// A row a circuit: its lines, how many records and how many faults it has, and its steps.
+///
+/// `X` and `C` are the gates X and CX, and `R` is a reset. `M`, `P` and `N` are measurements of Z, of a product and of one that
+/// is inverted, each with its record and, where it may be flipped, the fault and its entry. `F` is a fault with its entry, and
+/// `B` is feedback of a record. `-` stands for no step.
+const ROWS: &str = "\
+REPEAT 2 { | REPEAT 2 { | X 0 | M 0 | } | X 0 | } = 40 = X M0 X M1 X X M2 X M3 X
+REPEAT 1 { | M 0 | } = 10 = M0
+REPEAT 2 { | M 0 | } | REPEAT 3 { | X 0 | } = 20 = M0 M1 X X X
+REPEAT 2 { | X 0 | } | M 0 | REPEAT 2 { | X 0 | } = 10 = X X M0 X X
+# no step = 00 = -
+REPEAT 64000000 { | } = 00 = -
+REPEAT 2 { | REPEAT 1000000 { | REPEAT 7 { | } | } | M 0 | REPEAT 9 { | } | } = 20 = M0 M1
+# a fault's number, and its entry, at each turn of the inner block | REPEAT 2 { | M(0.5) 0 | REPEAT 2 { | X_ERROR(1) 0 | } | } \
+= 26 = M000 F11 F21 M130 F41 F51
+# the second turn's feedback is by the record of the first | M 0 | REPEAT 2 { | M 0 | CX rec[-2] 0 | } = 30 = M0 M1 B0 M2 B1
+REPEAT 2 { | MPP !X0*Z1 | } = 20 = N0 N1
+# in a block's first turn the last record is of the turn before of the block around it | M 0 | REPEAT 2 { | REPEAT 2 { | \
+CX rec[-1] 0 | M 0 | } | } = 50 = M0 B0 M1 B1 M2 B2 M3 B3 M4
+# a reset has no record; the fault behind the product has the number after its flip's | REPEAT 2 { | R 0 | CX 0 1 | \
+MPP(0.25) X0*Z1 | X_ERROR(1) 0 | } = 24 = R C P000 F11 R C P120 F31
+";
+
+fn digit(word: &[u8], at: usize) -> Option<u32> {
+    match word.get(at).copied() {
+        Some(byte) if byte.is_ascii_digit() => Some(byte as u32 - 48),
+        _ => None,
+    }
+}
+
+/// A fault with its entry, from this place of a word on.
+fn fault_name(word: &[u8], at: usize) -> Option<FaultName> {
+    let number = digit(word, at)?;
+    let entry = digit(word, at.saturating_add(1))?;
+    Some(FaultName { number, entry })
+}
+
+fn collapse(rec: Option<u32>, flip: Option<FaultName>) -> Step {
+    Step::Collapse {
+        letter: Letter::Z,
+        qubit: 0,
+        rec,
+        reset: rec.is_none(),
+        inverted: false,
+        flip,
+    }
+}
+
+fn product(rec: Option<u32>, inverted: bool, flip: Option<FaultName>) -> Step {
+    Step::CollapseWord {
+        product: 0,
+        rec,
+        inverted,
+        flip,
+    }
+}
+
+/// The step that a word names.
+fn step_of(word: &[u8]) -> Option<Step> {
+    let (rec, flip) = (digit(word, 1), fault_name(word, 2));
+    Some(match word.first().copied()? {
+        b'X' => Step::One {
+            gate: Gate::X,
+            q: 0,
+        },
+        b'C' => Step::Two {
+            gate: Gate::CX,
+            a: 0,
+            b: 1,
+        },
+        b'R' | b'M' => collapse(rec, flip),
+        b'P' => product(rec, false, flip),
+        b'N' => product(rec, true, flip),
+        b'F' => Step::Fault(fault_name(word, 1)?),
+        b'B' => Step::Feedback {
+            letter: Letter::X,
+            q: 0,
+            rec: rec?,
+        },
+        _ => return None,
+    })
+}
+
+/// The steps that the words of a text name; where a word names none, no steps.
+fn steps_of(alloc: Global, words: &str) -> Result<Vec<Step>, AllocError> {
+    let mut steps = Vec::new(alloc);
+    for word in words.split_whitespace() {
+        match step_of(word.as_bytes()) {
+            Some(step) => steps.push(step)?,
+            None => return Ok(Vec::new(alloc)),
+        }
+    }
+    Ok(steps)
+}
 
 fn goes_forth(walk: &mut Walk<'_, '_, Global>, step: &Step) -> bool {
     walk.next_step() == Some(*step)
@@ -51,136 +143,75 @@ fn walks_back_over(program: &Program<'_, Global>, steps: &[Step]) -> bool {
     all & walk.next_step().is_none()
 }
 
-fn is_of_row(program: &Program<'_, Global>, row: &Row) -> bool {
-    walks_over(program, row.steps)
-        & walks_back_over(program, row.steps)
-        & (program.record_count() == row.records)
-        & (program.fault_count() == row.faults)
+/// Whether a program has as many records and faults as these two digits say, and the steps.
+fn is_of_row(program: &Program<'_, Global>, counts: &str, steps: &[Step]) -> bool {
+    (Some(program.record_count()) == digit(counts.as_bytes(), 0))
+        & (Some(program.fault_count()) == digit(counts.as_bytes(), 1))
+        & walks_over(program, steps)
+        & walks_back_over(program, steps)
 }
 
-fn has_row(rt: &impl Abort, alloc: Global, row: &Row) -> Result<bool, AllocError> {
-    let program = made(rt, alloc, row.qubits, row.pieces, row.lists)?;
-    Ok(is_of_row(&program, row))
+fn text_holds(alloc: Global, text: &[u8], counts: &str, steps: &[Step]) -> Result<bool, Fault> {
+    let program = read_program(alloc, text)?;
+    Ok(is_of_row(&program, counts, steps))
+}
+
+/// Whether a circuit, of which `|` ends each line, has these counts and steps.
+fn circuit_holds(alloc: Global, circuit: &str, counts: &str, words: &str) -> Result<bool, Fail> {
+    let text = text_of(alloc, circuit)?;
+    let steps = steps_of(alloc, words)?;
+    Ok(text_holds(alloc, text.as_slice(), counts, steps.as_slice())?)
+}
+
+/// The parts of a row.
+fn parts_of(row: &str) -> Option<(&str, &str, &str)> {
+    let (circuit, rest) = row.split_once(" = ")?;
+    let (counts, steps) = rest.split_once(" = ")?;
+    Some((circuit, counts, steps))
+}
+
+fn row_holds(alloc: Global, row: &str) -> Result<bool, Fail> {
+    match parts_of(row) {
+        Some((circuit, counts, words)) => circuit_holds(alloc, circuit, counts, words),
+        None => Ok(false),
+    }
 }
 
 #[test]
 fn rows_of_the_table(rt: HostRuntime) -> Result<(), Fail> {
-    for row in ROWS {
-        assert!(rt; has_row(&rt, rt.alloc(), row)?, "of {}", row.circuit);
+    for row in ROWS.lines() {
+        assert!(rt; row_holds(rt.alloc(), row)?, "{row}");
     }
+    assert!(rt; ROWS.lines().count() == 12);
     Ok(())
 }
 
-fn push_often(pieces: &mut Vec<Piece, Global>, piece: Piece, times: u32) -> Result<(), AllocError> {
-    for _ in 0..times {
-        pieces.push(piece)?;
+/// A measurement in three blocks of two turns inside 29 of one.
+fn nested(alloc: Global) -> Result<String, AllocError> {
+    let mut text = String::new(alloc);
+    for level in 0..32 {
+        text.push_str(if level < 29 {
+            "REPEAT 1 {|"
+        } else {
+            "REPEAT 2 {|"
+        })?;
     }
-    Ok(())
-}
-
-// M 0 inside three blocks of two turns inside so many of one.
-fn nested(alloc: Global, outer: u32) -> Result<Vec<Piece, Global>, AllocError> {
-    let mut pieces = Vec::new(alloc);
-    push_often(&mut pieces, Piece::Open(1), outer)?;
-    push_often(&mut pieces, Piece::Open(2), 3)?;
-    pieces.push(MEASURE)?;
-    push_often(&mut pieces, Piece::Close, 3)?;
-    push_often(&mut pieces, Piece::Close, outer)?;
-    Ok(pieces)
-}
-
-fn nested_walks(rt: &impl Abort, alloc: Global, pieces: &[Piece]) -> Result<bool, AllocError> {
-    let program = made(rt, alloc, 1, pieces, NOTHING)?;
-    Ok(walks_over(&program, EIGHT) & walks_back_over(&program, EIGHT))
+    text.push_str("M 0|")?;
+    for _ in 0..32 {
+        text.push_str("}|")?;
+    }
+    Ok(text)
 }
 
 #[test]
 fn blocks_of_thirty_two_levels(rt: HostRuntime) -> Result<(), Fail> {
-    let pieces = nested(rt.alloc(), 29)?;
-    assert!(rt; nested_walks(&rt, rt.alloc(), pieces.as_slice())?);
-    Ok(())
-}
-
-fn is_misfit(alloc: Global, pieces: &[Piece]) -> Result<bool, AllocError> {
-    Ok(program_of(alloc, 1, pieces, NOTHING)?.is_none())
-}
-
-#[test]
-fn more_levels_make_no_program(rt: HostRuntime) -> Result<(), Fail> {
-    let pieces = nested(rt.alloc(), 30)?;
-    let is_misfit = is_misfit(rt.alloc(), pieces.as_slice())?;
-    assert!(rt; is_misfit);
-    Ok(())
-}
-
-// Two measurements, with three kept faults and two products.
-fn listed(rt: &impl Abort, alloc: Global) -> Result<Program<'static, Global>, AllocError>
-    ensures kept { IfOk result (λ p. length p.kept ≡ 3) }
-    ensures products { IfOk result (λ p. length p.products ≡ 2) }
-{
-    Ok(program_of(alloc, 2, TWICE, READ)?.expect(rt, "it fits"))
-}
-
-fn counts_are_answered(program: &Program<'_, Global>) -> bool {
-    (program.qubits() == 2)
-        & (program.record_count() == 2)
-        & (program.collapse_count() == 2)
-        & (program.fault_count() == 0)
-        & (program.detector_count() == 2)
-        & (program.observable_count() == 3)
-}
-
-fn lists_are_answered(program: &Program<'_, Global>) -> bool {
-    if program.detector_count() < 2 || program.observable_count() < 3 {
-        return false;
-    }
-    (program.detector(1) == READ.detectors[1])
-        & (program.observable(2) == READ.observables[2])
-        & (program.coordinates(1).as_slice() == READ.coordinates[1])
-}
-
-// What is kept at a number, as it is listed, with this bound.
-fn entry_is_answered(program: &Program<'_, Global>, e: u32, bound: u128) -> bool
-    requires program { e < length program.now.kept }
-    requires list { e < 3 }
-{
-    let listed = READ.entries[e as usize];
-    (program.entry_text(e) == listed.text)
-        & (program.entry_bound(e) == bound)
-        & (program.entry_terms(e) == listed.terms)
-}
-
-fn products_are_answered(program: &Program<'_, Global>) -> bool
-    requires { 1 < length program.now.products }
-{
-    (program.product(0) == READ.products[0]) & (program.product(1) == READ.products[1])
-}
-
-fn readers_answer(program: &Program<'_, Global>) -> bool
-    requires kept { length program.now.kept ≡ 3 }
-    requires products { length program.now.products ≡ 2 }
-{
-    let entries = entry_is_answered(program, 0, 1 << 64)
-        & entry_is_answered(program, 1, 1 << 62)
-        & entry_is_answered(program, 2, 1 << 63);
-    entries
-        & products_are_answered(program)
-        & counts_are_answered(program)
-        & lists_are_answered(program)
-}
-
-#[test]
-fn readers_answer_their_parts(rt: HostRuntime) -> Result<(), Fail> {
-    let program = listed(&rt, rt.alloc())?;
-    program.well_formed();
-    assert!(rt; readers_answer(&program));
-    Ok(())
-}
-
-#[test]
-fn misfits_make_no_program(rt: HostRuntime) -> Result<(), Fail> {
-    for pieces in MISFITS {
-        assert!(rt; is_misfit(rt.alloc(), pieces)?);
-    }
+    let circuit = nested(rt.alloc())?;
+    let holds = circuit_holds(
+        rt.alloc(),
+        circuit.as_str(),
+        "80",
+        "M0 M1 M2 M3 M4 M5 M6 M7",
+    )?;
+    assert!(rt; holds);
     Ok(())
 }

@@ -2,7 +2,6 @@
 ghost use Rattle.std.specs.Prelude.{◌≡◌, false, length, IfOk};
 ghost use Rattle.pauli_word.specs.Words.{anticommute};
 
-use crate::tests::word_of;
 use pauli_word::Letter::{self, I, X, Y, Z};
 use pauli_word::{Word, laws};
 use std::alloc::{AllocError, Global};
@@ -15,6 +14,17 @@ const MINUS: bool = true;
 
 /// Whether the sign is minus, and two letters.
 type Signed = (bool, Letter, Letter);
+
+/// The word of these letters, of sign plus.
+fn word_of(alloc: Global, letters: &[Letter]) -> Result<Word<Global>, AllocError>
+    ensures { IfOk result (λ w. length w.letters ≡ length letters.now) }
+{
+    let mut word = Word::identity(alloc, letters.len())?;
+    for qubit in 0..letters.len() {
+        word.set_letter(qubit, letters[qubit]);
+    }
+    Ok(word)
+}
 
 /// The word of these letters and this sign.
 fn signed_word(

@@ -1,8 +1,6 @@
 //! Analyses as the table has them, by both trackers, and the coin pairs of its random targets.
 
-use super::are_digits;
 use super::runs::differences;
-use super::table::text_of;
 use crate::tests::words::{dense_words, sparse_words};
 use backward::{Analysed, analyse};
 use frames::coin_pair;
@@ -11,6 +9,7 @@ use programs::Program;
 use std::alloc::{AllocError, Global};
 use std::test::Fail;
 use step_model::{Fault, MemorySink, Place};
+use test_support::{are_digits, text_of};
 
 /// Whether each tracker gives this answer.
 pub(super) fn answers_hold(
@@ -158,7 +157,10 @@ fn is_random(
     (target, place): (usize, Place),
     pair: (&[bool], &[bool]),
 ) -> Result<bool, Fail> {
-    Ok(has_place(alloc, program, target, place)? && differs(alloc, program, target, pair)?)
+    if !has_place(alloc, program, target, place)? {
+        return Ok(false);
+    }
+    differs(alloc, program, target, pair)
 }
 
 fn has_place(

@@ -2,7 +2,6 @@
 ghost use Rattle.std.specs.Prelude.{◌<◌};
 ghost use Rattle.frames.specs.Batches.{IsBatchOf};
 
-use super::table::text_of;
 use forward_sim::{Records, Shots, Span, run};
 use frames::Batch;
 use programs::Program;
@@ -10,6 +9,7 @@ use rand_core::SeedableRng;
 use rand_pcg::Pcg64;
 use std::alloc::Global;
 use std::test::Fail;
+use test_support::text_of;
 use unroll::read_program;
 
 /// How many bytes the words may take: none, enough for some collapses, and enough for all.

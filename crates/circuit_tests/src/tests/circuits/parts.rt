@@ -3,11 +3,12 @@ use crate::tests::words::sparse_words;
 use backward::write_in_parts;
 use programs::Program;
 use std::alloc::{AllocError, Global};
-use std::io::{Error, ErrorKind, Write};
+use std::io::ErrorKind;
 use std::process::Abort;
 use std::test::Fail;
 use step_model::{Fault, Place};
 use streams::WriterSink;
+use test_support::{Device, Event, Plan};
 use unroll::read_program;
 
 /// Each turn has a fault, which flips the turn's detector alone.
@@ -15,31 +16,6 @@ const CIRCUIT: &[u8] = b"REPEAT 3000 {\nX_ERROR(0.1) 0\nMR 0\nDETECTOR rec[-1]\n
 
 /// How much text is held at once: none, and some sixty lines.
 const ROOMS: [usize; 2] = [0, 1_000];
-
-/// Keeps what it is given, and fails at the call with the number `fails_at`, counted from 1: at none where that is 0.
-#[derive(Drop)]
-struct Device {
-    taken: Vec<u8>,
-    calls: u64,
-    fails_at: u64,
-}
-
-impl Write for Device {
-    fn write(&mut self, buf: &[u8]) -> std::io::Result<usize> {
-        self.calls = self.calls.saturating_add(1);
-        if self.calls == self.fails_at {
-            return Err(Error::from(ErrorKind::BrokenPipe));
-        }
-        self.taken
-            .extend_from_slice(buf)
-            .map_err(|_| Error::from(ErrorKind::OutOfMemory))?;
-        Ok(buf.len())
-    }
-
-    fn flush(&mut self) -> std::io::Result<()> {
-        Ok(())
-    }
-}
 
 /// Of 93,780 bytes, of which the error lines have 49,890: more than three pieces of 16 KiB.
 fn whole_text(alloc: Global) -> Result<Vec<u8>, AllocError> {
@@ -53,13 +29,15 @@ fn whole_text(alloc: Global) -> Result<Vec<u8>, AllocError> {
     Ok(text)
 }
 
+const FAILS: &[Event] = &[Event::Fails(ErrorKind::BrokenPipe)];
+
 type Answer = Result<Option<(u32, Place)>, Fault>;
 
 fn write_to(
     alloc: Global,
     program: &Program<'_, Global>,
     room: usize,
-    sink: &mut WriterSink<Device>,
+    sink: &mut WriterSink<Device<'_>>,
 ) -> Answer {
     match sparse_words(&alloc, program) {
         Ok(words) => write_in_parts(alloc, program, words, room, sink),
@@ -73,12 +51,13 @@ fn written(
     program: &Program<'_, Global>,
     room: usize,
     fails_at: u64,
-) -> (Answer, WriterSink<Device>) {
-    let mut sink = WriterSink::new(Device {
-        taken: Vec::new(alloc),
-        calls: 0,
-        fails_at,
-    });
+) -> (Answer, WriterSink<Device<'static>>) {
+    let plan = Plan {
+        most: usize::MAX,
+        first: fails_at,
+        events: FAILS,
+    };
+    let mut sink = WriterSink::new(Device::new(alloc, b"", plan));
     let answer = write_to(alloc, program, room, &mut sink);
     (answer, sink)
 }
@@ -87,8 +66,8 @@ fn written(
 fn calls_of(alloc: Global, program: &Program<'_, Global>, room: usize, text: &[u8]) -> Option<u64> {
     let (answer, sink) = written(alloc, program, room, 0);
     let device = sink.writer();
-    let is_whole = answer == Ok(None) && device.taken.as_slice() == text;
-    is_whole.then_some(device.calls)
+    let is_whole = answer == Ok(None) && device.taken() == text;
+    is_whole.then_some(device.calls())
 }
 
 /// Whether the failure is told, a beginning went out, and no call followed.
@@ -101,7 +80,7 @@ fn stops_at(
 ) -> bool {
     let (answer, sink) = written(alloc, program, room, call);
     let device = sink.writer();
-    answer == Err(Fault::WRITE) && device.calls == call && text.starts_with(device.taken.as_slice())
+    answer == Err(Fault::WRITE) && device.calls() == call && text.starts_with(device.taken())
 }
 
 /// The first three calls fail while error lines are written, and the later ones among the detectors.

@@ -1,10 +1,10 @@
 //! Runs as the table has them, by the tableau and straight from the definitions.
-use super::are_digits;
 use forward_sim::{Records, detections, read_coins, read_numbers, run};
 use programs::Program;
 use sampling::digit;
 use std::alloc::Global;
 use std::test::Fail;
+use test_support::are_digits;
 
 /// Whether there are runs in a text, and each is as it says.
 pub(super) fn runs_hold(
@@ -63,11 +63,13 @@ fn is_run(
     let Some((records, detections)) = expected.split_once(';') else {
         return Ok(false);
     };
-    Ok(
-        records_are(alloc, program, given, records)?
-            && plain_records_are(alloc, program, given, records)?
-            && detections_are(alloc, program, given, detections)?,
-    )
+    if !records_are(alloc, program, given, records)? {
+        return Ok(false);
+    }
+    if !plain_records_are(alloc, program, given, records)? {
+        return Ok(false);
+    }
+    detections_are(alloc, program, given, detections)
 }
 
 fn records_are(

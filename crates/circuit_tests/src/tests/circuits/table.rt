@@ -6,39 +6,28 @@ use super::beside::batches_agree;
 use super::runs::runs_hold;
 use programs::Program;
 use rows::{BLOCKS, FAULTS, FEEDBACK, GATES, PRODUCTS, RESETS};
-use std::alloc::{AllocError, Global};
+use std::alloc::Global;
 use std::process::Abort;
 use std::test::Fail;
+use test_support::text_of;
 use unroll::read_program;
 
-#[test]
-fn rows_of_gates(rt: HostRuntime) -> Result<(), Fail> {
-    check_rows(&rt, rt.alloc(), GATES, 12)
-}
+/// The texts of rows, and how many each has.
+const TABLES: [(&str, usize); 6] = [
+    (GATES, 12),
+    (RESETS, 8),
+    (FAULTS, 6),
+    (BLOCKS, 5),
+    (PRODUCTS, 6),
+    (FEEDBACK, 6),
+];
 
 #[test]
-fn rows_of_resets(rt: HostRuntime) -> Result<(), Fail> {
-    check_rows(&rt, rt.alloc(), RESETS, 8)
-}
-
-#[test]
-fn rows_of_faults(rt: HostRuntime) -> Result<(), Fail> {
-    check_rows(&rt, rt.alloc(), FAULTS, 6)
-}
-
-#[test]
-fn rows_of_blocks(rt: HostRuntime) -> Result<(), Fail> {
-    check_rows(&rt, rt.alloc(), BLOCKS, 5)
-}
-
-#[test]
-fn rows_of_products(rt: HostRuntime) -> Result<(), Fail> {
-    check_rows(&rt, rt.alloc(), PRODUCTS, 6)
-}
-
-#[test]
-fn rows_of_feedback(rt: HostRuntime) -> Result<(), Fail> {
-    check_rows(&rt, rt.alloc(), FEEDBACK, 6)
+fn rows_of_the_tables(rt: HostRuntime) -> Result<(), Fail> {
+    for (rows, count) in TABLES {
+        check_rows(&rt, rt.alloc(), rows, count)?;
+    }
+    Ok(())
 }
 
 /// Each of so many rows holds.
@@ -67,17 +56,6 @@ fn parts_of(row: &str) -> Option<(&str, &str, &str)> {
 fn circuit_holds(alloc: Global, circuit: &str, worked: (&str, &str)) -> Result<bool, Fail> {
     let text = text_of(alloc, circuit)?;
     text_holds(alloc, text.as_slice(), worked)
-}
-
-/// A text of which `|` ends each line.
-pub(super) fn text_of(alloc: Global, lines: &str) -> Result<Vec<u8>, AllocError> {
-    let mut text = Vec::from_slice(alloc, lines.as_bytes())?;
-    for byte in text.as_mut_slice() {
-        if *byte == b'|' {
-            *byte = b'\n';
-        }
-    }
-    Ok(text)
 }
 
 fn text_holds(alloc: Global, text: &[u8], worked: (&str, &str)) -> Result<bool, Fail> {

@@ -1,39 +1,42 @@
 //! Each gate between preparations and measurements of single letters.
 
 use super::agreement::records_agree;
-use super::gates::{ONE, TWO};
-use gate_table::Gate;
-use pauli_word::Letter;
-use plain_runs::{Lists, Piece, program_of};
-use programs::{Program, Recording, TextStep};
+use programs::Program;
 use std::alloc::{AllocError, Global};
 use std::test::Fail;
+use unroll::read_program;
+
+/// The gates on one qubit.
+const ONE: &str = "I X Y Z H H_XY H_YZ S S_DAG SQRT_X SQRT_X_DAG SQRT_Y SQRT_Y_DAG C_XYZ C_ZYX";
+
+/// The gates on two qubits.
+const TWO: &str = "CX CY CZ XCX XCY XCZ YCX YCY YCZ SWAP ISWAP ISWAP_DAG \
+    SQRT_XX SQRT_XX_DAG SQRT_YY SQRT_YY_DAG SQRT_ZZ SQRT_ZZ_DAG";
 
 /// The coins of two runs.
 const COINS: &[&[bool]] = &[&[false, true, false, true], &[true, false, true, false]];
 
 #[test]
 fn gates_of_one_qubit(rt: HostRuntime) -> Result<(), Fail> {
-    for gate in ONE {
-        let step = TextStep::One { gate, q: 0 };
-        assert!(rt; step_agrees(rt.alloc(), step)?, "{gate:?}");
+    for gate in ONE.split_whitespace() {
+        assert!(rt; gate_agrees(rt.alloc(), gate, "0")?, "{gate}");
     }
     Ok(())
 }
 
 #[test]
 fn gates_of_two_qubits(rt: HostRuntime) -> Result<(), Fail> {
-    for gate in TWO {
-        let step = TextStep::Two { gate, a: 0, b: 1 };
-        assert!(rt; step_agrees(rt.alloc(), step)?, "{gate:?}");
+    for gate in TWO.split_whitespace() {
+        assert!(rt; gate_agrees(rt.alloc(), gate, "0 1")?, "{gate}");
     }
     Ok(())
 }
 
-/// All letters that are prepared and measured at two qubits around a step.
-fn step_agrees(alloc: Global, step: TextStep) -> Result<bool, Fail> {
+/// All letters that are prepared and measured at two qubits around a gate.
+fn gate_agrees(alloc: Global, gate: &str, qubits: &str) -> Result<bool, Fail> {
     for number in 0..81 {
-        if !circuit_agrees(alloc, step, number)? {
+        let text = text_of(alloc, (gate, qubits), number)?;
+        if !text_agrees(alloc, text.as_str())? {
             return Ok(false);
         }
     }
@@ -41,32 +44,23 @@ fn step_agrees(alloc: Global, step: TextStep) -> Result<bool, Fail> {
 }
 
 /// The four letters are the digits of the number.
-fn circuit_agrees(alloc: Global, step: TextStep, number: u32) -> Result<bool, Fail> {
-    let pieces = [
-        prepared(letter(number), 0),
-        prepared(letter(number / 3), 1),
-        Piece::Do(step),
-        measured(letter(number / 9), 0),
-        measured(letter(number / 27), 1),
-    ];
-    match made(alloc, &pieces)? {
-        Some(program) => runs_agree(alloc, &program),
-        None => Ok(false),
+fn text_of(alloc: Global, (gate, qubits): (&str, &str), number: u32) -> Result<String, AllocError> {
+    let (first, second) = (letter(number), letter(number / 3));
+    let (third, fourth) = (letter(number / 9), letter(number / 27));
+    format!(in alloc; "R{first} 0\nR{second} 1\n{gate} {qubits}\nM{third} 0\nM{fourth} 1\n")
+}
+
+fn letter(number: u32) -> &'static str {
+    match number % 3 {
+        0 => "X",
+        1 => "Y",
+        _ => "Z",
     }
 }
 
-/// No lists beside a program's pieces.
-const NOTHING: Lists<'static> = Lists {
-    entries: &[],
-    products: &[],
-    detectors: &[],
-    observables: &[],
-    coordinates: &[],
-};
-
-/// The program of these pieces on two qubits, where they make one. Who takes it needs nothing of what is proved of it.
-fn made(alloc: Global, pieces: &[Piece]) -> Result<Option<Program<'static, Global>>, AllocError> {
-    program_of(alloc, 2, pieces, NOTHING)
+fn text_agrees(alloc: Global, text: &str) -> Result<bool, Fail> {
+    let program = read_program(alloc, text.as_bytes())?;
+    runs_agree(alloc, &program)
 }
 
 fn runs_agree(alloc: Global, program: &Program<'_, Global>) -> Result<bool, Fail> {
@@ -76,33 +70,4 @@ fn runs_agree(alloc: Global, program: &Program<'_, Global>) -> Result<bool, Fail
         }
     }
     Ok(true)
-}
-
-fn letter(number: u32) -> Letter {
-    match number % 3 {
-        0 => Letter::X,
-        1 => Letter::Y,
-        _ => Letter::Z,
-    }
-}
-
-fn prepared(letter: Letter, qubit: u32) -> Piece {
-    Piece::Do(TextStep::Collapse {
-        letter,
-        qubit,
-        reset: true,
-        recording: None,
-    })
-}
-
-fn measured(letter: Letter, qubit: u32) -> Piece {
-    Piece::Do(TextStep::Collapse {
-        letter,
-        qubit,
-        reset: false,
-        recording: Some(Recording {
-            inverted: false,
-            flip: None,
-        }),
-    })
 }

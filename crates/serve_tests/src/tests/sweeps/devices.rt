@@ -1,5 +1,5 @@
 //! Whole orders, of which one read or one write fails, and the ends go on after it.
-use super::rows::{ROWS, Row};
+use super::rows::{Row, rows};
 use engine::{Status, serve};
 use std::alloc::Global;
 use step_model::Fault;
@@ -57,7 +57,7 @@ fn is_stopped_at(
 
 #[test]
 fn every_read_fails_once(rt: HostRuntime) {
-    for row in ROWS {
+    for row in rows() {
         // The last call but two finds the end.
         for call in 1..=row.text.len() as u64 + 3 {
             let stops = stops_at_read(rt.alloc(), row, call);
@@ -68,7 +68,7 @@ fn every_read_fails_once(rt: HostRuntime) {
 
 #[test]
 fn every_write_fails_once(rt: HostRuntime) {
-    for row in ROWS {
+    for row in rows() {
         // Of the shots some forty calls, and the last.
         let length = row.length();
         let stride = if length < 1_000 { 1 } else { length / 40 };

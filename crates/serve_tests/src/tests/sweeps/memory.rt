@@ -1,5 +1,5 @@
 //! Whole orders, of which one growth is refused: the first, the second and so on, until none is.
-use super::rows::{ROWS, Row};
+use super::rows::{Row, rows};
 use engine::{Status, serve};
 use std::alloc::Global;
 use step_model::{Fault, MemorySink, MemorySource};
@@ -83,7 +83,7 @@ fn wrong_growth_in(alloc: Global, memory: &Scarce<Global>, row: &Row) -> Option<
 
 #[test]
 fn every_growth_is_refused_once(rt: HostRuntime) {
-    for row in ROWS {
+    for row in rows() {
         let growth = wrong_growth(rt.alloc(), row);
         assert!(rt; growth.is_none(), "growth {growth:?} of {}", row.output);
     }

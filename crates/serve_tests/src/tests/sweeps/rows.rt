@@ -146,7 +146,7 @@ impl Row {
 const ONES: &[u8] = b"1111111111111111111111111";
 
 /// Shots go out in more pieces than one.
-pub(super) const ROWS: &[Row] = &[
+const ROWS: &[Row] = &[
     Row {
         order: Order::Run {
             coins: Some(ONES),
@@ -352,3 +352,8 @@ coins 25
         spared: 0,
     },
 ];
+
+/// The rows. Who asks for them needs nothing of what they are.
+pub(super) fn rows() -> &'static [Row] {
+    ROWS
+}

@@ -1,4 +1,0 @@
-mod checks;
-mod examples;
-mod lengths;
-mod rows;
