@@ -1,1 +1,2 @@
 mod sweeps;
+mod worked;
