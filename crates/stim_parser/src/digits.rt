@@ -100,12 +100,14 @@ pub(crate) fn front_number(text: &[u8]) -> Option<(u64, &[u8])>
 {
     let end = text.len().min(SHORT_DIGITS);
     let mut number: u64 = 0;
-    let mut count = 0;
-    while count < end && text[count].is_ascii_digit() {
-        number = 10 * number + (text[count] - b'0') as u64;
-        count += 1;
+    for i in 0..end {
+        let byte = text[i];
+        if !byte.is_ascii_digit() {
+            return behind_digits(text, i, number);
+        }
+        number = 10 * number + (byte - b'0') as u64;
     }
-    behind_digits(text, count, number)
+    behind_digits(text, end, number)
 }
 
 /// Where the first byte stands that isn't a digit.

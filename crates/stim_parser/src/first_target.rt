@@ -65,9 +65,11 @@ fn first_record(text: &[u8]) -> Option<(Target, &[u8])>
 pub(crate) fn first_target(text: &[u8]) -> Option<(Target, &[u8])>
     ensures { IfSome result (λ front. WritesFirst target_of text.now (Some front.0) front.1.now) }
 {
-    match text {
-        [b'0'..=b'9', ..] => first_plain(text),
-        [b'r', ..] => first_record(text),
-        _ => first_pauli(text),
+    if let Some(found) = first_plain(text) {
+        return Some(found);
     }
+    if let Some(found) = first_pauli(text) {
+        return Some(found);
+    }
+    first_record(text)
 }

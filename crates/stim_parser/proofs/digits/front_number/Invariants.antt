@@ -1,16 +1,12 @@
-use Rattle.std.proofs.Common.{◌≡◌, ◌≤◌, ◌-◌, take, true}
+use Rattle.std.proofs.Common.{◌≡◌, take, true}
 use Rattle.std.specs.Prelude.{fold}
 use Rattle.std.specs.Char.{is_ascii_digit}
 use Rattle.std.specs.List.{list_all}
 use Rattle.stim_parser.proofs.DigitLemmas.{next_value}
 use Rattle.stim_parser.proofs.digits.front_number.Given as goal
 
-abbrev pub invariant-loop-count : goal.invariant-loop-count
-invariant-loop-count l = record {
-  number : l.number ≡ fold next_value 0 (take l.count l.text);
-  digits : list_all is_ascii_digit (take l.count l.text) ≡ true;
-  within : l.count ≤ l.end;
+abbrev pub invariant-loop-i : goal.invariant-loop-i
+invariant-loop-i l = record {
+  number : l.number ≡ fold next_value 0 (take l.i l.text);
+  digits : list_all is_ascii_digit (take l.i l.text) ≡ true;
 }
-
-abbrev pub decreases-loop-count : goal.decreases-loop-count
-decreases-loop-count l = l.end - l.count
