@@ -30,7 +30,6 @@ pub mod CoordinateArguments
 mod QubitSetLemmas
 mod ProductLemmas
 mod BracketLemmas
-mod FirstTargets
 pub mod ProductWords
 mod ProductSteps
 pub mod MarkLemmas

@@ -8,7 +8,6 @@ mod circuit_judge;
 mod coordinates;
 mod decimal;
 mod digits;
-mod first_target;
 mod forms;
 mod halved;
 mod judge;
