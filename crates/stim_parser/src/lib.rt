@@ -30,6 +30,7 @@ mod significant;
 mod table;
 mod target;
 mod target_checks;
+mod whole_numbers;
 
 pub use argument_checks::{has_wrong_arguments, has_wrong_probability};
 pub use arguments::{MOST_ARGUMENTS, first_argument, has_argument, read_arguments};
