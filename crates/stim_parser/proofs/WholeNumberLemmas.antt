@@ -1,6 +1,6 @@
 -- Arguments read as whole numbers, one after another, and coordinates among them.
 use Rattle.std.proofs.Common.{◌≡◌, ℕ, zero, suc, ◌+◌, ◌<◌, ◌≤◌, ℤ, pos, neg_ℤ, Bool, true, false, not, ◌&&◌, ◌||◌, List, [], ◌∷◌, ◌++◌, length, map, Option, None, Some, refl, sym, ap, ap₂, ◌∙◌, inl, inr, arith, length-append, append_assoc}
-use Rattle.std.specs.Prelude.{nat_abs, nat_le, nat_lt, if◌then◌else◌}
+use Rattle.std.specs.Prelude.{nat_abs, nat_le, nat_lt, if◌then◌else◌, MatchBool}
 use Rattle.std.specs.List.{list_all, list_any}
 use Rattle.std.proofs.lemmas.Bool.{cases_Bool}
 use Rattle.std.proofs.lemmas.List.{append-nil, length-map}
@@ -160,3 +160,8 @@ coordinates-none all wrong =
           absurd cc
       | inr e ↦ sym (ap (λ (b : Bool). if b then Some (map whole_value all) else None) e)
     ]
+
+pub told : (all : List (List ℕ)) (read : List ℤ) (beyond : Bool) → read ≡ map whole_value all → has_wrong_arguments WholeNumbers all ≡ false
+    → has_argument_beyond greatest_coordinate WholeNumbers all ≡ beyond → MatchBool (not beyond) (coordinates_in all ≡ Some read) (coordinates_in all ≡ None)
+told all read true values right is = sym (coordinates-at all true right is)
+told all read false values right is = sym (coordinates-at all false right is) ∙ ap (λ (zs : List ℤ). Some zs) (sym values)

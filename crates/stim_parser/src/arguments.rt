@@ -4,7 +4,7 @@ ghost use Rattle.stim_lexer.specs.Bytes.{is_blank};
 ghost use Rattle.stim_parser.specs.Arguments.{arguments_in, before_blanks, is_comma, parts_of, trimmed};
 
 use arrayvec::ArrayVec;
-use stim_lexer::{after_blanks, cut_at, is_blank};
+use stim_lexer::{after_blanks, cut_near, is_blank};
 
 /// How many arguments an instruction takes at most.
 pub const MOST_ARGUMENTS: usize = 16;
@@ -39,7 +39,7 @@ pub(crate) fn cut_at_comma(text: &[u8]) -> (&[u8], Option<&[u8]>)
         ≡ result.0.now ∷ parts_of result.1 }
     ensures less { IfSome result.1 (λ rest. length rest.now < length text.now) }
 {
-    let (first, rest) = cut_at(text, b',');
+    let (first, rest) = cut_near(text, b',');
     match rest {
         [_, after @ ..] => (first, Some(after)),
         [] => (first, None),

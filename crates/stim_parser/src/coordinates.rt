@@ -1,4 +1,4 @@
-ghost use Rattle.std.specs.Prelude.{◌≡◌, ◌≤◌, length, map, option_map};
+ghost use Rattle.std.specs.Prelude.{◌≡◌, ◌≤◌, None, Some, length, map, option_map, MatchBool};
 ghost use Rattle.stim_parser.specs.Arguments.{arguments_in};
 ghost use Rattle.stim_parser.specs.Coordinates.{coordinates_in, first_number};
 ghost use Rattle.stim_parser.specs.Numbers.{whole_value};
@@ -6,7 +6,7 @@ ghost use Rattle.stim_parser.specs.Numbers.{whole_value};
 use crate::arguments::{MOST_ARGUMENTS, first_argument};
 use crate::digits::number_of;
 use crate::numbers::{GREATEST_COORDINATE, magnitude_of};
-use crate::whole_numbers::{are_beyond, has_minus, signed, whole_numbers_of};
+use crate::whole_numbers::{are_beyond, has_minus, put_whole_numbers, signed};
 use arrayvec::ArrayVec;
 
 /// The value of a whole number, with its sign.
@@ -28,17 +28,29 @@ pub fn whole_values(texts: &[&[u8]]) -> ArrayVec<i64, MOST_ARGUMENTS>
     values
 }
 
+/// Puts all arguments in the text of some parentheses, as coordinates, in place of what was there. Answers whether they are at
+/// most 16 whole numbers within the limit.
+pub fn put_coordinates(found: &mut ArrayVec<i64, MOST_ARGUMENTS>, text: &[u8]) -> bool
+    ensures { MatchBool result
+        (coordinates_in (arguments_in text.now) ≡ Some found.new.items)
+        (coordinates_in (arguments_in text.now) ≡ None) }
+{
+    if !put_whole_numbers(found, text) {
+        return false;
+    }
+    !are_beyond(GREATEST_COORDINATE, found.as_slice())
+}
+
 /// All arguments in the text of some parentheses as coordinates, where they are at most 16 whole numbers within the limit.
 pub fn read_coordinates(text: &[u8]) -> Option<ArrayVec<i64, MOST_ARGUMENTS>>
     ensures { option_map (λ found. found.items) result ≡ coordinates_in (arguments_in text.now) }
 {
-    let Some(numbers) = whole_numbers_of(text) else {
-        return None;
-    };
-    if are_beyond(GREATEST_COORDINATE, numbers.as_slice()) {
-        return None;
+    let mut found = ArrayVec::new();
+    if put_coordinates(&mut found, text) {
+        Some(found)
+    } else {
+        None
     }
-    Some(numbers)
 }
 
 /// The number that the first argument in the text of some parentheses writes, where it is digits. All numbers from

@@ -17,7 +17,8 @@ use crate::arguments::read_arguments;
 use crate::forms::ArgumentForm;
 use crate::last::Last;
 use crate::table::{Causes, Judge, Keyword};
-use crate::whole_numbers::{are_beyond, whole_numbers_of};
+use crate::whole_numbers::{are_beyond, put_whole_numbers};
+use arrayvec::ArrayVec;
 use std::alloc::{AllocError, Allocator};
 use step_model::Cause;
 use stim_lexer::{Braces, LEVELS, Line, Said};
@@ -85,14 +86,18 @@ fn arguments_of<'a>(
     }
 }
 
-/// The same for a line that takes whole numbers, and on which no tag and no parentheses stay open.
+/// The same for a line that takes whole numbers, and on which no tag and no parentheses stay open. It stands
+/// apart, since its list would be cleared at each line.
+#[inline(never)]
 fn whole_numbers_in(causes: Causes, greatest: u64, line: Line<'_>) -> Result<bool, Cause>
     requires { line.stays_open ≡ false }
     ensures { ArgumentsOf causes greatest WholeNumbers (cut_in line.entry) result }
 {
-    match whole_numbers_of(line.arguments) {
-        Some(numbers) => Ok(are_beyond(greatest, numbers.as_slice())),
-        None => Err(causes.arguments),
+    let mut numbers = ArrayVec::new();
+    if put_whole_numbers(&mut numbers, line.arguments) {
+        Ok(are_beyond(greatest, numbers.as_slice()))
+    } else {
+        Err(causes.arguments)
     }
 }
 

@@ -36,7 +36,7 @@ pub use argument_checks::{has_wrong_arguments, has_wrong_probability};
 pub use arguments::{MOST_ARGUMENTS, first_argument, has_argument, read_arguments};
 pub use circuit::{Circuit, Instruction, Item, Targets};
 pub use circuit_judge::CircuitJudge;
-pub use coordinates::{first_number, read_coordinates, whole_values};
+pub use coordinates::{first_number, put_coordinates, read_coordinates, whole_values};
 pub use digits::number_of;
 pub use forms::{ArgumentForm, TargetForm};
 pub use halved::Number;

@@ -1,5 +1,5 @@
 //! The whole numbers between parentheses, each read as it is cut.
-ghost use Rattle.std.specs.Prelude.{◌≡◌, ◌≤◌, false, if◌then◌else◌, map, nat_abs, nat_lt, neg_ℤ, pos, true, MatchOption};
+ghost use Rattle.std.specs.Prelude.{◌≡◌, ◌≤◌, false, if◌then◌else◌, map, nat_abs, nat_lt, neg_ℤ, pos, true, MatchBool, MatchOption};
 ghost use Rattle.std.specs.List.{list_any};
 ghost use Rattle.stim_parser.specs.declared.forms.ArgumentForm.TheVariants.{WholeNumbers};
 ghost use Rattle.stim_parser.specs.Arguments.{arguments_in};
@@ -43,29 +43,31 @@ fn whole_number_of(text: &[u8]) -> Option<i64>
     }
 }
 
-/// All arguments in the text of some parentheses, where they are at most 16 whole numbers.
-pub(crate) fn whole_numbers_of(text: &[u8]) -> Option<ArrayVec<i64, MOST_ARGUMENTS>>
-    ensures { MatchOption result (has_wrong_arguments WholeNumbers (arguments_in text.now) ≡ true)
-        (λ found. (has_wrong_arguments WholeNumbers (arguments_in text.now) ≡ false)
-        × (found.items ≡ map whole_value (arguments_in text.now))) }
+/// Puts all arguments in the text of some parentheses in place of what was there. Answers whether they are at most 16 whole
+/// numbers.
+pub(crate) fn put_whole_numbers(found: &mut ArrayVec<i64, MOST_ARGUMENTS>, text: &[u8]) -> bool
+    ensures { MatchBool result
+        ((has_wrong_arguments WholeNumbers (arguments_in text.now) ≡ false)
+        × (found.new.items ≡ map whole_value (arguments_in text.now)))
+        (has_wrong_arguments WholeNumbers (arguments_in text.now) ≡ true) }
 {
-    let mut found = ArrayVec::new();
+    found.clear();
     if after_blanks(text).is_empty() {
-        return Some(found);
+        return true;
     }
     let mut rest = Some(text);
     while let Some(part) = rest {
         if found.is_full() {
-            return None;
+            return false;
         }
         let (first, after) = cut_at_comma(part);
         let Some(number) = whole_number_of(trimmed(first)) else {
-            return None;
+            return false;
         };
         found.push(number);
         rest = after;
     }
-    Some(found)
+    true
 }
 
 /// Whether one of the numbers is of a magnitude above the greatest one.

@@ -10,13 +10,13 @@ use Rattle.stim_parser.specs.Limits.{has_wrong_arguments}
 use Rattle.stim_parser.specs.Numbers.{whole_value}
 use Rattle.stim_parser.proofs.ArgumentLemmas.{arguments_in-none, arguments_in-some}
 use Rattle.stim_parser.proofs.WholeNumberLemmas.{Reads, reads-first, reads-wrong, reads-many, reads-done}
-use Rattle.stim_parser.proofs.whole_numbers.whole_numbers_of.Goals as goal
+use Rattle.stim_parser.proofs.whole_numbers.put_whole_numbers.Goals as goal
 
 pub returns-then-is_empty : goal.returns-then-is_empty
 returns-then-is_empty c =
     let none = arguments_in-none c.args.text.now c.after_blanks.result.now c.is_empty.result c.after_blanks.ensures c.is_empty.ensures c.if-is_empty.true in (
       ap (has_wrong_arguments WholeNumbers) none ∙ (reads-done [] [] (reads-first [])).0,
-      c.new-found.ensures ∙ sym (ap (map whole_value) none),
+      c.clear.ensures ∙ sym (ap (map whole_value) none),
     )
 
 pub returns-then-is_full : goal.returns-then-is_full
