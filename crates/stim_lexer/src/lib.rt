@@ -17,4 +17,4 @@ pub use items::{Instruction, Item, Items};
 pub use lexer::Lexer;
 pub use line::{Braces, Line};
 pub use said::Said;
-pub use scan::{after_blanks, cut_at, first_line, is_blank};
+pub use scan::{after_blanks, cut_at, cut_near, first_line, is_blank};

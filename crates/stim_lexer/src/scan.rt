@@ -43,7 +43,8 @@ pub(crate) fn any_bad_byte(text: &[u8]) -> bool
 fn is_special(byte: u8) -> bool
     ensures { result ≡ is_special byte }
 {
-    !(32..=122).contains(&byte) || byte == b'#'
+    // Both are tested, so that a byte takes no branch.
+    !(32..=122).contains(&byte) | (byte == b'#')
 }
 
 /// Whether a line has a special byte. Each line is tested, many bytes at once.
@@ -157,9 +158,10 @@ fn near_place(text: &[u8], byte: u8) -> Option<usize>
 /// part is all.
 #[inline(always)]
 #[tactic(auto, using(crate::proofs::ScanLemmas::places))]
-fn cut_near(text: &[u8], byte: u8) -> (&[u8], &[u8])
+pub fn cut_near(text: &[u8], byte: u8) -> (&[u8], &[u8])
     ensures before { result.0.now ≡ before_first (λ b. b == byte) text.now }
     ensures after { result.1.now ≡ from_first (λ b. b == byte) text.now }
+    ensures len { length result.0.now + length result.1.now ≡ length text.now }
 {
     let place = near_place(text, byte).unwrap_or(text.len());
     text.split_at(place)

@@ -115,6 +115,24 @@ no_arguments causes greatest form cut asked closed none =
       right_arguments causes NoArguments cut closed (none_wrong cut.arguments none) (none_improbable arguments),
     )
 
+-- ---- whole numbers
+
+improbable : (arguments : List (List ℕ)) → has_wrong_probability WholeNumbers arguments ≡ false
+unfolding has_wrong_probability
+improbable arguments = refl
+
+pub whole_right : (causes : Causes) (cut : Cut) → cut.stays_open ≡ false → has_wrong_arguments WholeNumbers (arguments_in cut.arguments) ≡ false
+    → first_of (refusals_of_arguments causes WholeNumbers cut) ≡ None
+whole_right causes cut closed right =
+    right_arguments causes WholeNumbers cut closed right (improbable (arguments_in cut.arguments))
+
+pub whole_wrong : (causes : Causes) (cut : Cut) → has_wrong_arguments WholeNumbers (arguments_in cut.arguments) ≡ true
+    → first_of (refusals_of_arguments causes WholeNumbers cut) ≡ Some causes.arguments
+whole_wrong causes cut wrong =
+    let arguments = arguments_in cut.arguments in
+    applies (cut.stays_open || has_wrong_arguments WholeNumbers arguments) causes.arguments ((has_wrong_probability WholeNumbers arguments, causes.probability) ∷ [])
+    (or_right cut.stays_open (has_wrong_arguments WholeNumbers arguments) wrong)
+
 -- ---- a line's targets
 
 pub wrong_target-at : {O T F : Type 0} (table : Table O T F) (form : F) (text : List ℕ) (found : Option (List T)) → table.line_targets form text ≡ found

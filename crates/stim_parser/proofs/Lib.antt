@@ -20,7 +20,7 @@ mod PieceValueLemmas
 mod SignificantLemmas
 pub mod FitLemmas
 pub mod CircuitFits
-mod CoordinateLemmas
+mod WholeNumberLemmas
 mod WrittenLemmas
 pub mod TargetNumbers
 pub mod RecordTargets
@@ -30,7 +30,6 @@ pub mod CoordinateArguments
 mod QubitSetLemmas
 mod ProductLemmas
 mod BracketLemmas
-mod FirstTargets
 pub mod ProductWords
 mod ProductSteps
 pub mod MarkLemmas

@@ -1,10 +1,7 @@
 -- Values of pieces read one after another.
-use Rattle.std.proofs.Common.{◌≡◌, ℕ, List, [], ◌∷◌, ◌++◌, length, Option, None, Some, refl, ap, sym, ◌∙◌, append_assoc, arith}
+use Rattle.std.proofs.Common.{◌≡◌, ℕ, List, [], ◌∷◌, ◌++◌, Option, None, Some, refl, ap, sym, append_assoc}
 use Rattle.std.proofs.lemmas.List.{append-nil}
-use Rattle.stim_lexer.specs.Bytes.{after_blanks}
-use Rattle.stim_parser.specs.Pieces.{WritesFirst, pieces_of}
 use Rattle.stim_parser.specs.Targets.{each_of}
-use Rattle.stim_parser.proofs.PieceLemmas.{length-after_blanks, pieces_of-after_blanks}
 
 -- the values read before, and those of the pieces that follow
 abbrev pub with_front : {V : Type 0} → List V → Option (List V) → Option (List V)
@@ -31,13 +28,3 @@ with_front-done {V} written front all e = rw e (ap (λ (ts : List V). Some ts) (
 pub with_front-none : {V : Type 0} (values : Option (List V)) → with_front [] values ≡ values
 with_front-none None = refl
 with_front-none (Some values) = refl
-
--- what the first piece of a text writes, by what stands behind the blanks in front
-pub behind_blanks : {V : Type 0} (written : List ℕ → Option V) (text : List ℕ) (left after : List ℕ) (value : Option V) → left ≡ after_blanks text → WritesFirst written left value after → WritesFirst written text value after
-behind_blanks written text left after value l first =
-    record {
-      piece = first.piece;
-      pieces = pieces_of-after_blanks text ∙ ap pieces_of (sym l) ∙ first.pieces;
-      value_is = first.value_is;
-      less = omega (arith, ap length l, length-after_blanks text, first.less);
-    }

@@ -124,7 +124,7 @@ take-front ds =
     let all : length ds - 0 ≡ length ds + 0 = omega arith in
     ap (λ n. take n (ds ++ 93 ∷ [])) all ∙ take-append-add ds (93 ∷ []) 0 ∙ append-nil ds
 
-pub bracket_found : (ds : List ℕ) → before_bracket (ds ++ 93 ∷ []) ≡ Some ds
+bracket_found : (ds : List ℕ) → before_bracket (ds ++ 93 ∷ []) ≡ Some ds
 bracket_found ds =
     let one : length (ds ++ 93 ∷ []) - 1 ≡ length ds = omega (arith, length-append ds (93 ∷ [])) in
     let some : nat_le 1 (length (ds ++ 93 ∷ [])) ≡ true = le-leb 1 (length (ds ++ 93 ∷ [])) (omega (arith, length-append ds (93 ∷ []))) in

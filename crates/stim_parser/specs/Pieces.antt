@@ -1,6 +1,6 @@
 -- The pieces of a text of targets: what stands between blanks, and each `*` a piece of its own.
 -- (Stim's circuit format, github.com/quantumlib/Stim, doc/file_format_stim_circuit.md, "Syntax" and "Target Types".)
-use Rattle.std.specs.Prelude.{◌≡◌, ◌<◌, ℕ, ◌==◌, Bool, true, ◌||◌, if◌then◌else◌, List, [], ◌∷◌, length, Option}
+use Rattle.std.specs.Prelude.{ℕ, ◌==◌, Bool, true, ◌||◌, if◌then◌else◌, List, [], ◌∷◌}
 use Rattle.std.specs.List.{onto_first}
 use Rattle.stim_lexer.specs.Bytes.{is_blank}
 
@@ -23,10 +23,3 @@ pieces_of [] = []
 pieces_of (b ∷ text) =
     if is_blank b then pieces_of text
     else (if is_star b || ends_here text then (b ∷ []) ∷ pieces_of text else onto_first b (pieces_of text))
-
--- the first piece of a text writes this value, or none, and this text follows the piece
-pub record WritesFirst {V : Type 0} (written : List ℕ → Option V) (text : List ℕ) (value : Option V) (after : List ℕ) : Type 0 where
-  pub piece : List ℕ
-  pub pieces : pieces_of text ≡ piece ∷ pieces_of after
-  pub value_is : written piece ≡ value
-  pub less : length after < length text

@@ -1,6 +1,5 @@
 pub mod Brackets
 pub mod Decimals
-pub mod Fronts
 pub mod Halves
 pub mod Products
 pub mod QubitSets

@@ -1,16 +1,17 @@
-ghost use Rattle.std.specs.Prelude.{◌≡◌, length, nat_lt, option_map};
+ghost use Rattle.std.specs.Prelude.{◌≡◌, ◌≢◌, ℕ, length, option_map};
 ghost use Rattle.std.specs.List.{list_all, list_any};
 ghost use Rattle.step_model.specs.Chances.{chance_of};
 ghost use Rattle.stim_parser.specs.Limits.{has_argument_beyond, has_wrong_arguments, has_wrong_probability, is_argument, is_probability, is_wrong_count, takes_probability};
+ghost use Rattle.stim_parser.specs.declared.forms.ArgumentForm.TheVariants.{WholeNumbers};
 ghost use Rattle.stim_parser.specs.Rows.{texts_of};
-ghost use Rattle.stim_parser.specs.Numbers.{is_number_beyond, magnitude_of, value_of};
+ghost use Rattle.stim_parser.specs.Numbers.{is_number_beyond, value_of};
 ghost use Rattle.stim_parser.specs.Probabilities.{chance_in};
 
 use crate::arguments::MOST_ARGUMENTS;
 use crate::digits::{is_number, value_of};
 use crate::forms::ArgumentForm;
 use crate::last::LastProbability;
-use crate::numbers::{is_decimal, is_number_beyond, is_whole_number, magnitude_of};
+use crate::numbers::{is_decimal, is_number_beyond, is_whole_number};
 use step_model::ChanceText;
 
 /// Whether this is a number of arguments that the form doesn't take.
@@ -102,16 +103,6 @@ pub(crate) fn chance_of<'a>(
     }
 }
 
-/// Whether one of the whole numbers is of a magnitude above the greatest one.
-fn are_coordinates_beyond(greatest: u64, arguments: &[&[u8]]) -> bool
-    ensures { result
-        ≡ list_any (λ argument. nat_lt greatest (magnitude_of argument.now)) arguments.now }
-{
-    arguments
-        .iter()
-        .any(|argument| magnitude_of(*argument) > greatest)
-}
-
 /// Whether one of the numbers is beyond the limit of all that have none of their own.
 fn are_numbers_beyond(arguments: &[&[u8]]) -> bool
     ensures { result
@@ -122,12 +113,12 @@ fn are_numbers_beyond(arguments: &[&[u8]]) -> bool
         .any(|argument| is_number_beyond(value_of(*argument)))
 }
 
-/// Whether one of the arguments is beyond its limit, which of a coordinate's magnitude is `greatest`.
-pub(crate) fn has_argument_beyond(greatest: u64, form: ArgumentForm, arguments: &[&[u8]]) -> bool
-    ensures { result ≡ has_argument_beyond greatest form (texts_of arguments.now) }
+/// Whether one of the arguments is beyond its limit. Whole numbers are asked elsewhere.
+pub(crate) fn has_number_beyond(form: ArgumentForm, arguments: &[&[u8]]) -> bool
+    requires { form ≢ WholeNumbers }
+    ensures { (greatest : ℕ) → result ≡ has_argument_beyond greatest form (texts_of arguments.now) }
 {
     match form {
-        ArgumentForm::WholeNumbers => are_coordinates_beyond(greatest, arguments),
         ArgumentForm::OneNumber => are_numbers_beyond(arguments),
         _ => false,
     }

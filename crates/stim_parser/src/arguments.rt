@@ -4,12 +4,13 @@ ghost use Rattle.stim_lexer.specs.Bytes.{is_blank};
 ghost use Rattle.stim_parser.specs.Arguments.{arguments_in, before_blanks, is_comma, parts_of, trimmed};
 
 use arrayvec::ArrayVec;
-use stim_lexer::{after_blanks, cut_at, is_blank};
+use stim_lexer::{after_blanks, cut_near, is_blank};
 
 /// How many arguments an instruction takes at most.
 pub const MOST_ARGUMENTS: usize = 16;
 
 /// A text without the blanks at its end.
+#[inline(always)]
 fn before_blanks(text: &[u8]) -> &[u8]
     ensures { result.now ≡ before_blanks text.now }
 {
@@ -24,19 +25,21 @@ fn before_blanks(text: &[u8]) -> &[u8]
 }
 
 /// A text without the blanks at its ends.
-fn trimmed(text: &[u8]) -> &[u8]
+#[inline(always)]
+pub(crate) fn trimmed(text: &[u8]) -> &[u8]
     ensures { result.now ≡ trimmed text.now }
 {
     before_blanks(after_blanks(text))
 }
 
 /// What stands before the first comma, and what follows the comma where there is one.
-fn cut_at_comma(text: &[u8]) -> (&[u8], Option<&[u8]>)
+#[inline(always)]
+pub(crate) fn cut_at_comma(text: &[u8]) -> (&[u8], Option<&[u8]>)
     ensures parts { slice_split is_comma text.now
         ≡ result.0.now ∷ parts_of result.1 }
     ensures less { IfSome result.1 (λ rest. length rest.now < length text.now) }
 {
-    let (first, rest) = cut_at(text, b',');
+    let (first, rest) = cut_near(text, b',');
     match rest {
         [_, after @ ..] => (first, Some(after)),
         [] => (first, None),

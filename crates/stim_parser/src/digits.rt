@@ -1,9 +1,8 @@
-ghost use Rattle.std.specs.Prelude.{◌≡◌, ◌+◌, ◌<◌, ◌≤◌, true, length, not, position, IfSome};
+ghost use Rattle.std.specs.Prelude.{◌≡◌, ◌+◌, ◌<◌, ◌≤◌, true, length, not, position};
 ghost use Rattle.std.specs.Char.{is_ascii_digit};
 ghost use Rattle.std.specs.List.{list_all};
 ghost use Rattle.step_model.specs.Probabilities.{front_digits, after_digits};
 ghost use Rattle.stim_parser.specs.Numbers.{is_number, number_of, value_of};
-ghost use Rattle.stim_parser.specs.private.Fronts.{AreDigits, BeginsWithNumber};
 
 /// The least number that is beyond every limit.
 pub(crate) const BEYOND_ALL: u64 = 1_000_000_000_000_000_000;
@@ -79,33 +78,6 @@ fn long_number_of(text: &[u8]) -> Option<u64>
     } else {
         None
     }
-}
-
-/// The number of so many digits at the front of a text, and what follows them, where there are any.
-#[inline(always)]
-fn behind_digits(text: &[u8], count: usize, number: u64) -> Option<(u64, &[u8])>
-    requires { AreDigits text.now count number }
-    ensures { IfSome result (λ front. BeginsWithNumber text.now front.0 front.1.now) }
-{
-    if count == 0 {
-        return None;
-    }
-    Some((number, text.split_at(count).1))
-}
-
-/// A number with which a text begins, and what follows it. Of a number that isn't short these are the first digits alone.
-#[inline(always)]
-pub(crate) fn front_number(text: &[u8]) -> Option<(u64, &[u8])>
-    ensures { IfSome result (λ front. BeginsWithNumber text.now front.0 front.1.now) }
-{
-    let end = text.len().min(SHORT_DIGITS);
-    let mut number: u64 = 0;
-    let mut count = 0;
-    while count < end && text[count].is_ascii_digit() {
-        number = 10 * number + (text[count] - b'0') as u64;
-        count += 1;
-    }
-    behind_digits(text, count, number)
 }
 
 /// Where the first byte stands that isn't a digit.

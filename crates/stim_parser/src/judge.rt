@@ -1,8 +1,8 @@
-ghost use Rattle.std.specs.Prelude.{◌≡◌, ◌==◌, if◌then◌else◌, ℕ, List, None, not, true, false, IfOk};
+ghost use Rattle.std.specs.Prelude.{◌≡◌, ◌≢◌, ◌==◌, if◌then◌else◌, ℕ, List, None, not, true, false, IfOk};
 ghost use Rattle.stim_lexer.specs.Lexing.{cut_in};
 ghost use Rattle.stim_lexer.specs.Said.{reading_in};
 ghost use Rattle.stim_lexer.specs.Texts.{Closes, Refuses};
-ghost use Rattle.stim_parser.specs.declared.forms.ArgumentForm.TheVariants.{NoArguments};
+ghost use Rattle.stim_parser.specs.declared.forms.ArgumentForm.TheVariants.{NoArguments, WholeNumbers};
 ghost use Rattle.stim_parser.specs.Arguments.{arguments_in};
 ghost use Rattle.stim_parser.specs.Limits.{has_argument_beyond, takes_probability};
 ghost use Rattle.stim_parser.specs.Parentheses.{Parentheses};
@@ -11,12 +11,14 @@ ghost use Rattle.stim_parser.specs.Judging.{accepted, first_of, judged, misplace
 ghost use Rattle.stim_parser.specs.private.Questions.{ArgumentsOf, KeywordOf, has_wrong_target, refusals_of_amounts, refusals_of_block, refusals_of_keyword};
 
 use crate::argument_checks::{
-    chance_of, has_argument_beyond, has_wrong_arguments, has_wrong_probability, takes_probability,
+    chance_of, has_number_beyond, has_wrong_arguments, has_wrong_probability, takes_probability,
 };
 use crate::arguments::read_arguments;
 use crate::forms::ArgumentForm;
 use crate::last::Last;
 use crate::table::{Causes, Judge, Keyword};
+use crate::whole_numbers::{are_beyond, put_whole_numbers};
+use arrayvec::ArrayVec;
 use std::alloc::{AllocError, Allocator};
 use step_model::Cause;
 use stim_lexer::{Braces, LEVELS, Line, Said};
@@ -78,10 +80,28 @@ fn arguments_of<'a>(
     if last.parentheses.are(form, line.arguments) {
         return Ok(false);
     }
-    closed_arguments_of(last, causes, greatest, form, line)
+    match form {
+        ArgumentForm::WholeNumbers => whole_numbers_in(causes, greatest, line),
+        _ => closed_arguments_of(last, causes, greatest, form, line),
+    }
 }
 
-/// The same for a line on which no tag and no parentheses stay open.
+/// The same for a line that takes whole numbers, and on which no tag and no parentheses stay open. It stands
+/// apart, since its list would be cleared at each line.
+#[inline(never)]
+fn whole_numbers_in(causes: Causes, greatest: u64, line: Line<'_>) -> Result<bool, Cause>
+    requires { line.stays_open ≡ false }
+    ensures { ArgumentsOf causes greatest WholeNumbers (cut_in line.entry) result }
+{
+    let mut numbers = ArrayVec::new();
+    if put_whole_numbers(&mut numbers, line.arguments) {
+        Ok(are_beyond(greatest, numbers.as_slice()))
+    } else {
+        Err(causes.arguments)
+    }
+}
+
+/// The same for a line that takes others, and on which no tag and no parentheses stay open.
 #[inline(never)]
 fn closed_arguments_of<'a>(
     last: &mut Last<'a>,
@@ -90,7 +110,8 @@ fn closed_arguments_of<'a>(
     form: ArgumentForm,
     line: Line<'a>,
 ) -> Result<bool, Cause>
-    requires { line.stays_open ≡ false }
+    requires closed { line.stays_open ≡ false }
+    requires other { form ≢ WholeNumbers }
     ensures refusal { ArgumentsOf causes greatest form (cut_in line.entry) result }
     ensures last { IfOk result (λ beyond. takes_probability form ≡ true
         → last.new.parentheses.text ≡ line.entry.arguments.now) }
@@ -108,7 +129,7 @@ fn closed_arguments_of<'a>(
         let chance = chance_of(&mut last.probability, arguments.as_slice());
         last.parentheses.keep(form, line.arguments, chance);
     }
-    Ok(has_argument_beyond(greatest, form, arguments.as_slice()))
+    Ok(has_number_beyond(form, arguments.as_slice()))
 }
 
 /// Puts the targets of a line into `targets`, in place of what it held, and answers whether each can be read and is of

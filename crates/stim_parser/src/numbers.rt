@@ -1,6 +1,6 @@
 ghost use Rattle.std.specs.Prelude.{◌≡◌};
 ghost use Rattle.stim_parser.specs.Numbers.{is_number_beyond, is_qubit_beyond, magnitude_of, without_minus};
-ghost use Rattle.stim_parser.specs.Coordinates.{is_coordinate_beyond, is_decimal, is_whole_number};
+ghost use Rattle.stim_parser.specs.Coordinates.{is_decimal, is_whole_number};
 
 use crate::decimal::decimal_of;
 use crate::digits::{is_number, value_of};
@@ -15,7 +15,8 @@ pub(crate) const GREATEST_COORDINATE: u64 = 1_000_000_000;
 const GREATEST_NUMBER: u64 = 999_999_999_999_999_999;
 
 /// A text without a `-` in front.
-fn without_minus(text: &[u8]) -> &[u8]
+#[inline(always)]
+pub(crate) fn without_minus(text: &[u8]) -> &[u8]
     ensures { result.now ≡ without_minus text.now }
 {
     match text {
@@ -43,13 +44,6 @@ pub fn magnitude_of(text: &[u8]) -> u64
     ensures { result ≡ magnitude_of text.now }
 {
     value_of(without_minus(text))
-}
-
-/// Whether a coordinate is beyond its limit.
-pub(crate) fn is_coordinate_beyond(text: &[u8]) -> bool
-    ensures { result ≡ is_coordinate_beyond text.now }
-{
-    magnitude_of(text) > GREATEST_COORDINATE
 }
 
 /// Whether a number that is neither a qubit's nor a coordinate is beyond its limit.

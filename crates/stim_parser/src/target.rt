@@ -1,10 +1,8 @@
-ghost use Rattle.std.specs.Prelude.{◌≡◌, None, Some, option_map, IfOk, IfSome, MatchBool};
-ghost use Rattle.stim_parser.specs.Pieces.{WritesFirst};
+ghost use Rattle.std.specs.Prelude.{◌≡◌, None, Some, option_map, IfOk, MatchBool};
 ghost use Rattle.stim_parser.specs.private.Brackets.{at_least_one, before_bracket};
 ghost use Rattle.stim_parser.specs.Targets.{inverted_of, letter_of, marked_of, pauli_of, record_of, target_of, targets_in};
 
 use crate::digits::number_of;
-use crate::first_target::first_target;
 use crate::halved::Number;
 use crate::piece_values::{PieceValue, read_pieces};
 use pauli_word::Letter;
@@ -56,8 +54,7 @@ fn record_of(piece: &[u8]) -> Option<u64>
 }
 
 /// The letter that a byte writes, in either case.
-#[inline(always)]
-pub(crate) fn letter_of(byte: u8) -> Option<Letter>
+fn letter_of(byte: u8) -> Option<Letter>
     ensures { result ≡ letter_of byte }
 {
     match byte {
@@ -123,14 +120,6 @@ impl PieceValue for Target {
 
     fn of_piece(piece: &[u8]) -> Option<Target> {
         target_of(piece)
-    }
-
-    #[inline(always)]
-    fn at_front(text: &[u8]) -> Option<(Option<Target>, &[u8])> {
-        match first_target(text) {
-            Some((target, after)) => Some((Some(target), after)),
-            None => None,
-        }
     }
 }
 

@@ -8,15 +8,17 @@ ghost use Rattle.unroll.specs.private.MadeTotals.{detector_total};
 
 use crate::marks::Mark;
 use crate::offsets::{AXES, Offset, moved};
-use crate::shifts::{coordinates_read, shift, steps_of, turn_on};
+use crate::shifts::{read_stated, shift, steps_of, turn_on};
 use arrayvec::ArrayVec;
 use flat_lists::NumberLists;
 use std::alloc::{AllocError, Allocator};
 use stim_lexer::{LEVELS, OpenBlock};
 use stim_parser::{Circuit, Instruction, Item, Operation};
 
-/// Appends the coordinates that an instruction gives at this offset, where it is a detector.
+/// Appends the coordinates that an instruction gives at this offset, where it is a detector. What that states is gathered in
+/// `numbers`.
 fn push_coordinates<A: Allocator + Copy>(
+    numbers: &mut ArrayVec<i64, AXES>,
     lists: &mut NumberLists<A>,
     offset: &Offset,
     instruction: Instruction<'_, '_>,
@@ -29,8 +31,8 @@ fn push_coordinates<A: Allocator + Copy>(
 {
     match instruction.operation {
         Operation::DetectorDeclaration => {
-            let stated = coordinates_read(instruction);
-            let placed = moved(stated.as_slice(), &offset.up, &offset.down);
+            read_stated(numbers, instruction);
+            let placed = moved(numbers.as_slice(), &offset.up, &offset.down);
             lists.push(placed.as_slice())
         }
         _ => Ok(()),
@@ -58,12 +60,13 @@ pub(crate) fn coordinates_of<A: Allocator + Copy>(
         up: [0; AXES],
         down: [0; AXES],
     };
+    let mut numbers = ArrayVec::new();
     let mut blocks: ArrayVec<OpenBlock<Mark<Offset>>, LEVELS> = ArrayVec::new();
     for i in 0..circuit.len() {
         match circuit.item(i) {
             Item::InstructionLine(instruction) => {
-                push_coordinates(&mut coordinates, &offset, instruction)?;
-                shift(&mut offset, instruction);
+                push_coordinates(&mut numbers, &mut coordinates, &offset, instruction)?;
+                shift(&mut offset, &mut numbers, instruction);
             }
             Item::BlockStart { turns, .. } => blocks.push(OpenBlock {
                 turns,

@@ -6,21 +6,25 @@ ghost use Rattle.unroll.specs.private.Placing.{downs, placing, raised_by, steps_
 
 use crate::offsets::{AXES, Offset, downs, raise, turn, ups};
 use arrayvec::ArrayVec;
-use stim_parser::{Instruction, Operation, read_coordinates};
+use stim_parser::{Instruction, Operation, put_coordinates};
 
-/// An instruction's arguments as coordinates; no coordinates where the arguments aren't any.
-pub(crate) fn coordinates_read(instruction: Instruction<'_, '_>) -> ArrayVec<i64, AXES>
-    ensures { result.items
+/// Puts an instruction's arguments as coordinates into `numbers`, in place of what it held; none where they aren't any.
+pub(crate) fn read_stated(numbers: &mut ArrayVec<i64, AXES>, instruction: Instruction<'_, '_>)
+    ensures { numbers.new.items
         ≡ unwrap_or (coordinates_in (instruction_in instruction.entry).arguments) [] }
 {
-    match read_coordinates(instruction.arguments) {
-        Some(found) => found,
-        None => ArrayVec::new(),
+    if put_coordinates(numbers, instruction.arguments) {
+        return;
     }
+    numbers.clear();
 }
 
-/// Takes an offset past an instruction.
-pub(crate) fn shift(offset: &mut Offset, instruction: Instruction<'_, '_>)
+/// Takes an offset past an instruction. What that adds is gathered in `numbers`.
+pub(crate) fn shift(
+    offset: &mut Offset,
+    numbers: &mut ArrayVec<i64, AXES>,
+    instruction: Instruction<'_, '_>,
+)
     requires fits { Fits (instruction_in instruction) }
     requires small_up { All (λ n. n < 2 ^ 62)
         (raised_by offset.old.up (ups (instruction_in instruction))) }
@@ -30,7 +34,7 @@ pub(crate) fn shift(offset: &mut Offset, instruction: Instruction<'_, '_>)
 {
     match instruction.operation {
         Operation::CoordinateShift => {
-            let numbers = coordinates_read(instruction);
+            read_stated(numbers, instruction);
             let up = ups(numbers.as_slice());
             let down = downs(numbers.as_slice());
             raise(&mut offset.up, up.as_slice());

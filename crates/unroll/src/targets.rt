@@ -115,7 +115,8 @@ pub(crate) fn end_of_factor(after: Targets<'_>) -> (bool, Targets<'_>)
     }
 }
 
-/// How many products targets make.
+/// How many products targets make. It stands apart, since what it holds would be cleared at each line.
+#[inline(never)]
 fn product_count(targets: Targets<'_>) -> usize
     ensures value { result ≡ length (products_of (list_in targets.entry)) }
     ensures few { result ≤ length (list_in targets.entry) }

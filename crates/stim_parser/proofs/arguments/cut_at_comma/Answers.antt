@@ -5,8 +5,8 @@ use Rattle.stim_parser.proofs.arguments.cut_at_comma.Goals as goal
 
 pub returns-in-empty-clause-parts : goal.returns-in-empty-clause-parts
 returns-in-empty-clause-parts c =
-    split-last c.args.text.now _ c.cut_at.result.1.now c.cut_at.ensures.before c.cut_at.ensures.after (omega arith)
+    split-last c.args.text.now _ c.cut_near.result.1.now c.cut_near.ensures.before c.cut_near.ensures.after (omega arith)
 
 pub returns-in-len1-up-clause-parts : goal.returns-in-len1-up-clause-parts
 returns-in-len1-up-clause-parts c =
-    split-more c.args.text.now _ c.cut_at.result.1.now _ c.cut_at.ensures.before c.cut_at.ensures.after (omega arith) (take_rest c.cut_at.result.1.now 1)
+    split-more c.args.text.now _ c.cut_near.result.1.now _ c.cut_near.ensures.before c.cut_near.ensures.after (omega arith) (take_rest c.cut_near.result.1.now 1)

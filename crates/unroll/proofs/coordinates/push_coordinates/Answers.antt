@@ -8,12 +8,12 @@ use Rattle.unroll.proofs.coordinates.push_coordinates.Goals as goal
 
 pub moved-placed-requires-clause-small : goal.moved-placed-requires-clause-small
 moved-placed-requires-clause-small g c =
-    detector-small (instruction_in c.args.instruction) c.as_slice.result.now c.requires.fits c.in-DetectorDeclaration.is (c.as_slice.ensures.value ∙ c.coordinates_read-stated.ensures)
+    detector-small (instruction_in c.args.instruction) c.as_slice.result.now c.requires.fits c.in-DetectorDeclaration.is (c.as_slice.ensures.value ∙ c.read_stated.ensures)
 
 pub returns-in-DetectorDeclaration : goal.returns-in-DetectorDeclaration
 returns-in-DetectorDeclaration g c =
     let i = instruction_in c.args.instruction in
     let p = c.args.offset.now in
-    let read = detector-read i c.as_slice.result.now c.requires.fits c.in-DetectorDeclaration.is (c.as_slice.ensures.value ∙ c.coordinates_read-stated.ensures) in
+    let read = detector-read i c.as_slice.result.now c.requires.fits c.in-DetectorDeclaration.is (c.as_slice.ensures.value ∙ c.read_stated.ensures) in
     let pushed = ap (λ (zs : List ℤ). c.args.lists.now ++ zs ∷ []) (c.as_slice-in-DetectorDeclaration.ensures.value ∙ c.moved-placed.ensures ∙ ap (moved_to p.up p.down) read) ∙ ap (λ (o : Operation). c.args.lists.now ++ operation_places p o i.arguments) (sym c.in-DetectorDeclaration.is) in
     subst (λ (lists : List (List ℤ)). OnOk c.push.result (c.push.new.self ≡ lists)) pushed c.push.ensures.ok
