@@ -4,7 +4,7 @@ ghost use Rattle.std.specs.Prelude.{◌≡◌, ◌<◌, length, IfOk};
 use gate_table::Gate;
 use pauli_word::Letter;
 use plain_runs::{Entry, Lists, Piece, program_of};
-use programs::{Program, Recording, TextStep};
+use programs::{Program, Recording, TextStep, Walk};
 use std::alloc::{AllocError, Global};
 use std::process::Abort;
 use std::test::Fail;
@@ -198,5 +198,47 @@ fn nested_fits(alloc: Global, levels: usize) -> Result<bool, AllocError> {
 fn blocks_of_thirty_two_levels_fit(rt: HostRuntime) -> Result<(), Fail> {
     assert!(rt; nested_fits(rt.alloc(), 32)?);
     assert!(rt; !nested_fits(rt.alloc(), 33)?);
+    Ok(())
+}
+
+/// Blocks without steps, of more turns than a text can have.
+const EMPTY: &[Piece] = &[Piece::Open(1_000_000_000_000_000_000), Piece::Close];
+
+/// A measurement between such blocks, in two turns.
+const BETWEEN: &[Piece] = &[
+    Piece::Open(2),
+    Piece::Open(999_999_999_999_999_999),
+    Piece::Open(7),
+    Piece::Close,
+    Piece::Close,
+    measure!(None),
+    Piece::Open(9),
+    Piece::Close,
+    Piece::Close,
+];
+
+/// How many of ten steps there are, from the start and from the end.
+fn steps_of(program: &Program<'_, Global>) -> (u32, u32) {
+    let (mut forth, mut back) = (0u32, 0u32);
+    let mut start = Walk::start(program);
+    let mut end = Walk::end(program);
+    for _ in 0..10 {
+        forth = forth.saturating_add(start.next_step().is_some() as u32);
+        back = back.saturating_add(end.previous_step().is_some() as u32);
+    }
+    (forth, back)
+}
+
+fn has_steps(alloc: Global, pieces: &[Piece], count: u32) -> Result<bool, AllocError> {
+    match program_of(alloc, 1, pieces, NOTHING)? {
+        Some(program) => Ok(steps_of(&program) == (count, count)),
+        None => Ok(false),
+    }
+}
+
+#[test]
+fn blocks_without_steps_are_passed_over(rt: HostRuntime) -> Result<(), Fail> {
+    assert!(rt; has_steps(rt.alloc(), EMPTY, 0)?);
+    assert!(rt; has_steps(rt.alloc(), BETWEEN, 2)?);
     Ok(())
 }
