@@ -10,7 +10,7 @@ use Rattle.pauli_word.specs.Parity.{exclusive_or}
 use Rattle.pauli_word.proofs.Parities.{exclusive_or-false, exclusive_or_assoc, exclusive_or_left_comm}
 use Rattle.step_model.specs.Targets.{is_listed}
 use Rattle.trackers.specs.private.Sets.{DescendsBelow, xor_step, xor_sets}
-use Rattle.trackers.specs.TargetSets.{members, row_of_set, toggled}
+use Rattle.trackers.specs.TargetSets.{members, row_of_set}
 use Rattle.bit_rows.specs.Rows.{xor_rows}
 use Rattle.std.proofs.lemmas.List.FromFn.{length-map-range_with_len, get_or-map-range_with_len}
 
@@ -289,13 +289,6 @@ pub only_one : {A : Type 0} (xs : List A) (d : A) → length xs ≡ 1 → xs ≡
 only_one [] d h = cc
 only_one (x ∷ []) d h = refl
 only_one (x ∷ y ∷ more) d h = absurd (omega (arith, h))
-
--- a row with one target toggled
-pub toggled_one : (row : List Bool) (t : ℕ) → t < length row → toggled t row ≡ xor_rows row (row_of_set (length row) (t ∷ []))
-toggled_one row t h =
-    ap (toggled t) (sym (none_added row 0 (length row) refl))
-    ∙ (toggled_sum row (row_of_set (length row) []) t (sym (length-row_of_set (length row) []))
-    ∙ ap (xor_rows row) (sym (row_of_more (length row) t [] h)))
 
 pub no_elements : (set : List ℕ) → (length set == 0) ≡ true → set ≡ []
 no_elements [] h = refl

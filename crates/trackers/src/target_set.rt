@@ -150,8 +150,7 @@ pub fn make_set<S: TargetSet>(set: &mut S, targets: &[u32]) -> Result<(), AllocE
     toggle_down(set, targets)
 }
 
-/// Toggles each of these targets, where `toggle`. What the sets `made` and `spare` held is lost. Most collapses have one
-/// target or none.
+/// Toggles each of these targets, where `toggle`. What the sets `made` and `spare` held is lost.
 #[inline(always)]
 pub(crate) fn toggle_where<S: TargetSet>(
     toggle: bool,
@@ -170,16 +169,13 @@ pub(crate) fn toggle_where<S: TargetSet>(
     ensures made { length (S.bits made.new) ≡ length (S.bits made.old) }
     ensures spare { length (S.bits spare.new) ≡ length (S.bits spare.old) }
 {
-    if !toggle {
-        return Ok(());
+    if toggle {
+        toggle_all(set, targets, made, spare)
+    } else {
+        Ok(())
     }
-    if let [target] = targets {
-        return set.toggle(*target);
-    }
-    toggle_all(set, targets, made, spare)
 }
 
-#[inline(never)]
 fn toggle_all<S: TargetSet>(
     set: &mut S,
     targets: &[u32],

@@ -16,12 +16,10 @@ pub image1-z-requires : goal.image1-z-requires
 image1-z-requires g c = arity_kept c.args.gate c.inverse-inverse.result c.inverse-inverse.ensures c.requires.arity
 
 pub become_image-requires-clause-other : goal.become_image-requires-clause-other
-become_image-requires-clause-other g c =
-    (lent c.args.q _ _ c.self.invariant c.self.view_is c.requires.in_range c.index_mut.ensures.value).as_long _ c.self.invariant.first_long
+become_image-requires-clause-other g c = (lent c.args.q _ _ c.self.invariant c.self.view_is c.requires.in_range c.index_mut.ensures.value).as_long _ c.self.invariant.first_long
 
 pub become_image-requires-clause-spare : goal.become_image-requires-clause-spare
-become_image-requires-clause-spare g c =
-    (lent c.args.q _ _ c.self.invariant c.self.view_is c.requires.in_range c.index_mut.ensures.value).as_long _ c.self.invariant.spare_long
+become_image-requires-clause-spare g c = (lent c.args.q _ _ c.self.invariant c.self.view_is c.requires.in_range c.index_mut.ensures.value).as_long _ c.self.invariant.spare_long
 
 pub invariant_of-self : goal.invariant_of-self
 invariant_of-self g c =

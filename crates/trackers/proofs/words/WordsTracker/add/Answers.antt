@@ -15,12 +15,10 @@ times_each-requires-clause-targets g c =
     λ k d lt. let low = c.requires.named k d lt in omega (arith, low, words, size, at.long)
 
 pub times_each-requires-clause-set : goal.times_each-requires-clause-set
-times_each-requires-clause-set g c =
-    (lent c.args.q _ _ c.self.invariant c.self.view_is c.requires.in_range c.index_mut.ensures.value).as_long _ c.self.invariant.set_long
+times_each-requires-clause-set g c = (lent c.args.q _ _ c.self.invariant c.self.view_is c.requires.in_range c.index_mut.ensures.value).as_long _ c.self.invariant.set_long
 
 pub times_each-requires-clause-spare : goal.times_each-requires-clause-spare
-times_each-requires-clause-spare g c =
-    (lent c.args.q _ _ c.self.invariant c.self.view_is c.requires.in_range c.index_mut.ensures.value).as_long _ c.self.invariant.spare_long
+times_each-requires-clause-spare g c = (lent c.args.q _ _ c.self.invariant c.self.view_is c.requires.in_range c.index_mut.ensures.value).as_long _ c.self.invariant.spare_long
 
 pub invariant_of-self : goal.invariant_of-self
 invariant_of-self g c =
