@@ -44,7 +44,8 @@ turn_rows-requires-clause-only g c = c.requires.only
 
 pub turn_rows-requires-clause-pivot : goal.turn_rows-requires-clause-pivot
 turn_rows-requires-clause-pivot g c =
-    subst (λ m. IsPivot m c.in-Some.qubit c.set_pivot.new.code) (sym c.set_pivot.ensures.pivot.rest_size) c.set_pivot.ensures.pivot
+    let pivot = c.set_pivot.ensures.pivot in
+    subst (λ m. IsPivot m c.in-Some.qubit c.set_pivot.new.code) (sym pivot.rest_size) pivot
 
 pub returns-in-Some-clause-row : goal.returns-in-Some-clause-row
 returns-in-Some-clause-row g c = sym (sym c.lowest_x_or_y.ensures ∙ c.in-Some.is)
@@ -56,7 +57,8 @@ returns-in-Some-clause-outcome g c =
 pub returns-in-None-clause-rows : goal.returns-in-None-clause-rows
 returns-in-None-clause-rows g c =
     let rows = c.args.rows.now.items in
-    sym (ap (λ o. collapsed_at (length rows) o (with_sign_changed c.args.coin c.args.code.now.0) rows) (sym c.lowest_x_or_y.ensures ∙ c.in-None.is))
+    let changed = with_sign_changed c.args.coin c.args.code.now.0 in
+    sym (ap (λ o. collapsed_at (length rows) o changed rows) (sym c.lowest_x_or_y.ensures ∙ c.in-None.is))
 
 pub returns-in-None-clause-row : goal.returns-in-None-clause-row
 returns-in-None-clause-row g c = sym (sym c.lowest_x_or_y.ensures ∙ c.in-None.is)

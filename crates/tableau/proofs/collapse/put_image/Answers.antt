@@ -18,10 +18,11 @@ returns g c =
     let w = c.args.word.now in
     let image = image1 c.args.gate c.args.here in
     let put = c.set_letter.ensures in
-    let letters = ap (λ (v : Signed). v.letters) put ∙ ap (λ (r : Letter × Bool). set w.letters c.args.qubit r.0) c.image1-letter.ensures in
+    let found = c.image1-letter.ensures in
+    let letters = ap (λ (v : Signed). v.letters) put ∙ ap (λ (r : Letter × Bool). set w.letters c.args.qubit r.0) found in
     let sign = c.sign.ensures ∙ ap (λ (v : Signed). v.negative) put in
     let made : c.set_sign.new.self ≡ signed (set w.letters c.args.qubit image.0) (exclusive_or w.negative image.1) =
     c.set_sign.ensures
     ∙ ap₂ signed letters
-    (differ c.sign.result c.image1-letter.result.1 ∙ ap₂ exclusive_or sign (ap (λ (r : Letter × Bool). r.1) c.image1-letter.ensures)) in
+    (differ c.sign.result c.image1-letter.result.1 ∙ ap₂ exclusive_or sign (ap (λ (r : Letter × Bool). r.1) found)) in
     made ∙ sym (image_put c.args.gate c.args.qubit w c.args.here c.requires.inside)
