@@ -1,10 +1,9 @@
 -- A record's text is what its parts are: the bytes before the number, the number, and a bracket at the end.
-use Rattle.std.proofs.Common.{◌≡◌, ℕ, ◌==◌, ◌-◌, Bool, true, false, ◌&&◌, nat_le, List, [], ◌∷◌, ◌++◌, length, take, drop, Option, None, Some, codes, refl, sym, ap, ◌∙◌, inl, inr, arith}
-use Rattle.std.specs.Prelude.{if◌then◌else◌, bytes_eq, option_and_then, slice_index, slice_range}
+use Rattle.std.proofs.Common.{◌≡◌, ℕ, ◌==◌, ◌-◌, Bool, true, false, ◌&&◌, nat_le, List, [], ◌∷◌, ◌++◌, length, take, Option, None, refl, ap, ◌∙◌, inl, inr, arith}
+use Rattle.std.specs.Prelude.{if◌then◌else◌, bytes_eq, option_and_then, slice_index}
 use Rattle.std.proofs.Math.Bool.{and-false}
 use Rattle.std.proofs.lemmas.Bool.{cases_Bool, eq-eqb}
 use Rattle.stim_parser.specs.private.Brackets.{at_least_one, before_bracket, record_in_parts}
-use Rattle.stim_parser.specs.Numbers.{number_of}
 use Rattle.stim_parser.specs.Targets.{record_of}
 
 and-true : (b : Bool) → (b && true) ≡ b

@@ -1,10 +1,10 @@
 -- What is asked of products target by target is what is asked of each product by itself.
-use Rattle.std.proofs.Common.{◌≡◌, ℕ, Bool, true, false, ◌||◌, ◌&&◌, List, [], ◌∷◌, get_or, refl, sym, ap, ap₂, ◌∙◌}
+use Rattle.std.proofs.Common.{◌≡◌, ℕ, Bool, false, ◌||◌, ◌&&◌, List, [], ◌∷◌, get_or, refl, sym, ap, ap₂, ◌∙◌}
 use Rattle.std.specs.List.{list_any, onto_first}
 use Rattle.std.proofs.Math.Bool.{or_assoc}
 use Rattle.pauli_word.specs.declared.letter.Letter.{Letter}
 use Rattle.stim_parser.specs.declared.target.Target.{Target}
-use Rattle.stim_parser.specs.declared.target.Target.TheVariants.{Plain, Inverted, Back, Pauli, Star}
+use Rattle.stim_parser.specs.declared.target.Target.TheVariants.{Pauli, Star}
 use Rattle.stim_parser.specs.Limits.{are_products, is_same_factor, names_twice, products_of}
 use Rattle.stim_parser.specs.private.Products.{are_factors, goes_on_with, has_product_of_one, is_factor, is_factor_at, is_joining, names_again}
 

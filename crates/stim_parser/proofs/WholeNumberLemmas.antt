@@ -1,5 +1,5 @@
 -- Arguments read as whole numbers, one after another, and coordinates among them.
-use Rattle.std.proofs.Common.{◌≡◌, ℕ, zero, suc, ◌+◌, ◌<◌, ◌≤◌, ℤ, pos, neg_ℤ, Bool, true, false, not, ◌&&◌, ◌||◌, List, [], ◌∷◌, ◌++◌, length, map, Option, None, Some, refl, sym, ap, ap₂, ◌∙◌, inl, inr, arith, length-append, append_assoc}
+use Rattle.std.proofs.Common.{◌≡◌, ℕ, zero, suc, ◌+◌, ◌<◌, ◌≤◌, ℤ, pos, neg_ℤ, Bool, true, false, not, ◌&&◌, ◌||◌, List, [], ◌∷◌, ◌++◌, length, map, Option, None, Some, refl, sym, ap, ap₂, ◌∙◌, inl, inr, arith, length-append}
 use Rattle.std.specs.Prelude.{nat_abs, nat_le, nat_lt, if◌then◌else◌, MatchBool}
 use Rattle.std.specs.List.{list_all, list_any}
 use Rattle.std.proofs.lemmas.Bool.{cases_Bool}
@@ -73,9 +73,6 @@ is_many n h = grind arith
 
 is_few : (n : ℕ) → n ≤ 16 → nat_lt 16 n ≡ false
 is_few n h = grind arith
-
-few-le : (n : ℕ) → n ≤ 16 → nat_le n 16 ≡ true
-few-le n h = grind arith
 
 pub reads-many : (all left : List (List ℕ)) (read : List ℤ) → Reads all left read → 0 < length left → length read ≡ 16 → has_wrong_arguments WholeNumbers all ≡ true
 reads-many all left read h more full =

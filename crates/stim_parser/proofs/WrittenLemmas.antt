@@ -1,5 +1,5 @@
 -- What a text can write at all: no letter is I, and a record is at least one back. Names and targets are read so.
-use Rattle.std.proofs.Common.{◌≡◌, ℕ, ◌==◌, Bool, true, false, not, ◌&&◌, ◌||◌, ◌-◌, List, [], ◌∷◌, ◌++◌, find, Option, None, Some, refl, ap₂, inl, inr, arith}
+use Rattle.std.proofs.Common.{◌≡◌, ℕ, ◌==◌, Bool, true, false, not, ◌&&◌, ◌-◌, List, [], ◌∷◌, ◌++◌, find, Option, None, Some, refl, ap₂, inl, inr, arith}
 use Rattle.std.specs.Prelude.{if◌then◌else◌, nat_le, option_map, option_and_then, unwrap_or, bytes_eq, codes, length, slice_range}
 use Rattle.std.specs.List.{list_all}
 use Rattle.std.specs.Str.{str_eq_ignore_ascii_case}

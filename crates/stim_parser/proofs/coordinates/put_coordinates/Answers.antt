@@ -1,4 +1,4 @@
-use Rattle.std.proofs.Common.{◌≡◌, List, ℤ, Some, true, false, map, ap, sym, ◌∙◌}
+use Rattle.std.proofs.Common.{◌≡◌, List, ℤ, true, false, map, ap, sym, ◌∙◌}
 use Rattle.std.specs.Prelude.{nat_abs, nat_lt}
 use Rattle.std.specs.List.{list_any}
 use Rattle.std.proofs.lemmas.Bool.{MatchBool-at_false, MatchBool-at_true}
@@ -6,7 +6,7 @@ use Rattle.stim_parser.specs.declared.forms.ArgumentForm.TheVariants.{WholeNumbe
 use Rattle.stim_parser.specs.Arguments.{arguments_in}
 use Rattle.stim_parser.specs.Limits.{has_argument_beyond, has_wrong_arguments}
 use Rattle.stim_parser.specs.Numbers.{greatest_coordinate, whole_value}
-use Rattle.stim_parser.proofs.WholeNumberLemmas.{any-beyond, coordinates-at, coordinates-none, told}
+use Rattle.stim_parser.proofs.WholeNumberLemmas.{any-beyond, coordinates-none, told}
 use Rattle.stim_parser.proofs.coordinates.put_coordinates.Goals as goal
 
 pub returns-then-not-put_whole_numbers : goal.returns-then-not-put_whole_numbers

@@ -1,10 +1,10 @@
-use Rattle.std.proofs.Common.{◌≡◌, ◌≤◌, ◌<◌, ◌∷◌, ◌∙◌, ℕ, List, Bor, Option, [], ap, arith, false, length, map, rules, subst, sym}
+use Rattle.std.proofs.Common.{◌≡◌, ◌∷◌, ◌∙◌, ℕ, List, Bor, Option, [], ap, arith, false, map, subst, sym}
 use Rattle.std.specs.List.{slice_split}
 use Rattle.std.proofs.lemmas.Bool.{eqb-true}
 use Rattle.std.proofs.lemmas.List.{length-map}
 use Rattle.std.proofs.lemmas.List.Splits.{length-slice_split}
 use Rattle.stim_parser.specs.declared.forms.ArgumentForm.TheVariants.{WholeNumbers}
-use Rattle.stim_parser.specs.Arguments.{arguments_in, is_comma, parts_of, trimmed}
+use Rattle.stim_parser.specs.Arguments.{is_comma, parts_of, trimmed}
 use Rattle.stim_parser.specs.Coordinates.{is_whole_number}
 use Rattle.stim_parser.specs.Limits.{has_wrong_arguments}
 use Rattle.stim_parser.specs.Numbers.{whole_value}
