@@ -260,9 +260,9 @@ run, analyze, faults = R 0 1|REPEAT 2 {|X_ERROR(0.01) 0|CX 0 1|MR 1|DETECTOR(0, 
 run, analyze, faults = R 0 1|REPEAT 2 {|X_ERROR(0.01) 0|CX 0 1|MR 1|DETECTOR(0, 0) rec[-1]|SHIFT_COORDS(0, 1)|}|M 0|\
     O = refused 11 line 10| = 2";
 
-/// Drawn shots. The first words of the generator of seed 5 are, by their first and last two hexadecimal digits, 61..fc, 94..ad,
-/// 44..cd, 92..c2, b8..11, 43..59, 2f..e2, 1b..58, 95..5b, b7..c4, 27..bd, 71..59, 5f..7b, 5b..d0, bd..e5, 07..3f, 0e..57, aa..8a,
-/// bc..1b, f6..cc, 95..e1.
+/// Drawn shots. The first words of the generator of seed 5 are, by their first and last two hexadecimal digits, 61..fc,
+/// 94..ad, 44..cd, 92..c2, b8..11, 43..59, 2f..e2, 1b..58, 95..5b, b7..c4, 27..bd, 71..59, 5f..7b, 5b..d0, bd..e5,
+/// 07..3f, 0e..57, aa..8a, bc..1b, f6..cc, 95..e1.
 pub(super) const SHOTS: &str = "\
 sample --shots 2 --seed 0 =  = || = 0
 sample --shots 0 --seed 0 =  =  = 0
