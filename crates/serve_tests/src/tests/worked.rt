@@ -80,9 +80,9 @@ fn all_hold(alloc: Global, orders: &str, text: &[u8], written: (&str, &str)) -> 
 }
 
 fn words_hold(alloc: Global, words: &str, text: &[u8], (lines, status): (&str, &str)) -> bool {
-    match order_of(words) {
-        Some(order) => writes(alloc, &order, text, (lines, 1)) == status.parse().ok(),
-        None => false,
+    match (order_of(words), status.parse().ok()) {
+        (Some(order), Some(status)) => writes(alloc, &order, text, (lines, 1)) == Some(status),
+        _ => false,
     }
 }
 
