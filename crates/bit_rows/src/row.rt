@@ -1,4 +1,4 @@
-ghost use Rattle.std.specs.Prelude.{◌≡◌, ◌↔◌, ◌<◌, List, Bool, false, not, length, replicate, slice_index_or, slice_set, IfOk, IsTrue};
+ghost use Rattle.std.specs.Prelude.{◌≡◌, ◌↔◌, ◌<◌, ◌≤◌, List, Bool, false, not, length, replicate, slice_index_or, slice_set, IfOk, IsTrue};
 ghost use Rattle.bit_rows.specs.Rows.{xor_rows, and_parity_of, phase_of, first_one_of};
 
 use crate::bits::{all_zero, bit_at_place, first_place, flip_bit, put_bit};
@@ -63,6 +63,14 @@ impl<A: Allocator + Copy> BitRow<A> {
         ensures { result ≡ length self.now }
     {
         self.places
+    }
+
+    /// Whether there are 64 places or less.
+    #[inline(always)]
+    pub fn is_short(&self) -> bool
+        ensures { IsTrue result ↔ (length self.now ≤ 64) }
+    {
+        self.words.as_slice().len() <= 1
     }
 
     /// The bit at a place.

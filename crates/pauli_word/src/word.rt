@@ -1,4 +1,4 @@
-ghost use Rattle.std.specs.Prelude.{◌≡◌, ◌<◌, length, false, slice_set, not, IfOk};
+ghost use Rattle.std.specs.Prelude.{◌≡◌, ◌↔◌, ◌<◌, ◌≤◌, length, false, slice_set, not, IfOk, IsTrue};
 ghost use Rattle.pauli_word.specs.Letters.{is_minus};
 ghost use Rattle.pauli_word.specs.Words.{letter_at, anticommute, letters_power, product, lowest_X_or_Y};
 ghost use Rattle.pauli_word.specs.Groups.{identity_word};
@@ -11,7 +11,6 @@ use std::marker::Model;
 /// A signed Pauli word: one letter a qubit, and a sign.
 ///
 /// It is kept as two rows of bits, 64 qubits to a machine word. Only `identity` and `copy` allocate.
-#[derive(Drop)]
 pub struct Word<A: Allocator + Copy> {
     x: BitRow<A>,
     z: BitRow<A>,
@@ -28,6 +27,15 @@ impl<A: Allocator + Copy> Model for Word<A> {
     ghost view = { λ w. record { letters = letters_of w.x w.z; negative = w.negative } };
 
     ghost invariant = { λ w. length w.x ≡ length w.z };
+}
+
+// Written out, so that it is a call in the proof of each function that owns one.
+impl<A: Allocator + Copy> Drop for Word<A> {
+    fn drop(self) {
+        let Word { x, z, negative: _ } = self;
+        drop(x);
+        drop(z);
+    }
 }
 
 impl<A: Allocator + Copy> Word<A> {
@@ -102,6 +110,14 @@ impl<A: Allocator + Copy> Word<A> {
         ensures { result ≡ lowest_X_or_Y self.now.letters }
     {
         self.x.first_one()
+    }
+
+    /// Whether it has 64 letters or less.
+    #[inline(always)]
+    pub fn is_short(&self) -> bool
+        ensures { IsTrue result ↔ (length self.now.letters ≤ 64) }
+    {
+        self.x.is_short()
     }
 
     /// Multiplies by a word from the right. Answers whether the product of the letters brings the factor -1 or, where

@@ -29,8 +29,31 @@ pub(crate) fn controlled_letters(gate: Gate) -> Option<(Letter, Letter)>
     }
 }
 
-/// Applies the controlled gate with these letters to two qubits.
+/// Applies the controlled gate with these letters to two qubits. The letters of CX and CZ stand as constants, so that
+/// what depends on them is decided once, by the compiler.
 pub(crate) fn apply_controlled<A: Allocator + Copy>(
+    rows: &mut [Pair<A>],
+    own: Letter,
+    other: Letter,
+    a: usize,
+    b: usize,
+)
+    requires own { own ≢ Y }
+    requires first_inside { a < length rows.old }
+    requires second_inside { b < length rows.old }
+    requires differ { a ≢ b }
+    requires tableau { IsTableau (length rows.old) rows.old }
+    ensures { rows.new ≡ after_controlled own other a b rows.old }
+{
+    match (own, other) {
+        (Letter::Z, Letter::X) => multiply_at(rows, Letter::Z, Letter::X, a, b),
+        (Letter::Z, Letter::Z) => multiply_at(rows, Letter::Z, Letter::Z, a, b),
+        _ => multiply_at(rows, own, other, a, b),
+    }
+}
+
+#[inline(always)]
+fn multiply_at<A: Allocator + Copy>(
     rows: &mut [Pair<A>],
     own: Letter,
     other: Letter,
@@ -54,6 +77,7 @@ pub(crate) fn apply_controlled<A: Allocator + Copy>(
 }
 
 // The word of `own`, by which the second pair is multiplied, is not changed before: `own` doesn't clash with itself.
+#[inline(always)]
 fn multiply_both<A: Allocator + Copy>(
     first: &mut Pair<A>,
     second: &mut Pair<A>,

@@ -66,9 +66,22 @@ fn restart_pair<A: Allocator + Copy>(pair: &mut Pair<A>, qubit: usize)
     pair.1.set_letter(qubit, Letter::Z);
 }
 
-/// Multiplies by a word from the right. It is not inlined, since its callers would hold it once for each letter.
+/// Multiplies by a word from the right. It is not inlined, since its callers would hold it once for each letter. A word
+/// of few qubits is multiplied before any register is put aside.
 #[inline(never)]
 fn times<A: Allocator + Copy>(word: &mut Word<A>, other: &Word<A>)
+    requires { length word.old.letters ≡ length other.now.letters }
+    ensures { word.new ≡ product word.old other.now }
+{
+    if other.is_short() {
+        word.times(other);
+    } else {
+        times_long(word, other);
+    }
+}
+
+#[inline(never)]
+fn times_long<A: Allocator + Copy>(word: &mut Word<A>, other: &Word<A>)
     requires { length word.old.letters ≡ length other.now.letters }
     ensures { word.new ≡ product word.old other.now }
 {

@@ -1,9 +1,9 @@
 -- The pairs are read and written through the two parts into which the rows are split.
 use Rattle.std.proofs.Common.{ℕ, ◌<◌, ◌≤◌, ◌++◌, set, slice_index_or, ap₂, sym, ◌∙◌, arith}
 use Rattle.tableau.proofs.ControlledRows.{AreRead, back_inside, comes_after, front_inside, parts_set, set_swapped, read_ahead, read_behind, first_there, second_there, commute_there, made_there}
-use Rattle.tableau.proofs.controlled.apply_controlled.Given.{Over}
-use Rattle.tableau.proofs.controlled.apply_controlled.Goals as goal
-use Rattle.tableau.proofs.controlled.apply_controlled.Goals.{After-index-back-0, After-index-front-b}
+use Rattle.tableau.proofs.controlled.multiply_at.Given.{Over}
+use Rattle.tableau.proofs.controlled.multiply_at.Goals as goal
+use Rattle.tableau.proofs.controlled.multiply_at.Goals.{After-index-back-0, After-index-front-b}
 
 ahead : (g : Over) (c : After-index-back-0 g) → AreRead c.args.rows.now c.args.a c.args.b (slice_index_or c.split_at_mut-front.result.0.now c.args.a c.index-front-a.result) (slice_index_or c.split_at_mut-front.result.1.now 0 c.index-back-0.result)
 ahead g c = read_ahead _ _ _ _ _ _ _ c.split_at_mut-front.ensures.front c.split_at_mut-front.ensures.back c.if-a-b.true c.requires.second_inside
