@@ -11,7 +11,6 @@ use std::marker::Model;
 /// A signed Pauli word: one letter a qubit, and a sign.
 ///
 /// It is kept as two rows of bits, 64 qubits to a machine word. Only `identity` and `copy` allocate.
-#[derive(Drop)]
 pub struct Word<A: Allocator + Copy> {
     x: BitRow<A>,
     z: BitRow<A>,
@@ -28,6 +27,19 @@ impl<A: Allocator + Copy> Model for Word<A> {
     ghost view = { λ w. record { letters = letters_of w.x w.z; negative = w.negative } };
 
     ghost invariant = { λ w. length w.x ≡ length w.z };
+}
+
+// Written out, so that it is a call in the proof of each function that owns one.
+impl<A: Allocator + Copy> Drop for Word<A> {
+    fn drop(self) {
+        let Word {
+            x,
+            z,
+            negative: _,
+        } = self;
+        drop(x);
+        drop(z);
+    }
 }
 
 impl<A: Allocator + Copy> Word<A> {
