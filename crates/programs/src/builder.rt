@@ -12,7 +12,7 @@ use std::alloc::{AllocError, Allocator};
 use std::marker::Model;
 
 /// An open block: how many nodes came before it in what it stands in, and its turns.
-#[derive(Clone, Copy, Debug, Default, PartialEq, Eq)]
+#[derive(Clone, Copy, Default)]
 pub struct Outer {
     pub length: usize,
     pub turns: u64,

@@ -20,7 +20,6 @@ const PLACES: usize = 4 * 4096;
 const FLIPS: usize = 0;
 
 /// Entries as they are gathered, whose probabilities are among texts that are given first.
-#[derive(Drop)]
 pub struct EntryBuilder<'a, A: Allocator + Copy> {
     texts: Vec<ChanceText<'a>, A>,
     numbers: Vec<usize, A>,
@@ -39,6 +38,22 @@ impl<'a, A: Allocator + Copy> Model for EntryBuilder<'a, A> {
     ghost view = { λ b. record { chances = map chance_of b.texts.items; kept = entries_of b.texts.items b.numbers.items b.terms } };
 
     ghost invariant = { λ b. IsNumbered b.texts.items b.numbers.items b.terms };
+}
+
+// Written out, so that it is a call in the proof of each function that owns one.
+impl<A: Allocator + Copy> Drop for EntryBuilder<'_, A> {
+    fn drop(self) {
+        let EntryBuilder {
+            texts,
+            numbers,
+            terms,
+            last,
+        } = self;
+        drop(texts);
+        drop(numbers);
+        drop(terms);
+        drop(last);
+    }
 }
 
 impl<'a, A: Allocator + Copy> EntryBuilder<'a, A> {
@@ -172,7 +187,14 @@ impl<'a, A: Allocator + Copy> EntryBuilder<'a, A> {
     pub fn finish(self) -> Entries<'a, A>
         ensures { result ≡ self.entry.kept }
     {
-        Entries::new(self.texts, self.numbers, self.terms)
+        let EntryBuilder {
+            texts,
+            numbers,
+            terms,
+            last,
+        } = self;
+        drop(last);
+        Entries::new(texts, numbers, terms)
     }
 }
 

@@ -9,7 +9,7 @@ use std::alloc::Allocator;
 
 /// A fault of a program: its number, the number of its entry (its probability and letters, which other faults may share), and
 /// the record that it flips: none where it applies letters at qubits.
-#[derive(Clone, Copy, Debug, PartialEq, Eq)]
+#[derive(Clone, Copy)]
 pub struct FoundFault {
     pub number: u32,
     pub entry: u32,

@@ -9,7 +9,7 @@ use pauli_word::Letter;
 
 /// How a collapse, the projective measurement inside a measurement or a reset, is recorded: whether its outcome is
 /// inverted, and the entry of the fault that flips the record.
-#[derive(Clone, Copy, Debug, PartialEq, Eq)]
+#[derive(Clone, Copy)]
 pub struct Recording {
     pub inverted: bool,
     pub flip: Option<u32>,
@@ -17,7 +17,7 @@ pub struct Recording {
 
 /// A step as the circuit's text has it, the same in each repetition of a block: faults and products are named by the
 /// number of what is kept of them, and a record by how many records back it is, 1 for the last.
-#[derive(Clone, Copy, Debug, PartialEq, Eq)]
+#[derive(Clone, Copy)]
 pub enum TextStep {
     One {
         gate: Gate,
@@ -50,14 +50,14 @@ pub enum TextStep {
 }
 
 /// A fault's number, and the number of what is kept of it.
-#[derive(Clone, Copy, Debug, PartialEq, Eq)]
+#[derive(Clone, Copy)]
 pub struct FaultName {
     pub number: u32,
     pub entry: u32,
 }
 
 /// One step of a program. Qubits, records, faults and products are numbered from 0.
-#[derive(Clone, Copy, Debug, PartialEq, Eq)]
+#[derive(Clone, Copy)]
 pub enum Step {
     One {
         gate: Gate,
@@ -105,7 +105,7 @@ impl Step {
 }
 
 /// How many records, collapses and faults come before a place.
-#[derive(Clone, Copy, Debug, PartialEq, Eq)]
+#[derive(Clone, Copy)]
 pub struct Counts {
     pub records: u32,
     pub collapses: u32,
