@@ -1,13 +1,14 @@
 -- A run in which no fault happens and each coin is 0 has the records of the reference run.
-use Rattle.std.proofs.Common.{◌≡◌, ℕ, zero, suc, Bool, true, false, List, [], ◌∷◌, ◌++◌, replicate, Option, None, Some, refl, ap, ap₂, sym, ◌∙◌}
+use Rattle.std.proofs.Common.{◌≡◌, ℕ, zero, suc, ◌+◌, Bool, true, false, List, [], ◌∷◌, ◌++◌, length, replicate, length-append, Option, None, Some, refl, ap, ap₂, sym, ◌∙◌}
 use Rattle.std.specs.List.{list_any}
+use Rattle.std.proofs.lemmas.List.{length-map}
 use Rattle.pauli_word.specs.Parity.{exclusive_or}
 use Rattle.pauli_word.specs.States.{applied}
 use Rattle.run_laws.proofs.PairRuns.{with_coins}
 use Rattle.step_model.specs.Frames.{zero_coins}
 use Rattle.step_model.specs.Listing.{Listing, ListedStep, One, Two, Collapse, Fault, Feedback, measured_word, fault_word}
 use Rattle.step_model.specs.Runs.{RunState, after_collapse, correction, flip_happens, happens, next, records_of, run_from, start}
-use Rattle.step_model.specs.Targets.{difference}
+use Rattle.step_model.specs.Targets.{difference, differences, parities, parity, targets_of}
 use Rattle.sampling.specs.Lines.{line_of}
 use Rattle.engine.specs.Output.{run_lines}
 
@@ -63,6 +64,18 @@ quiet_records program faults coins no_fault no_coin =
     ap (λ (m : RunState). m.records) (same-run program faults program.steps (start coins) no_fault)
     ∙ same-records program program.steps coins (start []) no_coin
     ∙ sym (same-records program program.steps (zero_coins program) (start []) (zeros-quiet program.collapses))
+
+no_difference : (values : List Bool) → differences values values ≡ replicate (length values) false
+no_difference [] = refl
+no_difference (true ∷ values) = ap (λ (rest : List Bool). false ∷ rest) (no_difference values)
+no_difference (false ∷ values) = ap (λ (rest : List Bool). false ∷ rest) (no_difference values)
+
+-- no target differs between a run and itself
+pub no_events : (program : Listing) (records : List Bool)
+    → difference program records records ≡ replicate (length program.detectors + length program.observables) false
+no_events program records =
+    no_difference (parities program records)
+    ∙ ap (λ count. replicate count false) (length-map (targets_of program) (λ named. parity named records) ∙ length-append program.detectors program.observables)
 
 -- so its lines are those of the reference run beside itself
 pub quiet_lines : (program : Listing) (faults coins reference : List Bool) → IsQuiet faults → IsQuiet coins → reference ≡ records_of program [] (zero_coins program)

@@ -111,10 +111,25 @@ fn lines_of_run<A: Allocator + Copy>(
 {
     let reference = noiseless_records(alloc, program)?;
     if !has_true(faults) && !has_true(coins) {
-        return lines_beside(alloc, program, &reference, &reference);
+        return lines_without_events(alloc, program, &reference);
     }
     let records = run(alloc, program, faults, coins)?;
     lines_beside(alloc, program, &records, &reference)
+}
+
+/// The line of a run's records, and the line of no detections: the run is the one that it is compared with.
+fn lines_without_events<A: Allocator + Copy>(
+    alloc: A,
+    program: &Program<'_, A>,
+    records: &Records<A>,
+) -> Result<Vec<u8, A>, Fault>
+    ensures ok { IfOk result (λ lines. lines.items
+        ≡ line_of records.now
+        ++ line_of (difference program.now.listing records.now records.now)) }
+    ensures err { IfErr result (λ e. e ≡ memory_fault) }
+{
+    let events = all_false(alloc, program.target_count())?;
+    Ok(run_lines(alloc, records, events.as_slice())?)
 }
 
 fn has_true(values: &[bool]) -> bool

@@ -8,6 +8,6 @@ pub returns-then-not-has_true-2-clause-ok : goal.returns-then-not-has_true-2-cla
 returns-then-not-has_true-2-clause-ok g c =
     let no_fault : IsQuiet c.args.faults.now = sym c.has_true.ensures ∙ c.if-not-has_true.true in
     let no_coin : IsQuiet c.args.coins.now = sym c.has_true-then-not-has_true.ensures ∙ c.if-not-has_true-2.true in
-    subst (λ (lines : List ℕ). IfOk c.lines_beside.result (λ text. text.items ≡ lines))
+    subst (λ (lines : List ℕ). IfOk c.lines_without_events.result (λ text. text.items ≡ lines))
     (quiet_lines c.args.program.now.listing c.args.faults.now c.args.coins.now _ no_fault no_coin c.in_ok-reference.ensures.ok)
-    c.lines_beside.ensures.ok
+    c.lines_without_events.ensures.ok
