@@ -128,25 +128,38 @@ fn option<'a>(alloc: Global, name: &'a str, help: &'a str) -> Arg<'a> {
 
 /// The order that a command line gives, whose texts are handed on as their bytes. None where a number isn't one.
 pub(crate) fn order_of<'a>(matches: &ArgMatches<'a>) -> Option<Order<'a>> {
-    match matches.subcommand() {
-        Some(("run", given)) => Some(Order::Run {
-            coins: coins_in(given),
-            faults: list_in(given, "faults"),
-        }),
-        Some(("sample", given)) => {
-            let (shots, seed) = draws_in(given)?;
-            Some(Order::Sample { shots, seed })
-        }
-        Some(("detect", given)) => {
-            let (shots, seed) = draws_in(given)?;
-            Some(Order::Detect { shots, seed })
-        }
-        Some(("analyze", _)) => Some(Order::Analyze),
-        Some(("faults", _)) => Some(Order::Faults),
-        Some(("predict", given)) => Some(Order::Predict {
-            lines: list_in(given, "lines"),
-        }),
+    let (name, given) = matches.subcommand()?;
+    match name {
+        "run" => Some(run_in(given)),
+        "sample" => sample_in(given),
+        "detect" => detect_in(given),
+        "analyze" => Some(Order::Analyze),
+        "faults" => Some(Order::Faults),
+        "predict" => Some(predict_in(given)),
         _ => None,
+    }
+}
+
+fn run_in<'a>(given: &ArgMatches<'a>) -> Order<'a> {
+    Order::Run {
+        coins: coins_in(given),
+        faults: list_in(given, "faults"),
+    }
+}
+
+fn sample_in<'a>(given: &ArgMatches<'a>) -> Option<Order<'a>> {
+    let (shots, seed) = draws_in(given)?;
+    Some(Order::Sample { shots, seed })
+}
+
+fn detect_in<'a>(given: &ArgMatches<'a>) -> Option<Order<'a>> {
+    let (shots, seed) = draws_in(given)?;
+    Some(Order::Detect { shots, seed })
+}
+
+fn predict_in<'a>(given: &ArgMatches<'a>) -> Order<'a> {
+    Order::Predict {
+        lines: list_in(given, "lines"),
     }
 }
 
