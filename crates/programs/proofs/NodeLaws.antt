@@ -1,8 +1,9 @@
 -- Nodes as they are kept, and one block more.
-use Rattle.std.proofs.Common.{◌≡◌, ℕ, suc, ◌<◌, List, [], ◌∷◌, ◌++◌, length, set, refl, ap, ap₂, ◌∙◌, arith}
+use Rattle.std.proofs.Common.{◌≡◌, ℕ, suc, ◌+◌, ◌<◌, List, [], ◌∷◌, ◌++◌, length, set, refl, ap, ap₂, ◌∙◌, arith}
 use Rattle.std.specs.Prelude.{All}
 use Rattle.std.proofs.Math.Seq.{get_or-append_seam}
 use Rattle.std.proofs.lemmas.List.{get_or_append_left, map-append, map-set}
+use Rattle.std.proofs.lemmas.List.Elements.{All-push, All-set, All-weaker}
 use Rattle.programs.specs.declared.kept_node.BlockSize.{BlockSize}
 use Rattle.programs.specs.declared.kept_node.KeptNode.{KeptNode}
 use Rattle.programs.specs.declared.kept_node.KeptNode.TheVariants as kept
@@ -15,6 +16,19 @@ pub names_none : (n : ℕ) (node : KeptNode) → NamesBlockBelow 0 node → Name
 names_none n (kept.Open b) h = absurd (omega (arith, h))
 names_none n (kept.Close b) h = absurd (omega (arith, h))
 names_none n other h = tt
+
+-- one among so many is one among one more
+names_more : (n : ℕ) (node : KeptNode) → NamesBlockBelow n node → NamesBlockBelow (n + 1) node
+names_more n (kept.Open b) h = omega (arith, h)
+names_more n (kept.Close b) h = omega (arith, h)
+names_more n other h = tt
+
+-- so it is of the nodes with a block that closes
+pub named_closed : (n start b : ℕ) (nodes : List KeptNode) → b < n + 1 → All (NamesBlockBelow n) nodes → All (NamesBlockBelow (n + 1)) (set nodes start (kept.Open b) ++ kept.Close b ∷ [])
+named_closed n start b nodes low all =
+    let names = NamesBlockBelow (n + 1) in
+    All-push names (set nodes start (kept.Open b)) (kept.Close b)
+    (All-set names nodes start (kept.Open b) low (All-weaker (NamesBlockBelow n) names (names_more n) nodes all)) low
 
 -- a size behind those that are there changes no node
 size_at-more : (sizes : List BlockSize) (size : BlockSize) (b : ℕ) → b < length sizes → size_at (sizes ++ size ∷ []) b ≡ size_at sizes b
