@@ -1,5 +1,5 @@
 -- Points left on the way back, and taken from their end.
-use Rattle.std.proofs.Common.{◌≡◌, ℕ, ◌+◌, ◌<◌, ◌≤◌, List, [], ◌∷◌, ◌++◌, length, drop, get_or, Option, Some, refl, ap, subst, sym, ◌∙◌, arith}
+use Rattle.std.proofs.Common.{◌≡◌, ℕ, ◌+◌, ◌<◌, ◌≤◌, List, [], ◌∷◌, ◌++◌, ◌⊎◌, inl, inr, length, drop, get_or, Option, Some, refl, ap, subst, sym, ◌∙◌, arith}
 use Rattle.std.specs.Prelude.{All}
 use Rattle.std.specs.Option.{option_to_list}
 use Rattle.std.proofs.Math.Seq.{get_or-append_seam}
@@ -14,6 +14,10 @@ use Rattle.backward.specs.declared.stretch.Parts.{Parts}
 use Rattle.trackers.specs.Tracked.{Tracked}
 use Rattle.backward.specs.private.Passes.{IsPassed, tracked_before}
 use Rattle.backward.specs.private.Points.{ArePoints, AreParts, IsLeft, IsPointOf, Keeps, first_place}
+
+-- the points at a place of the way back: none yet where the way begins, one of which is left there next
+abbrev pub OnWay : {A : Type 0} → KeptProgram → (from cut place next : ℕ) → List (KeptPoint A) → Type 0
+OnWay program from cut place next points = ((place ≡ cut) × ((points ≡ []) × (place ≤ next))) ⊎ ((place < cut) × ArePoints program from cut points)
 
 -- the last of some points was taken: it comes after `from`, and those before it after its place
 pub record IsPopped {A : Type 0} (program : KeptProgram) (from cut : ℕ) (rest : List (KeptPoint A)) (point : KeptPoint A) : Type 0 where
@@ -77,6 +81,19 @@ module _ {A : Type 0} (program : KeptProgram) where
         below = All-push (λ p. p.walk.place ≤ cut) old left.point points.below (omega (arith, place, below));
         fall = all_pairs_push (λ early late. late.walk.place < early.walk.place) old left.point points.fall (λ k d within. let after : at.walk.place < (get_or old k d).walk.place = before k d within in omega (arith, place, after));
       })
+
+  pub left_on_way : {T : Type 0} (tracked : T → Tracked) (from cut next : ℕ) (at : Point A T) (found : Found A) (old new : List (KeptPoint A)) → from < at.walk.place → at.walk.program ≡ program → IsPassed program.listing at.walk.place (tracked at.tracker) found
+      → All (λ p. at.walk.place < p.walk.place) old → IsLeft tracked at old new → OnWay program from cut at.walk.place next old → ArePoints program from cut new
+  left_on_way tracked from cut next at found old new lt is h before left (inl first) = first_point tracked from cut at found old new first.1.0 (sym first.0) lt is h left
+  left_on_way tracked from cut next at found old new lt is h before left (inr on) = next_point tracked from cut at found old new lt on.0 is h before left on.1
+
+  pub kept_on_way : (from cut place next : ℕ) (points : List (KeptPoint A)) → next < place → OnWay program from cut place next points → ArePoints program from cut points
+  kept_on_way from cut place next points lt (inl first) = absurd (omega (arith, lt, first.1.1))
+  kept_on_way from cut place next points lt (inr on) = on.1
+
+  pub end_of_way : (from cut place next : ℕ) (points : List (KeptPoint A)) → place ≡ from → OnWay program from cut place next points → ArePoints program from cut points
+  end_of_way from cut place next points e (inl first) = subst (ArePoints program from cut) (sym first.1.0) (no_points from cut (sym first.0 ∙ e))
+  end_of_way from cut place next points e (inr on) = on.1
 
   -- after a point is left, it and those before it are no earlier than where the pass is
   pub left_behind : {T : Type 0} (tracked : T → Tracked) (at : Point A T) (old new : List (KeptPoint A)) → All (λ p. at.walk.place < p.walk.place) old → IsLeft tracked at old new → All (λ p. at.walk.place ≤ p.walk.place) new

@@ -19,7 +19,6 @@ use trackers::Tracker;
 /// A pass changes a record's list at feedback that depends on the record, which stands behind the collapse that makes
 /// it, and reads the list at that collapse. So a first pass leaves each list as it is read; from then on the lists are
 /// `settled`, and another pass changes none, and asks no more where targets are random.
-#[derive(Drop)]
 pub(crate) struct Found<'s, A: Allocator + Copy> {
     pub(crate) alloc: &'s A,
     pub(crate) lists: ChangingLists<'s, A>,
@@ -34,6 +33,25 @@ pub(crate) struct Found<'s, A: Allocator + Copy> {
     pub(crate) left: u32,
     /// A buffer.
     pub(crate) hit: Vec<u32, A>,
+}
+
+// Written out, so that it is a call in the proof of each function that owns one.
+impl<A: Allocator + Copy> Drop for Found<'_, A> {
+    fn drop(self) {
+        let Found {
+            alloc: _,
+            lists,
+            settled: _,
+            keeps: _,
+            known: _,
+            latest,
+            left: _,
+            hit,
+        } = self;
+        drop(lists);
+        drop(latest);
+        drop(hit);
+    }
 }
 
 impl<'s, A: Allocator + Copy> Found<'s, A> {

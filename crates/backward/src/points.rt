@@ -58,16 +58,13 @@ fn leave_on_way<'s, 'p, 'a, A: Allocator + Copy, T: Tracker>(
     ensures stays { Stays found.old found.new }
     ensures points { OnOk result (ArePoints program.now from at.old.walk.place points.new.items) }
 {
-    if at.walk.place() > from {
-        leave(points, at)?;
-    }
-    let mut next = at.walk.place().saturating_sub(distance);
+    let mut next = at.walk.place();
     while at.walk.place() > from {
-        step_back(program, at, found, &mut NoLines { program })?;
-        if at.walk.place() > from && at.walk.place() <= next {
+        if at.walk.place() <= next {
             leave(points, at)?;
             next = next.saturating_sub(distance);
         }
+        step_back(program, at, found, &mut NoLines { program })?;
     }
     Ok(())
 }

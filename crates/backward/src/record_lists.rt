@@ -29,7 +29,6 @@ const MOST_LINKS: usize = u32::MAX as usize;
 /// it, it is put in front. A list's place is how many links there are up to and with its first, and 0 where it is
 /// empty. Where feedback has put many, the lists are made anew, so the links don't grow with the number of steps: what
 /// lists had that are empty now is left out.
-#[derive(Drop)]
 pub(crate) struct RecordLists<'s, A: Allocator + Copy> {
     alloc: &'s A,
     targets: usize,
@@ -48,6 +47,21 @@ impl<'s, A: Allocator + Copy> Model for RecordLists<'s, A> {
     ghost view = { λ lists. rows_at lists.targets lists.links.items lists.places.items };
 
     ghost invariant = { λ lists. AreLists lists.targets lists.links.items lists.places.items };
+}
+
+// Written out, so that it is a call in the proof of each function that owns one.
+impl<A: Allocator + Copy> Drop for RecordLists<'_, A> {
+    fn drop(self) {
+        let RecordLists {
+            alloc: _,
+            targets: _,
+            links,
+            places,
+            many: _,
+        } = self;
+        drop(links);
+        drop(places);
+    }
 }
 
 impl<'s, A: Allocator + Copy> RecordLists<'s, A> {

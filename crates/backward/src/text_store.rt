@@ -27,7 +27,6 @@ const STRIDE: usize = 16;
 const STEP_ROOM: usize = 4096;
 
 /// The text of a program's lines.
-#[derive(Drop)]
 pub(crate) struct TextStore<'p, 'a, A: Allocator + Copy> {
     program: &'p Program<'a, A>,
     chances: ChanceTable<'p, 'a>,
@@ -38,6 +37,22 @@ pub(crate) struct TextStore<'p, 'a, A: Allocator + Copy> {
     room: usize,
     whole: usize,
     ghost fits: { IsTextFor program.now chances numbers.items text },
+}
+
+// Written out, so that it is a call in the proof of each function that owns one.
+impl<A: Allocator + Copy> Drop for TextStore<'_, '_, A> {
+    fn drop(self) {
+        let TextStore {
+            program: _,
+            chances: _,
+            numbers,
+            text,
+            room: _,
+            whole: _,
+        } = self;
+        drop(numbers);
+        drop(text);
+    }
 }
 
 impl<'p, 'a, A: Allocator + Copy> TextStore<'p, 'a, A> {

@@ -15,11 +15,11 @@ ghost use Rattle.backward.specs.private.Stretches.{text_between};
 
 use crate::found::Found;
 use crate::places::random_target;
-use crate::point::{KeptPoint, Point};
-use crate::stretch::{cut, write_parts};
+use crate::point::Point;
+use crate::stretch::{Parts, cut, write_parts};
 use crate::text_store::TextStore;
 use arrayvec::ArrayVec;
-use error_models::{HeldText, push_detector, push_observable};
+use error_models::{push_detector, push_observable};
 use programs::{Program, Walk};
 use std::alloc::{AllocError, Allocator};
 use step_model::{Fault, Place, Sink};
@@ -130,16 +130,7 @@ fn push_from_end<'s, 'p, 'a, A: Allocator + Copy, T: Tracker, W: Sink>(
         Some(random) => Ok(Some(random)),
         None => {
             found.settled = true;
-            push_model(
-                program,
-                parts.points,
-                &parts.end,
-                at,
-                found,
-                lines,
-                out,
-                sink,
-            )?;
+            push_model(program, parts, at, found, lines, out, sink)?;
             Ok(None)
         }
     }
@@ -148,21 +139,21 @@ fn push_from_end<'s, 'p, 'a, A: Allocator + Copy, T: Tracker, W: Sink>(
 // Pushes the model's text, from what a first pass left: points, and the text of its end.
 fn push_model<'s, 'p, 'a, A: Allocator + Copy, T: Tracker, W: Sink>(
     program: &Program<'a, A>,
-    points: Vec<KeptPoint<'p, 'a, A>, A>,
-    end: &HeldText<A>,
+    parts: Parts<'p, 'a, A>,
     at: &mut Point<'p, 'a, A, T>,
     found: &mut Found<'s, A>,
     lines: &mut TextStore<'_, 'a, A>,
     out: &mut Pieces,
     sink: &mut W,
 ) -> Result<(), AllocError>
-    requires points { ArePoints program.now 0 (first_place 0 points.items) points.items }
-    requires within { first_place 0 points.items ≤ length program.now.listing.steps }
-    requires end { end.now
-        ≡ text_between program.now.listing (first_place 0 points.items)
+    requires points { ArePoints program.now 0 (first_place 0 parts.points.items)
+        parts.points.items }
+    requires within { first_place 0 parts.points.items ≤ length program.now.listing.steps }
+    requires end { parts.end
+        ≡ text_between program.now.listing (first_place 0 parts.points.items)
         (length program.now.listing.steps) }
     requires tracker { IsFor program.now.listing (T.tracked at.old.tracker) }
-    requires ready { IsReady program.now.listing (first_place 0 points.items) found.old }
+    requires ready { IsReady program.now.listing (first_place 0 parts.points.items) found.old }
     requires store { lines.old.program.now ≡ program.now }
     requires empty { lines.old.text.text ≡ [] }
     ensures text { OnOk result
@@ -174,8 +165,8 @@ fn push_model<'s, 'p, 'a, A: Allocator + Copy, T: Tracker, W: Sink>(
 {
     program.well_formed();
     lines.hold_parts();
-    write_parts(program, 0, points, at, found, lines, out, sink)?;
-    end.push_to(out, sink);
+    write_parts(program, 0, parts.points, at, found, lines, out, sink)?;
+    parts.end.push_to(out, sink);
     push_declarations(program, out, sink);
     Ok(())
 }

@@ -10,7 +10,6 @@ use step_model::Sink;
 use streams::Pieces;
 
 /// Text that was taken out of a `LinesText`, in its blocks.
-#[derive(Drop)]
 pub struct HeldText<A: Allocator + Copy> {
     // The blocks that are full, in the order in which they were filled: the last part of the text first.
     full: Vec<TextBlock<A>, A>,
@@ -24,6 +23,15 @@ impl<A: Allocator + Copy> Model for HeldText<A> {
     ghost Value = { List ℕ };
 
     ghost view = { λ t. text_in t.block t.full.items };
+}
+
+// Written out, so that it is a call in the proof of each function that owns one.
+impl<A: Allocator + Copy> Drop for HeldText<A> {
+    fn drop(self) {
+        let HeldText { full, block } = self;
+        drop(full);
+        drop(block);
+    }
 }
 
 impl<A: Allocator + Copy> HeldText<A> {

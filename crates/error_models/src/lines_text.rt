@@ -16,7 +16,6 @@ use std::marker::Model;
 /// The text of error lines, each put before those that were there. So a pass that finds the last line first can write
 /// each when it finds it. The text grows by blocks of 64 KiB, and what was written isn't moved. The texts of targets
 /// are made once, and that of a probability when it is kept, so a line is made of copies.
-#[derive(Drop)]
 pub struct LinesText<'a, A: Allocator + Copy> {
     names: Names<A>,
     texts: Vec<LineText<'a>, A>,
@@ -34,6 +33,20 @@ impl<'a, A: Allocator + Copy> Model for LinesText<'a, A> {
       texts = t.texts.items;
       text = t.blocks.text;
     } };
+}
+
+// Written out, so that it is a call in the proof of each function that owns one.
+impl<A: Allocator + Copy> Drop for LinesText<'_, A> {
+    fn drop(self) {
+        let LinesText {
+            names,
+            texts,
+            blocks,
+        } = self;
+        drop(names);
+        drop(texts);
+        drop(blocks);
+    }
 }
 
 impl<'a, A: Allocator + Copy> LinesText<'a, A> {

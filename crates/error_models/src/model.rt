@@ -9,7 +9,6 @@ use std::alloc::{AllocError, Allocator};
 /// What the faults of a circuit flip: an error line for each fault that flips some target, and how many detectors,
 /// with what coordinates, and observables there are. Targets are numbered, the detectors first: observable k has the
 /// number of detectors and k more.
-#[derive(Drop)]
 pub struct Model<'a, A: Allocator + Copy> {
     // The lines: those of `back` from the last to the first, and then those of `front`.
     back: Lines<'a, A>,
@@ -30,6 +29,21 @@ impl<'a, A: Allocator + Copy> std::marker::Model for Model<'a, A> {
       detectors = length m.coordinates;
       observables = m.observables;
     } };
+}
+
+// Written out, so that it is a call in the proof of each function that owns one.
+impl<A: Allocator + Copy> Drop for Model<'_, A> {
+    fn drop(self) {
+        let Model {
+            back,
+            front,
+            coordinates,
+            observables: _,
+        } = self;
+        drop(back);
+        drop(front);
+        drop(coordinates);
+    }
 }
 
 impl<'a, A: Allocator + Copy> Model<'a, A> {
@@ -54,9 +68,16 @@ impl<'a, A: Allocator + Copy> Model<'a, A> {
             ≡ record
             { lines = reverse lines.entry.lines; coordinates = coordinates; detectors = length coordinates; observables = observables } }
     {
+        let Model {
+            back,
+            front,
+            coordinates: replaced,
+            observables: _,
+        } = lines;
+        drop(replaced);
         Model {
-            back: lines.front,
-            front: lines.back,
+            back: front,
+            front: back,
             coordinates,
             observables,
         }

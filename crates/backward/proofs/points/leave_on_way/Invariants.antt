@@ -1,7 +1,7 @@
-use Rattle.std.proofs.Common.{◌≡◌, ◌≤◌}
+use Rattle.std.proofs.Common.{◌≡◌, ◌<◌, ◌≤◌}
 use Rattle.std.specs.Prelude.{All}
 use Rattle.backward.specs.private.Passes.{IsPassed, Stays}
-use Rattle.backward.specs.private.Points.{ArePoints}
+use Rattle.backward.proofs.PointLemmas.{OnWay}
 use Rattle.backward.proofs.points.leave_on_way.Given as goal
 
 abbrev pub invariant-loop-at : goal.invariant-loop-at
@@ -12,8 +12,8 @@ invariant-loop-at g l =
       below : l.at.walk.place ≤ l.fn.at.walk.place;
       passed : IsPassed l.program.listing l.at.walk.place (g.T.Tracker.tracked l.at.tracker) l.found;
       stays : Stays l.fn.found l.found;
-      points : ArePoints l.program l.from l.fn.at.walk.place l.points.items;
-      behind : All (λ p. l.at.walk.place ≤ p.walk.place) l.points.items;
+      points : OnWay l.program l.from l.fn.at.walk.place l.at.walk.place l.next l.points.items;
+      behind : All (λ p. l.at.walk.place < p.walk.place) l.points.items;
     }
 
 abbrev pub decreases-loop-at : goal.decreases-loop-at

@@ -1,5 +1,5 @@
-use Rattle.std.proofs.Common.{◌≡◌, ◌+◌, ◌∷◌, get_or, drop, refl, ap, sym, ◌∙◌}
-use Rattle.std.proofs.lemmas.List.{drop_more}
+use Rattle.std.proofs.Common.{◌≡◌, ◌+◌, ◌∷◌, get_or, drop, refl, ap, sym, ◌∙◌, arith}
+use Rattle.std.proofs.lemmas.List.{drop_all, drop_more}
 use Rattle.backward.specs.private.Links.{list_at, put_before}
 use Rattle.backward.proofs.LinkLemmas.{grown_on, grown_none}
 use Rattle.backward.proofs.record_lists.put_each.Goals as goal
@@ -21,4 +21,14 @@ loop-target-preserved g c =
       grown = grown_on c.args.links.now.items links c.put_first.new.links.items inv.grown c.put_first.ensures.grown;
       placed = made.placed;
       left = ap (put_before (drop (index + 1) targets)) made.put ∙ (sym next ∙ inv.left);
+    }
+
+pub returns-clause-put : goal.returns-clause-put
+returns-clause-put g c =
+    let inv = c.loop-target.invariant in
+    let done = drop_all c.loop-target.target-index c.args.targets.now (omega (arith, c.loop-target-test.false)) in
+    record {
+      grown = inv.grown;
+      placed = inv.placed;
+      put = sym (ap (λ ts. put_before ts (list_at c.loop-target.links.items c.loop-target.first)) done) ∙ inv.left;
     }
