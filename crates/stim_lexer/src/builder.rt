@@ -14,7 +14,6 @@ use std::marker::Model;
 use step_model::{Cause, Fault};
 
 /// A text that is read line by line.
-#[derive(Drop)]
 pub struct Builder<'a, O: Copy, T: Copy, S: Short<T>, A: Allocator + Copy> {
     items: Items<'a, O, T, S, A>,
     // The lines of the open blocks, the outermost first.
@@ -29,6 +28,15 @@ impl<'a, O: Copy, T: Copy, S: Short<T>, A: Allocator + Copy> Model for Builder<'
     ghost Value = { Begun (Instruction O T) };
 
     ghost view = { λ b. record { text = record { items = b.items.items; opened = reverse b.blocks.items }; marks = b.items.marks } };
+}
+
+// Written out, so that it is a call in the proof of each function that owns one.
+impl<O: Copy, T: Copy, S: Short<T>, A: Allocator + Copy> Drop for Builder<'_, O, T, S, A> {
+    fn drop(self) {
+        let Builder { items, blocks } = self;
+        drop(items);
+        drop(blocks);
+    }
 }
 
 impl<'a, O: Copy, T: Copy, S: Short<T>, A: Allocator + Copy> Builder<'a, O, T, S, A> {
@@ -94,15 +102,16 @@ impl<'a, O: Copy, T: Copy, S: Short<T>, A: Allocator + Copy> Builder<'a, O, T, S
     }
 
     /// The items that were read. Where a block is left open, the refusal for this cause, with the line of the innermost.
-    pub fn finish(mut self, cause: Cause) -> Result<Items<'a, O, T, S, A>, Fault>
+    pub fn finish(self, cause: Cause) -> Result<Items<'a, O, T, S, A>, Fault>
         ensures opened { IfOk result (λ items. self.entry.text.opened ≡ []) }
         ensures items { IfOk result (λ items. items
             ≡ record { items = self.entry.text.items; marks = self.entry.marks }) }
         ensures err { IfErr result (λ fault. left_open cause self.entry.text.opened ≡ Some fault) }
     {
-        match self.blocks.pop() {
+        let Builder { items, mut blocks } = self;
+        match blocks.pop() {
             Some(line) => Err(Fault { cause, line }),
-            None => Ok(self.items),
+            None => Ok(items),
         }
     }
 }

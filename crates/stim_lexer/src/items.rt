@@ -46,7 +46,6 @@ pub(crate) enum Node<'a, O> {
 }
 
 /// Items in the order of the text. Blocks are kept flat, so no recursion is needed to go over them.
-#[derive(Drop)]
 pub struct Items<'a, O: Copy, T: Copy, S: Short<T>, A: Allocator + Copy> {
     nodes: Vec<Node<'a, O>, A>,
     // A list for each node, empty where it isn't an instruction.
@@ -64,6 +63,15 @@ impl<'a, O: Copy, T: Copy, S: Short<T>, A: Allocator + Copy> Model for Items<'a,
     ghost view = { λ i. record { items = items_kept i.targets i.nodes.items; marks = map mark_kept i.nodes.items } };
 
     ghost invariant = { λ i. length i.nodes.items ≡ length i.targets };
+}
+
+// Written out, so that it is a call in the proof of each function that owns one.
+impl<O: Copy, T: Copy, S: Short<T>, A: Allocator + Copy> Drop for Items<'_, O, T, S, A> {
+    fn drop(self) {
+        let Items { nodes, targets } = self;
+        drop(nodes);
+        drop(targets);
+    }
 }
 
 impl<'a, O: Copy, T: Copy, S: Short<T>, A: Allocator + Copy> Items<'a, O, T, S, A> {

@@ -20,7 +20,6 @@ pub struct Numbered<'a, O: Copy, T: Copy, S: Short<T>, A: Allocator + Copy> {
 }
 
 /// What a text writes that its judge accepts: its blocks stand among its instructions.
-#[derive(Drop)]
 pub struct JudgedText<
     'a,
     O: Copy,
@@ -51,6 +50,15 @@ impl<'a, O: Copy, T: Copy, S: Short<T>, F: Copy, J: Judge<O, T, F>, A: Allocator
     ghost view = { λ t. tree_of t.read.items.items };
 
     ghost invariant = { λ t. (IsWritten J.Fits t.read.items.items) × Keeps J.table t.read.texts.items t.read.items };
+}
+
+// Written out, so that it is a call in the proof of each function that owns one.
+impl<O: Copy, T: Copy, S: Short<T>, F: Copy, J: Judge<O, T, F>, A: Allocator + Copy> Drop
+    for JudgedText<'_, O, T, S, F, J, A> {
+    fn drop(self) {
+        let JudgedText { read, judge: _ } = self;
+        drop(read);
+    }
 }
 
 impl<'a, O: Copy, T: Copy, S: Short<T>, F: Copy, J: Judge<O, T, F>, A: Allocator + Copy> JudgedText<
@@ -125,6 +133,7 @@ impl<'a, O: Copy, T: Copy, S: Short<T>, F: Copy, J: Judge<O, T, F>, A: Allocator
         ensures kept { Keeps J.table result.texts.items result.items }
         ensures fits { IsBuilt J.Fits self.entry }
     {
-        self.read
+        let JudgedText { read, judge: _ } = self;
+        read
     }
 }

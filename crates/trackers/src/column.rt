@@ -15,7 +15,6 @@ use std::marker::Model;
 
 /// The letters that all words have at one qubit: the targets whose letter has an X in it, and those whose letter has
 /// a Z, where Y has both.
-#[derive(Drop)]
 pub(crate) struct Column<S: TargetSet> {
     x: S,
     z: S,
@@ -31,6 +30,15 @@ impl<S: TargetSet> Model for Column<S> {
     ghost view = { λ c. letters_of (S.bits c.x) (S.bits c.z) };
 
     ghost invariant = { λ c. length (S.bits c.x) ≡ length (S.bits c.z) };
+}
+
+// Written out, so that it is a call in the proof of each function that owns one.
+impl<S: TargetSet> Drop for Column<S> {
+    fn drop(self) {
+        let Column { x, z } = self;
+        drop(x);
+        drop(z);
+    }
 }
 
 impl<S: TargetSet> Column<S> {

@@ -23,7 +23,6 @@ use step_model::Term;
 
 /// Words kept by qubit: for each qubit two sets of targets, those whose word has an X in its letter there and those
 /// whose word has a Z.
-#[derive(Drop)]
 pub struct Words<S: TargetSet, A: Allocator + Copy> {
     targets: usize,
     columns: Vec<Column<S>, A>,
@@ -49,6 +48,25 @@ impl<S: TargetSet, A: Allocator + Copy> Model for Words<S, A> {
     ghost view = { λ w. tracked_of w.targets w.columns.items };
 
     ghost invariant = { λ w. IsTransposed w.targets w.columns.items w.first w.second (S.bits w.set) (S.bits w.spare) };
+}
+
+// Written out, so that it is a call in the proof of each function that owns one.
+impl<S: TargetSet, A: Allocator + Copy> Drop for Words<S, A> {
+    fn drop(self) {
+        let Words {
+            targets: _,
+            columns,
+            first,
+            second,
+            set,
+            spare,
+        } = self;
+        drop(columns);
+        drop(first);
+        drop(second);
+        drop(set);
+        drop(spare);
+    }
 }
 
 impl<A: Allocator + Copy> Words<BitRow<A>, A> {

@@ -1,4 +1,4 @@
-ghost use Rattle.std.specs.Prelude.{◌≡◌, ◌*◌, ◌<◌, ◌≤◌, ◌^◌, ◌++◌, [], All, None, length, replicate, slice_range, IfOk, OnOk};
+ghost use Rattle.std.specs.Prelude.{◌≡◌, ◌*◌, ◌<◌, ◌≤◌, ◌^◌, ◌++◌, [], All, None, length, replicate, slice_range, OnOk};
 ghost use Rattle.stim_parser.specs.Kept.{instruction_in, list_in};
 ghost use Rattle.unroll.specs.TargetsMade.{record_named, records_named};
 ghost use Rattle.unroll.specs.Totals.{observable_total};
@@ -167,17 +167,17 @@ fn include_all_noted<A: Allocator + Copy>(
     Ok(())
 }
 
-/// The lists with the records that a circuit adds to each observable, in the order in which they are added. Each
-/// instruction is gone over once.
-pub(crate) fn included<A: Allocator + Copy>(
+/// Appends to the list of each observable the records that a circuit adds to it, in the order in which they are added.
+/// Each instruction is gone over once.
+pub(crate) fn include_all<A: Allocator + Copy>(
     alloc: A,
     circuit: &Circuit<'_, A>,
-    mut lists: ListRooms<u32, A>,
-) -> Result<ListRooms<u32, A>, AllocError>
+    lists: &mut ListRooms<u32, A>,
+) -> Result<(), AllocError>
     requires near { first_far_from 0 circuit.now ≡ None }
     requires few { record_total circuit.now < 2 ^ 32 }
-    requires empty { lists ≡ replicate (observable_total circuit.now) [] }
-    ensures { IfOk result (λ lists. lists ≡ observables_of circuit.now) }
+    requires empty { lists.old ≡ replicate (observable_total circuit.now) [] }
+    ensures { OnOk result (lists.new ≡ observables_of circuit.now) }
 {
     circuit.fits();
     let mut notes = Vec::new(alloc);
@@ -187,7 +187,7 @@ pub(crate) fn included<A: Allocator + Copy>(
     for i in 0..circuit.len() {
         match circuit.item(i) {
             Item::InstructionLine(instruction) => {
-                include(&mut lists, &mut notes, records, instruction)?;
+                include(lists, &mut notes, records, instruction)?;
                 let targets = target_count(instruction.operation, instruction.targets);
                 records += records_made(instruction.operation, targets) as u64;
             }
@@ -203,10 +203,10 @@ pub(crate) fn included<A: Allocator + Copy>(
                 let later = block.turns.saturating_sub(1);
                 let by = records.saturating_sub(block.before.place);
                 let noted = &notes[block.before.found..];
-                include_all_noted(&mut lists, &mut closed, i + 1, noted, later, by)?;
+                include_all_noted(lists, &mut closed, i + 1, noted, later, by)?;
                 records += later * by;
             }
         }
     }
-    Ok(lists)
+    Ok(())
 }

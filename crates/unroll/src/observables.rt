@@ -7,7 +7,7 @@ ghost use Rattle.unroll.specs.Refusals.{most_observables};
 ghost use Rattle.unroll.specs.Totals.{observable_total, step_total};
 ghost use Rattle.unroll.specs.private.MadeTotals.{record_total};
 
-use crate::inclusions::included;
+use crate::inclusions::include_all;
 use crate::sizes::sizes_of;
 use flat_lists::{FlatLists, ListRooms};
 use std::alloc::{AllocError, Allocator};
@@ -54,7 +54,7 @@ pub(crate) fn observables_of<A: Allocator + Copy>(
         return Ok(FlatLists::new(alloc));
     }
     let sizes = sizes_of(alloc, circuit)?;
-    let empty = ListRooms::new(alloc, &sizes, 0)?;
-    let lists = included(alloc, circuit, empty)?;
+    let mut lists = ListRooms::new(alloc, &sizes, 0)?;
+    include_all(alloc, circuit, &mut lists)?;
     lists.flat().ok_or(AllocError)
 }

@@ -28,13 +28,28 @@ pub(crate) struct Written<'a, A: Allocator + Copy> {
 }
 
 /// A circuit as it is written down, one item of its text after another.
-#[derive(Drop)]
 struct Writing<'a, A: Allocator + Copy> {
     builder: CircuitBuilder<A>,
     entries: EntryBuilder<'a, A>,
     products: FlatLists<Term, A>,
     // Letters are gathered here before they are kept.
     terms: Vec<Term, A>,
+}
+
+// Written out, so that it is a call in the proof of each function that owns one.
+impl<A: Allocator + Copy> Drop for Writing<'_, A> {
+    fn drop(self) {
+        let Writing {
+            builder,
+            entries,
+            products,
+            terms,
+        } = self;
+        drop(builder);
+        drop(entries);
+        drop(products);
+        drop(terms);
+    }
 }
 
 impl<'a, A: Allocator + Copy> Writing<'a, A> {
@@ -99,10 +114,17 @@ impl<'a, A: Allocator + Copy> Writing<'a, A> {
         ensures entries { result.entries ≡ self.entry.entries.kept }
         ensures products { result.products ≡ self.entry.products }
     {
+        let Writing {
+            builder,
+            entries,
+            products,
+            terms,
+        } = self;
+        drop(terms);
         Written {
-            nodes: self.builder.finish(),
-            entries: self.entries.finish(),
-            products: self.products,
+            nodes: builder.finish(),
+            entries: entries.finish(),
+            products,
         }
     }
 }

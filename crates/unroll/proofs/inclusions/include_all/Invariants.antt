@@ -1,6 +1,6 @@
 use Rattle.unroll.specs.Totals.{observable_total}
 use Rattle.unroll.proofs.IncludingLoops.{IsIncluding}
-use Rattle.unroll.proofs.inclusions.included.Given as goal
+use Rattle.unroll.proofs.inclusions.include_all.Given as goal
 
 abbrev pub invariant-loop-i : goal.invariant-loop-i
 invariant-loop-i g l =

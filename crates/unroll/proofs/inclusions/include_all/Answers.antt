@@ -9,16 +9,16 @@ use Rattle.unroll.specs.private.Including.{notes_of, with_included}
 use Rattle.unroll.specs.private.MadeTotals.{record_count, records_made}
 use Rattle.unroll.proofs.CountLemmas.{HasPopped}
 use Rattle.unroll.proofs.IncludingLoops.{including-begins, including-does, including-does_few, including-done, including-early, including-ends, including-ends_few, including-few, including-first, including-nested, including-room, including-same, including-small, including-some, including-there, noting_block, tail-is}
-use Rattle.unroll.proofs.inclusions.included.Given.{Over}
-use Rattle.unroll.proofs.inclusions.included.Goals as goal
-use Rattle.unroll.proofs.inclusions.included.Goals.{After-saturating_sub-by, in-InstructionLine+in_ok-include-in-InstructionLine, in-BlockStart, in-BlockEnd+in_ok-include_all_noted-in-BlockEnd}
+use Rattle.unroll.proofs.inclusions.include_all.Given.{Over}
+use Rattle.unroll.proofs.inclusions.include_all.Goals as goal
+use Rattle.unroll.proofs.inclusions.include_all.Goals.{After-saturating_sub-by, in-InstructionLine+in_ok-include-in-InstructionLine, in-BlockStart, in-BlockEnd+in_ok-include_all_noted-in-BlockEnd}
 
 pub loop-i-init : goal.loop-i-init
 loop-i-init g c =
     let n = observable_total c.args.circuit.now in
-    let count : length c.lengths.result.now ≡ n = ap length c.lengths.ensures ∙ length-map c.args.lists length ∙ ap length c.requires.empty ∙ length-replicate n [] in
+    let count : length c.lengths.result.now ≡ n = ap length c.lengths.ensures ∙ length-map c.args.lists.now length ∙ ap length c.requires.empty ∙ length-replicate n [] in
     let zeros : c.in_ok-closed.closed.items ≡ replicate n 0 = c.in_ok-closed.ensures.items_if_clones_equal (λ y h. h) ∙ ap (λ (m : ℕ). replicate m 0) count in
-    including-first c.args.circuit.now n c.args.lists c.new-notes.result.items c.in_ok-closed.closed.items c.new-blocks.result.items c.fits.ensures c.requires.near c.requires.empty c.new-notes.ensures.items zeros c.new-blocks.ensures
+    including-first c.args.circuit.now n c.args.lists.now c.new-notes.result.items c.in_ok-closed.closed.items c.new-blocks.result.items c.fits.ensures c.requires.near c.requires.empty c.new-notes.ensures.items zeros c.new-blocks.ensures
 
 pub include-requires : goal.include-requires
 include-requires g c =
