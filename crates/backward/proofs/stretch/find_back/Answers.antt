@@ -1,9 +1,9 @@
-use Rattle.std.proofs.Common.{◌≡◌, ◌<◌, ◌≤◌, ◌++◌, List, refl, ap, subst, sym, ◌∙◌, arith}
+use Rattle.std.proofs.Common.{◌≡◌, ◌<◌, ◌+◌, ◌++◌, List, refl, ap, subst, sym, ◌∙◌, arith}
 use Rattle.std.specs.Prelude.{reverse}
 use Rattle.std.proofs.lemmas.List.{append-nil}
 use Rattle.step_model.specs.ErrorModels.{ErrorLine}
 use Rattle.error_models.specs.HeldText.{HoldsLines}
-use Rattle.backward.proofs.HeldLines.{lines_parts}
+use Rattle.backward.proofs.HeldLines.{lines_more}
 use Rattle.backward.proofs.PassLines.{lines_between-none}
 use Rattle.backward.proofs.StepLemmas.{stays_as, stays_on}
 use Rattle.backward.proofs.stretch.find_back.Goals as goal
@@ -18,6 +18,7 @@ loop-at-init g c =
       store = refl;
       above = c.requires.from;
       below = omega arith;
+      left = c.stride.ensures;
       passed = c.requires.passed;
       stays = stays_as refl refl refl;
       lines = λ given h. subst (HoldsLines c.args.lines.now.text) (sym (ap (λ (l : List ErrorLine). given ++ l) none ∙ append-nil given)) h;
@@ -27,24 +28,18 @@ pub loop-at-preserved : goal.loop-at-preserved
 loop-at-preserved g c =
     let program = c.args.program.now.listing in
     let l = c.loop-at in
-    let e = c.go_back_to.ensures in
-    let k = c.go_back_to.new.at.walk.place in
+    let e = c.in_ok-step_back.ensures in
+    let k = c.step_back.new.at.walk.place in
     let to = c.args.at.now.walk.place in
-    let above : c.args.from ≤ k = omega (arith, c.in_ok-go_back_to.ensures.place, c.max.ensures) in
+    let next : l.at.walk.place ≡ k + 1 = omega (arith, e.place, c.loop-at-test.true, c.place.ensures) in
+    let within : k < to = omega (arith, next, l.invariant.below) in
     record {
       program_is = e.program ∙ l.invariant.program_is;
       store = e.store ∙ l.invariant.store;
-      above = above;
-      below = omega (arith, e.back, l.invariant.below);
-      passed = c.in_ok-go_back_to.ensures.passed;
-      stays = stays_on c.args.found.now l.found c.go_back_to.new.found l.invariant.stays e.stays;
-      lines = lines_parts program k l.at.walk.place to c.args.lines.now.text l.lines.text c.go_back_to.new.lines.text e.back l.invariant.below c.in_ok-go_back_to.ensures.lines l.invariant.lines;
+      above = omega (arith, next, c.loop-at-test.true, c.place.ensures);
+      below = omega (arith, within);
+      left = c.is_last_of.ensures;
+      passed = e.passed;
+      stays = stays_on c.args.found.now l.found c.step_back.new.found l.invariant.stays e.stays;
+      lines = lines_more program k l.at.walk.place to c.args.lines.now.text l.lines.text c.step_back.new.lines.text next within e.lines l.invariant.lines;
     }
-
-pub returns-then-is_full-clause-lines : goal.returns-then-is_full-clause-lines
-returns-then-is_full-clause-lines g c =
-    let program = c.args.program.now.listing in
-    let l = c.loop-at in
-    let k = c.go_back_to.new.at.walk.place in
-    let to = c.args.at.now.walk.place in
-    lines_parts program k l.at.walk.place to c.args.lines.now.text l.lines.text c.go_back_to.new.lines.text c.go_back_to.ensures.back l.invariant.below c.in_ok-go_back_to.ensures.lines l.invariant.lines
