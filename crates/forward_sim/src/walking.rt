@@ -3,6 +3,7 @@ ghost use Rattle.programs.specs.Listed.{listed};
 ghost use Rattle.step_model.specs.Runs.{next, start};
 ghost use Rattle.forward_sim.specs.References.{entry_of, walking_qubits, walking_run, IsStepEntry};
 ghost use Rattle.forward_sim.specs.private.Kept.{terms_listed, WalksTo};
+ghost use Rattle.forward_sim.specs.private.Machines.{CanTake};
 ghost use Rattle.forward_sim.specs.private.SameRuns.{IsSameRun};
 
 use crate::following::follow_step;
