@@ -63,9 +63,9 @@ push_later_turns-requires g c =
       small = within-limit c.loop-i.records (c.saturating_sub-later.result * c.saturating_sub-by.result) 4294967296 c.loop-i.detectors few c.loop-i.invariant.within;
     }
 
-pub records_behind-requires : goal.records_behind-requires
-records_behind-requires g c =
-    omega (arith, few_behind g (goal.at.records_behind-requires g c).After-saturating_sub-by)
+pub records_behind-records-requires : goal.records_behind-records-requires
+records_behind-records-requires g c =
+    omega (arith, few_behind g (goal.at.records_behind-records-requires g c).After-saturating_sub-by)
 
 pub loop-i-preserved : goal.loop-i-preserved
 loop-i-preserved g c =
@@ -95,7 +95,7 @@ loop-i-preserved g c =
           let popped : HasPopped l.blocks.items w.pop.new.self.items w.pop.result block l.records n by = record { rest_is = w.pop.ensures.items; block_is = w.unwrap-block.ensures; turns_is = w.saturating_sub-later.ensures; by_is = w.saturating_sub-by.ensures } in
           counting-same t (l.i + 1) (l.records + n * by) c.match-item.records (with_turns records_moved block n by l.detectors) c.match-item.detectors w.pop.new.self.items c.match-item.blocks.items
           (counting-ends detecting-counts t l.i l.records l.detectors l.blocks.items w.pop.new.self.items w.pop.result block n by l.invariant w.in-BlockEnd.ensures popped)
-          (w.records-is ∙ w.records_behind.ensures)
+          (w.records-is ∙ w.records_behind-records.ensures)
           (w.detectors-is ∙ w.in_ok-push_later_turns-in-BlockEnd.ensures)
           (ap (λ v. v.items) w.blocks-is)
     ]
